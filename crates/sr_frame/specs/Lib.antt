@@ -1,0 +1,5 @@
+pub mod Frame
+pub mod View
+pub mod OctetLemmas
+pub mod FrameLemmas
+pub mod LengthLemmas

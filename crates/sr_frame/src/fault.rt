@@ -1,0 +1,51 @@
+//! Why octets are no frame, and want of memory.
+
+ghost use Rattle.std.specs.Prelude.{◌≡◌};
+
+use std::alloc::AllocError;
+use thiserror::Error;
+
+/// A growth was refused: there was no memory for it.
+#[derive(Clone, Copy, Debug, PartialEq, Eq, Error)]
+#[error("out of memory")]
+pub struct NoMemory;
+
+/// Why octets are no frame.
+#[derive(Clone, Copy, Debug, PartialEq, Eq, Error)]
+pub enum FrameFault {
+    /// Fewer than 14 octets, or fewer than 18 where a VLAN tag stands behind the addresses.
+    #[error("the frame is too short")]
+    TooShort,
+    /// More than 1524 octets.
+    #[error("the frame is too long")]
+    TooLong,
+    /// A growth was refused.
+    #[error("out of memory")]
+    NoMemory,
+}
+
+impl From<AllocError> for FrameFault {
+    ghost use Rattle.sr_frame.specs.declared.fault.FrameFault.TheVariants.{NoMemory as OutOfMemory};
+
+    ghost from_gives = { λ _ e. e ≡ OutOfMemory };
+
+    fn from(_e: AllocError) -> FrameFault {
+        FrameFault::NoMemory
+    }
+}
+
+impl From<AllocError> for NoMemory {
+    fn from(_e: AllocError) -> NoMemory {
+        NoMemory
+    }
+}
+
+impl From<NoMemory> for FrameFault {
+    ghost use Rattle.sr_frame.specs.declared.fault.FrameFault.TheVariants.{NoMemory as OutOfMemory};
+
+    ghost from_gives = { λ _ e. e ≡ OutOfMemory };
+
+    fn from(_e: NoMemory) -> FrameFault {
+        FrameFault::NoMemory
+    }
+}

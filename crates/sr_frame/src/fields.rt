@@ -1,0 +1,81 @@
+//! Addresses, and the fields of a frame.
+
+ghost use Rattle.std.specs.Prelude.{◌≡◌, ◌/◌, ◌%◌, IsTrue, ◌↔◌, length, slice_index};
+ghost use Rattle.sr_frame.specs.Frame.{Fields, IsLegal};
+
+use std::fmt;
+
+/// The most octets of a frame: 1518 of Ethernet, and 6 of a tag or trailer (IEC 62439-3, choice of this project).
+pub const MAX_FRAME_LEN: usize = 1524;
+
+/// The octets of both addresses and the type.
+pub const HEADER_LEN: usize = 14;
+
+/// The octets of a VLAN tag.
+pub const VLAN_TAG_LEN: usize = 4;
+
+/// The fewest octets of payload that a writer leaves: a shorter payload is padded with zeros.
+pub const MIN_PAYLOAD_LEN: usize = 46;
+
+/// The type that marks a VLAN tag.
+pub const VLAN_KIND: u16 = 0x8100;
+
+/// A hardware address: its six octets in the order in which a frame carries them.
+///
+/// Addresses are ordered octet by octet, and shown as six pairs of lower case digits joined by colons.
+#[derive(Clone, Copy, Debug, PartialEq, Eq, PartialOrd, Ord, Hash)]
+pub struct Mac(pub [u8; 6]);
+
+impl Mac {
+    /// Whether this is a group address: the lowest bit of its first octet is set.
+    pub fn is_group(self) -> bool
+        ensures { IsTrue result ↔ (slice_index self.0 0 % 2 ≡ 1) }
+    {
+        self.0[0] % 2 == 1
+    }
+}
+
+impl fmt::Display for Mac {
+    fn fmt<W: fmt::Write>(&self, f: &mut fmt::Formatter<W>) -> fmt::Result {
+        let Mac([a, b, c, d, e, last]) = *self;
+        write!(f, "{a:02x}:{b:02x}:{c:02x}:{d:02x}:{e:02x}:{last:02x}")
+    }
+}
+
+/// The fields of a legal frame, which borrow its payload.
+#[derive(Clone, Copy, Debug)]
+pub struct FrameView<'a> {
+    /// The destination.
+    pub dst: Mac,
+    /// The source.
+    pub src: Mac,
+    /// The control octets of the VLAN tag, where there is one.
+    pub vlan: Option<u16>,
+    /// The type, after the VLAN tag where there is one.
+    pub kind: u16,
+    /// What follows the type.
+    pub payload: &'a [u8],
+    pub ghost legal: { IsLegal (record { dst = dst.0; src = src.0; vlan = vlan; kind = kind; payload = payload.now }) },
+}
+
+impl FrameView<'_> {
+    ghost use Rattle.sr_frame.specs.Frame.{spelling, least_len};
+    ghost use Rattle.sr_frame.specs.View.{fields_of};
+
+    /// How many octets stand before the payload: 14, or 18 with a VLAN tag.
+    pub fn header_len(&self) -> usize
+        ensures { result ≡ least_len (spelling (fields_of self.now)) }
+    {
+        match self.vlan {
+            Some(_) => HEADER_LEN + VLAN_TAG_LEN,
+            None => HEADER_LEN,
+        }
+    }
+
+    /// How many octets the whole frame has.
+    pub fn frame_len(&self) -> usize
+        ensures { result ≡ length (spelling (fields_of self.now)) }
+    {
+        self.header_len() + self.payload.len()
+    }
+}

@@ -1,0 +1,23 @@
+//! Ethernet frames without check sequence: their fields, and the octets that spell them.
+#![tactic(auto)]
+
+mod fault;
+mod fields;
+mod laws;
+mod owned;
+mod ports;
+mod reading;
+mod writing;
+
+pub use fault::{FrameFault, NoMemory};
+pub use fields::{
+    FrameView, HEADER_LEN, MAX_FRAME_LEN, MIN_PAYLOAD_LEN, Mac, VLAN_KIND, VLAN_TAG_LEN,
+};
+pub use laws::{fields_are_unique, frames_have_frame_length};
+pub use owned::Frame;
+pub use ports::Port;
+pub use reading::view;
+pub use writing::append;
+
+#[cfg(test)]
+mod tests;
