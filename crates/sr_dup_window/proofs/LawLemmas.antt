@@ -1,0 +1,115 @@
+-- What holds of all records, and of every tree of calls.
+use Rattle.std.proofs.Common.{◌≡◌, ℕ, ◌*◌, ◌<◌, ℤ, pos, arith, refl, sym, ap, ◌∙◌, subst}
+use Rattle.std.proofs.Math.Bool.{or_comm, or_assoc, or_self}
+use Rattle.std.proofs.lemmas.Int.{ints}
+use Rattle.sr_sequence.specs.Numbers.{wire}
+use Rattle.sr_sequence.specs.Places.{steps}
+use Rattle.sr_dup_window.specs.declared.lane_sets.Lane.{Lane}
+use Rattle.sr_dup_window.specs.declared.record.Record.{Record}
+use Rattle.sr_dup_window.specs.Rings.{IsWidth}
+use Rattle.sr_dup_window.specs.Windows.{Window, window_of, merged}
+use Rattle.sr_dup_window.specs.WindowLemmas.{begun-stands, noted-stands, merged-stands, fresh-lanes-by-family, same-numbers}
+use Rattle.sr_dup_window.specs.Families.{Family, IsClose, joined, greater, StandsFor}
+use Rattle.sr_dup_window.specs.FamilyLemmas.{close_swap, close_greater}
+use Rattle.sr_dup_window.specs.Records.{WindowsTell, WindowsAreWhole, EachStands, EqualWhereOneServes, MergeCommutes, MergeIsIdempotent, MergeAssociates}
+use Rattle.sr_dup_window.specs.RecordLemmas.{record-width, record-whole}
+use Rattle.sr_dup_window.specs.Trees.{Tree, begin, note, merge, made, family_of, greatest_of, IsSteady, TreesStand, AnswersByTheUnion, TreesAgree}
+use Rattle.sr_dup_window.proofs.OwnLemmas.{own_family, own-stands, close_numbers}
+use Rattle.sr_dup_window.proofs.SameLemmas.{same_shown}
+
+-- a window that is made along a steady tree stands for all that the tree took
+made_stands : (w : ℕ) (t : Tree) → IsWidth w → IsSteady w t → StandsFor w (made w t) (family_of t) (greatest_of t)
+made_stands w (begin lanes n) width steady = begun-stands w lanes n (wire n) width steady refl
+made_stands w (note t lanes n) width steady =
+    noted-stands w (made w t) (family_of t) (greatest_of t) n (wire n) lanes width steady.1 (made_stands w t width steady.0) steady.2 refl
+made_stands w (merge s t) width steady =
+    merged-stands w (made w s) (made w t) (family_of s) (family_of t) (greatest_of s) (greatest_of t) width (made_stands w s width steady.0) (made_stands w t width steady.1) steady.2
+
+pub trees_stand_lem : (N : ℕ) → TreesStand N
+trees_stand_lem N t r steady e =
+    let Q : Window → Type 0 = λ x. StandsFor (64 * N) x (family_of t) (greatest_of t) in
+    subst Q (sym e) (made_stands (64 * N) t (record-width r) steady)
+
+pub answers_by_the_union_lem : (N : ℕ) → AnswersByTheUnion N
+answers_by_the_union_lem N t r lanes n steady e =
+    fresh-lanes-by-family (64 * N) (window_of r) (family_of t) (greatest_of t) n (wire n) lanes (record-width r) (trees_stand_lem N t r steady.0 e) steady.2 refl
+
+-- records that stand for families of the same numbers are equal
+same_numbers : {N : ℕ} (a b : Record N) (f g : Family) (m n : ℤ) → StandsFor (64 * N) (window_of a) f m → StandsFor (64 * N) (window_of b) g n → ((lane : Lane) (x : ℤ) → f lane x ≡ g lane x) → a ≡ b
+same_numbers {N} a b f g m n s t same = same_shown a b (same-numbers (64 * N) (window_of a) (window_of b) f g m n s t same)
+
+pub trees_agree_lem : (N : ℕ) → TreesAgree N
+trees_agree_lem N s t a b steady_s steady_t made_s made_t same =
+    same_numbers a b (family_of s) (family_of t) (greatest_of s) (greatest_of t) (trees_stand_lem N s a steady_s made_s) (trees_stand_lem N t b steady_t made_t) same
+
+-- each record by its own numbers
+own : {N : ℕ} (r : Record N) (m : ℤ) → wire m ≡ (window_of r).reference → StandsFor (64 * N) (window_of r) (own_family (64 * N) (window_of r) m) m
+own {N} r m e = own-stands (64 * N) (window_of r) m (record-width r) (record-whole r) e
+
+carried : (n : ℕ) → n < 65536 → wire (pos n) ≡ n
+carried n h = omega arith
+
+pub each_stands_lem : (N : ℕ) → EachStands N
+each_stands_lem N r =
+    let m : ℤ = pos (window_of r).reference in
+    (own_family (64 * N) (window_of r) m, m, own r m (carried (window_of r).reference (record-whole r).carried))
+
+pub windows_are_whole_lem : (N : ℕ) → WindowsAreWhole N
+windows_are_whole_lem N r = record-whole r
+
+pub windows_tell_lem : (N : ℕ) → WindowsTell N
+windows_tell_lem N a b e = same_shown a b e
+
+pub equal_where_one_serves_lem : (N : ℕ) → EqualWhereOneServes N
+equal_where_one_serves_lem N a b =
+    let stands = each_stands_lem N a in
+    let P : Record N → Type 0 = λ x. StandsFor (64 * N) (window_of x) stands.0 stands.1 in (
+      λ e. (stands.0, stands.1, stands.2, subst P e stands.2),
+      λ s. same_numbers a b s.0 s.0 s.1 s.1 s.2 s.3 (λ lane x. refl),
+    )
+
+-- a record that shows a merged window stands for the join
+joins : {N : ℕ} (r : Record N) (a b : Window) (f g : Family) (m n : ℤ) → window_of r ≡ merged (64 * N) a b → StandsFor (64 * N) a f m → StandsFor (64 * N) b g n → IsClose m n → StandsFor (64 * N) (window_of r) (joined f g) (greater m n)
+joins {N} r a b f g m n e s t close =
+    let Q : Window → Type 0 = λ x. StandsFor (64 * N) x (joined f g) (greater m n) in
+    subst Q (sym e) (merged-stands (64 * N) a b f g m n (record-width r) s t close)
+
+pub merge_commutes_lem : (N : ℕ) → MergeCommutes N
+merge_commutes_lem N a b c d apart left right =
+    let m : ℤ = pos (window_of a).reference in
+    let at_m : wire m ≡ (window_of a).reference = carried (window_of a).reference (record-whole a).carried in
+    let other = close_numbers m (window_of b).reference (record-whole b).carried (λ e. apart (ap (λ r. steps r (window_of b).reference) (sym at_m) ∙ e)) in
+    let n : ℤ = other.0 in
+    let f : Family = own_family (64 * N) (window_of a) m in
+    let g : Family = own_family (64 * N) (window_of b) n in
+    let s : StandsFor (64 * N) (window_of a) f m = own a m at_m in
+    let t : StandsFor (64 * N) (window_of b) g n = own b n other.1 in
+    same_numbers c d (joined f g) (joined g f) (greater m n) (greater n m)
+    (joins c (window_of a) (window_of b) f g m n left s t other.2)
+    (joins d (window_of b) (window_of a) g f n m right t s (close_swap m n other.2))
+    (λ lane x. or_comm (f lane x) (g lane x))
+
+pub merge_is_idempotent_lem : (N : ℕ) → MergeIsIdempotent N
+merge_is_idempotent_lem N a b e =
+    let m : ℤ = pos (window_of a).reference in
+    let f : Family = own_family (64 * N) (window_of a) m in
+    let s : StandsFor (64 * N) (window_of a) f m = own a m (carried (window_of a).reference (record-whole a).carried) in
+    same_numbers b a (joined f f) f (greater m m) m
+    (joins b (window_of a) (window_of a) f f m m e s s (omega (arith, ints), omega (arith, ints))) s
+    (λ lane x. or_self (f lane x))
+
+pub merge_associates_lem : (N : ℕ) → MergeAssociates N
+merge_associates_lem N a b c d e m n k at_m at_n at_k mn nk mk left right =
+    let w = 64 * N in
+    let f : Family = own_family w (window_of a) m in
+    let g : Family = own_family w (window_of b) n in
+    let h : Family = own_family w (window_of c) k in
+    let s : StandsFor w (window_of a) f m = own a m at_m in
+    let t : StandsFor w (window_of b) g n = own b n at_n in
+    let u : StandsFor w (window_of c) h k = own c k at_k in
+    let ab : StandsFor w (merged w (window_of a) (window_of b)) (joined f g) (greater m n) = merged-stands w (window_of a) (window_of b) f g m n (record-width a) s t mn in
+    let bc : StandsFor w (merged w (window_of b) (window_of c)) (joined g h) (greater n k) = merged-stands w (window_of b) (window_of c) g h n k (record-width a) t u nk in
+    same_numbers d e (joined (joined f g) h) (joined f (joined g h)) (greater (greater m n) k) (greater m (greater n k))
+    (joins d (merged w (window_of a) (window_of b)) (window_of c) (joined f g) h (greater m n) k left ab u (close_greater m n k mk nk))
+    (joins e (window_of a) (merged w (window_of b) (window_of c)) f (joined g h) m (greater n k) right s bc (close_swap (greater n k) m (close_greater n k m (close_swap m n mn) (close_swap m k mk))))
+    (λ lane x. or_assoc (f lane x) (g lane x) (h lane x))

@@ -1,0 +1,8 @@
+pub mod WordLemmas
+pub mod RingLemmas
+pub mod SpotLemmas
+pub mod ShowLemmas
+pub mod CallLemmas
+pub mod SameLemmas
+pub mod OwnLemmas
+pub mod LawLemmas

@@ -1,0 +1,88 @@
+-- What a ring shows of the numbers up to a reference.
+use Rattle.std.proofs.Common.{◌≡◌, ℕ, ◌+◌, ◌*◌, ◌-◌, ◌%◌, ◌<◌, ◌≤◌, cond, eqb, ltb, leb, ◌||◌, List, length, get_or, arith, sym, ap, ◌∙◌, inl, inr}
+use Rattle.std.proofs.lemmas.Bool.{cases_eq, cases_lt, eq-eqb, ne_eqb, lt-ltb, le-ltb, cond-true, cond-false}
+use Rattle.std.proofs.lemmas.List.{get_or-set_same, get_or-set_other, length-set}
+use Rattle.std.proofs.lemmas.List.FromFn.{fill_by_all}
+use Rattle.std.proofs.lemmas.Simd.{get_or-zip2, length-zip2}
+use lib.Lanes.{zip2}
+use Rattle.sr_dup_window.specs.declared.lane_sets.Lanes.{Lanes}
+use Rattle.sr_dup_window.specs.declared.record.Record.{Record}
+use Rattle.sr_dup_window.specs.LaneSets.{none, union}
+use Rattle.sr_dup_window.specs.Rings.{lanes_at, is_passed, IsWidth}
+use Rattle.sr_dup_window.specs.Windows.{marks_of, no_marks, marked, slid}
+use Rattle.sr_dup_window.specs.RecordLemmas.{marks-count, marks-at}
+use Rattle.sr_dup_window.specs.WindowLemmas.{width-most, length-no_marks, get_or-no_marks, length-slid, slid-new, slid-old}
+use Rattle.sr_dup_window.proofs.SpotLemmas.{spot, spot_inside, spot-eq, passed_spot, spot_kept}
+
+-- the places of the w numbers up to r have these lanes, newest first
+pub record Shows (w : ℕ) (rows : List (List ℕ)) (r : ℕ) (marks : List Lanes) : Type 0 where
+  pub count : length marks ≡ w
+  pub each : (k : ℕ) → k < w → lanes_at rows (spot w r k) ≡ get_or marks k none
+
+-- a record shows its marks, and no other
+pub shows_marks : {N : ℕ} (r : Record N) → Shows (64 * N) r.rows r.reference.0 (marks_of r)
+shows_marks r = record { count = marks-count r; each = λ k h. sym (marks-at r k h) }
+
+pub marks_are : {N : ℕ} (r : Record N) (marks : List Lanes) → Shows (64 * N) r.rows r.reference.0 marks → marks_of r ≡ marks
+unfolding marks_of
+marks_are {N} r marks s = sym (fill_by_all (λ k. lanes_at r.rows (spot (64 * N) r.reference.0 k)) marks (64 * N) none s.count (λ k h. sym (s.each k h)))
+
+-- more lanes at the place of one number
+pub marked_shows : (w : ℕ) (rows new : List (List ℕ)) (r : ℕ) (marks : List Lanes) (k place : ℕ) (lanes : Lanes) → IsWidth w → r < 65536 → k < w → spot w r k ≡ place → Shows w rows r marks → ((p : ℕ) → lanes_at new p ≡ cond (eqb p place) (union (lanes_at rows p) lanes) (lanes_at rows p)) → Shows w new r (marked marks k lanes)
+marked_shows w rows new r marks k place lanes width h inside at s marks_new = record {
+  count = length-set marks k (union (get_or marks k none) lanes) ∙ s.count;
+  each = λ j g.
+      marks_new (spot w r j)
+      ∙ ap (λ p. cond (eqb (spot w r j) p) (union (lanes_at rows (spot w r j)) lanes) (lanes_at rows (spot w r j))) (sym at)
+      ∙ ap (λ t. cond t (union (lanes_at rows (spot w r j)) lanes) (lanes_at rows (spot w r j))) (spot-eq w r j k width h g inside)
+      ∙ ap (λ x. cond (eqb j k) (union x lanes) x) (s.each j g)
+      ∙ written j g;
+}
+  where
+    written : (j : ℕ) → j < w → cond (eqb j k) (union (get_or marks j none) lanes) (get_or marks j none) ≡ get_or (marked marks k lanes) j none
+    written j g =
+        elim (cases_eq j k) [
+          | inl e ↦ cond-true (eqb j k) (union (get_or marks j none) lanes) (get_or marks j none) (eq-eqb j k e)
+              ∙ ap (λ i. union (get_or marks i none) lanes) e
+              ∙ sym (get_or-set_same marks k (union (get_or marks k none) lanes) none (omega (arith, s.count)))
+              ∙ ap (λ i. get_or (marked marks k lanes) i none) (sym e)
+          | inr ne ↦ cond-false (eqb j k) (union (get_or marks j none) lanes) (get_or marks j none) (ne_eqb j k ne)
+              ∙ sym (get_or-set_other marks k j (union (get_or marks k none) lanes) none ne)
+        ]
+
+-- the numbers between the reference and a later one passed over
+pub passed_shows : (w : ℕ) (rows new : List (List ℕ)) (r from later : ℕ) (marks : List Lanes) (a : ℕ) → IsWidth w → r < 65536 → a ≤ 65536 - w → r % w ≡ from → (r + a) % 65536 ≡ later → Shows w rows r marks → ((p : ℕ) → p < w → lanes_at new p ≡ cond (is_passed w from a p || leb w a) none (lanes_at rows p)) → Shows w new later (slid w a marks)
+passed_shows w rows new r from later marks a width h most at to s passes = record {
+  count = length-slid w a marks s.count;
+  each = λ j g.
+      let p = spot w ((r + a) % 65536) j in
+      ap (λ n. lanes_at new (spot w n j)) (sym to)
+      ∙ passes p (spot_inside w ((r + a) % 65536) j width)
+      ∙ ap (λ n. cond (is_passed w n a p || leb w a) none (lanes_at rows p)) (sym at)
+      ∙ ap (λ t. cond t none (lanes_at rows p)) (passed_spot w r a j width h most g)
+      ∙ (elim (cases_lt j a) as (λ _. cond (ltb j a) none (lanes_at rows p) ≡ get_or (slid w a marks) j none) [
+        | inl less ↦ cond-true (ltb j a) none (lanes_at rows p) (lt-ltb j a less) ∙ sym (slid-new w a marks j g less)
+        | inr more ↦ cond-false (ltb j a) none (lanes_at rows p) (le-ltb j a more)
+            ∙ ap (lanes_at rows) (spot_kept w r a j more (omega (arith, width-most w width)))
+            ∙ s.each (j - a) (omega arith)
+            ∙ sym (slid-old w a marks j g more)
+      ]);
+}
+
+-- two rings together
+pub united_shows : (w : ℕ) (rows others new : List (List ℕ)) (r : ℕ) (marks other_marks : List Lanes) → IsWidth w → Shows w rows r marks → Shows w others r other_marks → ((p : ℕ) → p < w → lanes_at new p ≡ union (lanes_at rows p) (lanes_at others p)) → Shows w new r (zip2 union marks other_marks)
+united_shows w rows others new r marks other_marks width s t unites = record {
+  count = length-zip2 union marks other_marks (s.count ∙ sym t.count) ∙ s.count;
+  each = λ k h.
+      unites (spot w r k) (spot_inside w r k width)
+      ∙ ap (λ x. union x (lanes_at others (spot w r k))) (s.each k h)
+      ∙ ap (union (get_or marks k none)) (t.each k h)
+      ∙ sym (get_or-zip2 union marks other_marks k none none none (omega (arith, s.count)) (omega (arith, t.count)));
+}
+
+-- a ring with no place
+pub empty_shows : (w : ℕ) (rows : List (List ℕ)) (r : ℕ) → ((p : ℕ) → lanes_at rows p ≡ none) → Shows w rows r (no_marks w)
+empty_shows w rows r empty = record {
+  count = length-no_marks w;
+  each = λ k h. empty (spot w r k) ∙ sym (get_or-no_marks w k h);
+}

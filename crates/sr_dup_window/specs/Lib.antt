@@ -1,0 +1,10 @@
+pub mod LaneSets
+pub mod LaneLemmas
+pub mod Rings
+pub mod Windows
+pub mod Families
+pub mod FamilyLemmas
+pub mod WindowLemmas
+pub mod Trees
+pub mod Records
+pub mod RecordLemmas

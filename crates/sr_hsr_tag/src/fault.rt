@@ -1,0 +1,57 @@
+//! Why a tag could not be read or taken out.
+
+ghost use Rattle.std.specs.Prelude.{◌≡◌};
+
+use sr_frame::NoMemory;
+use thiserror::Error;
+
+/// Why a frame shows no tag.
+#[derive(Clone, Copy, Debug, PartialEq, Eq, Error)]
+pub enum TagFault {
+    /// The type is not that of a tagged frame.
+    #[error("the frame has no HSR tag")]
+    NotTagged,
+    /// Fewer than six octets stand behind the type.
+    #[error("the HSR tag is cut short")]
+    Truncated,
+}
+
+/// Why a tag could not be taken out.
+#[derive(Clone, Copy, Debug, PartialEq, Eq, Error)]
+pub enum UntagFault {
+    /// The type is not that of a tagged frame.
+    #[error("the frame has no HSR tag")]
+    NotTagged,
+    /// Fewer than six octets stand behind the type.
+    #[error("the HSR tag is cut short")]
+    Truncated,
+    /// The inner type is that of a VLAN tag, and too little stands behind it.
+    #[error("the frame without its HSR tag is too short")]
+    TooShort,
+    /// Memory ran out.
+    #[error("out of memory")]
+    NoMemory,
+}
+
+impl From<TagFault> for UntagFault {
+    ghost use Rattle.sr_hsr_tag.specs.Faults.{untag_fault_of};
+
+    ghost from_gives = { λ fault e. e ≡ untag_fault_of fault };
+
+    fn from(fault: TagFault) -> UntagFault {
+        match fault {
+            TagFault::NotTagged => UntagFault::NotTagged,
+            TagFault::Truncated => UntagFault::Truncated,
+        }
+    }
+}
+
+impl From<NoMemory> for UntagFault {
+    ghost use Rattle.sr_hsr_tag.specs.declared.fault.UntagFault.TheVariants.{NoMemory as OutOfMemory};
+
+    ghost from_gives = { λ _ e. e ≡ OutOfMemory };
+
+    fn from(_e: NoMemory) -> UntagFault {
+        UntagFault::NoMemory
+    }
+}

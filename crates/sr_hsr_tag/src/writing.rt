@@ -1,0 +1,95 @@
+//! Writing a tag.
+
+ghost use Rattle.std.specs.Prelude.{◌≡◌, ◌≢◌, ◌↔◌, ◌+◌, ◌-◌, ◌<◌, ◌≤◌, ◌++◌, length, max, IfOk, OnOk, IsErrOf};
+ghost use Rattle.std.specs.Int.{w16, to_be_bytes};
+ghost use Rattle.sr_frame.specs.Frame.{spelling, head_of, least_len};
+ghost use Rattle.sr_frame.specs.View.{fields_of};
+ghost use Rattle.sr_hsr_tag.specs.Tagged.{IsTag, IsTagged, tag_octets, padded, octets_behind_type};
+
+use crate::tag::{HSR_KIND, HsrTag};
+use sr_frame::{Frame, FrameFault, FrameView, MAX_FRAME_LEN, MIN_PAYLOAD_LEN, NoMemory, append};
+use sr_sequence::Seq;
+use std::alloc::Global;
+
+/// The octets of a tag: its type, path and size, and number.
+const TAG_LEN: usize = 6;
+
+/// The frame with octets of its own.
+pub(crate) fn frame_of(alloc: Global, frame: &FrameView<'_>) -> Result<Frame, NoMemory>
+    ensures { IfOk result (λ own. own ≡ spelling (fields_of frame.now)) }
+{
+    let mut octets = Vec::with_capacity(alloc, frame.frame_len())?;
+    append(&mut octets, frame)?;
+    Ok(Frame::of(octets))
+}
+
+/// Appends addresses, the VLAN tag, and the type of a tagged frame.
+fn put_head(out: &mut Vec<u8>, frame: &FrameView<'_>) -> Result<(), NoMemory>
+    ensures { OnOk result (out.new.items ≡ out.old.items ++ (head_of (fields_of frame.now) ++ to_be_bytes w16 0x892F)) }
+{
+    let head = FrameView {
+        dst: frame.dst,
+        src: frame.src,
+        vlan: frame.vlan,
+        kind: HSR_KIND,
+        payload: &[],
+    };
+    append(out, &head)
+}
+
+/// Appends what stands behind that type, up to the payload.
+fn put_tag(out: &mut Vec<u8>, tag: HsrTag) -> Result<(), NoMemory>
+    requires path { tag.path < 16 }
+    requires size { tag.size < 4096 }
+    ensures { OnOk result (out.new.items ≡ out.old.items ++ tag_octets tag) }
+{
+    let word = u16::from(tag.path) * 4096 + tag.size;
+    out.extend_from_slice(&word.to_be_bytes())?;
+    out.extend_from_slice(&tag.seq.0.to_be_bytes())?;
+    out.extend_from_slice(&tag.inner.to_be_bytes())?;
+    Ok(())
+}
+
+/// Appends the frame, with the tag in it.
+fn put_tagged(out: &mut Vec<u8>, frame: &FrameView<'_>, tag: HsrTag) -> Result<(), NoMemory>
+    requires path { tag.path < 16 }
+    requires size { tag.size < 4096 }
+    ensures { OnOk result (out.new.items ≡ out.old.items
+        ++ (head_of (fields_of frame.now) ++ to_be_bytes w16 0x892F ++ (tag_octets tag ++ frame.now.payload.now))) }
+{
+    put_head(out, frame)?;
+    put_tag(out, tag)?;
+    out.extend_from_slice(frame.payload)?;
+    Ok(())
+}
+
+/// The frame with a tag before its type, in one list of octets that is copied once.
+///
+/// A payload of fewer than 46 octets is padded with zeros, so that the tagged frame has 66 octets, or 70 with a
+/// VLAN tag. The tag's size counts the octets behind the type 0x892F to the end. `TooLong` where more than 1524
+/// octets would come of it; `NoMemory` where the growth was refused.
+pub fn tagged(alloc: Global, frame: &FrameView<'_>, path: u8, seq: Seq) -> Result<Frame, FrameFault>
+    requires { path < 16 }
+    ensures ok { IfOk result (λ own. let plain = padded (spelling (fields_of frame.now)) in
+        IsTagged own plain (record { path = path; size = octets_behind_type own; seq = seq; inner = frame.now.kind })) }
+    ensures long { IsErrOf result FrameFault.TooLong ↔ (MAX_FRAME_LEN < length (padded (spelling (fields_of frame.now))) + 6) }
+    ensures not_short { result ≢ Err FrameFault.TooShort }
+{
+    let payload_len = frame.payload.len().max(MIN_PAYLOAD_LEN);
+    // Behind the tag's type stand its other four octets and the inner type, which are as many.
+    let size = payload_len + TAG_LEN;
+    let len = frame.header_len() + size;
+    if len > MAX_FRAME_LEN {
+        return Err(FrameFault::TooLong);
+    }
+    let tag = HsrTag {
+        path,
+        size: size as u16,
+        seq,
+        inner: frame.kind,
+    };
+    let mut octets = Vec::with_capacity(alloc, len)?;
+    put_tagged(&mut octets, frame, tag)?;
+    octets.resize(len, 0)?;
+    Ok(Frame::of(octets))
+}

@@ -1,0 +1,10 @@
+pub mod Faults
+pub mod PortSets
+pub mod Arrivals
+pub mod IncomingView
+pub mod Roles
+pub mod Queues
+pub mod Pairs
+pub mod Images
+pub mod Steps
+pub mod Runs

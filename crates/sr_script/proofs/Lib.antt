@@ -1,0 +1,6 @@
+pub mod Places
+pub mod Pieces
+pub mod Digits
+pub mod Numerals
+pub mod Spellings
+pub mod Going

@@ -1,0 +1,55 @@
+-- Where an octet stands first, and what stands around it.
+use Rattle.std.proofs.Common.{◌≡◌, ℕ, zero, suc, ◌+◌, List, [], ◌∷◌, ◌++◌, length, take, drop, Option, Some, None, sym, ap, refl, ◌∙◌, arith, append_assoc, eq-eqb, get_or}
+use Rattle.std.proofs.lemmas.Bool.{eqb-true}
+use Rattle.std.proofs.lemmas.List.{take_more, take-append-drop}
+use Rattle.memchr.specs.Find.{Nowhere, Passes, is_byte, IsFirstByte}
+use Rattle.sr_script.specs.Octets.{Lacks, IsPlaceOf}
+
+pub Lacks-append : (octet : ℕ) (xs ys : List ℕ) → Lacks octet xs → Lacks octet ys → Lacks octet (xs ++ ys)
+Lacks-append octet [] ys h k = k
+Lacks-append octet (x ∷ xs) ys h k = (h.0, Lacks-append octet xs ys h.1 k)
+
+-- where a search finds no place there is none
+Lacks-from_nowhere : (octet : ℕ) (xs : List ℕ) → Nowhere (Passes (is_byte octet) xs) 0 (length xs) → Lacks octet xs
+Lacks-from_nowhere octet [] h = tt
+Lacks-from_nowhere octet (x ∷ xs) h = (
+  λ e. h 0 (omega arith) (omega arith) (eq-eqb x octet e),
+  Lacks-from_nowhere octet xs (λ k low lt p. h (suc k) (omega arith) (omega arith) p),
+)
+
+-- there is none before the first
+Lacks-before : (octet : ℕ) (xs : List ℕ) (at : ℕ) → Nowhere (Passes (is_byte octet) xs) 0 at → Lacks octet (take at xs)
+Lacks-before octet xs zero h = tt
+Lacks-before octet [] (suc at) h = tt
+Lacks-before octet (x ∷ xs) (suc at) h = (
+  λ e. h 0 (omega arith) (omega arith) (eq-eqb x octet e),
+  Lacks-before octet xs at (λ k low lt p. h (suc k) (omega arith) (omega arith) p),
+)
+
+-- what a search finds is the first place
+pub IsPlaceOf-found : (octet : ℕ) (xs : List ℕ) (r : Option ℕ) → IsFirstByte (is_byte octet) xs r → IsPlaceOf octet xs r
+IsPlaceOf-found octet xs None h = Lacks-from_nowhere octet xs h
+IsPlaceOf-found octet xs (Some at) h =
+    let first = h.0 in
+    (Lacks-before octet xs at first.before, take_more xs at 0 first.high ∙ ap (λ b. take at xs ++ b ∷ []) (eqb-true (get_or xs at 0) octet h.1), first.high)
+
+-- the text around its first place
+pub around_place : (octet : ℕ) (xs : List ℕ) (at : ℕ) → take (at + 1) xs ≡ take at xs ++ octet ∷ [] → xs ≡ take at xs ++ octet ∷ drop (at + 1) xs
+around_place octet xs at e =
+    sym (take-append-drop (at + 1) xs) ∙ ap (λ (l : List ℕ). l ++ drop (at + 1) xs) e ∙ append_assoc (take at xs) (octet ∷ []) (drop (at + 1) xs)
+
+-- one text has one first place
+pub one_place : (octet : ℕ) (xs ys ws vs : List ℕ) → Lacks octet xs → Lacks octet ws → xs ++ octet ∷ ys ≡ ws ++ octet ∷ vs → (xs ≡ ws) × (ys ≡ vs)
+one_place octet [] ys [] vs h k e = (refl, cc)
+one_place octet [] ys (w ∷ ws) vs h k e = let same : octet ≡ w = cc in absurd (k.0 (sym same))
+one_place octet (x ∷ xs) ys [] vs h k e = let same : x ≡ octet = cc in absurd (h.0 same)
+one_place octet (x ∷ xs) ys (w ∷ ws) vs h k e =
+    let same : x ≡ w = cc in
+    let rest : xs ++ octet ∷ ys ≡ ws ++ octet ∷ vs = cc in
+    let more = one_place octet xs ys ws vs h.1 k.1 rest in
+    (cc (same, more.0), more.1)
+
+-- a text that lacks the octet has none in it
+pub no_place : (octet : ℕ) (ws vs : List ℕ) → Lacks octet (ws ++ octet ∷ vs) → ⊥
+no_place octet [] vs h = h.0 refl
+no_place octet (w ∷ ws) vs h = no_place octet ws vs h.1

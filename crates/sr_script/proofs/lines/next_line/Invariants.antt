@@ -1,0 +1,14 @@
+use Rattle.std.proofs.Common.{◌≤◌, ◌-◌, length, vec_len}
+use Rattle.sr_script.specs.Octets.{Lacks}
+use Rattle.sr_script.proofs.Pieces.{Took}
+use Rattle.sr_script.proofs.lines.next_line.Given as goal
+
+abbrev pub invariant-loop-reader : goal.invariant-loop-reader
+invariant-loop-reader g l = record {
+  short : length l.line.items ≤ 8001;
+  unbroken : Lacks 10 l.line.items;
+  took : Took l.line.items (g.R.Read.remaining l.fn.reader) (g.R.Read.remaining l.reader);
+}
+
+abbrev pub decreases-loop-reader : goal.decreases-loop-reader
+decreases-loop-reader g l = 8001 - vec_len l.line

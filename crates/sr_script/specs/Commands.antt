@@ -1,0 +1,49 @@
+-- What a line of a script asks for.
+use Rattle.std.specs.Prelude.{◌≡◌, ℕ, ◌<◌, ◌^◌, List, [], ◌∷◌, length, codes, All, slice_index, ◌⊎◌, Ok}
+use Rattle.std.specs.List.{join_with_byte}
+use Rattle.std.specs.Fmt.{decimal}
+use Rattle.hex.specs.Hex.{decode_of}
+use Rattle.sr_frame.specs.declared.ports.Port.{Port}
+use Rattle.sr_frame.specs.declared.ports.Port.TheVariants.{H, A, B, C}
+use Rattle.sr_script.specs.declared.reading.Command.{Command}
+use Rattle.sr_script.specs.declared.reading.Command.TheVariants.{Skip, Arrive}
+
+-- words with single spaces between them
+abbrev pub spaced : List (List ℕ) → List ℕ
+spaced words = join_with_byte 32 words
+
+-- the letter of a port, as a word
+abbrev pub letter_of : Port → List ℕ
+letter_of H = codes "H"
+letter_of A = codes "A"
+letter_of B = codes "B"
+letter_of C = codes "C"
+
+-- frames come in there
+abbrev pub IsInlet : Port → Type 0
+IsInlet H = ⊥
+IsInlet A = Unit {0}
+IsInlet B = Unit {0}
+IsInlet C = ⊥
+
+-- hexadecimal digits of either case, two an octet, of at least one octet
+abbrev pub IsHex : List ℕ → List ℕ → Type 0
+IsHex digits octets = (decode_of digits ≡ Ok octets) × (0 < length octets)
+
+-- a line that begins with `#`, and is ASCII
+abbrev pub IsComment : List ℕ → Type 0
+IsComment line = (slice_index line 0 ≡ 35) × All (λ octet. octet < 128) line
+
+-- the line asks for this, with these octets
+abbrev pub Says : List ℕ → Command → List ℕ → Type 0
+Says line Skip octets = ((line ≡ []) ⊎ IsComment line) × (octets ≡ [])
+Says line (Arrive port time) octets = (digits : List ℕ)
+    × (line ≡ spaced (codes "in" ∷ letter_of port ∷ decimal time ∷ digits ∷ []))
+    × IsInlet port × (time < 2 ^ 64) × IsHex digits octets
+
+-- the words behind `in`
+abbrev pub IsArrival : List ℕ → Command → List ℕ → Type 0
+IsArrival text Skip octets = ⊥
+IsArrival text (Arrive port time) octets = (digits : List ℕ)
+    × (text ≡ spaced (letter_of port ∷ decimal time ∷ digits ∷ []))
+    × IsInlet port × (time < 2 ^ 64) × IsHex digits octets

@@ -1,0 +1,102 @@
+//! Octets as hexadecimal digits. The loops have no branch for a digit, so that they run on many
+//! digits at a time.
+
+ghost use Rattle.std.specs.Prelude.{◌≡◌, ◌*◌, ◌+◌, ◌-◌, ◌<◌, ◌++◌, ◌∷◌, [], ℕ, List, length, unwrap_or, take, MatchBool, MatchResult, IfOk, IfErr, OnOk, IsErr, slice_index, ◌^◌};
+ghost use Rattle.sr_script.specs.Lines.{IsOneOf};
+ghost use Rattle.sr_script.specs.Commands.{IsHex};
+ghost use Rattle.hex.specs.Hex.{decode_of, decode_pairs, encode_lower, lower_digits, hex_digit_value};
+
+use crate::fault::Word;
+use std::alloc::AllocError;
+
+/// The value of a digit of either case; 255 where it is none.
+#[inline(always)]
+fn digit_value(digit: u8) -> u8
+    ensures { result ≡ unwrap_or (hex_digit_value digit) 255 }
+{
+    let number = digit.wrapping_sub(b'0');
+    let letter = (digit | 0x20).wrapping_sub(b'a');
+    if number < 10 {
+        number
+    } else if letter < 6 {
+        letter + 10
+    } else {
+        255
+    }
+}
+
+/// Writes the octets that the digits spell, two digits each. False where one is no digit: what is
+/// written then says nothing.
+fn read_pairs(digits: &[u8], octets: &mut [u8]) -> bool
+    requires { length digits.now ≡ 2 * length octets.old }
+    ensures { MatchBool result (decode_of digits.now ≡ Ok octets.new) (IsErr (decode_of digits.now)) }
+{
+    let mut worst = 0u8;
+    for i in 0..octets.len() {
+        let high = digit_value(digits[2 * i]);
+        let low = digit_value(digits[2 * i + 1]);
+        worst = worst.max(high).max(low);
+        octets[i] = high.wrapping_mul(16).wrapping_add(low);
+    }
+    worst < 16
+}
+
+/// Reads hexadecimal digits of either case, two an octet, into `octets`, in place of what it held.
+///
+/// # Errors
+/// `Line` where the digits are none, not even in number, or not all digits; `Memory`. What `octets` then holds
+/// says nothing.
+pub(crate) fn read_hex(digits: &[u8], octets: &mut Vec<u8>) -> Result<(), Word>
+    ensures found { OnOk result (IsHex digits.now octets.new.items) }
+    ensures only { (os : List ℕ) → IsHex digits.now os → IfErr result (λ word. word ≡ Word.Memory) }
+    ensures fault { IfErr result (λ word. IsOneOf word (Word.Line ∷ Word.Memory ∷ [])) }
+{
+    let count = digits.len() / 2;
+    if digits.len() % 2 != 0 || count == 0 {
+        return Err(Word::Line);
+    }
+    octets.resize(count, 0)?;
+    if read_pairs(digits, octets.as_mut_slice()) {
+        Ok(())
+    } else {
+        Err(Word::Line)
+    }
+}
+
+/// The digit of a number, in lower case.
+#[inline(always)]
+fn digit_of(number: u8) -> u8
+    requires { number < 16 }
+    ensures { result ≡ slice_index lower_digits number }
+{
+    if number < 10 {
+        b'0' + number
+    } else {
+        b'a' - 10 + number
+    }
+}
+
+/// Writes the digits of octets, two each.
+fn write_pairs(octets: &[u8], digits: &mut [u8])
+    requires { length digits.old ≡ 2 * length octets.now }
+    ensures { digits.new ≡ encode_lower octets.now }
+{
+    for i in 0..octets.len() {
+        let octet = octets[i];
+        let high = digit_of(octet >> 4);
+        let low = digit_of(octet & 15);
+        digits[2 * i] = high;
+        digits[2 * i + 1] = low;
+    }
+}
+
+/// Appends octets as hexadecimal digits of lower case, two each.
+pub(crate) fn append_hex(text: &mut Vec<u8>, octets: &[u8]) -> Result<(), AllocError>
+    requires { length octets.now < 2 ^ 32 }
+    ensures { OnOk result (text.new.items ≡ text.old.items ++ encode_lower octets.now) }
+{
+    let start = text.len();
+    text.resize(start + 2 * octets.len(), 0)?;
+    write_pairs(octets, &mut text[start..]);
+    Ok(())
+}

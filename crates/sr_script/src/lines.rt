@@ -1,0 +1,89 @@
+//! Lines of a reader.
+
+ghost use Rattle.std.specs.Prelude.{◌≡◌, ◌≢◌, ◌≤◌, ◌<◌, ◌+◌, ◌++◌, ◌∷◌, [], length, take, IfOk, IfErr, IfSome, MatchOption, vec_len, true, false};
+ghost use Rattle.std.specs.Io.KnownBytes.{IsAtEnd};
+ghost use Rattle.sr_script.specs.Lines.{TakesLine, BeginsLong, TakesPiece, IsOneOf};
+
+use crate::fault::Word;
+use crate::words::place_of;
+use std::io::BufRead;
+
+/// The most octets of a line, without the LF that ends it.
+const MAX_LINE: usize = 8000;
+
+/// What ends the octets that were taken of a line.
+#[derive(Clone, Copy)]
+pub(crate) enum Piece {
+    /// Nothing yet: the line goes on.
+    Part,
+    /// The LF of the line.
+    Last,
+    /// The end of the input.
+    End,
+}
+
+/// Takes what the reader has at hand of a line, but no more than makes the line one octet too long.
+fn take_piece<R: BufRead>(reader: &mut R, line: &mut Vec<u8>) -> Result<Piece, Word>
+    requires { vec_len line.old ≤ 8000 }
+    ensures taken { IfOk result (λ piece. TakesPiece piece line.old.items line.new.items (R.remaining reader.old) (R.remaining reader.new)) }
+    ensures fault { IfErr result (λ word. IsOneOf word (Word.Read ∷ Word.Memory ∷ [])) }
+{
+    let room = MAX_LINE + 1 - line.len();
+    let Ok(available) = reader.fill_buf() else {
+        return Err(Word::Read);
+    };
+    if available.is_empty() {
+        return Ok(Piece::End);
+    }
+    let near = &available[..available.len().min(room)];
+    match place_of(b'\n', near) {
+        Some(at) => {
+            line.extend_from_slice(&near[..at])?;
+            reader.consume(at + 1);
+            Ok(Piece::Last)
+        }
+        None => {
+            line.extend_from_slice(near)?;
+            let taken = near.len();
+            reader.consume(taken);
+            Ok(Piece::Part)
+        }
+    }
+}
+
+/// Reads a line into `line`, without the LF that ends it. False at the end of the input.
+///
+/// # Errors
+/// `Long` for a line of more than 8000 octets, of which no more than 8001 are taken; `Read` where the
+/// reader fails; `Memory`.
+pub(crate) fn next_line<R: BufRead>(reader: &mut R, line: &mut Vec<u8>) -> Result<bool, Word>
+    ensures taken { IfOk result (λ more. TakesLine more line.new.items (R.remaining reader.old) (R.remaining reader.new)) }
+    ensures short { IfOk result (λ _. length line.new.items ≤ 8000) }
+    ensures long { result ≡ Err Word.Long → IfSome (R.remaining reader.old) BeginsLong }
+    ensures fault { IfErr result (λ word. IsOneOf word (Word.Long ∷ Word.Read ∷ Word.Memory ∷ [])) }
+{
+    line.clear();
+    while line.len() <= MAX_LINE {
+        match take_piece(reader, line)? {
+            Piece::Part => {}
+            Piece::Last => return Ok(true),
+            Piece::End => return Ok(!line.is_empty()),
+        }
+    }
+    Err(Word::Long)
+}
+
+/// Whether the reader has nothing left.
+///
+/// # Errors
+/// `Read` where the reader fails.
+pub(crate) fn is_at_end<R: BufRead>(reader: &mut R) -> Result<bool, Word>
+    ensures ended { result ≡ Ok true → IsAtEnd (R.remaining reader.old) }
+    ensures more { result ≡ Ok false → IfSome (R.remaining reader.old) (λ octets. octets ≢ []) }
+    ensures fault { IfErr result (λ word. word ≡ Word.Read) }
+{
+    match reader.fill_buf() {
+        Ok(available) => Ok(available.is_empty()),
+        Err(_) => Err(Word::Read),
+    }
+}

@@ -1,0 +1,19 @@
+//! What a run is told beside its script.
+
+use sr_frame::Mac;
+
+/// The roles that a node can have.
+#[derive(Clone, Copy, Debug, PartialEq, Eq)]
+pub enum RoleName {
+    /// A doubly attached node of a PRP network (IEC 62439-3 clause 4).
+    Danp,
+}
+
+/// The node that a script is run on.
+#[derive(Clone, Copy, Debug, PartialEq, Eq)]
+pub struct Setup {
+    /// The role of the node.
+    pub role: RoleName,
+    /// The address of the node.
+    pub mac: Mac,
+}

@@ -1,0 +1,3 @@
+pub mod TlvLemmas
+pub mod Meaning
+pub mod WrittenLemmas

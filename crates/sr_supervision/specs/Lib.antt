@@ -1,0 +1,4 @@
+pub mod Tlvs
+pub mod Supervised
+pub mod Refused
+pub mod Written
