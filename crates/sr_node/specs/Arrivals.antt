@@ -1,6 +1,5 @@
 -- What the octets at a port are read as.
-use Rattle.std.specs.Cmp.Lexicographic.{pointwise}
-use Rattle.std.specs.Prelude.{◌≡◌, ℕ, ◌==◌, nat_lt, nat_eq, length, Bool, false, not, ◌&&◌, List, [], ◌∷◌, Option, None, Some, if◌then◌else◌}
+use Rattle.std.specs.Prelude.{◌≡◌, ℕ, ◌==◌, nat_lt, length, Bool, false, not, ◌&&◌, List, [], ◌∷◌, Option, None, Some, if◌then◌else◌}
 use Rattle.sr_frame.specs.Frame.{Fields, IsFrame, least_len}
 use Rattle.sr_frame.specs.declared.fields.Mac.{Mac}
 use Rattle.sr_frame.specs.declared.ports.Port.{Port}
@@ -9,16 +8,13 @@ use Rattle.sr_prp_trailer.specs.Trailed.{IsTrailed}
 use Rattle.sr_prp_trailer.specs.declared.trailer.Lan.{Lan}
 use Rattle.sr_prp_trailer.specs.declared.trailer.Lan.TheVariants as lan
 use Rattle.sr_prp_trailer.specs.declared.trailer.Trailer.{Trailer}
+use Rattle.sr_slots.specs.Places.{mac_eq}
 use Rattle.sr_node.specs.declared.parcels.Form.{Form}
 use Rattle.sr_node.specs.declared.parcels.Form.TheVariants.{Plain, Hsr, Prp}
 use Rattle.sr_node.specs.declared.parcels.Parcel.{Parcel}
 use Rattle.sr_node.specs.declared.roles.Header.{Header}
 use Rattle.sr_node.specs.declared.faults.ReadFault.{ReadFault}
 use Rattle.sr_node.specs.declared.faults.ReadFault.TheVariants as read
-
--- whether two addresses are one
-abbrev pub mac_eq : Mac → Mac → Bool
-mac_eq x y = pointwise nat_eq x.0 y.0
 
 -- where supervision frames go, 01:15:4E:00:01:00
 abbrev pub supervision_mac : Mac

@@ -1,33 +1,37 @@
 -- A node as data.
-use Rattle.std.specs.Prelude.{ℕ, ◌<◌, Bool, true, false, List, [], ◌++◌, Option, None, Some, if◌then◌else◌}
-use Rattle.sr_frame.specs.declared.ports.Port.TheVariants.{H}
+use Rattle.std.specs.Prelude.{◌≡◌, ℕ, ◌+◌, ◌%◌, true, [], Option, None, Some}
+use Rattle.sr_frame.specs.declared.fields.Mac.{Mac}
 use Rattle.sr_sequence.specs.declared.Seq.{Seq}
-use Rattle.sr_node.specs.declared.port_sets.Outlets.{Outlets}
+use Rattle.sr_dup_table.specs.Sources.{Sources, Table, is_held}
 use Rattle.sr_node.specs.declared.queues.Outboxes.{Outboxes}
-use Rattle.sr_node.specs.declared.roles.Header.{Header}
-use Rattle.sr_node.specs.PortSets.{has}
-use Rattle.sr_node.specs.Pairs.{Pair, Notes, was_before, pairs_in}
 use Rattle.sr_node.specs.Queues.{boxes_empty}
-use Rattle.sr_node.specs.Roles.{RoleImage, nowhere}
+use Rattle.sr_node.specs.Roles.{RoleImage}
 
--- what clauses see of a core: its image, and the room for notes
+-- what clauses see of a core: its image, and the places held in its table
 pub record CoreValue : Type 0 where
   pub time : ℕ
-  pub noted : Notes
+  pub next : Seq
+  pub next_life : Seq
+  pub life_at : Option ℕ
+  pub table : Table
   pub out : Outboxes
 
--- what shows of it: the time, the pairs that went up to the host, what waits
+-- What shows of it: the greatest time that was handed in, the next number of a frame and of a life check, when the last life check
+-- was sent, what is noted of each source, and what waits.
 pub record Image : Type 0 where
   pub time : ℕ
-  pub noted : List Pair
+  pub next : Seq
+  pub next_life : Seq
+  pub life_at : Option ℕ
+  pub sources : Sources
   pub out : Outboxes
 
 abbrev pub shown : CoreValue → Image
-shown c = record { time = c.time; noted = c.noted.pairs; out = c.out }
+shown c = record { time = c.time; next = c.next; next_life = c.next_life; life_at = c.life_at; sources = c.table.sources; out = c.out }
 
 -- a new node's
 abbrev pub start : Image
-start = record { time = 0; noted = []; out = boxes_empty }
+start = record { time = 0; next = record { 0 = 64511 }; next_life = record { 0 = 32255 }; life_at = None; sources = []; out = boxes_empty }
 
 -- a node as one value
 pub record State : Type 0 where
@@ -44,16 +48,11 @@ begun r = record { role = r; core = start }
 abbrev pub with_time : Image → ℕ → Image
 with_time i now = record i { time = now }
 
--- of the wanted outlets, those where the frame was not yet
-abbrev pub fresh_outlets : List Pair → Header → Outlets → Outlets
-fresh_outlets noted h wanted = if was_before noted h.src h.seq then nowhere else wanted
+-- the number after this one
+abbrev pub after : Seq → Seq
+after seq = record { 0 = (seq.0 + 1) % 65536 }
 
--- the pairs after a frame went to these outlets
-abbrev pub noted_after : List Pair → Header → Outlets → List Pair
-noted_after noted h o = if has o H then noted ++ pairs_in h else noted
-
--- there is room for the note of a frame that goes up to the host, if it does
-abbrev pub IsReady : Notes → Bool → Option Seq → Type 0
-IsReady n false seq = Unit {0}
-IsReady n true None = Unit {0}
-IsReady n true (Some seq) = 0 < n.room
+-- the next arrival of this source, where it has a number, takes no memory
+abbrev pub IsReady : Table → Mac → Option Seq → Type 0
+IsReady table src None = Unit {0}
+IsReady table src (Some seq) = is_held table src ≡ true

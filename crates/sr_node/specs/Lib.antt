@@ -4,7 +4,9 @@ pub mod Arrivals
 pub mod IncomingView
 pub mod Roles
 pub mod Queues
-pub mod Pairs
+pub mod Noting
+pub mod LifeChecks
 pub mod Images
 pub mod Steps
 pub mod Runs
+pub mod SteadyRuns

@@ -1,8 +1,9 @@
 -- Ports, and sets of them.
-use Rattle.std.specs.Prelude.{◌==◌, filter, ℕ, Bool, List, [], ◌∷◌}
+use Rattle.std.specs.Prelude.{◌+◌, ◌*◌, ◌==◌, filter, ℕ, Bool, List, [], ◌∷◌}
 use Rattle.std.specs.Int.RustNames.{bit_and}
 use Rattle.sr_frame.specs.declared.ports.Port.{Port}
 use Rattle.sr_frame.specs.declared.ports.Port.TheVariants.{H, A, B, C}
+use Rattle.sr_dup_window.specs.LaneSets.{flag}
 use Rattle.sr_node.specs.declared.port_sets.Outlets.{Outlets}
 
 -- the bit of a port
@@ -15,6 +16,10 @@ bit_of C = 8
 -- the set of these bits
 abbrev pub outlets : ℕ → Outlets
 outlets n = record { 0 = n }
+
+-- the set of the ports for which a test holds
+abbrev pub outlets_where : (Port → Bool) → Outlets
+outlets_where test = outlets (flag (test H) + 2 * flag (test A) + 4 * flag (test B) + 8 * flag (test C))
 
 -- whether the set has the port
 abbrev pub has : Outlets → Port → Bool

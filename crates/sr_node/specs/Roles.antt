@@ -3,10 +3,10 @@ use Rattle.std.specs.Prelude.{◌%◌, ◌==◌, Bool, ◌||◌, slice_index, if
 use Rattle.sr_frame.specs.declared.fields.Mac.{Mac}
 use Rattle.sr_frame.specs.declared.ports.Port.{Port}
 use Rattle.sr_frame.specs.declared.ports.Port.TheVariants.{H, A, B, C}
+use Rattle.sr_slots.specs.Places.{mac_eq}
 use Rattle.sr_node.specs.declared.port_sets.Outlets.{Outlets}
 use Rattle.sr_node.specs.declared.roles.Header.{Header}
 use Rattle.sr_node.specs.PortSets.{outlets}
-use Rattle.sr_node.specs.Arrivals.{mac_eq}
 
 -- the address of the node
 pub record RoleImage : Type 0 where

@@ -1,22 +1,38 @@
 //! What a node keeps beside its role.
 
-ghost use Rattle.std.specs.Prelude.{◌≡◌, IfOk, OnOk, max};
-ghost use Rattle.sr_node.specs.PortSets.{has};
+ghost use Rattle.std.specs.Prelude.{◌≡◌, ◌+◌, IfOk, OnOk, OnErr, Some, false, true, is_some, length, max};
+ghost use Rattle.std.specs.Result.{result_ok};
+ghost use Rattle.sr_dup_table.specs.Sources.{live_at};
+ghost use Rattle.sr_node.specs.Noting.{new_outlets, sources_after};
 ghost use Rattle.sr_node.specs.Queues.{box_at, boxes_left, first_of, Room, put_copies};
-ghost use Rattle.sr_node.specs.Images.{shown, start, with_time, fresh_outlets, noted_after, IsReady};
+ghost use Rattle.sr_node.specs.LifeChecks.{is_due};
+ghost use Rattle.sr_node.specs.Images.{shown, start, with_time, after, IsReady};
+ghost use Rattle.sr_node.specs.Steps.{is_host};
 
-use crate::noted::Noted;
+use crate::life_checks::is_due;
+use crate::noting::{lanes_noted, outlets_on};
 use crate::queues::{Copies, Outboxes};
 use crate::{Header, Outlets, Parcel};
+use sr_dup_table::{DupTable, TableFull};
 use sr_frame::{NoMemory, Port};
+use sr_sequence::Seq;
 use std::alloc::Global;
 use std::marker::Model;
 
-/// The time, what went out already, and what waits.
+/// The first number of a node's frames (IEC 62439-3, as Linux begins).
+const FIRST_NUMBER: Seq = Seq(64511);
+
+/// The first number of a node's life checks (as Linux begins).
+const FIRST_LIFE_NUMBER: Seq = Seq(32255);
+
+/// The time, the numbers to come, what is noted of each source, and what waits.
 #[derive(Drop)]
 pub struct Core {
     time: u64,
-    noted: Noted,
+    next: Seq,
+    next_life: Seq,
+    life_at: Option<u64>,
+    table: DupTable,
     out: Outboxes,
     alloc: Global,
 }
@@ -26,7 +42,7 @@ impl Model for Core {
 
     ghost Value = { CoreValue };
 
-    ghost view = { λ c. record { time = c.time; noted = c.noted; out = c.out } };
+    ghost view = { λ c. record { time = c.time; next = c.next; next_life = c.next_life; life_at = c.life_at; table = c.table; out = c.out } };
 }
 
 impl Core {
@@ -35,7 +51,10 @@ impl Core {
     {
         Ok(Core {
             time: 0,
-            noted: Noted::new(alloc),
+            next: FIRST_NUMBER,
+            next_life: FIRST_LIFE_NUMBER,
+            life_at: None,
+            table: DupTable::new(alloc),
             out: Outboxes::new(alloc)?,
             alloc,
         })
@@ -67,44 +86,118 @@ impl Core {
         self.time.max(now)
     }
 
-    /// Of the wanted outlets, those where the frame was not yet.
-    pub(crate) fn fresh(&self, header: &Header, wanted: Outlets) -> Outlets
-        ensures { result ≡ fresh_outlets self.now.noted.pairs header.now wanted }
+    /// Of the wanted outlets of a frame from this port, those where no copy of it was noted.
+    /// TableFull where too many other sources are live.
+    pub(crate) fn fresh(
+        &self,
+        port: Port,
+        header: &Header,
+        wanted: Outlets,
+        now: u64,
+    ) -> Result<Outlets, TableFull>
+        requires { is_host port ≡ false }
+        ensures { result_ok result ≡ new_outlets self.now.table.sources port header.now.src header.now.seq wanted now }
     {
-        match header.seq {
-            Some(seq) if !self.noted.fresh(header.src, seq) => Outlets::none(),
-            _ => wanted,
-        }
+        let Some(seq) = header.seq else {
+            return Ok(wanted);
+        };
+        let fresh = self
+            .table
+            .fresh(header.src, seq, lanes_noted(port, wanted), now)?;
+        Ok(outlets_on(fresh, wanted))
     }
 
-    /// Makes room for the note of a frame that goes to these outlets. Nothing that shows changes.
-    pub(crate) fn hold(&mut self, header: &Header, outlets: Outlets) -> Result<(), NoMemory>
-        ensures same { shown self.new ≡ shown self.old }
-        ensures ready { OnOk result (IsReady self.new.noted (has outlets Port.H) header.now.seq) }
+    /// Makes `fresh` at this time cheap, also where the table is full. Nothing that shows changes.
+    pub(crate) fn refresh(&mut self, now: u64)
+        ensures { shown self.new ≡ shown self.old }
     {
-        if outlets.has(Port::H) && header.seq.is_some() {
-            self.noted.reserve()?;
+        self.table.refresh(now);
+    }
+
+    /// Makes room for the note of a frame. Nothing that shows changes.
+    pub(crate) fn hold(&mut self, header: &Header) -> Result<(), NoMemory>
+        ensures same { shown self.new ≡ shown self.old }
+        ensures ready { OnOk result (IsReady self.new.table header.now.src header.now.seq) }
+    {
+        if header.seq.is_some() {
+            self.table.reserve(header.src)?;
         }
         Ok(())
     }
 
-    /// The changes of an arrival that passes. None can fail.
-    pub(crate) fn pass(&mut self, header: &Header, outlets: Outlets, copies: Copies, now: u64)
-        requires ready { IsReady self.old.noted (has outlets Port.H) header.now.seq }
+    /// The changes of an arrival that passes, of which none can fail.
+    pub(crate) fn pass(
+        &mut self,
+        port: Port,
+        header: &Header,
+        wanted: Outlets,
+        copies: Copies,
+        now: u64,
+    )
+        requires port { is_host port ≡ false }
+        requires ready { IsReady self.old.table header.now.src header.now.seq }
+        requires answered { is_some (new_outlets self.old.table.sources port header.now.src header.now.seq wanted now) ≡ true }
         requires room { Room self.old.out copies }
-        ensures { shown self.new ≡ record {
+        ensures { shown self.new ≡ record (shown self.old) {
           time = now;
-          noted = noted_after self.old.noted.pairs header.now outlets;
+          sources = sources_after self.old.table.sources port header.now.src header.now.seq wanted now;
           out = put_copies self.old.out copies;
         } }
     {
-        if outlets.has(Port::H) {
-            if let Some(seq) = header.seq {
-                self.noted.note(header.src, seq);
-            }
+        if let Some(seq) = header.seq {
+            self.table
+                .arrive(header.src, seq, lanes_noted(port, wanted), now)
+                .unwrap();
+            self.table.release();
         }
         self.out.put(copies);
         self.time = now;
+    }
+
+    /// The number that the next frame of the node takes.
+    pub(crate) fn next(&self) -> Seq
+        ensures { result ≡ self.now.next }
+    {
+        self.next
+    }
+
+    /// The number that its next life check has among the life checks.
+    pub(crate) fn next_life(&self) -> Seq
+        ensures { result ≡ self.now.next_life }
+    {
+        self.next_life
+    }
+
+    /// Whether a life check is due at this time.
+    pub(crate) fn is_life_check_due(&self, now: u64) -> bool
+        ensures { result ≡ is_due self.now.life_at now }
+    {
+        is_due(self.life_at, now)
+    }
+
+    /// The changes of a life check that goes out, of which none can fail.
+    pub(crate) fn send_life_check(&mut self, copies: Copies, now: u64)
+        requires { Room self.old.out copies }
+        ensures { shown self.new ≡ record (shown self.old) {
+          next = after self.old.next;
+          next_life = after self.old.next_life;
+          life_at = Some now;
+          out = put_copies self.old.out copies;
+        } }
+    {
+        self.next = self.next.next();
+        self.next_life = self.next_life.next();
+        self.life_at = Some(now);
+        self.out.put(copies);
+    }
+
+    /// Time passes: the forgotten sources go. Answers how many.
+    pub(crate) fn age(&mut self, now: u64) -> usize
+        ensures shown { shown self.new ≡ record (shown self.old) { time = now; sources = live_at now self.old.table.sources } }
+        ensures count { result + length (live_at now self.old.table.sources) ≡ length self.old.table.sources }
+    {
+        self.time = now;
+        self.table.age(now)
     }
 
     pub(crate) fn set_time(&mut self, now: u64)
@@ -121,3 +214,6 @@ impl Core {
         self.out.take(port)
     }
 }
+
+#[cfg(test)]
+mod tests;

@@ -7,8 +7,9 @@ mod core_state;
 mod faults;
 mod incoming;
 mod laws;
+mod life_checks;
 mod nodes;
-mod noted;
+mod noting;
 mod parcels;
 mod port_sets;
 mod queues;
@@ -18,7 +19,10 @@ mod roles;
 pub use answers::Answer;
 pub use core_state::Core;
 pub use faults::{ReadFault, StepFault};
-pub use laws::{each_frame_goes_up_once, readings_are_unique};
+pub use laws::{
+    copies_over_the_end_are_steady, each_frame_goes_up_once, each_life_check_goes_out_once,
+    late_copies_are_steady, readings_are_unique, what_a_node_cannot_tell_goes_everywhere,
+};
 pub use nodes::{Node, NodeOf};
 pub use parcels::{Form, Parcel};
 pub use port_sets::Outlets;

@@ -54,7 +54,8 @@ fn unnumbered<'a>(octets: &'a [u8], frame: &FrameView<'_>) -> Incoming<'a>
     }
 }
 
-fn lane_of(lan: Lan) -> u8
+/// The path of a frame in a LAN.
+pub(crate) fn lane_of(lan: Lan) -> u8
     ensures { result ≡ lane_of lan }
 {
     match lan {

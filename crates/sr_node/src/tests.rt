@@ -224,3 +224,64 @@ fn refused_growths_change_nothing(rt: HostRuntime) {
     }
     assert_eq!(rt; node.waiting(Port::H), 0);
 }
+
+// A source is forgotten 400 ms after its last arrival, and a time that goes back counts as the latest one.
+#[test]
+fn epochs(rt: HostRuntime) -> Result<(), Fail> {
+    for arrivals in [
+        [
+            (Port::A, 1000, true),
+            (Port::B, 1399, false),
+            (Port::B, 1798, false),
+        ],
+        [
+            (Port::A, 1000, true),
+            (Port::B, 1400, true),
+            (Port::A, 1400, false),
+        ],
+        [
+            (Port::A, 1000, true),
+            (Port::B, 900, false),
+            (Port::B, 1350, false),
+        ],
+    ] {
+        let mut node = Node::danp(rt.alloc(), OWN)?;
+        for (port, now, up) in arrivals {
+            let octets = if port == Port::A { in_a(5) } else { in_b(5) };
+            let answer = node.arrive(port, &octets, now);
+            assert_eq!(rt; went_up(&answer), up, "at {now}");
+            assert_eq!(rt; went_nowhere(&answer), !up, "at {now}");
+        }
+    }
+    Ok(())
+}
+
+/// The copy in LAN A of a frame of one source of many, or where the size is not 0x34, a frame of its without a number.
+fn of_source(source: u16, size: u8) -> [u8; 66] {
+    let [high, low] = source.to_be_bytes();
+    frame(OWN, Mac([6, 0, 0, 0, high, low]), [8, 0], 5, [0xa0, size])
+}
+
+// With 1024 sources live, a frame of another is refused, and changes nothing. Once they are forgotten they make room.
+#[test]
+fn a_full_table_refuses(rt: HostRuntime) -> Result<(), Fail> {
+    let mut node = Node::danp(rt.alloc(), OWN)?;
+    for source in 0..1024u16 {
+        assert!(rt; went_up(&node.arrive(Port::A, &of_source(source, 0x34), 0)));
+        assert!(rt; node.take(Port::H).is_some());
+    }
+    assert_eq!(rt;
+        node.arrive(Port::A, &of_source(1024, 0x34), 399).err(),
+        Some(StepFault::TableFull)
+    );
+    assert_eq!(rt; node.time(), 0);
+    assert_eq!(rt; node.waiting(Port::H), 0);
+    assert!(rt; went_nowhere(&node.arrive(Port::B, &of_source(7, 0x34), 0)));
+    assert!(rt; went_up(&node.arrive(Port::A, &of_source(1024, 0x35), 399)));
+    assert!(rt; went_up(&node.arrive(Port::A, &of_source(1024, 0x34), 400)));
+    // Of all those sources the table has the last one alone.
+    assert!(rt; matches!(node.tick(800), Ok(Answer::Ticked { sources: 1, .. })));
+    Ok(())
+}
+
+mod ticks;

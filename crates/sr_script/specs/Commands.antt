@@ -6,7 +6,7 @@ use Rattle.hex.specs.Hex.{decode_of}
 use Rattle.sr_frame.specs.declared.ports.Port.{Port}
 use Rattle.sr_frame.specs.declared.ports.Port.TheVariants.{H, A, B, C}
 use Rattle.sr_script.specs.declared.reading.Command.{Command}
-use Rattle.sr_script.specs.declared.reading.Command.TheVariants.{Skip, Arrive}
+use Rattle.sr_script.specs.declared.reading.Command.TheVariants.{Skip, Arrive, Tick}
 
 -- words with single spaces between them
 abbrev pub spaced : List (List ℕ) → List ℕ
@@ -34,12 +34,17 @@ IsHex digits octets = (decode_of digits ≡ Ok octets) × (0 < length octets)
 abbrev pub IsComment : List ℕ → Type 0
 IsComment line = (slice_index line 0 ≡ 35) × All (λ octet. octet < 128) line
 
+-- time passes
+abbrev pub IsTick : List ℕ → ℕ → Type 0
+IsTick line time = (line ≡ spaced (codes "tick" ∷ decimal time ∷ [])) × (time < 2 ^ 64)
+
 -- the line asks for this, with these octets
 abbrev pub Says : List ℕ → Command → List ℕ → Type 0
 Says line Skip octets = ((line ≡ []) ⊎ IsComment line) × (octets ≡ [])
 Says line (Arrive port time) octets = (digits : List ℕ)
     × (line ≡ spaced (codes "in" ∷ letter_of port ∷ decimal time ∷ digits ∷ []))
     × IsInlet port × (time < 2 ^ 64) × IsHex digits octets
+Says line (Tick time) octets = IsTick line time × (octets ≡ [])
 
 -- the words behind `in`
 abbrev pub IsArrival : List ℕ → Command → List ℕ → Type 0
@@ -47,3 +52,4 @@ IsArrival text Skip octets = ⊥
 IsArrival text (Arrive port time) octets = (digits : List ℕ)
     × (text ≡ spaced (letter_of port ∷ decimal time ∷ digits ∷ []))
     × IsInlet port × (time < 2 ^ 64) × IsHex digits octets
+IsArrival text (Tick time) octets = ⊥

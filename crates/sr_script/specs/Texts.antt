@@ -4,7 +4,9 @@ use Rattle.std.specs.List.{flat_map}
 use Rattle.std.specs.Fmt.{decimal}
 use Rattle.hex.specs.Hex.{encode_lower}
 use Rattle.sr_frame.specs.declared.ports.Port.{Port}
+use Rattle.sr_frame.specs.declared.ports.Port.TheVariants.{H, A, B, C}
 use Rattle.sr_node.specs.declared.parcels.Parcel.{Parcel}
+use Rattle.sr_node.specs.declared.queues.Outboxes.{Outboxes}
 use Rattle.sr_node.specs.declared.faults.ReadFault.TheVariants as read
 use Rattle.sr_node.specs.declared.faults.StepFault.{StepFault}
 use Rattle.sr_node.specs.declared.faults.StepFault.TheVariants as fault
@@ -21,6 +23,10 @@ frame_line port parcel = printed (letter_of port ∷ encode_lower parcel.octets 
 -- frames that go out, in order
 abbrev pub frame_lines : Port → List Parcel → List ℕ
 frame_lines port parcels = flat_map (frame_line port) parcels
+
+-- all frames that go out, in the order H, A, B, C
+abbrev pub outlet_lines : Outboxes → List ℕ
+outlet_lines o = frame_lines H o.h ++ frame_lines A o.a ++ frame_lines B o.b ++ frame_lines C o.c
 
 -- what a refusal is called; want of memory is none
 abbrev pub name_of : StepFault → Option (List ℕ)

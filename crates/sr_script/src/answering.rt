@@ -6,8 +6,8 @@ ghost use Rattle.sr_node.specs.Images.{node_state};
 ghost use Rattle.sr_node.specs.Queues.{box_at};
 ghost use Rattle.sr_script.specs.Lines.{IsOneOf};
 ghost use Rattle.sr_script.specs.Commands.{letter_of, Says};
-ghost use Rattle.sr_script.specs.Texts.{frame_line, frame_lines, name_of, refusal_line};
-ghost use Rattle.sr_script.specs.Replies.{emptied, Obeys, Replied};
+ghost use Rattle.sr_script.specs.Texts.{frame_line, frame_lines, outlet_lines, name_of, refusal_line};
+ghost use Rattle.sr_script.specs.Replies.{emptied, all_emptied, Obeys, Replied};
 ghost use Rattle.hex.specs.Hex.{encode_lower};
 
 use crate::fault::Word;
@@ -79,9 +79,27 @@ fn append_waiting<R: Role>(
     ensures node { OnOk result (node_state (R.meaning node.new.role) node.new.core
         ≡ emptied (node_state (R.meaning node.old.role) node.old.core) port) }
 {
+    // Mostly nothing waits, and to ask is cheaper than to take.
+    if node.waiting(port) == 0 {
+        return Ok(());
+    }
     while let Some(parcel) = node.take(port) {
         append_frame(text, port, &parcel.octets)?;
     }
+    Ok(())
+}
+
+/// Takes all that waits, outlet by outlet, and appends a line for each frame.
+fn append_outlets<R: Role>(node: &mut NodeOf<R>, text: &mut Vec<u8>) -> Result<(), AllocError>
+    ensures text { OnOk result (text.new.items ≡ text.old.items
+        ++ outlet_lines (node_state (R.meaning node.old.role) node.old.core).core.out) }
+    ensures node { OnOk result (node_state (R.meaning node.new.role) node.new.core
+        ≡ all_emptied (node_state (R.meaning node.old.role) node.old.core)) }
+{
+    append_waiting(node, Port::H, text)?;
+    append_waiting(node, Port::A, text)?;
+    append_waiting(node, Port::B, text)?;
+    append_waiting(node, Port::C, text)?;
     Ok(())
 }
 
@@ -98,10 +116,12 @@ fn obey<R: Role>(
         text.new.items (node_state (R.meaning node.new.role) node.new.core)) }
     ensures err { IfErr result (λ word. word ≡ Word.Memory) }
 {
-    let Command::Arrive(port, time) = command else {
-        return Ok(());
+    let outcome = match command {
+        Command::Skip => return Ok(()),
+        Command::Arrive(port, time) => node.arrive(port, octets, time),
+        Command::Tick(time) => node.tick(time),
     };
-    let Err(fault) = node.arrive(port, octets, time) else {
+    let Err(fault) = outcome else {
         return Ok(());
     };
     match name_of(fault) {
@@ -110,7 +130,7 @@ fn obey<R: Role>(
     }
 }
 
-/// Has the node obey a line, then takes all that waits at the host's port. `text` is then what to print for it.
+/// Has the node obey a line, then takes all that waits. `text` is then what to print for it.
 ///
 /// # Errors
 /// `Line` where the line is none of a script; `Memory`.
@@ -129,6 +149,6 @@ pub(crate) fn answer<R: Role>(
     text.clear();
     let command = command_of(line, octets)?;
     obey(node, number, command, octets, text)?;
-    append_waiting(node, Port::H, text)?;
+    append_outlets(node, text)?;
     Ok(())
 }

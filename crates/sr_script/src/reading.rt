@@ -3,7 +3,7 @@
 ghost use Rattle.std.specs.Prelude.{◌≡◌, ◌↔◌, ◌<◌, ◌^◌, ℕ, List, IfOk, IfErr, OnOk, IfSome, IsTrue, MatchResult, ◌∷◌, []};
 ghost use Rattle.std.specs.Fmt.{decimal};
 ghost use Rattle.sr_script.specs.Lines.{IsOneOf};
-ghost use Rattle.sr_script.specs.Commands.{Says, spaced, IsComment, IsInlet, IsHex, letter_of, IsArrival};
+ghost use Rattle.sr_script.specs.Commands.{Says, spaced, IsComment, IsInlet, IsHex, letter_of, IsArrival, IsTick};
 
 use crate::fault::Word;
 use crate::hexadecimal::read_hex;
@@ -18,6 +18,8 @@ pub(crate) enum Command {
     Skip,
     /// Octets that arrive at a port, at a time in milliseconds.
     Arrive(Port, u64),
+    /// Time passes, in milliseconds.
+    Tick(u64),
 }
 
 /// Whether a line begins with `#`, and is ASCII.
@@ -59,6 +61,14 @@ fn arrival(text: &[u8], octets: &mut Vec<u8>) -> Result<Command, Word>
     Ok(Command::Arrive(port, time))
 }
 
+/// The time of a line that says that time passes.
+fn tick_of(line: &[u8]) -> Option<u64>
+    ensures found { IfSome result (λ time. IsTick line.now time) }
+    ensures only { (time : ℕ) → IsTick line.now time → result ≡ Some time }
+{
+    number_of(line.strip_prefix(b"tick ".as_slice())?)
+}
+
 /// What a line asks for. The octets that it names are then in `octets`, and nothing else is.
 ///
 /// # Errors
@@ -73,8 +83,12 @@ pub(crate) fn command_of(line: &[u8], octets: &mut Vec<u8>) -> Result<Command, W
         octets.clear();
         return Ok(Command::Skip);
     }
-    let Some(rest) = line.strip_prefix(b"in ".as_slice()) else {
-        return Err(Word::Line);
-    };
-    arrival(rest, octets)
+    if let Some(rest) = line.strip_prefix(b"in ".as_slice()) {
+        return arrival(rest, octets);
+    }
+    octets.clear();
+    match tick_of(line) {
+        Some(time) => Ok(Command::Tick(time)),
+        None => Err(Word::Line),
+    }
 }

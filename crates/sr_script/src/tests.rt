@@ -187,7 +187,7 @@ fn lines_and_endings(rt: HostRuntime) -> Result<(), Fail> {
         b"in A 0 00\n# in A\r\0\x7f",
     ];
     let skipped: [&[u8]; 5] = [b"", b"\n", b"#", b"#in A 0 00", b"# \r"];
-    let refused: [&[u8]; 26] = [
+    let refused: [&[u8]; 35] = [
         b"in A 0 00\r\n",
         b"\r\n",
         b"in  A 0 00",
@@ -213,7 +213,16 @@ fn lines_and_endings(rt: HostRuntime) -> Result<(), Fail> {
         b"In A 0 00",
         b"#\x80",
         b"send 0 00",
-        b"tick 0",
+        b"tick",
+        b"tick ",
+        b"tick 05",
+        b"tick +5",
+        b"tick 0 ",
+        b"tick  0",
+        b" tick 0",
+        b"Tick 0",
+        b"tick 0 00",
+        b"tick 18446744073709551616",
     ];
     for line in obeyed {
         let script = [b"#\n\n".as_slice(), line].concat(rt.alloc())?;
@@ -233,6 +242,42 @@ fn lines_and_endings(rt: HostRuntime) -> Result<(), Fail> {
         assert_eq!(rt; ended, fault(3, Word::Line));
         assert_eq!(rt; written.as_slice(), b"refused 1 TooShort\n".as_slice());
     }
+    Ok(())
+}
+
+/// The line for a life check of the node in a LAN: 01:15:4E:00:01:00, the node, 88FB, path 0 and version 1, the number among
+/// the life checks, its TLV, zeros up to 60 octets, and the trailer.
+fn life_check(
+    alloc: Global,
+    lan: &str,
+    life_number: &str,
+    number: &str,
+) -> Result<String, AllocError> {
+    let id = if lan == "A" { "a034" } else { "b034" };
+    format!(in alloc;
+        "{lan} 01154e00010002000000000188fb0001{life_number}1406020000000001{:068}{number}{id}88fb\n",
+        0
+    )
+}
+
+#[test]
+fn ticks_print_life_checks(rt: HostRuntime) -> Result<(), Fail> {
+    let alloc = rt.alloc();
+    let script = b"tick 0\ntick 1999\n#\ntick 2000\nin A 0 00\ntick 18446744073709551615";
+    let mut wanted = String::new(alloc);
+    for (life_number, number, behind) in [
+        ("7dff", "fbff", ""),
+        ("7e00", "fc00", "refused 5 TooShort\n"),
+        ("7e01", "fc01", ""),
+    ] {
+        for lan in ["A", "B"] {
+            wanted.push_str(life_check(alloc, lan, life_number, number)?.as_str())?;
+        }
+        wanted.push_str(behind)?;
+    }
+    let (written, ended) = ran(alloc, script);
+    assert_eq!(rt; ended, None);
+    assert_eq!(rt; written.as_slice(), wanted.as_bytes());
     Ok(())
 }
 
@@ -317,13 +362,17 @@ fn writer_fails(rt: HostRuntime) {
 fn allocation_is_refused(rt: HostRuntime) -> Result<(), Fail> {
     // What the test itself needs comes first, and is asked for again where it is refused.
     let room = rt.alloc();
-    let script: &[u8] = b"in A 0 00\nin A 0 02000000000102000000000208005c\nin B 0 00\n";
-    let wanted: &[u8] =
-        b"refused 1 TooShort\nH 02000000000102000000000208005c\nrefused 3 TooShort\n";
-    let starts: [usize; 4] = [0, 19, 52, 71];
+    let script: &[u8] = b"in A 0 00\nin A 0 02000000000102000000000208005c\ntick 0\nin B 0 00\n";
+    let wanted: &[u8] = b"refused 1 TooShort\nH 02000000000102000000000208005c\n\
+        A 01154e00010002000000000188fb00017dff14060200000000010000\
+        0000000000000000000000000000000000000000000000000000000000000000fbffa03488fb\n\
+        B 01154e00010002000000000188fb00017dff14060200000000010000\
+        0000000000000000000000000000000000000000000000000000000000000000fbffb03488fb\n\
+        refused 4 TooShort\n";
+    let starts: [usize; 5] = [0, 19, 52, 322, 341];
     let mut written: Vec<u8> = Vec::new(room);
-    if written.reserve(100).is_err() {
-        written.reserve(100)?;
+    if written.reserve(400).is_err() {
+        written.reserve(400)?;
     }
     let mut reader = script;
     if let Err(ended) = run(room, &SETUP, &mut reader, &mut written) {
@@ -331,7 +380,7 @@ fn allocation_is_refused(rt: HostRuntime) -> Result<(), Fail> {
         assert!(rt; starts.contains(&written.len()));
         assert_eq!(rt;
             written.len(),
-            starts[(ended.line.clamp(1, 4) - 1) as usize]
+            starts[(ended.line.clamp(1, 5) - 1) as usize]
         );
         assert_eq!(rt; written.as_slice(), &wanted[..written.len()]);
         written.clear();

@@ -1,4 +1,5 @@
-use Rattle.sr_node.proofs.RunLemmas.{each_once_lem, pairs_of_both_lem, plain_forms_lem}
+use Rattle.sr_node.proofs.PairLemmas.{pairs_of_both_lem, plain_forms_lem}
+use Rattle.sr_node.proofs.RunLemmas.{each_once_lem}
 use Rattle.sr_node.proofs.laws.each_frame_goes_up_once.Goals as goal
 
 pub returns-clause-once : goal.returns-clause-once

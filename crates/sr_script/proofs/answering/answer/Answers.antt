@@ -14,6 +14,6 @@ returns-clause-ok g c =
       c.obey.new.text.items,
       after,
       obeys,
-      c.in_ok-append_waiting.ensures.text,
-      c.in_ok-append_waiting.ensures.node,
+      c.in_ok-append_outlets.ensures.text,
+      c.in_ok-append_outlets.ensures.node,
     )

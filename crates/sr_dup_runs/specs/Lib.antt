@@ -1,0 +1,3 @@
+pub mod Runs
+pub mod RunLemmas
+pub mod SteadyLemmas

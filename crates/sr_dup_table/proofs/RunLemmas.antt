@@ -1,0 +1,223 @@
+-- Two tables with the same live sources answer alike from then on.
+use Rattle.std.proofs.Common.{◌≡◌, ℕ, suc, ◌+◌, ◌-◌, ◌<◌, ◌≤◌, max, Bool, true, false, cond, nat_lt, List, [], ◌∷◌, ◌++◌, length, Option, None, Some, is_some, refl, sym, ap, ◌∙◌, subst, arith}
+use Rattle.std.specs.Map.{lookup, set_value}
+use Rattle.std.proofs.lemmas.Bool.{ltb-true, lt-ltb}
+use Rattle.std.proofs.lemmas.List.{length-append}
+use Rattle.std.proofs.lemmas.Map.{length-set_value}
+use Rattle.sr_frame.specs.declared.fields.Mac.{Mac}
+use Rattle.sr_slots.specs.Places.{mac_eq}
+use Rattle.sr_slots.specs.Calls.{passing}
+use Rattle.sr_slots.specs.EntryLemmas.{one_if, lookup-set, distinct-set, lookup-push, distinct-push, lookup-passing, distinct-passing, length-passing-set, length-passing-push}
+use Rattle.sr_dup_window.specs.declared.lane_sets.Lanes.{Lanes}
+use Rattle.sr_dup_window.specs.Windows.{noted, fresh_lanes}
+use Rattle.sr_dup_table.specs.Sources.{Heard, Sources, IsTable, is_live, live_at, with_room, begun_at, heard_next, answer_of, arrive_answer, after_of, after_arrive}
+use Rattle.sr_dup_table.specs.Runs.{Arrival, answer_to, left_by, answers, AreFrom, AgeingKeepsAnswers}
+use Rattle.sr_dup_table.proofs.SourceLemmas.{length-live_le}
+
+-- the record of a source, if it is live
+abbrev live_record : ℕ → Sources → Mac → Option Heard
+live_record now s src = passing (is_live now) (lookup (mac_eq src) s)
+
+-- what a table answers, by that record and the number of the live ones alone
+abbrev answer_by : Option Heard → ℕ → ℕ → Lanes → Option Lanes
+answer_by (Some h) n seq lanes = Some (fresh_lanes 1024 h.seen seq lanes)
+answer_by None n seq lanes = cond (nat_lt n 1024) (Some lanes) None
+
+-- and the record after it
+abbrev next_by : Option Heard → ℕ → Lanes → ℕ → Heard
+next_by (Some h) seq lanes now = record { seen = noted 1024 h.seen seq lanes; time = max h.time now }
+next_by None seq lanes now = begun_at seq lanes now
+
+-- what is live later was live before
+live_before : (now later : ℕ) (h : Heard) → now ≤ later → is_live later h ≡ true → is_live now h ≡ true
+live_before now later h le live = let l : later - h.time < 400 = ltb-true (later - h.time) 400 live in lt-ltb (now - h.time) 400 (omega arith)
+
+passing_before : (now later : ℕ) (o : Option Heard) → now ≤ later → passing (is_live later) (passing (is_live now) o) ≡ passing (is_live later) o
+passing_before now later None le = refl
+passing_before now later (Some h) le = by (is_live now h) refl (is_live later h) refl
+  where
+    by : (a : Bool) → is_live now h ≡ a → (b : Bool) → is_live later h ≡ b → passing (is_live later) (cond a (Some h) None) ≡ cond (is_live later h) (Some h) None
+    by true p b q = refl
+    by false p true q = let bad : true ≡ false = sym (live_before now later h le q) ∙ p in cc
+    by false p false q = sym (ap (λ c. cond c (Some h) None) q)
+
+live_again : (now later : ℕ) (s : Sources) → now ≤ later → live_at later (live_at now s) ≡ live_at later s
+live_again now later [] le = refl
+live_again now later (e ∷ s) le = by (is_live now e.1) refl (is_live later e.1) refl (live_again now later s le)
+  where
+    by : (a : Bool) → is_live now e.1 ≡ a → (b : Bool) → is_live later e.1 ≡ b → live_at later (live_at now s) ≡ live_at later s
+        → live_at later (cond a (e ∷ live_at now s) (live_at now s)) ≡ cond (is_live later e.1) (e ∷ live_at later s) (live_at later s)
+    by true p true q ih = λ j. cond (is_live later e.1) (e ∷ ih j) (ih j)
+    by true p false q ih = λ j. cond (is_live later e.1) (e ∷ ih j) (ih j)
+    by false p true q ih = let bad : true ≡ false = sym (live_before now later e.1 le q) ∙ p in cc
+    by false p false q ih = ih ∙ sym (ap (λ c. cond c (e ∷ live_at later s) (live_at later s)) q)
+
+-- a source with a forgotten record is one more than the live ones
+forgotten_more : (m : Mac) (now : ℕ) (h : Heard) (s : Sources) → lookup (mac_eq m) s ≡ Some h → is_live now h ≡ false → length (live_at now s) < length s
+forgotten_more m now h [] there dead = cc
+forgotten_more m now h (e ∷ s) there dead = by (mac_eq m e.0) there (is_live now e.1) refl (λ t. forgotten_more m now h s t dead)
+  where
+    by : (t : Bool) → cond t (Some e.1) (lookup (mac_eq m) s) ≡ Some h → (b : Bool) → is_live now e.1 ≡ b → (lookup (mac_eq m) s ≡ Some h → length (live_at now s) < length s)
+        → length (cond b (e ∷ live_at now s) (live_at now s)) < suc (length s)
+    by true v true p ih = let k : e.1 ≡ h = cc in let bad : true ≡ false = sym p ∙ ap (is_live now) k ∙ dead in cc
+    by true v false p ih = omega (arith, length-live_le now s)
+    by false v true p ih = omega (arith, ih v)
+    by false v false p ih = omega (arith, ih v)
+
+-- room is made for a new source exactly where fewer than 1024 are live
+room_is : (now : ℕ) (s : Sources) → nat_lt (length (with_room now s)) 1024 ≡ nat_lt (length (live_at now s)) 1024
+room_is now s = by (nat_lt (length s) 1024) refl
+  where
+    by : (b : Bool) → nat_lt (length s) 1024 ≡ b → nat_lt (length (cond b s (live_at now s))) 1024 ≡ nat_lt (length (live_at now s)) 1024
+    by true t = let l : length s < 1024 = ltb-true (length s) 1024 t in t ∙ sym (lt-ltb (length (live_at now s)) 1024 (omega (arith, length-live_le now s)))
+    by false t = refl
+
+module _ (s : Sources) (m : Mac) (seq : ℕ) (lanes : Lanes) (now : ℕ) (table : IsTable s) where
+  -- the answer
+  answer_at : (o : Option Heard) → lookup (mac_eq m) s ≡ o → answer_of o s seq lanes now ≡ answer_by (passing (is_live now) o) (length (live_at now s)) seq lanes
+  answer_at None at = ap (λ b. cond b (Some lanes) None) (room_is now s)
+  answer_at (Some h) at = by (is_live now h) refl
+    where
+      by : (b : Bool) → is_live now h ≡ b → Some (cond b (fresh_lanes 1024 h.seen seq lanes) lanes) ≡ answer_by (cond b (Some h) None) (length (live_at now s)) seq lanes
+      by true p = refl
+      by false p = sym (ap (λ b. cond b (Some lanes) None) (lt-ltb (length (live_at now s)) 1024 (omega (arith, forgotten_more m now h s at p, table.few))))
+
+  answer_is : arrive_answer s m seq lanes now ≡ answer_by (live_record now s m) (length (live_at now s)) seq lanes
+  answer_is = answer_at (lookup (mac_eq m) s) refl
+
+  -- the record after it
+  next_at : (h : Heard) → heard_next h seq lanes now ≡ next_by (passing (is_live now) (Some h)) seq lanes now
+  next_at h = by (is_live now h)
+    where
+      by : (b : Bool) → cond b (next_by (Some h) seq lanes now) (begun_at seq lanes now) ≡ next_by (cond b (Some h) None) seq lanes now
+      by true = refl
+      by false = refl
+
+  -- what was answered leaves a table, with this source's record anew and all others as they were
+  record Leaves (next : Heard) (new : Sources) : Type 0 where
+    pub kept : IsTable new
+    pub live : (u : ℕ) → now ≤ u → (q : Mac) → live_record u new q ≡ cond (mac_eq m q) (passing (is_live u) (Some next)) (live_record u s q)
+    pub count : (u : ℕ) → now ≤ u → length (live_at u new) + one_if (is_some (live_record u s m)) ≡ length (live_at u s) + one_if (is_live u next)
+
+  through_cond : (u : ℕ) (b : Bool) (x : Heard) (o : Option Heard) → passing (is_live u) (cond b (Some x) o) ≡ cond b (passing (is_live u) (Some x)) (passing (is_live u) o)
+  through_cond u true x o = refl
+  through_cond u false x o = refl
+
+  is_some_passing : (u : ℕ) (h : Heard) → is_some (passing (is_live u) (Some h)) ≡ is_live u h
+  is_some_passing u h = by (is_live u h)
+    where
+      by : (b : Bool) → is_some (cond b (Some h) None) ≡ b
+      by true = refl
+      by false = refl
+
+  leaves_again : (h w : Heard) → lookup (mac_eq m) s ≡ Some h → Leaves w (set_value (mac_eq m) s w)
+  leaves_again h w at = record {
+    kept = record { unique = distinct-set m w s table.unique; few = omega (arith, length-set_value (mac_eq m) s w, table.few) };
+    live = λ u le q. ap (passing (is_live u)) (lookup-set m q w s (ap is_some at)) ∙ through_cond u (mac_eq m q) w (lookup (mac_eq q) s);
+    count = λ u le.
+        let is : one_if (is_some (live_record u s m)) ≡ one_if (is_live u h) = ap (λ o. one_if (is_some (passing (is_live u) o))) at ∙ ap one_if (is_some_passing u h) in
+        omega (arith, is, length-passing-set (is_live u) m h w s at);
+  }
+
+  -- the sources that stay where a new one comes
+  room_table : IsTable (with_room now s)
+  room_table = by (nat_lt (length s) 1024)
+    where
+      by : (b : Bool) → IsTable (cond b s (live_at now s))
+      by true = table
+      by false = record { unique = distinct-passing (is_live now) s table.unique; few = omega (arith, length-live_le now s, table.few) }
+
+  room_lookup : (q : Mac) (u : ℕ) → now ≤ u → live_record u (with_room now s) q ≡ live_record u s q
+  room_lookup q u le = by (nat_lt (length s) 1024)
+    where
+      by : (b : Bool) → live_record u (cond b s (live_at now s)) q ≡ live_record u s q
+      by true = refl
+      by false = ap (passing (is_live u)) (lookup-passing (is_live now) q s table.unique) ∙ passing_before now u (lookup (mac_eq q) s) le
+
+  room_none : lookup (mac_eq m) s ≡ None → lookup (mac_eq m) (with_room now s) ≡ None
+  room_none at = by (nat_lt (length s) 1024)
+    where
+      by : (b : Bool) → lookup (mac_eq m) (cond b s (live_at now s)) ≡ None
+      by true = at
+      by false = lookup-passing (is_live now) m s table.unique ∙ ap (passing (is_live now)) at
+
+  room_live : (u : ℕ) → now ≤ u → live_at u (with_room now s) ≡ live_at u s
+  room_live u le = by (nat_lt (length s) 1024)
+    where
+      by : (b : Bool) → live_at u (cond b s (live_at now s)) ≡ live_at u s
+      by true = refl
+      by false = live_again now u s le
+
+  leaves_new : (w : Heard) → lookup (mac_eq m) s ≡ None → nat_lt (length (with_room now s)) 1024 ≡ true → Leaves w (with_room now s ++ (m, w) ∷ [])
+  leaves_new w at room =
+      let r = with_room now s in
+      let few : length r < 1024 = ltb-true (length r) 1024 room in
+      record {
+        kept = record { unique = distinct-push m w r room_table.unique (room_none at); few = omega (arith, length-append r ((m, w) ∷ [])) };
+        live = λ u le q.
+            ap (passing (is_live u)) (lookup-push m q w r (room_none at)) ∙ through_cond u (mac_eq m q) w (lookup (mac_eq q) r)
+            ∙ ap (λ o. cond (mac_eq m q) (passing (is_live u) (Some w)) o) (room_lookup q u le);
+        count = λ u le.
+            let is : one_if (is_some (live_record u s m)) ≡ 0 = ap (λ o. one_if (is_some (passing (is_live u) o))) at in
+            omega (arith, is, length-passing-push (is_live u) m w r, ap length (room_live u le));
+      }
+
+  answered : (b : Bool) (fresh : Lanes) → cond b (Some lanes) None ≡ Some fresh → b ≡ true
+  answered true fresh h = refl
+  answered false fresh h = cc
+
+  leaves_at : (o : Option Heard) → lookup (mac_eq m) s ≡ o → (fresh : Lanes) → answer_of o s seq lanes now ≡ Some fresh → Leaves (next_by (passing (is_live now) o) seq lanes now) (after_of o s m seq lanes now)
+  leaves_at None at fresh said = leaves_new (begun_at seq lanes now) at (answered (nat_lt (length (with_room now s)) 1024) fresh said)
+  leaves_at (Some h) at fresh said =
+      subst (λ w. Leaves w (set_value (mac_eq m) s (heard_next h seq lanes now))) (next_at h) (leaves_again h (heard_next h seq lanes now) at)
+
+  leaves : (fresh : Lanes) → arrive_answer s m seq lanes now ≡ Some fresh → Leaves (next_by (live_record now s m) seq lanes now) (after_arrive s m seq lanes now)
+  leaves fresh said = leaves_at (lookup (mac_eq m) s) refl fresh said
+
+-- from this time on both tables have the same live sources
+record Alike (now : ℕ) (s t : Sources) : Type 0 where
+  pub one : IsTable s
+  pub other : IsTable t
+  pub live : (u : ℕ) → now ≤ u → (q : Mac) → live_record u s q ≡ live_record u t q
+  pub count : (u : ℕ) → now ≤ u → length (live_at u s) ≡ length (live_at u t)
+
+alike_later : (now later : ℕ) (s t : Sources) → now ≤ later → Alike now s t → Alike later s t
+alike_later now later s t le h = record { one = h.one; other = h.other; live = λ u l. h.live u (omega arith); count = λ u l. h.count u (omega arith) }
+
+alike_answer : (s t : Sources) (a : Arrival) → Alike a.time s t → answer_to s a ≡ answer_to t a
+alike_answer s t a h =
+    answer_is s a.src a.seq a.lanes a.time h.one
+    ∙ (λ j. answer_by (h.live a.time (omega arith) a.src j) (h.count a.time (omega arith) j) a.seq a.lanes)
+    ∙ sym (answer_is t a.src a.seq a.lanes a.time h.other)
+
+alike_after : (s t : Sources) (a : Arrival) → Alike a.time s t → (o : Option Lanes) → answer_to s a ≡ o → answer_to t a ≡ o → Alike a.time (left_by o s a) (left_by o t a)
+alike_after s t a h None p q = h
+alike_after s t a h (Some fresh) p q =
+    let next = next_by (live_record a.time s a.src) a.seq a.lanes a.time in
+    let x = leaves s a.src a.seq a.lanes a.time h.one fresh p in
+    let same : next_by (live_record a.time t a.src) a.seq a.lanes a.time ≡ next = ap (λ r. next_by r a.seq a.lanes a.time) (sym (h.live a.time (omega arith) a.src)) in
+    let y = subst (λ w. Leaves t a.src a.seq a.lanes a.time h.other w (after_arrive t a.src a.seq a.lanes a.time)) same (leaves t a.src a.seq a.lanes a.time h.other fresh q) in
+    record {
+      one = x.kept;
+      other = y.kept;
+      live = λ u le m. x.live u le m ∙ ap (λ r. cond (mac_eq a.src m) (passing (is_live u) (Some next)) r) (h.live u le m) ∙ sym (y.live u le m);
+      count = λ u le. let k : one_if (is_some (live_record u s a.src)) ≡ one_if (is_some (live_record u t a.src)) = ap (λ r. one_if (is_some r)) (h.live u le a.src) in omega (arith, k, x.count u le, y.count u le, h.count u le);
+    }
+
+alike_answers : (now : ℕ) (s t : Sources) (later : List Arrival) → Alike now s t → AreFrom now later → answers s later ≡ answers t later
+alike_answers now s t [] h from = refl
+alike_answers now s t (a ∷ more) h from =
+    let k = alike_later now a.time s t from.0 h in
+    let said = alike_answer s t a k in
+    let after = alike_after s t a k (answer_to s a) refl (sym said) in
+    let rest = alike_answers a.time (left_by (answer_to s a) s a) (left_by (answer_to s a) t a) more after from.1 in
+    (λ j. said j ∷ rest j) ∙ ap (λ o. answer_to t a ∷ answers (left_by o t a) more) said
+
+pub ageing_keeps_answers_lem : AgeingKeepsAnswers
+ageing_keeps_answers_lem s now later table from =
+    alike_answers now (live_at now s) s later (record {
+      one = record { unique = distinct-passing (is_live now) s table.unique; few = omega (arith, length-live_le now s, table.few) };
+      other = table;
+      live = λ u le q. ap (passing (is_live u)) (lookup-passing (is_live now) q s table.unique) ∙ passing_before now u (lookup (mac_eq q) s) le;
+      count = λ u le. ap length (live_again now u s le);
+    }) from

@@ -1,0 +1,258 @@
+-- What the entries of the table show, through what is done to them, and the oldest time among them.
+use Rattle.std.proofs.Common.{◌≡◌, ◌≢◌, ℕ, suc, ◌-◌, ◌<◌, ◌≤◌, ◌^◌, min, max, Bool, true, false, cond, not, ◌&&◌, nat_lt, List, [], ◌∷◌, ◌++◌, length, filter, Option, None, Some, is_some, refl, sym, ap, ◌∙◌, arith, inl, inr}
+use Rattle.std.specs.Map.{lookup, set_value, keys_of}
+use Rattle.std.specs.Option.{option_map}
+use Rattle.std.proofs.lemmas.Bool.{cases_eq, ltb-true, ltb-false, lt-ltb, le-ltb}
+use Rattle.std.proofs.lemmas.List.{length-map, length-append, map-append}
+use Rattle.std.proofs.lemmas.Map.{length-set_value}
+use Rattle.sr_frame.specs.declared.fields.Mac.{Mac}
+use Rattle.sr_dup_window.specs.declared.lane_sets.Lanes.{Lanes}
+use Rattle.sr_slots.specs.Places.{mac_eq}
+use Rattle.sr_dup_window.specs.Windows.{noted}
+use Rattle.sr_dup_table.specs.declared.entry.Entry.{Entry}
+use Rattle.sr_dup_table.specs.Sources.{Heard, Sources, is_recent, is_live, live_at, live_others, with_room, answer_of, arrive_answer, heard_next, begun_at}
+use Rattle.sr_dup_table.specs.Bounds.{oldest_of, IsBounded}
+use Rattle.sr_dup_table.specs.Shown.{heard_of, sources_of}
+
+-- a look-up among what the entries show
+pub lookup-shown : (test : Mac → Bool) (es : List (Mac × Entry)) → lookup test (sources_of es) ≡ option_map heard_of (lookup test es)
+lookup-shown test [] = refl
+lookup-shown test (e ∷ es) = by (test e.0) (lookup-shown test es)
+  where
+    by : (t : Bool) → lookup test (sources_of es) ≡ option_map heard_of (lookup test es) → cond t (Some (heard_of e.1)) (lookup test (sources_of es)) ≡ option_map heard_of (cond t (Some e.1) (lookup test es))
+    by true ih = refl
+    by false ih = ih
+
+pub found-shown : (test : Mac → Bool) (es : List (Mac × Entry)) → is_some (lookup test es) ≡ is_some (lookup test (sources_of es))
+found-shown test es = by (lookup test es) ∙ sym (ap is_some (lookup-shown test es))
+  where
+    by : (o : Option Entry) → is_some o ≡ is_some (option_map heard_of o)
+    by None = refl
+    by (Some x) = refl
+
+-- a write at a source
+pub set-shown : (test : Mac → Bool) (es : List (Mac × Entry)) (w : Entry) → sources_of (set_value test es w) ≡ set_value test (sources_of es) (heard_of w)
+set-shown test [] w = refl
+set-shown test (e ∷ es) w = by (test e.0) (set-shown test es w)
+  where
+    by : (t : Bool) → sources_of (set_value test es w) ≡ set_value test (sources_of es) (heard_of w)
+        → sources_of (cond t ((e.0, w) ∷ es) (e ∷ set_value test es w)) ≡ cond t ((e.0, heard_of w) ∷ sources_of es) ((e.0, heard_of e.1) ∷ set_value test (sources_of es) (heard_of w))
+    by true ih = refl
+    by false ih = ap (λ l. (e.0, heard_of e.1) ∷ l) ih
+
+-- a new source goes last
+pub append-shown : (es : List (Mac × Entry)) (m : Mac) (w : Entry) → sources_of (es ++ (m, w) ∷ []) ≡ sources_of es ++ (m, heard_of w) ∷ []
+append-shown es m w = map-append (λ e. (e.0, heard_of e.1)) es ((m, w) ∷ [])
+
+-- the live ones
+pub live-shown : (now : ℕ) (es : List (Mac × Entry)) → sources_of (filter (λ e. is_live now (heard_of e.1)) es) ≡ live_at now (sources_of es)
+live-shown now [] = refl
+live-shown now (e ∷ es) = by (is_live now (heard_of e.1)) (live-shown now es)
+  where
+    by : (t : Bool) → sources_of (filter (λ e. is_live now (heard_of e.1)) es) ≡ live_at now (sources_of es)
+        → sources_of (cond t (e ∷ filter (λ e. is_live now (heard_of e.1)) es) (filter (λ e. is_live now (heard_of e.1)) es)) ≡ cond t ((e.0, heard_of e.1) ∷ live_at now (sources_of es)) (live_at now (sources_of es))
+    by true ih = ap (λ l. (e.0, heard_of e.1) ∷ l) ih
+    by false ih = ih
+
+pub length-shown : (es : List (Mac × Entry)) → length (sources_of es) ≡ length es
+length-shown es = length-map es (λ e. (e.0, heard_of e.1))
+
+-- a later time is recent where an earlier one is
+pub recent_later : (now a b : ℕ) → a ≤ b → is_recent now a ≡ true → is_recent now b ≡ true
+recent_later now a b le h = let l : now - a < 400 = ltb-true (now - a) 400 h in lt-ltb (now - b) 400 (omega arith)
+
+-- an arrival makes a source no older
+pub later_next : (h : Heard) (seq : ℕ) (lanes : Lanes) (now : ℕ) → h.time ≤ (heard_next h seq lanes now).time
+later_next h seq lanes now = by (is_live now h) refl
+  where
+    by : (b : Bool) → is_live now h ≡ b → h.time ≤ (cond {A = Heard} b (record { seen = noted 1024 h.seen seq lanes; time = max h.time now }) (begun_at seq lanes now)).time
+    by true e = omega arith
+    by false e = let l : 400 ≤ now - h.time = ltb-false (now - h.time) 400 e in omega arith
+
+-- the oldest time, where one source is last
+pub oldest_of-push : (s : Sources) (m : Mac) (h : Heard) → h.time < 2 ^ 64 → oldest_of (s ++ (m, h) ∷ []) ≡ min (oldest_of s) h.time
+oldest_of-push [] m h fits = omega arith
+oldest_of-push (e ∷ s) m h fits = omega (arith, oldest_of-push s m h fits)
+
+-- the oldest time, where one source is heard again
+pub oldest_of-set_le : (test : Mac → Bool) (s : Sources) (was w : Heard) → lookup test s ≡ Some was → was.time ≤ w.time → oldest_of s ≤ oldest_of (set_value test s w)
+oldest_of-set_le test [] was w there later = omega arith
+oldest_of-set_le test (e ∷ s) was w there later = by (test e.0) there (oldest_of-set_le test s was w)
+  where
+    by : (t : Bool) → cond t (Some e.1) (lookup test s) ≡ Some was → (lookup test s ≡ Some was → was.time ≤ w.time → oldest_of s ≤ oldest_of (set_value test s w))
+        → min e.1.time (oldest_of s) ≤ oldest_of (cond t ((e.0, w) ∷ s) (e ∷ set_value test s w))
+    by true h ih = let v : e.1 ≡ was = cc in let t : e.1.time ≡ was.time = ap (λ x. x.time) v in omega arith
+    by false h ih = omega (arith, ih h later)
+
+pub oldest_of-set_same : (test : Mac → Bool) (s : Sources) (was w : Heard) → lookup test s ≡ Some was → was.time ≤ w.time → oldest_of s ≢ was.time → oldest_of (set_value test s w) ≡ oldest_of s
+oldest_of-set_same test [] was w there later other = refl
+oldest_of-set_same test (e ∷ s) was w there later other = by (test e.0) there (oldest_of-set_same test s was w)
+  where
+    by : (t : Bool) → cond t (Some e.1) (lookup test s) ≡ Some was → (lookup test s ≡ Some was → was.time ≤ w.time → oldest_of s ≢ was.time → oldest_of (set_value test s w) ≡ oldest_of s)
+        → oldest_of (cond t ((e.0, w) ∷ s) (e ∷ set_value test s w)) ≡ min e.1.time (oldest_of s)
+    by true h ih = let v : e.1 ≡ was = cc in let t : e.1.time ≡ was.time = ap (λ x. x.time) v in omega arith
+    by false h ih =
+        elim (cases_eq (oldest_of s) was.time) [
+          | inl e ↦ let rise = oldest_of-set_le test s was w h later in omega arith
+          | inr n ↦ let kept = ih h later n in omega arith
+        ]
+
+-- all are live where the oldest is, and otherwise one is forgotten
+pub all_live : (now : ℕ) (s : Sources) → is_recent now (oldest_of s) ≡ true → live_at now s ≡ s
+all_live now [] h = refl
+all_live now (e ∷ s) h =
+    let first : is_live now e.1 ≡ true = recent_later now (min e.1.time (oldest_of s)) e.1.time (omega arith) h in
+    let rest : is_recent now (oldest_of s) ≡ true = recent_later now (min e.1.time (oldest_of s)) (oldest_of s) (omega arith) h in
+    ap (λ b. cond b (e ∷ live_at now s) (live_at now s)) first ∙ ap (λ l. e ∷ l) (all_live now s rest)
+
+pub length-live_le : (now : ℕ) (s : Sources) → length (live_at now s) ≤ length s
+length-live_le now [] = omega arith
+length-live_le now (e ∷ s) = by (is_live now e.1) (length-live_le now s)
+  where
+    by : (b : Bool) → length (live_at now s) ≤ length s → length (cond b (e ∷ live_at now s) (live_at now s)) ≤ suc (length s)
+    by true h = omega arith
+    by false h = omega arith
+
+pub some_forgotten : (now : ℕ) (s : Sources) → now < 2 ^ 64 → is_recent now (oldest_of s) ≡ false → length (live_at now s) < length s
+some_forgotten now [] fits h = let l : 400 ≤ now - 18446744073709551615 = ltb-false (now - 18446744073709551615) 400 h in omega arith
+some_forgotten now (e ∷ s) fits h = by (is_live now e.1) refl (some_forgotten now s fits)
+  where
+    by : (b : Bool) → is_live now e.1 ≡ b → (is_recent now (oldest_of s) ≡ false → length (live_at now s) < length s) → length (cond b (e ∷ live_at now s) (live_at now s)) < suc (length s)
+    by false t ih = omega (arith, length-live_le now s)
+    by true t ih =
+        let a : now - e.1.time < 400 = ltb-true (now - e.1.time) 400 t in
+        let b : 400 ≤ now - min e.1.time (oldest_of s) = ltb-false (now - min e.1.time (oldest_of s)) 400 h in
+        omega (arith, ih (le-ltb (now - oldest_of s) 400 (omega arith)))
+
+-- a table with as many sources as it may have is full exactly where all are live
+pub full_is : (now : ℕ) (s : Sources) → now < 2 ^ 64 → length s ≤ 1024 → 1024 ≤ length s → is_recent now (oldest_of s) ≡ not (nat_lt (length (with_room now s)) 1024)
+full_is now s fits few many =
+    by (is_recent now (oldest_of s)) refl ∙ sym (ap (λ b. not (nat_lt (length (cond b s (live_at now s))) 1024)) (le-ltb (length s) 1024 many))
+  where
+    by : (b : Bool) → is_recent now (oldest_of s) ≡ b → b ≡ not (nat_lt (length (live_at now s)) 1024)
+    by true e = sym (ap (λ l. not (nat_lt (length l) 1024)) (all_live now s e) ∙ ap not (le-ltb (length s) 1024 many))
+    by false e = sym (ap not (lt-ltb (length (live_at now s)) 1024 (omega (arith, some_forgotten now s fits e))))
+
+-- what is known of the times stays true
+pub bounded_anew : (s : Sources) (o : ℕ) → length s ≤ 1024 → o ≡ oldest_of s → IsBounded s o true
+bounded_anew s o few is = record { few = few; none_before = omega arith; some_then = λ e. sym is }
+
+module _ (test : Mac → Bool) (s : Sources) (was w : Heard) (there : lookup test s ≡ Some was) (later : was.time ≤ w.time) where
+  pub bounded_inexact : (o : ℕ) (exact : Bool) → IsBounded s o exact → IsBounded (set_value test s w) o false
+  bounded_inexact o exact h = record {
+    few = omega (arith, h.few, length-set_value test s w);
+    none_before = omega (arith, h.none_before, oldest_of-set_le test s was w there later);
+    some_then = λ e. cc;
+  }
+
+  pub bounded_again : (o : ℕ) (exact : Bool) → was.time ≢ o → IsBounded s o exact → IsBounded (set_value test s w) o exact
+  bounded_again o exact other h = record {
+    few = omega (arith, h.few, length-set_value test s w);
+    none_before = omega (arith, h.none_before, oldest_of-set_le test s was w there later);
+    some_then = λ e. oldest_of-set_same test s was w there later (λ same. other (sym same ∙ h.some_then e)) ∙ h.some_then e;
+  }
+
+pub bounded_push : (s : Sources) (m : Mac) (h : Heard) (o : ℕ) (exact : Bool) → h.time < 2 ^ 64 → length s < 1024 → IsBounded s o exact → IsBounded (s ++ (m, h) ∷ []) (min o h.time) exact
+bounded_push s m h o exact fits room b = record {
+  few = omega (arith, length-append s ((m, h) ∷ []));
+  none_before = omega (arith, b.none_before, oldest_of-push s m h fits);
+  some_then = λ e. oldest_of-push s m h fits ∙ ap (λ n. min n h.time) (b.some_then e);
+}
+
+-- no oldest time is above all times
+pub oldest_of_le : (s : Sources) → oldest_of s ≤ 18446744073709551615
+oldest_of_le [] = omega arith
+oldest_of_le (e ∷ s) = omega (arith, oldest_of_le s)
+
+-- a source that shows no record has none
+pub none-shown : (test : Mac → Bool) (es : List (Mac × Entry)) → lookup test (sources_of es) ≡ None → lookup test es ≡ None
+none-shown test es h = by (lookup test es) (sym (lookup-shown test es) ∙ h)
+  where
+    by : (o : Option Entry) → option_map heard_of o ≡ None → o ≡ None
+    by None e = refl
+    by (Some x) e = cc
+
+-- what a new source is answered
+pub answer_full : (b : Bool) (lanes : Lanes) → true ≡ not b → None ≡ cond b (Some lanes) None
+answer_full true lanes h = cc
+answer_full false lanes h = refl
+
+pub answer_room : (b : Bool) (lanes : Lanes) → false ≡ not b → Some lanes ≡ cond b (Some lanes) None
+answer_room true lanes h = refl
+answer_room false lanes h = cc
+
+-- the live sources but one that has no record are all live ones, and otherwise not all sources
+others_none : (m : Mac) (now : ℕ) (s : Sources) → lookup (mac_eq m) s ≡ None → live_others m now s ≡ live_at now s
+others_none m now [] h = refl
+others_none m now (e ∷ s) h = by (mac_eq m e.0) h (is_live now e.1) (others_none m now s)
+  where
+    by : (t : Bool) → cond t (Some e.1) (lookup (mac_eq m) s) ≡ None → (b : Bool) → (lookup (mac_eq m) s ≡ None → live_others m now s ≡ live_at now s)
+        → cond (b && not t) (e ∷ live_others m now s) (live_others m now s) ≡ cond b (e ∷ live_at now s) (live_at now s)
+    by true h b ih = cc
+    by false h true ih = ap (λ l. e ∷ l) (ih h)
+    by false h false ih = ih h
+
+length-others_le : (m : Mac) (now : ℕ) (s : Sources) → length (live_others m now s) ≤ length s
+length-others_le m now [] = omega arith
+length-others_le m now (e ∷ s) = by (is_live now e.1 && not (mac_eq m e.0)) (length-others_le m now s)
+  where
+    by : (b : Bool) → length (live_others m now s) ≤ length s → length (cond b (e ∷ live_others m now s) (live_others m now s)) ≤ suc (length s)
+    by true h = omega arith
+    by false h = omega arith
+
+others_some : (m : Mac) (now : ℕ) (s : Sources) (h : Heard) → lookup (mac_eq m) s ≡ Some h → length (live_others m now s) < length s
+others_some m now [] h there = cc
+others_some m now (e ∷ s) h there = by (mac_eq m e.0) there (is_live now e.1) (others_some m now s h)
+  where
+    by : (t : Bool) → cond t (Some e.1) (lookup (mac_eq m) s) ≡ Some h → (b : Bool) → (lookup (mac_eq m) s ≡ Some h → length (live_others m now s) < length s)
+        → length (cond (b && not t) (e ∷ live_others m now s) (live_others m now s)) < suc (length s)
+    by true there true ih = omega (arith, length-others_le m now s)
+    by true there false ih = omega (arith, length-others_le m now s)
+    by false there true ih = omega (arith, ih there)
+    by false there false ih = omega (arith, ih there)
+
+-- a new source is answered nothing exactly where 1024 other sources are live
+room_where : (s l : Sources) (lanes : Lanes) → length s ≤ 1024 → length l ≤ length s
+    → ((cond (nat_lt (length (cond (nat_lt (length s) 1024) s l)) 1024) (Some lanes) None ≡ None) → length l ≡ 1024)
+    × (length l ≡ 1024 → cond (nat_lt (length (cond (nat_lt (length s) 1024) s l)) 1024) (Some lanes) None ≡ None)
+room_where s l lanes few le = by (nat_lt (length s) 1024) refl
+  where
+    full : (b : Bool) → cond b (Some lanes) None ≡ None → b ≡ false
+    full true h = cc
+    full false h = refl
+
+    by : (b : Bool) → nat_lt (length s) 1024 ≡ b
+        → ((cond (nat_lt (length (cond b s l)) 1024) (Some lanes) None ≡ None) → length l ≡ 1024)
+        × (length l ≡ 1024 → cond (nat_lt (length (cond b s l)) 1024) (Some lanes) None ≡ None)
+    by true t = (
+      λ h. let a : length s < 1024 = ltb-true (length s) 1024 t in let b : 1024 ≤ length s = ltb-false (length s) 1024 (full (nat_lt (length s) 1024) h) in absurd (omega arith),
+      λ h. let a : length s < 1024 = ltb-true (length s) 1024 t in absurd (omega arith),
+    )
+    by false t = (
+      λ h. let b : 1024 ≤ length l = ltb-false (length l) 1024 (full (nat_lt (length l) 1024) h) in omega arith,
+      λ h. ap (λ b. cond b (Some lanes) None) (le-ltb (length l) 1024 (omega arith)),
+    )
+
+pub full_where : (s : Sources) (m : Mac) (seq : ℕ) (lanes : Lanes) (now : ℕ) → length s ≤ 1024
+    → (arrive_answer s m seq lanes now ≡ None → length (live_others m now s) ≡ 1024) × (length (live_others m now s) ≡ 1024 → arrive_answer s m seq lanes now ≡ None)
+full_where s m seq lanes now few = by (lookup (mac_eq m) s) refl
+  where
+    by : (o : Option Heard) → lookup (mac_eq m) s ≡ o
+        → (answer_of o s seq lanes now ≡ None → length (live_others m now s) ≡ 1024) × (length (live_others m now s) ≡ 1024 → answer_of o s seq lanes now ≡ None)
+    by (Some h) there = (λ e. cc, λ e. absurd (omega (arith, others_some m now s h there)))
+    by None none =
+        let w = room_where s (live_at now s) lanes few (length-live_le now s) in
+        let same : length (live_others m now s) ≡ length (live_at now s) = ap length (others_none m now s none) in
+        (λ e. same ∙ w.0 e, λ e. w.1 (sym same ∙ e))
+
+-- the distinct sources of the entries
+pub keys-shown : (es : List (Mac × Entry)) → keys_of (sources_of es) ≡ keys_of es
+keys-shown [] = refl
+keys-shown (e ∷ es) = ap (λ l. e.0 ∷ l) (keys-shown es)
+
+pub many_from : (n : ℕ) → true ≡ not (nat_lt n 1024) → 1024 ≤ n
+many_from n h = by (nat_lt n 1024) refl h
+  where
+    by : (b : Bool) → nat_lt n 1024 ≡ b → true ≡ not b → 1024 ≤ n
+    by true t e = cc
+    by false t e = ltb-false n 1024 t

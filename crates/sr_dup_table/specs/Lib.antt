@@ -1,0 +1,4 @@
+pub mod Sources
+pub mod Bounds
+pub mod Shown
+pub mod Runs

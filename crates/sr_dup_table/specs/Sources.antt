@@ -1,0 +1,89 @@
+-- What a table of duplicate records shows: its sources in order, and the sources whose place is held.
+use Rattle.std.specs.Prelude.{ℕ, ◌-◌, ◌≤◌, Bool, not, ◌&&◌, nat_lt, max, List, [], ◌∷◌, ◌++◌, length, filter, Option, None, Some, if◌then◌else◌}
+use Rattle.std.specs.List.{list_any, IsDistinct}
+use Rattle.std.specs.Map.{lookup, set_value, keys_of}
+use Rattle.sr_frame.specs.declared.fields.Mac.{Mac}
+use Rattle.sr_dup_table.specs.declared.fault.DupFault.{DupFault}
+use Rattle.sr_dup_table.specs.declared.fault.DupFault.TheVariants.{TableFull, NoMemory}
+use Rattle.sr_slots.specs.Places.{mac_eq}
+use Rattle.sr_dup_window.specs.declared.lane_sets.Lanes.{Lanes}
+use Rattle.sr_dup_window.specs.Windows.{Window, begun, noted, fresh_lanes}
+
+-- what was noted of one source in this epoch, and when it was last heard
+pub record Heard : Type 0 where
+  pub seen : Window
+  pub time : ℕ
+
+-- the sources in the order of their first hearing
+abbrev pub Sources : Type 0
+Sources = List (Mac × Heard)
+
+-- a time less than 400 ms ago; an earlier moment counts as that time
+abbrev pub is_recent : ℕ → ℕ → Bool
+is_recent now time = nat_lt (now - time) 400
+
+-- a source that is not forgotten
+abbrev pub is_live : ℕ → Heard → Bool
+is_live now h = is_recent now h.time
+
+-- the first arrival of an epoch
+abbrev pub begun_at : ℕ → Lanes → ℕ → Heard
+begun_at seq lanes now = record { seen = begun 1024 seq lanes; time = now }
+
+-- the record after an arrival: noted within the epoch, begun anew once forgotten
+abbrev pub heard_next : Heard → ℕ → Lanes → ℕ → Heard
+heard_next h seq lanes now =
+    if is_live now h
+    then record { seen = noted 1024 h.seen seq lanes; time = max h.time now }
+    else begun_at seq lanes now
+
+-- the asked lanes on which the number is new in this epoch
+abbrev pub fresh_at : Heard → ℕ → Lanes → ℕ → Lanes
+fresh_at h seq lanes now = if is_live now h then fresh_lanes 1024 h.seen seq lanes else lanes
+
+-- the sources that are not forgotten
+abbrev pub live_at : ℕ → Sources → Sources
+live_at now s = filter (λ e. is_live now e.1) s
+
+-- the live sources but one
+abbrev pub live_others : Mac → ℕ → Sources → Sources
+live_others src now s = filter (λ e. is_live now e.1 && not (mac_eq src e.0)) s
+
+-- what the sources of every table are: no two are one, and they are at most 1024
+pub record IsTable (s : Sources) : Type 0 where
+  pub unique : IsDistinct mac_eq (keys_of s)
+  pub few : length s ≤ 1024
+
+-- a full table lets its forgotten sources go
+abbrev pub with_room : ℕ → Sources → Sources
+with_room now s = if nat_lt (length s) 1024 then s else live_at now s
+
+-- what an arrival answers: the lanes on which it is new, or nothing where the table is full
+abbrev pub answer_of : Option Heard → Sources → ℕ → Lanes → ℕ → Option Lanes
+answer_of None s seq lanes now = if nat_lt (length (with_room now s)) 1024 then Some lanes else None
+answer_of (Some h) s seq lanes now = Some (fresh_at h seq lanes now)
+
+-- the sources after an arrival that is answered
+abbrev pub after_of : Option Heard → Sources → Mac → ℕ → Lanes → ℕ → Sources
+after_of None s src seq lanes now = with_room now s ++ (src, begun_at seq lanes now) ∷ []
+after_of (Some h) s src seq lanes now = set_value (mac_eq src) s (heard_next h seq lanes now)
+
+abbrev pub arrive_answer : Sources → Mac → ℕ → Lanes → ℕ → Option Lanes
+arrive_answer s src seq lanes now = answer_of (lookup (mac_eq src) s) s seq lanes now
+
+-- why an arrival is refused: want of memory, where the table is not full
+abbrev pub refusal_of : Option Lanes → DupFault
+refusal_of None = TableFull
+refusal_of (Some lanes) = NoMemory
+
+abbrev pub after_arrive : Sources → Mac → ℕ → Lanes → ℕ → Sources
+after_arrive s src seq lanes now = after_of (lookup (mac_eq src) s) s src seq lanes now
+
+-- what contracts see of a table
+pub record Table : Type 0 where
+  pub sources : Sources
+  pub held : List Mac
+
+-- whether a place is held for a source
+abbrev pub is_held : Table → Mac → Bool
+is_held t src = list_any (mac_eq src) t.held

@@ -1,0 +1,47 @@
+//! Why a table of duplicate records refuses.
+ghost use Rattle.std.specs.Prelude.{◌≡◌};
+
+use sr_frame::{Mac, NoMemory};
+use thiserror::Error;
+
+/// 1024 other sources are live.
+#[derive(Clone, Copy, PartialEq, Eq, Debug, Error)]
+#[error("the duplicate table is full")]
+pub struct TableFull;
+
+/// Why a table of duplicate records refuses.
+#[derive(Clone, Copy, PartialEq, Eq, Debug, Error)]
+pub enum DupFault {
+    /// 1024 other sources are live.
+    #[error("the duplicate table is full")]
+    TableFull,
+    /// Memory ran out.
+    #[error("out of memory")]
+    NoMemory,
+    /// Two records of this source are 32768 apart, so neither is ahead of the other.
+    #[error("two records of a source are 32768 apart")]
+    Apart(Mac),
+    /// What was given is no snapshot of a table.
+    #[error("no snapshot of a duplicate table")]
+    BadSnapshot,
+}
+
+impl From<TableFull> for DupFault {
+    ghost use Rattle.sr_dup_table.specs.declared.fault.DupFault.TheVariants.{TableFull as Full};
+
+    ghost from_gives = { λ _ e. e ≡ Full };
+
+    fn from(_e: TableFull) -> DupFault {
+        DupFault::TableFull
+    }
+}
+
+impl From<NoMemory> for DupFault {
+    ghost use Rattle.sr_dup_table.specs.declared.fault.DupFault.TheVariants.{NoMemory as OutOfMemory};
+
+    ghost from_gives = { λ _ e. e ≡ OutOfMemory };
+
+    fn from(_e: NoMemory) -> DupFault {
+        DupFault::NoMemory
+    }
+}

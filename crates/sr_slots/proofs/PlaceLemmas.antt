@@ -1,0 +1,402 @@
+-- What the places of the map show, through what the map's calls do to them.
+use Rattle.std.proofs.Common.{◌≡◌, ℕ, suc, ◌+◌, ◌-◌, ◌≤◌, Bool, true, false, cond, ◌||◌, not, List, [], ◌∷◌, ◌++◌, length, filter, Option, None, Some, is_some, MatchOption, refl, sym, ap, ◌∙◌, subst, append_assoc, append-nil, arith}
+use Rattle.std.specs.Map.{lookup, set_value, values_of, keys_of}
+use Rattle.std.specs.Map.Calls.{RetainsPairs}
+use Rattle.std.specs.List.{list_any, IsDistinct, AllByRecursion, position_or_len, insert, remove, slice_get}
+use Rattle.std.specs.Option.{option_map_or}
+use Rattle.std.proofs.lemmas.List.Folds.{list_any-append}
+use Rattle.std.proofs.lemmas.List.{take_all, drop_all, length-append}
+use Rattle.indexmap.specs.IndexMap.{insert_entry, move_index}
+use Rattle.sr_frame.specs.declared.fields.Mac.{Mac}
+use Rattle.sr_slots.specs.declared.places.Slot.{Slot}
+use Rattle.sr_slots.specs.Places.{mac_eq, entry_at, held_at, entries_of, held_of, slot_of, KeepsHeld}
+use Rattle.sr_slots.specs.Calls.{passing}
+use Rattle.sr_slots.specs.EntryLemmas.{mac_same, mac_refl, one_if, head_differs}
+
+or_true : (b : Bool) → (b || true) ≡ true
+or_true true = refl
+or_true false = refl
+
+-- the value in the place that was found
+abbrev pub value_in : {V : Type 0} → Option (Slot V) → Option V
+value_in None = None
+value_in (Some s) = s.value
+
+-- a place of another address, held or not, changes no answer on q
+any_held : (q m : Mac) (b : Bool) (xs ys : List Mac) → mac_eq q m ≡ false → list_any (mac_eq q) (xs ++ (held_at m b ++ ys)) ≡ list_any (mac_eq q) (xs ++ ys)
+any_held q m false xs ys h = refl
+any_held q m true xs ys h =
+    list_any-append (mac_eq q) xs (m ∷ ys) ∙ ap (λ b. list_any (mac_eq q) xs || (b || list_any (mac_eq q) ys)) h ∙ sym (list_any-append (mac_eq q) xs ys)
+
+pub any_behind : (m : Mac) (xs ys : List Mac) → list_any (mac_eq m) ys ≡ true → list_any (mac_eq m) (xs ++ ys) ≡ true
+any_behind m [] ys y = y
+any_behind m (x ∷ xs) ys y = ap (λ b. mac_eq m x || b) (any_behind m xs ys y) ∙ or_true (mac_eq m x)
+
+length-held_at : (m : Mac) (b : Bool) (ys : List Mac) → length (held_at m b ++ ys) ≡ one_if b + length ys
+length-held_at m true ys = omega arith
+length-held_at m false ys = omega arith
+
+-- the item at a place, moved to the end
+item_at : {X : Type 0} (front back : List X) (x : X) → slice_get (front ++ x ∷ back) (length front) ≡ Some x
+item_at [] back x = refl
+item_at (e ∷ front) back x = item_at front back x
+
+without_item : {X : Type 0} (front back : List X) (x : X) → remove (front ++ x ∷ back) (length front) ≡ front ++ back
+without_item [] back x = refl
+without_item (e ∷ front) back x = ap (λ l. e ∷ l) (without_item front back x)
+
+at_end : {X : Type 0} (xs : List X) (n : ℕ) (x : X) → n ≡ length xs → insert xs n x ≡ xs ++ x ∷ []
+at_end xs n x h = λ j. take_all n xs (omega arith) j ++ x ∷ drop_all n xs (omega arith) j
+
+moved : {X : Type 0} (front back : List X) (x : X) (last : ℕ) → last ≡ length (front ++ x ∷ back) - 1 → move_index (front ++ x ∷ back) (length front) last ≡ (front ++ back) ++ x ∷ []
+moved front back x last h =
+    ap (λ o. option_map_or (λ y. insert (remove (front ++ x ∷ back) (length front)) last y) o (front ++ x ∷ back)) (item_at front back x)
+    ∙ ap (λ l. insert l last x) (without_item front back x)
+    ∙ at_end (front ++ back) last x (omega (arith, length-append front (x ∷ back), length-append front back))
+
+-- a count of one more exactly where it was not counted before
+pub one_more : (b : Bool) (m n : ℕ) → m + one_if b ≡ n + 1 → m ≡ n + one_if (not b)
+one_more true m n h = omega arith
+one_more false m n h = omega arith
+
+pub none_from : {X : Type 0} (o : Option X) → false ≡ is_some o → o ≡ None
+none_from None h = refl
+none_from (Some x) h = cc
+
+-- writing the value that is there changes nothing
+pub set_value_same : {X : Type 0} (test : Mac → Bool) (es : List (Mac × X)) (w : X) → lookup test es ≡ Some w → set_value test es w ≡ es
+set_value_same test [] w h = refl
+set_value_same {X} test (e ∷ es) w h = by (test e.0) h (set_value_same test es w)
+  where
+    by : (t : Bool) → cond t (Some e.1) (lookup test es) ≡ Some w → (lookup test es ≡ Some w → set_value test es w ≡ es) → cond t ((e.0, w) ∷ es) (e ∷ set_value test es w) ≡ e ∷ es
+    by true s ih = let v : e.1 ≡ w = cc in λ j. (e.0, sym v j) ∷ es
+    by false s ih = ap (λ l. e ∷ l) (ih s)
+
+module _ {V : Type 0} where
+  -- counting the places with a value counts the entries
+  count_step : (m : Mac) (s : Slot V) (r : Option V) (xs : List (Slot V)) (ys : List (Mac × V)) → length xs ≡ length ys → length (cond (is_some r) (s ∷ xs) xs) ≡ length (entry_at m r ++ ys)
+  count_step m s None xs ys h = h
+  count_step m s (Some x) xs ys h = ap suc h
+
+  pub count_is : (es : List (Mac × Slot V)) → length (filter (λ s. is_some s.value) (values_of es)) ≡ length (entries_of es)
+  count_is [] = refl
+  count_is (e ∷ es) = count_step e.0 e.1 e.1.value (filter (λ s. is_some s.value) (values_of es)) (entries_of es) (count_is es)
+
+  pub entries-append : (xs ys : List (Mac × Slot V)) → entries_of (xs ++ ys) ≡ entries_of xs ++ entries_of ys
+  entries-append [] ys = refl
+  entries-append (e ∷ xs) ys = ap (λ l. entry_at e.0 e.1.value ++ l) (entries-append xs ys) ∙ sym (append_assoc (entry_at e.0 e.1.value) (entries_of xs) (entries_of ys))
+
+  pub held-append : (xs ys : List (Mac × Slot V)) → held_of (xs ++ ys) ≡ held_of xs ++ held_of ys
+  held-append [] ys = refl
+  held-append (e ∷ xs) ys = ap (λ l. held_at e.0 e.1.held ++ l) (held-append xs ys) ∙ sym (append_assoc (held_at e.0 e.1.held) (held_of xs) (held_of ys))
+
+  -- no more entries than places, and no more held places than places
+  pub entries_le : (es : List (Mac × Slot V)) → length (entries_of es) ≤ length es
+  entries_le [] = omega arith
+  entries_le (e ∷ es) = by e.1.value (entries_le es)
+    where
+      by : (r : Option V) → length (entries_of es) ≤ length es → length (entry_at e.0 r ++ entries_of es) ≤ suc (length es)
+      by None h = omega arith
+      by (Some x) h = omega arith
+
+  pub held_le : (es : List (Mac × Slot V)) → length (held_of es) ≤ length es
+  held_le [] = omega arith
+  held_le (e ∷ es) = by e.1.held (held_le es)
+    where
+      by : (b : Bool) → length (held_of es) ≤ length es → length (held_at e.0 b ++ held_of es) ≤ suc (length es)
+      by true h = omega arith
+      by false h = omega arith
+
+  -- an address without a place has no value, and no held place
+  skip : (test : Mac → Bool) (m : Mac) (r : Option V) (ys : List (Mac × V)) → test m ≡ false → lookup test (entry_at m r ++ ys) ≡ lookup test ys
+  skip test m None ys h = refl
+  skip test m (Some x) ys h = ap (λ b. cond b (Some x) (lookup test ys)) h
+
+  pub entries_absent : (test : Mac → Bool) (es : List (Mac × Slot V)) → lookup test es ≡ None → lookup test (entries_of es) ≡ None
+  entries_absent test [] h = refl
+  entries_absent test (e ∷ es) h =
+      let d = head_differs (test e.0) e.1 (lookup test es) h in
+      skip test e.0 e.1.value (entries_of es) d.0 ∙ entries_absent test es d.1
+
+  pub held_absent : (m : Mac) (es : List (Mac × Slot V)) → lookup (mac_eq m) es ≡ None → list_any (mac_eq m) (held_of es) ≡ false
+  held_absent m [] h = refl
+  held_absent m (e ∷ es) h =
+      let d = head_differs (mac_eq m e.0) e.1 (lookup (mac_eq m) es) h in
+      any_held m e.0 e.1.held [] (held_of es) d.0 ∙ held_absent m es d.1
+
+  -- where no two keys are equal, the places behind a key lack it
+  absent_after : (m : Mac) (back : List (Mac × Slot V)) → AllByRecursion (λ y. mac_eq m y ≡ false) (keys_of back) → lookup (mac_eq m) back ≡ None
+  absent_after m [] h = refl
+  absent_after m (e ∷ back) h = ap (λ b. cond b (Some e.1) (lookup (mac_eq m) back)) h.0 ∙ absent_after m back h.1
+
+  -- the look-up among the entries is that among the places
+  pub lookup-entries : (m : Mac) (es : List (Mac × Slot V)) → IsDistinct mac_eq (keys_of es) → lookup (mac_eq m) (entries_of es) ≡ value_in (lookup (mac_eq m) es)
+  unfolding IsDistinct
+  lookup-entries m [] h = refl
+  lookup-entries m (e ∷ es) h = by (mac_eq m e.0) refl e.1.value refl (lookup-entries m es h.1)
+    where
+      by : (t : Bool) → mac_eq m e.0 ≡ t → (r : Option V) → e.1.value ≡ r → lookup (mac_eq m) (entries_of es) ≡ value_in (lookup (mac_eq m) es)
+          → lookup (mac_eq m) (entry_at e.0 r ++ entries_of es) ≡ value_in (cond t (Some e.1) (lookup (mac_eq m) es))
+      by true t (Some x) v ih = ap (λ b. cond b (Some x) (lookup (mac_eq m) (entries_of es))) t ∙ sym v
+      by true t None v ih =
+          entries_absent (mac_eq m) es (subst (λ k. lookup (mac_eq k) es ≡ None) (sym (mac_same m e.0 t)) (absent_after e.0 es h.0)) ∙ sym v
+      by false t r v ih = skip (mac_eq m) e.0 r (entries_of es) t ∙ ih
+
+  pub found_value : (m : Mac) (s : Slot V) (es : List (Mac × Slot V)) → IsDistinct mac_eq (keys_of es) → lookup (mac_eq m) es ≡ Some s → lookup (mac_eq m) (entries_of es) ≡ s.value
+  found_value m s es unique there = lookup-entries m es unique ∙ ap value_in there
+
+  -- no two entries have one address
+  apart_entries : (m : Mac) (es : List (Mac × Slot V)) → AllByRecursion (λ y. mac_eq m y ≡ false) (keys_of es) → AllByRecursion (λ y. mac_eq m y ≡ false) (keys_of (entries_of es))
+  apart_entries m [] h = tt
+  apart_entries m (e ∷ es) h = by e.1.value (apart_entries m es h.1)
+    where
+      by : (r : Option V) → AllByRecursion (λ y. mac_eq m y ≡ false) (keys_of (entries_of es)) → AllByRecursion (λ y. mac_eq m y ≡ false) (keys_of (entry_at e.0 r ++ entries_of es))
+      by None ih = ih
+      by (Some x) ih = (h.0, ih)
+
+  pub distinct-entries : (es : List (Mac × Slot V)) → IsDistinct mac_eq (keys_of es) → IsDistinct mac_eq (keys_of (entries_of es))
+  unfolding IsDistinct
+  distinct-entries [] h = tt
+  distinct-entries (e ∷ es) h = by e.1.value (distinct-entries es h.1)
+    where
+      by : (r : Option V) → IsDistinct mac_eq (keys_of (entries_of es)) → IsDistinct mac_eq (keys_of (entry_at e.0 r ++ entries_of es))
+      by None ih = ih
+      by (Some x) ih = (apart_entries e.0 es h.0, ih)
+
+  -- writing at a place with a value writes that entry
+  pub entries-set : (m : Mac) (w : V) (held : Bool) (es : List (Mac × Slot V)) → is_some (value_in (lookup (mac_eq m) es)) ≡ true
+      → entries_of (set_value (mac_eq m) es (slot_of (Some w) held)) ≡ set_value (mac_eq m) (entries_of es) w
+  entries-set m w held [] h = refl
+  entries-set m w held (e ∷ es) h = by (mac_eq m e.0) refl e.1.value refl h (entries-set m w held es)
+    where
+      by : (t : Bool) → mac_eq m e.0 ≡ t → (r : Option V) → e.1.value ≡ r → is_some (value_in (cond t (Some e.1) (lookup (mac_eq m) es))) ≡ true
+          → (is_some (value_in (lookup (mac_eq m) es)) ≡ true → entries_of (set_value (mac_eq m) es (slot_of (Some w) held)) ≡ set_value (mac_eq m) (entries_of es) w)
+          → entries_of (cond t ((e.0, slot_of (Some w) held) ∷ es) (e ∷ set_value (mac_eq m) es (slot_of (Some w) held))) ≡ set_value (mac_eq m) (entry_at e.0 r ++ entries_of es) w
+      by true t (Some x) v some ih = sym (ap (λ b. cond b ((e.0, w) ∷ entries_of es) ((e.0, x) ∷ set_value (mac_eq m) (entries_of es) w)) t)
+      by true t None v some ih = let bad : false ≡ true = sym (ap is_some v) ∙ some in cc
+      by false t (Some x) v some ih =
+          ap (λ r. entry_at e.0 r ++ entries_of (set_value (mac_eq m) es (slot_of (Some w) held))) v
+          ∙ ap (λ l. (e.0, x) ∷ l) (ih some)
+          ∙ sym (ap (λ b. cond b ((e.0, w) ∷ entries_of es) ((e.0, x) ∷ set_value (mac_eq m) (entries_of es) w)) t)
+      by false t None v some ih = ap (λ r. entry_at e.0 r ++ entries_of (set_value (mac_eq m) es (slot_of (Some w) held))) v ∙ ih some
+
+  -- writing at a place the value that it has leaves the entries
+  pub entries-set_same : (m : Mac) (r : Option V) (held : Bool) (es : List (Mac × Slot V)) → value_in (lookup (mac_eq m) es) ≡ r
+      → entries_of (set_value (mac_eq m) es (slot_of r held)) ≡ entries_of es
+  entries-set_same m r held [] h = refl
+  entries-set_same m r held (e ∷ es) h = by (mac_eq m e.0) h (entries-set_same m r held es)
+    where
+      by : (t : Bool) → value_in (cond t (Some e.1) (lookup (mac_eq m) es)) ≡ r
+          → (value_in (lookup (mac_eq m) es) ≡ r → entries_of (set_value (mac_eq m) es (slot_of r held)) ≡ entries_of es)
+          → entries_of (cond t ((e.0, slot_of r held) ∷ es) (e ∷ set_value (mac_eq m) es (slot_of r held))) ≡ entry_at e.0 e.1.value ++ entries_of es
+      by true v ih = ap (λ o. entry_at e.0 o ++ entries_of es) (sym v)
+      by false v ih = ap (λ l. entry_at e.0 e.1.value ++ l) (ih v)
+
+  -- what a write does to the held places: their number, the others, its own
+  pub length-held-set : (m : Mac) (s w : Slot V) (es : List (Mac × Slot V)) → lookup (mac_eq m) es ≡ Some s
+      → length (held_of (set_value (mac_eq m) es w)) + one_if s.held ≡ length (held_of es) + one_if w.held
+  length-held-set m s w [] h = cc
+  length-held-set m s w (e ∷ es) h = by (mac_eq m e.0) h (length-held-set m s w es)
+    where
+      by : (t : Bool) → cond t (Some e.1) (lookup (mac_eq m) es) ≡ Some s
+          → (lookup (mac_eq m) es ≡ Some s → length (held_of (set_value (mac_eq m) es w)) + one_if s.held ≡ length (held_of es) + one_if w.held)
+          → length (held_of (cond t ((e.0, w) ∷ es) (e ∷ set_value (mac_eq m) es w))) + one_if s.held ≡ length (held_at e.0 e.1.held ++ held_of es) + one_if w.held
+      by true v ih =
+          let a : e.1 ≡ s = cc in
+          let b : one_if e.1.held ≡ one_if s.held = ap (λ k. one_if k.held) a in
+          omega (arith, b, length-held_at e.0 w.held (held_of es), length-held_at e.0 e.1.held (held_of es))
+      by false v ih =
+          omega (arith, ih v, length-held_at e.0 e.1.held (held_of (set_value (mac_eq m) es w)), length-held_at e.0 e.1.held (held_of es))
+
+  pub held-set_others : (m : Mac) (w : Slot V) (es : List (Mac × Slot V)) → KeepsHeld (held_of es) (held_of (set_value (mac_eq m) es w)) m
+  held-set_others m w [] q other = refl
+  held-set_others m w (e ∷ es) q other = by (mac_eq m e.0) refl (held-set_others m w es q other)
+    where
+      by : (t : Bool) → mac_eq m e.0 ≡ t → list_any (mac_eq q) (held_of (set_value (mac_eq m) es w)) ≡ list_any (mac_eq q) (held_of es)
+          → list_any (mac_eq q) (held_of (cond t ((e.0, w) ∷ es) (e ∷ set_value (mac_eq m) es w))) ≡ list_any (mac_eq q) (held_at e.0 e.1.held ++ held_of es)
+      by true t ih =
+          let o : mac_eq q e.0 ≡ false = subst (λ k. mac_eq q k ≡ false) (mac_same m e.0 t) other in
+          any_held q e.0 w.held [] (held_of es) o ∙ sym (any_held q e.0 e.1.held [] (held_of es) o)
+      by false t ih =
+          list_any-append (mac_eq q) (held_at e.0 e.1.held) (held_of (set_value (mac_eq m) es w))
+          ∙ ap (λ b. list_any (mac_eq q) (held_at e.0 e.1.held) || b) ih
+          ∙ sym (list_any-append (mac_eq q) (held_at e.0 e.1.held) (held_of es))
+
+  pub held-set_own : (m : Mac) (w : Slot V) (es : List (Mac × Slot V)) → is_some (lookup (mac_eq m) es) ≡ true → w.held ≡ true
+      → list_any (mac_eq m) (held_of (set_value (mac_eq m) es w)) ≡ true
+  held-set_own m w [] h held = cc
+  held-set_own m w (e ∷ es) h held = by (mac_eq m e.0) refl h (λ s. held-set_own m w es s held)
+    where
+      by : (t : Bool) → mac_eq m e.0 ≡ t → is_some (cond t (Some e.1) (lookup (mac_eq m) es)) ≡ true
+          → (is_some (lookup (mac_eq m) es) ≡ true → list_any (mac_eq m) (held_of (set_value (mac_eq m) es w)) ≡ true)
+          → list_any (mac_eq m) (held_of (cond t ((e.0, w) ∷ es) (e ∷ set_value (mac_eq m) es w))) ≡ true
+      by true t s ih = ap (λ b. list_any (mac_eq m) (held_at e.0 b ++ held_of es)) held ∙ ap (λ b. b || list_any (mac_eq m) (held_of es)) t
+      by false t s ih = any_behind m (held_at e.0 e.1.held) (held_of (set_value (mac_eq m) es w)) (ih s)
+
+  -- a new place goes last
+  pub added_entries : (m : Mac) (s : Slot V) (es new : List (Mac × Slot V)) → new ≡ es ++ (m, s) ∷ [] → entries_of new ≡ entries_of es ++ entry_at m s.value
+  added_entries m s es new is = ap entries_of is ∙ entries-append es ((m, s) ∷ []) ∙ ap (λ l. entries_of es ++ l) (append-nil (entry_at m s.value))
+
+  pub added_held : (m : Mac) (s : Slot V) (es new : List (Mac × Slot V)) → new ≡ es ++ (m, s) ∷ [] → held_of new ≡ held_of es ++ held_at m s.held
+  added_held m s es new is = ap held_of is ∙ held-append es ((m, s) ∷ []) ∙ ap (λ l. held_of es ++ l) (append-nil (held_at m s.held))
+
+  -- the places round the one of an address
+  pub record Split (m : Mac) (s : Slot V) (es : List (Mac × Slot V)) : Type 0 where
+    pub front : List (Mac × Slot V)
+    pub back : List (Mac × Slot V)
+    pub is : es ≡ front ++ (m, s) ∷ back
+    pub before : lookup (mac_eq m) front ≡ None
+
+  pub split : (m : Mac) (s : Slot V) (es : List (Mac × Slot V)) → lookup (mac_eq m) es ≡ Some s → Split m s es
+  split m s [] h = cc
+  split m s (e ∷ es) h = by (mac_eq m e.0) refl h (split m s es)
+    where
+      by : (b : Bool) → mac_eq m e.0 ≡ b → cond b (Some e.1) (lookup (mac_eq m) es) ≡ Some s → (lookup (mac_eq m) es ≡ Some s → Split m s es) → Split m s (e ∷ es)
+      by true t h ih =
+          let k = mac_same m e.0 t in
+          let v : e.1 ≡ s = cc in
+          record { front = []; back = es; is = λ j. (sym k j, v j) ∷ es; before = refl }
+      by false t h ih =
+          let r = ih h in
+          record { front = e ∷ r.front; back = r.back; is = ap (λ l. e ∷ l) r.is; before = ap (λ b. cond b (Some e.1) (lookup (mac_eq m) r.front)) t ∙ r.before }
+
+  -- writing at an address that is there leaves the places round it
+  inserted : (front back : List (Mac × Slot V)) (m : Mac) (s v : Slot V) → lookup (mac_eq m) front ≡ None → insert_entry mac_eq (front ++ (m, s) ∷ back) m v ≡ front ++ (m, v) ∷ back
+  inserted [] back m s v h = ap (λ b. cond b ((m, v) ∷ back) ((m, s) ∷ insert_entry mac_eq back m v)) (mac_refl m)
+  inserted (e ∷ front) back m s v h =
+      let d = head_differs (mac_eq m e.0) e.1 (lookup (mac_eq m) front) h in
+      ap (λ b. cond b ((e.0, v) ∷ (front ++ (m, s) ∷ back)) (e ∷ insert_entry mac_eq (front ++ (m, s) ∷ back) m v)) d.0
+      ∙ ap (λ l. e ∷ l) (inserted front back m s v d.1)
+
+  place : (front back : List (Mac × Slot V)) (m : Mac) (s : Slot V) → lookup (mac_eq m) front ≡ None → position_or_len (mac_eq m) (keys_of (front ++ (m, s) ∷ back)) ≡ length front
+  place [] back m s h = ap (λ b. cond (not b) (1 + position_or_len (mac_eq m) (keys_of back)) 0) (mac_refl m)
+  place (e ∷ front) back m s h =
+      let d = head_differs (mac_eq m e.0) e.1 (lookup (mac_eq m) front) h in
+      ap (λ b. cond (not b) (1 + position_or_len (mac_eq m) (keys_of (front ++ (m, s) ∷ back))) 0) d.0 ∙ ap (λ n. 1 + n) (place front back m s d.1) ∙ omega arith
+
+  module _ (m : Mac) (s : Slot V) (es : List (Mac × Slot V)) (there : lookup (mac_eq m) es ≡ Some s) (v : Slot V) (last : ℕ) (is_last : last ≡ length es - 1)
+      (new : List (Mac × Slot V)) (is_new : new ≡ move_index (insert_entry mac_eq es m v) (position_or_len (mac_eq m) (keys_of es)) last) where
+    -- a place that is written and moved to the end
+    last_places : new ≡ ((split m s es there).front ++ (split m s es there).back) ++ (m, v) ∷ []
+    last_places =
+        let r = split m s es there in
+        let n : length es ≡ length (r.front ++ (m, v) ∷ r.back) = ap length r.is ∙ length-append r.front ((m, s) ∷ r.back) ∙ sym (length-append r.front ((m, v) ∷ r.back)) in
+        let w : insert_entry mac_eq es m v ≡ r.front ++ (m, v) ∷ r.back = ap (λ l. insert_entry mac_eq l m v) r.is ∙ inserted r.front r.back m s v r.before in
+        is_new
+        ∙ (λ j. move_index (w j) ((ap (λ l. position_or_len (mac_eq m) (keys_of l)) r.is ∙ place r.front r.back m s r.before) j) last)
+        ∙ moved r.front r.back (m, v) last (is_last ∙ ap (λ k. k - 1) n)
+
+    pub last_entries : s.value ≡ None → entries_of new ≡ entries_of es ++ entry_at m v.value
+    last_entries none =
+        let r = split m s es there in
+        let was : entries_of es ≡ entries_of r.front ++ entries_of r.back = ap entries_of r.is ∙ entries-append r.front ((m, s) ∷ r.back) ∙ ap (λ o. entries_of r.front ++ (entry_at m o ++ entries_of r.back)) none in
+        added_entries m v (r.front ++ r.back) new last_places
+        ∙ ap (λ l. l ++ entry_at m v.value) (entries-append r.front r.back ∙ sym was)
+
+    pub last_held : KeepsHeld (held_of es) (held_of new) m
+    last_held q other =
+        let r = split m s es there in
+        ap (list_any (mac_eq q)) (added_held m v (r.front ++ r.back) new last_places ∙ ap (λ l. held_of (r.front ++ r.back) ++ l) (sym (append-nil (held_at m v.held))))
+        ∙ any_held q m v.held (held_of (r.front ++ r.back)) [] other
+        ∙ ap (list_any (mac_eq q)) (append-nil (held_of (r.front ++ r.back)) ∙ held-append r.front r.back)
+        ∙ sym (ap (list_any (mac_eq q)) (ap held_of r.is ∙ held-append r.front ((m, s) ∷ r.back)) ∙ any_held q m s.held (held_of r.front) (held_of r.back) other)
+
+    pub length-last_held : length (held_of new) + one_if s.held ≡ length (held_of es) + one_if v.held
+    length-last_held =
+        let r = split m s es there in
+        let a : held_of es ≡ held_of r.front ++ (held_at m s.held ++ held_of r.back) = ap held_of r.is ∙ held-append r.front ((m, s) ∷ r.back) in
+        let b : held_of new ≡ (held_of r.front ++ held_of r.back) ++ (held_at m v.held ++ []) =
+        added_held m v (r.front ++ r.back) new last_places ∙ (λ j. held-append r.front r.back j ++ sym (append-nil (held_at m v.held)) j) in
+        omega (
+          arith,
+          ap length a,
+          ap length b,
+          length-append (held_of r.front) (held_at m s.held ++ held_of r.back),
+          length-held_at m s.held (held_of r.back),
+          length-append (held_of r.front ++ held_of r.back) (held_at m v.held ++ []),
+          length-append (held_of r.front) (held_of r.back),
+          length-held_at m v.held [],
+        )
+
+  -- `release`
+  release_by : (m : Mac) (r : Option V) (rest : List (Mac × Slot V)) (ys : List (Mac × V)) → entries_of rest ≡ ys → entries_of (cond (is_some r) ((m, slot_of r false) ∷ rest) rest) ≡ entry_at m r ++ ys
+  release_by m None rest ys h = h
+  release_by m (Some x) rest ys h = ap (λ l. (m, x) ∷ l) h
+
+  release_held_by : (m : Mac) (r : Option V) (rest : List (Mac × Slot V)) → held_of rest ≡ [] → held_of (cond (is_some r) ((m, slot_of r false) ∷ rest) rest) ≡ []
+  release_held_by m None rest h = h
+  release_held_by m (Some x) rest h = h
+
+  module _ {F : Type 0} (T : F → Mac → Slot V → Bool → Slot V → F → Type 0) (f : F)
+      (says : (k : Mac) (v : Slot V) (b : Bool) (w : Slot V) (g : F) → T f k v b w g → (w ≡ slot_of v.value false) × (b ≡ is_some v.value) × (g ≡ f)) where
+    pub release_entries : (es kept : List (Mac × Slot V)) → RetainsPairs T f es kept → entries_of kept ≡ entries_of es
+    release_entries [] kept h = ap entries_of h
+    release_entries (e ∷ es) kept h =
+        let s = says e.0 e.1 h.0 h.1 h.2 h.4 in
+        ap entries_of h.6 ∙ (λ j. entries_of (cond (s.1 j) ((e.0, s.0 j) ∷ h.3) h.3))
+        ∙ release_by e.0 e.1.value h.3 (entries_of es) (release_entries es h.3 (subst (λ g. RetainsPairs T g es h.3) s.2 h.5))
+
+    pub release_held : (es kept : List (Mac × Slot V)) → RetainsPairs T f es kept → held_of kept ≡ []
+    release_held [] kept h = ap held_of h
+    release_held (e ∷ es) kept h =
+        let s = says e.0 e.1 h.0 h.1 h.2 h.4 in
+        ap held_of h.6 ∙ (λ j. held_of (cond (s.1 j) ((e.0, s.0 j) ∷ h.3) h.3))
+        ∙ release_held_by e.0 e.1.value h.3 (release_held es h.3 (subst (λ g. RetainsPairs T g es h.3) s.2 h.5))
+
+  -- `retain`: what a call of the closure keeps of one place
+  kept_by : (held : Bool) (m : Mac) (v w : Option V) (rest : List (Mac × Slot V)) (test : V → Bool) (ys : List (Mac × V)) → w ≡ passing test v → entries_of rest ≡ filter (λ e. test e.1) ys
+      → entries_of (cond (held || is_some w) ((m, slot_of w held) ∷ rest) rest) ≡ filter (λ e. test e.1) (entry_at m v ++ ys)
+  kept_by held m None w rest test ys is h = ap (λ o. entries_of (cond (held || is_some o) ((m, slot_of o held) ∷ rest) rest)) is ∙ by held
+    where
+      by : (b : Bool) → entries_of (cond (b || false) ((m, slot_of None held) ∷ rest) rest) ≡ filter (λ e. test e.1) ys
+      by true = h
+      by false = h
+  kept_by held m (Some x) w rest test ys is h = ap (λ o. entries_of (cond (held || is_some o) ((m, slot_of o held) ∷ rest) rest)) is ∙ by held (test x)
+    where
+      by : (b t : Bool) → entries_of (cond (b || is_some (cond t (Some x) None)) ((m, slot_of (cond t (Some x) None) held) ∷ rest) rest) ≡ cond t ((m, x) ∷ filter (λ e. test e.1) ys) (filter (λ e. test e.1) ys)
+      by true true = ap (λ l. (m, x) ∷ l) h
+      by true false = h
+      by false true = ap (λ l. (m, x) ∷ l) h
+      by false false = h
+
+  kept_held_by : (held : Bool) (m : Mac) (w : Option V) (rest : List (Mac × Slot V)) (ms : List Mac) → held_of rest ≡ ms
+      → held_of (cond (held || is_some w) ((m, slot_of w held) ∷ rest) rest) ≡ held_at m held ++ ms
+  kept_held_by true m w rest ms h = ap (λ l. m ∷ l) h
+  kept_held_by false m None rest ms h = h
+  kept_held_by false m (Some x) rest ms h = h
+
+  -- a place by its two parts
+  slot_is : (w : Slot V) (held : Bool) → w.held ≡ held → w ≡ slot_of w.value held
+  slot_is w held h = λ j. slot_of w.value (h j)
+
+  -- what is left of a value of which it is known whether it passes
+  pub left_is_some : (P : V → Type 0) (r : Option V) (b : Bool) → MatchOption r (b ≡ false) P → b ≡ is_some (cond b r None)
+  left_is_some P None true h = cc
+  left_is_some P None false h = refl
+  left_is_some P (Some x) true h = refl
+  left_is_some P (Some x) false h = refl
+
+  pub left_is_passing : (P : V → Type 0) (r : Option V) (b : Bool) (test : V → Bool) → ((v : V) → P v → b ≡ test v) → MatchOption r (b ≡ false) P → cond b r None ≡ passing test r
+  left_is_passing P None true test says h = refl
+  left_is_passing P None false test says h = refl
+  left_is_passing P (Some x) b test says h = ap (λ t. cond t (Some x) None) (says x h)
+
+  module _ {F : Type 0} (T : F → Mac → Slot V → Bool → Slot V → F → Type 0) (f : F) where
+    pub retain_entries : (test : V → Bool)
+        → ((k : Mac) (v : Slot V) (b : Bool) (w : Slot V) (g : F) → T f k v b w g → (w.held ≡ v.held) × (b ≡ (v.held || is_some w.value)) × (g ≡ f) × (w.value ≡ passing test v.value))
+        → (es kept : List (Mac × Slot V)) → RetainsPairs T f es kept → entries_of kept ≡ filter (λ e. test e.1) (entries_of es)
+    retain_entries test says [] kept h = ap entries_of h
+    retain_entries test says (e ∷ es) kept h =
+        let s = says e.0 e.1 h.0 h.1 h.2 h.4 in
+        ap entries_of h.6
+        ∙ (λ j. entries_of (cond (s.1 j) ((e.0, slot_is h.1 e.1.held s.0 j) ∷ h.3) h.3))
+        ∙ kept_by e.1.held e.0 e.1.value h.1.value h.3 test (entries_of es) s.3 (retain_entries test says es h.3 (subst (λ g. RetainsPairs T g es h.3) s.2 h.5))
+
+    pub retain_held : ((k : Mac) (v : Slot V) (b : Bool) (w : Slot V) (g : F) → T f k v b w g → (w.held ≡ v.held) × (b ≡ (v.held || is_some w.value)) × (g ≡ f))
+        → (es kept : List (Mac × Slot V)) → RetainsPairs T f es kept → held_of kept ≡ held_of es
+    retain_held says [] kept h = ap held_of h
+    retain_held says (e ∷ es) kept h =
+        let s = says e.0 e.1 h.0 h.1 h.2 h.4 in
+        ap held_of h.6
+        ∙ (λ j. held_of (cond (s.1 j) ((e.0, slot_is h.1 e.1.held s.0 j) ∷ h.3) h.3))
+        ∙ kept_held_by e.1.held e.0 h.1.value h.3 (held_of es) (retain_held says es h.3 (subst (λ g. RetainsPairs T g es h.3) s.2 h.5))

@@ -1,0 +1,9 @@
+use Rattle.std.proofs.Common.{subst}
+use Rattle.std.specs.List.{IsDistinct}
+use Rattle.std.specs.Map.{keys_of}
+use Rattle.sr_slots.specs.Places.{mac_eq}
+use Rattle.sr_slots.proofs.PlaceLemmas.{distinct-entries}
+use Rattle.sr_slots.proofs.by_address.Slots.len.Goals as goal
+
+pub returns-clause-unique : goal.returns-clause-unique
+returns-clause-unique g c = subst (λ v. IsDistinct mac_eq (keys_of v.entries)) c.self.view_is (distinct-entries c.self.inside.map.entries c.len-places.ensures.unique)

@@ -1,0 +1,28 @@
+-- What a passed closure did with a value, or says of it.
+use Rattle.std.specs.Prelude.{◌≡◌, Bool, List, Option, None, Some, if◌then◌else◌}
+use Rattle.std.specs.Map.{lookup, set_value}
+use Rattle.std.specs.Borrow.{Bor, MutBor}
+use Rattle.std.specs.Fn.{Once, Shared, FnOnceReturnsAtMut, FnReturnsAt}
+use Rattle.sr_frame.specs.declared.fields.Mac.{Mac}
+use Rattle.sr_slots.specs.Places.{mac_eq}
+
+-- the value at the address is what a call of the closure left of it, and the call gave this answer
+pub record ChangesAt {F V R : Type 0} (g : Once F (MutBor V × Unit {0}) (R × (MutBor V × Unit {0}))) (f : F) (key : Mac) (old : List (Mac × V)) (answer : R) (new : List (Mac × V)) : Type 0 where
+  pub was : V
+  pub is : V
+  pub found : lookup (mac_eq key) old ≡ Some was
+  pub called : FnOnceReturnsAtMut g f was answer is
+  pub written : new ≡ set_value (mac_eq key) old is
+
+-- each call of the closure answers what the test says
+abbrev pub Tests : {F V : Type 0} → Shared F (Bor V × Unit {0}) Bool → F → (V → Bool) → Type 0
+Tests {F} {V} g f test = (v : V) (b : Bool) → FnReturnsAt g f v b → b ≡ test v
+
+-- the value, if it passes
+abbrev pub passing : {V : Type 0} → (V → Bool) → Option V → Option V
+passing test None = None
+passing test (Some v) = if test v then Some v else None
+
+-- what an item of the iterator shows
+abbrev pub shown_entry : {V : Type 0} → Mac × Bor V → Mac × V
+shown_entry item = (item.0, item.1.now)

@@ -1,0 +1,49 @@
+-- What a table of addresses shows: its entries in order, and the addresses whose place is held.
+use Rattle.std.specs.Prelude.{◌≡◌, Bool, true, false, nat_eq, List, [], ◌∷◌, ◌++◌, Option, None, Some}
+use Rattle.std.specs.List.{list_any}
+use Rattle.std.specs.Map.{lookup}
+use Rattle.std.specs.Cmp.Lexicographic.{pointwise}
+use Rattle.sr_frame.specs.declared.fields.Mac.{Mac}
+use Rattle.sr_slots.specs.declared.places.Slot.{Slot}
+
+-- whether two addresses are one
+abbrev pub mac_eq : Mac → Mac → Bool
+mac_eq x y = pointwise nat_eq x.0 y.0
+
+-- the addresses with their values, in the order in which they came, and the addresses whose place is held
+pub record Places (V : Type 0) : Type 0 where
+  pub entries : List (Mac × V)
+  pub held : List Mac
+
+-- whether a place is held for this address
+abbrev pub is_held : {V : Type 0} → Places V → Mac → Bool
+is_held places key = list_any (mac_eq key) places.held
+
+-- the value at this address
+abbrev pub value_at : {V : Type 0} → Places V → Mac → Option V
+value_at places key = lookup (mac_eq key) places.entries
+
+-- each other address has a held place as before
+abbrev pub KeepsHeld : List Mac → List Mac → Mac → Type 0
+KeepsHeld old new key = (other : Mac) → mac_eq other key ≡ false → list_any (mac_eq other) new ≡ list_any (mac_eq other) old
+
+-- what one place of the map shows of values, and of holding
+abbrev pub entry_at : {V : Type 0} → Mac → Option V → List (Mac × V)
+entry_at key None = []
+entry_at key (Some value) = (key, value) ∷ []
+
+abbrev pub held_at : Mac → Bool → List Mac
+held_at key true = key ∷ []
+held_at key false = []
+
+-- what all places of the map show
+abbrev pub entries_of : {V : Type 0} → List (Mac × Slot V) → List (Mac × V)
+entries_of [] = []
+entries_of (e ∷ es) = entry_at e.0 e.1.value ++ entries_of es
+
+abbrev pub held_of : {V : Type 0} → List (Mac × Slot V) → List Mac
+held_of [] = []
+held_of (e ∷ es) = held_at e.0 e.1.held ++ held_of es
+
+abbrev pub slot_of : {V : Type 0} → Option V → Bool → Slot V
+slot_of value held = record { value = value; held = held }
