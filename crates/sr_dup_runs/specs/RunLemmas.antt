@@ -19,8 +19,8 @@ use Rattle.sr_sequence.specs.Places.{steps}
 use Rattle.sr_dup_window.specs.Families.{Family, alone, joined, StandsFor}
 use Rattle.sr_dup_window.specs.Windows.{Window, begun, noted, fresh_lanes, lanes_of}
 use Rattle.sr_dup_window.specs.WindowLemmas.{begun-stands, noted-stands, fresh-lanes-by-family}
-use Rattle.sr_slots.specs.Places.{mac_eq}
-use Rattle.sr_slots.specs.EntryLemmas.{mac_same, mac_refl, mac_laws}
+use Rattle.sr_frame.specs.Addresses.{mac_eq}
+use Rattle.sr_frame.specs.AddressLemmas.{mac_same, mac_refl, mac_laws}
 use Rattle.sr_dup_table.specs.Sources.{Heard, Sources, is_live, live_at, with_room, begun_at, heard_next, answer_of, after_of}
 use Rattle.sr_dup_runs.specs.Runs.{Arrival, epoch, greatest_of, copies_of, was_noted, IsNearAll, Turn, arrived, aged, arrivals_of, latest, Run, IsNext, AreSteady, AreInOrder, EachPairIsNewOnce, BeyondIsNew}
 

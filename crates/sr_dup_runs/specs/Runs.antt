@@ -10,7 +10,7 @@ use Rattle.sr_dup_window.specs.declared.lane_sets.Lane.{Lane}
 use Rattle.sr_dup_window.specs.declared.lane_sets.Lanes.{Lanes}
 use Rattle.sr_dup_window.specs.LaneSets.{has, is_empty}
 use Rattle.sr_dup_window.specs.Families.{greater}
-use Rattle.sr_slots.specs.Places.{mac_eq}
+use Rattle.sr_frame.specs.Addresses.{mac_eq}
 use Rattle.sr_dup_table.specs.Sources.{Heard, Sources, is_live, live_at, arrive_answer, after_arrive}
 
 -- a numbered arrival: its source, its number without bound, the lanes on which it is noted, its time in milliseconds

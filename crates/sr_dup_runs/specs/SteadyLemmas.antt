@@ -6,8 +6,8 @@ use Rattle.std.proofs.lemmas.Int.{ints}
 use Rattle.sr_frame.specs.declared.fields.Mac.{Mac}
 use Rattle.sr_sequence.specs.Numbers.{IsNear}
 use Rattle.sr_dup_window.specs.Families.{greater}
-use Rattle.sr_slots.specs.Places.{mac_eq}
-use Rattle.sr_slots.specs.EntryLemmas.{mac_refl}
+use Rattle.sr_frame.specs.Addresses.{mac_eq}
+use Rattle.sr_frame.specs.AddressLemmas.{mac_refl}
 use Rattle.sr_dup_runs.specs.Runs.{Arrival, epoch, greatest_of, copies_of, IsNearAll, AreSteady, AreOf, NumbersAreSteady, late_copies, over_the_end}
 
 -- the greatest of some numbers, one at least

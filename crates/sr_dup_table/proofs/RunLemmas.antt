@@ -5,7 +5,7 @@ use Rattle.std.proofs.lemmas.Bool.{ltb-true, lt-ltb}
 use Rattle.std.proofs.lemmas.List.{length-append}
 use Rattle.std.proofs.lemmas.Map.{length-set_value}
 use Rattle.sr_frame.specs.declared.fields.Mac.{Mac}
-use Rattle.sr_slots.specs.Places.{mac_eq}
+use Rattle.sr_frame.specs.Addresses.{mac_eq}
 use Rattle.sr_slots.specs.Calls.{passing}
 use Rattle.sr_slots.specs.EntryLemmas.{one_if, lookup-set, distinct-set, lookup-push, distinct-push, lookup-passing, distinct-passing, length-passing-set, length-passing-push}
 use Rattle.sr_dup_window.specs.declared.lane_sets.Lanes.{Lanes}

@@ -7,7 +7,7 @@ use Rattle.std.proofs.lemmas.List.{length-map, length-append, map-append}
 use Rattle.std.proofs.lemmas.Map.{length-set_value}
 use Rattle.sr_frame.specs.declared.fields.Mac.{Mac}
 use Rattle.sr_dup_window.specs.declared.lane_sets.Lanes.{Lanes}
-use Rattle.sr_slots.specs.Places.{mac_eq}
+use Rattle.sr_frame.specs.Addresses.{mac_eq}
 use Rattle.sr_dup_window.specs.Windows.{noted}
 use Rattle.sr_dup_table.specs.declared.entry.Entry.{Entry}
 use Rattle.sr_dup_table.specs.Sources.{Heard, Sources, is_recent, is_live, live_at, live_others, with_room, answer_of, arrive_answer, heard_next, begun_at}

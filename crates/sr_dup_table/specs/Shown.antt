@@ -2,7 +2,7 @@
 use Rattle.std.specs.Prelude.{◌≡◌, ℕ, List, map, Some}
 use Rattle.std.specs.Map.{lookup, set_value}
 use Rattle.sr_frame.specs.declared.fields.Mac.{Mac}
-use Rattle.sr_slots.specs.Places.{mac_eq}
+use Rattle.sr_frame.specs.Addresses.{mac_eq}
 use Rattle.sr_dup_window.specs.declared.lane_sets.Lanes.{Lanes}
 use Rattle.sr_dup_window.specs.Windows.{window_of}
 use Rattle.sr_dup_table.specs.declared.entry.Entry.{Entry}

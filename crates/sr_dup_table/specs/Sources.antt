@@ -5,7 +5,7 @@ use Rattle.std.specs.Map.{lookup, set_value, keys_of}
 use Rattle.sr_frame.specs.declared.fields.Mac.{Mac}
 use Rattle.sr_dup_table.specs.declared.fault.DupFault.{DupFault}
 use Rattle.sr_dup_table.specs.declared.fault.DupFault.TheVariants.{TableFull, NoMemory}
-use Rattle.sr_slots.specs.Places.{mac_eq}
+use Rattle.sr_frame.specs.Addresses.{mac_eq}
 use Rattle.sr_dup_window.specs.declared.lane_sets.Lanes.{Lanes}
 use Rattle.sr_dup_window.specs.Windows.{Window, begun, noted, fresh_lanes}
 

@@ -3,7 +3,8 @@ ghost use Rattle.std.specs.Prelude.{◌≡◌, ℕ, ◌+◌, ◌≤◌, ◌↔�
 ghost use Rattle.std.specs.Result.{result_ok};
 ghost use Rattle.std.specs.Map.{lookup, set_value};
 ghost use Rattle.sr_dup_window.specs.LaneSets.{is_empty};
-ghost use Rattle.sr_slots.specs.Places.{mac_eq, KeepsHeld};
+ghost use Rattle.sr_frame.specs.Addresses.{mac_eq};
+ghost use Rattle.sr_slots.specs.Places.{KeepsHeld};
 ghost use Rattle.sr_dup_table.specs.Sources.{IsTable, is_held, is_recent, live_at, live_others, refusal_of, with_room, arrive_answer, after_arrive, heard_next, fresh_at};
 ghost use Rattle.sr_dup_table.specs.Shown.{heard_of, sources_of, HearsAgain};
 ghost use Rattle.sr_dup_table.specs.Bounds.{oldest_of};

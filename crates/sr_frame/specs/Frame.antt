@@ -1,5 +1,5 @@
 -- Ethernet frames without check sequence: destination, source, at most one VLAN tag, type, payload.
-use Rattle.std.specs.Prelude.{◌≡◌, ◌≢◌, ℕ, ◌^◌, ◌<◌, ◌≤◌, List, [], ◌∷◌, ◌++◌, length, Option, Some, None, slice_index, ◌&&◌, ◌==◌, if◌then◌else◌}
+use Rattle.std.specs.Prelude.{◌≡◌, ◌≢◌, ℕ, ◌+◌, ◌-◌, ◌^◌, ◌<◌, ◌≤◌, List, [], ◌∷◌, ◌++◌, length, replicate, Option, Some, None, slice_index, ◌&&◌, ◌==◌, if◌then◌else◌}
 use Rattle.std.specs.Int.{w16, to_be_bytes}
 
 -- the fields of a frame, apart from where they lie in memory
@@ -50,3 +50,7 @@ least_len octets = if (slice_index octets 12 == 129) && (slice_index octets 13 =
 pub record HasFrameLength (octets : List ℕ) : Type 0 where
   pub least : least_len octets ≤ length octets
   pub most : length octets ≤ 1524
+
+-- the octets, and zeros up to 60, or up to 64 where there is a VLAN tag: the least frame of Ethernet
+abbrev pub padded : List ℕ → List ℕ
+padded octets = octets ++ replicate (least_len octets + 46 - length octets) 0

@@ -1,5 +1,7 @@
+pub mod Addresses
 pub mod Frame
 pub mod View
+pub mod AddressLemmas
 pub mod OctetLemmas
 pub mod FrameLemmas
 pub mod LengthLemmas

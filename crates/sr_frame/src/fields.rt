@@ -3,8 +3,6 @@
 ghost use Rattle.std.specs.Prelude.{◌≡◌, ◌/◌, ◌%◌, IsTrue, ◌↔◌, length, slice_index};
 ghost use Rattle.sr_frame.specs.Frame.{Fields, IsLegal};
 
-use std::fmt;
-
 /// The most octets of a frame: 1518 of Ethernet, and 6 of a tag or trailer (IEC 62439-3, choice of this project).
 pub const MAX_FRAME_LEN: usize = 1524;
 
@@ -32,13 +30,6 @@ impl Mac {
         ensures { IsTrue result ↔ (slice_index self.0 0 % 2 ≡ 1) }
     {
         self.0[0] % 2 == 1
-    }
-}
-
-impl fmt::Display for Mac {
-    fn fmt<W: fmt::Write>(&self, f: &mut fmt::Formatter<W>) -> fmt::Result {
-        let Mac([a, b, c, d, e, last]) = *self;
-        write!(f, "{a:02x}:{b:02x}:{c:02x}:{d:02x}:{e:02x}:{last:02x}")
     }
 }
 

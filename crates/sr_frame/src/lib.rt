@@ -7,6 +7,7 @@ mod laws;
 mod owned;
 mod ports;
 mod reading;
+mod showing;
 mod writing;
 
 pub use fault::{FrameFault, NoMemory};

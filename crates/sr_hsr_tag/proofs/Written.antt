@@ -3,11 +3,11 @@ use Rattle.std.proofs.Common.{◌≡◌, ℕ, ◌+◌, ◌-◌, ◌<◌, ◌≤�
 use Rattle.std.specs.Prelude.{replicate, max}
 use Rattle.std.specs.Int.{w16, to_be_bytes}
 use Rattle.std.proofs.lemmas.List.{append_assoc, length-append, take_all, length-replicate}
-use Rattle.sr_frame.specs.Frame.{Fields, IsLegal, head_of, spelling, least_len}
+use Rattle.sr_frame.specs.Frame.{Fields, IsLegal, head_of, spelling, least_len, padded}
 use Rattle.sr_frame.specs.LengthLemmas.{header_of, length-spelling, least_len-spelling}
 use Rattle.sr_sequence.specs.declared.Seq.{Seq}
 use Rattle.sr_hsr_tag.specs.declared.tag.HsrTag.{HsrTag}
-use Rattle.sr_hsr_tag.specs.Tagged.{IsTagged, tag_octets, padded, octets_behind_type}
+use Rattle.sr_hsr_tag.specs.Tagged.{IsTagged, tag_octets, octets_behind_type}
 
 abbrev tag : ℕ → ℕ → Seq → ℕ → HsrTag
 tag path size seq inner = record { path = path; size = size; seq = seq; inner = inner }

@@ -1,5 +1,5 @@
 -- Frames with an HSR tag: relations between values and whole lists of octets.
-use Rattle.std.specs.Prelude.{◌≡◌, ℕ, ◌+◌, ◌-◌, ◌*◌, ◌^◌, ◌<◌, List, ◌++◌, length, replicate}
+use Rattle.std.specs.Prelude.{◌≡◌, ℕ, ◌+◌, ◌-◌, ◌*◌, ◌^◌, ◌<◌, List, ◌++◌, length}
 use Rattle.std.specs.Int.{w16, to_be_bytes}
 use Rattle.sr_frame.specs.Frame.{Fields, IsLegal, head_of, spelling, least_len}
 use Rattle.sr_hsr_tag.specs.declared.tag.HsrTag.{HsrTag}
@@ -30,10 +30,6 @@ pub record IsTagged (octets plain : List ℕ) (t : HsrTag) : Type 0 where
   pub payload : fields.payload ≡ tag_octets t ++ rest
   pub plain_is : plain ≡ with_type fields t.inner rest
   pub tag : IsTag t
-
--- the octets, and zeros up to 60, or up to 64 where there is a VLAN tag
-abbrev pub padded : List ℕ → List ℕ
-padded octets = octets ++ replicate (least_len octets + 46 - length octets) 0
 
 -- how many octets stand behind the type
 abbrev pub octets_behind_type : List ℕ → ℕ

@@ -2,9 +2,9 @@
 
 ghost use Rattle.std.specs.Prelude.{◌≡◌, ◌≢◌, ◌↔◌, ◌+◌, ◌-◌, ◌<◌, ◌≤◌, ◌++◌, length, max, IfOk, OnOk, IsErrOf};
 ghost use Rattle.std.specs.Int.{w16, to_be_bytes};
-ghost use Rattle.sr_frame.specs.Frame.{spelling, head_of, least_len};
+ghost use Rattle.sr_frame.specs.Frame.{spelling, head_of, least_len, padded};
 ghost use Rattle.sr_frame.specs.View.{fields_of};
-ghost use Rattle.sr_hsr_tag.specs.Tagged.{IsTag, IsTagged, tag_octets, padded, octets_behind_type};
+ghost use Rattle.sr_hsr_tag.specs.Tagged.{IsTag, IsTagged, tag_octets, octets_behind_type};
 
 use crate::tag::{HSR_KIND, HsrTag};
 use sr_frame::{Frame, FrameFault, FrameView, MAX_FRAME_LEN, MIN_PAYLOAD_LEN, NoMemory, append};

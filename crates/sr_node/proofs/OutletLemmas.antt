@@ -8,7 +8,7 @@ use Rattle.sr_frame.specs.declared.fields.Mac.{Mac}
 use Rattle.sr_frame.specs.declared.ports.Port.{Port}
 use Rattle.sr_frame.specs.declared.ports.Port.TheVariants.{H, A, B, C}
 use Rattle.sr_sequence.specs.declared.Seq.{Seq}
-use Rattle.sr_slots.specs.Places.{mac_eq}
+use Rattle.sr_frame.specs.Addresses.{mac_eq}
 use Rattle.sr_dup_window.specs.declared.lane_sets.Lane.{Lane}
 use Rattle.sr_dup_window.specs.declared.lane_sets.Lane.TheVariants as lane
 use Rattle.sr_dup_window.specs.declared.lane_sets.Lanes.{Lanes}

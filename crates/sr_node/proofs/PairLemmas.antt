@@ -11,8 +11,8 @@ use Rattle.sr_frame.specs.declared.ports.Port.TheVariants.{H, A, B, C}
 use Rattle.sr_sequence.specs.declared.Seq.{Seq}
 use Rattle.sr_prp_trailer.specs.declared.trailer.Lan.{Lan}
 use Rattle.sr_prp_trailer.specs.declared.trailer.Lan.TheVariants as lan
-use Rattle.sr_slots.specs.Places.{mac_eq}
-use Rattle.sr_slots.specs.EntryLemmas.{mac_same}
+use Rattle.sr_frame.specs.Addresses.{mac_eq}
+use Rattle.sr_frame.specs.AddressLemmas.{mac_same}
 use Rattle.sr_node.specs.declared.parcels.Form.{Form}
 use Rattle.sr_node.specs.declared.parcels.Form.TheVariants.{Plain, Hsr, Prp}
 use Rattle.sr_node.specs.Arrivals.{Arrival, IsReadInLan}

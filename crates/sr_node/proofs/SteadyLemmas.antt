@@ -6,7 +6,7 @@ use Rattle.sr_frame.specs.declared.fields.Mac.{Mac}
 use Rattle.sr_frame.specs.declared.ports.Port.{Port}
 use Rattle.sr_sequence.specs.declared.Seq.{Seq}
 use Rattle.sr_sequence.specs.Numbers.{wire}
-use Rattle.sr_slots.specs.Places.{mac_eq}
+use Rattle.sr_frame.specs.Addresses.{mac_eq}
 use Rattle.sr_dup_runs.specs.Runs.{AreOf, NumbersAreSteady}
 use Rattle.sr_dup_runs.specs.Runs.{Arrival as Noted}
 use Rattle.sr_dup_runs.specs.SteadyLemmas as table

@@ -8,7 +8,7 @@ use Rattle.sr_prp_trailer.specs.Trailed.{IsTrailed}
 use Rattle.sr_prp_trailer.specs.declared.trailer.Lan.{Lan}
 use Rattle.sr_prp_trailer.specs.declared.trailer.Lan.TheVariants as lan
 use Rattle.sr_prp_trailer.specs.declared.trailer.Trailer.{Trailer}
-use Rattle.sr_slots.specs.Places.{mac_eq}
+use Rattle.sr_frame.specs.Addresses.{mac_eq}
 use Rattle.sr_node.specs.declared.parcels.Form.{Form}
 use Rattle.sr_node.specs.declared.parcels.Form.TheVariants.{Plain, Hsr, Prp}
 use Rattle.sr_node.specs.declared.parcels.Parcel.{Parcel}

@@ -3,7 +3,7 @@ use Rattle.std.specs.Prelude.{◌%◌, ◌==◌, Bool, ◌||◌, slice_index, if
 use Rattle.sr_frame.specs.declared.fields.Mac.{Mac}
 use Rattle.sr_frame.specs.declared.ports.Port.{Port}
 use Rattle.sr_frame.specs.declared.ports.Port.TheVariants.{H, A, B, C}
-use Rattle.sr_slots.specs.Places.{mac_eq}
+use Rattle.sr_frame.specs.Addresses.{mac_eq}
 use Rattle.sr_node.specs.declared.port_sets.Outlets.{Outlets}
 use Rattle.sr_node.specs.declared.roles.Header.{Header}
 use Rattle.sr_node.specs.PortSets.{outlets}

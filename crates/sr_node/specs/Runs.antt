@@ -12,7 +12,7 @@ use Rattle.sr_prp_trailer.specs.Trailed.{IsTrailed}
 use Rattle.sr_prp_trailer.specs.declared.trailer.Lan.{Lan}
 use Rattle.sr_prp_trailer.specs.declared.trailer.Lan.TheVariants as lan
 use Rattle.sr_prp_trailer.specs.declared.trailer.Trailer.{Trailer}
-use Rattle.sr_slots.specs.Places.{mac_eq}
+use Rattle.sr_frame.specs.Addresses.{mac_eq}
 use Rattle.sr_dup_table.specs.Sources.{Heard}
 use Rattle.sr_dup_runs.specs.Runs.{AreSteady, IsBeyond}
 use Rattle.sr_dup_runs.specs.Runs.{Arrival as Noted}

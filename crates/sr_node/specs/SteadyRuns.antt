@@ -4,7 +4,7 @@ use Rattle.sr_frame.specs.declared.fields.Mac.{Mac}
 use Rattle.sr_frame.specs.declared.ports.Port.{Port}
 use Rattle.sr_frame.specs.declared.ports.Port.TheVariants.{A, B}
 use Rattle.sr_sequence.specs.Numbers.{wire}
-use Rattle.sr_slots.specs.Places.{mac_eq}
+use Rattle.sr_frame.specs.Addresses.{mac_eq}
 use Rattle.sr_node.specs.Roles.{RoleImage}
 use Rattle.sr_node.specs.Steps.{Event, Arrive, Tick, Take}
 use Rattle.sr_node.specs.Runs.{Turn, IsSteady}

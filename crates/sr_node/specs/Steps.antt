@@ -3,7 +3,7 @@ use Rattle.std.specs.Prelude.{◌≡◌, ℕ, ◌+◌, Bool, true, false, max, L
 use Rattle.sr_frame.specs.declared.ports.Port.{Port}
 use Rattle.sr_frame.specs.declared.ports.Port.TheVariants.{H, A, B, C}
 use Rattle.sr_sequence.specs.declared.Seq.{Seq}
-use Rattle.sr_slots.specs.Places.{mac_eq}
+use Rattle.sr_frame.specs.Addresses.{mac_eq}
 use Rattle.sr_dup_table.specs.Sources.{live_at}
 use Rattle.sr_node.specs.declared.answers.Answer.{Answer}
 use Rattle.sr_node.specs.declared.answers.Answer.TheVariants as answer

@@ -1,7 +1,8 @@
 //! Life checks: the supervision frames by which a node says that it is there.
 
 ghost use Rattle.std.specs.Prelude.{◌≡◌, ◌+◌, ◌≤◌, length, IfOk};
-ghost use Rattle.sr_prp_trailer.specs.Trailed.{IsTrailed, padded};
+ghost use Rattle.sr_prp_trailer.specs.Trailed.{IsTrailed};
+ghost use Rattle.sr_frame.specs.Frame.{padded};
 ghost use Rattle.sr_prp_trailer.specs.declared.trailer.Trailer.{Trailer};
 ghost use Rattle.sr_supervision.specs.Written.{written};
 ghost use Rattle.sr_node.specs.LifeChecks.{is_due, life_header, life_says, IsTrailedFor, IsCopyFor, AreLifeCopies};

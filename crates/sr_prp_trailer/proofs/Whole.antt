@@ -3,13 +3,13 @@ use Rattle.std.proofs.Common.{◌≡◌, ℕ, ◌+◌, ◌-◌, ◌<◌, ◌≤�
 use Rattle.std.specs.Prelude.{replicate, max}
 use Rattle.std.proofs.lemmas.List.{append_assoc, length-append, take-append-drop, length-take}
 use Rattle.std.proofs.lemmas.List.{length-replicate}
-use Rattle.sr_frame.specs.Frame.{Fields, IsLegal, least_len, spelling}
+use Rattle.sr_frame.specs.Frame.{Fields, IsLegal, least_len, spelling, padded}
 use Rattle.sr_frame.specs.FrameLemmas.{same_parts}
 use Rattle.sr_frame.specs.LengthLemmas.{header_of, with_payload, least_len_more, least_len_bounds, least_len-spelling, length-spelling, HasFrameLength-spelling, IsLegal-shorter}
 use Rattle.sr_sequence.specs.declared.Seq.{Seq}
 use Rattle.sr_prp_trailer.specs.declared.trailer.Trailer.{Trailer}
 use Rattle.sr_prp_trailer.specs.declared.trailer.Lan.{Lan}
-use Rattle.sr_prp_trailer.specs.Trailed.{IsTrailed, trailer_octets, padded}
+use Rattle.sr_prp_trailer.specs.Trailed.{IsTrailed, trailer_octets}
 
 -- a trailer behind a part of the payload is one behind the frame of that part
 pub IsTrailed-payload : (f : Fields) (front : List ℕ) (t : Trailer) → IsLegal f → f.payload ≡ front ++ trailer_octets t → t.size ≡ length f.payload → t.seq.0 < 2 ^ 16 → IsTrailed (spelling f) (spelling (with_payload f front)) t

@@ -1,5 +1,5 @@
 -- Frames with a PRP redundancy control trailer: relations between values and whole lists of octets.
-use Rattle.std.specs.Prelude.{◌≡◌, ℕ, ◌+◌, ◌-◌, ◌*◌, ◌^◌, ◌<◌, List, [], ◌∷◌, ◌++◌, length, replicate}
+use Rattle.std.specs.Prelude.{◌≡◌, ℕ, ◌+◌, ◌*◌, ◌^◌, ◌<◌, List, [], ◌∷◌, ◌++◌, length}
 use Rattle.std.specs.Int.{w16, to_be_bytes}
 use Rattle.sr_frame.specs.Frame.{HasFrameLength, least_len}
 use Rattle.sr_prp_trailer.specs.declared.trailer.Lan.{Lan}
@@ -22,7 +22,3 @@ pub record IsTrailed (octets plain : List ℕ) (t : Trailer) : Type 0 where
   pub spelled : octets ≡ plain ++ trailer_octets t
   pub size : t.size + least_len plain ≡ length octets
   pub seq : t.seq.0 < 2 ^ 16
-
--- the octets, and zeros up to 60, or up to 64 where there is a VLAN tag
-abbrev pub padded : List ℕ → List ℕ
-padded octets = octets ++ replicate (least_len octets + 46 - length octets) 0

@@ -1,9 +1,9 @@
 //! Writing a trailer.
 
 ghost use Rattle.std.specs.Prelude.{◌≡◌, ◌≢◌, ◌↔◌, ◌+◌, ◌-◌, ◌<◌, ◌≤◌, ◌++◌, length, vec_len, vec_capacity, IfOk, IsErrOf};
-ghost use Rattle.sr_frame.specs.Frame.{spelling, least_len};
+ghost use Rattle.sr_frame.specs.Frame.{spelling, least_len, padded};
 ghost use Rattle.sr_frame.specs.View.{fields_of};
-ghost use Rattle.sr_prp_trailer.specs.Trailed.{IsTrailed, trailer_octets, padded, lan_id};
+ghost use Rattle.sr_prp_trailer.specs.Trailed.{IsTrailed, trailer_octets, lan_id};
 
 use crate::trailer::{LAN_A_ID, LAN_B_ID, Lan, SUFFIX, TRAILER_LEN, Trailer};
 use sr_frame::{Frame, FrameFault, FrameView, MAX_FRAME_LEN, MIN_PAYLOAD_LEN, NoMemory, append};

@@ -79,10 +79,6 @@ fn append_waiting<R: Role>(
     ensures node { OnOk result (node_state (R.meaning node.new.role) node.new.core
         ≡ emptied (node_state (R.meaning node.old.role) node.old.core) port) }
 {
-    // Mostly nothing waits, and to ask is cheaper than to take.
-    if node.waiting(port) == 0 {
-        return Ok(());
-    }
     while let Some(parcel) = node.take(port) {
         append_frame(text, port, &parcel.octets)?;
     }

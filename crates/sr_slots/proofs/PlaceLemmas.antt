@@ -9,9 +9,11 @@ use Rattle.std.proofs.lemmas.List.{take_all, drop_all, length-append}
 use Rattle.indexmap.specs.IndexMap.{insert_entry, move_index}
 use Rattle.sr_frame.specs.declared.fields.Mac.{Mac}
 use Rattle.sr_slots.specs.declared.places.Slot.{Slot}
-use Rattle.sr_slots.specs.Places.{mac_eq, entry_at, held_at, entries_of, held_of, slot_of, KeepsHeld}
+use Rattle.sr_frame.specs.Addresses.{mac_eq}
+use Rattle.sr_slots.specs.Places.{entry_at, held_at, entries_of, held_of, slot_of, KeepsHeld}
 use Rattle.sr_slots.specs.Calls.{passing}
-use Rattle.sr_slots.specs.EntryLemmas.{mac_same, mac_refl, one_if, head_differs}
+use Rattle.sr_frame.specs.AddressLemmas.{mac_same, mac_refl}
+use Rattle.sr_slots.specs.EntryLemmas.{one_if, head_differs}
 
 or_true : (b : Bool) → (b || true) ≡ true
 or_true true = refl

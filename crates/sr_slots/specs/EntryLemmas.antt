@@ -1,42 +1,12 @@
 -- Entries by address: a look-up through a write, a new entry and a test of the values.
-use Rattle.std.proofs.Common.{◌≡◌, ℕ, ◌+◌, Bool, true, false, cond, nat_eq, List, [], ◌∷◌, ◌++◌, length, filter, Option, None, Some, is_some, refl, sym, ap, ◌∙◌, subst, arith, eqb-true, eq-eqb}
-use Rattle.std.specs.Cmp.{IsEquivalence}
+use Rattle.std.proofs.Common.{◌≡◌, ℕ, ◌+◌, Bool, true, false, cond, List, [], ◌∷◌, ◌++◌, length, filter, Option, None, Some, is_some, refl, sym, ap, ◌∙◌, subst, arith}
 use Rattle.std.specs.List.{IsDistinct, AllByRecursion}
 use Rattle.std.specs.Map.{lookup, set_value, keys_of}
 use Rattle.std.proofs.lemmas.Map.{lookup-set_value, keys-set_value}
-use lib.Pointwise.{pointwise_decides}
 use Rattle.sr_frame.specs.declared.fields.Mac.{Mac}
-use Rattle.sr_slots.specs.Places.{mac_eq}
+use Rattle.sr_frame.specs.Addresses.{mac_eq}
+use Rattle.sr_frame.specs.AddressLemmas.{mac_same, mac_symm, mac_laws}
 use Rattle.sr_slots.specs.Calls.{passing}
-
--- what `pointwise_decides` asks of numbers
-nat_decides : (x y : ℕ) → (nat_eq x y ≡ true → x ≡ y) × (x ≡ y → nat_eq x y ≡ true)
-nat_decides x y = (λ h. eqb-true x y h, λ h. eq-eqb x y h)
-
--- two addresses are one exactly where `mac_eq` says so
-pub mac_same : (x y : Mac) → mac_eq x y ≡ true → x ≡ y
-mac_same x y h = let e : x.0 ≡ y.0 = (pointwise_decides nat_decides x.0 y.0).0 h in λ j. record { 0 = e j }
-
-pub mac_refl : (x : Mac) → mac_eq x x ≡ true
-mac_refl x = (pointwise_decides nat_decides x.0 x.0).1 refl
-
-both_ways : (a b : Bool) → (a ≡ true → b ≡ true) → (b ≡ true → a ≡ true) → a ≡ b
-both_ways true b h g = sym (h refl)
-both_ways false true h g = g refl
-both_ways false false h g = refl
-
-pub mac_symm : (x y : Mac) → mac_eq x y ≡ mac_eq y x
-mac_symm x y =
-    both_ways (mac_eq x y) (mac_eq y x)
-    (λ e. subst (λ z. mac_eq z x ≡ true) (mac_same x y e) (mac_refl x))
-    (λ e. subst (λ z. mac_eq z y ≡ true) (mac_same y x e) (mac_refl y))
-
-pub mac_laws : IsEquivalence mac_eq
-mac_laws = record {
-  refl = mac_refl;
-  symm = mac_symm;
-  congr = λ x y z e. ap (λ k. mac_eq k z) (mac_same x y e);
-}
 
 -- a test as a number
 abbrev pub one_if : Bool → ℕ

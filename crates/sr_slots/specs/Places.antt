@@ -1,14 +1,10 @@
 -- What a table of addresses shows: its entries in order, and the addresses whose place is held.
-use Rattle.std.specs.Prelude.{◌≡◌, Bool, true, false, nat_eq, List, [], ◌∷◌, ◌++◌, Option, None, Some}
+use Rattle.std.specs.Prelude.{◌≡◌, Bool, true, false, List, [], ◌∷◌, ◌++◌, Option, None, Some}
 use Rattle.std.specs.List.{list_any}
 use Rattle.std.specs.Map.{lookup}
-use Rattle.std.specs.Cmp.Lexicographic.{pointwise}
 use Rattle.sr_frame.specs.declared.fields.Mac.{Mac}
+use Rattle.sr_frame.specs.Addresses.{mac_eq}
 use Rattle.sr_slots.specs.declared.places.Slot.{Slot}
-
--- whether two addresses are one
-abbrev pub mac_eq : Mac → Mac → Bool
-mac_eq x y = pointwise nat_eq x.0 y.0
 
 -- the addresses with their values, in the order in which they came, and the addresses whose place is held
 pub record Places (V : Type 0) : Type 0 where

@@ -3,7 +3,8 @@ ghost use Rattle.std.specs.Prelude.{◌≡◌, ◌++◌, ◌∷◌, [], None, tr
 ghost use Rattle.std.specs.List.{IsDistinct};
 ghost use Rattle.std.specs.Map.{keys_of};
 ghost use Rattle.std.specs.Option.{option_copied};
-ghost use Rattle.sr_slots.specs.Places.{mac_eq, is_held, value_at, KeepsHeld};
+ghost use Rattle.sr_frame.specs.Addresses.{mac_eq};
+ghost use Rattle.sr_slots.specs.Places.{is_held, value_at, KeepsHeld};
 ghost use Rattle.std.specs.Map.Iter.{ShowsInOrder};
 ghost use Rattle.sr_slots.specs.Calls.{ChangesAt, Tests, shown_entry};
 

@@ -1,7 +1,7 @@
 use Rattle.std.proofs.Common.{rules, ◌≡◌, ◌∙◌, ap, is_some}
 use Rattle.std.specs.Map.{set_value}
 use Rattle.std.specs.Option.{option_map}
-use Rattle.sr_slots.specs.Places.{mac_eq}
+use Rattle.sr_frame.specs.Addresses.{mac_eq}
 use Rattle.sr_dup_table.specs.Sources.{heard_next, fresh_at}
 use Rattle.sr_dup_table.specs.Shown.{heard_of, sources_of}
 use Rattle.sr_dup_table.proofs.SourceLemmas.{found-shown, lookup-shown, set-shown}

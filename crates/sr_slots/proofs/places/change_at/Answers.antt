@@ -1,6 +1,7 @@
 use Rattle.std.proofs.Common.{rules, ◌∙◌, sym, ap, Some, false, is_some, arith, length, ◌+◌}
 use Rattle.std.specs.List.{list_any}
-use Rattle.sr_slots.specs.Places.{mac_eq, entries_of, held_of, slot_of}
+use Rattle.sr_frame.specs.Addresses.{mac_eq}
+use Rattle.sr_slots.specs.Places.{entries_of, held_of, slot_of}
 use Rattle.sr_slots.proofs.PlaceLemmas.{lookup-entries, found_value, entries-set, length-held-set, held-set_others, value_in, set_value_same}
 use Rattle.sr_slots.specs.EntryLemmas.{one_if}
 use Rattle.std.proofs.lemmas.Map.{length-set_value}

@@ -1,7 +1,8 @@
 use Rattle.std.proofs.Common.{◌∙◌, ◌||◌, sym, ap, refl, true, false, is_some, arith, length, ◌∷◌, []}
 use Rattle.std.specs.List.{list_any}
-use Rattle.sr_slots.specs.Places.{mac_eq, entries_of, held_of, slot_of}
-use Rattle.sr_slots.specs.EntryLemmas.{mac_refl}
+use Rattle.sr_frame.specs.Addresses.{mac_eq}
+use Rattle.sr_slots.specs.Places.{entries_of, held_of, slot_of}
+use Rattle.sr_frame.specs.AddressLemmas.{mac_refl}
 use Rattle.sr_slots.proofs.PlaceLemmas.{entries-set_same, length-held-set, held-set_others, held-set_own, value_in, held_le, any_behind, one_more}
 use Rattle.sr_slots.proofs.places.hold.Goals as goal
 

@@ -1,7 +1,7 @@
 use Rattle.std.proofs.Common.{◌≡◌, ◌≤◌, ◌∙◌, refl, subst, sym, ap, Some, None, nat_lt, length}
 use Rattle.std.specs.Map.{lookup}
 use Rattle.std.specs.Option.{option_map}
-use Rattle.sr_slots.specs.Places.{mac_eq}
+use Rattle.sr_frame.specs.Addresses.{mac_eq}
 use Rattle.sr_dup_table.specs.Sources.{Table, answer_of, arrive_answer, with_room}
 use Rattle.sr_dup_table.specs.Shown.{heard_of, sources_of}
 use Rattle.sr_dup_table.proofs.SourceLemmas.{full_where, lookup-shown, answer_full, answer_room}

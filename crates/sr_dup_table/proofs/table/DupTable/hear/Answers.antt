@@ -1,5 +1,5 @@
 use Rattle.std.proofs.Common.{◌∙◌}
-use Rattle.sr_slots.specs.Places.{mac_eq}
+use Rattle.sr_frame.specs.Addresses.{mac_eq}
 use Rattle.sr_dup_table.specs.Sources.{heard_next}
 use Rattle.sr_dup_table.specs.Shown.{sources_of}
 use Rattle.sr_dup_table.proofs.SourceLemmas.{later_next, bounded_inexact, bounded_again}

@@ -1,6 +1,6 @@
 use Rattle.std.proofs.Common.{◌∙◌, sym, ap, min, arith}
 use Rattle.std.specs.Map.{lookup}
-use Rattle.sr_slots.specs.Places.{mac_eq}
+use Rattle.sr_frame.specs.Addresses.{mac_eq}
 use Rattle.sr_dup_table.specs.Shown.{heard_of, sources_of}
 use Rattle.sr_dup_table.proofs.SourceLemmas.{none-shown, append-shown, bounded_push, length-shown}
 use Rattle.sr_dup_table.proofs.table.DupTable.put_last.Goals as goal

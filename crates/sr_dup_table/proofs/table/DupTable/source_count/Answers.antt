@@ -1,6 +1,6 @@
 use Rattle.std.proofs.Common.{sym, ap, subst, arith, length}
 use Rattle.std.specs.List.{IsDistinct}
-use Rattle.sr_slots.specs.Places.{mac_eq}
+use Rattle.sr_frame.specs.Addresses.{mac_eq}
 use Rattle.sr_dup_table.specs.Sources.{IsTable}
 use Rattle.sr_dup_table.proofs.SourceLemmas.{keys-shown, length-live_le}
 use Rattle.sr_dup_table.proofs.table.DupTable.source_count.Goals as goal
