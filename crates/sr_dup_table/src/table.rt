@@ -276,7 +276,8 @@ impl DupTable {
         }
     }
 
-    /// Sees to it that `fresh` at this time need not look at each source of a full table. Nothing that shows changes.
+    /// For after a refusal by `fresh` at this time: the next ones need not look at each source of the full table. Nothing
+    /// that shows changes.
     pub fn refresh(&mut self, now: u64)
         ensures { self.new ≡ self.old }
     {

@@ -107,7 +107,7 @@ impl Core {
         Ok(outlets_on(fresh, wanted))
     }
 
-    /// Makes `fresh` at this time cheap, also where the table is full. Nothing that shows changes.
+    /// After a refusal at this time: the next one looks at no source but its own. Nothing that shows changes.
     pub(crate) fn refresh(&mut self, now: u64)
         ensures { shown self.new ≡ shown self.old }
     {

@@ -130,6 +130,18 @@ impl<R: Role> NodeOf<R> {
         Ok(())
     }
 
+    // Answers with a refusal at this time, and sees to it that the next ones cost little. Nothing that shows changes.
+    fn refuse(&mut self, fault: StepFault, at: u64) -> StepFault
+        ensures fault { result ≡ fault }
+        ensures same { node_state (R.meaning self.new.role) self.new.core
+            ≡ node_state (R.meaning self.old.role) self.old.core }
+    {
+        if fault == StepFault::TableFull {
+            self.core.refresh(at);
+        }
+        fault
+    }
+
     // Takes a frame that was read.
     fn take_in(
         &mut self,
@@ -148,8 +160,11 @@ impl<R: Role> NodeOf<R> {
             ≡ node_state (R.meaning self.old.role) self.old.core) }
     {
         let at = self.core.time_at(now);
-        self.core.refresh(at);
-        match self.plan(port, &incoming.header, now)? {
+        let plan = match self.plan(port, &incoming.header, now) {
+            Ok(plan) => plan,
+            Err(fault) => return Err(self.refuse(fault, at)),
+        };
+        match plan {
             Plan::Own => {
                 self.core.set_time(at);
                 Ok(Answer::Own)

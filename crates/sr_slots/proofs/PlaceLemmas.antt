@@ -242,6 +242,50 @@ module _ {V : Type 0} where
   pub added_held : (m : Mac) (s : Slot V) (es new : List (Mac × Slot V)) → new ≡ es ++ (m, s) ∷ [] → held_of new ≡ held_of es ++ held_at m s.held
   added_held m s es new is = ap held_of is ∙ held-append es ((m, s) ∷ []) ∙ ap (λ l. held_of es ++ l) (append-nil (held_at m s.held))
 
+  -- a place of the address is held now, and was held before or not; nothing else changed
+  pub record IsHeld (m : Mac) (was_held : Bool) (es new : List (Mac × Slot V)) : Type 0 where
+    pub entries : entries_of new ≡ entries_of es
+    pub own : list_any (mac_eq m) (held_of new) ≡ true
+    pub len : length (held_of new) ≡ length (held_of es) + one_if (not was_held)
+    pub others : KeepsHeld (held_of es) (held_of new) m
+
+  -- `insert` at an address that has a place writes it
+  insert-there : (m : Mac) (s w : Slot V) (es : List (Mac × Slot V)) → lookup (mac_eq m) es ≡ Some s → insert_entry mac_eq es m w ≡ set_value (mac_eq m) es w
+  insert-there m s w [] h = cc
+  insert-there m s w (e ∷ es) h = by (mac_eq m e.0) h (insert-there m s w es)
+    where
+      by : (t : Bool) → cond t (Some e.1) (lookup (mac_eq m) es) ≡ Some s → (lookup (mac_eq m) es ≡ Some s → insert_entry mac_eq es m w ≡ set_value (mac_eq m) es w)
+          → cond t ((e.0, w) ∷ es) (e ∷ insert_entry mac_eq es m w) ≡ cond t ((e.0, w) ∷ es) (e ∷ set_value (mac_eq m) es w)
+      by true h ih = refl
+      by false h ih = ap (λ l. e ∷ l) (ih h)
+
+  pub held_there : (m : Mac) (s : Slot V) (es new : List (Mac × Slot V)) → lookup (mac_eq m) es ≡ Some s → new ≡ insert_entry mac_eq es m (slot_of s.value true) → IsHeld m s.held es new
+  held_there m s es new there is =
+      let w = slot_of s.value true in
+      let set : new ≡ set_value (mac_eq m) es w = is ∙ insert-there m s w es there in
+      record {
+        entries = ap entries_of set ∙ entries-set_same m s.value true es (ap value_in there);
+        own = ap (λ l. list_any (mac_eq m) (held_of l)) set ∙ held-set_own m w es (ap is_some there) refl;
+        len = ap (λ l. length (held_of l)) set ∙ one_more s.held _ _ (length-held-set m s w es there);
+        others = λ q other. ap (λ l. list_any (mac_eq q) (held_of l)) set ∙ held-set_others m w es q other;
+      }
+
+  pub held_last : (m : Mac) (es new : List (Mac × Slot V)) → new ≡ es ++ (m, slot_of None true) ∷ [] → IsHeld m false es new
+  held_last m es new is =
+      let held : held_of new ≡ held_of es ++ m ∷ [] = added_held m (slot_of None true) es new is in
+      record {
+        entries = added_entries m (slot_of None true) es new is ∙ append-nil (entries_of es);
+        own = ap (list_any (mac_eq m)) held ∙ any_behind m (held_of es) (m ∷ []) (ap (λ b. b || false) (mac_refl m));
+        len = ap length held ∙ length-append (held_of es) (m ∷ []);
+        others = λ q other. ap (list_any (mac_eq q)) held ∙ any_held q m true (held_of es) [] other ∙ ap (list_any (mac_eq q)) (append-nil (held_of es));
+      }
+
+  -- the address has this value, which stands last, and its place was held before or not; nothing else changed
+  pub record IsPutLast (m : Mac) (w : V) (was_held : Bool) (es new : List (Mac × Slot V)) : Type 0 where
+    pub entries : entries_of new ≡ entries_of es ++ (m, w) ∷ []
+    pub len : length (held_of new) + one_if was_held ≡ length (held_of es)
+    pub others : KeepsHeld (held_of es) (held_of new) m
+
   -- the places round the one of an address
   pub record Split (m : Mac) (s : Slot V) (es : List (Mac × Slot V)) : Type 0 where
     pub front : List (Mac × Slot V)
@@ -288,14 +332,14 @@ module _ {V : Type 0} where
         ∙ (λ j. move_index (w j) ((ap (λ l. position_or_len (mac_eq m) (keys_of l)) r.is ∙ place r.front r.back m s r.before) j) last)
         ∙ moved r.front r.back (m, v) last (is_last ∙ ap (λ k. k - 1) n)
 
-    pub last_entries : s.value ≡ None → entries_of new ≡ entries_of es ++ entry_at m v.value
+    last_entries : s.value ≡ None → entries_of new ≡ entries_of es ++ entry_at m v.value
     last_entries none =
         let r = split m s es there in
         let was : entries_of es ≡ entries_of r.front ++ entries_of r.back = ap entries_of r.is ∙ entries-append r.front ((m, s) ∷ r.back) ∙ ap (λ o. entries_of r.front ++ (entry_at m o ++ entries_of r.back)) none in
         added_entries m v (r.front ++ r.back) new last_places
         ∙ ap (λ l. l ++ entry_at m v.value) (entries-append r.front r.back ∙ sym was)
 
-    pub last_held : KeepsHeld (held_of es) (held_of new) m
+    last_held : KeepsHeld (held_of es) (held_of new) m
     last_held q other =
         let r = split m s es there in
         ap (list_any (mac_eq q)) (added_held m v (r.front ++ r.back) new last_places ∙ ap (λ l. held_of (r.front ++ r.back) ++ l) (sym (append-nil (held_at m v.held))))
@@ -303,7 +347,7 @@ module _ {V : Type 0} where
         ∙ ap (list_any (mac_eq q)) (append-nil (held_of (r.front ++ r.back)) ∙ held-append r.front r.back)
         ∙ sym (ap (list_any (mac_eq q)) (ap held_of r.is ∙ held-append r.front ((m, s) ∷ r.back)) ∙ any_held q m s.held (held_of r.front) (held_of r.back) other)
 
-    pub length-last_held : length (held_of new) + one_if s.held ≡ length (held_of es) + one_if v.held
+    length-last_held : length (held_of new) + one_if s.held ≡ length (held_of es) + one_if v.held
     length-last_held =
         let r = split m s es there in
         let a : held_of es ≡ held_of r.front ++ (held_at m s.held ++ held_of r.back) = ap held_of r.is ∙ held-append r.front ((m, s) ∷ r.back) in
@@ -319,6 +363,22 @@ module _ {V : Type 0} where
           length-append (held_of r.front) (held_of r.back),
           length-held_at m v.held [],
         )
+
+    pub put_moved : s.value ≡ None → {w : V} → v ≡ slot_of (Some w) false → IsPutLast m w s.held es new
+    put_moved none is_v = record {
+      entries = last_entries none ∙ ap (λ u. entries_of es ++ entry_at m u.value) is_v;
+      len = length-last_held ∙ ap (λ u. length (held_of es) + one_if u.held) is_v ∙ omega arith;
+      others = last_held;
+    }
+
+  pub put_new : (m : Mac) (w : V) (es new : List (Mac × Slot V)) → new ≡ es ++ (m, slot_of (Some w) false) ∷ [] → IsPutLast m w false es new
+  put_new m w es new is =
+      let held : held_of new ≡ held_of es = added_held m (slot_of (Some w) false) es new is ∙ append-nil (held_of es) in
+      record {
+        entries = added_entries m (slot_of (Some w) false) es new is;
+        len = ap (λ l. length l + 0) held ∙ omega arith;
+        others = λ q other. ap (list_any (mac_eq q)) held;
+      }
 
   -- `release`
   release_by : (m : Mac) (r : Option V) (rest : List (Mac × Slot V)) (ys : List (Mac × V)) → entries_of rest ≡ ys → entries_of (cond (is_some r) ((m, slot_of r false) ∷ rest) rest) ≡ entry_at m r ++ ys

@@ -10,6 +10,7 @@ ghost use Rattle.sr_slots.specs.Places.{entries_of, held_of, entry_at, held_at, 
 ghost use Rattle.sr_slots.specs.Calls.{ChangesAt, Tests, passing};
 
 use indexmap::IndexMap;
+use indexmap::map::Entry;
 use sr_frame::{Mac, NoMemory};
 
 /// A place: its value, if there is one, and whether it is held.
@@ -82,47 +83,24 @@ pub fn put_last<V: Drop>(
     ensures fits { length (entries_of map.old.entries) < 2 ^ 63 }
     ensures err { OnErr result (map.new.entries ≡ map.old.entries) }
 {
-    // The length is the bound of the entries.
-    let _places = map.len();
+    let places = map.len();
     let slot = Slot {
         value: Some(value),
         held: false,
     };
-    if map.contains_key(&key) {
-        Ok(move_last(map, key, slot))
-    } else {
-        add(map, key, slot)?;
-        Ok(false)
-    }
-}
-
-// Writes at an address that has a place without a value, and moves the place to the end.
-fn move_last<V: Drop>(map: &mut IndexMap<Mac, Slot<V>>, key: Mac, slot: Slot<V>) -> bool
-    requires place { is_some (lookup (mac_eq key) map.old.entries) ≡ true }
-    requires free { lookup (mac_eq key) (entries_of map.old.entries) ≡ None }
-    requires value { is_some slot.value ≡ true }
-    requires used { slot.held ≡ false }
-    ensures entries { entries_of map.new.entries ≡ entries_of map.old.entries ++ entry_at key slot.value }
-    ensures held { length (held_of map.new.entries) + (if result then 1 else 0) ≡ length (held_of map.old.entries) }
-    ensures others { KeepsHeld (held_of map.old.entries) (held_of map.new.entries) key }
-{
-    let last = map.len() - 1;
-    match map.shift_insert(last, key, slot).unwrap() {
-        Some(old) => old.held,
-        None => false,
-    }
-}
-
-// Adds an address that has no place.
-fn add<V: Drop>(map: &mut IndexMap<Mac, Slot<V>>, key: Mac, slot: Slot<V>) -> Result<(), NoMemory>
-    requires { lookup (mac_eq key) map.old.entries ≡ None }
-    ensures entries { OnOk result (entries_of map.new.entries ≡ entries_of map.old.entries ++ entry_at key slot.value) }
-    ensures held { OnOk result (held_of map.new.entries ≡ held_of map.old.entries ++ held_at key slot.held) }
-    ensures err { OnErr result (map.new.entries ≡ map.old.entries) }
-{
-    match map.insert(key, slot) {
-        Ok(_) => Ok(()),
-        Err(_) => Err(NoMemory),
+    let Ok(entry) = map.entry(key) else {
+        return Err(NoMemory);
+    };
+    match entry {
+        Entry::Occupied(mut entry) => {
+            let old = entry.insert(slot);
+            entry.move_index(places - 1);
+            Ok(old.held)
+        }
+        Entry::Vacant(entry) => {
+            entry.insert(slot);
+            Ok(false)
+        }
     }
 }
 
@@ -135,19 +113,23 @@ pub fn hold<V: Drop>(map: &mut IndexMap<Mac, Slot<V>>, key: Mac) -> Result<bool,
     ensures others { OnOk result (KeepsHeld (held_of map.old.entries) (held_of map.new.entries) key) }
     ensures err { OnErr result (map.new.entries ≡ map.old.entries) }
 {
+    // The length is the bound of the places.
     let _places = map.len();
-    match map.get_mut(&key) {
-        Some(slot) => {
+    let Ok(entry) = map.entry(key) else {
+        return Err(NoMemory);
+    };
+    match entry {
+        Entry::Occupied(entry) => {
+            let slot = entry.into_mut();
             let newly = !slot.held;
             slot.held = true;
             Ok(newly)
         }
-        None => {
-            let slot = Slot {
+        Entry::Vacant(entry) => {
+            entry.insert(Slot {
                 value: None,
                 held: true,
-            };
-            add(map, key, slot)?;
+            });
             Ok(true)
         }
     }

@@ -1,41 +1,73 @@
-use Rattle.std.proofs.Common.{◌∙◌, ◌||◌, sym, ap, refl, true, false, is_some, arith, length, ◌∷◌, []}
-use Rattle.std.specs.List.{list_any}
+use Rattle.std.proofs.Common.{◌≡◌, ◌∙◌, Some, None, true, arith}
+use Rattle.std.specs.Map.{lookup}
+use Rattle.indexmap.specs.Entry.{map_with_value}
+use Rattle.indexmap.proofs.CallerLemmas.{insert_entry-new}
 use Rattle.sr_frame.specs.Addresses.{mac_eq}
-use Rattle.sr_slots.specs.Places.{entries_of, held_of, slot_of}
-use Rattle.sr_frame.specs.AddressLemmas.{mac_refl}
-use Rattle.sr_slots.proofs.PlaceLemmas.{entries-set_same, length-held-set, held-set_others, held-set_own, value_in, held_le, any_behind, one_more}
+use Rattle.sr_slots.specs.Places.{slot_of}
+use Rattle.sr_slots.proofs.PlaceLemmas.{held_there, held_last, held_le}
 use Rattle.sr_slots.proofs.places.hold.Goals as goal
 
-pub returns-in_err-add-in-None-clause-fits : goal.returns-in_err-add-in-None-clause-fits
-returns-in_err-add-in-None-clause-fits g c = omega (arith, held_le c.args.map.now.entries)
+pub returns-in_default-clause-fits : goal.returns-in_default-clause-fits
+returns-in_default-clause-fits g c = omega (arith, held_le c.args.map.now.entries)
 
-pub returns-in-Some-clause-entries : goal.returns-in-Some-clause-entries
-returns-in-Some-clause-entries g c =
-    let w = slot_of c.in-Some.slot.now.value true in
-    ap entries_of (c.get_mut.follows.holds w).0 ∙ entries-set_same c.args.key c.in-Some.slot.now.value true c.args.map.now.entries (ap value_in (sym c.in-Some.ensures.value))
+pub returns-in-Occupied-clause-fits : goal.returns-in-Occupied-clause-fits
+returns-in-Occupied-clause-fits g c = omega (arith, held_le c.args.map.now.entries)
 
-pub returns-in-Some-clause-held : goal.returns-in-Some-clause-held
-returns-in-Some-clause-held g c =
-    let w = slot_of c.in-Some.slot.now.value true in
-    ap (λ l. list_any (mac_eq c.args.key) (held_of l)) (c.get_mut.follows.holds w).0 ∙ held-set_own c.args.key w c.args.map.now.entries (ap is_some (sym c.in-Some.ensures.value)) refl
+pub returns-in-Vacant-clause-fits : goal.returns-in-Vacant-clause-fits
+returns-in-Vacant-clause-fits g c = omega (arith, held_le c.args.map.now.entries)
 
-pub returns-in-Some-clause-len : goal.returns-in-Some-clause-len
-returns-in-Some-clause-len g c =
-    let w = slot_of c.in-Some.slot.now.value true in
-    ap (λ l. length (held_of l)) (c.get_mut.follows.holds w).0
-    ∙ one_more c.in-Some.slot.now.held _ _ (length-held-set c.args.key c.in-Some.slot.now w c.args.map.now.entries (sym c.in-Some.ensures.value))
+pub returns-in-Occupied-clause-entries : goal.returns-in-Occupied-clause-entries
+returns-in-Occupied-clause-entries g c =
+    let was = c.into_mut-slot.result.now in
+    let there : lookup (mac_eq c.args.key) c.args.map.now.entries ≡ Some was = grind (arith, c.in-Ok.ensures.value, c.into_mut-slot.ensures.value, c.in-Occupied.is) in
+    let holds = held_there c.args.key was c.args.map.now.entries (map_with_value c.in-Ok.entry (slot_of was.value true)).entries there (c.in-Ok.ensures.update.1 _) in
+    grind (arith, holds.entries, c.in-Ok.ensures.same_map, c.in-Occupied.is)
 
-pub returns-in-Some-clause-fits : goal.returns-in-Some-clause-fits
-returns-in-Some-clause-fits g c = omega (arith, held_le c.args.map.now.entries)
+pub returns-in-Occupied-clause-held : goal.returns-in-Occupied-clause-held
+returns-in-Occupied-clause-held g c =
+    let was = c.into_mut-slot.result.now in
+    let there : lookup (mac_eq c.args.key) c.args.map.now.entries ≡ Some was = grind (arith, c.in-Ok.ensures.value, c.into_mut-slot.ensures.value, c.in-Occupied.is) in
+    let holds = held_there c.args.key was c.args.map.now.entries (map_with_value c.in-Ok.entry (slot_of was.value true)).entries there (c.in-Ok.ensures.update.1 _) in
+    grind (arith, holds.own, c.in-Ok.ensures.same_map, c.in-Occupied.is)
 
-pub returns-in-Some-clause-others : goal.returns-in-Some-clause-others
-returns-in-Some-clause-others g c other apart =
-    let w = slot_of c.in-Some.slot.now.value true in
-    ap (λ l. list_any (mac_eq other) (held_of l)) (c.get_mut.follows.holds w).0 ∙ held-set_others c.args.key w c.args.map.now.entries other apart
+pub returns-in-Occupied-clause-len : goal.returns-in-Occupied-clause-len
+returns-in-Occupied-clause-len g c =
+    let was = c.into_mut-slot.result.now in
+    let there : lookup (mac_eq c.args.key) c.args.map.now.entries ≡ Some was = grind (arith, c.in-Ok.ensures.value, c.into_mut-slot.ensures.value, c.in-Occupied.is) in
+    let holds = held_there c.args.key was c.args.map.now.entries (map_with_value c.in-Ok.entry (slot_of was.value true)).entries there (c.in-Ok.ensures.update.1 _) in
+    grind (arith, holds.len, c.in-Ok.ensures.same_map, c.in-Occupied.is)
 
-pub returns-in_ok-add-in-None-clause-held : goal.returns-in_ok-add-in-None-clause-held
-returns-in_ok-add-in-None-clause-held g c =
-    ap (list_any (mac_eq c.args.key)) c.in_ok-add-in-None.ensures.held ∙ any_behind c.args.key _ (c.args.key ∷ []) (ap (λ b. b || false) (mac_refl c.args.key))
+pub returns-in-Occupied-clause-others : goal.returns-in-Occupied-clause-others
+returns-in-Occupied-clause-others g c other apart =
+    let was = c.into_mut-slot.result.now in
+    let there : lookup (mac_eq c.args.key) c.args.map.now.entries ≡ Some was = grind (arith, c.in-Ok.ensures.value, c.into_mut-slot.ensures.value, c.in-Occupied.is) in
+    let holds = held_there c.args.key was c.args.map.now.entries (map_with_value c.in-Ok.entry (slot_of was.value true)).entries there (c.in-Ok.ensures.update.1 _) in
+    grind (arith, holds.others other apart, c.in-Ok.ensures.same_map, c.in-Occupied.is)
 
-pub returns-in_ok-add-in-None-clause-fits : goal.returns-in_ok-add-in-None-clause-fits
-returns-in_ok-add-in-None-clause-fits g c = omega (arith, held_le c.args.map.now.entries)
+pub returns-in-Vacant-clause-entries : goal.returns-in-Vacant-clause-entries
+returns-in-Vacant-clause-entries g c =
+    let absent : lookup (mac_eq c.args.key) c.args.map.now.entries ≡ None = grind (arith, c.in-Ok.ensures.found, c.in-Vacant.is) in
+    let last = insert_entry-new mac_eq c.args.map.now c.args.key (slot_of None true) absent in
+    let holds = held_last c.args.key c.args.map.now.entries (map_with_value c.in-Ok.entry (slot_of None true)).entries (c.in-Ok.ensures.update.1 _ ∙ last) in
+    grind (arith, holds.entries, c.in-Ok.ensures.same_map, c.in-Vacant.is)
+
+pub returns-in-Vacant-clause-held : goal.returns-in-Vacant-clause-held
+returns-in-Vacant-clause-held g c =
+    let absent : lookup (mac_eq c.args.key) c.args.map.now.entries ≡ None = grind (arith, c.in-Ok.ensures.found, c.in-Vacant.is) in
+    let last = insert_entry-new mac_eq c.args.map.now c.args.key (slot_of None true) absent in
+    let holds = held_last c.args.key c.args.map.now.entries (map_with_value c.in-Ok.entry (slot_of None true)).entries (c.in-Ok.ensures.update.1 _ ∙ last) in
+    grind (arith, holds.own, c.in-Ok.ensures.same_map, c.in-Vacant.is)
+
+pub returns-in-Vacant-clause-len : goal.returns-in-Vacant-clause-len
+returns-in-Vacant-clause-len g c =
+    let absent : lookup (mac_eq c.args.key) c.args.map.now.entries ≡ None = grind (arith, c.in-Ok.ensures.found, c.in-Vacant.is) in
+    let last = insert_entry-new mac_eq c.args.map.now c.args.key (slot_of None true) absent in
+    let holds = held_last c.args.key c.args.map.now.entries (map_with_value c.in-Ok.entry (slot_of None true)).entries (c.in-Ok.ensures.update.1 _ ∙ last) in
+    grind (arith, holds.len, c.in-Ok.ensures.same_map, c.in-Vacant.is)
+
+pub returns-in-Vacant-clause-others : goal.returns-in-Vacant-clause-others
+returns-in-Vacant-clause-others g c other apart =
+    let absent : lookup (mac_eq c.args.key) c.args.map.now.entries ≡ None = grind (arith, c.in-Ok.ensures.found, c.in-Vacant.is) in
+    let last = insert_entry-new mac_eq c.args.map.now c.args.key (slot_of None true) absent in
+    let holds = held_last c.args.key c.args.map.now.entries (map_with_value c.in-Ok.entry (slot_of None true)).entries (c.in-Ok.ensures.update.1 _ ∙ last) in
+    grind (arith, holds.others other apart, c.in-Ok.ensures.same_map, c.in-Vacant.is)

@@ -1,17 +1,82 @@
-use Rattle.std.proofs.Common.{◌≡◌, ◌∙◌, sym, true, false, arith}
-use Rattle.sr_slots.proofs.PlaceLemmas.{held_absent, none_from, entries_le}
+use Rattle.std.proofs.Common.{◌≡◌, ◌∙◌, ◌-◌, Some, None, true, false, sym, refl, ap, arith}
+use Rattle.std.specs.List.{position_or_len}
+use Rattle.std.specs.Map.{lookup, keys_of}
+use Rattle.indexmap.specs.Entry.{map_with_value}
+use Rattle.indexmap.specs.IndexMap.{insert_entry, move_index}
+use Rattle.indexmap.proofs.CallerLemmas.{insert_entry-new}
+use Rattle.sr_frame.specs.Addresses.{mac_eq}
+use Rattle.sr_slots.specs.Places.{slot_of}
+use Rattle.sr_slots.proofs.PlaceLemmas.{found_value, put_moved, put_new, held_absent, entries_le}
 use Rattle.sr_slots.proofs.places.put_last.Goals as goal
 
-pub returns-in_err-add-clause-reserved : goal.returns-in_err-add-clause-reserved
-returns-in_err-add-clause-reserved g c held =
-    let bad : true ≡ false = sym held ∙ held_absent c.args.key c.args.map.now.entries (none_from _ c.if-contains_key.ensures) in
+pub returns-in_default-clause-reserved : goal.returns-in_default-clause-reserved
+returns-in_default-clause-reserved g c held =
+    let absent : lookup (mac_eq c.args.key) c.args.map.now.entries ≡ None = grind (arith, c.in_default.ensures.absent) in
+    let bad : true ≡ false = sym held ∙ held_absent c.args.key c.args.map.now.entries absent in
     cc
 
-pub returns-in_err-add-clause-fits : goal.returns-in_err-add-clause-fits
-returns-in_err-add-clause-fits g c = omega (arith, entries_le c.args.map.now.entries)
+pub returns-in_default-clause-fits : goal.returns-in_default-clause-fits
+returns-in_default-clause-fits g c = omega (arith, entries_le c.args.map.now.entries)
 
-pub returns-then-contains_key-clause-fits : goal.returns-then-contains_key-clause-fits
-returns-then-contains_key-clause-fits g c = omega (arith, entries_le c.args.map.now.entries)
+pub returns-in-Occupied-clause-fits : goal.returns-in-Occupied-clause-fits
+returns-in-Occupied-clause-fits g c = omega (arith, entries_le c.args.map.now.entries)
 
-pub returns-in_ok-add-clause-fits : goal.returns-in_ok-add-clause-fits
-returns-in_ok-add-clause-fits g c = omega (arith, entries_le c.args.map.now.entries)
+pub returns-in-Vacant-clause-fits : goal.returns-in-Vacant-clause-fits
+returns-in-Vacant-clause-fits g c = omega (arith, entries_le c.args.map.now.entries)
+
+pub returns-in-Occupied-clause-entries : goal.returns-in-Occupied-clause-entries
+returns-in-Occupied-clause-entries g c =
+    let es = c.args.map.now.entries in
+    let slot = slot_of (Some c.args.value) false in
+    let there : lookup (mac_eq c.args.key) es ≡ Some c.insert-old.result = grind (arith, c.in-Ok.ensures.value, c.insert-old.ensures.old, c.in-Occupied.is) in
+    let is : c.move_index.new.self.0.entries ≡ move_index (insert_entry mac_eq es c.args.key slot) (position_or_len (mac_eq c.args.key) (keys_of es)) (c.len-places.result - 1) =
+    grind (arith, c.move_index.ensures.entries, c.in-Ok.ensures.update.1 slot, c.in-Ok.ensures.index, c.in-Occupied.is, c.insert-old.ensures.written) in
+    let free = sym (found_value c.args.key c.insert-old.result es c.len-places.ensures.unique there) ∙ c.requires in
+    let put = put_moved c.args.key c.insert-old.result es there slot _ (ap (λ n. n - 1) c.len-places.ensures.len) _ is free refl in
+    grind (arith, put.entries, c.in-Ok.ensures.same_map, c.insert-old.ensures.written.0, c.in-Occupied.is)
+
+pub returns-in-Occupied-clause-held : goal.returns-in-Occupied-clause-held
+returns-in-Occupied-clause-held g c =
+    let es = c.args.map.now.entries in
+    let slot = slot_of (Some c.args.value) false in
+    let there : lookup (mac_eq c.args.key) es ≡ Some c.insert-old.result = grind (arith, c.in-Ok.ensures.value, c.insert-old.ensures.old, c.in-Occupied.is) in
+    let is : c.move_index.new.self.0.entries ≡ move_index (insert_entry mac_eq es c.args.key slot) (position_or_len (mac_eq c.args.key) (keys_of es)) (c.len-places.result - 1) =
+    grind (arith, c.move_index.ensures.entries, c.in-Ok.ensures.update.1 slot, c.in-Ok.ensures.index, c.in-Occupied.is, c.insert-old.ensures.written) in
+    let free = sym (found_value c.args.key c.insert-old.result es c.len-places.ensures.unique there) ∙ c.requires in
+    let put = put_moved c.args.key c.insert-old.result es there slot _ (ap (λ n. n - 1) c.len-places.ensures.len) _ is free refl in
+    grind (arith, put.len, c.in-Ok.ensures.same_map, c.insert-old.ensures.written.0, c.in-Occupied.is)
+
+pub returns-in-Occupied-clause-others : goal.returns-in-Occupied-clause-others
+returns-in-Occupied-clause-others g c other apart =
+    let es = c.args.map.now.entries in
+    let slot = slot_of (Some c.args.value) false in
+    let there : lookup (mac_eq c.args.key) es ≡ Some c.insert-old.result = grind (arith, c.in-Ok.ensures.value, c.insert-old.ensures.old, c.in-Occupied.is) in
+    let is : c.move_index.new.self.0.entries ≡ move_index (insert_entry mac_eq es c.args.key slot) (position_or_len (mac_eq c.args.key) (keys_of es)) (c.len-places.result - 1) =
+    grind (arith, c.move_index.ensures.entries, c.in-Ok.ensures.update.1 slot, c.in-Ok.ensures.index, c.in-Occupied.is, c.insert-old.ensures.written) in
+    let free = sym (found_value c.args.key c.insert-old.result es c.len-places.ensures.unique there) ∙ c.requires in
+    let put = put_moved c.args.key c.insert-old.result es there slot _ (ap (λ n. n - 1) c.len-places.ensures.len) _ is free refl in
+    grind (arith, put.others other apart, c.in-Ok.ensures.same_map, c.insert-old.ensures.written.0, c.in-Occupied.is)
+
+pub returns-in-Vacant-clause-entries : goal.returns-in-Vacant-clause-entries
+returns-in-Vacant-clause-entries g c =
+    let slot = slot_of (Some c.args.value) false in
+    let absent : lookup (mac_eq c.args.key) c.args.map.now.entries ≡ None = grind (arith, c.in-Ok.ensures.found, c.in-Vacant.is) in
+    let last = insert_entry-new mac_eq c.args.map.now c.args.key slot absent in
+    let put = put_new c.args.key c.args.value c.args.map.now.entries (map_with_value c.in-Ok.entry slot).entries (c.in-Ok.ensures.update.1 slot ∙ last) in
+    grind (arith, put.entries, c.in-Ok.ensures.same_map, c.in-Vacant.is)
+
+pub returns-in-Vacant-clause-held : goal.returns-in-Vacant-clause-held
+returns-in-Vacant-clause-held g c =
+    let slot = slot_of (Some c.args.value) false in
+    let absent : lookup (mac_eq c.args.key) c.args.map.now.entries ≡ None = grind (arith, c.in-Ok.ensures.found, c.in-Vacant.is) in
+    let last = insert_entry-new mac_eq c.args.map.now c.args.key slot absent in
+    let put = put_new c.args.key c.args.value c.args.map.now.entries (map_with_value c.in-Ok.entry slot).entries (c.in-Ok.ensures.update.1 slot ∙ last) in
+    grind (arith, put.len, c.in-Ok.ensures.same_map, c.in-Vacant.is)
+
+pub returns-in-Vacant-clause-others : goal.returns-in-Vacant-clause-others
+returns-in-Vacant-clause-others g c other apart =
+    let slot = slot_of (Some c.args.value) false in
+    let absent : lookup (mac_eq c.args.key) c.args.map.now.entries ≡ None = grind (arith, c.in-Ok.ensures.found, c.in-Vacant.is) in
+    let last = insert_entry-new mac_eq c.args.map.now c.args.key slot absent in
+    let put = put_new c.args.key c.args.value c.args.map.now.entries (map_with_value c.in-Ok.entry slot).entries (c.in-Ok.ensures.update.1 slot ∙ last) in
+    grind (arith, put.others other apart, c.in-Ok.ensures.same_map, c.in-Vacant.is)
