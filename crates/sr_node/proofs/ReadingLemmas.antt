@@ -1,5 +1,5 @@
 -- Octets are read as one arrival at most.
-use Rattle.std.proofs.Common.{◌≡◌, ℕ, ◌+◌, ◌*◌, ◌<◌, ◌^◌, List, [], ◌∷◌, ◌++◌, length, Some, refl, sym, ap, ◌∙◌, arith, subst, not}
+use Rattle.std.proofs.Common.{◌≡◌, Bool, true, false, IsTrue, ℕ, ◌+◌, ◌*◌, ◌<◌, ◌^◌, List, [], ◌∷◌, ◌++◌, length, Some, refl, sym, ap, ◌∙◌, arith, subst, not}
 use Rattle.std.specs.Int.{w16, to_be_bytes, from_be_bytes}
 use Rattle.std.proofs.lemmas.List.{length-append}
 use Rattle.std.proofs.lemmas.Nat.{from_be_bytes-to_be_bytes_2}
@@ -12,9 +12,10 @@ use Rattle.sr_prp_trailer.specs.Trailed.{IsTrailed, trailer_octets, lan_id}
 use Rattle.sr_prp_trailer.specs.declared.trailer.Lan.{Lan}
 use Rattle.sr_prp_trailer.specs.declared.trailer.Lan.TheVariants as lan
 use Rattle.sr_prp_trailer.specs.declared.trailer.Trailer.{Trailer}
+use Rattle.sr_supervision.specs.Supervised.{IsAddressed}
 use Rattle.sr_node.specs.declared.parcels.Form.{Form}
 use Rattle.sr_node.specs.declared.parcels.Form.TheVariants.{Plain, Hsr, Prp}
-use Rattle.sr_node.specs.Arrivals.{Arrival, IsRead, IsReadAt, IsReadInLan, IsReadPlain, IsUnnumbered, is_supervision, same_lan}
+use Rattle.sr_node.specs.Arrivals.{Arrival, IsRead, IsReadAt, IsReadInLan, IsReadPlain, IsUnnumbered, same_lan}
 
 number_once : (m n : ℕ) → m < 2 ^ 16 → n < 2 ^ 16 → to_be_bytes w16 m ≡ to_be_bytes w16 n → m ≡ n
 number_once m n p q e = sym (from_be_bytes-to_be_bytes_2 m p) ∙ ap (from_be_bytes w16) e ∙ from_be_bytes-to_be_bytes_2 n q
@@ -96,6 +97,12 @@ at_once port.A q r octets a b = from_once lan.A q.form r.form q r refl refl octe
 at_once port.B q r octets a b = from_once lan.B q.form r.form q r refl refl octets a b
 at_once port.C q r octets a b = plain_once q.form r.form q r refl refl octets a b
 
+same_truth : (x y : Bool) → (IsTrue x → IsTrue y) → (IsTrue y → IsTrue x) → x ≡ y
+same_truth true true f g = refl
+same_truth false false f g = refl
+same_truth true false f g = let t = f refl in cc
+same_truth false true f g = let t = g refl in cc
+
 same_mac : (x y : Mac) → x.0 ≡ y.0 → x ≡ y
 same_mac x y e = λ j. record { 0 = e j }
 
@@ -106,10 +113,7 @@ read_once p octets q r a b =
     let dst : q.header.dst ≡ r.header.dst = same_mac q.header.dst r.header.dst (a.header.2.dst ∙ ap (λ (f : Fields). f.dst) fields ∙ sym b.header.2.dst) in
     let src : q.header.src ≡ r.header.src = same_mac q.header.src r.header.src (a.header.2.src ∙ ap (λ (f : Fields). f.src) fields ∙ sym b.header.2.src) in
     let kind : q.header.supervision ≡ r.header.supervision =
-    a.header.2.supervision
-    ∙ ap (λ (m : Mac). is_supervision m a.header.0.kind) dst
-    ∙ ap (λ (f : Fields). is_supervision r.header.dst f.kind) fields
-    ∙ sym b.header.2.supervision in
+    same_truth _ _ (λ t. b.header.2.supervision.1 (subst IsAddressed fields (a.header.2.supervision.0 t))) (λ t. a.header.2.supervision.1 (subst IsAddressed (sym fields) (b.header.2.supervision.0 t))) in
     let same = at_once p q r whole a.form b.form in
     λ j. record {
       header = record { dst = dst j; src = src j; seq = same.seq j; path = same.path j; supervision = kind j };

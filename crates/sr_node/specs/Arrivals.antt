@@ -1,28 +1,19 @@
 -- What the octets at a port are read as.
-use Rattle.std.specs.Prelude.{◌≡◌, ℕ, ◌==◌, nat_lt, length, Bool, false, not, ◌&&◌, List, [], ◌∷◌, Option, None, Some, if◌then◌else◌}
+use Rattle.std.specs.Prelude.{◌≡◌, ℕ, ◌==◌, nat_lt, length, Bool, IsTrue, ◌↔◌, false, not, List, Option, None, Some, if◌then◌else◌}
 use Rattle.sr_frame.specs.Frame.{Fields, IsFrame, least_len}
-use Rattle.sr_frame.specs.declared.fields.Mac.{Mac}
 use Rattle.sr_frame.specs.declared.ports.Port.{Port}
 use Rattle.sr_frame.specs.declared.ports.Port.TheVariants as port
 use Rattle.sr_prp_trailer.specs.Trailed.{IsTrailed}
 use Rattle.sr_prp_trailer.specs.declared.trailer.Lan.{Lan}
 use Rattle.sr_prp_trailer.specs.declared.trailer.Lan.TheVariants as lan
 use Rattle.sr_prp_trailer.specs.declared.trailer.Trailer.{Trailer}
-use Rattle.sr_frame.specs.Addresses.{mac_eq}
+use Rattle.sr_supervision.specs.Supervised.{IsAddressed}
 use Rattle.sr_node.specs.declared.parcels.Form.{Form}
 use Rattle.sr_node.specs.declared.parcels.Form.TheVariants.{Plain, Hsr, Prp}
 use Rattle.sr_node.specs.declared.parcels.Parcel.{Parcel}
 use Rattle.sr_node.specs.declared.roles.Header.{Header}
 use Rattle.sr_node.specs.declared.faults.ReadFault.{ReadFault}
 use Rattle.sr_node.specs.declared.faults.ReadFault.TheVariants as read
-
--- where supervision frames go, 01:15:4E:00:01:00
-abbrev pub supervision_mac : Mac
-supervision_mac = record { 0 = 0x01 ∷ 0x15 ∷ 0x4E ∷ 0x00 ∷ 0x01 ∷ 0x00 ∷ [] }
-
--- a frame to that address, of type 0x88FB
-abbrev pub is_supervision : Mac → ℕ → Bool
-is_supervision dst kind = mac_eq dst supervision_mac && (kind == 0x88FB)
 
 -- a frame that came in, as its port reads it: `octets` as they came, `plain` in plain form
 pub record Arrival : Type 0 where
@@ -36,7 +27,7 @@ pub record Arrival : Type 0 where
 pub record IsHeaderOf (f : Fields) (h : Header) : Type 0 where
   pub dst : h.dst.0 ≡ f.dst
   pub src : h.src.0 ≡ f.src
-  pub supervision : h.supervision ≡ is_supervision h.dst f.kind
+  pub supervision : IsTrue h.supervision ↔ IsAddressed f
 
 -- a frame without a number is its own plain form
 pub record IsUnnumbered (r : Arrival) : Type 0 where

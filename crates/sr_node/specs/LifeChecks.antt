@@ -9,6 +9,7 @@ use Rattle.sr_prp_trailer.specs.declared.trailer.Lan.TheVariants as lan
 use Rattle.sr_prp_trailer.specs.declared.trailer.Trailer.{Trailer}
 use Rattle.sr_supervision.specs.declared.message.Life.TheVariants.{PrpDiscard}
 use Rattle.sr_supervision.specs.declared.message.Supervision.{Supervision}
+use Rattle.sr_supervision.specs.Supervised.{supervision_address}
 use Rattle.sr_supervision.specs.Written.{written}
 use Rattle.sr_node.specs.declared.parcels.Form.TheVariants.{Prp}
 use Rattle.sr_node.specs.declared.parcels.Parcel.{Parcel}
@@ -16,7 +17,7 @@ use Rattle.sr_node.specs.declared.port_sets.Outlets.{Outlets}
 use Rattle.sr_node.specs.declared.queues.Copies.{Copies}
 use Rattle.sr_node.specs.declared.roles.Header.{Header}
 use Rattle.sr_node.specs.PortSets.{has}
-use Rattle.sr_node.specs.Arrivals.{lane_of, supervision_mac}
+use Rattle.sr_node.specs.Arrivals.{lane_of}
 
 -- one is due where none was sent, or the last 2000 ms ago or longer
 abbrev pub is_due : Option ℕ → ℕ → Bool
@@ -25,7 +26,7 @@ is_due (Some last) now = not (nat_lt (now - last) 2000)
 
 -- what routes read of one: it goes as a frame of the host does
 abbrev pub life_header : Mac → Seq → Header
-life_header mac seq = record { dst = supervision_mac; src = mac; seq = Some seq; path = 0; supervision = true }
+life_header mac seq = record { dst = record { 0 = supervision_address }; src = mac; seq = Some seq; path = 0; supervision = true }
 
 -- what it says: the node discards duplicates, its address, and the number among its life checks
 abbrev pub life_says : Mac → Seq → Supervision

@@ -203,5 +203,5 @@ OctetsRefused s port octets now f = RefusedFor (read_fault port octets) s port o
 -- what an arrival that is not refused comes to
 abbrev pub ArrivalIs : State → Port → Header → ℕ → Plan → Type 0
 ArrivalIs s port h now plan.Own = is_own s.role h ≡ true
-ArrivalIs s port h now (plan.Pass o) =
-    (is_own s.role h ≡ false) × (goes s port h now ≡ Some o) × (first_full s.core.out o ≡ None)
+ArrivalIs s port h now (plan.Pass wanted new) =
+    (is_own s.role h ≡ false) × (wanted ≡ routes s.role h port) × (goes s port h now ≡ Some new) × (first_full s.core.out new ≡ None)

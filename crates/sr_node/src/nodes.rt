@@ -1,9 +1,9 @@
 //! A node over its role.
 
 ghost use Rattle.std.specs.Prelude.{◌≡◌, IfOk, OnOk, OnErr, IfErr, None, Some, false, length};
-ghost use Rattle.std.specs.Result.{result_ok};
 ghost use Rattle.sr_node.specs.IncomingView.{arrival_of};
 ghost use Rattle.sr_node.specs.Queues.{box_at, first_full, copies_for, Room};
+ghost use Rattle.sr_node.specs.Roles.{routes};
 ghost use Rattle.sr_node.specs.Images.{shown, node_state, begun, IsReady};
 ghost use Rattle.sr_node.specs.Steps.{is_host, time_at, goes, arrive_refusal, life_refusal, or_no_memory, IsNextLifeCheck, Arrived, Took, OctetsArrived, OctetsRefused, TickTaken, TickRefused, ArrivalIs, passed};
 
@@ -12,7 +12,6 @@ use crate::life_checks::{life_copies, life_header};
 use crate::queues::Copies;
 use crate::readings::read;
 use crate::{Answer, Core, Danp, Header, Outlets, Parcel, Role, StepFault};
-use sr_dup_table::TableFull;
 use sr_frame::{Mac, NoMemory, Port};
 use sr_sequence::Seq;
 use std::alloc::Global;
@@ -31,7 +30,8 @@ pub type Node = NodeOf<Danp>;
 #[derive(Clone, Copy)]
 enum Plan {
     Own,
-    Pass(Outlets),
+    // The outlets where the role wants it, and those of them where it is new, to which it goes.
+    Pass { wanted: Outlets, outlets: Outlets },
 }
 
 // The answer to a tick of a node that keeps no table of nodes, and stands for no other address.
@@ -60,16 +60,6 @@ impl NodeOf<Danp> {
 }
 
 impl<R: Role> NodeOf<R> {
-    // Where an arrival goes: to each wanted outlet where no copy of it was noted.
-    fn goes(&self, port: Port, header: &Header, now: u64) -> Result<Outlets, TableFull>
-        requires { is_host port ≡ false }
-        ensures { result_ok result ≡ goes (node_state (R.meaning self.now.role) self.now.core) port header.now now }
-    {
-        let wanted = self.role.wants(header, port);
-        self.core
-            .fresh(port, header, wanted, self.core.time_at(now))
-    }
-
     // What an arrival comes to, or why it is refused.
     fn plan(&self, port: Port, header: &Header, now: u64) -> Result<Plan, StepFault>
         ensures plan { IfOk result (λ p.
@@ -85,12 +75,16 @@ impl<R: Role> NodeOf<R> {
         if header.src == self.mac() {
             return Ok(Plan::Own);
         }
-        let Ok(outlets) = self.goes(port, header, now) else {
+        let wanted = self.role.wants(header, port);
+        let Ok(outlets) = self
+            .core
+            .fresh(port, header, wanted, self.core.time_at(now))
+        else {
             return Err(StepFault::TableFull);
         };
         match self.core.out().first_full(outlets) {
             Some(full) => Err(StepFault::OutboxFull(full)),
-            None => Ok(Plan::Pass(outlets)),
+            None => Ok(Plan::Pass { wanted, outlets }),
         }
     }
 
@@ -98,6 +92,7 @@ impl<R: Role> NodeOf<R> {
     fn grow(&mut self, incoming: &Incoming<'_>, outlets: Outlets) -> Result<Copies, NoMemory>
         ensures copies { IfOk result (λ cs. cs ≡ copies_for outlets (arrival_of incoming.now)) }
         ensures ready { OnOk result (IsReady self.new.core.table incoming.now.header.src incoming.now.header.seq) }
+        ensures room { IfOk result (λ cs. first_full self.old.core.out outlets ≡ None → Room self.new.core.out cs) }
         ensures role { R.meaning self.new.role ≡ R.meaning self.old.role }
         ensures same { shown self.new.core ≡ shown self.old.core }
     {
@@ -112,10 +107,12 @@ impl<R: Role> NodeOf<R> {
         port: Port,
         incoming: &Incoming<'_>,
         now: u64,
+        wanted: Outlets,
         outlets: Outlets,
     ) -> Result<(), NoMemory>
         requires port { is_host port ≡ false }
         requires room { first_full self.old.core.out outlets ≡ None }
+        requires wanted { wanted ≡ routes (R.meaning self.old.role) incoming.now.header port }
         requires goes { goes (node_state (R.meaning self.old.role) self.old.core) port incoming.now.header now ≡ Some outlets }
         ensures ok { OnOk result (node_state (R.meaning self.new.role) self.new.core
             ≡ passed (node_state (R.meaning self.old.role) self.old.core) port (arrival_of incoming.now)
@@ -124,7 +121,6 @@ impl<R: Role> NodeOf<R> {
             ≡ node_state (R.meaning self.old.role) self.old.core) }
     {
         let copies = self.grow(incoming, outlets)?;
-        let wanted = self.role.wants(&incoming.header, port);
         let at = self.core.time_at(now);
         self.core.pass(port, &incoming.header, wanted, copies, at);
         Ok(())
@@ -169,7 +165,9 @@ impl<R: Role> NodeOf<R> {
                 self.core.set_time(at);
                 Ok(Answer::Own)
             }
-            Plan::Pass(outlets) => match self.pass(port, incoming, now, outlets) {
+            Plan::Pass { wanted, outlets } => match self.pass(
+                port, incoming, now, wanted, outlets,
+            ) {
                 Ok(()) => Ok(Answer::Passed(outlets.ports(self.core.alloc()))),
                 Err(NoMemory) => Err(StepFault::NoMemory),
             },

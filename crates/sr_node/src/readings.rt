@@ -9,15 +9,10 @@ ghost use Rattle.sr_node.specs.IncomingView.{arrival_of};
 
 use crate::incoming::Incoming;
 use crate::{Form, Header, ReadFault};
-use sr_frame::{FrameFault, FrameView, MAX_FRAME_LEN, Mac, Port, view};
+use sr_frame::{FrameFault, FrameView, MAX_FRAME_LEN, Port, view};
 use sr_prp_trailer::{Lan, TRAILER_LEN, Trailer};
 use sr_sequence::Seq;
-
-/// Where supervision frames go.
-const SUPERVISION_MAC: Mac = Mac([0x01, 0x15, 0x4E, 0x00, 0x01, 0x00]);
-
-/// The type of supervision frames.
-const SUPERVISION_TYPE: u16 = 0x88FB;
+use sr_supervision::is_supervision;
 
 /// The most octets of a plain frame, which leaves room for a tag or a trailer.
 const MAX_PLAIN_LEN: usize = 1518;
@@ -33,7 +28,7 @@ fn header_of(frame: &FrameView<'_>, seq: Option<Seq>, path: u8) -> Header
         src: frame.src,
         seq,
         path,
-        supervision: frame.dst == SUPERVISION_MAC && frame.kind == SUPERVISION_TYPE,
+        supervision: is_supervision(frame),
     }
 }
 

@@ -43,25 +43,55 @@ fn in_b(seq: u16) -> [u8; 66] {
     frame(OWN, OTHER, [8, 0], seq, [0xb0, 0x34])
 }
 
-/// Whether the answer is that the frame went to the host alone.
-fn went_up(answer: &Result<Answer, StepFault>) -> bool {
+/// What an arrival or a tick came to. The tests hold no answer itself: it would have to be dropped at each way out of
+/// a test, which makes the proofs long.
+#[derive(Clone, Copy, Debug, PartialEq, Eq)]
+enum Outcome {
+    /// The frame went to the host alone.
+    Up,
+    /// The frame went to no outlet.
+    Nowhere,
+    /// The frame was the node's own.
+    Own,
+    /// A tick that forgot so many sources, and the number of its life check.
+    Ticked(usize, Option<Seq>),
+    Refused(StepFault),
+    /// None of these.
+    Other,
+}
+
+fn outcome_of(answer: Result<Answer, StepFault>) -> Outcome {
     match answer {
-        Ok(Answer::Passed(ports)) => ports.as_slice() == [Port::H].as_slice(),
-        _ => false,
+        Ok(Answer::Passed(ports)) => match ports.as_slice() {
+            [] => Outcome::Nowhere,
+            [Port::H] => Outcome::Up,
+            _ => Outcome::Other,
+        },
+        Ok(Answer::Own) => Outcome::Own,
+        Ok(
+            Answer::Ticked {
+                sources,
+                nodes: 0,
+                proxies: 0,
+                life,
+            },
+        ) => Outcome::Ticked(sources, life),
+        Ok(_) => Outcome::Other,
+        Err(fault) => Outcome::Refused(fault),
     }
 }
 
-/// Whether the answer is that the frame went nowhere.
-fn went_nowhere(answer: &Result<Answer, StepFault>) -> bool {
-    match answer {
-        Ok(Answer::Passed(ports)) => ports.as_slice().is_empty(),
-        _ => false,
-    }
+fn arrive(node: &mut Node, port: Port, octets: &[u8], now: u64) -> Outcome {
+    outcome_of(node.arrive(port, octets, now))
 }
 
-/// Whether a plain parcel with these octets and this number was taken.
-fn is_plain(taken: Option<Parcel>, octets: &[u8], seq: Option<Seq>) -> bool {
-    match taken {
+fn tick(node: &mut Node, now: u64) -> Outcome {
+    outcome_of(node.tick(now))
+}
+
+/// Whether the first parcel for the host is plain, and has these octets and this number.
+fn takes_plain(node: &mut Node, octets: &[u8], seq: Option<Seq>) -> bool {
+    match node.take(Port::H) {
         Some(parcel) => parcel.form == Form::Plain
             && parcel.octets.octets() == octets
             && parcel.seq == seq,
@@ -69,16 +99,21 @@ fn is_plain(taken: Option<Parcel>, octets: &[u8], seq: Option<Seq>) -> bool {
     }
 }
 
+/// Whether a parcel was there to be taken.
+fn takes(node: &mut Node, port: Port) -> bool {
+    node.take(port).is_some()
+}
+
 // The second copy brings nothing, at whichever port; what is handed up has no trailer, and keeps its padding.
 #[test]
 fn copies_go_up_once(rt: HostRuntime) -> Result<(), Fail> {
     let mut node = Node::danp(rt.alloc(), OWN)?;
     assert_eq!(rt; node.mac(), OWN);
-    assert!(rt; went_up(&node.arrive(Port::A, &in_a(0), 0)));
-    assert!(rt; went_nowhere(&node.arrive(Port::B, &in_b(0), 0)));
+    assert_eq!(rt; arrive(&mut node, Port::A, &in_a(0), 0), Outcome::Up);
+    assert_eq!(rt; arrive(&mut node, Port::B, &in_b(0), 0), Outcome::Nowhere);
     assert_eq!(rt; node.waiting(Port::H), 1);
-    assert!(rt; is_plain(node.take(Port::H), plain_form(&in_a(0)), Some(Seq(0))));
-    assert!(rt; node.take(Port::H).is_none());
+    assert!(rt; takes_plain(&mut node, plain_form(&in_a(0)), Some(Seq(0))));
+    assert!(rt; !takes(&mut node, Port::H));
     Ok(())
 }
 
@@ -88,8 +123,8 @@ fn frames_without_number_go_up_each_time(rt: HostRuntime) -> Result<(), Fail> {
     let mut node = Node::danp(rt.alloc(), OWN)?;
     let octets = frame(OWN, OTHER, [8, 0], 0, [0xa0, 0x35]);
     for port in [Port::A, Port::B, Port::A] {
-        assert!(rt; went_up(&node.arrive(port, &octets, 0)));
-        assert!(rt; is_plain(node.take(Port::H), &octets, None));
+        assert_eq!(rt; arrive(&mut node, port, &octets, 0), Outcome::Up);
+        assert!(rt; takes_plain(&mut node, &octets, None));
     }
     Ok(())
 }
@@ -98,13 +133,13 @@ fn frames_without_number_go_up_each_time(rt: HostRuntime) -> Result<(), Fail> {
 fn late_first_copies_go_up(rt: HostRuntime) -> Result<(), Fail> {
     let mut node = Node::danp(rt.alloc(), OWN)?;
     for seq in [3, 2, 1] {
-        assert!(rt; went_up(&node.arrive(Port::A, &in_a(seq), 0)));
+        assert_eq!(rt; arrive(&mut node, Port::A, &in_a(seq), 0), Outcome::Up);
     }
     for seq in [1, 2, 3] {
-        assert!(rt; went_nowhere(&node.arrive(Port::B, &in_b(seq), 0)));
+        assert_eq!(rt; arrive(&mut node, Port::B, &in_b(seq), 0), Outcome::Nowhere);
     }
     for seq in [3, 2, 1] {
-        assert!(rt; is_plain(node.take(Port::H), plain_form(&in_a(seq)), Some(Seq(seq))));
+        assert!(rt; takes_plain(&mut node, plain_form(&in_a(seq)), Some(Seq(seq))));
     }
     assert_eq!(rt; node.waiting(Port::H), 0);
     Ok(())
@@ -114,16 +149,16 @@ fn late_first_copies_go_up(rt: HostRuntime) -> Result<(), Fail> {
 fn a_full_outbox_refuses(rt: HostRuntime) -> Result<(), Fail> {
     let mut node = Node::danp(rt.alloc(), OWN)?;
     for seq in 0..256u16 {
-        assert!(rt; went_up(&node.arrive(Port::A, &in_a(seq), 5)));
+        assert_eq!(rt; arrive(&mut node, Port::A, &in_a(seq), 5), Outcome::Up);
     }
     assert_eq!(rt;
-        node.arrive(Port::A, &in_a(256), 9).err(),
-        Some(StepFault::OutboxFull(Port::H))
+        arrive(&mut node, Port::A, &in_a(256), 9),
+        Outcome::Refused(StepFault::OutboxFull(Port::H))
     );
     assert_eq!(rt; node.waiting(Port::H), 256);
     assert_eq!(rt; node.time(), 5);
-    assert!(rt; is_plain(node.take(Port::H), plain_form(&in_a(0)), Some(Seq(0))));
-    assert!(rt; went_up(&node.arrive(Port::A, &in_a(256), 9)));
+    assert!(rt; takes_plain(&mut node, plain_form(&in_a(0)), Some(Seq(0))));
+    assert_eq!(rt; arrive(&mut node, Port::A, &in_a(256), 9), Outcome::Up);
     assert_eq!(rt; node.waiting(Port::H), 256);
     assert_eq!(rt; node.time(), 9);
     Ok(())
@@ -133,19 +168,19 @@ fn a_full_outbox_refuses(rt: HostRuntime) -> Result<(), Fail> {
 #[test]
 fn routes_of_a_lan(rt: HostRuntime) -> Result<(), Fail> {
     let mut node = Node::danp(rt.alloc(), OWN)?;
-    for (dst, kind, up) in [
-        (OWN, [8, 0], true),
-        (EVERYONE, [8, 0], true),
-        (OTHER, [8, 0], false),
-        (SUPERVISION, [0x88, 0xfb], false),
-        (SUPERVISION, [8, 0], true),
-        (OWN, [0x88, 0xfb], true),
+    for (dst, kind, outcome) in [
+        (OWN, [8, 0], Outcome::Up),
+        (EVERYONE, [8, 0], Outcome::Up),
+        (OTHER, [8, 0], Outcome::Nowhere),
+        (SUPERVISION, [0x88, 0xfb], Outcome::Nowhere),
+        (SUPERVISION, [8, 0], Outcome::Up),
+        (OWN, [0x88, 0xfb], Outcome::Up),
     ] {
         // The size 53 makes each of them a frame without number.
         let octets = frame(dst, OTHER, kind, 0, [0xa0, 0x35]);
-        assert_eq!(rt; went_up(&node.arrive(Port::A, &octets, 0)), up);
-        assert_eq!(rt; node.take(Port::H).is_some(), up);
-        assert!(rt; went_nowhere(&node.arrive(Port::C, &octets, 0)));
+        assert_eq!(rt; arrive(&mut node, Port::A, &octets, 0), outcome);
+        assert_eq!(rt; takes(&mut node, Port::H), outcome == Outcome::Up);
+        assert_eq!(rt; arrive(&mut node, Port::C, &octets, 0), Outcome::Nowhere);
     }
     Ok(())
 }
@@ -155,10 +190,10 @@ fn routes_of_a_lan(rt: HostRuntime) -> Result<(), Fail> {
 fn own_source_and_wrong_lan(rt: HostRuntime) -> Result<(), Fail> {
     let mut node = Node::danp(rt.alloc(), OWN)?;
     let own = frame(EVERYONE, OWN, [8, 0], 7, [0xa0, 0x34]);
-    assert!(rt; matches!(node.arrive(Port::A, &own, 3), Ok(Answer::Own)));
+    assert_eq!(rt; arrive(&mut node, Port::A, &own, 3), Outcome::Own);
     assert_eq!(rt; node.time(), 3);
     for (port, seq, wrong_lan, path) in [(Port::A, 7, true, 0), (Port::B, 8, false, 1)] {
-        assert!(rt; went_up(&node.arrive(port, &in_b(seq), 2)));
+        assert_eq!(rt; arrive(&mut node, port, &in_b(seq), 2), Outcome::Up);
         let taken = node
             .take(Port::H)
             .map(|parcel| (parcel.wrong_lan, parcel.path));
@@ -181,17 +216,29 @@ fn octets_that_are_not_read(rt: HostRuntime) -> Result<(), Fail> {
         (Port::H, 1519, StepFault::Reading(ReadFault::TooLong)),
         (Port::H, 1518, StepFault::Untagged),
     ] {
-        assert_eq!(rt; node.arrive(port, &octets[..len], 4).err(), Some(fault));
+        assert_eq!(rt;
+            arrive(&mut node, port, &octets[..len], 4),
+            Outcome::Refused(fault)
+        );
     }
     octets[12] = 0x81;
     assert_eq!(rt;
-        node.arrive(Port::A, &octets[..17], 4).err(),
-        Some(StepFault::Reading(ReadFault::TooShort))
+        arrive(&mut node, Port::A, &octets[..17], 4),
+        Outcome::Refused(StepFault::Reading(ReadFault::TooShort))
     );
     assert_eq!(rt; node.time(), 0);
-    assert!(rt; went_nowhere(&node.arrive(Port::A, &octets[..1524], 4)));
-    assert!(rt; went_nowhere(&node.arrive(Port::A, &octets[..18], 4)));
-    assert!(rt; went_nowhere(&node.arrive(Port::C, &octets[..1518], 4)));
+    assert_eq!(rt;
+        arrive(&mut node, Port::A, &octets[..1524], 4),
+        Outcome::Nowhere
+    );
+    assert_eq!(rt;
+        arrive(&mut node, Port::A, &octets[..18], 4),
+        Outcome::Nowhere
+    );
+    assert_eq!(rt;
+        arrive(&mut node, Port::C, &octets[..1518], 4),
+        Outcome::Nowhere
+    );
     Ok(())
 }
 
@@ -209,18 +256,17 @@ fn refused_growths_change_nothing(rt: HostRuntime) {
     };
     for seq in 0..6u16 {
         let waiting = node.waiting(Port::H);
-        let mut answer = node.arrive(Port::A, &in_a(seq), u64::from(seq) + 1);
-        if answer.is_err() {
-            assert_eq!(rt; answer.err(), Some(StepFault::NoMemory));
+        let mut outcome = arrive(&mut node, Port::A, &in_a(seq), u64::from(seq) + 1);
+        if outcome == Outcome::Refused(StepFault::NoMemory) {
             assert_eq!(rt; node.waiting(Port::H), waiting);
             assert_eq!(rt; node.time(), u64::from(seq));
-            answer = node.arrive(Port::A, &in_a(seq), u64::from(seq) + 1);
+            outcome = arrive(&mut node, Port::A, &in_a(seq), u64::from(seq) + 1);
         }
-        assert!(rt; went_up(&answer));
-        assert!(rt; went_nowhere(&node.arrive(Port::B, &in_b(seq), 0)));
+        assert_eq!(rt; outcome, Outcome::Up);
+        assert_eq!(rt; arrive(&mut node, Port::B, &in_b(seq), 0), Outcome::Nowhere);
     }
     for seq in 0..6u16 {
-        assert!(rt; is_plain(node.take(Port::H), plain_form(&in_a(seq)), Some(Seq(seq))));
+        assert!(rt; takes_plain(&mut node, plain_form(&in_a(seq)), Some(Seq(seq))));
     }
     assert_eq!(rt; node.waiting(Port::H), 0);
 }
@@ -230,27 +276,25 @@ fn refused_growths_change_nothing(rt: HostRuntime) {
 fn epochs(rt: HostRuntime) -> Result<(), Fail> {
     for arrivals in [
         [
-            (Port::A, 1000, true),
-            (Port::B, 1399, false),
-            (Port::B, 1798, false),
+            (Port::A, 1000, Outcome::Up),
+            (Port::B, 1399, Outcome::Nowhere),
+            (Port::B, 1798, Outcome::Nowhere),
         ],
         [
-            (Port::A, 1000, true),
-            (Port::B, 1400, true),
-            (Port::A, 1400, false),
+            (Port::A, 1000, Outcome::Up),
+            (Port::B, 1400, Outcome::Up),
+            (Port::A, 1400, Outcome::Nowhere),
         ],
         [
-            (Port::A, 1000, true),
-            (Port::B, 900, false),
-            (Port::B, 1350, false),
+            (Port::A, 1000, Outcome::Up),
+            (Port::B, 900, Outcome::Nowhere),
+            (Port::B, 1350, Outcome::Nowhere),
         ],
     ] {
         let mut node = Node::danp(rt.alloc(), OWN)?;
-        for (port, now, up) in arrivals {
+        for (port, now, outcome) in arrivals {
             let octets = if port == Port::A { in_a(5) } else { in_b(5) };
-            let answer = node.arrive(port, &octets, now);
-            assert_eq!(rt; went_up(&answer), up, "at {now}");
-            assert_eq!(rt; went_nowhere(&answer), !up, "at {now}");
+            assert_eq!(rt; arrive(&mut node, port, &octets, now), outcome, "at {now}");
         }
     }
     Ok(())
@@ -267,20 +311,32 @@ fn of_source(source: u16, size: u8) -> [u8; 66] {
 fn a_full_table_refuses(rt: HostRuntime) -> Result<(), Fail> {
     let mut node = Node::danp(rt.alloc(), OWN)?;
     for source in 0..1024u16 {
-        assert!(rt; went_up(&node.arrive(Port::A, &of_source(source, 0x34), 0)));
-        assert!(rt; node.take(Port::H).is_some());
+        assert_eq!(rt;
+            arrive(&mut node, Port::A, &of_source(source, 0x34), 0),
+            Outcome::Up
+        );
+        assert!(rt; takes(&mut node, Port::H));
     }
     assert_eq!(rt;
-        node.arrive(Port::A, &of_source(1024, 0x34), 399).err(),
-        Some(StepFault::TableFull)
+        arrive(&mut node, Port::A, &of_source(1024, 0x34), 399),
+        Outcome::Refused(StepFault::TableFull)
     );
     assert_eq!(rt; node.time(), 0);
     assert_eq!(rt; node.waiting(Port::H), 0);
-    assert!(rt; went_nowhere(&node.arrive(Port::B, &of_source(7, 0x34), 0)));
-    assert!(rt; went_up(&node.arrive(Port::A, &of_source(1024, 0x35), 399)));
-    assert!(rt; went_up(&node.arrive(Port::A, &of_source(1024, 0x34), 400)));
+    assert_eq!(rt;
+        arrive(&mut node, Port::B, &of_source(7, 0x34), 0),
+        Outcome::Nowhere
+    );
+    assert_eq!(rt;
+        arrive(&mut node, Port::A, &of_source(1024, 0x35), 399),
+        Outcome::Up
+    );
+    assert_eq!(rt;
+        arrive(&mut node, Port::A, &of_source(1024, 0x34), 400),
+        Outcome::Up
+    );
     // Of all those sources the table has the last one alone.
-    assert!(rt; matches!(node.tick(800), Ok(Answer::Ticked { sources: 1, .. })));
+    assert_eq!(rt; tick(&mut node, 800), Outcome::Ticked(1, Some(Seq(64511))));
     Ok(())
 }
 

@@ -42,19 +42,9 @@ fn octets_of_life_checks(rt: HostRuntime) -> Result<(), Fail> {
     Ok(())
 }
 
-/// How many sources a tick forgot, and the number of the life check that it sent.
-fn ticked(answer: &Result<Answer, StepFault>) -> Option<(usize, Option<Seq>)> {
-    match answer {
-        Ok(
-            Answer::Ticked {
-                sources,
-                nodes: 0,
-                proxies: 0,
-                life,
-            },
-        ) => Some((*sources, *life)),
-        _ => None,
-    }
+/// Whether the first parcel for a LAN has these octets.
+fn takes_octets(node: &mut Node, port: Port, octets: &[u8; 66]) -> bool {
+    has_octets(node.take(port), octets)
 }
 
 // A life check goes out 2000 ms after the one before, under the next number of either counter. A refused growth changes
@@ -78,27 +68,26 @@ fn life_checks_go_out_every_two_seconds(rt: HostRuntime) {
         (4000, Some((64513, 32257))),
     ] {
         let before = node.time();
-        let mut answer = node.tick(now);
-        if answer.is_err() {
-            assert_eq!(rt; answer.err(), Some(StepFault::NoMemory));
+        let mut outcome = tick(&mut node, now);
+        if outcome == Outcome::Refused(StepFault::NoMemory) {
             assert_eq!(rt; node.time(), before);
             assert_eq!(rt; (node.waiting(Port::A), node.waiting(Port::B)), (0, 0));
-            answer = node.tick(now);
+            outcome = tick(&mut node, now);
         }
         assert_eq!(rt;
-            ticked(&answer),
-            Some((0, numbers.map(|(seq, _)| Seq(seq)))),
+            outcome,
+            Outcome::Ticked(0, numbers.map(|(seq, _)| Seq(seq))),
             "at {now}"
         );
         for (port, lan) in [(Port::A, 0xa0), (Port::B, 0xb0)] {
             match numbers {
                 Some((seq, life_seq)) => {
                     assert!(rt;
-                        has_octets(node.take(port), &life_check(seq, life_seq, lan)),
+                        takes_octets(&mut node, port, &life_check(seq, life_seq, lan)),
                         "at {now}"
                     )
                 }
-                None => assert!(rt; node.take(port).is_none(), "at {now}"),
+                None => assert!(rt; !takes(&mut node, port), "at {now}"),
             }
         }
     }
@@ -110,18 +99,24 @@ fn full_outboxes_refuse_a_tick(rt: HostRuntime) -> Result<(), Fail> {
     let mut node = Node::danp(rt.alloc(), OWN)?;
     for count in 0..256u16 {
         assert_eq!(rt;
-            ticked(&node.tick(2000 * u64::from(count))),
-            Some((0, Some(Seq(64511 + count))))
+            tick(&mut node, 2000 * u64::from(count)),
+            Outcome::Ticked(0, Some(Seq(64511 + count)))
         );
     }
-    assert_eq!(rt; ticked(&node.tick(511_999)), Some((0, None)));
+    assert_eq!(rt; tick(&mut node, 511_999), Outcome::Ticked(0, None));
     for port in [Port::A, Port::B] {
-        assert_eq!(rt; node.tick(512_000).err(), Some(StepFault::OutboxFull(port)));
+        assert_eq!(rt;
+            tick(&mut node, 512_000),
+            Outcome::Refused(StepFault::OutboxFull(port))
+        );
         assert_eq!(rt; node.time(), 511_999);
         assert_eq!(rt; node.waiting(Port::B), 256);
-        assert!(rt; node.take(port).is_some());
+        assert!(rt; takes(&mut node, port));
     }
-    assert_eq!(rt; ticked(&node.tick(512_000)), Some((0, Some(Seq(64767)))));
+    assert_eq!(rt;
+        tick(&mut node, 512_000),
+        Outcome::Ticked(0, Some(Seq(64767)))
+    );
     assert_eq!(rt; (node.waiting(Port::A), node.waiting(Port::B)), (256, 256));
     Ok(())
 }
@@ -130,11 +125,11 @@ fn full_outboxes_refuse_a_tick(rt: HostRuntime) -> Result<(), Fail> {
 #[test]
 fn ticks_forget_silent_sources(rt: HostRuntime) -> Result<(), Fail> {
     let mut node = Node::danp(rt.alloc(), OWN)?;
-    assert!(rt; went_up(&node.arrive(Port::A, &in_a(5), 0)));
-    assert_eq!(rt; ticked(&node.tick(399)), Some((0, Some(Seq(64511)))));
-    assert!(rt; went_nowhere(&node.arrive(Port::B, &in_b(5), 399)));
-    assert_eq!(rt; ticked(&node.tick(798)), Some((0, None)));
-    assert_eq!(rt; ticked(&node.tick(799)), Some((1, None)));
-    assert!(rt; went_up(&node.arrive(Port::B, &in_b(5), 799)));
+    assert_eq!(rt; arrive(&mut node, Port::A, &in_a(5), 0), Outcome::Up);
+    assert_eq!(rt; tick(&mut node, 399), Outcome::Ticked(0, Some(Seq(64511))));
+    assert_eq!(rt; arrive(&mut node, Port::B, &in_b(5), 399), Outcome::Nowhere);
+    assert_eq!(rt; tick(&mut node, 798), Outcome::Ticked(0, None));
+    assert_eq!(rt; tick(&mut node, 799), Outcome::Ticked(1, None));
+    assert_eq!(rt; arrive(&mut node, Port::B, &in_b(5), 799), Outcome::Up);
     Ok(())
 }
