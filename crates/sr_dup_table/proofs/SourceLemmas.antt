@@ -1,18 +1,21 @@
--- What the entries of the table show, through what is done to them, and the oldest time among them.
-use Rattle.std.proofs.Common.{◌≡◌, ◌≢◌, ℕ, suc, ◌-◌, ◌<◌, ◌≤◌, ◌^◌, min, max, Bool, true, false, cond, not, ◌&&◌, nat_lt, List, [], ◌∷◌, ◌++◌, length, filter, Option, None, Some, is_some, refl, sym, ap, ◌∙◌, arith, inl, inr}
+-- What the entries of the table show, through what is done to them.
+use Rattle.std.proofs.Common.{◌≡◌, ℕ, suc, ◌-◌, ◌<◌, ◌≤◌, max, Bool, true, false, cond, not, ◌&&◌, nat_lt, List, [], ◌∷◌, ◌++◌, length, filter, Option, None, Some, is_some, refl, sym, ap, ◌∙◌, arith}
 use Rattle.std.specs.Map.{lookup, set_value, keys_of}
 use Rattle.std.specs.Option.{option_map}
-use Rattle.std.proofs.lemmas.Bool.{cases_eq, ltb-true, ltb-false, lt-ltb, le-ltb}
-use Rattle.std.proofs.lemmas.List.{length-map, length-append, map-append}
-use Rattle.std.proofs.lemmas.Map.{length-set_value}
+use Rattle.std.proofs.lemmas.Bool.{ltb-true, ltb-false, le-ltb}
+use Rattle.std.proofs.lemmas.List.{length-map, map-append}
 use Rattle.sr_frame.specs.declared.fields.Mac.{Mac}
 use Rattle.sr_dup_window.specs.declared.lane_sets.Lanes.{Lanes}
 use Rattle.sr_frame.specs.Addresses.{mac_eq}
 use Rattle.sr_dup_window.specs.Windows.{noted}
-use Rattle.sr_dup_table.specs.declared.entry.Entry.{Entry}
-use Rattle.sr_dup_table.specs.Sources.{Heard, Sources, is_recent, is_live, live_at, live_others, with_room, answer_of, arrive_answer, heard_next, begun_at}
-use Rattle.sr_dup_table.specs.Bounds.{oldest_of, IsBounded}
+use Rattle.sr_dup_window.specs.declared.record.Record.{Record}
+use Rattle.sr_aged_slots.specs.declared.aged.Aged.{Aged}
+use Rattle.sr_aged_slots.specs.Ages as ages
+use Rattle.sr_dup_table.specs.Sources.{Heard, Sources, is_live, live_at, live_others, with_room, answer_of, arrive_answer, heard_next, begun_at}
 use Rattle.sr_dup_table.specs.Shown.{heard_of, sources_of}
+
+abbrev Entry : Type 0
+Entry = Aged (Record 16)
 
 -- a look-up among what the entries show
 pub lookup-shown : (test : Mac → Bool) (es : List (Mac × Entry)) → lookup test (sources_of es) ≡ option_map heard_of (lookup test es)
@@ -57,10 +60,6 @@ live-shown now (e ∷ es) = by (is_live now (heard_of e.1)) (live-shown now es)
 pub length-shown : (es : List (Mac × Entry)) → length (sources_of es) ≡ length es
 length-shown es = length-map es (λ e. (e.0, heard_of e.1))
 
--- a later time is recent where an earlier one is
-pub recent_later : (now a b : ℕ) → a ≤ b → is_recent now a ≡ true → is_recent now b ≡ true
-recent_later now a b le h = let l : now - a < 400 = ltb-true (now - a) 400 h in lt-ltb (now - b) 400 (omega arith)
-
 -- an arrival makes a source no older
 pub later_next : (h : Heard) (seq : ℕ) (lanes : Lanes) (now : ℕ) → h.time ≤ (heard_next h seq lanes now).time
 later_next h seq lanes now = by (is_live now h) refl
@@ -69,42 +68,6 @@ later_next h seq lanes now = by (is_live now h) refl
     by true e = omega arith
     by false e = let l : 400 ≤ now - h.time = ltb-false (now - h.time) 400 e in omega arith
 
--- the oldest time, where one source is last
-pub oldest_of-push : (s : Sources) (m : Mac) (h : Heard) → h.time < 2 ^ 64 → oldest_of (s ++ (m, h) ∷ []) ≡ min (oldest_of s) h.time
-oldest_of-push [] m h fits = omega arith
-oldest_of-push (e ∷ s) m h fits = omega (arith, oldest_of-push s m h fits)
-
--- the oldest time, where one source is heard again
-pub oldest_of-set_le : (test : Mac → Bool) (s : Sources) (was w : Heard) → lookup test s ≡ Some was → was.time ≤ w.time → oldest_of s ≤ oldest_of (set_value test s w)
-oldest_of-set_le test [] was w there later = omega arith
-oldest_of-set_le test (e ∷ s) was w there later = by (test e.0) there (oldest_of-set_le test s was w)
-  where
-    by : (t : Bool) → cond t (Some e.1) (lookup test s) ≡ Some was → (lookup test s ≡ Some was → was.time ≤ w.time → oldest_of s ≤ oldest_of (set_value test s w))
-        → min e.1.time (oldest_of s) ≤ oldest_of (cond t ((e.0, w) ∷ s) (e ∷ set_value test s w))
-    by true h ih = let v : e.1 ≡ was = cc in let t : e.1.time ≡ was.time = ap (λ x. x.time) v in omega arith
-    by false h ih = omega (arith, ih h later)
-
-pub oldest_of-set_same : (test : Mac → Bool) (s : Sources) (was w : Heard) → lookup test s ≡ Some was → was.time ≤ w.time → oldest_of s ≢ was.time → oldest_of (set_value test s w) ≡ oldest_of s
-oldest_of-set_same test [] was w there later other = refl
-oldest_of-set_same test (e ∷ s) was w there later other = by (test e.0) there (oldest_of-set_same test s was w)
-  where
-    by : (t : Bool) → cond t (Some e.1) (lookup test s) ≡ Some was → (lookup test s ≡ Some was → was.time ≤ w.time → oldest_of s ≢ was.time → oldest_of (set_value test s w) ≡ oldest_of s)
-        → oldest_of (cond t ((e.0, w) ∷ s) (e ∷ set_value test s w)) ≡ min e.1.time (oldest_of s)
-    by true h ih = let v : e.1 ≡ was = cc in let t : e.1.time ≡ was.time = ap (λ x. x.time) v in omega arith
-    by false h ih =
-        elim (cases_eq (oldest_of s) was.time) [
-          | inl e ↦ let rise = oldest_of-set_le test s was w h later in omega arith
-          | inr n ↦ let kept = ih h later n in omega arith
-        ]
-
--- all are live where the oldest is, and otherwise one is forgotten
-pub all_live : (now : ℕ) (s : Sources) → is_recent now (oldest_of s) ≡ true → live_at now s ≡ s
-all_live now [] h = refl
-all_live now (e ∷ s) h =
-    let first : is_live now e.1 ≡ true = recent_later now (min e.1.time (oldest_of s)) e.1.time (omega arith) h in
-    let rest : is_recent now (oldest_of s) ≡ true = recent_later now (min e.1.time (oldest_of s)) (oldest_of s) (omega arith) h in
-    ap (λ b. cond b (e ∷ live_at now s) (live_at now s)) first ∙ ap (λ l. e ∷ l) (all_live now s rest)
-
 pub length-live_le : (now : ℕ) (s : Sources) → length (live_at now s) ≤ length s
 length-live_le now [] = omega arith
 length-live_le now (e ∷ s) = by (is_live now e.1) (length-live_le now s)
@@ -112,57 +75,6 @@ length-live_le now (e ∷ s) = by (is_live now e.1) (length-live_le now s)
     by : (b : Bool) → length (live_at now s) ≤ length s → length (cond b (e ∷ live_at now s) (live_at now s)) ≤ suc (length s)
     by true h = omega arith
     by false h = omega arith
-
-pub some_forgotten : (now : ℕ) (s : Sources) → now < 2 ^ 64 → is_recent now (oldest_of s) ≡ false → length (live_at now s) < length s
-some_forgotten now [] fits h = let l : 400 ≤ now - 18446744073709551615 = ltb-false (now - 18446744073709551615) 400 h in omega arith
-some_forgotten now (e ∷ s) fits h = by (is_live now e.1) refl (some_forgotten now s fits)
-  where
-    by : (b : Bool) → is_live now e.1 ≡ b → (is_recent now (oldest_of s) ≡ false → length (live_at now s) < length s) → length (cond b (e ∷ live_at now s) (live_at now s)) < suc (length s)
-    by false t ih = omega (arith, length-live_le now s)
-    by true t ih =
-        let a : now - e.1.time < 400 = ltb-true (now - e.1.time) 400 t in
-        let b : 400 ≤ now - min e.1.time (oldest_of s) = ltb-false (now - min e.1.time (oldest_of s)) 400 h in
-        omega (arith, ih (le-ltb (now - oldest_of s) 400 (omega arith)))
-
--- a table with as many sources as it may have is full exactly where all are live
-pub full_is : (now : ℕ) (s : Sources) → now < 2 ^ 64 → length s ≤ 1024 → 1024 ≤ length s → is_recent now (oldest_of s) ≡ not (nat_lt (length (with_room now s)) 1024)
-full_is now s fits few many =
-    by (is_recent now (oldest_of s)) refl ∙ sym (ap (λ b. not (nat_lt (length (cond b s (live_at now s))) 1024)) (le-ltb (length s) 1024 many))
-  where
-    by : (b : Bool) → is_recent now (oldest_of s) ≡ b → b ≡ not (nat_lt (length (live_at now s)) 1024)
-    by true e = sym (ap (λ l. not (nat_lt (length l) 1024)) (all_live now s e) ∙ ap not (le-ltb (length s) 1024 many))
-    by false e = sym (ap not (lt-ltb (length (live_at now s)) 1024 (omega (arith, some_forgotten now s fits e))))
-
--- what is known of the times stays true
-pub bounded_anew : (s : Sources) (o : ℕ) → length s ≤ 1024 → o ≡ oldest_of s → IsBounded s o true
-bounded_anew s o few is = record { few = few; none_before = omega arith; some_then = λ e. sym is }
-
-module _ (test : Mac → Bool) (s : Sources) (was w : Heard) (there : lookup test s ≡ Some was) (later : was.time ≤ w.time) where
-  pub bounded_inexact : (o : ℕ) (exact : Bool) → IsBounded s o exact → IsBounded (set_value test s w) o false
-  bounded_inexact o exact h = record {
-    few = omega (arith, h.few, length-set_value test s w);
-    none_before = omega (arith, h.none_before, oldest_of-set_le test s was w there later);
-    some_then = λ e. cc;
-  }
-
-  pub bounded_again : (o : ℕ) (exact : Bool) → was.time ≢ o → IsBounded s o exact → IsBounded (set_value test s w) o exact
-  bounded_again o exact other h = record {
-    few = omega (arith, h.few, length-set_value test s w);
-    none_before = omega (arith, h.none_before, oldest_of-set_le test s was w there later);
-    some_then = λ e. oldest_of-set_same test s was w there later (λ same. other (sym same ∙ h.some_then e)) ∙ h.some_then e;
-  }
-
-pub bounded_push : (s : Sources) (m : Mac) (h : Heard) (o : ℕ) (exact : Bool) → h.time < 2 ^ 64 → length s < 1024 → IsBounded s o exact → IsBounded (s ++ (m, h) ∷ []) (min o h.time) exact
-bounded_push s m h o exact fits room b = record {
-  few = omega (arith, length-append s ((m, h) ∷ []));
-  none_before = omega (arith, b.none_before, oldest_of-push s m h fits);
-  some_then = λ e. oldest_of-push s m h fits ∙ ap (λ n. min n h.time) (b.some_then e);
-}
-
--- no oldest time is above all times
-pub oldest_of_le : (s : Sources) → oldest_of s ≤ 18446744073709551615
-oldest_of_le [] = omega arith
-oldest_of_le (e ∷ s) = omega (arith, oldest_of_le s)
 
 -- a source that shows no record has none
 pub none-shown : (test : Mac → Bool) (es : List (Mac × Entry)) → lookup test (sources_of es) ≡ None → lookup test es ≡ None
@@ -250,9 +162,10 @@ pub keys-shown : (es : List (Mac × Entry)) → keys_of (sources_of es) ≡ keys
 keys-shown [] = refl
 keys-shown (e ∷ es) = ap (λ l. e.0 ∷ l) (keys-shown es)
 
-pub many_from : (n : ℕ) → true ≡ not (nat_lt n 1024) → 1024 ≤ n
-many_from n h = by (nat_lt n 1024) refl h
+-- what a full table keeps
+pub room-shown : (now : ℕ) (es : List (Mac × Entry)) → sources_of (ages.with_room 400 1024 now es) ≡ with_room now (sources_of es)
+room-shown now es = by (nat_lt (length es) 1024) ∙ sym (ap (λ n. cond (nat_lt n 1024) (sources_of es) (live_at now (sources_of es))) (length-shown es))
   where
-    by : (b : Bool) → nat_lt n 1024 ≡ b → true ≡ not b → 1024 ≤ n
-    by true t e = cc
-    by false t e = ltb-false n 1024 t
+    by : (b : Bool) → sources_of (cond b es (ages.live_at 400 now es)) ≡ cond b (sources_of es) (live_at now (sources_of es))
+    by true = refl
+    by false = live-shown now es

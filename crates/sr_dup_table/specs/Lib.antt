@@ -1,4 +1,3 @@
 pub mod Sources
-pub mod Bounds
 pub mod Shown
 pub mod Runs

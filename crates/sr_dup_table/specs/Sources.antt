@@ -1,11 +1,12 @@
 -- What a table of duplicate records shows: its sources in order, and the sources whose place is held.
-use Rattle.std.specs.Prelude.{ℕ, ◌-◌, ◌≤◌, Bool, not, ◌&&◌, nat_lt, max, List, [], ◌∷◌, ◌++◌, length, filter, Option, None, Some, if◌then◌else◌}
+use Rattle.std.specs.Prelude.{ℕ, ◌≤◌, Bool, not, ◌&&◌, nat_lt, max, List, [], ◌∷◌, ◌++◌, length, filter, Option, None, Some, if◌then◌else◌}
 use Rattle.std.specs.List.{list_any, IsDistinct}
 use Rattle.std.specs.Map.{lookup, set_value, keys_of}
 use Rattle.sr_frame.specs.declared.fields.Mac.{Mac}
 use Rattle.sr_dup_table.specs.declared.fault.DupFault.{DupFault}
 use Rattle.sr_dup_table.specs.declared.fault.DupFault.TheVariants.{TableFull, NoMemory}
 use Rattle.sr_frame.specs.Addresses.{mac_eq}
+use Rattle.sr_aged_slots.specs.Ages as ages
 use Rattle.sr_dup_window.specs.declared.lane_sets.Lanes.{Lanes}
 use Rattle.sr_dup_window.specs.Windows.{Window, begun, noted, fresh_lanes}
 
@@ -20,7 +21,7 @@ Sources = List (Mac × Heard)
 
 -- a time less than 400 ms ago; an earlier moment counts as that time
 abbrev pub is_recent : ℕ → ℕ → Bool
-is_recent now time = nat_lt (now - time) 400
+is_recent = ages.is_recent 400
 
 -- a source that is not forgotten
 abbrev pub is_live : ℕ → Heard → Bool

@@ -1,20 +1,20 @@
 //! The table.
 ghost use Rattle.std.specs.Prelude.{◌≡◌, ℕ, ◌+◌, ◌≤◌, ◌↔◌, [], true, false, not, nat_lt, Some, None, length, ◌++◌, ◌∷◌, IsOk, OnOk, OnErr, IfOk, IfErr, IfSome, IfNone, IsErr, IsErrOf, is_some};
 ghost use Rattle.std.specs.Result.{result_ok};
-ghost use Rattle.std.specs.Map.{lookup, set_value};
+ghost use Rattle.std.specs.Map.{lookup};
 ghost use Rattle.sr_dup_window.specs.LaneSets.{is_empty};
+ghost use Rattle.sr_dup_window.specs.Windows.{window_of};
 ghost use Rattle.sr_frame.specs.Addresses.{mac_eq};
 ghost use Rattle.sr_slots.specs.Places.{KeepsHeld};
-ghost use Rattle.sr_dup_table.specs.Sources.{IsTable, is_held, is_recent, live_at, live_others, refusal_of, with_room, arrive_answer, after_arrive, heard_next, fresh_at};
-ghost use Rattle.sr_dup_table.specs.Shown.{heard_of, sources_of, HearsAgain};
-ghost use Rattle.sr_dup_table.specs.Bounds.{oldest_of};
+ghost use Rattle.sr_dup_table.specs.Sources.{IsTable, is_held, live_at, live_others, refusal_of, with_room, arrive_answer, after_arrive, heard_next, fresh_at};
+ghost use Rattle.sr_dup_table.specs.Shown.{heard_of, sources_of};
 
-use crate::entry::{Entry, is_recent};
+use crate::entry::{fresh, hear};
 use crate::fault::{DupFault, TableFull};
-use sr_dup_window::Lanes;
+use sr_aged_slots::{Aged, AgedSlots};
+use sr_dup_window::{Lanes, Record};
 use sr_frame::{Mac, NoMemory};
 use sr_sequence::Seq;
-use sr_slots::Slots;
 use std::alloc::Global;
 use std::marker::Model;
 
@@ -29,11 +29,7 @@ pub const MOST_SOURCES: usize = 1024;
 /// a new source meets a full table.
 #[derive(Drop)]
 pub struct DupTable {
-    slots: Slots<Entry>,
-    // No source was last heard before this time.
-    oldest: u64,
-    // Where this is set, one was last heard just then, or there is no source.
-    is_exact: bool,
+    slots: AgedSlots<Record<16>, ENTRY_FORGET_TIME, MOST_SOURCES>,
 }
 
 impl Model for DupTable {
@@ -42,59 +38,8 @@ impl Model for DupTable {
     ghost Value = { Table };
 
     ghost use Rattle.sr_dup_table.specs.Shown.{sources_of};
-    ghost use Rattle.sr_dup_table.specs.Bounds.{IsBounded};
 
     ghost view = { λ t. record { sources = sources_of t.slots.entries; held = t.slots.held } };
-
-    ghost invariant = { λ t. IsBounded (sources_of t.slots.entries) t.oldest t.is_exact };
-}
-
-// The oldest time of a source.
-fn oldest_in(slots: &Slots<Entry>) -> u64
-    ensures { result ≡ oldest_of (sources_of slots.now.entries) }
-{
-    let mut oldest = u64::MAX;
-    for (_, entry) in slots.iter() {
-        oldest = oldest.min(entry.time);
-    }
-    oldest
-}
-
-// Takes the forgotten sources out. Held places stay.
-fn forget(slots: &mut Slots<Entry>, now: u64)
-    ensures sources { sources_of slots.new.entries ≡ live_at now (sources_of slots.old.entries) }
-    ensures held { slots.new.held ≡ slots.old.held }
-{
-    slots.retain(|entry| entry.is_live(now));
-}
-
-// Notes an arrival of a source that has a record, in its place. With the answer it gives the time of the hearing before.
-fn hear_again(
-    slots: &mut Slots<Entry>,
-    src: Mac,
-    seq: Seq,
-    lanes: Lanes,
-    now: u64,
-) -> Option<(Lanes, u64)>
-    requires { is_empty lanes ≡ false }
-    ensures found { is_some result ≡ is_some (lookup (mac_eq src) (sources_of slots.old.entries)) }
-    ensures heard { IfSome result (λ r. HearsAgain (sources_of slots.old.entries) src seq.0 lanes now r.0 r.1 (sources_of slots.new.entries)) }
-    ensures others { IfSome result (λ r. KeepsHeld slots.old.held slots.new.held src) }
-    ensures none { IfNone result (slots.new ≡ slots.old) }
-{
-    let (fresh, before) = slots.update(
-        src,
-        |entry: &mut Entry| -> (Lanes, u64)
-            requires { is_empty lanes ≡ false }
-            ensures after { heard_of entry.new ≡ heard_next (heard_of entry.old) seq.0 lanes now }
-            ensures answer { result.0 ≡ fresh_at (heard_of entry.old) seq.0 lanes now }
-            ensures before { result.1 ≡ entry.old.time }
-        {
-            let before = entry.time;
-            (entry.hear(seq, lanes, now), before)
-        },
-    )?;
-    Some((fresh, before))
 }
 
 impl DupTable {
@@ -104,9 +49,7 @@ impl DupTable {
         ensures held { result.held ≡ [] }
     {
         DupTable {
-            slots: Slots::new(alloc),
-            oldest: u64::MAX,
-            is_exact: true,
+            slots: AgedSlots::new(alloc),
         }
     }
 
@@ -146,7 +89,7 @@ impl DupTable {
         ensures full { IsErr result ↔ (length (live_others src now self.now.sources) ≡ 1024) }
     {
         match self.slots.get(src) {
-            Some(entry) => Ok(entry.fresh(seq, lanes, now)),
+            Some(entry) => Ok(fresh(entry, seq, lanes, now)),
             None => {
                 if self.is_full(now) {
                     Err(TableFull)
@@ -191,10 +134,14 @@ impl DupTable {
         ensures others { IfSome result (λ fresh. KeepsHeld self.old.held self.new.held src) }
         ensures none { IfNone result (self.new ≡ self.old) }
     {
-        let (fresh, before) = hear_again(&mut self.slots, src, seq, lanes, now)?;
-        if before == self.oldest {
-            self.is_exact = false;
-        }
+        let fresh = self.slots.update(
+            src,
+            |entry: &mut Aged<Record<16>>| -> Lanes
+                requires { is_empty lanes ≡ false }
+                ensures after { heard_of entry.new ≡ heard_next (heard_of entry.old) seq.0 lanes now }
+                ensures answer { result ≡ fresh_at (heard_of entry.old) seq.0 lanes now }
+            { hear(entry, seq, lanes, now) },
+        )?;
         Some(fresh)
     }
 
@@ -215,65 +162,28 @@ impl DupTable {
         if self.is_full(now) {
             return Err(DupFault::TableFull);
         }
-        self.put_last(src, Entry::begin(seq, lanes, now), now)?;
+        self.put_last(src, Record::begin(seq, lanes), now)?;
         Ok(lanes)
     }
 
     // Adds a source to a table that is not full. The forgotten ones of a crowded table go.
-    fn put_last(&mut self, src: Mac, entry: Entry, now: u64) -> Result<(), NoMemory>
+    fn put_last(&mut self, src: Mac, first: Record<16>, now: u64) -> Result<(), NoMemory>
         requires absent { lookup (mac_eq src) self.old.sources ≡ None }
         requires room { nat_lt (length (with_room now self.old.sources)) 1024 ≡ true }
-        requires now { entry.time ≡ now }
-        ensures sources { OnOk result (self.new.sources ≡ with_room now self.old.sources ++ (src, heard_of entry) ∷ []) }
+        ensures sources { OnOk result (self.new.sources ≡ with_room now self.old.sources ++ (src, record { seen = window_of first; time = now }) ∷ []) }
         ensures reserved { is_held self.old src ≡ true → IsOk result }
         ensures held { OnOk result (KeepsHeld self.old.held self.new.held src) }
         ensures err { OnErr result (self.new ≡ self.old) }
     {
-        let is_crowded = self.slots.len() >= MOST_SOURCES;
-        self.slots.append(src, entry)?;
-        if is_crowded {
-            forget(&mut self.slots, now);
-            self.oldest = oldest_in(&self.slots);
-            self.is_exact = true;
-        } else {
-            self.oldest = self.oldest.min(now);
-        }
+        self.slots.append(src, first, now)?;
         Ok(())
-    }
-
-    // Whether as many sources stand in the table as may, the forgotten ones among them.
-    fn is_crowded(&self) -> bool
-        ensures crowded { result ≡ not (nat_lt (length self.now.sources) 1024) }
-        ensures few { length self.now.sources ≤ 1024 }
-    {
-        self.slots.len() >= MOST_SOURCES
-    }
-
-    // Whether no source is forgotten.
-    fn all_are_live(&self, now: u64) -> bool
-        ensures { result ≡ is_recent now (oldest_of self.now.sources) }
-    {
-        if self.is_exact {
-            return is_recent(self.oldest, now);
-        }
-        is_recent(self.oldest, now) || is_recent(oldest_in(&self.slots), now)
     }
 
     // Whether a new source has no room.
     fn is_full(&self, now: u64) -> bool
         ensures { result ≡ not (nat_lt (length (with_room now self.now.sources)) 1024) }
     {
-        self.is_crowded() && self.all_are_live(now)
-    }
-
-    // Learns the oldest time anew, where a source may be forgotten and it is not known which.
-    fn learn_oldest(&mut self, now: u64)
-        ensures { self.new ≡ self.old }
-    {
-        if !self.is_exact && !is_recent(self.oldest, now) {
-            self.oldest = oldest_in(&self.slots);
-            self.is_exact = true;
-        }
+        self.slots.is_full(now)
     }
 
     /// For after a refusal by `fresh` at this time: the next ones need not look at each source of the full table. Nothing
@@ -281,9 +191,7 @@ impl DupTable {
     pub fn refresh(&mut self, now: u64)
         ensures { self.new ≡ self.old }
     {
-        if self.is_crowded() {
-            self.learn_oldest(now);
-        }
+        self.slots.refresh(now);
     }
 
     /// Takes the sources out that were silent for 400 ms or more, and answers how many.
@@ -292,14 +200,6 @@ impl DupTable {
         ensures held { self.new.held ≡ self.old.held }
         ensures count { result + length self.new.sources ≡ length self.old.sources }
     {
-        self.learn_oldest(now);
-        if self.all_are_live(now) {
-            return 0;
-        }
-        let before = self.slots.len();
-        forget(&mut self.slots, now);
-        self.oldest = oldest_in(&self.slots);
-        self.is_exact = true;
-        before - self.slots.len()
+        self.slots.age(now)
     }
 }

@@ -6,7 +6,7 @@ ghost use Rattle.std.specs.Map.{lookup};
 ghost use Rattle.std.specs.Option.{option_copied};
 ghost use Rattle.indexmap.specs.IndexMap.{values};
 ghost use Rattle.sr_frame.specs.Addresses.{mac_eq};
-ghost use Rattle.sr_slots.specs.Places.{entries_of, held_of, entry_at, held_at, slot_of, KeepsHeld};
+ghost use Rattle.sr_slots.specs.Places.{entries_of, held_of, slot_of, KeepsHeld};
 ghost use Rattle.sr_slots.specs.Calls.{ChangesAt, Tests, passing};
 
 use indexmap::IndexMap;

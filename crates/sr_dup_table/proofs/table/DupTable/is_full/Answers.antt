@@ -1,8 +1,12 @@
-use Rattle.std.proofs.Common.{◌∙◌, arith, length}
-use Rattle.sr_dup_table.proofs.SourceLemmas.{full_is, many_from}
+use Rattle.std.proofs.Common.{◌∙◌, sym, ap, not, nat_lt, length}
+use Rattle.sr_aged_slots.specs.Ages as ages
+use Rattle.sr_dup_table.specs.Sources.{with_room}
+use Rattle.sr_dup_table.proofs.SourceLemmas.{length-shown, room-shown}
 use Rattle.sr_dup_table.proofs.table.DupTable.is_full.Goals as goal
 
-pub returns-then-is_crowded : goal.returns-then-is_crowded
-returns-then-is_crowded c =
-    let s = c.args.self.now.sources in
-    c.all_are_live.ensures ∙ full_is c.args.now s (omega arith) c.is_crowded.ensures.few (many_from (length s) c.if-is_crowded.ensures.crowded)
+pub returns : goal.returns
+returns c =
+    let es = c.self.inside.slots.entries in
+    c.is_full.ensures
+    ∙ ap (λ n. not (nat_lt n 1024)) (sym (length-shown (ages.with_room 400 1024 c.args.now es)) ∙ ap length (room-shown c.args.now es))
+    ∙ ap (λ t. not (nat_lt (length (with_room c.args.now t.sources)) 1024)) c.self.view_is

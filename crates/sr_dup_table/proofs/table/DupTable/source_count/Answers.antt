@@ -2,15 +2,16 @@ use Rattle.std.proofs.Common.{sym, ap, subst, arith, length}
 use Rattle.std.specs.List.{IsDistinct}
 use Rattle.sr_frame.specs.Addresses.{mac_eq}
 use Rattle.sr_dup_table.specs.Sources.{IsTable}
-use Rattle.sr_dup_table.proofs.SourceLemmas.{keys-shown, length-live_le}
+use Rattle.sr_dup_table.proofs.SourceLemmas.{keys-shown, length-shown, length-live_le}
 use Rattle.sr_dup_table.proofs.table.DupTable.source_count.Goals as goal
 
 pub returns-clause-table : goal.returns-clause-table
 returns-clause-table c =
     subst (λ t. IsTable t.sources) c.self.view_is (record {
       unique = subst (IsDistinct mac_eq) (sym (keys-shown c.self.inside.slots.entries)) c.len.ensures.unique;
-      few = c.self.invariant.few;
+      few = omega (arith, c.len.ensures.few, length-shown c.self.inside.slots.entries);
     })
 
 pub returns-clause-live : goal.returns-clause-live
-returns-clause-live c now = omega (arith, length-live_le now c.args.self.now.sources, ap (λ t. length t.sources) c.self.view_is, c.self.invariant.few)
+returns-clause-live c now =
+    omega (arith, length-live_le now c.args.self.now.sources, ap (λ t. length t.sources) c.self.view_is, c.len.ensures.few, length-shown c.self.inside.slots.entries)

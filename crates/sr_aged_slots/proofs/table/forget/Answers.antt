@@ -1,0 +1,6 @@
+use Rattle.std.proofs.Common.{rules}
+use Rattle.sr_aged_slots.specs.Ages.{is_recent}
+use Rattle.sr_aged_slots.proofs.table.forget.Goals as goal
+
+pub returns-clause-entries : goal.returns-clause-entries
+returns-clause-entries g c = c.retain.ensures.kept (λ e. is_recent c.args.span c.args.now e.time) (λ v b call. search rules)
