@@ -4,6 +4,7 @@
 mod fault;
 mod fields;
 mod laws;
+mod learnt;
 mod owned;
 mod ports;
 mod reading;
@@ -15,6 +16,7 @@ pub use fields::{
     FrameView, HEADER_LEN, MAX_FRAME_LEN, MIN_PAYLOAD_LEN, Mac, VLAN_KIND, VLAN_TAG_LEN,
 };
 pub use laws::{fields_are_unique, frames_have_frame_length};
+pub use learnt::Learnt;
 pub use owned::Frame;
 pub use ports::Port;
 pub use reading::view;
