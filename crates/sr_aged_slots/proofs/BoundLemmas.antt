@@ -10,7 +10,7 @@ use Rattle.sr_aged_slots.specs.Ages.{is_recent, live_at, with_room, oldest_of, I
 use Rattle.sr_aged_slots.specs.AgeLemmas.{length-live_le}
 
 -- a later time is recent where an earlier one is
-recent_later : (span now a b : ℕ) → a ≤ b → is_recent span now a ≡ true → is_recent span now b ≡ true
+pub recent_later : (span now a b : ℕ) → a ≤ b → is_recent span now a ≡ true → is_recent span now b ≡ true
 recent_later span now a b le h = let l : now - a < span = ltb-true (now - a) span h in lt-ltb (now - b) span (omega arith)
 
 pub many_from : (n most : ℕ) → true ≡ not (nat_lt n most) → most ≤ n

@@ -1,6 +1,7 @@
 -- Values that are forgotten when their address is silent, and what a table knows of their times.
-use Rattle.std.specs.Prelude.{◌≡◌, ℕ, ◌-◌, ◌<◌, ◌≤◌, Bool, true, min, nat_lt, List, [], ◌∷◌, length, filter, if◌then◌else◌}
+use Rattle.std.specs.Prelude.{◌≡◌, ℕ, ◌-◌, ◌<◌, ◌≤◌, Bool, true, nat_lt, List, length, filter, if◌then◌else◌}
 use Rattle.sr_frame.specs.declared.fields.Mac.{Mac}
+use Rattle.sr_slots.specs.Calls.{least_rank}
 use Rattle.sr_aged_slots.specs.declared.aged.Aged.{Aged}
 
 -- a time less than `span` ago; a later time counts as now
@@ -18,8 +19,7 @@ module _ {V : Type 0} where
 
   -- the oldest time, or the latest of all times where there is no value
   abbrev pub oldest_of : List (Mac × Aged V) → ℕ
-  oldest_of [] = 18446744073709551615
-  oldest_of (e ∷ es) = min e.1.time (oldest_of es)
+  oldest_of es = least_rank (λ v. v.time) es
 
   -- at most so many values; none is older than this time, and where that is exact one is just as old
   pub record IsBounded (span most : ℕ) (es : List (Mac × Aged V)) (oldest : ℕ) (is_exact : Bool) : Type 0 where

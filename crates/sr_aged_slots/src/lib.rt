@@ -6,3 +6,6 @@ mod table;
 
 pub use aged::Aged;
 pub use table::AgedSlots;
+
+#[cfg(test)]
+mod tests;

@@ -1,17 +1,18 @@
 //! The table.
-ghost use Rattle.std.specs.Prelude.{◌≡◌, ◌<◌, ◌≤◌, ◌+◌, ◌++◌, ◌∷◌, [], None, true, not, nat_lt, is_some, length, IsOk, OnOk, OnErr, IfSome, IfNone};
+ghost use Rattle.std.specs.Prelude.{◌≡◌, ◌<◌, ◌≤◌, ◌+◌, ◌++◌, ◌∷◌, [], None, true, false, not, nat_lt, is_some, length, IsOk, IfOk, OnOk, OnErr, IfSome, IfNone};
 ghost use Rattle.std.specs.Fn.{FnOnceReturnsAtMut};
 ghost use Rattle.std.specs.List.{IsDistinct};
 ghost use Rattle.std.specs.Map.{keys_of};
-ghost use Rattle.std.specs.Option.{option_copied};
+ghost use Rattle.std.specs.Option.{option_copied, option_map};
 ghost use Rattle.sr_frame.specs.Addresses.{mac_eq};
-ghost use Rattle.sr_slots.specs.Places.{is_held, value_at, KeepsHeld};
-ghost use Rattle.sr_slots.specs.Calls.{ChangesAt};
+ghost use Rattle.sr_slots.specs.Places.{is_held, value_at, KeepsHeld, KeepsHeldBut, KeepsAllHeld};
+ghost use Rattle.std.specs.Map.Iter.{ShowsInOrder};
+ghost use Rattle.sr_slots.specs.Calls.{ChangesAt, shown_entry};
 ghost use Rattle.sr_aged_slots.specs.Ages.{is_recent, live_at, with_room, oldest_of};
 
 use crate::aged::{Aged, is_recent};
 use sr_frame::{Mac, NoMemory};
-use sr_slots::Slots;
+use sr_slots::{Iter, Keys, Slots, Spot};
 use std::alloc::Global;
 use std::marker::Model;
 
@@ -50,23 +51,40 @@ fn oldest_in<V: Drop>(slots: &Slots<Aged<V>>) -> u64
     oldest
 }
 
-// Takes the forgotten values out. Held places stay.
-fn forget<V: Drop>(slots: &mut Slots<Aged<V>>, span: u64, now: u64)
+// Takes the forgotten values out, and answers the oldest time of those that are left. Held places stay.
+fn forget<V: Drop>(slots: &mut Slots<Aged<V>>, span: u64, now: u64) -> u64
     ensures entries { slots.new.entries ≡ live_at span now slots.old.entries }
     ensures held { slots.new.held ≡ slots.old.held }
+    ensures oldest { result ≡ oldest_of slots.new.entries }
 {
-    slots.retain(|entry| entry.is_live(span, now));
+    slots.sift(|entry| entry.is_live(span, now), |entry| entry.time)
 }
 
 impl<V: Drop, const SPAN: u64, const MOST: usize> AgedSlots<V, SPAN, MOST> {
-    /// A table of no value, which takes no memory yet. `SPAN` is above 0.
+    // Lets the empty places go where there are an eighth more places than there may be values.
+    fn sweep(&mut self)
+        ensures { self.new ≡ self.old }
+    {
+        self.slots.sweep(MOST.saturating_add(MOST / 8));
+    }
+
+    /// A table of no value under fixed keys, which takes no memory yet. `SPAN` is above 0.
     pub fn new(alloc: Global) -> Self
         requires { 0 < SPAN }
         ensures entries { result.entries ≡ [] }
         ensures held { result.held ≡ [] }
     {
+        AgedSlots::with_keys(alloc, Keys::FIXED)
+    }
+
+    /// A table of no value whose places depend on these keys, which takes no memory yet. `SPAN` is above 0.
+    pub fn with_keys(alloc: Global, keys: Keys) -> Self
+        requires { 0 < SPAN }
+        ensures entries { result.entries ≡ [] }
+        ensures held { result.held ≡ [] }
+    {
         AgedSlots {
-            slots: Slots::new(alloc),
+            slots: Slots::with_keys(alloc, keys),
             oldest: u64::MAX,
             is_exact: true,
         }
@@ -90,15 +108,35 @@ impl<V: Drop, const SPAN: u64, const MOST: usize> AgedSlots<V, SPAN, MOST> {
         self.slots.get(key)
     }
 
+    /// The addresses that have a value, forgotten or not, in order, with their values.
+    pub fn iter(&self) -> Iter<'_, Aged<V>>
+        ensures rest { result ≡ self.now.entries }
+        ensures runs { ShowsInOrder (shown_entry {V = Aged V}) }
+    {
+        self.slots.iter()
+    }
+
     /// Holds a place for an address, so that `append` of it takes no memory. Nothing else sees the place.
     /// NoMemory: memory ran out, and nothing changes.
     pub fn hold(&mut self, key: Mac) -> Result<(), NoMemory>
         ensures entries { self.new.entries ≡ self.old.entries }
         ensures held { OnOk result (is_held self.new key ≡ true) }
         ensures others { OnOk result (KeepsHeld self.old.held self.new.held key) }
+        ensures again { is_held self.old key ≡ true → IsOk result }
         ensures err { OnErr result (self.new ≡ self.old) }
     {
+        self.sweep();
         self.slots.hold(key)
+    }
+
+    /// Holds the places of two addresses. NoMemory: memory ran out, and each address has a held place as before.
+    pub fn hold_both(&mut self, key: Mac, other: Mac) -> Result<(), NoMemory>
+        ensures entries { self.new.entries ≡ self.old.entries }
+        ensures held { OnOk result ((is_held self.new key ≡ true) × (is_held self.new other ≡ true)) }
+        ensures others { OnOk result (KeepsHeldBut self.old.held self.new.held key other) }
+        ensures err { OnErr result (KeepsAllHeld self.old.held self.new.held) }
+    {
+        self.slots.hold_both(key, other)
     }
 
     /// Gives up all held places.
@@ -109,10 +147,26 @@ impl<V: Drop, const SPAN: u64, const MOST: usize> AgedSlots<V, SPAN, MOST> {
         self.slots.release();
     }
 
-    /// Changes the value of an address in its place, and answers what the change answers. No value may become older.
-    /// None: the address has no value, and nothing changes.
-    pub fn update<R: Drop, F: FnOnce(&mut Aged<V>) -> R>(
+    /// The value of an address, forgotten or not, and where it is.
+    pub fn find(&self, key: Mac) -> Option<(Spot, &Aged<V>)>
+        ensures value { option_map (λ found. found.1.now) result ≡ value_at self.now key }
+        ensures few { length self.now.entries ≤ MOST }
+    {
+        self.slots.find(key)
+    }
+
+    /// The value of an address, forgotten or not, which is looked for at a spot first.
+    pub fn get_at(&self, spot: Option<Spot>, key: Mac) -> Option<&Aged<V>>
+        ensures value { option_copied result ≡ value_at self.now key }
+    {
+        self.slots.get_at(spot, key)
+    }
+
+    /// Changes the value of an address in its place, which is looked for at a spot first, and answers what the change answers.
+    /// No value may become older. None: the address has no value, and nothing changes.
+    pub fn update_at<R: Drop, F: FnOnce(&mut Aged<V>) -> R>(
         &mut self,
+        spot: Option<Spot>,
         key: Mac,
         change: F,
     ) -> Option<R>
@@ -121,10 +175,12 @@ impl<V: Drop, const SPAN: u64, const MOST: usize> AgedSlots<V, SPAN, MOST> {
         ensures found { is_some result ≡ is_some (value_at self.old key) }
         ensures changed { IfSome result (λ answer. ChangesAt F.FnOnce change key self.old.entries answer self.new.entries) }
         ensures others { IfSome result (λ answer. KeepsHeld self.old.held self.new.held key) }
+        ensures used { IfSome result (λ answer. is_held self.new key ≡ false) }
         ensures none { IfNone result (self.new ≡ self.old) }
         ensures few { length self.old.entries ≤ MOST }
     {
-        let (answer, before) = self.slots.update(
+        let (answer, before) = self.slots.update_at(
+            spot,
             key,
             |entry: &mut Aged<V>| -> (R, u64)
                 requires { F.IsAlwaysCallable change }
@@ -150,13 +206,14 @@ impl<V: Drop, const SPAN: u64, const MOST: usize> AgedSlots<V, SPAN, MOST> {
         ensures entries { OnOk result (self.new.entries ≡ with_room SPAN MOST now self.old.entries ++ (key, record { value = value; time = now }) ∷ []) }
         ensures reserved { is_held self.old key ≡ true → IsOk result }
         ensures others { OnOk result (KeepsHeld self.old.held self.new.held key) }
+        ensures used { OnOk result (is_held self.new key ≡ false) }
         ensures err { OnErr result (self.new ≡ self.old) }
     {
+        self.sweep();
         let is_crowded = self.slots.len() >= MOST;
         self.slots.append(key, Aged { value, time: now })?;
         if is_crowded {
-            forget(&mut self.slots, SPAN, now);
-            self.oldest = oldest_in(&self.slots);
+            self.oldest = forget(&mut self.slots, SPAN, now);
             self.is_exact = true;
         } else {
             self.oldest = self.oldest.min(now);
@@ -191,13 +248,15 @@ impl<V: Drop, const SPAN: u64, const MOST: usize> AgedSlots<V, SPAN, MOST> {
         }
     }
 
-    /// Sees to it that `is_full` at this time need not look at each value. Nothing that shows changes.
-    pub fn refresh(&mut self, now: u64)
-        ensures { self.new ≡ self.old }
+    /// The same. The next calls at this time look at no value.
+    pub fn is_full_now(&mut self, now: u64) -> bool
+        ensures result { result ≡ not (nat_lt (length (with_room SPAN MOST now self.old.entries)) MOST) }
+        ensures same { self.new ≡ self.old }
     {
         if self.slots.len() >= MOST {
             self.learn_oldest(now);
         }
+        self.is_full(now)
     }
 
     /// Takes the forgotten values out, and answers how many. The others keep their order, and held places stay held.
@@ -206,14 +265,28 @@ impl<V: Drop, const SPAN: u64, const MOST: usize> AgedSlots<V, SPAN, MOST> {
         ensures held { self.new.held ≡ self.old.held }
         ensures count { result + length self.new.entries ≡ length self.old.entries }
     {
-        self.learn_oldest(now);
-        if self.all_are_live(now) {
+        if is_recent(SPAN, now, self.oldest) {
             return 0;
         }
         let before = self.slots.len();
-        forget(&mut self.slots, SPAN, now);
-        self.oldest = oldest_in(&self.slots);
+        self.oldest = forget(&mut self.slots, SPAN, now);
         self.is_exact = true;
         before - self.slots.len()
+    }
+}
+
+impl<V: Drop + Copy, const SPAN: u64, const MOST: usize> AgedSlots<V, SPAN, MOST> {
+    /// A table of its own with the same values in the same order, under the same keys. It holds no place.
+    /// NoMemory: memory ran out.
+    pub fn try_clone(&self, alloc: Global) -> Result<Self, NoMemory>
+        ensures entries { IfOk result (λ own. own.entries ≡ self.now.entries) }
+        ensures held { IfOk result (λ own. own.held ≡ []) }
+    {
+        let slots = self.slots.try_clone(alloc)?;
+        Ok(AgedSlots {
+            slots,
+            oldest: self.oldest,
+            is_exact: self.is_exact,
+        })
     }
 }

@@ -1,3 +1,3 @@
-pub mod Runs
+pub mod TableRuns
 pub mod RunLemmas
 pub mod SteadyLemmas

@@ -1,6 +1,6 @@
 //! Laws over runs of the table: lists of arrivals and ageings from the empty table on.
 
-ghost use Rattle.sr_dup_runs.specs.Runs.{BeyondIsNew, EachPairIsNewOnce, NumbersAreSteady, late_copies, over_the_end};
+ghost use Rattle.sr_dup_runs.specs.TableRuns.{BeyondIsNew, EachPairIsNewOnce, NumbersAreSteady, late_copies, over_the_end};
 
 /// In every steady run an arrival is new on exactly the asked lanes on which no earlier copy of it was noted,
 /// among all that ever came.

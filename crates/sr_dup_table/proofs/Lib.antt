@@ -1,2 +1,3 @@
 pub mod SourceLemmas
 pub mod RunLemmas
+pub mod EntryLemmas

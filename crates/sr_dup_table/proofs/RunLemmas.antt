@@ -9,9 +9,9 @@ use Rattle.sr_frame.specs.Addresses.{mac_eq}
 use Rattle.sr_slots.specs.Calls.{passing}
 use Rattle.sr_slots.specs.EntryLemmas.{one_if, lookup-set, distinct-set, lookup-push, distinct-push, lookup-passing, distinct-passing, length-passing-set, length-passing-push}
 use Rattle.sr_dup_window.specs.declared.lane_sets.Lanes.{Lanes}
-use Rattle.sr_dup_window.specs.Windows.{noted, fresh_lanes}
+use Rattle.sr_dup_window.specs.Windows.{window_noted, fresh_lanes}
 use Rattle.sr_dup_table.specs.Sources.{Heard, Sources, IsTable, is_live, live_at, with_room, begun_at, heard_next, answer_of, arrive_answer, after_of, after_arrive}
-use Rattle.sr_dup_table.specs.Runs.{Arrival, answer_to, left_by, answers, AreFrom, AgeingKeepsAnswers}
+use Rattle.sr_dup_table.specs.Ageing.{TableArrival, answer_to, left_by, answers, AreFrom, AgeingKeepsAnswers}
 use Rattle.sr_dup_table.proofs.SourceLemmas.{length-live_le}
 
 -- the record of a source, if it is live
@@ -25,7 +25,7 @@ answer_by None n seq lanes = cond (nat_lt n 1024) (Some lanes) None
 
 -- and the record after it
 abbrev next_by : Option Heard → ℕ → Lanes → ℕ → Heard
-next_by (Some h) seq lanes now = record { seen = noted 1024 h.seen seq lanes; time = max h.time now }
+next_by (Some h) seq lanes now = record { seen = window_noted 1024 h.seen seq lanes; time = max h.time now }
 next_by None seq lanes now = begun_at seq lanes now
 
 -- what is live later was live before
@@ -184,13 +184,13 @@ record Alike (now : ℕ) (s t : Sources) : Type 0 where
 alike_later : (now later : ℕ) (s t : Sources) → now ≤ later → Alike now s t → Alike later s t
 alike_later now later s t le h = record { one = h.one; other = h.other; live = λ u l. h.live u (omega arith); count = λ u l. h.count u (omega arith) }
 
-alike_answer : (s t : Sources) (a : Arrival) → Alike a.time s t → answer_to s a ≡ answer_to t a
+alike_answer : (s t : Sources) (a : TableArrival) → Alike a.time s t → answer_to s a ≡ answer_to t a
 alike_answer s t a h =
     answer_is s a.src a.seq a.lanes a.time h.one
     ∙ (λ j. answer_by (h.live a.time (omega arith) a.src j) (h.count a.time (omega arith) j) a.seq a.lanes)
     ∙ sym (answer_is t a.src a.seq a.lanes a.time h.other)
 
-alike_after : (s t : Sources) (a : Arrival) → Alike a.time s t → (o : Option Lanes) → answer_to s a ≡ o → answer_to t a ≡ o → Alike a.time (left_by o s a) (left_by o t a)
+alike_after : (s t : Sources) (a : TableArrival) → Alike a.time s t → (o : Option Lanes) → answer_to s a ≡ o → answer_to t a ≡ o → Alike a.time (left_by o s a) (left_by o t a)
 alike_after s t a h None p q = h
 alike_after s t a h (Some fresh) p q =
     let next = next_by (live_record a.time s a.src) a.seq a.lanes a.time in
@@ -204,7 +204,7 @@ alike_after s t a h (Some fresh) p q =
       count = λ u le. let k : one_if (is_some (live_record u s a.src)) ≡ one_if (is_some (live_record u t a.src)) = ap (λ r. one_if (is_some r)) (h.live u le a.src) in omega (arith, k, x.count u le, y.count u le, h.count u le);
     }
 
-alike_answers : (now : ℕ) (s t : Sources) (later : List Arrival) → Alike now s t → AreFrom now later → answers s later ≡ answers t later
+alike_answers : (now : ℕ) (s t : Sources) (later : List TableArrival) → Alike now s t → AreFrom now later → answers s later ≡ answers t later
 alike_answers now s t [] h from = refl
 alike_answers now s t (a ∷ more) h from =
     let k = alike_later now a.time s t from.0 h in

@@ -1,5 +1,5 @@
 -- What the entries of the table show, through what is done to them.
-use Rattle.std.proofs.Common.{◌≡◌, ℕ, suc, ◌-◌, ◌<◌, ◌≤◌, max, Bool, true, false, cond, not, ◌&&◌, nat_lt, List, [], ◌∷◌, ◌++◌, length, filter, Option, None, Some, is_some, refl, sym, ap, ◌∙◌, arith}
+use Rattle.std.proofs.Common.{◌≡◌, ℕ, suc, ◌<◌, ◌≤◌, Bool, true, false, cond, not, ◌&&◌, nat_lt, List, [], ◌∷◌, ◌++◌, length, filter, Option, None, Some, is_some, refl, sym, ap, ◌∙◌, arith}
 use Rattle.std.specs.Map.{lookup, set_value, keys_of}
 use Rattle.std.specs.Option.{option_map}
 use Rattle.std.proofs.lemmas.Bool.{ltb-true, ltb-false, le-ltb}
@@ -7,11 +7,10 @@ use Rattle.std.proofs.lemmas.List.{length-map, map-append}
 use Rattle.sr_frame.specs.declared.fields.Mac.{Mac}
 use Rattle.sr_dup_window.specs.declared.lane_sets.Lanes.{Lanes}
 use Rattle.sr_frame.specs.Addresses.{mac_eq}
-use Rattle.sr_dup_window.specs.Windows.{noted}
 use Rattle.sr_dup_window.specs.declared.record.Record.{Record}
 use Rattle.sr_aged_slots.specs.declared.aged.Aged.{Aged}
 use Rattle.sr_aged_slots.specs.Ages as ages
-use Rattle.sr_dup_table.specs.Sources.{Heard, Sources, is_live, live_at, live_others, with_room, answer_of, arrive_answer, heard_next, begun_at}
+use Rattle.sr_dup_table.specs.Sources.{Heard, Sources, is_live, live_at, live_others, with_room, fresh_at, answer_of, arrive_answer}
 use Rattle.sr_dup_table.specs.Shown.{heard_of, sources_of}
 
 abbrev Entry : Type 0
@@ -59,14 +58,6 @@ live-shown now (e ∷ es) = by (is_live now (heard_of e.1)) (live-shown now es)
 
 pub length-shown : (es : List (Mac × Entry)) → length (sources_of es) ≡ length es
 length-shown es = length-map es (λ e. (e.0, heard_of e.1))
-
--- an arrival makes a source no older
-pub later_next : (h : Heard) (seq : ℕ) (lanes : Lanes) (now : ℕ) → h.time ≤ (heard_next h seq lanes now).time
-later_next h seq lanes now = by (is_live now h) refl
-  where
-    by : (b : Bool) → is_live now h ≡ b → h.time ≤ (cond {A = Heard} b (record { seen = noted 1024 h.seen seq lanes; time = max h.time now }) (begun_at seq lanes now)).time
-    by true e = omega arith
-    by false e = let l : 400 ≤ now - h.time = ltb-false (now - h.time) 400 e in omega arith
 
 pub length-live_le : (now : ℕ) (s : Sources) → length (live_at now s) ≤ length s
 length-live_le now [] = omega arith
@@ -169,3 +160,19 @@ room-shown now es = by (nat_lt (length es) 1024) ∙ sym (ap (λ n. cond (nat_lt
     by : (b : Bool) → sources_of (cond b es (ages.live_at 400 now es)) ≡ cond b (sources_of es) (live_at now (sources_of es))
     by true = refl
     by false = live-shown now es
+
+-- what a source with a record is answered, and what one without
+pub known_answers : (s : Sources) (m : Mac) (seq : ℕ) (lanes fresh : Lanes) (now : ℕ) → Some fresh ≡ option_map (λ h. fresh_at h seq lanes now) (lookup (mac_eq m) s) → arrive_answer s m seq lanes now ≡ Some fresh
+known_answers s m seq lanes fresh now h = by (lookup (mac_eq m) s) h
+  where
+    by : (o : Option Heard) → Some fresh ≡ option_map (λ h. fresh_at h seq lanes now) o → answer_of o s seq lanes now ≡ Some fresh
+    by None e = cc
+    by (Some x) e = sym e
+
+pub unknown_answers : (s : Sources) (m : Mac) (seq : ℕ) (lanes : Lanes) (now : ℕ) → None ≡ option_map (λ h. fresh_at h seq lanes now) (lookup (mac_eq m) s)
+    → arrive_answer s m seq lanes now ≡ cond (nat_lt (length (with_room now s)) 1024) (Some lanes) None
+unknown_answers s m seq lanes now h = by (lookup (mac_eq m) s) h
+  where
+    by : (o : Option Heard) → None ≡ option_map (λ h. fresh_at h seq lanes now) o → answer_of o s seq lanes now ≡ cond (nat_lt (length (with_room now s)) 1024) (Some lanes) None
+    by None e = refl
+    by (Some x) e = cc

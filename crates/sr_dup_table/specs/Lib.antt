@@ -1,3 +1,5 @@
+pub mod Limits
 pub mod Sources
 pub mod Shown
-pub mod Runs
+pub mod EqualityLemmas
+pub mod Ageing

@@ -1,5 +1,7 @@
 -- What a table of duplicate records shows: its sources in order, and the sources whose place is held.
-use Rattle.std.specs.Prelude.{ℕ, ◌≤◌, Bool, not, ◌&&◌, nat_lt, max, List, [], ◌∷◌, ◌++◌, length, filter, Option, None, Some, if◌then◌else◌}
+use Rattle.std.specs.Prelude.{ℕ, ◌≤◌, Bool, not, ◌&&◌, ◌||◌, is_some, nat_eq, nat_lt, max, List, [], ◌∷◌, ◌++◌, length, filter, Option, None, Some, if◌then◌else◌}
+use Rattle.std.specs.Ordering.{on, eq_of_both}
+use Rattle.std.specs.Cmp.Lexicographic.{pointwise}
 use Rattle.std.specs.List.{list_any, IsDistinct}
 use Rattle.std.specs.Map.{lookup, set_value, keys_of}
 use Rattle.sr_frame.specs.declared.fields.Mac.{Mac}
@@ -8,7 +10,8 @@ use Rattle.sr_dup_table.specs.declared.fault.DupFault.TheVariants.{TableFull, No
 use Rattle.sr_frame.specs.Addresses.{mac_eq}
 use Rattle.sr_aged_slots.specs.Ages as ages
 use Rattle.sr_dup_window.specs.declared.lane_sets.Lanes.{Lanes}
-use Rattle.sr_dup_window.specs.Windows.{Window, begun, noted, fresh_lanes}
+use Rattle.sr_dup_window.specs.Windows.{Window, window_begun, window_noted, fresh_lanes, same_window}
+use Rattle.sr_dup_table.specs.Limits.{window, most_sources, forget_time}
 
 -- what was noted of one source in this epoch, and when it was last heard
 pub record Heard : Type 0 where
@@ -19,9 +22,17 @@ pub record Heard : Type 0 where
 abbrev pub Sources : Type 0
 Sources = List (Mac × Heard)
 
+-- whether two sources show the same
+abbrev pub same_heard : Heard → Heard → Bool
+same_heard = eq_of_both (on (λ h. h.seen) same_window) (on (λ h. h.time) nat_eq)
+
+-- whether two lists of sources are one: the order counts
+abbrev pub same_sources : Sources → Sources → Bool
+same_sources = pointwise (eq_of_both (on (λ e. e.0.0) (pointwise nat_eq)) (on (λ e. e.1) same_heard))
+
 -- a time less than 400 ms ago; an earlier moment counts as that time
 abbrev pub is_recent : ℕ → ℕ → Bool
-is_recent = ages.is_recent 400
+is_recent = ages.is_recent forget_time
 
 -- a source that is not forgotten
 abbrev pub is_live : ℕ → Heard → Bool
@@ -29,18 +40,18 @@ is_live now h = is_recent now h.time
 
 -- the first arrival of an epoch
 abbrev pub begun_at : ℕ → Lanes → ℕ → Heard
-begun_at seq lanes now = record { seen = begun 1024 seq lanes; time = now }
+begun_at seq lanes now = record { seen = window_begun window seq lanes; time = now }
 
 -- the record after an arrival: noted within the epoch, begun anew once forgotten
 abbrev pub heard_next : Heard → ℕ → Lanes → ℕ → Heard
 heard_next h seq lanes now =
     if is_live now h
-    then record { seen = noted 1024 h.seen seq lanes; time = max h.time now }
+    then record { seen = window_noted window h.seen seq lanes; time = max h.time now }
     else begun_at seq lanes now
 
 -- the asked lanes on which the number is new in this epoch
 abbrev pub fresh_at : Heard → ℕ → Lanes → ℕ → Lanes
-fresh_at h seq lanes now = if is_live now h then fresh_lanes 1024 h.seen seq lanes else lanes
+fresh_at h seq lanes now = if is_live now h then fresh_lanes window h.seen seq lanes else lanes
 
 -- the sources that are not forgotten
 abbrev pub live_at : ℕ → Sources → Sources
@@ -53,15 +64,15 @@ live_others src now s = filter (λ e. is_live now e.1 && not (mac_eq src e.0)) s
 -- what the sources of every table are: no two are one, and they are at most 1024
 pub record IsTable (s : Sources) : Type 0 where
   pub unique : IsDistinct mac_eq (keys_of s)
-  pub few : length s ≤ 1024
+  pub few : length s ≤ most_sources
 
 -- a full table lets its forgotten sources go
 abbrev pub with_room : ℕ → Sources → Sources
-with_room now s = if nat_lt (length s) 1024 then s else live_at now s
+with_room now s = if nat_lt (length s) most_sources then s else live_at now s
 
 -- what an arrival answers: the lanes on which it is new, or nothing where the table is full
 abbrev pub answer_of : Option Heard → Sources → ℕ → Lanes → ℕ → Option Lanes
-answer_of None s seq lanes now = if nat_lt (length (with_room now s)) 1024 then Some lanes else None
+answer_of None s seq lanes now = if nat_lt (length (with_room now s)) most_sources then Some lanes else None
 answer_of (Some h) s seq lanes now = Some (fresh_at h seq lanes now)
 
 -- the sources after an arrival that is answered
@@ -73,9 +84,9 @@ abbrev pub arrive_answer : Sources → Mac → ℕ → Lanes → ℕ → Option 
 arrive_answer s src seq lanes now = answer_of (lookup (mac_eq src) s) s seq lanes now
 
 -- why an arrival is refused: want of memory, where the table is not full
-abbrev pub refusal_of : Option Lanes → DupFault
-refusal_of None = TableFull
-refusal_of (Some lanes) = NoMemory
+abbrev pub arrive_fault : Option Lanes → DupFault
+arrive_fault None = TableFull
+arrive_fault (Some lanes) = NoMemory
 
 abbrev pub after_arrive : Sources → Mac → ℕ → Lanes → ℕ → Sources
 after_arrive s src seq lanes now = after_of (lookup (mac_eq src) s) s src seq lanes now
@@ -88,3 +99,7 @@ pub record Table : Type 0 where
 -- whether a place is held for a source
 abbrev pub is_held : Table → Mac → Bool
 is_held t src = list_any (mac_eq src) t.held
+
+-- whether the next arrival of a source takes no memory: it has a record, or a place is held for it
+abbrev pub is_ready : Table → Mac → Bool
+is_ready t src = is_held t src || is_some (lookup (mac_eq src) t.sources)

@@ -26,16 +26,6 @@ pub enum DupFault {
     BadSnapshot,
 }
 
-impl From<TableFull> for DupFault {
-    ghost use Rattle.sr_dup_table.specs.declared.fault.DupFault.TheVariants.{TableFull as Full};
-
-    ghost from_gives = { λ _ e. e ≡ Full };
-
-    fn from(_e: TableFull) -> DupFault {
-        DupFault::TableFull
-    }
-}
-
 impl From<NoMemory> for DupFault {
     ghost use Rattle.sr_dup_table.specs.declared.fault.DupFault.TheVariants.{NoMemory as OutOfMemory};
 

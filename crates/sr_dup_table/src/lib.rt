@@ -2,13 +2,14 @@
 #![tactic(auto)]
 
 mod entry;
+mod equality;
 mod fault;
 mod laws;
 mod table;
 
 pub use fault::{DupFault, TableFull};
-pub use laws::ageing_keeps_answers;
-pub use table::{DupTable, ENTRY_FORGET_TIME, MOST_SOURCES};
+pub use laws::{ageing_keeps_answers, equal_where_the_sources_are};
+pub use table::{DupTable, ENTRY_FORGET_TIME, Look, MOST_SOURCES};
 
 #[cfg(test)]
 mod tests;

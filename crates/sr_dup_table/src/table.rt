@@ -2,11 +2,13 @@
 ghost use Rattle.std.specs.Prelude.{◌≡◌, ℕ, ◌+◌, ◌≤◌, ◌↔◌, [], true, false, not, nat_lt, Some, None, length, ◌++◌, ◌∷◌, IsOk, OnOk, OnErr, IfOk, IfErr, IfSome, IfNone, IsErr, IsErrOf, is_some};
 ghost use Rattle.std.specs.Result.{result_ok};
 ghost use Rattle.std.specs.Map.{lookup};
+ghost use Rattle.std.specs.Option.{option_map};
 ghost use Rattle.sr_dup_window.specs.LaneSets.{is_empty};
 ghost use Rattle.sr_dup_window.specs.Windows.{window_of};
 ghost use Rattle.sr_frame.specs.Addresses.{mac_eq};
 ghost use Rattle.sr_slots.specs.Places.{KeepsHeld};
-ghost use Rattle.sr_dup_table.specs.Sources.{IsTable, is_held, live_at, live_others, refusal_of, with_room, arrive_answer, after_arrive, heard_next, fresh_at};
+ghost use Rattle.sr_dup_table.specs.Limits.{most_sources};
+ghost use Rattle.sr_dup_table.specs.Sources.{IsTable, is_held, is_ready, live_at, live_others, arrive_fault, with_room, arrive_answer, after_arrive, heard_next, fresh_at};
 ghost use Rattle.sr_dup_table.specs.Shown.{heard_of, sources_of};
 
 use crate::entry::{fresh, hear};
@@ -15,6 +17,7 @@ use sr_aged_slots::{Aged, AgedSlots};
 use sr_dup_window::{Lanes, Record};
 use sr_frame::{Mac, NoMemory};
 use sr_sequence::Seq;
+use sr_slots::{Iter, Keys, Spot};
 use std::alloc::Global;
 use std::marker::Model;
 
@@ -23,6 +26,15 @@ pub const ENTRY_FORGET_TIME: u64 = 400;
 
 /// How many sources can be live at once (choice of this project).
 pub const MOST_SOURCES: usize = 1024;
+
+/// What a table says of a number before it arrives.
+#[derive(Clone, Copy, Debug)]
+pub struct Look {
+    /// The asked lanes on which it is new.
+    pub fresh: Lanes,
+    /// Where the record of its source is, if there is one.
+    pub spot: Option<Spot>,
+}
 
 /// Duplicate records by source, in the order of first hearing. Times are in milliseconds. A source that was silent for
 /// `ENTRY_FORGET_TIME` is forgotten: it counts as absent, and stands in the table until it is heard again, until `age`, or until
@@ -43,21 +55,46 @@ impl Model for DupTable {
 }
 
 impl DupTable {
-    /// A table of no source, which takes no memory yet.
+    /// A table of no source under fixed keys, which takes no memory yet.
     pub fn new(alloc: Global) -> DupTable
         ensures sources { result.sources ≡ [] }
         ensures held { result.held ≡ [] }
     {
+        DupTable::with_keys(alloc, Keys::FIXED)
+    }
+
+    /// A table of no source whose places depend on these keys, which takes no memory yet.
+    pub fn with_keys(alloc: Global, keys: Keys) -> DupTable
+        ensures sources { result.sources ≡ [] }
+        ensures held { result.held ≡ [] }
+    {
         DupTable {
-            slots: AgedSlots::new(alloc),
+            slots: AgedSlots::with_keys(alloc, keys),
         }
+    }
+
+    /// A table of its own with the same sources in the same order, under the same keys. It holds no place.
+    /// NoMemory: memory ran out.
+    pub fn try_clone(&self, alloc: Global) -> Result<DupTable, NoMemory>
+        ensures sources { IfOk result (λ own. own.sources ≡ self.now.sources) }
+        ensures held { IfOk result (λ own. own.held ≡ []) }
+    {
+        let slots = self.slots.try_clone(alloc)?;
+        Ok(DupTable { slots })
+    }
+
+    // The entries in order.
+    pub(crate) fn entries(&self) -> Iter<'_, Aged<Record<16>>>
+        ensures { sources_of result ≡ self.now.sources }
+    {
+        self.slots.iter()
     }
 
     /// How many sources stand in the table, the forgotten ones among them.
     pub fn source_count(&self) -> usize
         ensures count { result ≡ length self.now.sources }
         ensures table { IsTable self.now.sources }
-        ensures live { (now : ℕ) → length (live_at now self.now.sources) ≤ 1024 }
+        ensures live { (now : ℕ) → length (live_at now self.now.sources) ≤ most_sources }
     {
         // Held places are no sources.
         self.slots.len()
@@ -74,6 +111,27 @@ impl DupTable {
         self.slots.hold(src)
     }
 
+    /// Sees to it that the next arrival of a source takes no memory: a source with a record needs none, and is looked for at a
+    /// spot first; for any other a place is held. NoMemory: memory ran out, and nothing changes.
+    pub fn reserve_at(&mut self, spot: Option<Spot>, src: Mac) -> Result<(), NoMemory>
+        ensures sources { self.new.sources ≡ self.old.sources }
+        ensures ready { OnOk result (is_ready self.new src ≡ true) }
+        ensures others { OnOk result (KeepsHeld self.old.held self.new.held src) }
+        ensures err { OnErr result (self.new ≡ self.old) }
+    {
+        if self.has_record(spot, src) {
+            return Ok(());
+        }
+        self.reserve(src)
+    }
+
+    // Whether a source has a record, forgotten or not.
+    fn has_record(&self, spot: Option<Spot>, src: Mac) -> bool
+        ensures { result ≡ is_some (lookup (mac_eq src) self.now.sources) }
+    {
+        self.slots.get_at(spot, src).is_some()
+    }
+
     /// Gives up all held places.
     pub fn release(&mut self)
         ensures sources { self.new.sources ≡ self.old.sources }
@@ -86,7 +144,7 @@ impl DupTable {
     pub fn fresh(&self, src: Mac, seq: Seq, lanes: Lanes, now: u64) -> Result<Lanes, TableFull>
         requires { is_empty lanes ≡ false }
         ensures answer { result_ok result ≡ arrive_answer self.now.sources src seq.0 lanes now }
-        ensures full { IsErr result ↔ (length (live_others src now self.now.sources) ≡ 1024) }
+        ensures full { IsErr result ↔ (length (live_others src now self.now.sources) ≡ most_sources) }
     {
         match self.slots.get(src) {
             Some(entry) => Ok(fresh(entry, seq, lanes, now)),
@@ -100,6 +158,39 @@ impl DupTable {
         }
     }
 
+    /// What `fresh` answers, and where the record of the source is: one look-up for a frame. After it no call at this time goes over
+    /// the sources to see whether the table is full. Nothing that shows changes.
+    pub fn look(&mut self, src: Mac, seq: Seq, lanes: Lanes, now: u64) -> Result<Look, TableFull>
+        requires { is_empty lanes ≡ false }
+        ensures answer { option_map (λ look. look.fresh) (result_ok result) ≡ arrive_answer self.old.sources src seq.0 lanes now }
+        ensures full { IsErr result ↔ (length (live_others src now self.old.sources) ≡ most_sources) }
+        ensures same { self.new ≡ self.old }
+    {
+        if let Some(look) = self.look_known(src, seq, lanes, now) {
+            return Ok(look);
+        }
+        if self.is_full_now(now) {
+            return Err(TableFull);
+        }
+        Ok(Look {
+            fresh: lanes,
+            spot: None,
+        })
+    }
+
+    // The same for a source that has a record.
+    fn look_known(&self, src: Mac, seq: Seq, lanes: Lanes, now: u64) -> Option<Look>
+        ensures answer { option_map (λ look. look.fresh) result
+            ≡ option_map (λ heard. fresh_at heard seq.0 lanes now) (lookup (mac_eq src) self.now.sources) }
+        ensures few { length self.now.sources ≤ most_sources }
+    {
+        let (spot, entry) = self.slots.find(src)?;
+        Some(Look {
+            fresh: fresh(entry, seq, lanes, now),
+            spot: Some(spot),
+        })
+    }
+
     /// Notes an arrival at this time, and answers the asked lanes on which its number is new in the epoch of its source.
     /// TableFull: 1024 other sources are live. NoMemory: memory ran out. Either way nothing changes.
     pub fn arrive(&mut self, src: Mac, seq: Seq, lanes: Lanes, now: u64) -> Result<Lanes, DupFault>
@@ -108,33 +199,73 @@ impl DupTable {
         ensures after { OnOk result (self.new.sources ≡ after_arrive self.old.sources src seq.0 lanes now) }
 
         // TableFull exactly where 1024 other sources are live, and otherwise NoMemory alone.
-        ensures exact { IsErrOf result DupFault.TableFull ↔ (length (live_others src now self.old.sources) ≡ 1024) }
-        ensures refused { IfErr result (λ e. e ≡ refusal_of (arrive_answer self.old.sources src seq.0 lanes now)) }
+        ensures exact { IsErrOf result DupFault.TableFull ↔ (length (live_others src now self.old.sources) ≡ most_sources) }
+        ensures refused { IfErr result (λ e. e ≡ arrive_fault (arrive_answer self.old.sources src seq.0 lanes now)) }
         ensures full { IfErr result (λ e. e ≡ DupFault.TableFull → arrive_answer self.old.sources src seq.0 lanes now ≡ None) }
         ensures only_full { arrive_answer self.old.sources src seq.0 lanes now ≡ None → IsErrOf result DupFault.TableFull }
 
         // A place that was held is used up, and no other.
         ensures reserved { is_held self.old src ≡ true → IfErr result (λ e. e ≡ DupFault.TableFull) }
         ensures held { OnOk result (KeepsHeld self.old.held self.new.held src) }
+        ensures used { OnOk result (is_held self.new src ≡ false) }
         ensures err { OnErr result (self.new ≡ self.old) }
     {
-        match self.hear(src, seq, lanes, now) {
+        self.arrive_at(None, src, seq, lanes, now)
+    }
+
+    /// What `arrive` does, where the record of the source is looked for at a spot first. It notes an arrival, and answers the
+    /// asked lanes on which its number is new in the epoch of its source.
+    /// TableFull: 1024 other sources are live. NoMemory: memory ran out. Either way nothing changes.
+    pub fn arrive_at(
+        &mut self,
+        spot: Option<Spot>,
+        src: Mac,
+        seq: Seq,
+        lanes: Lanes,
+        now: u64,
+    ) -> Result<Lanes, DupFault>
+        requires { is_empty lanes ≡ false }
+        ensures answer { IfOk result (λ fresh. arrive_answer self.old.sources src seq.0 lanes now ≡ Some fresh) }
+        ensures after { OnOk result (self.new.sources ≡ after_arrive self.old.sources src seq.0 lanes now) }
+
+        // TableFull exactly where 1024 other sources are live, and otherwise NoMemory alone.
+        ensures exact { IsErrOf result DupFault.TableFull ↔ (length (live_others src now self.old.sources) ≡ most_sources) }
+        ensures refused { IfErr result (λ e. e ≡ arrive_fault (arrive_answer self.old.sources src seq.0 lanes now)) }
+        ensures full { IfErr result (λ e. e ≡ DupFault.TableFull → arrive_answer self.old.sources src seq.0 lanes now ≡ None) }
+        ensures only_full { arrive_answer self.old.sources src seq.0 lanes now ≡ None → IsErrOf result DupFault.TableFull }
+
+        // What is ready for it takes no memory. A place that was held is used up, and no other.
+        ensures ready { is_ready self.old src ≡ true → IfErr result (λ e. e ≡ DupFault.TableFull) }
+        ensures held { OnOk result (KeepsHeld self.old.held self.new.held src) }
+        ensures used { OnOk result (is_held self.new src ≡ false) }
+        ensures err { OnErr result (self.new ≡ self.old) }
+    {
+        match self.hear(spot, src, seq, lanes, now) {
             Some(fresh) => Ok(fresh),
             None => self.begin(src, seq, lanes, now),
         }
     }
 
     // An arrival of a source that has a record, forgotten or not.
-    fn hear(&mut self, src: Mac, seq: Seq, lanes: Lanes, now: u64) -> Option<Lanes>
+    fn hear(
+        &mut self,
+        spot: Option<Spot>,
+        src: Mac,
+        seq: Seq,
+        lanes: Lanes,
+        now: u64,
+    ) -> Option<Lanes>
         requires { is_empty lanes ≡ false }
-        ensures few { length self.old.sources ≤ 1024 }
+        ensures few { length self.old.sources ≤ most_sources }
         ensures found { is_some result ≡ is_some (lookup (mac_eq src) self.old.sources) }
         ensures answer { IfSome result (λ fresh. arrive_answer self.old.sources src seq.0 lanes now ≡ Some fresh) }
         ensures after { IfSome result (λ fresh. self.new.sources ≡ after_arrive self.old.sources src seq.0 lanes now) }
         ensures others { IfSome result (λ fresh. KeepsHeld self.old.held self.new.held src) }
+        ensures used { IfSome result (λ fresh. is_held self.new src ≡ false) }
         ensures none { IfNone result (self.new ≡ self.old) }
     {
-        let fresh = self.slots.update(
+        let fresh = self.slots.update_at(
+            spot,
             src,
             |entry: &mut Aged<Record<16>>| -> Lanes
                 requires { is_empty lanes ≡ false }
@@ -151,15 +282,15 @@ impl DupTable {
         requires absent { lookup (mac_eq src) self.old.sources ≡ None }
         ensures answer { IfOk result (λ fresh. arrive_answer self.old.sources src seq.0 lanes now ≡ Some fresh) }
         ensures after { OnOk result (self.new.sources ≡ after_arrive self.old.sources src seq.0 lanes now) }
-        ensures refused { IfErr result (λ e. e ≡ refusal_of (arrive_answer self.old.sources src seq.0 lanes now)) }
+        ensures refused { IfErr result (λ e. e ≡ arrive_fault (arrive_answer self.old.sources src seq.0 lanes now)) }
         ensures full { IfErr result (λ e. e ≡ DupFault.TableFull → arrive_answer self.old.sources src seq.0 lanes now ≡ None) }
         ensures only_full { arrive_answer self.old.sources src seq.0 lanes now ≡ None → IsErrOf result DupFault.TableFull }
         ensures reserved { is_held self.old src ≡ true → IfErr result (λ e. e ≡ DupFault.TableFull) }
         ensures held { OnOk result (KeepsHeld self.old.held self.new.held src) }
+        ensures used { OnOk result (is_held self.new src ≡ false) }
         ensures err { OnErr result (self.new ≡ self.old) }
     {
-        self.refresh(now);
-        if self.is_full(now) {
+        if self.is_full_now(now) {
             return Err(DupFault::TableFull);
         }
         self.put_last(src, Record::begin(seq, lanes), now)?;
@@ -169,10 +300,11 @@ impl DupTable {
     // Adds a source to a table that is not full. The forgotten ones of a crowded table go.
     fn put_last(&mut self, src: Mac, first: Record<16>, now: u64) -> Result<(), NoMemory>
         requires absent { lookup (mac_eq src) self.old.sources ≡ None }
-        requires room { nat_lt (length (with_room now self.old.sources)) 1024 ≡ true }
+        requires room { nat_lt (length (with_room now self.old.sources)) most_sources ≡ true }
         ensures sources { OnOk result (self.new.sources ≡ with_room now self.old.sources ++ (src, record { seen = window_of first; time = now }) ∷ []) }
         ensures reserved { is_held self.old src ≡ true → IsOk result }
         ensures held { OnOk result (KeepsHeld self.old.held self.new.held src) }
+        ensures used { OnOk result (is_held self.new src ≡ false) }
         ensures err { OnErr result (self.new ≡ self.old) }
     {
         self.slots.append(src, first, now)?;
@@ -181,17 +313,17 @@ impl DupTable {
 
     // Whether a new source has no room.
     fn is_full(&self, now: u64) -> bool
-        ensures { result ≡ not (nat_lt (length (with_room now self.now.sources)) 1024) }
+        ensures { result ≡ not (nat_lt (length (with_room now self.now.sources)) most_sources) }
     {
         self.slots.is_full(now)
     }
 
-    /// For after a refusal by `fresh` at this time: the next ones need not look at each source of the full table. Nothing
-    /// that shows changes.
-    pub fn refresh(&mut self, now: u64)
-        ensures { self.new ≡ self.old }
+    // The same. The next calls at this time go over no sources.
+    fn is_full_now(&mut self, now: u64) -> bool
+        ensures result { result ≡ not (nat_lt (length (with_room now self.old.sources)) most_sources) }
+        ensures same { self.new ≡ self.old }
     {
-        self.slots.refresh(now);
+        self.slots.is_full_now(now)
     }
 
     /// Takes the sources out that were silent for 400 ms or more, and answers how many.

@@ -5,8 +5,8 @@ use super::*;
 use sr_dup_window::Lanes;
 use sr_frame::Mac;
 use sr_sequence::Seq;
-use std::process::Abort;
-use std::test::Fail;
+use sr_slots::Spot;
+use std::alloc::Global;
 
 fn mac(number: u16) -> Mac {
     let [high, low] = number.to_be_bytes();
@@ -20,71 +20,160 @@ fn handed_up() -> Lanes
     Lanes::H.union(Lanes::GOT_A)
 }
 
-// What the table answers to number 5 of a source: `fresh` first, which `arrive` has to repeat. Where memory runs out the table stays,
-// and the call is repeated.
-fn arrive(rt: &impl Abort, table: &mut DupTable, src: Mac, now: u64) -> Result<Lanes, DupFault> {
-    let lanes = handed_up();
-    let count = table.source_count();
-    let told = table.fresh(src, Seq(5), lanes, now);
-    let mut answer = table.arrive(src, Seq(5), lanes, now);
-    if answer == Err(DupFault::NoMemory) {
-        assert_eq!(rt; table.source_count(), count);
-        assert_eq!(rt; table.fresh(src, Seq(5), lanes, now), told);
-        answer = table.arrive(src, Seq(5), lanes, now);
-    }
-    assert_eq!(rt; answer.ok(), told.ok());
-    answer
+/// What becomes of number 5 of a source.
+#[derive(Clone, Copy, PartialEq, Eq)]
+enum Answer {
+    New,
+    Known,
+    Full,
+    /// Two calls disagree, or memory ran out twice.
+    Wrong,
 }
 
-fn reserve(rt: &impl Abort, table: &mut DupTable, src: Mac) {
-    let count = table.source_count();
-    if table.reserve(src).is_err() {
-        assert_eq!(rt; table.source_count(), count);
-        assert!(rt; table.reserve(src).is_ok());
-    }
-    assert_eq!(rt; table.source_count(), count);
-}
-
-#[test]
-fn epochs(rt: HostRuntime) {
-    let new = Ok(handed_up());
-    let known = Ok(Lanes::NONE);
-    for times in [
-        [(1000, new), (1399, known), (1798, known)],
-        [(1000, new), (1400, new), (1400, known)],
-        [(1000, new), (900, known), (1350, known)],
-    ] {
-        let mut table = DupTable::new(rt.alloc());
-        for (now, answer) in times.iter() {
-            assert_eq!(rt; arrive(&rt, &mut table, mac(2), *now), *answer, "at {now}");
+fn answer_of(lanes: Option<Lanes>) -> Answer {
+    match lanes {
+        None => Answer::Full,
+        Some(lanes) => {
+            if lanes == handed_up() {
+                Answer::New
+            } else if lanes.is_empty() {
+                Answer::Known
+            } else {
+                Answer::Wrong
+            }
         }
     }
 }
 
+// What is told ahead, and where the source is; two calls tell it.
+fn told(table: &mut DupTable, src: Mac, now: u64) -> (Answer, Option<Spot>) {
+    let first = answer_of(table.fresh(src, Seq(5), handed_up(), now).ok());
+    match table.look(src, Seq(5), handed_up(), now) {
+        Ok(look) => {
+            if answer_of(Some(look.fresh)) == first {
+                (first, look.spot)
+            } else {
+                (Answer::Wrong, None)
+            }
+        }
+        Err(TableFull) => (Answer::Full, None),
+    }
+}
+
+// What the table answers to number 5 of a source. Where memory runs out the table stays, and the call is repeated.
+fn hear(table: &mut DupTable, number: u16, now: u64) -> Answer {
+    let src = mac(number);
+    let count = table.source_count();
+    let (ahead, spot) = told(table, src, now);
+    if table.reserve_at(spot, src).is_err()
+        && (table.source_count() != count || table.reserve_at(spot, src).is_err())
+    {
+        return Answer::Wrong;
+    }
+    let answer = answer_of(table.arrive_at(spot, src, Seq(5), handed_up(), now).ok());
+    table.release();
+    if answer == ahead {
+        answer
+    } else {
+        Answer::Wrong
+    }
+}
+
+// The place of the first arrival that is answered otherwise, at a table of this many sources, all heard at the time 0.
+fn first_wrong(alloc: Global, sources: u16, arrivals: &[(u16, u64, Answer)]) -> Option<usize> {
+    let mut table = DupTable::new(alloc);
+    for number in 0..sources {
+        if hear(&mut table, number, 0) != Answer::New {
+            return Some(arrivals.len());
+        }
+    }
+    arrivals.iter().position(|(number, now, answer)| hear(&mut table, *number, *now) != *answer)
+}
+
+const KNOWN_WITHIN_400_MS: [(u16, u64, Answer); 3] = [
+    (2, 1000, Answer::New),
+    (2, 1399, Answer::Known),
+    (2, 1798, Answer::Known),
+];
+
+const NEW_AFTER_400_MS: [(u16, u64, Answer); 3] = [
+    (2, 1000, Answer::New),
+    (2, 1400, Answer::New),
+    (2, 1400, Answer::Known),
+];
+
+const NO_EARLIER_TIME_COUNTS: [(u16, u64, Answer); 3] = [
+    (2, 1000, Answer::New),
+    (2, 900, Answer::Known),
+    (2, 1350, Answer::Known),
+];
+
+#[test]
+fn epochs(rt: HostRuntime) {
+    assert!(rt;
+        first_wrong(rt.alloc(), 0, KNOWN_WITHIN_400_MS.as_slice()).is_none()
+            && first_wrong(rt.alloc(), 0, NEW_AFTER_400_MS.as_slice()).is_none()
+            && first_wrong(rt.alloc(), 0, NO_EARLIER_TIME_COUNTS.as_slice()).is_none()
+    );
+}
+
+// At 399 source 1 is heard again: it stays when all others are forgotten at 400.
+const A_FULL_TABLE: [(u16, u64, Answer); 8] = [
+    (1024, 399, Answer::Full),
+    (1025, 399, Answer::Full),
+    (1, 399, Answer::Known),
+    (1024, 400, Answer::New),
+    (1, 400, Answer::Known),
+    (0, 400, Answer::New),
+    (2, 400, Answer::New),
+    (1025, 400, Answer::New),
+];
+
 #[test]
 fn a_full_table(rt: HostRuntime) {
-    let mut table = DupTable::new(rt.alloc());
-    for number in 0..MOST_SOURCES as u16 {
-        reserve(&rt, &mut table, mac(number));
-        assert_eq!(rt;
-            arrive(&rt, &mut table, mac(number), 0),
-            Ok(handed_up()),
-            "of {number}"
-        );
-        table.release();
+    assert!(rt; first_wrong(rt.alloc(), MOST_SOURCES as u16, A_FULL_TABLE.as_slice()).is_none());
+}
+
+// How many are forgotten at 399, at 400, and at 800, where one of eight is heard again at 400.
+fn aged(alloc: Global) -> (usize, usize, usize) {
+    let mut table = DupTable::new(alloc);
+    for number in 0..8 {
+        let _new = hear(&mut table, number, 0);
     }
-    let late = mac(MOST_SOURCES as u16);
-    reserve(&rt, &mut table, late);
-    assert_eq!(rt;
-        arrive(&rt, &mut table, late, 399),
-        Err(DupFault::TableFull)
-    );
-    table.refresh(399);
-    assert_eq!(rt; table.source_count(), MOST_SOURCES);
-    assert_eq!(rt; arrive(&rt, &mut table, late, 400), Ok(handed_up()));
-    assert_eq!(rt; table.source_count(), 1);
-    assert_eq!(rt; arrive(&rt, &mut table, mac(7), 500), Ok(handed_up()));
-    assert_eq!(rt; table.age(799), 0);
-    assert_eq!(rt; table.age(800), 1);
-    assert_eq!(rt; arrive(&rt, &mut table, mac(7), 899), Ok(Lanes::NONE));
+    let first = table.age(399);
+    let _again = hear(&mut table, 3, 400);
+    (first, table.age(400), table.age(800))
+}
+
+#[test]
+fn ages(rt: HostRuntime) {
+    assert!(rt; aged(rt.alloc()) == (0, 7, 1));
+}
+
+// A clone. Where memory runs out it is asked for again.
+fn cloned(alloc: Global, table: &DupTable) -> Option<DupTable> {
+    match table.try_clone(alloc) {
+        Ok(own) => Some(own),
+        Err(_) => table.try_clone(alloc).ok(),
+    }
+}
+
+// Whether a clone is equal to its table until it hears more, and a table with the same sources in another order is not.
+fn clones_are_equal(alloc: Global) -> bool {
+    let mut table = DupTable::new(alloc);
+    let mut turned = DupTable::new(alloc);
+    for number in 1..4 {
+        hear(&mut table, number, 0);
+        hear(&mut turned, 4 - number, 0);
+    }
+    let Some(mut own) = cloned(alloc, &table) else {
+        return false;
+    };
+    let was_equal = own == table && turned != table && turned.source_count() == 3;
+    was_equal && hear(&mut own, 2, 1) == Answer::Known && own != table
+}
+
+#[test]
+fn clones(rt: HostRuntime) {
+    assert!(rt; clones_are_equal(rt.alloc()));
 }

@@ -8,8 +8,8 @@ use Rattle.sr_dup_window.specs.declared.lane_sets.Lanes.{Lanes}
 use Rattle.sr_dup_window.specs.declared.record.Record.{Record}
 use Rattle.sr_dup_window.specs.LaneSets.{none, union, difference, is_empty}
 use Rattle.sr_dup_window.specs.LaneLemmas.{not_empty-union_left, not_empty-union_right}
-use Rattle.sr_dup_window.specs.Rings.{lanes_at, is_passed, IsWidth}
-use Rattle.sr_dup_window.specs.Windows.{Window, window_of, marks_of, no_marks, marked, slid, begun, noted, noted_at, merged, merged_at, lanes_of, lanes_behind, fresh_lanes}
+use Rattle.sr_dup_window.specs.Bitmaps.{lanes_at, is_passed, IsWidth}
+use Rattle.sr_dup_window.specs.Windows.{Window, window_of, marks_of, no_marks, marks_with, marks_slid, window_begun, window_noted, noted_at, window_merged, merged_at, lanes_of, lanes_behind, fresh_lanes}
 use Rattle.sr_dup_window.specs.RecordLemmas.{record-width}
 use Rattle.sr_dup_window.specs.WindowLemmas.{width-some, width-most}
 use Rattle.sr_dup_window.proofs.SpotLemmas.{spot, spot_zero}
@@ -81,29 +81,29 @@ some_kept rows new lanes q p some marks = ap is_empty (marks p) ∙ either (eqb 
     either true = not_empty-union_left (lanes_at rows p) lanes some
     either false = some
 
-pub begun_window : {N : ℕ} (new : Record N) (rows : List (List ℕ)) (lanes : Lanes) (seq : ℕ) → seq < 65536 → new.reference.0 ≡ seq → ((p : ℕ) → lanes_at rows p ≡ none) → Marks rows new.rows lanes (seq % (64 * N)) → window_of new ≡ begun (64 * N) seq lanes
+pub begun_window : {N : ℕ} (new : Record N) (rows : List (List ℕ)) (lanes : Lanes) (seq : ℕ) → seq < 65536 → new.reference.0 ≡ seq → ((p : ℕ) → lanes_at rows p ≡ none) → Marks rows new.rows lanes (seq % (64 * N)) → window_of new ≡ window_begun (64 * N) seq lanes
 begun_window {N} new rows lanes seq h ref empty marks =
     let w = 64 * N in
     let width : IsWidth w = record-width new in
-    is_window new seq (marked (no_marks w) 0 lanes) ref
+    is_window new seq (marks_with (no_marks w) 0 lanes) ref
     (marked_shows w rows new.rows seq (no_marks w) 0 (seq % w) lanes width h (width-some w width) (spot_zero w seq h) (empty_shows w rows seq empty) marks)
 
-pub noted_behind : {N : ℕ} (r new : Record N) (lanes : Lanes) (k seq : ℕ) → seq < 65536 → Behind k ≡ place_of r.reference.0 seq (64 * N) → k < 64 * N → new.reference.0 ≡ r.reference.0 → Marks r.rows new.rows lanes (seq % (64 * N)) → window_of new ≡ noted (64 * N) (window_of r) seq lanes
+pub noted_behind : {N : ℕ} (r new : Record N) (lanes : Lanes) (k seq : ℕ) → seq < 65536 → Behind k ≡ place_of r.reference.0 seq (64 * N) → k < 64 * N → new.reference.0 ≡ r.reference.0 → Marks r.rows new.rows lanes (seq % (64 * N)) → window_of new ≡ window_noted (64 * N) (window_of r) seq lanes
 noted_behind {N} r new lanes k seq h at inside ref marks =
     let w = 64 * N in
     let place : spot w r.reference.0 k ≡ seq % w = ap (λ n. n % w) (behind_carried r.reference.0 seq w k r.carried h at) in
-    is_window new r.reference.0 (marked (marks_of r) k lanes) ref
+    is_window new r.reference.0 (marks_with (marks_of r) k lanes) ref
     (marked_shows w r.rows new.rows r.reference.0 (marks_of r) k (seq % w) lanes (record-width r) r.carried inside place (shows_marks r) marks)
     ∙ ap (noted_at w (window_of r) seq lanes) at
 
-pub noted_ahead : {N : ℕ} (r new : Record N) (rows : List (List ℕ)) (lanes : Lanes) (a seq : ℕ) → seq < 65536 → Ahead a ≡ place_of r.reference.0 seq (64 * N) → a + 64 * N ≤ 65536 → new.reference.0 ≡ seq → Passes (length r.rows) r.rows rows (r.reference.0 % (64 * N)) a → Marks rows new.rows lanes (seq % (64 * N)) → window_of new ≡ noted (64 * N) (window_of r) seq lanes
+pub noted_ahead : {N : ℕ} (r new : Record N) (rows : List (List ℕ)) (lanes : Lanes) (a seq : ℕ) → seq < 65536 → Ahead a ≡ place_of r.reference.0 seq (64 * N) → a + 64 * N ≤ 65536 → new.reference.0 ≡ seq → Passes (length r.rows) r.rows rows (r.reference.0 % (64 * N)) a → Marks rows new.rows lanes (seq % (64 * N)) → window_of new ≡ window_noted (64 * N) (window_of r) seq lanes
 noted_ahead {N} r new rows lanes a seq h at most ref passes marks =
     let w = 64 * N in
     let width : IsWidth w = record-width r in
-    let slides : Shows w rows seq (slid w a (marks_of r)) =
+    let slides : Shows w rows seq (marks_slid w a (marks_of r)) =
     passed_shows w r.rows rows r.reference.0 (r.reference.0 % w) seq (marks_of r) a width r.carried (omega arith) refl (ahead_carried r.reference.0 seq w a r.carried h at) (shows_marks r) (passes_in (length r.rows) N r.rows rows (r.reference.0 % w) a r.whole.many passes) in
-    is_window new seq (marked (slid w a (marks_of r)) 0 lanes) ref
-    (marked_shows w rows new.rows seq (slid w a (marks_of r)) 0 (seq % w) lanes width h (width-some w width) (spot_zero w seq h) slides marks)
+    is_window new seq (marks_with (marks_slid w a (marks_of r)) 0 lanes) ref
+    (marked_shows w rows new.rows seq (marks_slid w a (marks_of r)) 0 (seq % w) lanes width h (width-some w width) (spot_zero w seq h) slides marks)
     ∙ ap (noted_at w (window_of r) seq lanes) at
 
 -- what is read of a number in the window
@@ -114,31 +114,31 @@ read_behind {N} r k seq h at inside =
     ∙ (shows_marks r).each k inside
     ∙ ap (lanes_behind (window_of r)) at
 
-pub fresh_from : {N : ℕ} (r : Record N) (seq : ℕ) (lanes answer noted : Lanes) → answer ≡ difference lanes noted → noted ≡ lanes_of (64 * N) (window_of r) seq → answer ≡ fresh_lanes (64 * N) (window_of r) seq lanes
-fresh_from r seq lanes answer noted e at = e ∙ ap (difference lanes) at
+pub fresh_from : {N : ℕ} (r : Record N) (seq : ℕ) (lanes answer known : Lanes) → answer ≡ difference lanes known → known ≡ lanes_of (64 * N) (window_of r) seq → answer ≡ fresh_lanes (64 * N) (window_of r) seq lanes
+fresh_from r seq lanes answer known e at = e ∙ ap (difference lanes) at
 
-pub merged_behind : {N : ℕ} (r other new : Record N) (rows : List (List ℕ)) (k : ℕ) → Behind k ≡ place_of r.reference.0 other.reference.0 32768 → k < 32768 → new.reference.0 ≡ r.reference.0 → Passes (length other.rows) other.rows rows (other.reference.0 % (64 * N)) k → Unites (length r.rows) r.rows rows new.rows → window_of new ≡ merged (64 * N) (window_of r) (window_of other)
+pub merged_behind : {N : ℕ} (r other new : Record N) (rows : List (List ℕ)) (k : ℕ) → Behind k ≡ place_of r.reference.0 other.reference.0 32768 → k < 32768 → new.reference.0 ≡ r.reference.0 → Passes (length other.rows) other.rows rows (other.reference.0 % (64 * N)) k → Unites (length r.rows) r.rows rows new.rows → window_of new ≡ window_merged (64 * N) (window_of r) (window_of other)
 merged_behind {N} r other new rows k at few ref passes unites =
     let w = 64 * N in
     let width : IsWidth w = record-width r in
     let carried : (other.reference.0 + k) % 65536 ≡ r.reference.0 = on_again r.reference.0 other.reference.0 k r.carried few (behind_carried r.reference.0 other.reference.0 32768 k r.carried other.carried at) in
-    let slides : Shows w rows r.reference.0 (slid w k (marks_of other)) =
+    let slides : Shows w rows r.reference.0 (marks_slid w k (marks_of other)) =
     passed_shows w other.rows rows other.reference.0 (other.reference.0 % w) r.reference.0 (marks_of other) k width other.carried (omega (arith, width-most w width)) refl carried (shows_marks other) (passes_in (length other.rows) N other.rows rows (other.reference.0 % w) k other.whole.many passes) in
-    is_window new r.reference.0 (zip2 union (marks_of r) (slid w k (marks_of other))) ref
-    (united_shows w r.rows rows new.rows r.reference.0 (marks_of r) (slid w k (marks_of other)) width (shows_marks r) slides (unites_in (length r.rows) N r.rows rows new.rows r.whole.many unites))
+    is_window new r.reference.0 (zip2 union (marks_of r) (marks_slid w k (marks_of other))) ref
+    (united_shows w r.rows rows new.rows r.reference.0 (marks_of r) (marks_slid w k (marks_of other)) width (shows_marks r) slides (unites_in (length r.rows) N r.rows rows new.rows r.whole.many unites))
     ∙ ap (merged_at w (window_of r) (window_of other)) at
   where
     on_again : (r s k : ℕ) → r < 65536 → k < 32768 → (r + (65536 - k)) % 65536 ≡ s → (s + k) % 65536 ≡ r
     on_again r s k h g e = omega arith
 
-pub merged_ahead : {N : ℕ} (r other new : Record N) (rows : List (List ℕ)) (a : ℕ) → Ahead a ≡ place_of r.reference.0 other.reference.0 32768 → a + 32768 ≤ 65536 → new.reference.0 ≡ other.reference.0 → length rows ≡ length r.rows → Passes (length r.rows) r.rows rows (r.reference.0 % (64 * N)) a → Unites (length rows) rows other.rows new.rows → window_of new ≡ merged (64 * N) (window_of r) (window_of other)
+pub merged_ahead : {N : ℕ} (r other new : Record N) (rows : List (List ℕ)) (a : ℕ) → Ahead a ≡ place_of r.reference.0 other.reference.0 32768 → a + 32768 ≤ 65536 → new.reference.0 ≡ other.reference.0 → length rows ≡ length r.rows → Passes (length r.rows) r.rows rows (r.reference.0 % (64 * N)) a → Unites (length rows) rows other.rows new.rows → window_of new ≡ window_merged (64 * N) (window_of r) (window_of other)
 merged_ahead {N} r other new rows a at most ref same passes unites =
     let w = 64 * N in
     let width : IsWidth w = record-width r in
-    let slides : Shows w rows other.reference.0 (slid w a (marks_of r)) =
+    let slides : Shows w rows other.reference.0 (marks_slid w a (marks_of r)) =
     passed_shows w r.rows rows r.reference.0 (r.reference.0 % w) other.reference.0 (marks_of r) a width r.carried (omega (arith, width-most w width)) refl (ahead_carried r.reference.0 other.reference.0 32768 a r.carried other.carried at) (shows_marks r) (passes_in (length r.rows) N r.rows rows (r.reference.0 % w) a r.whole.many passes) in
-    is_window new other.reference.0 (zip2 union (slid w a (marks_of r)) (marks_of other)) ref
-    (united_shows w rows other.rows new.rows other.reference.0 (slid w a (marks_of r)) (marks_of other) width slides (shows_marks other) (unites_in (length rows) N rows other.rows new.rows (same ∙ r.whole.many) unites))
+    is_window new other.reference.0 (zip2 union (marks_slid w a (marks_of r)) (marks_of other)) ref
+    (united_shows w rows other.rows new.rows other.reference.0 (marks_slid w a (marks_of r)) (marks_of other) width slides (shows_marks other) (unites_in (length rows) N rows other.rows new.rows (same ∙ r.whole.many) unites))
     ∙ ap (merged_at w (window_of r) (window_of other)) at
 
 -- the greatest number's place stays not empty when rings are united

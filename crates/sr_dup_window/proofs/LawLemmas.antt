@@ -1,20 +1,23 @@
 -- What holds of all records, and of every tree of calls.
-use Rattle.std.proofs.Common.{◌≡◌, ℕ, ◌*◌, ◌<◌, ℤ, pos, arith, refl, sym, ap, ◌∙◌, subst}
+use Rattle.std.proofs.Common.{◌≡◌, ℕ, ◌*◌, ◌<◌, get_or, ℤ, pos, arith, refl, sym, ap, ◌∙◌, subst}
 use Rattle.std.proofs.Math.Bool.{or_comm, or_assoc, or_self}
+use Rattle.std.specs.Prelude.{◌-ℤ◌}
 use Rattle.std.proofs.lemmas.Int.{ints}
-use Rattle.sr_sequence.specs.Numbers.{wire}
+use Rattle.sr_sequence.specs.Numbers.{wire, IsNear}
 use Rattle.sr_sequence.specs.Places.{steps}
 use Rattle.sr_dup_window.specs.declared.lane_sets.Lane.{Lane}
 use Rattle.sr_dup_window.specs.declared.record.Record.{Record}
-use Rattle.sr_dup_window.specs.Rings.{IsWidth}
-use Rattle.sr_dup_window.specs.Windows.{Window, window_of, merged}
-use Rattle.sr_dup_window.specs.WindowLemmas.{begun-stands, noted-stands, merged-stands, fresh-lanes-by-family, same-numbers}
-use Rattle.sr_dup_window.specs.Families.{Family, IsClose, joined, greater, StandsFor}
+use Rattle.sr_dup_window.specs.LaneSets.{has, none}
+use Rattle.sr_dup_window.specs.LaneLemmas.{lanes_where-same}
+use Rattle.sr_dup_window.specs.Bitmaps.{IsWidth}
+use Rattle.sr_dup_window.specs.Windows.{Window, window_of, window_merged, lanes_behind}
+use Rattle.sr_dup_window.specs.WindowLemmas.{begun-stands, noted-stands, merged-stands, width-most, has-by-family, fresh-lanes-by-family, same-numbers}
+use Rattle.sr_dup_window.specs.Families.{Family, IsClose, join, greater, StandsFor}
 use Rattle.sr_dup_window.specs.FamilyLemmas.{close_swap, close_greater}
-use Rattle.sr_dup_window.specs.Records.{WindowsTell, WindowsAreWhole, EachStands, EqualWhereOneServes, MergeCommutes, MergeIsIdempotent, MergeAssociates}
+use Rattle.sr_dup_window.specs.Records.{WindowsTell, WindowsAreWhole, EachStands, StandsByHas, EqualWhereOneServes, MergeCommutes, MergeIsIdempotent, MergeAssociates}
 use Rattle.sr_dup_window.specs.RecordLemmas.{record-width, record-whole}
 use Rattle.sr_dup_window.specs.Trees.{Tree, begin, note, merge, made, family_of, greatest_of, IsSteady, TreesStand, AnswersByTheUnion, TreesAgree}
-use Rattle.sr_dup_window.proofs.OwnLemmas.{own_family, own-stands, close_numbers}
+use Rattle.sr_dup_window.proofs.OwnLemmas.{own_family, own-stands, lies_behind, close_numbers}
 use Rattle.sr_dup_window.proofs.SameLemmas.{same_shown}
 
 -- a window that is made along a steady tree stands for all that the tree took
@@ -54,6 +57,27 @@ each_stands_lem N r =
     let m : ℤ = pos (window_of r).reference in
     (own_family (64 * N) (window_of r) m, m, own r m (carried (window_of r).reference (record-whole r).carried))
 
+-- what `has` answers of the numbers of the window says for which families it stands
+pub stands_by_has_lem : (N : ℕ) → StandsByHas N
+stands_by_has_lem N r f m =
+    let w = 64 * N in
+    let shown = window_of r in
+    let width = record-width r in
+    let near : (k : ℕ) → k < w → IsNear w m (m -ℤ pos k) = λ k h. record { above = omega (arith, ints); below = omega (arith, ints, width-most w width) } in
+    let whole = record-whole r in (
+      λ s. (s.top, s.reference, λ lane k h. has-by-family w shown f m (m -ℤ pos k) (wire (m -ℤ pos k)) lane width s (near k h) refl),
+      λ h. record {
+        top = h.0;
+        reference = h.1;
+        count = whole.count;
+        shows = λ k inside.
+            let at = get_or shown.marks k none in
+            sym (whole.plain k inside)
+            ∙ lanes_where-same (has at) (λ lane. f lane (m -ℤ pos k))
+            (λ lane. sym (ap (λ d. has (lanes_behind shown d) lane) (lies_behind w shown.reference k m width (sym h.1) inside)) ∙ h.2 lane k inside);
+      },
+    )
+
 pub windows_are_whole_lem : (N : ℕ) → WindowsAreWhole N
 windows_are_whole_lem N r = record-whole r
 
@@ -69,9 +93,9 @@ equal_where_one_serves_lem N a b =
     )
 
 -- a record that shows a merged window stands for the join
-joins : {N : ℕ} (r : Record N) (a b : Window) (f g : Family) (m n : ℤ) → window_of r ≡ merged (64 * N) a b → StandsFor (64 * N) a f m → StandsFor (64 * N) b g n → IsClose m n → StandsFor (64 * N) (window_of r) (joined f g) (greater m n)
+joins : {N : ℕ} (r : Record N) (a b : Window) (f g : Family) (m n : ℤ) → window_of r ≡ window_merged (64 * N) a b → StandsFor (64 * N) a f m → StandsFor (64 * N) b g n → IsClose m n → StandsFor (64 * N) (window_of r) (join f g) (greater m n)
 joins {N} r a b f g m n e s t close =
-    let Q : Window → Type 0 = λ x. StandsFor (64 * N) x (joined f g) (greater m n) in
+    let Q : Window → Type 0 = λ x. StandsFor (64 * N) x (join f g) (greater m n) in
     subst Q (sym e) (merged-stands (64 * N) a b f g m n (record-width r) s t close)
 
 pub merge_commutes_lem : (N : ℕ) → MergeCommutes N
@@ -84,7 +108,7 @@ merge_commutes_lem N a b c d apart left right =
     let g : Family = own_family (64 * N) (window_of b) n in
     let s : StandsFor (64 * N) (window_of a) f m = own a m at_m in
     let t : StandsFor (64 * N) (window_of b) g n = own b n other.1 in
-    same_numbers c d (joined f g) (joined g f) (greater m n) (greater n m)
+    same_numbers c d (join f g) (join g f) (greater m n) (greater n m)
     (joins c (window_of a) (window_of b) f g m n left s t other.2)
     (joins d (window_of b) (window_of a) g f n m right t s (close_swap m n other.2))
     (λ lane x. or_comm (f lane x) (g lane x))
@@ -94,7 +118,7 @@ merge_is_idempotent_lem N a b e =
     let m : ℤ = pos (window_of a).reference in
     let f : Family = own_family (64 * N) (window_of a) m in
     let s : StandsFor (64 * N) (window_of a) f m = own a m (carried (window_of a).reference (record-whole a).carried) in
-    same_numbers b a (joined f f) f (greater m m) m
+    same_numbers b a (join f f) f (greater m m) m
     (joins b (window_of a) (window_of a) f f m m e s s (omega (arith, ints), omega (arith, ints))) s
     (λ lane x. or_self (f lane x))
 
@@ -107,9 +131,9 @@ merge_associates_lem N a b c d e m n k at_m at_n at_k mn nk mk left right =
     let s : StandsFor w (window_of a) f m = own a m at_m in
     let t : StandsFor w (window_of b) g n = own b n at_n in
     let u : StandsFor w (window_of c) h k = own c k at_k in
-    let ab : StandsFor w (merged w (window_of a) (window_of b)) (joined f g) (greater m n) = merged-stands w (window_of a) (window_of b) f g m n (record-width a) s t mn in
-    let bc : StandsFor w (merged w (window_of b) (window_of c)) (joined g h) (greater n k) = merged-stands w (window_of b) (window_of c) g h n k (record-width a) t u nk in
-    same_numbers d e (joined (joined f g) h) (joined f (joined g h)) (greater (greater m n) k) (greater m (greater n k))
-    (joins d (merged w (window_of a) (window_of b)) (window_of c) (joined f g) h (greater m n) k left ab u (close_greater m n k mk nk))
-    (joins e (window_of a) (merged w (window_of b) (window_of c)) f (joined g h) m (greater n k) right s bc (close_swap (greater n k) m (close_greater n k m (close_swap m n mn) (close_swap m k mk))))
+    let ab : StandsFor w (window_merged w (window_of a) (window_of b)) (join f g) (greater m n) = merged-stands w (window_of a) (window_of b) f g m n (record-width a) s t mn in
+    let bc : StandsFor w (window_merged w (window_of b) (window_of c)) (join g h) (greater n k) = merged-stands w (window_of b) (window_of c) g h n k (record-width a) t u nk in
+    same_numbers d e (join (join f g) h) (join f (join g h)) (greater (greater m n) k) (greater m (greater n k))
+    (joins d (window_merged w (window_of a) (window_of b)) (window_of c) (join f g) h (greater m n) k left ab u (close_greater m n k mk nk))
+    (joins e (window_of a) (window_merged w (window_of b) (window_of c)) f (join g h) m (greater n k) right s bc (close_swap (greater n k) m (close_greater n k m (close_swap m n mn) (close_swap m k mk))))
     (λ lane x. or_assoc (f lane x) (g lane x) (h lane x))

@@ -1,5 +1,5 @@
-pub mod WordLemmas
-pub mod RingLemmas
+pub mod RowLemmas
+pub mod BitmapLemmas
 pub mod SpotLemmas
 pub mod ShowLemmas
 pub mod CallLemmas

@@ -10,7 +10,7 @@ use Rattle.sr_sequence.specs.Places.{steps, place_of, IsTheOne}
 use Rattle.sr_dup_window.specs.declared.lane_sets.Lane.{Lane}
 use Rattle.sr_dup_window.specs.LaneSets.{has, none}
 use Rattle.sr_dup_window.specs.LaneLemmas.{some_lane, lanes_where-same}
-use Rattle.sr_dup_window.specs.Rings.{IsWidth}
+use Rattle.sr_dup_window.specs.Bitmaps.{IsWidth}
 use Rattle.sr_dup_window.specs.Windows.{Window, has_of, lanes_behind}
 use Rattle.sr_dup_window.specs.Families.{Family, IsClose, StandsFor}
 use Rattle.sr_dup_window.specs.Records.{IsWhole}
@@ -35,7 +35,7 @@ own_in true false c e h = absurd (cc)
 own_in false b c e h = absurd (cc)
 
 -- a number of the window is so far behind its greatest
-lies_behind : (w r k : ℕ) (m : ℤ) → IsWidth w → wire m ≡ r → k < w → place_of r (wire (m -ℤ pos k)) w ≡ Behind k
+pub lies_behind : (w r k : ℕ) (m : ℤ) → IsWidth w → wire m ≡ r → k < w → place_of r (wire (m -ℤ pos k)) w ≡ Behind k
 lies_behind w r k m width e h =
     let most : w ≤ 2048 = width-most w width in
     let seq = wire (m -ℤ pos k) in

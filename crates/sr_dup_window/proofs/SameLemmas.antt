@@ -1,7 +1,9 @@
 -- Records that stand for the same family are equal values.
-use Rattle.std.proofs.Common.{◌≡◌, ℕ, zero, suc, ◌+◌, ◌*◌, ◌/◌, ◌%◌, ◌<◌, false, eqb, ◌||◌, IsTrue, List, [], get_or, arith, refl, sym, ap, ◌∙◌, subst}
+use Rattle.std.proofs.Common.{◌≡◌, ℕ, zero, suc, ◌+◌, ◌*◌, ◌/◌, ◌%◌, ◌<◌, false, eqb, ◌||◌, ◌&&◌, IsTrue, List, [], get_or, arith, refl, sym, ap, ◌∙◌, subst}
 use Rattle.std.specs.Int.{bit_at}
-use Rattle.std.proofs.lemmas.Bool.Decides.{nat_tests}
+use Rattle.std.proofs.lemmas.Bool.Decides.{nat_tests, Decides-eqb, Decides-like, Decides-and}
+use Rattle.std.specs.Bool.{one_answer}
+use Rattle.std.specs.Cmp.Lexicographic.{pointwise, pointwise_decides}
 use Rattle.std.proofs.lemmas.List.{ext_get_or}
 use Rattle.std.proofs.lemmas.Nat.Bits.{bit_at-lt, same_from_bits_below}
 use mathlib.Core.HLevel.{Σ_prop_path}
@@ -14,8 +16,9 @@ use Rattle.sr_dup_window.specs.declared.lane_sets.Lane.TheVariants.{H, A, B, C, 
 use Rattle.sr_dup_window.specs.declared.record.Record.{Record}
 use Rattle.sr_dup_window.specs.LaneSets.{has, none, index_of, is_empty}
 use Rattle.sr_dup_window.specs.LaneLemmas.{has-lanes_where}
-use Rattle.sr_dup_window.specs.Rings.{has_bit, lanes_at, IsRow, AreRows}
-use Rattle.sr_dup_window.specs.Windows.{window_of}
+use Rattle.sr_dup_window.specs.Bitmaps.{has_bit, lanes_at, IsRow, AreRows}
+use Rattle.sr_dup_window.specs.Windows.{window_of, same_window}
+use Rattle.sr_dup_window.specs.WindowLemmas.{Decides-same_window}
 use Rattle.sr_dup_window.specs.RecordLemmas.{record-width}
 use Rattle.sr_dup_window.proofs.SpotLemmas.{spot, back_of, place_back}
 use Rattle.sr_dup_window.proofs.ShowLemmas.{shows_marks}
@@ -100,3 +103,12 @@ pub same_shown : {N : ℕ} (a b : Record N) → window_of a ≡ window_of b → 
 same_shown {N} a b e =
     let mk : ℕ → Seq = λ n. record { 0 = n } in
     same_fields a b (ap (λ x. mk x.reference) e) (same_rows N a.rows b.rows a.whole b.whole (λ lane p h. same_place a b lane p e h))
+
+-- so the test of their fields is that of what they show
+pub same-as-shown : {N : ℕ} (a b : Record N) → (eqb a.reference.0 b.reference.0 && pointwise (pointwise eqb) a.rows b.rows) ≡ same_window (window_of a) (window_of b)
+same-as-shown {N} a b =
+    let mk : ℕ → Seq = λ n. record { 0 = n } in
+    let fields = Decides-and (eqb a.reference.0 b.reference.0) (pointwise (pointwise eqb) a.rows b.rows) (Decides-eqb a.reference.0 b.reference.0) (pointwise_decides (pointwise_decides Decides-eqb) a.rows b.rows) in
+    one_answer (eqb a.reference.0 b.reference.0 && pointwise (pointwise eqb) a.rows b.rows) (same_window (window_of a) (window_of b))
+    (Decides-like _ (λ e. ap window_of (same_fields a b (ap mk e.0) e.1)) (λ e. let same = same_shown a b e in (ap (λ (r : Record N). r.reference.0) same, ap (λ (r : Record N). r.rows) same)) fields)
+    (Decides-same_window (window_of a) (window_of b))

@@ -8,8 +8,8 @@ use lib.Lanes.{zip2}
 use Rattle.sr_dup_window.specs.declared.lane_sets.Lanes.{Lanes}
 use Rattle.sr_dup_window.specs.declared.record.Record.{Record}
 use Rattle.sr_dup_window.specs.LaneSets.{none, union}
-use Rattle.sr_dup_window.specs.Rings.{lanes_at, is_passed, IsWidth}
-use Rattle.sr_dup_window.specs.Windows.{marks_of, no_marks, marked, slid}
+use Rattle.sr_dup_window.specs.Bitmaps.{lanes_at, is_passed, IsWidth}
+use Rattle.sr_dup_window.specs.Windows.{marks_of, no_marks, marks_with, marks_slid}
 use Rattle.sr_dup_window.specs.RecordLemmas.{marks-count, marks-at}
 use Rattle.sr_dup_window.specs.WindowLemmas.{width-most, length-no_marks, get_or-no_marks, length-slid, slid-new, slid-old}
 use Rattle.sr_dup_window.proofs.SpotLemmas.{spot, spot_inside, spot-eq, passed_spot, spot_kept}
@@ -28,7 +28,7 @@ unfolding marks_of
 marks_are {N} r marks s = sym (fill_by_all (λ k. lanes_at r.rows (spot (64 * N) r.reference.0 k)) marks (64 * N) none s.count (λ k h. sym (s.each k h)))
 
 -- more lanes at the place of one number
-pub marked_shows : (w : ℕ) (rows new : List (List ℕ)) (r : ℕ) (marks : List Lanes) (k place : ℕ) (lanes : Lanes) → IsWidth w → r < 65536 → k < w → spot w r k ≡ place → Shows w rows r marks → ((p : ℕ) → lanes_at new p ≡ cond (eqb p place) (union (lanes_at rows p) lanes) (lanes_at rows p)) → Shows w new r (marked marks k lanes)
+pub marked_shows : (w : ℕ) (rows new : List (List ℕ)) (r : ℕ) (marks : List Lanes) (k place : ℕ) (lanes : Lanes) → IsWidth w → r < 65536 → k < w → spot w r k ≡ place → Shows w rows r marks → ((p : ℕ) → lanes_at new p ≡ cond (eqb p place) (union (lanes_at rows p) lanes) (lanes_at rows p)) → Shows w new r (marks_with marks k lanes)
 marked_shows w rows new r marks k place lanes width h inside at s marks_new = record {
   count = length-set marks k (union (get_or marks k none) lanes) ∙ s.count;
   each = λ j g.
@@ -39,19 +39,19 @@ marked_shows w rows new r marks k place lanes width h inside at s marks_new = re
       ∙ written j g;
 }
   where
-    written : (j : ℕ) → j < w → cond (eqb j k) (union (get_or marks j none) lanes) (get_or marks j none) ≡ get_or (marked marks k lanes) j none
+    written : (j : ℕ) → j < w → cond (eqb j k) (union (get_or marks j none) lanes) (get_or marks j none) ≡ get_or (marks_with marks k lanes) j none
     written j g =
         elim (cases_eq j k) [
           | inl e ↦ cond-true (eqb j k) (union (get_or marks j none) lanes) (get_or marks j none) (eq-eqb j k e)
               ∙ ap (λ i. union (get_or marks i none) lanes) e
               ∙ sym (get_or-set_same marks k (union (get_or marks k none) lanes) none (omega (arith, s.count)))
-              ∙ ap (λ i. get_or (marked marks k lanes) i none) (sym e)
+              ∙ ap (λ i. get_or (marks_with marks k lanes) i none) (sym e)
           | inr ne ↦ cond-false (eqb j k) (union (get_or marks j none) lanes) (get_or marks j none) (ne_eqb j k ne)
               ∙ sym (get_or-set_other marks k j (union (get_or marks k none) lanes) none ne)
         ]
 
 -- the numbers between the reference and a later one passed over
-pub passed_shows : (w : ℕ) (rows new : List (List ℕ)) (r from later : ℕ) (marks : List Lanes) (a : ℕ) → IsWidth w → r < 65536 → a ≤ 65536 - w → r % w ≡ from → (r + a) % 65536 ≡ later → Shows w rows r marks → ((p : ℕ) → p < w → lanes_at new p ≡ cond (is_passed w from a p || leb w a) none (lanes_at rows p)) → Shows w new later (slid w a marks)
+pub passed_shows : (w : ℕ) (rows new : List (List ℕ)) (r from later : ℕ) (marks : List Lanes) (a : ℕ) → IsWidth w → r < 65536 → a ≤ 65536 - w → r % w ≡ from → (r + a) % 65536 ≡ later → Shows w rows r marks → ((p : ℕ) → p < w → lanes_at new p ≡ cond (is_passed w from a p || leb w a) none (lanes_at rows p)) → Shows w new later (marks_slid w a marks)
 passed_shows w rows new r from later marks a width h most at to s passes = record {
   count = length-slid w a marks s.count;
   each = λ j g.
@@ -60,7 +60,7 @@ passed_shows w rows new r from later marks a width h most at to s passes = recor
       ∙ passes p (spot_inside w ((r + a) % 65536) j width)
       ∙ ap (λ n. cond (is_passed w n a p || leb w a) none (lanes_at rows p)) (sym at)
       ∙ ap (λ t. cond t none (lanes_at rows p)) (passed_spot w r a j width h most g)
-      ∙ (elim (cases_lt j a) as (λ _. cond (ltb j a) none (lanes_at rows p) ≡ get_or (slid w a marks) j none) [
+      ∙ (elim (cases_lt j a) as (λ _. cond (ltb j a) none (lanes_at rows p) ≡ get_or (marks_slid w a marks) j none) [
         | inl less ↦ cond-true (ltb j a) none (lanes_at rows p) (lt-ltb j a less) ∙ sym (slid-new w a marks j g less)
         | inr more ↦ cond-false (ltb j a) none (lanes_at rows p) (le-ltb j a more)
             ∙ ap (lanes_at rows) (spot_kept w r a j more (omega (arith, width-most w width)))

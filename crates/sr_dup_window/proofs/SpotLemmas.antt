@@ -2,7 +2,7 @@
 use Rattle.std.proofs.Common.{◌≡◌, ℕ, ◌+◌, ◌-◌, ◌%◌, ◌<◌, ◌≤◌, eqb, ltb, leb, ◌||◌, arith, sym, ap, ◌∙◌, inl, inr}
 use Rattle.std.proofs.lemmas.Bool.{cases_eq, eq-eqb, ne_eqb}
 use Rattle.std.proofs.lemmas.Bool.Decides.{nat_tests}
-use Rattle.sr_dup_window.specs.Rings.{is_passed, IsWidth}
+use Rattle.sr_dup_window.specs.Bitmaps.{is_passed, IsWidth}
 use Rattle.sr_dup_window.specs.WindowLemmas.{width-some}
 
 -- the place of the number so many before a reference

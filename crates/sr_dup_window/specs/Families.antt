@@ -25,12 +25,12 @@ abbrev pub lacking : Lanes → Family → ℤ → Lanes
 lacking lanes family n = lanes_where (λ lane. has lanes lane && not (family lane n))
 
 -- one number, on some lanes
-abbrev pub alone : Lanes → ℤ → Family
-alone lanes n lane x = int_eq x n && has lanes lane
+abbrev pub singleton : Lanes → ℤ → Family
+singleton lanes n lane x = int_eq x n && has lanes lane
 
 -- lane by lane, the numbers of either
-abbrev pub joined : Family → Family → Family
-joined f g lane x = f lane x || g lane x
+abbrev pub join : Family → Family → Family
+join f g lane x = f lane x || g lane x
 
 -- the same numbers above `greatest - window`
 abbrev pub SameCut : ℕ → ℤ → Family → Family → Type 0
@@ -53,12 +53,12 @@ pub record StandsFor (w : ℕ) (r : Window) (family : Family) (greatest : ℤ) :
 
 -- `begin`: the window stands for the one number on its lanes
 abbrev pub Begins : ℕ → Window → ℕ → Lanes → Type 0
-Begins w new seq lanes = (n : ℤ) → wire n ≡ seq → StandsFor w new (alone lanes n) n
+Begins w new seq lanes = (n : ℤ) → wire n ≡ seq → StandsFor w new (singleton lanes n) n
 
 -- noting a number: the answer is where the family lacks it, and the window then stands for the family with it
 pub record Notes (w : ℕ) (new : Window) (lanes answer : Lanes) (family : Family) (greatest n : ℤ) : Type 0 where
   pub fresh : answer ≡ lacking lanes family n
-  pub stands : StandsFor w new (joined family (alone lanes n)) (greater greatest n)
+  pub stands : StandsFor w new (join family (singleton lanes n)) (greater greatest n)
 
 -- `note`: so it is for every family that the old window stands for, and every near number
 abbrev pub NotesAs : ℕ → Window → Window → ℕ → Lanes → Lanes → Type 0
@@ -68,4 +68,4 @@ NotesAs w old new seq lanes answer =
 -- `merge` of windows whose greatest numbers are close: the new one stands for the join
 abbrev pub Merges : ℕ → Window → Window → Window → Type 0
 Merges w old other new =
-    (f g : Family) (m n : ℤ) → StandsFor w old f m → StandsFor w other g n → IsClose m n → StandsFor w new (joined f g) (greater m n)
+    (f g : Family) (m n : ℤ) → StandsFor w old f m → StandsFor w other g n → IsClose m n → StandsFor w new (join f g) (greater m n)

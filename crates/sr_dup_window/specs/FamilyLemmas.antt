@@ -9,7 +9,7 @@ use Rattle.sr_dup_window.specs.declared.lane_sets.Lane.{Lane}
 use Rattle.sr_dup_window.specs.declared.lane_sets.Lanes.{Lanes}
 use Rattle.sr_dup_window.specs.LaneSets.{has, is_empty}
 use Rattle.sr_dup_window.specs.LaneLemmas.{some_lane}
-use Rattle.sr_dup_window.specs.Families.{Family, IsGreatest, IsClose, alone, joined, greater}
+use Rattle.sr_dup_window.specs.Families.{Family, IsGreatest, IsClose, singleton, join, greater}
 
 same_back : (m : ℤ) (j k : ℕ) → (m -ℤ pos j) ≡ (m -ℤ pos k) → j ≡ k
 same_back m j k e = omega (arith, ints)
@@ -28,11 +28,6 @@ greater_same m n h = grind (arith, ints)
 pub greater_more : (m n : ℤ) → m ≤ℤ n → greater m n ≡ n
 greater_more m n h = grind (arith, ints)
 
-pub greater_comm : (m n : ℤ) → greater m n ≡ greater n m
-greater_comm m n = by_lt_z m n
-    (λ less. greater_more m n (omega (arith, ints)) ∙ sym (greater_same n m (omega (arith, ints))))
-    (λ le. greater_same m n le ∙ sym (greater_more n m le))
-
 pub close_swap : (m n : ℤ) → IsClose m n → IsClose n m
 close_swap m n a = (a.1, a.0)
 
@@ -44,9 +39,9 @@ pub lacks_above : (f : Family) (m n : ℤ) (lane : Lane) → IsGreatest f m → 
 lacks_above f m n lane top above = false_from_ne_true (f lane n) (λ t. let no : n ≤ℤ m = top.most lane n t in absurd (omega (arith, ints)))
 
 -- the greatest number of two families together
-pub joined_greatest : (f g : Family) (m n : ℤ) → IsGreatest f m → IsGreatest g n → IsGreatest (joined f g) (greater m n)
-joined_greatest f g m n a b =
-    let Q : ℤ → Type 0 = λ x. IsGreatest (joined f g) x in
+pub join_greatest : (f g : Family) (m n : ℤ) → IsGreatest f m → IsGreatest g n → IsGreatest (join f g) (greater m n)
+join_greatest f g m n a b =
+    let Q : ℤ → Type 0 = λ x. IsGreatest (join f g) x in
     by_lt_z m n
     (λ less. subst Q (sym (greater_more m n (omega (arith, ints)))) (record {
       member = (b.member.0, or_right (f b.member.0 n) (g b.member.0 n) b.member.1);
@@ -64,8 +59,8 @@ joined_greatest f g m n a b =
     }))
 
 -- the greatest number of a family of one number
-pub alone_greatest : (lanes : Lanes) (n : ℤ) → is_empty lanes ≡ false → IsGreatest (alone lanes n) n
-alone_greatest lanes n h =
+pub singleton_greatest : (lanes : Lanes) (n : ℤ) → is_empty lanes ≡ false → IsGreatest (singleton lanes n) n
+singleton_greatest lanes n h =
     let some = some_lane lanes h in
     record {
       member = (some.0, and_from (int_eq n n) (has lanes some.0) ((Decides-int_eq n n).1 refl) some.1);

@@ -1,6 +1,5 @@
 -- What is in a set of lanes.
 use Rattle.std.proofs.Common.{◌≡◌, ℕ, ◌+◌, ◌*◌, ◌-◌, ◌%◌, ◌<◌, Bool, true, false, eqb, ◌||◌, ◌&&◌, not, min, max, arith, refl, sym, ap, ◌∙◌, inl, inr, w8, bit_and, bit_or}
-use Rattle.std.proofs.Math.Bool.{or_comm}
 use Rattle.std.proofs.lemmas.Bool.Decides.{nat_tests}
 use Rattle.std.proofs.lemmas.Bool.{or_cases, or_left, or_right, false≢true, false_from_ne_true, not-true, not-false, or_parts}
 use Rattle.std.proofs.lemmas.Nat.Bits.{bit_at-lt, bit_at_or, bit_at_and, bit_at_not}
@@ -170,7 +169,3 @@ union_bits a b = lanes_from_bits (bit_or a.0 b.0) (λ lane. has a lane || has b 
 
 pub difference_bits : (a b : Lanes) → b.0 < 256 → bit_and (bit_and a.0 (255 - b.0)) 63 ≡ (difference a b).0
 difference_bits a b h = lanes_from_bits (bit_and a.0 (255 - b.0)) (λ lane. has a lane && not (has b lane)) (λ lane. cleared_bit a.0 b.0 (index_of lane) h (index_small lane))
-
--- either set first
-pub union_comm : (a b : Lanes) → union a b ≡ union b a
-union_comm a b = lanes_where-same (λ lane. has a lane || has b lane) (λ lane. has b lane || has a lane) (λ lane. or_comm (has a lane) (has b lane))

@@ -5,8 +5,8 @@ use Rattle.sr_dup_window.specs.declared.lane_sets.Lane.{Lane}
 use Rattle.sr_dup_window.specs.declared.lane_sets.Lanes.{Lanes}
 use Rattle.sr_dup_window.specs.declared.record.Record.{Record}
 use Rattle.sr_dup_window.specs.LaneSets.{is_empty}
-use Rattle.sr_dup_window.specs.Windows.{Window, window_of, begun, noted, merged, fresh_lanes}
-use Rattle.sr_dup_window.specs.Families.{Family, lacking, alone, joined, greater, IsClose, StandsFor}
+use Rattle.sr_dup_window.specs.Windows.{Window, window_of, window_begun, window_noted, window_merged, fresh_lanes}
+use Rattle.sr_dup_window.specs.Families.{Family, lacking, singleton, join, greater, IsClose, StandsFor}
 
 -- how a record came about: begun with a number on some lanes, with one more noted, or of two that were merged
 pub data Tree : Type 0 where
@@ -16,15 +16,15 @@ pub data Tree : Type 0 where
 
 -- what a record shows that came about so
 abbrev pub made : ℕ → Tree → Window
-made w (begin lanes n) = begun w (wire n) lanes
-made w (note t lanes n) = noted w (made w t) (wire n) lanes
-made w (merge s t) = merged w (made w s) (made w t)
+made w (begin lanes n) = window_begun w (wire n) lanes
+made w (note t lanes n) = window_noted w (made w t) (wire n) lanes
+made w (merge s t) = window_merged w (made w s) (made w t)
 
 -- all numbers that its parts took, never cut
 abbrev pub family_of : Tree → Family
-family_of (begin lanes n) = alone lanes n
-family_of (note t lanes n) = joined (family_of t) (alone lanes n)
-family_of (merge s t) = joined (family_of s) (family_of t)
+family_of (begin lanes n) = singleton lanes n
+family_of (note t lanes n) = join (family_of t) (singleton lanes n)
+family_of (merge s t) = join (family_of s) (family_of t)
 
 -- the greatest of them
 abbrev pub greatest_of : Tree → ℤ

@@ -1,5 +1,5 @@
 //! Laws on records, and on every tree of begins, notes and merges.
-ghost use Rattle.sr_dup_window.specs.Records.{WindowsAreWhole, WindowsTell, EachStands, EqualWhereOneServes, MergeCommutes, MergeIsIdempotent, MergeAssociates};
+ghost use Rattle.sr_dup_window.specs.Records.{WindowsAreWhole, WindowsTell, EachStands, StandsByHas, EqualWhereOneServes, MergeCommutes, MergeIsIdempotent, MergeAssociates};
 ghost use Rattle.sr_dup_window.specs.Trees.{TreesStand, AnswersByTheUnion, TreesAgree};
 
 /// A record stands for the cut of the union of all that its parts took, along any steady tree of begins, notes and merges.
@@ -30,6 +30,12 @@ pub fn windows_tell<const N: usize>()
 /// Every record stands for some family.
 pub fn each_stands<const N: usize>()
     ensures { EachStands N }
+{}
+
+/// A record stands for a family exactly where its reference is the family's greatest number modulo 65536 and `has` is true,
+/// of the `64 * N` numbers up to that, exactly on the lanes that have the number.
+pub fn stands_by_has<const N: usize>()
+    ensures { StandsByHas N }
 {}
 
 /// A record is equal to another exactly where one family serves both.

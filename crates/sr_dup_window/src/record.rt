@@ -1,10 +1,10 @@
 //! The record of one source.
 ghost use Rattle.std.specs.Prelude.{◌≡◌, ◌==◌, ◌||◌, ◌*◌, ◌%◌, ◌<◌, IsTrue, false};
 ghost use Rattle.sr_dup_window.specs.LaneSets.{is_empty};
-ghost use Rattle.sr_dup_window.specs.Rings.{AreRows, lanes_at};
+ghost use Rattle.sr_dup_window.specs.Bitmaps.{AreRows, lanes_at};
 
+use crate::bitmaps::{lanes_at, mark, pass, unite};
 use crate::lane_sets::{Lane, Lanes};
-use crate::rings::{lanes_at, mark, pass, unite};
 use sr_sequence::{Distance, Seq, place};
 use thiserror::Error;
 
@@ -14,8 +14,8 @@ use thiserror::Error;
 pub struct Apart;
 
 /// The numbers that one source has lately used, lane by lane: the greatest of them, its reference, and which of the
-/// `64 * N - 1` numbers before it. N is 16 or 32 (choice of this project). Number n stands at the place `n mod 64N` of a
-/// ring, in which the six lanes' words of the same 64 numbers lie side by side.
+/// `64 * N - 1` numbers before it. N is 16 or 32 (choice of this project). Number n stands at the spot `n mod 64N` of a
+/// bitmap that goes round, in which the six lanes' words of the same 64 numbers lie side by side.
 #[derive(Clone, Copy, PartialEq, Eq, Debug)]
 pub struct Record<const N: usize> {
     reference: Seq,
@@ -30,14 +30,14 @@ impl<const N: usize> Record<N> {
     ghost use Rattle.std.specs.Prelude.{◌≡◌, ◌⊎◌, ◌*◌, ◌↔◌, false, IsErr, OnOk, OnErr};
     ghost use Rattle.sr_sequence.specs.Places.{steps, place_of, IsWithin};
     ghost use Rattle.sr_dup_window.specs.LaneSets.{is_empty};
-    ghost use Rattle.sr_dup_window.specs.Windows.{window_of, begun, noted, merged, has_of, fresh_lanes, lanes_of};
+    ghost use Rattle.sr_dup_window.specs.Windows.{window_of, window_begun, window_noted, window_merged, has_of, fresh_lanes, lanes_of, same_window};
     ghost use Rattle.sr_dup_window.specs.Families.{Begins, NotesAs, Merges};
 
     /// A record of one number, on some lanes.
     pub fn begin(seq: Seq, lanes: Lanes) -> Self
         requires width { (N ≡ 16) ⊎ (N ≡ 32) }
         requires some { is_empty lanes ≡ false }
-        ensures value { window_of result ≡ begun (64 * N) seq.0 lanes }
+        ensures value { window_of result ≡ window_begun (64 * N) seq.0 lanes }
         ensures stands { Begins (64 * N) (window_of result) seq.0 lanes }
     {
         let mut rows = [[0; 6]; N];
@@ -91,7 +91,7 @@ impl<const N: usize> Record<N> {
     /// the greatest one is ahead of it, and becomes the greatest.
     pub fn note(&mut self, seq: Seq, lanes: Lanes) -> Lanes
         requires { is_empty lanes ≡ false }
-        ensures value { window_of self.new ≡ noted (64 * N) (window_of self.old) seq.0 lanes }
+        ensures value { window_of self.new ≡ window_noted (64 * N) (window_of self.old) seq.0 lanes }
         ensures answer { result ≡ fresh_lanes (64 * N) (window_of self.old) seq.0 lanes }
         ensures stands { NotesAs (64 * N) (window_of self.old) (window_of self.new) seq.0 lanes result }
     {
@@ -115,7 +115,7 @@ impl<const N: usize> Record<N> {
     /// Joins the numbers of another record to these. Apart exactly where the two references are 32768 apart; the record
     /// is then left as it is.
     pub fn merge(&mut self, other: &Self) -> Result<(), Apart>
-        ensures value { OnOk result (window_of self.new ≡ merged (64 * N) (window_of self.old) (window_of other.now)) }
+        ensures value { OnOk result (window_of self.new ≡ window_merged (64 * N) (window_of self.old) (window_of other.now)) }
         ensures joins { OnOk result (Merges (64 * N) (window_of self.old) (window_of other.now) (window_of self.new)) }
         ensures apart { IsErr result ↔ (steps (window_of self.old).reference (window_of other.now).reference ≡ 32768) }
         ensures unchanged { OnErr result (self.new ≡ self.old) }
@@ -137,5 +137,12 @@ impl<const N: usize> Record<N> {
                 Ok(())
             }
         }
+    }
+
+    /// Whether two records are equal: whether they show the same numbers on the same lanes.
+    pub fn is_same(&self, other: &Self) -> bool
+        ensures { result ≡ same_window (window_of self.now) (window_of other.now) }
+    {
+        self == other
     }
 }

@@ -14,10 +14,11 @@ same_parts a b x y same e =
       sym (drop_at a x (length b) same) ∙ second ∙ drop_at b y (length b) refl,
     )
 
-number_once : (m n : ℕ) → m < 2 ^ 16 → n < 2 ^ 16 → to_be_bytes w16 m ≡ to_be_bytes w16 n → m ≡ n
+-- a number is known by the octets that spell it, alone and before a rest
+pub number_once : (m n : ℕ) → m < 2 ^ 16 → n < 2 ^ 16 → to_be_bytes w16 m ≡ to_be_bytes w16 n → m ≡ n
 number_once m n p q e = sym (from_be_bytes-to_be_bytes_2 m p) ∙ ap (from_be_bytes w16) e ∙ from_be_bytes-to_be_bytes_2 n q
 
-number_and_rest : (m n : ℕ) (x y : List ℕ) → m < 2 ^ 16 → n < 2 ^ 16 → to_be_bytes w16 m ++ x ≡ to_be_bytes w16 n ++ y → (m ≡ n) × (x ≡ y)
+pub number_and_rest : (m n : ℕ) (x y : List ℕ) → m < 2 ^ 16 → n < 2 ^ 16 → to_be_bytes w16 m ++ x ≡ to_be_bytes w16 n ++ y → (m ≡ n) × (x ≡ y)
 number_and_rest m n x y p q e =
     let both = same_parts (to_be_bytes w16 m) (to_be_bytes w16 n) x y refl e in
     (number_once m n p q both.0, both.1)

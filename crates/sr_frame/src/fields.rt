@@ -21,8 +21,23 @@ pub const VLAN_KIND: u16 = 0x8100;
 /// A hardware address: its six octets in the order in which a frame carries them.
 ///
 /// Addresses are ordered octet by octet, and shown as six pairs of lower case digits joined by colons.
-#[derive(Clone, Copy, Debug, PartialEq, Eq, PartialOrd, Ord, Hash)]
+#[derive(Clone, Copy, Debug, PartialEq, Eq, PartialOrd, Ord)]
 pub struct Mac(pub [u8; 6]);
+
+impl std::hash::Hash for Mac {
+    ghost use Rattle.std.specs.Prelude.{◌∷◌, []};
+
+    ghost hash_input = { λ mac. mac.0 ∷ [] };
+
+    ghost use Rattle.std.specs.Cmp.Rules.{comparing, hashing};
+    ghost use Rattle.std.proofs.Common.{rules};
+
+    ghost respects_eq = { Prim.search (comparing, hashing, rules) };
+
+    fn hash<H: std::hash::Hasher>(&self, state: &mut H) {
+        state.write(&self.0);
+    }
+}
 
 impl Mac {
     /// Whether this is a group address: the lowest bit of its first octet is set.

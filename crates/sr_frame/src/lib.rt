@@ -21,6 +21,3 @@ pub use owned::Frame;
 pub use ports::Port;
 pub use reading::view;
 pub use writing::append;
-
-#[cfg(test)]
-mod tests;

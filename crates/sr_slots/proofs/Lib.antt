@@ -1,1 +1,4 @@
 pub mod PlaceLemmas
+pub mod CloneLemmas
+pub mod IndexLemmas
+pub mod SiftLemmas

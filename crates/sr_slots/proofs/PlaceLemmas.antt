@@ -1,6 +1,6 @@
 -- What the places of the map show, through what the map's calls do to them.
-use Rattle.std.proofs.Common.{◌≡◌, ℕ, suc, ◌+◌, ◌-◌, ◌≤◌, Bool, true, false, cond, ◌||◌, not, List, [], ◌∷◌, ◌++◌, length, filter, Option, None, Some, is_some, MatchOption, refl, sym, ap, ◌∙◌, subst, append_assoc, append-nil, arith}
-use Rattle.std.specs.Map.{lookup, set_value, values_of, keys_of}
+use Rattle.std.proofs.Common.{◌≡◌, ℕ, suc, ◌+◌, ◌-◌, ◌≤◌, Bool, true, false, cond, ◌||◌, not, List, [], ◌∷◌, ◌++◌, length, Option, None, Some, is_some, refl, sym, ap, ◌∙◌, subst, append_assoc, append-nil, arith}
+use Rattle.std.specs.Map.{lookup, set_value, keys_of}
 use Rattle.std.specs.Map.Calls.{RetainsPairs}
 use Rattle.std.specs.List.{list_any, IsDistinct, AllByRecursion, position_or_len, insert, remove, slice_get}
 use Rattle.std.specs.Option.{option_map_or}
@@ -10,10 +10,9 @@ use Rattle.indexmap.specs.IndexMap.{insert_entry, move_index}
 use Rattle.sr_frame.specs.declared.fields.Mac.{Mac}
 use Rattle.sr_slots.specs.declared.places.Slot.{Slot}
 use Rattle.sr_frame.specs.Addresses.{mac_eq}
-use Rattle.sr_slots.specs.Places.{entry_at, held_at, entries_of, held_of, slot_of, KeepsHeld}
-use Rattle.sr_slots.specs.Calls.{passing}
+use Rattle.sr_slots.specs.Places.{entry_at, held_at, entries_of, held_of, slot_of, KeepsHeld, KeepsAllHeld}
 use Rattle.sr_frame.specs.AddressLemmas.{mac_same, mac_refl}
-use Rattle.sr_slots.specs.EntryLemmas.{one_if, head_differs}
+use Rattle.sr_slots.specs.EntryLemmas.{one_if, head_differs, lookup-set, distinct-set}
 
 or_true : (b : Bool) → (b || true) ≡ true
 or_true true = refl
@@ -65,6 +64,34 @@ pub none_from : {X : Type 0} (o : Option X) → false ≡ is_some o → o ≡ No
 none_from None h = refl
 none_from (Some x) h = cc
 
+-- a place that was held newly and given up again is held as before
+pub given_back : (old mid new : List Mac) (key : Mac) → true ≡ not (list_any (mac_eq key) old) → KeepsHeld old mid key → KeepsHeld mid new key → list_any (mac_eq key) new ≡ false → KeepsAllHeld old new
+given_back old mid new key newly first second none other = by (mac_eq other key) refl
+  where
+    was : (b : Bool) → true ≡ not b → b ≡ false
+    was true h = cc
+    was false h = refl
+
+    by : (b : Bool) → mac_eq other key ≡ b → list_any (mac_eq other) new ≡ list_any (mac_eq other) old
+    by true t =
+        let k = mac_same other key t in
+        ap (λ m. list_any (mac_eq m) new) k ∙ none ∙ sym (was (list_any (mac_eq key) old) newly) ∙ sym (ap (λ m. list_any (mac_eq m) old) k)
+    by false t = second other t ∙ first other t
+
+-- and one that was held already stays
+pub held_still : (old new : List Mac) (key : Mac) → false ≡ not (list_any (mac_eq key) old) → KeepsHeld old new key → list_any (mac_eq key) new ≡ true → KeepsAllHeld old new
+held_still old new key again others held other = by (mac_eq other key) refl
+  where
+    was : (b : Bool) → false ≡ not b → b ≡ true
+    was true h = refl
+    was false h = cc
+
+    by : (b : Bool) → mac_eq other key ≡ b → list_any (mac_eq other) new ≡ list_any (mac_eq other) old
+    by true t =
+        let k = mac_same other key t in
+        ap (λ m. list_any (mac_eq m) new) k ∙ held ∙ sym (was (list_any (mac_eq key) old) again) ∙ sym (ap (λ m. list_any (mac_eq m) old) k)
+    by false t = others other t
+
 -- writing the value that is there changes nothing
 pub set_value_same : {X : Type 0} (test : Mac → Bool) (es : List (Mac × X)) (w : X) → lookup test es ≡ Some w → set_value test es w ≡ es
 set_value_same test [] w h = refl
@@ -75,15 +102,6 @@ set_value_same {X} test (e ∷ es) w h = by (test e.0) h (set_value_same test es
     by false s ih = ap (λ l. e ∷ l) (ih s)
 
 module _ {V : Type 0} where
-  -- counting the places with a value counts the entries
-  count_step : (m : Mac) (s : Slot V) (r : Option V) (xs : List (Slot V)) (ys : List (Mac × V)) → length xs ≡ length ys → length (cond (is_some r) (s ∷ xs) xs) ≡ length (entry_at m r ++ ys)
-  count_step m s None xs ys h = h
-  count_step m s (Some x) xs ys h = ap suc h
-
-  pub count_is : (es : List (Mac × Slot V)) → length (filter (λ s. is_some s.value) (values_of es)) ≡ length (entries_of es)
-  count_is [] = refl
-  count_is (e ∷ es) = count_step e.0 e.1 e.1.value (filter (λ s. is_some s.value) (values_of es)) (entries_of es) (count_is es)
-
   pub entries-append : (xs ys : List (Mac × Slot V)) → entries_of (xs ++ ys) ≡ entries_of xs ++ entries_of ys
   entries-append [] ys = refl
   entries-append (e ∷ xs) ys = ap (λ l. entry_at e.0 e.1.value ++ l) (entries-append xs ys) ∙ sym (append_assoc (entry_at e.0 e.1.value) (entries_of xs) (entries_of ys))
@@ -235,6 +253,37 @@ module _ {V : Type 0} where
       by true t s ih = ap (λ b. list_any (mac_eq m) (held_at e.0 b ++ held_of es)) held ∙ ap (λ b. b || list_any (mac_eq m) (held_of es)) t
       by false t s ih = any_behind m (held_at e.0 e.1.held) (held_of (set_value (mac_eq m) es w)) (ih s)
 
+  -- a write that lets go of the place
+  pub held-set_free : (m : Mac) (w : Slot V) (es : List (Mac × Slot V)) → IsDistinct mac_eq (keys_of es) → w.held ≡ false
+      → is_some (lookup (mac_eq m) es) ≡ true → list_any (mac_eq m) (held_of (set_value (mac_eq m) es w)) ≡ false
+  unfolding IsDistinct
+  held-set_free m w [] unique free there = cc
+  held-set_free m w (e ∷ es) unique free there = by (mac_eq m e.0) refl there (held-set_free m w es unique.1 free)
+    where
+      by : (t : Bool) → mac_eq m e.0 ≡ t → is_some (cond t (Some e.1) (lookup (mac_eq m) es)) ≡ true
+          → (is_some (lookup (mac_eq m) es) ≡ true → list_any (mac_eq m) (held_of (set_value (mac_eq m) es w)) ≡ false)
+          → list_any (mac_eq m) (held_of (cond t ((e.0, w) ∷ es) (e ∷ set_value (mac_eq m) es w))) ≡ false
+      by true t s ih = ap (λ b. list_any (mac_eq m) (held_at e.0 b ++ held_of es)) free ∙ held_absent m es (subst (λ k. lookup (mac_eq k) es ≡ None) (sym (mac_same m e.0 t)) (absent_after e.0 es unique.0))
+      by false t s ih = any_held m e.0 e.1.held [] (held_of (set_value (mac_eq m) es w)) t ∙ ih s
+
+  -- where no two addresses are equal, an address has a held place where its own place is held, and none once that is not
+  pub held_of_own : (m : Mac) (s : Slot V) (es : List (Mac × Slot V)) → IsDistinct mac_eq (keys_of es) → lookup (mac_eq m) es ≡ Some s → list_any (mac_eq m) (held_of es) ≡ s.held
+  unfolding IsDistinct
+  held_of_own m s [] unique there = cc
+  held_of_own m s (e ∷ es) unique there = by (mac_eq m e.0) refl there (held_of_own m s es unique.1)
+    where
+      none_behind : mac_eq m e.0 ≡ true → list_any (mac_eq m) (held_of es) ≡ false
+      none_behind t = held_absent m es (subst (λ k. lookup (mac_eq k) es ≡ None) (sym (mac_same m e.0 t)) (absent_after e.0 es unique.0))
+
+      first : (b : Bool) → mac_eq m e.0 ≡ true → list_any (mac_eq m) (held_at e.0 b ++ held_of es) ≡ b
+      first true t = ap (λ c. c || list_any (mac_eq m) (held_of es)) t
+      first false t = none_behind t
+
+      by : (t : Bool) → mac_eq m e.0 ≡ t → cond t (Some e.1) (lookup (mac_eq m) es) ≡ Some s → (lookup (mac_eq m) es ≡ Some s → list_any (mac_eq m) (held_of es) ≡ s.held)
+          → list_any (mac_eq m) (held_at e.0 e.1.held ++ held_of es) ≡ s.held
+      by true t h ih = let v : e.1 ≡ s = cc in first e.1.held t ∙ ap (λ x. x.held) v
+      by false t h ih = any_held m e.0 e.1.held [] (held_of es) t ∙ ih h
+
   -- a new place goes last
   pub added_entries : (m : Mac) (s : Slot V) (es new : List (Mac × Slot V)) → new ≡ es ++ (m, s) ∷ [] → entries_of new ≡ entries_of es ++ entry_at m s.value
   added_entries m s es new is = ap entries_of is ∙ entries-append es ((m, s) ∷ []) ∙ ap (λ l. entries_of es ++ l) (append-nil (entry_at m s.value))
@@ -285,6 +334,7 @@ module _ {V : Type 0} where
     pub entries : entries_of new ≡ entries_of es ++ (m, w) ∷ []
     pub len : length (held_of new) + one_if was_held ≡ length (held_of es)
     pub others : KeepsHeld (held_of es) (held_of new) m
+    pub free : list_any (mac_eq m) (held_of new) ≡ false
 
   -- the places round the one of an address
   pub record Split (m : Mac) (s : Slot V) (es : List (Mac × Slot V)) : Type 0 where
@@ -319,6 +369,12 @@ module _ {V : Type 0} where
   place (e ∷ front) back m s h =
       let d = head_differs (mac_eq m e.0) e.1 (lookup (mac_eq m) front) h in
       ap (λ b. cond (not b) (1 + position_or_len (mac_eq m) (keys_of (front ++ (m, s) ∷ back))) 0) d.0 ∙ ap (λ n. 1 + n) (place front back m s d.1) ∙ omega arith
+
+  -- behind the place of an address no other is its
+  absent_after_split : (m : Mac) (s : Slot V) (front back : List (Mac × Slot V)) → IsDistinct mac_eq (keys_of (front ++ (m, s) ∷ back)) → lookup (mac_eq m) back ≡ None
+  unfolding IsDistinct
+  absent_after_split m s [] back unique = absent_after m back unique.0
+  absent_after_split m s (e ∷ front) back unique = absent_after_split m s front back unique.1
 
   module _ (m : Mac) (s : Slot V) (es : List (Mac × Slot V)) (there : lookup (mac_eq m) es ≡ Some s) (v : Slot V) (last : ℕ) (is_last : last ≡ length es - 1)
       (new : List (Mac × Slot V)) (is_new : new ≡ move_index (insert_entry mac_eq es m v) (position_or_len (mac_eq m) (keys_of es)) last) where
@@ -364,20 +420,33 @@ module _ {V : Type 0} where
           length-held_at m v.held [],
         )
 
-    pub put_moved : s.value ≡ None → {w : V} → v ≡ slot_of (Some w) false → IsPutLast m w s.held es new
-    put_moved none is_v = record {
+    last_free : IsDistinct mac_eq (keys_of es) → v.held ≡ false → list_any (mac_eq m) (held_of new) ≡ false
+    last_free unique free =
+        let r = split m s es there in
+        ap (list_any (mac_eq m)) (added_held m v (r.front ++ r.back) new last_places
+        ∙ ap (λ b. held_of (r.front ++ r.back) ++ held_at m b) free
+        ∙ append-nil (held_of (r.front ++ r.back))
+        ∙ held-append r.front r.back)
+        ∙ list_any-append (mac_eq m) (held_of r.front) (held_of r.back)
+        ∙ ap (λ b. b || list_any (mac_eq m) (held_of r.back)) (held_absent m r.front r.before)
+        ∙ held_absent m r.back (absent_after_split m s r.front r.back (subst (λ l. IsDistinct mac_eq (keys_of l)) r.is unique))
+
+    pub put_moved : IsDistinct mac_eq (keys_of es) → s.value ≡ None → {w : V} → v ≡ slot_of (Some w) false → IsPutLast m w s.held es new
+    put_moved unique none is_v = record {
       entries = last_entries none ∙ ap (λ u. entries_of es ++ entry_at m u.value) is_v;
       len = length-last_held ∙ ap (λ u. length (held_of es) + one_if u.held) is_v ∙ omega arith;
       others = last_held;
+      free = last_free unique (ap (λ u. u.held) is_v);
     }
 
-  pub put_new : (m : Mac) (w : V) (es new : List (Mac × Slot V)) → new ≡ es ++ (m, slot_of (Some w) false) ∷ [] → IsPutLast m w false es new
-  put_new m w es new is =
+  pub put_new : (m : Mac) (w : V) (es new : List (Mac × Slot V)) → lookup (mac_eq m) es ≡ None → new ≡ es ++ (m, slot_of (Some w) false) ∷ [] → IsPutLast m w false es new
+  put_new m w es new absent is =
       let held : held_of new ≡ held_of es = added_held m (slot_of (Some w) false) es new is ∙ append-nil (held_of es) in
       record {
         entries = added_entries m (slot_of (Some w) false) es new is;
         len = ap (λ l. length l + 0) held ∙ omega arith;
         others = λ q other. ap (list_any (mac_eq q)) held;
+        free = ap (list_any (mac_eq m)) held ∙ held_absent m es absent;
       }
 
   -- `release`
@@ -405,60 +474,33 @@ module _ {V : Type 0} where
         ap held_of h.6 ∙ (λ j. held_of (cond (s.1 j) ((e.0, s.0 j) ∷ h.3) h.3))
         ∙ release_held_by e.0 e.1.value h.3 (release_held es h.3 (subst (λ g. RetainsPairs T g es h.3) s.2 h.5))
 
-  -- `retain`: what a call of the closure keeps of one place
-  kept_by : (held : Bool) (m : Mac) (v w : Option V) (rest : List (Mac × Slot V)) (test : V → Bool) (ys : List (Mac × V)) → w ≡ passing test v → entries_of rest ≡ filter (λ e. test e.1) ys
-      → entries_of (cond (held || is_some w) ((m, slot_of w held) ∷ rest) rest) ≡ filter (λ e. test e.1) (entry_at m v ++ ys)
-  kept_by held m None w rest test ys is h = ap (λ o. entries_of (cond (held || is_some o) ((m, slot_of o held) ∷ rest) rest)) is ∙ by held
-    where
-      by : (b : Bool) → entries_of (cond (b || false) ((m, slot_of None held) ∷ rest) rest) ≡ filter (λ e. test e.1) ys
-      by true = h
-      by false = h
-  kept_by held m (Some x) w rest test ys is h = ap (λ o. entries_of (cond (held || is_some o) ((m, slot_of o held) ∷ rest) rest)) is ∙ by held (test x)
-    where
-      by : (b t : Bool) → entries_of (cond (b || is_some (cond t (Some x) None)) ((m, slot_of (cond t (Some x) None) held) ∷ rest) rest) ≡ cond t ((m, x) ∷ filter (λ e. test e.1) ys) (filter (λ e. test e.1) ys)
-      by true true = ap (λ l. (m, x) ∷ l) h
-      by true false = h
-      by false true = ap (λ l. (m, x) ∷ l) h
-      by false false = h
+  -- places without a value that are not held show nothing
+  swept_entries_by : (held : Bool) (m : Mac) (r : Option V) (rest : List (Mac × Slot V)) (ys : List (Mac × V)) → entries_of rest ≡ ys
+      → entries_of (cond (held || is_some r) ((m, slot_of r held) ∷ rest) rest) ≡ entry_at m r ++ ys
+  swept_entries_by true m r rest ys h = ap (λ l. entry_at m r ++ l) h
+  swept_entries_by false m None rest ys h = h
+  swept_entries_by false m (Some x) rest ys h = ap (λ l. (m, x) ∷ l) h
 
-  kept_held_by : (held : Bool) (m : Mac) (w : Option V) (rest : List (Mac × Slot V)) (ms : List Mac) → held_of rest ≡ ms
-      → held_of (cond (held || is_some w) ((m, slot_of w held) ∷ rest) rest) ≡ held_at m held ++ ms
-  kept_held_by true m w rest ms h = ap (λ l. m ∷ l) h
-  kept_held_by false m None rest ms h = h
-  kept_held_by false m (Some x) rest ms h = h
+  swept_held_by : (held : Bool) (m : Mac) (r : Option V) (rest : List (Mac × Slot V)) (ms : List Mac) → held_of rest ≡ ms
+      → held_of (cond (held || is_some r) ((m, slot_of r held) ∷ rest) rest) ≡ held_at m held ++ ms
+  swept_held_by true m r rest ms h = ap (λ l. m ∷ l) h
+  swept_held_by false m None rest ms h = h
+  swept_held_by false m (Some x) rest ms h = h
 
-  -- a place by its two parts
-  slot_is : (w : Slot V) (held : Bool) → w.held ≡ held → w ≡ slot_of w.value held
-  slot_is w held h = λ j. slot_of w.value (h j)
-
-  -- what is left of a value of which it is known whether it passes
-  pub left_is_some : (P : V → Type 0) (r : Option V) (b : Bool) → MatchOption r (b ≡ false) P → b ≡ is_some (cond b r None)
-  left_is_some P None true h = cc
-  left_is_some P None false h = refl
-  left_is_some P (Some x) true h = refl
-  left_is_some P (Some x) false h = refl
-
-  pub left_is_passing : (P : V → Type 0) (r : Option V) (b : Bool) (test : V → Bool) → ((v : V) → P v → b ≡ test v) → MatchOption r (b ≡ false) P → cond b r None ≡ passing test r
-  left_is_passing P None true test says h = refl
-  left_is_passing P None false test says h = refl
-  left_is_passing P (Some x) b test says h = ap (λ t. cond t (Some x) None) (says x h)
-
-  module _ {F : Type 0} (T : F → Mac → Slot V → Bool → Slot V → F → Type 0) (f : F) where
-    pub retain_entries : (test : V → Bool)
-        → ((k : Mac) (v : Slot V) (b : Bool) (w : Slot V) (g : F) → T f k v b w g → (w.held ≡ v.held) × (b ≡ (v.held || is_some w.value)) × (g ≡ f) × (w.value ≡ passing test v.value))
-        → (es kept : List (Mac × Slot V)) → RetainsPairs T f es kept → entries_of kept ≡ filter (λ e. test e.1) (entries_of es)
-    retain_entries test says [] kept h = ap entries_of h
-    retain_entries test says (e ∷ es) kept h =
+  module _ {F : Type 0} (T : F → Mac → Slot V → Bool → Slot V → F → Type 0) (f : F)
+      (says : (k : Mac) (v : Slot V) (b : Bool) (w : Slot V) (g : F) → T f k v b w g → (w ≡ v) × (b ≡ (v.held || is_some v.value)) × (g ≡ f)) where
+    pub swept_entries : (es kept : List (Mac × Slot V)) → RetainsPairs T f es kept → entries_of kept ≡ entries_of es
+    swept_entries [] kept h = ap entries_of h
+    swept_entries (e ∷ es) kept h =
         let s = says e.0 e.1 h.0 h.1 h.2 h.4 in
         ap entries_of h.6
-        ∙ (λ j. entries_of (cond (s.1 j) ((e.0, slot_is h.1 e.1.held s.0 j) ∷ h.3) h.3))
-        ∙ kept_by e.1.held e.0 e.1.value h.1.value h.3 test (entries_of es) s.3 (retain_entries test says es h.3 (subst (λ g. RetainsPairs T g es h.3) s.2 h.5))
+        ∙ (λ j. entries_of (cond (s.1 j) ((e.0, s.0 j) ∷ h.3) h.3))
+        ∙ swept_entries_by e.1.held e.0 e.1.value h.3 (entries_of es) (swept_entries es h.3 (subst (λ g. RetainsPairs T g es h.3) s.2 h.5))
 
-    pub retain_held : ((k : Mac) (v : Slot V) (b : Bool) (w : Slot V) (g : F) → T f k v b w g → (w.held ≡ v.held) × (b ≡ (v.held || is_some w.value)) × (g ≡ f))
-        → (es kept : List (Mac × Slot V)) → RetainsPairs T f es kept → held_of kept ≡ held_of es
-    retain_held says [] kept h = ap held_of h
-    retain_held says (e ∷ es) kept h =
+    pub swept_held : (es kept : List (Mac × Slot V)) → RetainsPairs T f es kept → held_of kept ≡ held_of es
+    swept_held [] kept h = ap held_of h
+    swept_held (e ∷ es) kept h =
         let s = says e.0 e.1 h.0 h.1 h.2 h.4 in
         ap held_of h.6
-        ∙ (λ j. held_of (cond (s.1 j) ((e.0, slot_is h.1 e.1.held s.0 j) ∷ h.3) h.3))
-        ∙ kept_held_by e.1.held e.0 h.1.value h.3 (held_of es) (retain_held says es h.3 (subst (λ g. RetainsPairs T g es h.3) s.2 h.5))
+        ∙ (λ j. held_of (cond (s.1 j) ((e.0, s.0 j) ∷ h.3) h.3))
+        ∙ swept_held_by e.1.held e.0 e.1.value h.3 (held_of es) (swept_held es h.3 (subst (λ g. RetainsPairs T g es h.3) s.2 h.5))

@@ -1,7 +1,8 @@
 -- What a table of addresses shows: its entries in order, and the addresses whose place is held.
-use Rattle.std.specs.Prelude.{◌≡◌, Bool, true, false, List, [], ◌∷◌, ◌++◌, Option, None, Some}
+use Rattle.std.specs.Prelude.{◌≡◌, Bool, true, false, List, [], ◌∷◌, ◌++◌, slice_get, ℕ, is_some, Option, None, Some}
 use Rattle.std.specs.List.{list_any}
-use Rattle.std.specs.Map.{lookup}
+use Rattle.std.specs.Map.{lookup, set_value, values_of}
+use Rattle.indexmap.specs.IndexMap.{set_value_at}
 use Rattle.sr_frame.specs.declared.fields.Mac.{Mac}
 use Rattle.sr_frame.specs.Addresses.{mac_eq}
 use Rattle.sr_slots.specs.declared.places.Slot.{Slot}
@@ -23,6 +24,14 @@ value_at places key = lookup (mac_eq key) places.entries
 abbrev pub KeepsHeld : List Mac → List Mac → Mac → Type 0
 KeepsHeld old new key = (other : Mac) → mac_eq other key ≡ false → list_any (mac_eq other) new ≡ list_any (mac_eq other) old
 
+-- each address but these two has a held place as before
+abbrev pub KeepsHeldBut : List Mac → List Mac → Mac → Mac → Type 0
+KeepsHeldBut old new key second = (other : Mac) → mac_eq other key ≡ false → mac_eq other second ≡ false → list_any (mac_eq other) new ≡ list_any (mac_eq other) old
+
+-- each address has a held place as before
+abbrev pub KeepsAllHeld : List Mac → List Mac → Type 0
+KeepsAllHeld old new = (other : Mac) → list_any (mac_eq other) new ≡ list_any (mac_eq other) old
+
 -- what one place of the map shows of values, and of holding
 abbrev pub entry_at : {V : Type 0} → Mac → Option V → List (Mac × V)
 entry_at key None = []
@@ -40,6 +49,12 @@ entries_of (e ∷ es) = entry_at e.0 e.1.value ++ entries_of es
 abbrev pub held_of : {V : Type 0} → List (Mac × Slot V) → List Mac
 held_of [] = []
 held_of (e ∷ es) = held_at e.0 e.1.held ++ held_of es
+
+-- the place of an address is at this index: a look and a write there are a look and a write at the address
+pub record StandsAt {X : Type 0} (key : Mac) (es : List (Mac × X)) (index : ℕ) : Type 0 where
+  pub there : is_some (lookup (mac_eq key) es) ≡ true
+  pub look : slice_get (values_of es) index ≡ lookup (mac_eq key) es
+  pub write : (w : X) → set_value_at es index w ≡ set_value (mac_eq key) es w
 
 abbrev pub slot_of : {V : Type 0} → Option V → Bool → Slot V
 slot_of value held = record { value = value; held = held }

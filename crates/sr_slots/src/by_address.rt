@@ -1,14 +1,15 @@
 //! The table of addresses.
-ghost use Rattle.std.specs.Prelude.{◌≡◌, ◌++◌, ◌∷◌, [], None, true, Bool, is_some, length, filter, IsOk, OnOk, OnErr, IfSome, IfNone};
+ghost use Rattle.std.specs.Prelude.{◌≡◌, ◌++◌, ◌∷◌, [], None, true, false, ℕ, Bool, is_some, length, filter, IsOk, IfOk, OnOk, OnErr, IfSome, IfNone, not};
 ghost use Rattle.std.specs.List.{IsDistinct};
 ghost use Rattle.std.specs.Map.{keys_of};
-ghost use Rattle.std.specs.Option.{option_copied};
+ghost use Rattle.std.specs.Option.{option_copied, option_map};
 ghost use Rattle.sr_frame.specs.Addresses.{mac_eq};
-ghost use Rattle.sr_slots.specs.Places.{is_held, value_at, KeepsHeld};
+ghost use Rattle.sr_slots.specs.Places.{is_held, value_at, KeepsHeld, KeepsHeldBut, KeepsAllHeld};
 ghost use Rattle.std.specs.Map.Iter.{ShowsInOrder};
-ghost use Rattle.sr_slots.specs.Calls.{ChangesAt, Tests, shown_entry};
+ghost use Rattle.sr_slots.specs.Calls.{ChangesAt, Tests, Ranks, least_rank, shown_entry};
 
 use crate::entries::Iter;
+use crate::keys::Keys;
 use crate::places;
 use crate::places::Slot;
 use indexmap::IndexMap;
@@ -16,10 +17,18 @@ use sr_frame::{Mac, NoMemory};
 use std::alloc::Global;
 use std::marker::Model;
 
-/// Values by address, in the order in which the addresses came. A place can be held for an address that has no value yet.
+/// Where an address was found in a table. It may have moved since, or gone: who looks there compares the address first.
+#[derive(Clone, Copy, Debug)]
+pub struct Spot {
+    index: usize,
+}
+
+/// Values by address, in the order in which the addresses came. A place can be held for an address that has no value yet. What goes
+/// leaves an empty place, until the address comes back or `sweep` is called.
 #[derive(Drop)]
 pub struct Slots<V: Drop> {
-    map: IndexMap<Mac, Slot<V>>,
+    map: IndexMap<Mac, Slot<V>, Keys>,
+    alloc: Global,
     count: usize,
     held: usize,
 }
@@ -36,13 +45,22 @@ impl<V: Drop> Model for Slots<V> {
 }
 
 impl<V: Drop> Slots<V> {
-    /// An empty table, which takes no memory yet.
+    /// An empty table under fixed keys, which takes no memory yet.
     pub fn new(alloc: Global) -> Slots<V>
         ensures entries { result.entries ≡ [] }
         ensures held { result.held ≡ [] }
     {
+        Slots::with_keys(alloc, Keys::FIXED)
+    }
+
+    /// An empty table whose places depend on these keys, which takes no memory yet.
+    pub fn with_keys(alloc: Global, keys: Keys) -> Slots<V>
+        ensures entries { result.entries ≡ [] }
+        ensures held { result.held ≡ [] }
+    {
         Slots {
-            map: IndexMap::new(alloc),
+            map: IndexMap::with_hasher(alloc, keys),
+            alloc,
             count: 0,
             held: 0,
         }
@@ -65,6 +83,21 @@ impl<V: Drop> Slots<V> {
         places::value_of(&self.map, key)
     }
 
+    /// The value at an address, and where it is.
+    pub fn find(&self, key: Mac) -> Option<(Spot, &V)>
+        ensures { option_map (λ found. found.1.now) result ≡ value_at self.now key }
+    {
+        let (index, value) = places::find(&self.map, key)?;
+        Some((Spot { index }, value))
+    }
+
+    /// The value at an address, which is looked for at a spot first.
+    pub fn get_at(&self, spot: Option<Spot>, key: Mac) -> Option<&V>
+        ensures { option_copied result ≡ value_at self.now key }
+    {
+        places::value_at(&self.map, spot.map(|spot| spot.index), key)
+    }
+
     /// The addresses that have a value, in order, with their values.
     pub fn iter(&self) -> Iter<'_, V>
         ensures rest { result ≡ self.now.entries }
@@ -75,16 +108,23 @@ impl<V: Drop> Slots<V> {
         }
     }
 
-    /// Changes the value at an address in its place, and answers what the change answers. A held place of the address is used up.
-    /// None: the address has no value, and nothing changes.
-    pub fn update<R: Drop, F: FnOnce(&mut V) -> R>(&mut self, key: Mac, change: F) -> Option<R>
+    /// Changes the value at an address in its place, which is looked for at a spot first, and answers what the change answers.
+    /// A held place of the address is used up. None: the address has no value, and nothing changes.
+    pub fn update_at<R: Drop, F: FnOnce(&mut V) -> R>(
+        &mut self,
+        spot: Option<Spot>,
+        key: Mac,
+        change: F,
+    ) -> Option<R>
         requires { F.IsAlwaysCallable change }
         ensures found { is_some result ≡ is_some (value_at self.old key) }
         ensures changed { IfSome result (λ answer. ChangesAt F.FnOnce change key self.old.entries answer self.new.entries) }
         ensures others { IfSome result (λ answer. KeepsHeld self.old.held self.new.held key) }
+        ensures used { IfSome result (λ answer. is_held self.new key ≡ false) }
         ensures none { IfNone result (self.new ≡ self.old) }
     {
-        let (answer, was_held) = places::change_at(&mut self.map, key, change)?;
+        let first = spot.map(|spot| spot.index);
+        let (answer, was_held) = places::change_at(&mut self.map, first, key, change)?;
         if was_held {
             self.held -= 1;
         }
@@ -96,10 +136,11 @@ impl<V: Drop> Slots<V> {
         requires { value_at self.old key ≡ None }
         ensures entries { OnOk result (self.new.entries ≡ self.old.entries ++ (key, value) ∷ []) }
         ensures others { OnOk result (KeepsHeld self.old.held self.new.held key) }
+        ensures used { OnOk result (is_held self.new key ≡ false) }
         ensures reserved { is_held self.old key ≡ true → IsOk result }
         ensures err { OnErr result (self.new ≡ self.old) }
     {
-        if places::put_last(&mut self.map, key, value)? {
+        if places::put_last(&mut self.map, self.alloc, key, value)? {
             self.held -= 1;
         }
         self.count += 1;
@@ -111,12 +152,57 @@ impl<V: Drop> Slots<V> {
         ensures entries { self.new.entries ≡ self.old.entries }
         ensures held { OnOk result (is_held self.new key ≡ true) }
         ensures others { OnOk result (KeepsHeld self.old.held self.new.held key) }
+        ensures again { is_held self.old key ≡ true → IsOk result }
         ensures err { OnErr result (self.new ≡ self.old) }
     {
-        if places::hold(&mut self.map, key)? {
+        let _newly = self.hold_newly(key)?;
+        Ok(())
+    }
+
+    /// Holds the places of two addresses, or of none where memory runs out.
+    pub fn hold_both(&mut self, key: Mac, other: Mac) -> Result<(), NoMemory>
+        ensures entries { self.new.entries ≡ self.old.entries }
+        ensures held { OnOk result ((is_held self.new key ≡ true) × (is_held self.new other ≡ true)) }
+        ensures others { OnOk result (KeepsHeldBut self.old.held self.new.held key other) }
+        ensures err { OnErr result (KeepsAllHeld self.old.held self.new.held) }
+    {
+        let newly = self.hold_newly(key)?;
+        match self.hold(other) {
+            Ok(()) => Ok(()),
+            Err(e) => {
+                if newly {
+                    self.give_up(key);
+                }
+                Err(e)
+            }
+        }
+    }
+
+    // Holds a place for an address, and answers whether none was held.
+    fn hold_newly(&mut self, key: Mac) -> Result<bool, NoMemory>
+        ensures entries { self.new.entries ≡ self.old.entries }
+        ensures held { OnOk result (is_held self.new key ≡ true) }
+        ensures others { OnOk result (KeepsHeld self.old.held self.new.held key) }
+        ensures again { is_held self.old key ≡ true → IsOk result }
+        ensures newly { IfOk result (λ newly. newly ≡ not (is_held self.old key)) }
+        ensures err { OnErr result (self.new ≡ self.old) }
+    {
+        let newly = places::hold(&mut self.map, self.alloc, key)?;
+        if newly {
             self.held += 1;
         }
-        Ok(())
+        Ok(newly)
+    }
+
+    // Gives up the held place of an address.
+    fn give_up(&mut self, key: Mac)
+        ensures entries { self.new.entries ≡ self.old.entries }
+        ensures held { is_held self.new key ≡ false }
+        ensures others { KeepsHeld self.old.held self.new.held key }
+    {
+        if places::give_up(&mut self.map, key) {
+            self.held -= 1;
+        }
     }
 
     /// Gives up all held places. Where none is held it looks at none.
@@ -130,13 +216,43 @@ impl<V: Drop> Slots<V> {
         }
     }
 
-    /// Takes the values out that do not pass the test. The others keep their order, and held places stay held.
-    pub fn retain<F: Fn(&V) -> bool>(&mut self, keep: F)
-        requires { F.IsAlwaysCallable keep }
+    /// Takes the values out that do not pass the test. The others keep their order, and held places stay held. Answers the least
+    /// rank of those that are left, or the greatest number where none is.
+    pub fn sift<F: Fn(&V) -> bool, G: Fn(&V) -> u64>(&mut self, keep: F, rank: G) -> u64
+        requires callable { F.IsAlwaysCallable keep × G.IsAlwaysCallable rank }
         ensures kept { (test : V → Bool) → Tests F.Fn keep test → self.new.entries ≡ filter (λ e. test e.1) self.old.entries }
         ensures held { self.new.held ≡ self.old.held }
+        ensures least { (order : V → ℕ) → Ranks G.Fn rank order → result ≡ least_rank order self.new.entries }
     {
-        places::retain(&mut self.map, keep);
-        self.count = places::count(&self.map);
+        let passed = places::sift(&mut self.map, keep, rank);
+        self.count = passed.count;
+        passed.least
+    }
+
+    /// Lets the places go that have no value and are not held, where there are more than `most` places. Nothing that shows changes.
+    pub fn sweep(&mut self, most: usize)
+        ensures { self.new ≡ self.old }
+    {
+        if self.map.len() > most {
+            places::sweep(&mut self.map);
+        }
+    }
+}
+
+impl<V: Drop + Copy> Slots<V> {
+    /// A table of its own with the same values in the same order, under the same keys. It holds no place.
+    /// NoMemory: memory ran out.
+    pub fn try_clone(&self, alloc: Global) -> Result<Slots<V>, NoMemory>
+        ensures entries { IfOk result (λ own. own.entries ≡ self.now.entries) }
+        ensures held { IfOk result (λ own. own.held ≡ []) }
+    {
+        // The length says that no two addresses are equal.
+        let _values = self.len();
+        let mut own = Slots::with_keys(alloc, *self.map.hasher());
+        for (key, value) in self.iter() {
+            own.append(key, *value)?;
+        }
+        own.release();
+        Ok(own)
     }
 }

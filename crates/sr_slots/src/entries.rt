@@ -36,7 +36,7 @@ impl<'a, V: Drop> Iterator for Iter<'a, V> {
 
     fn next(&mut self) -> Option<(Mac, &'a V)> {
         while let Some((key, slot)) = self.places.next() {
-            if let Some(value) = &slot.value {
+            if let Some(value) = slot.value.get() {
                 return Some((*key, value));
             }
         }

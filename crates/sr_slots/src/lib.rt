@@ -3,10 +3,13 @@
 
 mod by_address;
 mod entries;
+mod keys;
 mod places;
+mod room;
 
-pub use by_address::Slots;
+pub use by_address::{Slots, Spot};
 pub use entries::Iter;
+pub use keys::{KeyedHasher, Keys};
 
 #[cfg(test)]
 mod tests;

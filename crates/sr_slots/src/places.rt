@@ -1,54 +1,95 @@
 //! The map behind a table. A held place is an entry that may have no value.
-ghost use Rattle.std.specs.Prelude.{◌≡◌, ◌+◌, ◌^◌, ◌<◌, ◌++◌, ◌∷◌, ◌||◌, [], None, Some, true, false, Bool, is_some, length, filter, IsOk, OnOk, OnErr, IfOk, IfSome, IfNone, MatchOption, if◌then◌else◌};
+ghost use Rattle.std.specs.Prelude.{◌≡◌, ◌+◌, ◌^◌, ◌<◌, ◌++◌, ◌∷◌, ◌||◌, [], None, Some, true, false, not, Bool, is_some, length, filter, IsOk, OnOk, OnErr, IfOk, IfSome, IfNone, MatchOption, if◌then◌else◌, ℕ};
 ghost use Rattle.std.specs.Fn.{FnReturnsAt};
 ghost use Rattle.std.specs.List.{list_any};
 ghost use Rattle.std.specs.Map.{lookup};
-ghost use Rattle.std.specs.Option.{option_copied};
+ghost use Rattle.std.specs.Option.{option_copied, option_map};
 ghost use Rattle.indexmap.specs.IndexMap.{values};
 ghost use Rattle.sr_frame.specs.Addresses.{mac_eq};
-ghost use Rattle.sr_slots.specs.Places.{entries_of, held_of, slot_of, KeepsHeld};
-ghost use Rattle.sr_slots.specs.Calls.{ChangesAt, Tests, passing};
+ghost use Rattle.sr_slots.specs.Places.{entries_of, held_of, slot_of, StandsAt, KeepsHeld};
+ghost use Rattle.sr_slots.specs.Calls.{ChangesAt, Tests, Ranks, least_rank, passing};
 
+use crate::keys::Keys;
+use crate::room::Room;
 use indexmap::IndexMap;
 use indexmap::map::Entry;
 use sr_frame::{Mac, NoMemory};
+use std::alloc::Global;
 
 /// A place: its value, if there is one, and whether it is held.
 #[derive(Drop)]
 pub struct Slot<V: Drop> {
-    pub value: Option<V>,
+    pub value: Room<V>,
     pub held: bool,
 }
 
-/// How many places have a value.
-pub fn count<V: Drop>(map: &IndexMap<Mac, Slot<V>>) -> usize
-    ensures { result ≡ length (entries_of map.now.entries) }
-{
-    count_values(map)
-}
-
-// The same, as the chain says it.
-fn count_values<V: Drop>(map: &IndexMap<Mac, Slot<V>>) -> usize
-    ensures { result ≡ length (filter (λ slot. is_some slot.value) (values map.now)) }
-{
-    map.values().filter(|slot| slot.value.is_some()).count()
-}
-
 /// The value at an address.
-pub fn value_of<V: Drop>(map: &IndexMap<Mac, Slot<V>>, key: Mac) -> Option<&V>
+pub fn value_of<V: Drop>(map: &IndexMap<Mac, Slot<V>, Keys>, key: Mac) -> Option<&V>
     ensures { option_copied result ≡ lookup (mac_eq key) (entries_of map.now.entries) }
 {
     // The length says that no two addresses are equal.
     let _places = map.len();
     match map.get(&key) {
-        Some(slot) => slot.value.as_ref(),
+        Some(slot) => slot.value.get(),
         None => None,
     }
 }
 
-/// Changes the value at an address in its place. With the answer it says whether a held place was used up.
+/// The value at an address, and the index of its place.
+pub fn find<V: Drop>(map: &IndexMap<Mac, Slot<V>, Keys>, key: Mac) -> Option<(usize, &V)>
+    ensures { option_map (λ found. found.1.now) result ≡ lookup (mac_eq key) (entries_of map.now.entries) }
+{
+    let _places = map.len();
+    let (index, _, slot) = map.get_full(&key)?;
+    Some((index, slot.value.get()?))
+}
+
+// Whether the place of an address is at this index.
+fn stands_at<V: Drop>(map: &IndexMap<Mac, Slot<V>, Keys>, index: usize, key: Mac) -> bool
+    ensures { result ≡ true → StandsAt key map.now.entries index }
+{
+    let _places = map.len();
+    match map.get_index(index) {
+        Some((stored, _)) => *stored == key,
+        None => false,
+    }
+}
+
+// The index of the place of an address: the given one, if it is there, else by a look-up.
+fn index_of<V: Drop>(
+    map: &IndexMap<Mac, Slot<V>, Keys>,
+    first: Option<usize>,
+    key: Mac,
+) -> Option<usize>
+    ensures found { is_some result ≡ is_some (lookup (mac_eq key) map.now.entries) }
+    ensures at { IfSome result (λ index. StandsAt key map.now.entries index) }
+{
+    if let Some(index) = first
+        && stands_at(map, index, key)
+    {
+        return Some(index);
+    }
+    map.get_index_of(&key)
+}
+
+/// The value at an address, whose place is looked for at an index first.
+pub fn value_at<V: Drop>(
+    map: &IndexMap<Mac, Slot<V>, Keys>,
+    first: Option<usize>,
+    key: Mac,
+) -> Option<&V>
+    ensures { option_copied result ≡ lookup (mac_eq key) (entries_of map.now.entries) }
+{
+    let _places = map.len();
+    let index = index_of(map, first, key)?;
+    let (_, slot) = map.get_index(index)?;
+    slot.value.get()
+}
+
+/// Changes the value at an address in its place, which is looked for at an index first. With the answer it says whether a held place was used up.
 pub fn change_at<V: Drop, R, F: FnOnce(&mut V) -> R>(
-    map: &mut IndexMap<Mac, Slot<V>>,
+    map: &mut IndexMap<Mac, Slot<V>, Keys>,
+    first: Option<usize>,
     key: Mac,
     change: F,
 ) -> Option<(R, bool)>
@@ -58,20 +99,45 @@ pub fn change_at<V: Drop, R, F: FnOnce(&mut V) -> R>(
     ensures len { IfSome result (λ r. length (entries_of map.new.entries) ≡ length (entries_of map.old.entries)) }
     ensures held { IfSome result (λ r. length (held_of map.new.entries) + (if r.1 then 1 else 0) ≡ length (held_of map.old.entries)) }
     ensures others { IfSome result (λ r. KeepsHeld (held_of map.old.entries) (held_of map.new.entries) key) }
+    ensures used { IfSome result (λ r. list_any (mac_eq key) (held_of map.new.entries) ≡ false) }
     ensures none { IfNone result (map.new.entries ≡ map.old.entries) }
 {
     let _places = map.len();
-    let slot = map.get_mut(&key)?;
-    let value = slot.value.as_mut()?;
-    let answer = change(value);
+    let index = index_of(map, first, key)?;
+    let slot = map.get_index_mut(index)?;
+    let answer = slot.value.change(change)?;
     let was_held = slot.held;
     slot.held = false;
     Some((answer, was_held))
 }
 
+// Puts a value into a place, and answers whether that was held.
+fn fill<V: Drop>(slot: &mut Slot<V>, value: V) -> bool
+    ensures slot { slot.new ≡ slot_of (Some value) false }
+    ensures held { result ≡ slot.old.held }
+{
+    slot.value.put(value);
+    let was_held = slot.held;
+    slot.held = false;
+    was_held
+}
+
+// A new place with a value.
+fn filled<V: Drop>(alloc: Global, value: V) -> Result<Slot<V>, NoMemory>
+    ensures { IfOk result (λ slot. slot ≡ slot_of (Some value) false) }
+{
+    let mut room = Room::new(alloc)?;
+    room.put(value);
+    Ok(Slot {
+        value: room,
+        held: false,
+    })
+}
+
 /// Gives an address without a value one. It goes last. Answers whether a held place was used up.
 pub fn put_last<V: Drop>(
-    map: &mut IndexMap<Mac, Slot<V>>,
+    map: &mut IndexMap<Mac, Slot<V>, Keys>,
+    alloc: Global,
     key: Mac,
     value: V,
 ) -> Result<bool, NoMemory>
@@ -79,36 +145,39 @@ pub fn put_last<V: Drop>(
     ensures entries { OnOk result (entries_of map.new.entries ≡ entries_of map.old.entries ++ (key, value) ∷ []) }
     ensures held { IfOk result (λ was_held. length (held_of map.new.entries) + (if was_held then 1 else 0) ≡ length (held_of map.old.entries)) }
     ensures others { OnOk result (KeepsHeld (held_of map.old.entries) (held_of map.new.entries) key) }
+    ensures used { OnOk result (list_any (mac_eq key) (held_of map.new.entries) ≡ false) }
     ensures reserved { list_any (mac_eq key) (held_of map.old.entries) ≡ true → IsOk result }
     ensures fits { length (entries_of map.old.entries) < 2 ^ 63 }
     ensures err { OnErr result (map.new.entries ≡ map.old.entries) }
 {
     let places = map.len();
-    let slot = Slot {
-        value: Some(value),
-        held: false,
-    };
     let Ok(entry) = map.entry(key) else {
         return Err(NoMemory);
     };
     match entry {
         Entry::Occupied(mut entry) => {
-            let old = entry.insert(slot);
+            let was_held = fill(entry.get_mut(), value);
             entry.move_index(places - 1);
-            Ok(old.held)
+            Ok(was_held)
         }
         Entry::Vacant(entry) => {
-            entry.insert(slot);
+            entry.insert(filled(alloc, value)?);
             Ok(false)
         }
     }
 }
 
 /// Holds a place for an address. Answers whether it was not held before.
-pub fn hold<V: Drop>(map: &mut IndexMap<Mac, Slot<V>>, key: Mac) -> Result<bool, NoMemory>
+pub fn hold<V: Drop>(
+    map: &mut IndexMap<Mac, Slot<V>, Keys>,
+    alloc: Global,
+    key: Mac,
+) -> Result<bool, NoMemory>
     ensures entries { entries_of map.new.entries ≡ entries_of map.old.entries }
     ensures held { OnOk result (list_any (mac_eq key) (held_of map.new.entries) ≡ true) }
     ensures len { IfOk result (λ newly. length (held_of map.new.entries) ≡ length (held_of map.old.entries) + (if newly then 1 else 0)) }
+    ensures again { list_any (mac_eq key) (held_of map.old.entries) ≡ true → IsOk result }
+    ensures newly { IfOk result (λ newly. newly ≡ not (list_any (mac_eq key) (held_of map.old.entries))) }
     ensures fits { length (held_of map.old.entries) < 2 ^ 63 }
     ensures others { OnOk result (KeepsHeld (held_of map.old.entries) (held_of map.new.entries) key) }
     ensures err { OnErr result (map.new.entries ≡ map.old.entries) }
@@ -126,17 +195,34 @@ pub fn hold<V: Drop>(map: &mut IndexMap<Mac, Slot<V>>, key: Mac) -> Result<bool,
             Ok(newly)
         }
         Entry::Vacant(entry) => {
-            entry.insert(Slot {
-                value: None,
-                held: true,
-            });
+            let value = Room::new(alloc)?;
+            entry.insert(Slot { value, held: true });
             Ok(true)
         }
     }
 }
 
+/// Gives up the held place of an address. Answers whether there was one.
+pub fn give_up<V: Drop>(map: &mut IndexMap<Mac, Slot<V>, Keys>, key: Mac) -> bool
+    ensures entries { entries_of map.new.entries ≡ entries_of map.old.entries }
+    ensures held { list_any (mac_eq key) (held_of map.new.entries) ≡ false }
+    ensures len { length (held_of map.new.entries) + (if result then 1 else 0) ≡ length (held_of map.old.entries) }
+    ensures others { KeepsHeld (held_of map.old.entries) (held_of map.new.entries) key }
+{
+    // The length says that no two addresses are equal.
+    let _places = map.len();
+    match map.get_mut(&key) {
+        Some(slot) => {
+            let was_held = slot.held;
+            slot.held = false;
+            was_held
+        }
+        None => false,
+    }
+}
+
 /// Gives up all held places.
-pub fn release<V: Drop>(map: &mut IndexMap<Mac, Slot<V>>)
+pub fn release<V: Drop>(map: &mut IndexMap<Mac, Slot<V>, Keys>)
     ensures entries { entries_of map.new.entries ≡ entries_of map.old.entries }
     ensures held { held_of map.new.entries ≡ [] }
 {
@@ -145,7 +231,7 @@ pub fn release<V: Drop>(map: &mut IndexMap<Mac, Slot<V>>)
             ensures { (slot.new ≡ slot_of slot.old.value false) × (result ≡ is_some slot.old.value) }
         {
             slot.held = false;
-            slot.value.is_some()
+            slot.value.get().is_some()
         },
     );
 }
@@ -155,38 +241,75 @@ fn has_passing<V: Drop, F: Fn(&V) -> bool>(slot: &Slot<V>, keep: &F) -> bool
     requires { F.IsAlwaysCallable keep.now }
     ensures { MatchOption slot.now.value (result ≡ false) (λ v. FnReturnsAt F.Fn keep.now v result) }
 {
-    match &slot.value {
+    match slot.value.get() {
         Some(value) => keep(value),
         None => false,
     }
 }
 
-// Leaves a place its value if that passes, and answers whether the place stays.
-fn strip<V: Drop>(slot: &mut Slot<V>, passes: bool) -> bool
-    ensures slot { slot.new ≡ slot_of (if passes then slot.old.value else None) slot.old.held }
-    ensures result { result ≡ (slot.old.held || passes) }
+// Leaves the value at an index if it passes, and answers its rank then.
+fn sift_at<V: Drop, F: Fn(&V) -> bool, G: Fn(&V) -> u64>(
+    slot: &mut Slot<V>,
+    keep: &F,
+    rank: &G,
+) -> Option<u64>
+    requires callable { F.IsAlwaysCallable keep.now × G.IsAlwaysCallable rank.now }
+    ensures held { slot.new.held ≡ slot.old.held }
+    ensures kept { (test : V → Bool) → Tests F.Fn keep.now test → slot.new.value ≡ passing test slot.old.value }
+    ensures ranked { MatchOption slot.new.value (result ≡ None) (λ v. (n : ℕ) × (result ≡ Some n) × FnReturnsAt G.Fn rank.now v n) }
 {
+    let passes = has_passing(slot, keep);
     if !passes {
-        slot.value = None;
+        slot.value.clear();
     }
-    slot.held || passes
+    match slot.value.get() {
+        Some(value) => Some(rank(value)),
+        None => None,
+    }
 }
 
-/// Takes the values out that do not pass the test. Held places stay.
-pub fn retain<V: Drop, F: Fn(&V) -> bool>(map: &mut IndexMap<Mac, Slot<V>>, keep: F)
-    requires { F.IsAlwaysCallable keep }
+/// How many values passed a test, and the least rank among them.
+#[derive(Clone, Copy)]
+pub struct Passed {
+    pub count: usize,
+    pub least: u64,
+}
+
+/// Takes the values out that do not pass the test, and moves nothing. Held places stay held.
+pub fn sift<V: Drop, F: Fn(&V) -> bool, G: Fn(&V) -> u64>(
+    map: &mut IndexMap<Mac, Slot<V>, Keys>,
+    keep: F,
+    rank: G,
+) -> Passed
+    requires callable { F.IsAlwaysCallable keep × G.IsAlwaysCallable rank }
     ensures kept { (test : V → Bool) → Tests F.Fn keep test → entries_of map.new.entries ≡ filter (λ e. test e.1) (entries_of map.old.entries) }
+    ensures held { held_of map.new.entries ≡ held_of map.old.entries }
+    ensures count { result.count ≡ length (entries_of map.new.entries) }
+    ensures least { (order : V → ℕ) → Ranks G.Fn rank order → result.least ≡ least_rank order (entries_of map.new.entries) }
+{
+    let mut passed = Passed {
+        count: 0,
+        least: u64::MAX,
+    };
+    for index in 0..map.len() {
+        if let Some(slot) = map.get_index_mut(index) {
+            if let Some(rank) = sift_at(slot, &keep, &rank) {
+                passed.count += 1;
+                passed.least = passed.least.min(rank);
+            }
+        }
+    }
+    passed
+}
+
+/// Takes the places out that have no value and are not held.
+pub fn sweep<V: Drop>(map: &mut IndexMap<Mac, Slot<V>, Keys>)
+    ensures entries { entries_of map.new.entries ≡ entries_of map.old.entries }
     ensures held { held_of map.new.entries ≡ held_of map.old.entries }
 {
     map.retain(
         |_key: &Mac, slot: &mut Slot<V>| -> bool
-            requires { F.IsAlwaysCallable keep }
-            ensures held { slot.new.held ≡ slot.old.held }
-            ensures result { result ≡ (slot.old.held || is_some slot.new.value) }
-            ensures kept { (test : V → Bool) → Tests F.Fn keep test → slot.new.value ≡ passing test slot.old.value }
-        {
-            let passes = has_passing(slot, &keep);
-            strip(slot, passes)
-        },
+            ensures { (slot.new ≡ slot.old) × (result ≡ (slot.old.held || is_some slot.old.value)) }
+        { slot.held || slot.value.get().is_some() },
     );
 }

@@ -1,90 +1,226 @@
 use super::*;
 use sr_frame::Mac;
 use std::alloc::Global;
-use std::process::Abort;
-use std::test::Fail;
+use std::hash::BuildHasher;
+use std::io;
+use std::random::RandomSource;
 
 fn mac(last: u8) -> Mac {
     Mac([2, 0, 0, 0, 0, last])
 }
 
-// The addresses and values in order.
-fn listed(alloc: Global, slots: &Slots<u32>) -> Result<Vec<(u8, u32)>, Fail> {
-    Ok(
-        slots
-            .iter()
-            .map(|(key, value)| (key.0[5], *value))
-            .collect(alloc)?,
-    )
+/// What is done to a table, and what it has to answer.
+#[derive(Clone, Copy)]
+enum Step {
+    /// This address gets this value, and has had none.
+    Add(u8, u32),
+    /// A place is held for this address.
+    Hold(u8),
+    /// All held places are given up.
+    Release,
+    /// This value replaces the one of the address, looked for where the other address is. Whether there was one.
+    Set(u8, u8, u32, bool),
+    /// The values that are this one go, and this is the least of those that are left.
+    Drop(u32, u64),
+    /// The last octets of the addresses that have a value, in order, as the digits of one number; and the sum of the values.
+    Shows(u32, u32),
 }
 
-// Adds an address, a second time where memory ran out: the table is then as it was.
-fn add(rt: &impl Abort, slots: &mut Slots<u32>, last: u8, value: u32) {
+const HELD_PLACES_GO_LAST: [Step; 17] = [
+    Step::Add(3, 30),
+    Step::Hold(1),
+    Step::Add(2, 20),
+    Step::Set(1, 1, 0, false),
+    Step::Shows(32, 50),
+    Step::Add(1, 10),
+    Step::Shows(321, 60),
+    Step::Set(3, 3, 60, true),
+    Step::Hold(2),
+    Step::Drop(20, 10),
+    Step::Shows(31, 70),
+    Step::Add(2, 21),
+    Step::Release,
+    Step::Shows(312, 91),
+    Step::Drop(7, 10),
+    Step::Hold(9),
+    Step::Shows(312, 91),
+];
+
+// What goes leaves nothing that is found again, at its own place or at another's; and what comes back is last.
+const WHAT_GOES_COMES_BACK_LAST: [Step; 14] = [
+    Step::Add(1, 10),
+    Step::Add(2, 20),
+    Step::Add(3, 30),
+    Step::Drop(10, 20),
+    Step::Set(1, 1, 5, false),
+    Step::Set(1, 2, 5, false),
+    Step::Shows(23, 50),
+    Step::Add(1, 11),
+    Step::Shows(231, 61),
+    Step::Set(2, 1, 21, true),
+    Step::Set(1, 2, 12, true),
+    Step::Set(3, 1, 31, true),
+    Step::Shows(231, 64),
+    Step::Drop(99, 12),
+];
+
+const NONE_IS_LEFT: [Step; 6] = [
+    Step::Add(1, 10),
+    Step::Add(2, 10),
+    Step::Drop(10, u64::MAX),
+    Step::Shows(0, 0),
+    Step::Add(2, 5),
+    Step::Shows(2, 5),
+];
+
+// Where memory runs out the table is as it was, and the call is repeated.
+fn add(slots: &mut Slots<u32>, last: u8, value: u32) -> bool {
     let key = mac(last);
-    for _ in 0..2 {
-        let len = slots.len();
-        if slots.get(key).is_some() {
-            break;
-        }
-        if slots.append(key, value).is_err() {
-            assert_eq!(rt; slots.len(), len);
-            assert!(rt; slots.get(key).is_none());
-        }
-    }
-    assert_eq!(rt; slots.get(key).copied(), Some(value));
-}
-
-fn hold(rt: &impl Abort, slots: &mut Slots<u32>, last: u8) {
     let len = slots.len();
-    if slots.hold(mac(last)).is_err() {
-        assert_eq!(rt; slots.len(), len);
-        assert!(rt; slots.hold(mac(last)).is_ok());
+    if slots.get(key).is_some() {
+        return false;
     }
-    assert_eq!(rt; slots.len(), len);
+    if slots.append(key, value).is_ok() {
+        return true;
+    }
+    if slots.len() != len || slots.get(key).is_some() {
+        return false;
+    }
+    slots.append(key, value).is_ok()
 }
 
-#[test]
-fn held_places_go_last(rt: HostRuntime) -> Result<(), Fail> {
-    let alloc = rt.alloc();
+fn hold(slots: &mut Slots<u32>, last: u8) -> bool {
+    let len = slots.len();
+    (slots.hold(mac(last)).is_ok() || slots.hold(mac(last)).is_ok()) && slots.len() == len
+}
+
+fn shows(slots: &Slots<u32>, order: u32, sum: u32) -> bool {
+    let mut seen = (0u32, 0u32);
+    for (key, value) in slots.iter() {
+        let Mac([_, _, _, _, _, last]) = key;
+        seen = (
+            seen.0.wrapping_mul(10).wrapping_add(last as u32),
+            seen.1.wrapping_add(*value),
+        );
+    }
+    seen == (order, sum)
+}
+
+fn set(slots: &mut Slots<u32>, last: u8, at: u8, value: u32) -> bool {
+    let spot = slots.find(mac(at)).map(|found| found.0);
+    slots
+        .update_at(spot, mac(last), |old| *old = value)
+        .is_some()
+}
+
+fn obeys(slots: &mut Slots<u32>, step: Step) -> bool {
+    match step {
+        Step::Add(last, value) => add(slots, last, value),
+        Step::Hold(last) => hold(slots, last),
+        Step::Release => {
+            slots.release();
+            true
+        }
+        Step::Set(last, at, value, there) => set(slots, last, at, value) == there,
+        Step::Drop(gone, least) => {
+            slots.sweep(2);
+            slots.sift(|value| *value != gone, |value| *value as u64) == least
+        }
+        Step::Shows(order, sum) => shows(slots, order, sum),
+    }
+}
+
+// The place of the first step that a table does not obey.
+fn first_wrong(alloc: Global, steps: &[Step]) -> Option<usize> {
     let mut slots = Slots::new(alloc);
-    add(&rt, &mut slots, 3, 30);
-    hold(&rt, &mut slots, 1);
-    add(&rt, &mut slots, 2, 20);
-    assert!(rt; slots.get(mac(1)).is_none());
-    assert_eq!(rt; slots.update(mac(1), |value| *value = 0), None);
-    add(&rt, &mut slots, 1, 10);
-    assert_eq!(rt;
-        listed(alloc, &slots)?.as_slice(),
-        [(3, 30), (2, 20), (1, 10)].as_slice()
-    );
-    let doubled = slots.update(mac(3), |value| {
-        *value = 60;
-        7u8
-    });
-    assert_eq!(rt; doubled, Some(7));
-    hold(&rt, &mut slots, 2);
-    slots.retain(|value| *value != 20);
-    assert_eq!(rt;
-        listed(alloc, &slots)?.as_slice(),
-        [(3, 60), (1, 10)].as_slice()
-    );
-    add(&rt, &mut slots, 2, 21);
-    slots.release();
-    assert_eq!(rt;
-        listed(alloc, &slots)?.as_slice(),
-        [(3, 60), (1, 10), (2, 21)].as_slice()
-    );
-    Ok(())
+    steps.iter().position(|step| !obeys(&mut slots, *step))
 }
 
 #[test]
-fn many_addresses(rt: HostRuntime) {
-    let mut slots = Slots::new(rt.alloc());
+fn held_places_go_last(rt: HostRuntime) {
+    assert!(rt; first_wrong(rt.alloc(), HELD_PLACES_GO_LAST.as_slice()).is_none());
+}
+
+#[test]
+fn what_goes_comes_back_last(rt: HostRuntime) {
+    assert!(rt; first_wrong(rt.alloc(), WHAT_GOES_COMES_BACK_LAST.as_slice()).is_none());
+}
+
+#[test]
+fn none_is_left(rt: HostRuntime) {
+    assert!(rt; first_wrong(rt.alloc(), NONE_IS_LEFT.as_slice()).is_none());
+}
+
+// How many of 100 addresses stand in a table under these keys, with as many places held between them.
+fn many_addresses(alloc: Global, keys: Keys) -> usize {
+    let mut slots = Slots::with_keys(alloc, keys);
     for last in 0..100u8 {
-        hold(&rt, &mut slots, last);
-        hold(&rt, &mut slots, last + 100);
-        add(&rt, &mut slots, last, last as u32);
+        if !hold(&mut slots, last)
+            || !hold(&mut slots, last.wrapping_add(100))
+            || !add(&mut slots, last, 0)
+        {
+            return 0;
+        }
     }
     slots.release();
-    assert_eq!(rt; slots.len(), 100);
+    slots.len()
+}
+
+#[test]
+fn keys_of_the_process(rt: HostRuntime) {
+    let drawn = Keys::new(&rt).unwrap_or(Keys::FIXED);
+    assert!(rt;
+        many_addresses(rt.alloc(), drawn) == 100 && many_addresses(rt.alloc(), Keys::FIXED) == 100
+    );
+}
+
+// Gives 1, 2, .. 16 at its first call, and 17 .. 32 at its second; from then on it fails.
+#[derive(Drop)]
+struct Counting {
+    calls: std::cell::Cell<u8>,
+}
+
+impl RandomSource for Counting {
+    fn fill_bytes(&self, buf: &mut [u8]) -> io::Result<()> {
+        let call = self.calls.get();
+        if call >= 2 {
+            return Err(io::ErrorKind::Other.into());
+        }
+        self.calls.set(call + 1);
+        let mut next = 16 * call;
+        for octet in buf {
+            next = next.wrapping_add(1);
+            *octet = next;
+        }
+        Ok(())
+    }
+}
+
+// The number of an address under keys that are drawn, and 0 where the source fails.
+fn number_under(source: &Counting, address: Mac) -> u64 {
+    match Keys::new(source) {
+        Ok(keys) => keys.hash_one(address),
+        Err(_) => 0,
+    }
+}
+
+// The numbers are worked out from the definition, `spread` of (factor * word + addend) mod 2^128 / 2^64.
+#[test]
+fn keys_take_all_octets(rt: HostRuntime) {
+    let address = Mac([2, 0, 0, 0, 0x12, 0x34]);
+    let source = Counting {
+        calls: std::cell::Cell::new(0),
+    };
+    let fixed = Keys::FIXED.hash_one(address);
+    let drawn = number_under(&source, address);
+    let refused = number_under(&source, address);
+    assert!(rt; (fixed, drawn, refused) == (0x7f89_9125_eeb8_f22f, 0x6ee6_7cea_53a4_e087, 0));
+}
+
+fn sendable<T: Send>(_value: &T) {}
+
+#[test]
+fn a_table_can_go_to_a_thread(rt: HostRuntime) {
+    let slots: Slots<u32> = Slots::new(rt.alloc());
+    sendable(&slots);
 }

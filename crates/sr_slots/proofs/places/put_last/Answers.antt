@@ -21,62 +21,90 @@ returns-in_default-clause-fits g c = omega (arith, entries_le c.args.map.now.ent
 pub returns-in-Occupied-clause-fits : goal.returns-in-Occupied-clause-fits
 returns-in-Occupied-clause-fits g c = omega (arith, entries_le c.args.map.now.entries)
 
-pub returns-in-Vacant-clause-fits : goal.returns-in-Vacant-clause-fits
-returns-in-Vacant-clause-fits g c = omega (arith, entries_le c.args.map.now.entries)
+pub returns-in_ok-filled-in-Vacant-clause-fits : goal.returns-in_ok-filled-in-Vacant-clause-fits
+returns-in_ok-filled-in-Vacant-clause-fits g c = omega (arith, entries_le c.args.map.now.entries)
+
+pub returns-in_err-filled-in-Vacant-clause-fits : goal.returns-in_err-filled-in-Vacant-clause-fits
+returns-in_err-filled-in-Vacant-clause-fits g c = omega (arith, entries_le c.args.map.now.entries)
+
+pub returns-in_err-filled-in-Vacant-clause-reserved : goal.returns-in_err-filled-in-Vacant-clause-reserved
+returns-in_err-filled-in-Vacant-clause-reserved g c held =
+    let absent : lookup (mac_eq c.args.key) c.args.map.now.entries ≡ None = grind (arith, c.in-Ok.ensures.found, c.in-Vacant.is) in
+    let bad : true ≡ false = sym held ∙ held_absent c.args.key c.args.map.now.entries absent in
+    cc
 
 pub returns-in-Occupied-clause-entries : goal.returns-in-Occupied-clause-entries
 returns-in-Occupied-clause-entries g c =
     let es = c.args.map.now.entries in
     let slot = slot_of (Some c.args.value) false in
-    let there : lookup (mac_eq c.args.key) es ≡ Some c.insert-old.result = grind (arith, c.in-Ok.ensures.value, c.insert-old.ensures.old, c.in-Occupied.is) in
+    let there : lookup (mac_eq c.args.key) es ≡ Some c.get_mut.result.now = grind (arith, c.in-Ok.ensures.value, c.get_mut.ensures.value, c.in-Occupied.is) in
     let is : c.move_index.new.self.0.entries ≡ move_index (insert_entry mac_eq es c.args.key slot) (position_or_len (mac_eq c.args.key) (keys_of es)) (c.len-places.result - 1) =
-    grind (arith, c.move_index.ensures.entries, c.in-Ok.ensures.update.1 slot, c.in-Ok.ensures.index, c.in-Occupied.is, c.insert-old.ensures.written) in
-    let free = sym (found_value c.args.key c.insert-old.result es c.len-places.ensures.unique there) ∙ c.requires in
-    let put = put_moved c.args.key c.insert-old.result es there slot _ (ap (λ n. n - 1) c.len-places.ensures.len) _ is free refl in
-    grind (arith, put.entries, c.in-Ok.ensures.same_map, c.insert-old.ensures.written.0, c.in-Occupied.is)
+    grind (arith, c.move_index.ensures.entries, c.in-Ok.ensures.update.1 slot, c.in-Ok.ensures.index, c.in-Occupied.is, c.get_mut.ensures.written) in
+    let free = sym (found_value c.args.key c.get_mut.result.now es c.len-places.ensures.unique there) ∙ c.requires in
+    let put = put_moved c.args.key c.get_mut.result.now es there slot _ (ap (λ n. n - 1) c.len-places.ensures.len) _ is c.len-places.ensures.unique free refl in
+    grind (arith, put.entries, c.in-Ok.ensures.same_map, c.get_mut.ensures.written, c.in-Occupied.is)
 
 pub returns-in-Occupied-clause-held : goal.returns-in-Occupied-clause-held
 returns-in-Occupied-clause-held g c =
     let es = c.args.map.now.entries in
     let slot = slot_of (Some c.args.value) false in
-    let there : lookup (mac_eq c.args.key) es ≡ Some c.insert-old.result = grind (arith, c.in-Ok.ensures.value, c.insert-old.ensures.old, c.in-Occupied.is) in
+    let there : lookup (mac_eq c.args.key) es ≡ Some c.get_mut.result.now = grind (arith, c.in-Ok.ensures.value, c.get_mut.ensures.value, c.in-Occupied.is) in
     let is : c.move_index.new.self.0.entries ≡ move_index (insert_entry mac_eq es c.args.key slot) (position_or_len (mac_eq c.args.key) (keys_of es)) (c.len-places.result - 1) =
-    grind (arith, c.move_index.ensures.entries, c.in-Ok.ensures.update.1 slot, c.in-Ok.ensures.index, c.in-Occupied.is, c.insert-old.ensures.written) in
-    let free = sym (found_value c.args.key c.insert-old.result es c.len-places.ensures.unique there) ∙ c.requires in
-    let put = put_moved c.args.key c.insert-old.result es there slot _ (ap (λ n. n - 1) c.len-places.ensures.len) _ is free refl in
-    grind (arith, put.len, c.in-Ok.ensures.same_map, c.insert-old.ensures.written.0, c.in-Occupied.is)
+    grind (arith, c.move_index.ensures.entries, c.in-Ok.ensures.update.1 slot, c.in-Ok.ensures.index, c.in-Occupied.is, c.get_mut.ensures.written) in
+    let free = sym (found_value c.args.key c.get_mut.result.now es c.len-places.ensures.unique there) ∙ c.requires in
+    let put = put_moved c.args.key c.get_mut.result.now es there slot _ (ap (λ n. n - 1) c.len-places.ensures.len) _ is c.len-places.ensures.unique free refl in
+    grind (arith, put.len, c.in-Ok.ensures.same_map, c.get_mut.ensures.written, c.in-Occupied.is)
 
 pub returns-in-Occupied-clause-others : goal.returns-in-Occupied-clause-others
 returns-in-Occupied-clause-others g c other apart =
     let es = c.args.map.now.entries in
     let slot = slot_of (Some c.args.value) false in
-    let there : lookup (mac_eq c.args.key) es ≡ Some c.insert-old.result = grind (arith, c.in-Ok.ensures.value, c.insert-old.ensures.old, c.in-Occupied.is) in
+    let there : lookup (mac_eq c.args.key) es ≡ Some c.get_mut.result.now = grind (arith, c.in-Ok.ensures.value, c.get_mut.ensures.value, c.in-Occupied.is) in
     let is : c.move_index.new.self.0.entries ≡ move_index (insert_entry mac_eq es c.args.key slot) (position_or_len (mac_eq c.args.key) (keys_of es)) (c.len-places.result - 1) =
-    grind (arith, c.move_index.ensures.entries, c.in-Ok.ensures.update.1 slot, c.in-Ok.ensures.index, c.in-Occupied.is, c.insert-old.ensures.written) in
-    let free = sym (found_value c.args.key c.insert-old.result es c.len-places.ensures.unique there) ∙ c.requires in
-    let put = put_moved c.args.key c.insert-old.result es there slot _ (ap (λ n. n - 1) c.len-places.ensures.len) _ is free refl in
-    grind (arith, put.others other apart, c.in-Ok.ensures.same_map, c.insert-old.ensures.written.0, c.in-Occupied.is)
+    grind (arith, c.move_index.ensures.entries, c.in-Ok.ensures.update.1 slot, c.in-Ok.ensures.index, c.in-Occupied.is, c.get_mut.ensures.written) in
+    let free = sym (found_value c.args.key c.get_mut.result.now es c.len-places.ensures.unique there) ∙ c.requires in
+    let put = put_moved c.args.key c.get_mut.result.now es there slot _ (ap (λ n. n - 1) c.len-places.ensures.len) _ is c.len-places.ensures.unique free refl in
+    grind (arith, put.others other apart, c.in-Ok.ensures.same_map, c.get_mut.ensures.written, c.in-Occupied.is)
 
-pub returns-in-Vacant-clause-entries : goal.returns-in-Vacant-clause-entries
-returns-in-Vacant-clause-entries g c =
+pub returns-in_ok-filled-in-Vacant-clause-entries : goal.returns-in_ok-filled-in-Vacant-clause-entries
+returns-in_ok-filled-in-Vacant-clause-entries g c =
     let slot = slot_of (Some c.args.value) false in
     let absent : lookup (mac_eq c.args.key) c.args.map.now.entries ≡ None = grind (arith, c.in-Ok.ensures.found, c.in-Vacant.is) in
     let last = insert_entry-new mac_eq c.args.map.now c.args.key slot absent in
-    let put = put_new c.args.key c.args.value c.args.map.now.entries (map_with_value c.in-Ok.entry slot).entries (c.in-Ok.ensures.update.1 slot ∙ last) in
+    let put = put_new c.args.key c.args.value c.args.map.now.entries (map_with_value c.in-Ok.entry slot).entries absent (c.in-Ok.ensures.update.1 slot ∙ last) in
     grind (arith, put.entries, c.in-Ok.ensures.same_map, c.in-Vacant.is)
 
-pub returns-in-Vacant-clause-held : goal.returns-in-Vacant-clause-held
-returns-in-Vacant-clause-held g c =
+pub returns-in_ok-filled-in-Vacant-clause-held : goal.returns-in_ok-filled-in-Vacant-clause-held
+returns-in_ok-filled-in-Vacant-clause-held g c =
     let slot = slot_of (Some c.args.value) false in
     let absent : lookup (mac_eq c.args.key) c.args.map.now.entries ≡ None = grind (arith, c.in-Ok.ensures.found, c.in-Vacant.is) in
     let last = insert_entry-new mac_eq c.args.map.now c.args.key slot absent in
-    let put = put_new c.args.key c.args.value c.args.map.now.entries (map_with_value c.in-Ok.entry slot).entries (c.in-Ok.ensures.update.1 slot ∙ last) in
+    let put = put_new c.args.key c.args.value c.args.map.now.entries (map_with_value c.in-Ok.entry slot).entries absent (c.in-Ok.ensures.update.1 slot ∙ last) in
     grind (arith, put.len, c.in-Ok.ensures.same_map, c.in-Vacant.is)
 
-pub returns-in-Vacant-clause-others : goal.returns-in-Vacant-clause-others
-returns-in-Vacant-clause-others g c other apart =
+pub returns-in_ok-filled-in-Vacant-clause-others : goal.returns-in_ok-filled-in-Vacant-clause-others
+returns-in_ok-filled-in-Vacant-clause-others g c other apart =
     let slot = slot_of (Some c.args.value) false in
     let absent : lookup (mac_eq c.args.key) c.args.map.now.entries ≡ None = grind (arith, c.in-Ok.ensures.found, c.in-Vacant.is) in
     let last = insert_entry-new mac_eq c.args.map.now c.args.key slot absent in
-    let put = put_new c.args.key c.args.value c.args.map.now.entries (map_with_value c.in-Ok.entry slot).entries (c.in-Ok.ensures.update.1 slot ∙ last) in
+    let put = put_new c.args.key c.args.value c.args.map.now.entries (map_with_value c.in-Ok.entry slot).entries absent (c.in-Ok.ensures.update.1 slot ∙ last) in
     grind (arith, put.others other apart, c.in-Ok.ensures.same_map, c.in-Vacant.is)
+
+pub returns-in-Occupied-clause-used : goal.returns-in-Occupied-clause-used
+returns-in-Occupied-clause-used g c =
+    let es = c.args.map.now.entries in
+    let slot = slot_of (Some c.args.value) false in
+    let there : lookup (mac_eq c.args.key) es ≡ Some c.get_mut.result.now = grind (arith, c.in-Ok.ensures.value, c.get_mut.ensures.value, c.in-Occupied.is) in
+    let is : c.move_index.new.self.0.entries ≡ move_index (insert_entry mac_eq es c.args.key slot) (position_or_len (mac_eq c.args.key) (keys_of es)) (c.len-places.result - 1) =
+    grind (arith, c.move_index.ensures.entries, c.in-Ok.ensures.update.1 slot, c.in-Ok.ensures.index, c.in-Occupied.is, c.get_mut.ensures.written) in
+    let free = sym (found_value c.args.key c.get_mut.result.now es c.len-places.ensures.unique there) ∙ c.requires in
+    let put = put_moved c.args.key c.get_mut.result.now es there slot _ (ap (λ n. n - 1) c.len-places.ensures.len) _ is c.len-places.ensures.unique free refl in
+    grind (arith, put.free, c.in-Ok.ensures.same_map, c.get_mut.ensures.written, c.in-Occupied.is)
+
+pub returns-in_ok-filled-in-Vacant-clause-used : goal.returns-in_ok-filled-in-Vacant-clause-used
+returns-in_ok-filled-in-Vacant-clause-used g c =
+    let slot = slot_of (Some c.args.value) false in
+    let absent : lookup (mac_eq c.args.key) c.args.map.now.entries ≡ None = grind (arith, c.in-Ok.ensures.found, c.in-Vacant.is) in
+    let last = insert_entry-new mac_eq c.args.map.now c.args.key slot absent in
+    let put = put_new c.args.key c.args.value c.args.map.now.entries (map_with_value c.in-Ok.entry slot).entries absent (c.in-Ok.ensures.update.1 slot ∙ last) in
+    grind (arith, put.free, c.in-Ok.ensures.same_map, c.in-Vacant.is)

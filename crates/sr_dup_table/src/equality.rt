@@ -1,0 +1,53 @@
+//! When two tables are equal: where their sources are, in order. Held places don't count.
+ghost use Rattle.std.specs.Prelude.{◌≡◌};
+ghost use Rattle.sr_dup_table.specs.Sources.{same_heard, same_sources};
+ghost use Rattle.sr_dup_table.specs.Shown.{heard_of, sources_of};
+
+use crate::table::DupTable;
+use sr_aged_slots::Aged;
+use sr_dup_window::Record;
+use sr_slots::Iter;
+
+// Whether two entries show the same.
+fn same_entry(one: &Aged<Record<16>>, other: &Aged<Record<16>>) -> bool
+    ensures { result ≡ same_heard (heard_of one.now) (heard_of other.now) }
+{
+    one.value.is_same(&other.value) && one.time == other.time
+}
+
+// Whether the entries that are left show the same, one by one.
+fn same_entries(one: Iter<'_, Aged<Record<16>>>, mut other: Iter<'_, Aged<Record<16>>>) -> bool
+    ensures { result ≡ same_sources (sources_of one.entry) (sources_of other.entry) }
+{
+    for (src, entry) in one {
+        let Some((mac, heard)) = other.next() else {
+            return false;
+        };
+        if src != mac || !same_entry(entry, heard) {
+            return false;
+        }
+    }
+    other.next().is_none()
+}
+
+impl PartialEq for DupTable {
+    ghost use Rattle.std.specs.Ordering.{on};
+    ghost use Rattle.std.specs.Cmp.{on_equiv, partial_equiv_from_equiv};
+    ghost use Rattle.sr_dup_table.specs.Sources.{same_sources};
+    ghost use Rattle.sr_dup_table.specs.EqualityLemmas.{same_sources-equiv};
+
+    ghost eq = { on (λ t. t.sources) same_sources };
+
+    ghost laws = { partial_equiv_from_equiv (on_equiv (λ t. t.sources) same_sources-equiv) };
+
+    fn eq(&self, other: &DupTable) -> bool {
+        same_entries(self.entries(), other.entries())
+    }
+}
+
+impl Eq for DupTable {
+    ghost use Rattle.std.specs.Cmp.{on_equiv};
+    ghost use Rattle.sr_dup_table.specs.EqualityLemmas.{same_sources-equiv};
+
+    ghost laws = { on_equiv (λ t. t.sources) same_sources-equiv };
+}

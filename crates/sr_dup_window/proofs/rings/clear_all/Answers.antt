@@ -1,6 +1,0 @@
-use Rattle.std.proofs.Common.{arith}
-use Rattle.sr_dup_window.proofs.RingLemmas.{cleared_place}
-use Rattle.sr_dup_window.proofs.rings.clear_all.Goals as goal
-
-pub returns-clause-lanes : goal.returns-clause-lanes
-returns-clause-lanes c = λ p. cleared_place c.loop-row.rows c.loop-row.row-index p (omega arith) c.loop-row.invariant

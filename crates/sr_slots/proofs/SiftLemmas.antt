@@ -1,0 +1,163 @@
+-- Going over the places in turn, taking out what does not pass.
+use Rattle.std.proofs.Common.{◌≡◌, ℕ, ◌+◌, ◌<◌, ◌≤◌, ◌^◌, min, Bool, true, false, cond, List, [], ◌∷◌, ◌++◌, length, filter, Option, None, Some, MatchOption, refl, sym, ap, ◌∙◌, subst, append_assoc, append-nil, arith}
+use Rattle.std.specs.Map.{values_of}
+use Rattle.std.specs.List.{slice_get}
+use Rattle.std.proofs.lemmas.List.{length-append}
+use Rattle.indexmap.specs.IndexMap.{set_value_at}
+use Rattle.sr_frame.specs.declared.fields.Mac.{Mac}
+use Rattle.sr_slots.specs.declared.places.Slot.{Slot}
+use Rattle.sr_slots.specs.Places.{entry_at, held_at, entries_of, held_of}
+use Rattle.sr_slots.specs.Calls.{passing, least_rank}
+use Rattle.sr_slots.proofs.PlaceLemmas.{entries-append, held-append, entries_le}
+
+module _ {X : Type 0} where
+  value_there : (done back : List (Mac × X)) (e : Mac × X) → slice_get (values_of (done ++ e ∷ back)) (length done) ≡ Some e.1
+  value_there [] back e = refl
+  value_there (d ∷ done) back e = value_there done back e
+
+  write_there : (done back : List (Mac × X)) (e : Mac × X) (w : X) → set_value_at (done ++ e ∷ back) (length done) w ≡ done ++ (e.0, w) ∷ back
+  write_there [] back e w = refl
+  write_there (d ∷ done) back e w = ap (λ l. d ∷ l) (write_there done back e w)
+
+module _ {V : Type 0} where
+  least_rank-push : (order : V → ℕ) (es : List (Mac × V)) (m : Mac) (v : V) → order v < 2 ^ 64 → least_rank order (es ++ (m, v) ∷ []) ≡ min (least_rank order es) (order v)
+  least_rank-push order [] m v fits = omega arith
+  least_rank-push order (e ∷ es) m v fits = omega (arith, least_rank-push order es m v fits)
+
+  filter_first : (test : V → Bool) (m : Mac) (r : Option V) (ys : List (Mac × V)) → filter (λ e. test e.1) (entry_at m r ++ ys) ≡ entry_at m (passing test r) ++ filter (λ e. test e.1) ys
+  filter_first test m None ys = refl
+  filter_first test m (Some x) ys = by (test x)
+    where
+      by : (b : Bool) → cond b ((m, x) ∷ filter (λ e. test e.1) ys) (filter (λ e. test e.1) ys) ≡ entry_at m (cond b (Some x) None) ++ filter (λ e. test e.1) ys
+      by true = refl
+      by false = refl
+
+  module _ (IsTest : (V → Bool) → Type 0) (IsOrder : (V → ℕ) → Type 0) where
+    -- the first places are done: of them those are left that pass, and they are counted
+    pub record Sifted (old now : List (Mac × Slot V)) (index count least : ℕ) : Type 0 where
+      pub done : List (Mac × Slot V)
+      pub rest : List (Mac × Slot V)
+      pub now_is : now ≡ done ++ rest
+      pub at : length done ≡ index
+      pub len : length now ≡ length old
+      pub counted : count ≡ length (entries_of done)
+      pub held : held_of now ≡ held_of old
+      pub kept : (test : V → Bool) → IsTest test → entries_of done ++ filter (λ e. test e.1) (entries_of rest) ≡ filter (λ e. test e.1) (entries_of old)
+      pub ranked : (order : V → ℕ) → IsOrder order → least ≡ least_rank order (entries_of done)
+
+    pub none_done : (old : List (Mac × Slot V)) → Sifted old old 0 0 18446744073709551615
+    none_done old = record { done = []; rest = old; now_is = refl; at = refl; len = refl; counted = refl; held = refl; kept = λ test is. refl; ranked = λ order is. refl }
+
+    -- the place that comes next
+    record Next (rest : List (Mac × Slot V)) : Type 0 where
+      pub first : Mac × Slot V
+      pub back : List (Mac × Slot V)
+      pub rest_is : rest ≡ first ∷ back
+
+    next_of : (done rest : List (Mac × Slot V)) → length done < length (done ++ rest) → Next rest
+    next_of done [] h = absurd (omega (arith, length-append {A = Mac × Slot V} done []))
+    next_of done (e ∷ back) h = record { first = e; back = back; rest_is = refl }
+
+    -- what all of it leaves
+    all_done : (old now : List (Mac × Slot V)) (index count least : ℕ) → index ≡ length old → (s : Sifted old now index count least) → s.rest ≡ []
+    all_done old now index count least end s = by s.rest refl
+      where
+        by : (rest : List (Mac × Slot V)) → s.rest ≡ rest → s.rest ≡ []
+        by [] e = e
+        by (x ∷ rest) e = absurd (omega (arith, end, s.at, s.len, ap length s.now_is, length-append s.done s.rest, ap length e))
+
+    pub all_kept : (old now : List (Mac × Slot V)) (index count least : ℕ) → index ≡ length old → (s : Sifted old now index count least)
+        → (test : V → Bool) → IsTest test → entries_of now ≡ filter (λ e. test e.1) (entries_of old)
+    all_kept old now index count least end s test is =
+        let over = all_done old now index count least end s in
+        ap entries_of (s.now_is ∙ ap (λ l. s.done ++ l) over ∙ append-nil s.done)
+        ∙ sym (append-nil (entries_of s.done))
+        ∙ ap (λ l. entries_of s.done ++ filter (λ e. test e.1) (entries_of l)) (sym over)
+        ∙ s.kept test is
+
+    pub all_is : (old now : List (Mac × Slot V)) (index count least : ℕ) → index ≡ length old → (s : Sifted old now index count least) → s.done ≡ now
+    all_is old now index count least end s = sym (s.now_is ∙ ap (λ l. s.done ++ l) (all_done old now index count least end s) ∙ append-nil s.done)
+
+    module _ (old now : List (Mac × Slot V)) (index count least : ℕ) (s : Sifted old now index count least) (was w : Slot V)
+        (there : slice_get (values_of now) index ≡ Some was) (held : w.held ≡ was.held)
+        (passes : (test : V → Bool) → IsTest test → w.value ≡ passing test was.value) (within : index < length now) where
+      next : Next s.rest
+      next = next_of s.done s.rest (omega (arith, s.at, ap length s.now_is))
+
+      now_at : now ≡ s.done ++ next.first ∷ next.back
+      now_at = s.now_is ∙ ap (λ l. s.done ++ l) next.rest_is
+
+      was_is : next.first.1 ≡ was
+      was_is =
+          let a : Some next.first.1 ≡ Some was =
+          sym (value_there s.done next.back next.first) ∙ ap (λ l. slice_get (values_of l) (length s.done)) (sym now_at) ∙ ap (slice_get (values_of now)) s.at ∙ there in
+          cc
+
+      written : set_value_at now index w ≡ s.done ++ (next.first.0, w) ∷ next.back
+      written = ap (λ l. set_value_at l index w) now_at ∙ ap (λ i. set_value_at (s.done ++ next.first ∷ next.back) i w) (sym s.at) ∙ write_there s.done next.back next.first w
+
+      done_entries : entries_of (s.done ++ (next.first.0, w) ∷ []) ≡ entries_of s.done ++ entry_at next.first.0 w.value
+      done_entries = entries-append s.done ((next.first.0, w) ∷ []) ∙ ap (λ l. entries_of s.done ++ l) (append-nil (entry_at next.first.0 w.value))
+
+      still_held : held_of (set_value_at now index w) ≡ held_of old
+      still_held =
+          ap held_of written
+          ∙ held-append s.done ((next.first.0, w) ∷ next.back)
+          ∙ ap (λ b. held_of s.done ++ (held_at next.first.0 b ++ held_of next.back)) (held ∙ ap (λ v. v.held) (sym was_is))
+          ∙ sym (held-append s.done (next.first ∷ next.back))
+          ∙ ap held_of (sym now_at)
+          ∙ s.held
+
+      still_kept : (test : V → Bool) → IsTest test → entries_of (s.done ++ (next.first.0, w) ∷ []) ++ filter (λ e. test e.1) (entries_of next.back) ≡ filter (λ e. test e.1) (entries_of old)
+      still_kept test is =
+          ap (λ l. l ++ filter (λ e. test e.1) (entries_of next.back)) done_entries
+          ∙ append_assoc (entries_of s.done) (entry_at next.first.0 w.value) (filter (λ e. test e.1) (entries_of next.back))
+          ∙ ap (λ r. entries_of s.done ++ (entry_at next.first.0 r ++ filter (λ e. test e.1) (entries_of next.back))) (passes test is ∙ ap (λ v. passing test v.value) (sym was_is))
+          ∙ ap (λ l. entries_of s.done ++ l) (sym (filter_first test next.first.0 next.first.1.value (entries_of next.back)))
+          ∙ ap (λ l. entries_of s.done ++ filter (λ e. test e.1) (entries_of l)) (sym next.rest_is)
+          ∙ s.kept test is
+
+      step : (count' least' : ℕ) → count' ≡ length (entries_of s.done ++ entry_at next.first.0 w.value)
+          → ((order : V → ℕ) → IsOrder order → least' ≡ least_rank order (entries_of s.done ++ entry_at next.first.0 w.value)) → Sifted old (set_value_at now index w) (index + 1) count' least'
+      step count' least' counted ranked = record {
+        done = s.done ++ (next.first.0, w) ∷ [];
+        rest = next.back;
+        now_is = written ∙ sym (append_assoc s.done ((next.first.0, w) ∷ []) next.back);
+        at = omega (arith, length-append s.done ((next.first.0, w) ∷ []), s.at);
+        len = omega (arith, ap length written, ap length now_at, length-append s.done ((next.first.0, w) ∷ next.back), length-append s.done (next.first ∷ next.back), s.len);
+        counted = counted ∙ ap length (sym done_entries);
+        held = still_held;
+        kept = still_kept;
+        ranked = λ order is. ranked order is ∙ ap (least_rank order) (sym done_entries);
+      }
+
+      -- what is left has this rank, and where it has none it is nothing
+      module _ (Rank : V → ℕ → Type 0) (reads : (order : V → ℕ) → IsOrder order → (v : V) (n : ℕ) → Rank v n → n ≡ order v) where
+        pub step_none : (P : Type 0) → MatchOption w.value P (λ v. (n : ℕ) × (None ≡ Some n) × Rank v n) → Sifted old (set_value_at now index w) (index + 1) count least
+        step_none P ranked =
+            let none = nothing w.value ranked in
+            let same : entries_of s.done ≡ entries_of s.done ++ entry_at next.first.0 w.value = sym (ap (λ r. entries_of s.done ++ entry_at next.first.0 r) none ∙ append-nil (entries_of s.done)) in
+            step count least (s.counted ∙ ap length same) (λ order is. s.ranked order is ∙ ap (least_rank order) same)
+          where
+            nothing : (r : Option V) → MatchOption r P (λ v. (n : ℕ) × (None ≡ Some n) × Rank v n) → r ≡ None
+            nothing None h = refl
+            nothing (Some v) h = let bad : None ≡ Some h.0 = h.1 in cc
+
+        pub step_some : (n : ℕ) → MatchOption w.value (Some n ≡ None) (λ v. (m : ℕ) × (Some n ≡ Some m) × Rank v m) → n < 2 ^ 64
+            → Sifted old (set_value_at now index w) (index + 1) (count + 1) (min least n)
+        step_some n ranked fits =
+            let h = ranked_value w.value ranked in
+            let v = h.0 in
+            let last : entries_of s.done ++ (next.first.0, v) ∷ [] ≡ entries_of s.done ++ entry_at next.first.0 w.value = ap (λ r. entries_of s.done ++ entry_at next.first.0 r) (sym h.1) in
+            step (count + 1) (min least n) (omega (arith, s.counted, length-append (entries_of s.done) ((next.first.0, v) ∷ []), ap length last))
+            (λ order is.
+            (λ j. min (s.ranked order is j) (reads order is v n h.2 j))
+            ∙ sym (least_rank-push order (entries_of s.done) next.first.0 v (subst (λ k. k < 2 ^ 64) (reads order is v n h.2) fits))
+            ∙ ap (least_rank order) last)
+          where
+            ranked_value : (r : Option V) → MatchOption r (Some n ≡ None) (λ v. (m : ℕ) × (Some n ≡ Some m) × Rank v m) → (v : V) × (r ≡ Some v) × Rank v n
+            ranked_value None h = cc
+            ranked_value (Some v) h = let same : n ≡ h.0 = cc in (v, refl, subst (λ k. Rank v k) (sym same) h.2)
+
+    pub few : (old now : List (Mac × Slot V)) (index count least : ℕ) → (s : Sifted old now index count least) → count ≤ index
+    few old now index count least s = omega (arith, s.counted, entries_le s.done, s.at)
