@@ -1,5 +1,5 @@
 -- A tag written into a frame, with zeros behind it.
-use Rattle.std.proofs.Common.{◌≡◌, ℕ, ◌+◌, ◌-◌, ◌<◌, ◌≤◌, ◌^◌, List, ◌++◌, length, take, ap, subst, refl, ◌∙◌, arith}
+use Rattle.std.proofs.Common.{◌≡◌, ℕ, ◌+◌, ◌-◌, ◌<◌, ◌≤◌, ◌^◌, List, ◌++◌, length, take, ap, sym, subst, refl, ◌∙◌, arith}
 use Rattle.std.specs.Prelude.{replicate, max}
 use Rattle.std.specs.Int.{w16, to_be_bytes}
 use Rattle.std.proofs.lemmas.List.{append_assoc, length-append, take_all, length-replicate}
@@ -61,3 +61,20 @@ resized_is_tagged f own written path n h seq legal h_is n_is most path_fits seq_
     } in
     let Sized : ℕ → Type 0 = λ s. IsTagged own (padded (spelling f)) (tag path s seq f.kind) in
     subst Sized size is
+
+-- a list that is resized behind an old part
+pub resized_behind : (old whole : List ℕ) (end n len : ℕ) → end ≡ length old + n → length whole ≤ n → len ≡ length (old ++ whole) → take end (old ++ whole) ++ replicate (end - len) 0 ≡ old ++ (take n whole ++ replicate (n - length whole) 0)
+resized_behind old whole end n len end_is fits len_is =
+    let both : length (old ++ whole) ≡ length old + length whole = length-append old whole in
+    let all : take end (old ++ whole) ≡ old ++ whole = take_all end (old ++ whole) (omega (arith, both, end_is, fits)) in
+    let mine : whole ≡ take n whole = sym (take_all n whole fits) in
+    let count : end - len ≡ n - length whole = omega (arith, len_is, both, end_is) in
+    ap (λ (l : List ℕ). l ++ replicate (end - len) 0) all
+    ∙ ap (λ (k : ℕ). old ++ whole ++ replicate k 0) count
+    ∙ append_assoc old whole (replicate (n - length whole) 0)
+    ∙ ap (λ (l : List ℕ). old ++ (l ++ replicate (n - length whole) 0)) mine
+
+-- how long a frame is with a tag in it
+pub length-tagged : (f : Fields) (t : HsrTag) → IsLegal f → length (head_of f ++ to_be_bytes w16 0x892F ++ (tag_octets t ++ f.payload)) ≡ least_len (spelling f) + 6 + length f.payload
+length-tagged f t legal =
+    omega (arith, length-append (head_of f ++ to_be_bytes w16 0x892F) (tag_octets t ++ f.payload), length-append (head_of f) (to_be_bytes w16 0x892F), length-append (tag_octets t) f.payload, least_len-spelling f legal, length-append (head_of f) (to_be_bytes w16 f.kind))

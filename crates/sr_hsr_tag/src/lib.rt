@@ -11,7 +11,4 @@ pub use fault::{TagFault, UntagFault};
 pub use laws::{spellings_are_unique, tags_are_unique};
 pub use reading::{read, untagged, untagged_view};
 pub use tag::{HSR_KIND, HsrTag};
-pub use writing::tagged;
-
-#[cfg(test)]
-mod tests;
+pub use writing::{append_tagged, tagged};

@@ -1,6 +1,6 @@
 //! Writing a tag.
 
-ghost use Rattle.std.specs.Prelude.{◌≡◌, ◌≢◌, ◌↔◌, ◌+◌, ◌-◌, ◌<◌, ◌≤◌, ◌++◌, length, max, IfOk, OnOk, IsErrOf};
+ghost use Rattle.std.specs.Prelude.{◌≡◌, ◌≢◌, ◌↔◌, ◌+◌, ◌-◌, ◌<◌, ◌≤◌, ◌++◌, List, ℕ, length, vec_len, vec_capacity, IfOk, OnOk, OnErr, IsErrOf};
 ghost use Rattle.std.specs.Int.{w16, to_be_bytes};
 ghost use Rattle.sr_frame.specs.Frame.{spelling, head_of, least_len, padded};
 ghost use Rattle.sr_frame.specs.View.{fields_of};
@@ -23,9 +23,11 @@ pub(crate) fn frame_of(alloc: Global, frame: &FrameView<'_>) -> Result<Frame, No
     Ok(Frame::of(octets))
 }
 
-/// Appends addresses, the VLAN tag, and the type of a tagged frame.
-fn put_head(out: &mut Vec<u8>, frame: &FrameView<'_>) -> Result<(), NoMemory>
-    ensures { OnOk result (out.new.items ≡ out.old.items ++ (head_of (fields_of frame.now) ++ to_be_bytes w16 0x892F)) }
+/// Appends addresses, the VLAN tag, and the type of a tagged frame to a list that has room for them.
+fn put_head(out: &mut Vec<u8>, frame: &FrameView<'_>)
+    requires { vec_len out.old + least_len (spelling (fields_of frame.now)) ≤ vec_capacity out.old }
+    ensures items { out.new.items ≡ out.old.items ++ (head_of (fields_of frame.now) ++ to_be_bytes w16 0x892F) }
+    ensures capacity { vec_capacity out.old ≤ vec_capacity out.new }
 {
     let head = FrameView {
         dst: frame.dst,
@@ -34,44 +36,53 @@ fn put_head(out: &mut Vec<u8>, frame: &FrameView<'_>) -> Result<(), NoMemory>
         kind: HSR_KIND,
         payload: &[],
     };
-    append(out, &head)
+    append(out, &head).unwrap();
 }
 
-/// Appends what stands behind that type, up to the payload.
-fn put_tag(out: &mut Vec<u8>, tag: HsrTag) -> Result<(), NoMemory>
+/// Appends what stands behind that type, up to the payload, to a list that has room for it.
+fn put_tag(out: &mut Vec<u8>, tag: HsrTag)
     requires path { tag.path < 16 }
     requires size { tag.size < 4096 }
-    ensures { OnOk result (out.new.items ≡ out.old.items ++ tag_octets tag) }
+    requires room { vec_len out.old + TAG_LEN ≤ vec_capacity out.old }
+    ensures items { out.new.items ≡ out.old.items ++ tag_octets tag }
+    ensures capacity { vec_capacity out.old ≤ vec_capacity out.new }
 {
     let word = u16::from(tag.path) * 4096 + tag.size;
-    out.extend_from_slice(&word.to_be_bytes())?;
-    out.extend_from_slice(&tag.seq.0.to_be_bytes())?;
-    out.extend_from_slice(&tag.inner.to_be_bytes())?;
-    Ok(())
+    out.extend_from_slice(&word.to_be_bytes()).unwrap();
+    out.extend_from_slice(&tag.seq.0.to_be_bytes()).unwrap();
+    out.extend_from_slice(&tag.inner.to_be_bytes()).unwrap();
 }
 
-/// Appends the frame, with the tag in it.
-fn put_tagged(out: &mut Vec<u8>, frame: &FrameView<'_>, tag: HsrTag) -> Result<(), NoMemory>
+/// Appends the frame, with the tag in it, to a list that has room for both.
+fn put_tagged(out: &mut Vec<u8>, frame: &FrameView<'_>, tag: HsrTag)
     requires path { tag.path < 16 }
     requires size { tag.size < 4096 }
-    ensures { OnOk result (out.new.items ≡ out.old.items
-        ++ (head_of (fields_of frame.now) ++ to_be_bytes w16 0x892F ++ (tag_octets tag ++ frame.now.payload.now))) }
+    requires room { vec_len out.old + length (spelling (fields_of frame.now)) + TAG_LEN ≤ vec_capacity out.old }
+    ensures items { out.new.items ≡ out.old.items
+        ++ (head_of (fields_of frame.now) ++ to_be_bytes w16 0x892F ++ (tag_octets tag ++ frame.now.payload.now)) }
+    ensures capacity { vec_capacity out.old ≤ vec_capacity out.new }
 {
-    put_head(out, frame)?;
-    put_tag(out, tag)?;
-    out.extend_from_slice(frame.payload)?;
-    Ok(())
+    put_head(out, frame);
+    put_tag(out, tag);
+    out.extend_from_slice(frame.payload).unwrap();
 }
 
-/// The frame with a tag before its type, in one list of octets that is copied once.
+/// Appends the frame to a list, with a tag before its type. A list with room for them takes no memory.
 ///
 /// A payload of fewer than 46 octets is padded with zeros, so that the tagged frame has 66 octets, or 70 with a
 /// VLAN tag. The tag's size counts the octets behind the type 0x892F to the end. `TooLong` where more than 1524
-/// octets would come of it; `NoMemory` where the growth was refused.
-pub fn tagged(alloc: Global, frame: &FrameView<'_>, path: u8, seq: Seq) -> Result<Frame, FrameFault>
+/// octets would come of it; `NoMemory` where the growth was refused: the list then stays as it was.
+pub fn append_tagged(
+    out: &mut Vec<u8>,
+    frame: &FrameView<'_>,
+    path: u8,
+    seq: Seq,
+) -> Result<(), FrameFault>
     requires { path < 16 }
-    ensures ok { IfOk result (λ own. let plain = padded (spelling (fields_of frame.now)) in
-        IsTagged own plain (record { path = path; size = octets_behind_type own; seq = seq; inner = frame.now.kind })) }
+    ensures ok { OnOk result ((own : List ℕ) × (out.new.items ≡ out.old.items ++ own)
+        × (let plain = padded (spelling (fields_of frame.now)) in
+        IsTagged own plain (record { path = path; size = octets_behind_type own; seq = seq; inner = frame.now.kind }))) }
+    ensures err { OnErr result (out.new.items ≡ out.old.items) }
     ensures long { IsErrOf result FrameFault.TooLong ↔ (MAX_FRAME_LEN < length (padded (spelling (fields_of frame.now))) + 6) }
     ensures not_short { result ≢ Err FrameFault.TooShort }
 {
@@ -88,8 +99,24 @@ pub fn tagged(alloc: Global, frame: &FrameView<'_>, path: u8, seq: Seq) -> Resul
         seq,
         inner: frame.kind,
     };
-    let mut octets = Vec::with_capacity(alloc, len)?;
-    put_tagged(&mut octets, frame, tag)?;
-    octets.resize(len, 0)?;
+    let end = out.len() + len;
+    out.reserve(len)?;
+    put_tagged(out, frame, tag);
+    out.resize(end, 0).unwrap();
+    Ok(())
+}
+
+/// The frame with a tag before its type, in one list of octets that is copied once.
+///
+/// Its octets and its faults are those of [`append_tagged`].
+pub fn tagged(alloc: Global, frame: &FrameView<'_>, path: u8, seq: Seq) -> Result<Frame, FrameFault>
+    requires { path < 16 }
+    ensures ok { IfOk result (λ own. let plain = padded (spelling (fields_of frame.now)) in
+        IsTagged own plain (record { path = path; size = octets_behind_type own; seq = seq; inner = frame.now.kind })) }
+    ensures long { IsErrOf result FrameFault.TooLong ↔ (MAX_FRAME_LEN < length (padded (spelling (fields_of frame.now))) + 6) }
+    ensures not_short { result ≢ Err FrameFault.TooShort }
+{
+    let mut octets = Vec::new(alloc);
+    append_tagged(&mut octets, frame, path, seq)?;
     Ok(Frame::of(octets))
 }

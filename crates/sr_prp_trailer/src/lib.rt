@@ -5,14 +5,13 @@
 #![tactic(auto)]
 
 mod fault;
+mod laws;
 mod reading;
 mod trailer;
 mod writing;
 
 pub use fault::StripFault;
+pub use laws::trailers_are_unique;
 pub use reading::{parted, read, stripped};
 pub use trailer::{Lan, TRAILER_LEN, Trailer};
-pub use writing::appended;
-
-#[cfg(test)]
-mod tests;
+pub use writing::{append_trailed, appended};

@@ -1,12 +1,12 @@
 //! Writing a trailer.
 
-ghost use Rattle.std.specs.Prelude.{◌≡◌, ◌≢◌, ◌↔◌, ◌+◌, ◌-◌, ◌<◌, ◌≤◌, ◌++◌, length, vec_len, vec_capacity, IfOk, IsErrOf};
+ghost use Rattle.std.specs.Prelude.{◌≡◌, ◌≢◌, ◌↔◌, ◌+◌, ◌-◌, ◌<◌, ◌≤◌, ◌++◌, List, ℕ, length, vec_len, vec_capacity, IfOk, OnOk, OnErr, IsErrOf};
 ghost use Rattle.sr_frame.specs.Frame.{spelling, least_len, padded};
 ghost use Rattle.sr_frame.specs.View.{fields_of};
 ghost use Rattle.sr_prp_trailer.specs.Trailed.{IsTrailed, trailer_octets, lan_id};
 
 use crate::trailer::{LAN_A_ID, LAN_B_ID, Lan, SUFFIX, TRAILER_LEN, Trailer};
-use sr_frame::{Frame, FrameFault, FrameView, MAX_FRAME_LEN, MIN_PAYLOAD_LEN, NoMemory, append};
+use sr_frame::{Frame, FrameFault, FrameView, MAX_FRAME_LEN, MIN_PAYLOAD_LEN, append};
 use sr_sequence::Seq;
 use std::alloc::Global;
 
@@ -32,23 +32,51 @@ fn put_trailer(out: &mut Vec<u8>, trailer: Trailer)
     out.extend_from_slice(&SUFFIX.to_be_bytes()).unwrap();
 }
 
-/// The frame's octets, padded to `len`, in a list with room for a trailer.
-fn padded_octets(alloc: Global, frame: &FrameView<'_>, len: usize) -> Result<Vec<u8>, NoMemory>
-    requires { len ≡ length (padded (spelling (fields_of frame.now))) }
-    ensures octets { IfOk result (λ v. v.items ≡ padded (spelling (fields_of frame.now))) }
-    ensures room { IfOk result (λ v. vec_len v + TRAILER_LEN ≤ vec_capacity v) }
+/// Appends the frame's octets, padded to `len`, to a list that has room for them.
+fn put_padded(out: &mut Vec<u8>, frame: &FrameView<'_>, len: usize)
+    requires len { len ≡ length (padded (spelling (fields_of frame.now))) }
+    requires room { vec_len out.old + len ≤ vec_capacity out.old }
+    ensures items { out.new.items ≡ out.old.items ++ padded (spelling (fields_of frame.now)) }
+    ensures capacity { vec_capacity out.old ≤ vec_capacity out.new }
 {
-    let mut octets = Vec::with_capacity(alloc, len + TRAILER_LEN)?;
-    append(&mut octets, frame)?;
-    octets.resize(len, 0)?;
-    Ok(octets)
+    let end = out.len() + len;
+    append(out, frame).unwrap();
+    out.resize(end, 0).unwrap();
+}
+
+/// Appends the frame to a list, and a trailer behind it. A list with room for them takes no memory.
+///
+/// A payload of fewer than 46 octets is padded with zeros first, so that the frame has 60 octets before the
+/// trailer, or 64 with a VLAN tag. `TooLong` where more than 1524 octets would come of it; `NoMemory` where
+/// the growth was refused: the list then stays as it was.
+pub fn append_trailed(
+    out: &mut Vec<u8>,
+    frame: &FrameView<'_>,
+    seq: Seq,
+    lan: Lan,
+) -> Result<(), FrameFault>
+    ensures ok { OnOk result ((own : List ℕ) × (out.new.items ≡ out.old.items ++ own)
+        × (let plain = padded (spelling (fields_of frame.now)) in
+        IsTrailed own plain (record { seq = seq; lan = lan; size = length own - least_len plain }))) }
+    ensures err { OnErr result (out.new.items ≡ out.old.items) }
+    ensures long { IsErrOf result FrameFault.TooLong ↔ (MAX_FRAME_LEN < length (padded (spelling (fields_of frame.now))) + TRAILER_LEN) }
+    ensures not_short { result ≢ Err FrameFault.TooShort }
+{
+    let payload_len = frame.payload.len().max(MIN_PAYLOAD_LEN);
+    let len = frame.header_len() + payload_len;
+    if len + TRAILER_LEN > MAX_FRAME_LEN {
+        return Err(FrameFault::TooLong);
+    }
+    let size = (payload_len + TRAILER_LEN) as u16;
+    out.reserve(len + TRAILER_LEN)?;
+    put_padded(out, frame, len);
+    put_trailer(out, Trailer { seq, lan, size });
+    Ok(())
 }
 
 /// The frame with a trailer behind it, in one list of octets that is copied once.
 ///
-/// A payload of fewer than 46 octets is padded with zeros first, so that the frame has 60 octets before the
-/// trailer, or 64 with a VLAN tag. `TooLong` where more than 1524 octets would come of it; `NoMemory` where
-/// the growth was refused.
+/// Its octets and its faults are those of [`append_trailed`].
 pub fn appended(
     alloc: Global,
     frame: &FrameView<'_>,
@@ -60,13 +88,7 @@ pub fn appended(
     ensures long { IsErrOf result FrameFault.TooLong ↔ (MAX_FRAME_LEN < length (padded (spelling (fields_of frame.now))) + TRAILER_LEN) }
     ensures not_short { result ≢ Err FrameFault.TooShort }
 {
-    let payload_len = frame.payload.len().max(MIN_PAYLOAD_LEN);
-    let len = frame.header_len() + payload_len;
-    if len + TRAILER_LEN > MAX_FRAME_LEN {
-        return Err(FrameFault::TooLong);
-    }
-    let size = (payload_len + TRAILER_LEN) as u16;
-    let mut octets = padded_octets(alloc, frame, len)?;
-    put_trailer(&mut octets, Trailer { seq, lan, size });
+    let mut octets = Vec::new(alloc);
+    append_trailed(&mut octets, frame, seq, lan)?;
     Ok(Frame::of(octets))
 }

@@ -27,17 +27,10 @@ option_or_assoc : (a b c : Option Mac) → option_or (option_or a b) c ≡ optio
 option_or_assoc None b c = refl
 option_or_assoc (Some x) b c = refl
 
-option_or_none : (a : Option Mac) → option_or a None ≡ a
-option_or_none None = refl
-option_or_none (Some x) = refl
-
 -- what is left of a list, after TLVs in which this RedBox was the first
 pub record IsLeft (all rest : List ℕ) (redbox : Option Mac) : Type 0 where
   pub reads : (found : Option Mac) → IsTlvs rest found → IsTlvs all (option_or redbox found)
   pub past : RunsPast rest → RunsPast all
-
-pub left_at_first : (all : List ℕ) → IsLeft all all None
-left_at_first all = record { reads = λ found h. h; past = λ h. h }
 
 pub left_after : (all rest behind value : List ℕ) (kind : ℕ) (redbox : Option Mac) → IsLeft all rest redbox → rest ≡ kind ∷ length value ∷ value ++ behind → kind ≢ 0 → IsLeft all behind (option_or redbox (redbox_in kind value))
 left_after all rest behind value kind redbox left spelled some = record {
@@ -47,11 +40,6 @@ left_after all rest behind value kind redbox left spelled some = record {
       subst Q (sym (option_or_assoc redbox (redbox_in kind value) found)) (left.reads _ (subst P (sym spelled) (tlv kind value behind found some h)));
   past = λ h. left.past (subst RunsPast (sym spelled) (later kind value behind some h));
 }
-
-pub left_at_end : (all rest : List ℕ) (redbox : Option Mac) → IsLeft all rest redbox → IsTlvs rest None → IsTlvs all redbox
-left_at_end all rest redbox left end =
-    let Q : Option Mac → Type 0 = λ r. IsTlvs all r in
-    subst Q (option_or_none redbox) (left.reads None end)
 
 -- what stands behind the TLV at the front of a list is a list, and says the rest
 tlv_parts : {octets : List ℕ} {found : Option Mac} → IsTlvs octets found → (kind : ℕ) (value behind : List ℕ) → octets ≡ kind ∷ length value ∷ value ++ behind → kind ≢ 0 → (more : Option Mac) × IsTlvs behind more × (found ≡ option_or (redbox_in kind value) more)

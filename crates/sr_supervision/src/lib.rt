@@ -13,6 +13,3 @@ pub use laws::supervisions_are_unique;
 pub use message::{Life, Supervision};
 pub use reading::{PRP_KIND, SUPERVISION, is_supervision, read};
 pub use writing::write;
-
-#[cfg(test)]
-mod tests;

@@ -1,4 +1,4 @@
-use Rattle.sr_hsr_tag.proofs.Tags.{tagged_once}
+use Rattle.sr_hsr_tag.specs.TagLemmas.{tagged_once}
 use Rattle.sr_hsr_tag.proofs.laws.tags_are_unique.Goals as goal
 
 pub returns : goal.returns

@@ -1,6 +1,6 @@
 use Rattle.std.proofs.Common.{arith}
 use Rattle.sr_frame.specs.View.{fields_of}
-use Rattle.sr_hsr_tag.proofs.Tags.{tagged_is_long, tag_at_front}
+use Rattle.sr_hsr_tag.specs.TagLemmas.{tagged_is_long, tag_at_front}
 use Rattle.sr_hsr_tag.proofs.reading.parted.Goals as goal
 
 pub returns-then-frame-clause-only : goal.returns-then-frame-clause-only

@@ -1,19 +1,12 @@
 -- A tag at the front of a payload, and a tag in a whole frame.
 use Rattle.std.proofs.Common.{◌≡◌, ℕ, ◌+◌, ◌*◌, ◌<◌, ◌≤◌, ◌^◌, List, [], ◌++◌, length, take, drop, sym, ap, subst, refl, ◌∙◌, arith}
-use Rattle.std.specs.Int.{w16, to_be_bytes, from_be_bytes}
-use Rattle.std.proofs.lemmas.Nat.{from_be_bytes-to_be_bytes_2}
+use Rattle.std.specs.Int.{w16, to_be_bytes}
 use Rattle.std.proofs.lemmas.List.{length-append, take-append-drop}
 use Rattle.sr_frame.specs.Frame.{Fields, IsLegal, head_of, least_len, spelling}
 use Rattle.sr_frame.specs.LengthLemmas.{header_of, length-spelling, least_len-spelling}
-use Rattle.sr_frame.specs.FrameLemmas.{same_parts, spelled_once}
+use Rattle.sr_frame.specs.FrameLemmas.{same_parts, number_and_rest, spelled_once}
 use Rattle.sr_hsr_tag.specs.declared.tag.HsrTag.{HsrTag}
 use Rattle.sr_hsr_tag.specs.Tagged.{IsTag, IsTagged, tag_octets, with_type, octets_behind_type}
-
--- a number and a rest, by the octets that spell both
-number_and_rest : (m n : ℕ) (x y : List ℕ) → m < 2 ^ 16 → n < 2 ^ 16 → to_be_bytes w16 m ++ x ≡ to_be_bytes w16 n ++ y → (m ≡ n) × (x ≡ y)
-number_and_rest m n x y p q e =
-    let both = same_parts (to_be_bytes w16 m) (to_be_bytes w16 n) x y refl e in
-    (sym (from_be_bytes-to_be_bytes_2 m p) ∙ ap (from_be_bytes w16) both.0 ∙ from_be_bytes-to_be_bytes_2 n q, both.1)
 
 abbrev made : ℕ → ℕ → ℕ → ℕ → HsrTag
 made path size seq inner = record { path = path; size = size; seq = record { 0 = seq }; inner = inner }

@@ -1,0 +1,5 @@
+pub mod HeaderLemmas
+pub mod RouteLemmas
+pub mod CarriageLemmas
+pub mod ReadingLemmas
+pub mod AgainLemmas

@@ -1,0 +1,14 @@
+pub mod Limits
+pub mod Outlets
+pub mod Octets
+pub mod Parcels
+pub mod Headers
+pub mod RoleImages
+pub mod Routes
+pub mod Proxies
+pub mod Framings
+pub mod Decoding
+pub mod Encoding
+pub mod Carriage
+pub mod OctetLemmas
+pub mod ParcelLemmas

@@ -1,0 +1,42 @@
+//! Where frames go: parcels, the roles that route them, and the framings of the ports.
+#![tactic(auto)]
+
+mod danh;
+mod danp;
+mod fault;
+mod form;
+mod framing;
+mod header;
+mod hsr_framing;
+mod laws;
+mod outlets;
+mod parcel;
+mod parcel_view;
+mod plain_framing;
+mod prp_framing;
+mod role;
+mod role_image;
+mod role_parts;
+
+pub use danh::Danh;
+pub use danp::Danp;
+pub use fault::ReadFault;
+pub use form::Form;
+pub use framing::Framing;
+pub use header::Header;
+pub use hsr_framing::HsrFraming;
+pub use laws::{
+    readings_are_unique, routes_never_have_the_inlet, what_is_wanted_is_written,
+    what_is_written_is_read_again,
+};
+pub use outlets::Outlets;
+pub use parcel::Parcel;
+pub use parcel_view::ParcelView;
+pub use plain_framing::{MAX_PLAIN_LEN, PlainFraming};
+pub use prp_framing::{MAX_NET, PrpFraming};
+pub use role::Role;
+pub use role_image::{Proxied, RoleImage, RoleKind};
+pub use sr_frame::{Learnt, Port};
+
+#[cfg(test)]
+mod tests;

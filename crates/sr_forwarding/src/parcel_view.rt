@@ -1,0 +1,165 @@
+//! Parcels that borrow their octets.
+
+ghost use Rattle.std.specs.Prelude.{◌≡◌, ◌<◌, ℕ, None, IfOk};
+ghost use Rattle.sr_frame.specs.Frame.{HasFrameLength, IsFrame, spelling};
+ghost use Rattle.sr_frame.specs.View.{fields_of};
+ghost use Rattle.sr_hsr_tag.specs.Tagged.{IsTagged};
+ghost use Rattle.sr_prp_trailer.specs.Trailed.{IsTrailed};
+ghost use Rattle.sr_prp_trailer.specs.declared.trailer.Trailer.{Trailer};
+ghost use Rattle.sr_forwarding.specs.Headers.{header_of};
+ghost use Rattle.sr_forwarding.specs.Octets.{plain_in};
+ghost use Rattle.sr_forwarding.specs.Parcels.{plain_of, plain_parcel, as_plain, with_number, IsParcel};
+
+use crate::{Form, Header, Parcel};
+use sr_frame::{Frame, FrameView, NoMemory, append};
+use sr_sequence::Seq;
+use std::alloc::Global;
+use std::marker::Model;
+
+/// A parcel that borrows its octets. Contracts see it as they see a [`Parcel`].
+#[derive(Drop)]
+pub struct ParcelView<'a> {
+    form: Form,
+    octets: &'a [u8],
+    plain: FrameView<'a>,
+    seq: Option<Seq>,
+    path: u8,
+    wrong_lan: bool,
+}
+
+impl<'a> Model for ParcelView<'a> {
+    ghost use Rattle.std.specs.Prelude.{◌≡◌};
+    ghost use Rattle.sr_frame.specs.Frame.{spelling};
+    ghost use Rattle.sr_frame.specs.View.{fields_of};
+    ghost use Rattle.sr_forwarding.specs.Octets.{plain_in};
+    ghost use Rattle.sr_forwarding.specs.Parcels.{ParcelImage, IsParcel};
+
+    ghost Value = { ParcelImage };
+
+    ghost view = { λ p. record { form = p.form; octets = p.octets.now; seq = p.seq; path = p.path; wrong_lan = p.wrong_lan } };
+
+    ghost invariant = { λ p.
+        IsParcel (record { form = p.form; octets = p.octets.now; seq = p.seq; path = p.path; wrong_lan = p.wrong_lan })
+        × (spelling (fields_of p.plain) ≡ plain_in p.form p.octets.now) };
+}
+
+impl<'a> ParcelView<'a> {
+    /// How the octets carry the number.
+    pub fn form(&self) -> Form
+        ensures { result ≡ self.now.form }
+    {
+        self.form
+    }
+
+    /// The whole frame in this form.
+    pub fn octets(&self) -> &'a [u8]
+        ensures whole { result.now ≡ self.now.octets }
+        ensures frame { HasFrameLength self.now.octets }
+    {
+        self.octets
+    }
+
+    /// The frame without what carries its number.
+    pub fn plain(&self) -> FrameView<'a>
+        ensures { spelling (fields_of result) ≡ plain_of self.now }
+    {
+        self.plain
+    }
+
+    /// The number that its source gave it, where it has one.
+    pub fn seq(&self) -> Option<Seq>
+        ensures { result ≡ self.now.seq }
+    {
+        self.seq
+    }
+
+    /// The path of an HSR tag: for a frame of a PRP network, twice the network's number and 1 more for LAN B.
+    pub fn path(&self) -> u8
+        ensures path { result ≡ self.now.path }
+        ensures fits { result < 16 }
+    {
+        self.path
+    }
+
+    /// Whether the trailer named the other LAN than that of the port where the frame came in.
+    pub fn wrong_lan(&self) -> bool
+        ensures { result ≡ self.now.wrong_lan }
+    {
+        self.wrong_lan
+    }
+
+    /// What routes read of it. Whether the destination is known as a node is for the caller to say: here it is not.
+    pub fn header(&self) -> Header
+        ensures { result ≡ header_of self.now }
+    {
+        Header::of(&self.plain, self.seq, self.path)
+    }
+
+    /// A parcel with octets of its own that are copied once. `NoMemory` where the growth was refused.
+    pub fn to_parcel(&self, alloc: Global) -> Result<Parcel, NoMemory>
+        ensures { IfOk result (λ p. p ≡ self.now) }
+    {
+        let octets = Frame::of(Vec::from_slice(alloc, self.octets)?);
+        Ok(Parcel::of_parts(self.form, octets, self.seq, self.path, self.wrong_lan))
+    }
+
+    /// The parcel in plain form, with octets of its own that are copied once. `NoMemory` where the growth was refused.
+    pub fn to_plain_parcel(&self, alloc: Global) -> Result<Parcel, NoMemory>
+        ensures { IfOk result (λ p. p ≡ as_plain self.now) }
+    {
+        let mut octets = Vec::with_capacity(alloc, self.plain.frame_len())?;
+        append(&mut octets, &self.plain)?;
+        Ok(Parcel::of_parts(
+            Form::Plain,
+            Frame::of(octets),
+            self.seq,
+            self.path,
+            self.wrong_lan,
+        ))
+    }
+
+    /// A plain parcel under this number, in place of any it has.
+    pub fn with_number(self, seq: Seq) -> ParcelView<'a>
+        requires { self.form ≡ Form.Plain }
+        ensures { result ≡ with_number self.entry seq }
+    {
+        ParcelView {
+            form: Form::Plain,
+            octets: self.octets,
+            plain: self.plain,
+            seq: Some(seq),
+            path: self.path,
+            wrong_lan: self.wrong_lan,
+        }
+    }
+
+    /// The parcel of an ordinary frame, with this number or none. Does not allocate.
+    pub fn plain_with(frame: &'a Frame, seq: Option<Seq>) -> ParcelView<'a>
+        ensures { result ≡ plain_parcel frame.entry.now seq }
+    {
+        ParcelView::of_parts(Form::Plain, frame.octets(), frame.view(), seq, 0, false)
+    }
+
+    /// The parcel with these parts, which agree.
+    pub(crate) fn of_parts(
+        form: Form,
+        octets: &'a [u8],
+        plain: FrameView<'a>,
+        seq: Option<Seq>,
+        path: u8,
+        wrong_lan: bool,
+    ) -> ParcelView<'a>
+        requires parcel { IsParcel (record { form = form; octets = octets.now; seq = seq; path = path; wrong_lan = wrong_lan }) }
+        requires plain { spelling (fields_of plain) ≡ plain_in form octets.now }
+        ensures { result ≡ record { form = form; octets = octets.entry.now; seq = seq; path = path; wrong_lan = wrong_lan } }
+    {
+        ParcelView {
+            form,
+            octets,
+            plain,
+            seq,
+            path,
+            wrong_lan,
+        }
+    }
+}
