@@ -1,6 +1,0 @@
-pub mod OutletLemmas
-pub mod PairLemmas
-pub mod RunLemmas
-pub mod LifeLemmas
-pub mod SteadyLemmas
-pub mod ReadingLemmas

@@ -1,0 +1,311 @@
+//! A frame comes in.
+
+ghost use Rattle.std.specs.Prelude.{◌≡◌, IfOk, OnOk, OnErr, IfErr, None, Some, false, max};
+ghost use Rattle.sr_node.specs.Faults.{or_no_memory};
+ghost use Rattle.sr_node.specs.Outboxes.{first_full};
+ghost use Rattle.sr_node.specs.Copies.{copies_for, Room};
+ghost use Rattle.sr_node.specs.Images.{shown, node_state, IsReady, IsIdle};
+ghost use Rattle.sr_node.specs.Lanes.{is_host};
+ghost use Rattle.sr_forwarding.specs.Proxies.{learned};
+ghost use Rattle.sr_node.specs.Arriving.{is_too_long, is_untagged, takes_unnumbered, dst_known, header_at, wanted_at, going_on, number_at, next_at, goes, outlets_fault, arrive_refusal, Arrived, passed};
+ghost use Rattle.sr_node.specs.Octets.{OctetsArrived, OctetsRefused};
+ghost use Rattle.sr_node.specs.Plans.{ArrivalIs, IsAdmitted, IsPassing};
+
+use crate::copies::Copies;
+use crate::state::is_plain_at_interlink;
+use crate::{Answer, NodeOf, StepFault};
+use sr_forwarding::{Form, Framing, Header, Outlets, ParcelView, ReadFault, Role, RoleKind};
+use sr_frame::{Mac, NoMemory, Port};
+use sr_sequence::Seq;
+use sr_slots::Spot;
+
+/// The most octets of a plain frame, which leaves room for a tag or a trailer.
+pub(crate) const MAX_PLAIN_LEN: usize = 1518;
+
+/// What an arrival is, before the table of records is asked.
+#[derive(Clone, Copy)]
+pub(crate) enum Admission {
+    /// It is the node's own.
+    Own,
+    /// It is a frame of another node.
+    Other {
+        /// What routes read of it as it goes on.
+        header: Header,
+        /// Where the role wants it.
+        wanted: Outlets,
+    },
+}
+
+/// What an arrival that is not refused comes to.
+#[derive(Clone, Copy)]
+pub(crate) enum Plan {
+    /// It is the node's own.
+    Own,
+    /// It passes.
+    Pass {
+        /// Where the role wants it.
+        wanted: Outlets,
+        /// Of these, where it is new, and where it goes.
+        outlets: Outlets,
+        /// Where the record of its source was found.
+        spot: Option<Spot>,
+    },
+}
+
+// Whether a plain frame at the interlink leaves no room for a tag.
+fn is_too_long(port: Port, parcel: &ParcelView<'_>) -> bool
+    ensures { result ≡ is_too_long port parcel.now }
+{
+    is_plain_at_interlink(port, parcel.form()) && parcel.octets().len() > MAX_PLAIN_LEN
+}
+
+// Whether a node of this kind takes frames without number at A and B.
+fn takes_unnumbered(kind: RoleKind) -> bool
+    ensures { result ≡ takes_unnumbered kind }
+{
+    match kind {
+        RoleKind::Danp => true,
+        RoleKind::Danh | RoleKind::San | RoleKind::Prp { .. } | RoleKind::Hsr => false,
+    }
+}
+
+// Whether a frame lacks what its port asks for.
+fn is_untagged(kind: RoleKind, port: Port, form: Form) -> bool
+    ensures { result ≡ is_untagged kind port form }
+{
+    match port {
+        Port::H => true,
+        Port::A | Port::B => form == Form::Plain && !takes_unnumbered(kind),
+        Port::C => false,
+    }
+}
+
+// A frame from this port as it goes on: a plain one from the interlink takes the node's next number.
+fn numbered<'a>(port: Port, parcel: ParcelView<'a>, next: Seq) -> ParcelView<'a>
+    ensures { result ≡ record parcel.entry { seq = number_at next port parcel.entry } }
+{
+    if is_plain_at_interlink(port, parcel.form()) {
+        parcel.with_number(next)
+    } else {
+        parcel
+    }
+}
+
+impl<R: Role> NodeOf<R> {
+    /// Whether the node knows a node with this address at this time.
+    pub(crate) fn is_dst_known(&self, _dst: Mac, _now: u64) -> bool
+        ensures { result ≡ dst_known (node_state (R.meaning self.now.role) self.now.core) _dst _now }
+    {
+        false
+    }
+
+    /// What routes read of a parcel.
+    pub(crate) fn header_at(&self, parcel: &ParcelView<'_>, now: u64) -> Header
+        ensures { result ≡ header_at (node_state (R.meaning self.now.role) self.now.core) parcel.now now }
+    {
+        let header = parcel.header();
+        Header {
+            dst_known: self.is_dst_known(header.dst, now),
+            ..header
+        }
+    }
+
+    // What routes read of a parcel as it goes on.
+    fn header_on(&self, port: Port, parcel: &ParcelView<'_>, now: u64) -> Header
+        ensures { result ≡ header_at (node_state (R.meaning self.now.role) self.now.core)
+            (going_on (node_state (R.meaning self.now.role) self.now.core) port parcel.now) now }
+    {
+        Header {
+            seq: self.core.number_at(port, parcel),
+            ..self.header_at(parcel, now)
+        }
+    }
+
+    // What an arrival at this moment is, or why it is refused before the table is asked.
+    fn admit(&self, port: Port, parcel: &ParcelView<'_>, now: u64) -> Result<Admission, StepFault>
+        ensures admitted { IfOk result (λ a.
+            IsAdmitted (node_state (R.meaning self.now.role) self.now.core) port parcel.now now a) }
+        ensures err { IfErr result (λ f.
+            arrive_refusal (node_state (R.meaning self.now.role) self.now.core) port parcel.now now ≡ Some f) }
+    {
+        if is_too_long(port, parcel) {
+            return Err(StepFault::Reading(ReadFault::TooLong));
+        }
+        if is_untagged(self.role.kind(), port, parcel.form()) {
+            return Err(StepFault::Untagged);
+        }
+        if parcel.header().src == self.role.mac() {
+            return Ok(Admission::Own);
+        }
+        let header = self.header_on(port, parcel, now);
+        let wanted = self.role.wants(&header, port, now);
+        Ok(Admission::Other { header, wanted })
+    }
+
+    /// Why an arrival at this moment is refused, want of memory apart.
+    pub(crate) fn check_arrive(
+        &self,
+        port: Port,
+        parcel: &ParcelView<'_>,
+        now: u64,
+    ) -> Result<(), StepFault>
+        ensures ok { OnOk result
+            (arrive_refusal (node_state (R.meaning self.now.role) self.now.core) port parcel.now now ≡ None) }
+        ensures err { IfErr result (λ f.
+            arrive_refusal (node_state (R.meaning self.now.role) self.now.core) port parcel.now now ≡ Some f) }
+    {
+        match self.admit(port, parcel, now)? {
+            Admission::Own => Ok(()),
+            Admission::Other { header, wanted } => {
+                let Ok(outlets) = self.core.fresh(port, &header, wanted, now) else {
+                    return Err(StepFault::TableFull);
+                };
+                self.core.room_for(outlets)
+            }
+        }
+    }
+
+    // What an arrival at this moment comes to, or why it is refused. Nothing changes.
+    fn plan_arrive(
+        &mut self,
+        port: Port,
+        parcel: &ParcelView<'_>,
+        now: u64,
+    ) -> Result<Plan, StepFault>
+        ensures plan { IfOk result (λ p. ArrivalIs (node_state (R.meaning self.old.role) self.old.core) port parcel.now now p) }
+        ensures ok { OnOk result
+            (arrive_refusal (node_state (R.meaning self.old.role) self.old.core) port parcel.now now ≡ None) }
+        ensures err { IfErr result (λ f.
+            arrive_refusal (node_state (R.meaning self.old.role) self.old.core) port parcel.now now ≡ Some f) }
+        ensures same { (self.new.role ≡ self.old.role) × (self.new.core ≡ self.old.core) }
+    {
+        match self.admit(port, parcel, now)? {
+            Admission::Own => Ok(Plan::Own),
+            Admission::Other { header, wanted } => {
+                let Ok((outlets, spot)) = self.core.look(port, &header, wanted, now) else {
+                    return Err(StepFault::TableFull);
+                };
+                self.core.room_for(outlets)?;
+                Ok(Plan::Pass {
+                    wanted,
+                    outlets,
+                    spot,
+                })
+            }
+        }
+    }
+
+    // All growths of an arrival that passes. Where one is refused, nothing shows of the others.
+    fn grow(
+        &mut self,
+        port: Port,
+        going: &ParcelView<'_>,
+        header: &Header,
+        spot: Option<Spot>,
+        now: u64,
+        outlets: Outlets,
+    ) -> Result<Copies, NoMemory>
+        requires { first_full self.old.core.out outlets ≡ None }
+        ensures copies { IfOk result (λ cs. cs ≡ copies_for outlets going.now) }
+        ensures room { IfOk result (λ cs. Room self.new.core.out cs) }
+        ensures ready { OnOk result (IsReady self.new.core.table header.now.src header.now.seq) }
+        ensures role { OnOk result (R.meaning self.new.role ≡ learned (R.meaning self.old.role) header.now port now) }
+        ensures shown { shown self.new.core ≡ shown self.old.core }
+        ensures err { OnErr result (R.meaning self.new.role ≡ R.meaning self.old.role) }
+        ensures idle { OnErr result (IsIdle self.old.core → IsIdle self.new.core) }
+    {
+        let copies = self.core.copies(outlets, going)?;
+        self.core.hold(header, spot)?;
+        // Its success shows, so it is the last.
+        if let Err(fault) = self.role.learn(self.core.alloc(), header, port, now) {
+            self.core.release();
+            return Err(fault);
+        }
+        Ok(copies)
+    }
+
+    // Lets an arrival pass: growths first, then changes.
+    fn pass(
+        &mut self,
+        port: Port,
+        parcel: ParcelView<'_>,
+        now: u64,
+        wanted: Outlets,
+        outlets: Outlets,
+        spot: Option<Spot>,
+    ) -> Result<(), NoMemory>
+        requires { IsPassing (node_state (R.meaning self.old.role) self.old.core) port parcel now wanted outlets }
+        ensures ok { OnOk result (node_state (R.meaning self.new.role) self.new.core
+            ≡ passed (node_state (R.meaning self.old.role) self.old.core) port
+            (going_on (node_state (R.meaning self.old.role) self.old.core) port parcel.entry)
+            (next_at self.old.core.next port parcel.entry) now outlets) }
+        ensures err { OnErr result (node_state (R.meaning self.new.role) self.new.core
+            ≡ node_state (R.meaning self.old.role) self.old.core) }
+        ensures idle { IsIdle self.old.core → IsIdle self.new.core }
+    {
+        let header = self.header_on(port, &parcel, now);
+        let next = self.core.next_at(port, &parcel);
+        let going = numbered(port, parcel, self.core.next());
+        let copies = self.grow(port, &going, &header, spot, now, outlets)?;
+        self.core
+            .pass(port, &going, &header, spot, next, wanted, copies, now);
+        Ok(())
+    }
+
+    /// Octets come in at a port, in the framing of the port: what decoding them, and then `step`, would answer, and
+    /// with no more memory than for the copies that go out.
+    pub fn arrive(
+        &mut self,
+        framing: &dyn Framing,
+        port: Port,
+        octets: &[u8],
+        now: u64,
+    ) -> Result<Answer, StepFault>
+        ensures step { IfOk result (λ a. OctetsArrived ((⟦<dyn Framing as Framing>⟧ framing.now.0).meaning framing.now.1)
+            (node_state (R.meaning self.old.role) self.old.core) port octets.now now a
+            (node_state (R.meaning self.new.role) self.new.core)) }
+        ensures err { IfErr result (λ f. OctetsRefused ((⟦<dyn Framing as Framing>⟧ framing.now.0).meaning framing.now.1)
+            (node_state (R.meaning self.old.role) self.old.core) port octets.now now f) }
+        ensures same { OnErr result (node_state (R.meaning self.new.role) self.new.core
+            ≡ node_state (R.meaning self.old.role) self.old.core) }
+        ensures idle { IsIdle self.old.core → IsIdle self.new.core }
+    {
+        let at = self.core.time_at(now);
+        let parcel = framing.read(octets)?;
+        self.take_in(port, parcel, at)
+    }
+
+    /// Takes a frame at this moment.
+    pub(crate) fn take_in(
+        &mut self,
+        port: Port,
+        parcel: ParcelView<'_>,
+        now: u64,
+    ) -> Result<Answer, StepFault>
+        ensures step { IfOk result (λ a. Arrived
+            (node_state (R.meaning self.old.role) self.old.core) port parcel.entry now a
+            (node_state (R.meaning self.new.role) self.new.core)) }
+        ensures ok { OnOk result (arrive_refusal
+            (node_state (R.meaning self.old.role) self.old.core) port parcel.entry now ≡ None) }
+        ensures err { IfErr result (λ f. f ≡ or_no_memory (arrive_refusal
+            (node_state (R.meaning self.old.role) self.old.core) port parcel.entry now)) }
+        ensures same { OnErr result (node_state (R.meaning self.new.role) self.new.core
+            ≡ node_state (R.meaning self.old.role) self.old.core) }
+        ensures idle { IsIdle self.old.core → IsIdle self.new.core }
+    {
+        match self.plan_arrive(port, &parcel, now)? {
+            Plan::Own => {
+                self.core.set_time(now);
+                Ok(Answer::Own)
+            }
+            Plan::Pass {
+                wanted,
+                outlets,
+                spot,
+            } => {
+                self.pass(port, parcel, now, wanted, outlets, spot)?;
+                Ok(Answer::Passed(outlets.ports(self.core.alloc())))
+            }
+        }
+    }
+}

@@ -1,0 +1,9 @@
+mod OutletLemmas
+mod NotingLemmas
+mod RunLemmas
+mod TurnLemmas
+mod AnyRunLemmas
+mod PairLemmas
+mod SteadyLemmas
+mod NumberLemmas
+mod WrittenLemmas

@@ -1,0 +1,15 @@
+//! Tests of `sr_node`, above it, so that its own functions are proved once.
+#![tactic(auto)]
+
+#[cfg(test)]
+mod arrivals;
+#[cfg(test)]
+mod frames;
+#[cfg(test)]
+mod noted;
+#[cfg(test)]
+mod rings;
+#[cfg(test)]
+mod steps;
+#[cfg(test)]
+mod ticks;
