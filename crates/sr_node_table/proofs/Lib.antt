@@ -1,0 +1,3 @@
+pub mod WatchLemmas
+pub mod FullLemmas
+pub mod LawLemmas

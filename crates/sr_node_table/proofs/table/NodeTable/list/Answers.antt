@@ -1,0 +1,7 @@
+use Rattle.sr_node_table.specs.Stating.{live_mac}
+use Rattle.sr_node_table.proofs.WatchLemmas.{gathered}
+use Rattle.sr_node_table.proofs.table.NodeTable.list.Goals as goal
+
+pub loop-mac-preserved : goal.loop-mac-preserved
+loop-mac-preserved c =
+    gathered (live_mac c.args.now) _ _ _ (c.in-Some.mac, c.in-Some.entry.now) _ _ c.in-Some.ensures.steps c.in_ok-push_live.ensures c.loop-mac.invariant

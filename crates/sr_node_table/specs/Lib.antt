@@ -1,0 +1,7 @@
+pub mod Limits
+pub mod Nodes
+pub mod Watching
+pub mod Stating
+pub mod Late
+pub mod Shown
+pub mod Hearings

@@ -1,0 +1,62 @@
+//! The ports that a prune found late.
+ghost use Rattle.std.specs.Prelude.{◌≡◌, ◌+◌, ◌<◌, ◌≤◌, ◌++◌, ◌∷◌, [], None, length, IfOk};
+ghost use Rattle.std.specs.Map.{lookup};
+ghost use Rattle.sr_frame.specs.Addresses.{mac_eq};
+
+use indexmap::IndexMap;
+use sr_frame::{Mac, NoMemory, Port};
+use sr_slots::Keys;
+use std::alloc::Global;
+use std::marker::Model;
+
+/// Ports by address, in the order in which they were found, with room for more.
+#[derive(Drop)]
+pub struct LatePorts {
+    map: IndexMap<Mac, Port, Keys>,
+}
+
+impl Model for LatePorts {
+    ghost use Rattle.indexmap.specs.IndexMap.{spare};
+    ghost use Rattle.sr_node_table.specs.Late.{Late};
+
+    ghost Value = { Late };
+
+    ghost view = { λ l. record { ports = l.map.entries; room = spare l.map } };
+}
+
+impl LatePorts {
+    /// No port, and room for so many.
+    pub fn with_room(alloc: Global, keys: Keys, room: usize) -> Result<LatePorts, NoMemory>
+        ensures ports { IfOk result (λ late. late.ports ≡ []) }
+        ensures room { IfOk result (λ late. room ≤ late.room) }
+    {
+        Ok(LatePorts {
+            map: IndexMap::with_capacity_and_hasher(alloc, room, keys)?,
+        })
+    }
+
+    /// The port of a node that was found late.
+    pub fn port(&self, mac: Mac) -> Option<Port>
+        ensures { result ≡ lookup (mac_eq mac) self.now.ports }
+    {
+        self.map.get(&mac).copied()
+    }
+
+    /// Adds the port of a node that has none, where there is room.
+    pub fn add(&mut self, mac: Mac, port: Port)
+        requires absent { lookup (mac_eq mac) self.old.ports ≡ None }
+        requires room { 0 < self.old.room }
+        ensures ports { self.new.ports ≡ self.old.ports ++ (mac, port) ∷ [] }
+        ensures room { length self.old.ports + self.old.room ≤ length self.new.ports + self.new.room }
+    {
+        let _old = self.map.insert(mac, port);
+    }
+
+    /// Takes all out, and keeps their room.
+    pub fn clear(&mut self)
+        ensures ports { self.new.ports ≡ [] }
+        ensures room { length self.old.ports + self.old.room ≤ self.new.room }
+    {
+        self.map.clear();
+    }
+}

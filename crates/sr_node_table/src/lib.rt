@@ -1,0 +1,20 @@
+//! The nodes that a node hears, what it says of them, and the alarms that they raise.
+#![tactic(auto)]
+
+mod alarm;
+mod late;
+mod laws;
+mod node;
+mod status;
+mod table;
+mod watching;
+
+pub use alarm::Alarm;
+pub use laws::status_is_of_hearings;
+pub use node::{Announced, AtPort, Node, Told};
+pub use status::{GREATEST_AGE, Status};
+pub use table::{MAX_ALARMS, MAX_NODES, NODE_FORGET_TIME, NodeTable};
+pub use watching::{HEARD_LATELY, MAX_BEHIND};
+
+#[cfg(test)]
+mod tests;

@@ -1,0 +1,313 @@
+//! The table.
+ghost use Rattle.std.specs.Prelude.{◌≡◌, ◌↔◌, ◌+◌, ◌≤◌, ◌⊎◌, [], ◌++◌, ◌∷◌, true, false, Some, None, length, is_some, IsOk, OnOk, OnErr, IfOk, IfSome, IfNone, unwrap_or};
+ghost use Rattle.std.specs.Option.{option_copied};
+ghost use Rattle.std.specs.List.{cons_option};
+ghost use Rattle.std.specs.Map.{lookup};
+ghost use Rattle.sr_frame.specs.Addresses.{mac_eq};
+ghost use Rattle.sr_slots.specs.Places.{KeepsHeld, KeepsHeldBut, KeepsAllHeld};
+ghost use Rattle.sr_node_table.specs.Limits.{most_nodes};
+ghost use Rattle.sr_node_table.specs.Nodes.{hearing_of, entry_after, learnt_again, live_others, downs_of, raised, is_held, answer_to, after_hearing, announcement, empty_table};
+ghost use Rattle.sr_node_table.specs.Watching.{after_prune};
+ghost use Rattle.sr_node_table.specs.Stating.{live_entry, has_at, status_at, listed_at, live_mac};
+
+use crate::alarm::Alarm;
+use crate::late::LatePorts;
+use crate::node::{Announced, Node, Told, begun, hear, is_live};
+use crate::status::{Status, status_of};
+use crate::watching::{raise_downs, watch};
+use circular_buffer::HeapCircularBuffer;
+use sr_aged_slots::{Aged, AgedSlots};
+use sr_frame::{Learnt, Mac, NoMemory, Port};
+use sr_sequence::Seq;
+use sr_slots::Keys;
+use sr_supervision::Supervision;
+use std::alloc::{AllocError, Global};
+use std::marker::Model;
+use std::mem;
+
+/// How long a silent node is remembered, in milliseconds (NodeForgetTime, IEC 62439-3).
+pub const NODE_FORGET_TIME: u64 = 60000;
+
+/// How many nodes are kept (choice of this project).
+pub const MAX_NODES: usize = 1024;
+
+/// How many alarms are kept: the next one overwrites the oldest (choice of this project).
+pub const MAX_ALARMS: usize = 64;
+
+/// The nodes that were heard, in the order of first hearing, and the latest alarms. Times are in milliseconds. A node that was
+/// silent for `NODE_FORGET_TIME` is forgotten: it counts as absent, and stands in the table until it is heard again, until
+/// `prune`, or until a new node meets a full table.
+#[derive(Drop)]
+pub struct NodeTable {
+    nodes: AgedSlots<Node, NODE_FORGET_TIME, MAX_NODES>,
+    alarms: HeapCircularBuffer<Alarm>,
+    // What the previous prune found late.
+    late: LatePorts,
+    // Empty: room for what the next one finds.
+    spare: LatePorts,
+    alloc: Global,
+    keys: Keys,
+}
+
+impl Model for NodeTable {
+    ghost use Rattle.sr_node_table.specs.Nodes.{Nodes};
+
+    ghost Value = { Nodes };
+
+    ghost use Rattle.sr_node_table.specs.Shown.{shown, IsReady};
+
+    ghost view = { shown };
+
+    ghost invariant = { IsReady };
+}
+
+// Adds the address of a node that is not forgotten.
+fn push_live(macs: &mut Vec<Mac>, mac: Mac, entry: &Aged<Node>, now: u64) -> Result<(), NoMemory>
+    ensures { OnOk result (macs.new.items ≡ macs.old.items ++ cons_option (live_mac now (mac, entry.now)) []) }
+{
+    if is_live(entry, now) {
+        if let Err(e) = macs.push(mac) {
+            return Err(AllocError::from(e).into());
+        }
+    }
+    Ok(())
+}
+
+impl NodeTable {
+    /// A table of no node under fixed keys. NoMemory: there is none for the alarms, or for what a prune finds.
+    pub fn new(alloc: Global) -> Result<NodeTable, NoMemory>
+        ensures table { IfOk result (λ t. t.table ≡ empty_table) }
+        ensures held { IfOk result (λ t. t.held ≡ []) }
+    {
+        NodeTable::with_keys(alloc, Keys::FIXED)
+    }
+
+    /// A table of no node whose places depend on these keys. NoMemory: as `new`.
+    pub fn with_keys(alloc: Global, keys: Keys) -> Result<NodeTable, NoMemory>
+        ensures table { IfOk result (λ t. t.table ≡ empty_table) }
+        ensures held { IfOk result (λ t. t.held ≡ []) }
+    {
+        Ok(NodeTable {
+            nodes: AgedSlots::with_keys(alloc, keys),
+            alarms: HeapCircularBuffer::with_capacity(alloc, MAX_ALARMS)?,
+            late: LatePorts::with_room(alloc, keys, MAX_NODES)?,
+            spare: LatePorts::with_room(alloc, keys, MAX_NODES)?,
+            alloc,
+            keys,
+        })
+    }
+
+    // What the table has of a node that is not forgotten.
+    fn live(&self, mac: Mac, now: u64) -> Option<&Aged<Node>>
+        ensures { option_copied result ≡ live_entry self.now.table mac now }
+    {
+        let entry = self.nodes.get(mac)?;
+        if is_live(entry, now) {
+            Some(entry)
+        } else {
+            None
+        }
+    }
+
+    /// Whether a node was heard less than 60000 ms ago.
+    pub fn has(&self, mac: Mac, now: u64) -> bool
+        ensures { result ≡ has_at self.now.table mac now }
+    {
+        self.live(mac, now).is_some()
+    }
+
+    /// What is told of a node that was heard less than 60000 ms ago.
+    pub fn status(&self, mac: Mac, now: u64) -> Option<Status>
+        ensures { result ≡ status_at self.now.table mac now }
+    {
+        let entry = self.live(mac, now)?;
+        Some(status_of(mac, &entry.value, now))
+    }
+
+    /// The nodes that were heard less than 60000 ms ago, in the order of first hearing.
+    pub fn list(&self, now: u64) -> Result<Vec<Mac>, NoMemory>
+        ensures { IfOk result (λ macs. macs.items ≡ listed_at self.now.table now) }
+    {
+        let mut macs = Vec::new(self.alloc);
+        for (mac, entry) in self.nodes.iter() {
+            push_live(&mut macs, mac, entry, now)?;
+        }
+        Ok(macs)
+    }
+
+    /// The alarms that are kept, the oldest first.
+    pub fn alarms(&self) -> Result<Vec<Alarm>, NoMemory>
+        ensures { IfOk result (λ alarms. alarms.items ≡ self.now.table.alarms) }
+    {
+        Ok(self.alarms.to_vec(self.alloc)?)
+    }
+
+    /// Holds the place of an address, or the places of two, so that their next hearing takes no memory. Nothing else sees them.
+    /// NoMemory: memory ran out, and each address has a held place as before.
+    pub fn reserve(&mut self, mac: Mac, other: Option<Mac>) -> Result<(), NoMemory>
+        ensures table { self.new.table ≡ self.old.table }
+        ensures held { OnOk result (is_held self.new mac ≡ true) }
+        ensures both { OnOk result (IfSome other (λ second. is_held self.new second ≡ true)) }
+        ensures others { OnOk result (KeepsHeldBut self.old.held self.new.held mac (unwrap_or other mac)) }
+        ensures err { OnErr result (KeepsAllHeld self.old.held self.new.held) }
+    {
+        match other {
+            Some(other) => self.nodes.hold_both(mac, other),
+            None => self.nodes.hold(mac),
+        }
+    }
+
+    /// Gives up all held places.
+    pub fn release(&mut self)
+        ensures table { self.new.table ≡ self.old.table }
+        ensures held { self.new.held ≡ [] }
+    {
+        self.nodes.release();
+    }
+
+    /// Hears a numbered frame of a node at a ring port, A or B. Full: 1024 other nodes are live, and nothing is kept.
+    /// NoMemory: memory ran out for a new node. Either way nothing changes.
+    pub fn heard(&mut self, mac: Mac, port: Port, seq: Seq, now: u64) -> Result<Learnt, NoMemory>
+        requires ring { (port ≡ Port.A) ⊎ (port ≡ Port.B) }
+        ensures answer { IfOk result (λ learnt. learnt ≡ answer_to self.old.table (hearing_of mac port (Told.Numbered seq) now)) }
+        ensures after { OnOk result (self.new.table ≡ after_hearing self.old.table (hearing_of mac port (Told.Numbered seq) now)) }
+
+        // Full exactly where 1024 others are live. An address that has an entry, or a held place, takes no memory.
+        ensures full { (result ≡ Ok Learnt.Full) ↔ (length (live_others mac now self.old.table.entries) ≡ most_nodes) }
+        ensures known { is_some (lookup (mac_eq mac) self.old.table.entries) ≡ true → IsOk result }
+        ensures reserved { is_held self.old mac ≡ true → IsOk result }
+
+        // A held place is used up, and no other.
+        ensures held { OnOk result (KeepsHeld self.old.held self.new.held mac) }
+        ensures used { IfOk result (λ learnt. ¬ (learnt ≡ Learnt.Full) → is_held self.new mac ≡ false) }
+        ensures err { OnErr result (self.new ≡ self.old) }
+    {
+        self.hear(mac, port, Told::Numbered(seq), now)
+    }
+
+    /// Takes up what a supervision frame that came in at a ring port, A or B, says of a node.
+    /// Full and NoMemory: as `heard`.
+    pub fn announce(
+        &mut self,
+        supervision: &Supervision,
+        port: Port,
+        now: u64,
+    ) -> Result<Learnt, NoMemory>
+        requires ring { (port ≡ Port.A) ⊎ (port ≡ Port.B) }
+        ensures answer { IfOk result (λ learnt. learnt ≡ answer_to self.old.table (announcement supervision.now port now)) }
+        ensures after { OnOk result (self.new.table ≡ after_hearing self.old.table (announcement supervision.now port now)) }
+
+        // Full exactly where 1024 others are live. An address that has an entry, or a held place, takes no memory.
+        ensures full { (result ≡ Ok Learnt.Full) ↔ (length (live_others supervision.now.mac now self.old.table.entries) ≡ most_nodes) }
+        ensures known { is_some (lookup (mac_eq supervision.now.mac) self.old.table.entries) ≡ true → IsOk result }
+        ensures reserved { is_held self.old supervision.now.mac ≡ true → IsOk result }
+
+        // A held place is used up, and no other.
+        ensures held { OnOk result (KeepsHeld self.old.held self.new.held supervision.now.mac) }
+        ensures used { IfOk result (λ learnt. ¬ (learnt ≡ Learnt.Full) → is_held self.new supervision.now.mac ≡ false) }
+        ensures err { OnErr result (self.new ≡ self.old) }
+    {
+        let announced = Announced {
+            life: supervision.life,
+            redbox: supervision.redbox,
+        };
+        self.hear(supervision.mac, port, Told::Announces(announced), now)
+    }
+
+    // A hearing of a node at a ring port.
+    fn hear(&mut self, mac: Mac, port: Port, told: Told, now: u64) -> Result<Learnt, NoMemory>
+        ensures answer { IfOk result (λ learnt. learnt ≡ answer_to self.old.table (hearing_of mac port told now)) }
+        ensures after { OnOk result (self.new.table ≡ after_hearing self.old.table (hearing_of mac port told now)) }
+        ensures full { (result ≡ Ok Learnt.Full) ↔ (length (live_others mac now self.old.table.entries) ≡ most_nodes) }
+        ensures known { is_some (lookup (mac_eq mac) self.old.table.entries) ≡ true → IsOk result }
+        ensures reserved { is_held self.old mac ≡ true → IsOk result }
+        ensures held { OnOk result (KeepsHeld self.old.held self.new.held mac) }
+        ensures used { IfOk result (λ learnt. ¬ (learnt ≡ Learnt.Full) → is_held self.new mac ≡ false) }
+        ensures err { OnErr result (self.new ≡ self.old) }
+    {
+        match self.hear_again(mac, port, told, now) {
+            Some(answer) => Ok(answer),
+            None => self.begin(mac, port, told, now),
+        }
+    }
+
+    // A hearing of a node that has an entry, forgotten or not.
+    fn hear_again(&mut self, mac: Mac, port: Port, told: Told, now: u64) -> Option<Learnt>
+        ensures few { length self.old.table.entries ≤ most_nodes }
+        ensures found { is_some result ≡ is_some (lookup (mac_eq mac) self.old.table.entries) }
+        ensures answer { IfSome result (λ learnt. learnt ≡ answer_to self.old.table (hearing_of mac port told now)) }
+        ensures after { IfSome result (λ learnt. self.new.table ≡ after_hearing self.old.table (hearing_of mac port told now)) }
+        ensures others { IfSome result (λ learnt. KeepsHeld self.old.held self.new.held mac) }
+        ensures used { IfSome result (λ learnt. is_held self.new mac ≡ false) }
+        ensures none { IfNone result (self.new ≡ self.old) }
+    {
+        let answer = self.nodes.update_at(
+            None,
+            mac,
+            |entry: &mut Aged<Node>| -> Learnt
+                ensures after { entry.new ≡ entry_after entry.old port told now }
+                ensures answer { result ≡ learnt_again now entry.old }
+            { hear(entry, port, told, now) },
+        )?;
+        Some(answer)
+    }
+
+    // The first hearing of a node that has no entry.
+    fn begin(&mut self, mac: Mac, port: Port, told: Told, now: u64) -> Result<Learnt, NoMemory>
+        requires absent { lookup (mac_eq mac) self.old.table.entries ≡ None }
+        ensures answer { IfOk result (λ learnt. learnt ≡ answer_to self.old.table (hearing_of mac port told now)) }
+        ensures after { OnOk result (self.new.table ≡ after_hearing self.old.table (hearing_of mac port told now)) }
+        ensures full { answer_to self.old.table (hearing_of mac port told now) ≡ Learnt.Full → result ≡ Ok Learnt.Full }
+        ensures reserved { is_held self.old mac ≡ true → IsOk result }
+        ensures held { OnOk result (KeepsHeld self.old.held self.new.held mac) }
+        ensures used { IfOk result (λ learnt. ¬ (learnt ≡ Learnt.Full) → is_held self.new mac ≡ false) }
+        ensures err { OnErr result (self.new ≡ self.old) }
+    {
+        if self.nodes.is_full_now(now) {
+            return Ok(Learnt::Full);
+        }
+        self.nodes.hold(mac)?;
+        self.raise_downs(now);
+        self.nodes.append(mac, begun(port, told, now), now)?;
+        Ok(Learnt::Learned)
+    }
+
+    // Raises the alarms of the nodes that a full table is about to let go.
+    fn raise_downs(&mut self, now: u64)
+        ensures table { self.new.table ≡ record self.old.table { alarms = raised self.old.table.alarms (downs_of now self.old.table.entries) } }
+        ensures held { self.new.held ≡ self.old.held }
+    {
+        let _room = self.alarms.capacity();
+        if self.nodes.len() >= MAX_NODES {
+            raise_downs(&self.nodes, &mut self.alarms, now);
+        }
+    }
+
+    /// Takes the nodes out that were silent for 60000 ms or more, and answers how many. Raises the alarms, entry by entry, and
+    /// remembers which ports are late.
+    pub fn prune(&mut self, now: u64) -> usize
+        ensures table { self.new.table ≡ after_prune self.old.table now }
+        ensures held { self.new.held ≡ self.old.held }
+        ensures count { result + length self.new.table.entries ≡ length self.old.table.entries }
+    {
+        self.watch(now);
+        self.nodes.age(now)
+    }
+
+    // Raises the alarms of a prune, and remembers which ports are late.
+    fn watch(&mut self, now: u64)
+        ensures table { self.new.table ≡ record (after_prune self.old.table now) { entries = self.old.table.entries } }
+        ensures held { self.new.held ≡ self.old.held }
+    {
+        let _nodes = self.nodes.len();
+        watch(
+            &self.nodes,
+            &self.late,
+            &mut self.spare,
+            &mut self.alarms,
+            now,
+        );
+        mem::swap(&mut self.late, &mut self.spare);
+        self.spare.clear();
+    }
+}

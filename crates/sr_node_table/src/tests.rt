@@ -1,0 +1,378 @@
+use super::*;
+use sr_frame::{Learnt, Mac, Port};
+use sr_sequence::Seq;
+use sr_supervision::{Life, Supervision};
+use std::alloc::Global;
+
+#[derive(Clone, Copy)]
+enum At {
+    A,
+    B,
+}
+
+// What is done to a table, or asked of it, and what it has to answer.
+#[derive(Clone, Copy)]
+enum Step {
+    // Node, port, number, time.
+    Heard(u16, At, u16, u64, Learnt),
+    // Node, its RedBox, port, time.
+    Announce(u16, Option<u16>, At, u64, Learnt),
+    // So many nodes from this one on, each heard at both ports at this time.
+    Fill(u16, u16, u64),
+    // So many nodes from this one on, each heard at A alone.
+    FillA(u16, u16, u64),
+    Prune(u64, usize),
+    Has(u16, u64, bool),
+    // Node, time, ages and numbers.
+    Tells(u16, u64, Option<(u32, u32, u16, u16)>),
+    RedBox(u16, u64, Option<u16>),
+    Lists(u64, &'static [u16]),
+    Counts(u64, usize),
+    // How many alarms are kept, the oldest and the latest of them.
+    Alarms(usize, Option<Alarm>, Option<Alarm>),
+    Reserve(u16, Option<u16>),
+    Release,
+}
+
+const fn mac(number: u16) -> Mac {
+    Mac([2, 0, 0, 0, (number / 256) as u8, (number % 256) as u8])
+}
+
+// A call is made once more where memory ran out.
+fn heard(table: &mut NodeTable, node: u16, at: At, seq: u16, now: u64) -> Option<Learnt> {
+    for _ in 0..2u8 {
+        let answer = match at {
+            At::A => table.heard(mac(node), Port::A, Seq(seq), now),
+            At::B => table.heard(mac(node), Port::B, Seq(seq), now),
+        };
+        if let Ok(learnt) = answer {
+            return Some(learnt);
+        }
+    }
+    None
+}
+
+fn announce(
+    table: &mut NodeTable,
+    node: u16,
+    redbox: Option<u16>,
+    at: At,
+    now: u64,
+) -> Option<Learnt> {
+    let supervision = Supervision {
+        seq: Seq(9),
+        life: Life::PrpDiscard,
+        mac: mac(node),
+        redbox: redbox.map(|number| mac(number)),
+    };
+    for _ in 0..2u8 {
+        let answer = match at {
+            At::A => table.announce(&supervision, Port::A, now),
+            At::B => table.announce(&supervision, Port::B, now),
+        };
+        if let Ok(learnt) = answer {
+            return Some(learnt);
+        }
+    }
+    None
+}
+
+fn fills(table: &mut NodeTable, first: u16, count: u16, now: u64, both: bool) -> bool {
+    for number in 0..count {
+        let node = first.wrapping_add(number);
+        if heard(table, node, At::A, 1, now) != Some(Learnt::Learned) {
+            return false;
+        }
+        if both && heard(table, node, At::B, 1, now) != Some(Learnt::Known) {
+            return false;
+        }
+    }
+    true
+}
+
+fn reserves(table: &mut NodeTable, node: u16, other: Option<u16>) -> bool {
+    let other = other.map(|number| mac(number));
+    table.reserve(mac(node), other).is_ok() || table.reserve(mac(node), other).is_ok()
+}
+
+fn tells(table: &NodeTable, node: u16, now: u64, want: Option<(u32, u32, u16, u16)>) -> bool {
+    match (table.status(mac(node), now), want) {
+        (Some(is), Some(want)) => {
+            is.addr == mac(node)
+                && (is.if1_age, is.if2_age, is.if1_seq, is.if2_seq) == want
+                && (is.if1_ifindex, is.if2_ifindex) == (1, 2)
+        }
+        (is, want) => is.is_none() && want.is_none(),
+    }
+}
+
+fn redbox_is(table: &NodeTable, node: u16, now: u64, want: Option<u16>) -> bool {
+    match table.status(mac(node), now) {
+        Some(is) => is.redbox == want.map(|number| mac(number)),
+        None => false,
+    }
+}
+
+fn counts(table: &NodeTable, now: u64, want: usize) -> bool {
+    for _ in 0..2u8 {
+        if let Ok(macs) = table.list(now) {
+            return macs.len() == want;
+        }
+    }
+    false
+}
+
+fn lists(table: &NodeTable, now: u64, want: &[u16]) -> bool {
+    for _ in 0..4u8 {
+        if let Ok(macs) = table.list(now) {
+            let numbers = macs
+                .iter()
+                .map(|mac| mac.0[4] as u16 * 256 + mac.0[5] as u16);
+            return numbers.eq(want.iter().copied());
+        }
+    }
+    false
+}
+
+fn alarms_are(table: &NodeTable, count: usize, first: Option<Alarm>, last: Option<Alarm>) -> bool {
+    for _ in 0..2u8 {
+        if let Ok(alarms) = table.alarms() {
+            return alarms.len() == count
+                && alarms.first().copied() == first
+                && alarms.last().copied() == last;
+        }
+    }
+    false
+}
+
+fn holds(table: &mut NodeTable, step: Step) -> bool {
+    match step {
+        Step::Heard(node, at, seq, now, want) => heard(table, node, at, seq, now) == Some(want),
+        Step::Announce(node, redbox, at, now, want) => {
+            announce(table, node, redbox, at, now) == Some(want)
+        }
+        Step::Fill(first, count, now) => fills(table, first, count, now, true),
+        Step::FillA(first, count, now) => fills(table, first, count, now, false),
+        Step::Prune(now, want) => table.prune(now) == want,
+        Step::Has(node, now, want) => table.has(mac(node), now) == want,
+        Step::Tells(node, now, want) => tells(table, node, now, want),
+        Step::RedBox(node, now, want) => redbox_is(table, node, now, want),
+        Step::Lists(now, want) => lists(table, now, want),
+        Step::Counts(now, want) => counts(table, now, want),
+        Step::Alarms(count, first, last) => alarms_are(table, count, first, last),
+        Step::Reserve(node, other) => reserves(table, node, other),
+        Step::Release => {
+            table.release();
+            true
+        }
+    }
+}
+
+fn made(alloc: Global) -> Option<NodeTable> {
+    for _ in 0..2u8 {
+        if let Ok(table) = NodeTable::new(alloc) {
+            return Some(table);
+        }
+    }
+    None
+}
+
+// The place of the first step that differs; the number of steps where no table could be made.
+fn differs(alloc: Global, steps: &[Step]) -> Option<usize> {
+    let Some(mut table) = made(alloc) else {
+        return Some(steps.len());
+    };
+    for (place, step) in steps.iter().enumerate() {
+        if !holds(&mut table, *step) {
+            return Some(place);
+        }
+    }
+    None
+}
+
+const fn ring_error(node: u16, port: Port, at: u64) -> Option<Alarm> {
+    Some(Alarm::RingError {
+        mac: mac(node),
+        port,
+        at,
+    })
+}
+
+const fn node_down(node: u16, at: u64) -> Option<Alarm> {
+    Some(Alarm::NodeDown { mac: mac(node), at })
+}
+
+const NEVER: u32 = 2147483647;
+
+// A port falls behind, is reported once, and the node goes down.
+#[test]
+fn a_port_falls_behind(rt: HostRuntime) {
+    let steps = [
+        Step::Heard(2, At::A, 5, 0, Learnt::Learned),
+        Step::Heard(2, At::B, 5, 0, Learnt::Known),
+        Step::Heard(2, At::B, 6, 3000, Learnt::Known),
+        Step::Prune(3000, 0),
+        Step::Alarms(0, None, None),
+        Step::Heard(2, At::B, 7, 3001, Learnt::Known),
+        Step::Prune(3001, 0),
+        Step::Tells(2, 3001, Some((3001, 0, 5, 7))),
+        Step::Alarms(
+            1,
+            ring_error(2, Port::A, 3001),
+            ring_error(2, Port::A, 3001),
+        ),
+        Step::Prune(3001, 0),
+        Step::Alarms(
+            1,
+            ring_error(2, Port::A, 3001),
+            ring_error(2, Port::A, 3001),
+        ),
+        Step::Prune(63000, 0),
+        Step::Prune(63001, 1),
+        Step::Tells(2, 63001, None),
+        Step::Alarms(2, ring_error(2, Port::A, 3001), node_down(2, 63001)),
+    ];
+    assert_eq!(rt; differs(rt.alloc(), &steps), None);
+}
+
+// The edges of the times, each on both sides.
+#[test]
+fn edges(rt: HostRuntime) {
+    let behind_2999 = [
+        Step::Heard(2, At::A, 5, 0, Learnt::Learned),
+        Step::Heard(2, At::B, 5, 2999, Learnt::Known),
+        Step::Prune(2999, 0),
+        Step::Alarms(0, None, None),
+    ];
+    let never_heard = [
+        Step::Heard(2, At::A, 5, 100, Learnt::Learned),
+        Step::Tells(2, 100, Some((0, NEVER, 5, 0))),
+        Step::Prune(4599, 0),
+        Step::Alarms(
+            1,
+            ring_error(2, Port::B, 4599),
+            ring_error(2, Port::B, 4599),
+        ),
+    ];
+    let not_heard_lately = [
+        Step::Heard(2, At::A, 5, 100, Learnt::Learned),
+        Step::Prune(4600, 0),
+        Step::Alarms(0, None, None),
+        Step::Has(2, 60099, true),
+        Step::Has(2, 60100, false),
+        Step::Prune(60099, 0),
+        Step::Prune(60100, 1),
+    ];
+    let old = [
+        Step::Heard(2, At::B, 65535, 100, Learnt::Learned),
+        Step::Has(2, 50, true),
+        Step::Tells(2, 50, Some((NEVER, 0, 0, 65535))),
+        Step::Has(3, 100, false),
+        Step::Lists(100, &[2]),
+        Step::Lists(60100, &[]),
+    ];
+    assert_eq!(rt; differs(rt.alloc(), &behind_2999), None);
+    assert_eq!(rt; differs(rt.alloc(), &never_heard), None);
+    assert_eq!(rt; differs(rt.alloc(), &not_heard_lately), None);
+    assert_eq!(rt; differs(rt.alloc(), &old), None);
+}
+
+// An announcement replaces the one before it whole, and has no number. A new life forgets all, and keeps its place.
+#[test]
+fn lives(rt: HostRuntime) {
+    let steps = [
+        Step::Announce(3, Some(2), At::A, 0, Learnt::Learned),
+        Step::Tells(3, 0, Some((0, NEVER, 0, 0))),
+        Step::RedBox(3, 0, Some(2)),
+        Step::Heard(4, At::B, 7, 0, Learnt::Learned),
+        Step::Announce(3, None, At::B, 10, Learnt::Known),
+        Step::RedBox(3, 10, None),
+        Step::Announce(3, Some(4), At::B, 20, Learnt::Known),
+        Step::Heard(3, At::A, 8, 30, Learnt::Known),
+        Step::RedBox(3, 30, Some(4)),
+        Step::Heard(4, At::A, 9, 59999, Learnt::Known),
+        Step::Tells(4, 59999, Some((0, 59999, 9, 7))),
+        Step::Heard(3, At::B, 6, 60030, Learnt::Learned),
+        Step::Tells(3, 60030, Some((NEVER, 0, 0, 6))),
+        Step::RedBox(3, 60030, None),
+        Step::Lists(60030, &[3, 4]),
+        Step::Alarms(0, None, None),
+        Step::Heard(4, At::A, 1, 120029, Learnt::Learned),
+        Step::Prune(120030, 1),
+        Step::Heard(3, At::A, 1, 120030, Learnt::Learned),
+        Step::Lists(120030, &[4, 3]),
+    ];
+    assert_eq!(rt; differs(rt.alloc(), &steps), None);
+}
+
+// The 65th alarm overwrites the oldest.
+#[test]
+fn alarms_are_few(rt: HostRuntime) {
+    let steps = [
+        Step::FillA(1, 64, 0),
+        Step::Prune(0, 0),
+        Step::Alarms(64, ring_error(1, Port::B, 0), ring_error(64, Port::B, 0)),
+        Step::FillA(65, 1, 1),
+        Step::Prune(1, 0),
+        Step::Alarms(64, ring_error(2, Port::B, 0), ring_error(65, Port::B, 1)),
+    ];
+    assert_eq!(rt; differs(rt.alloc(), &steps), None);
+}
+
+// A full table refuses while all are live, and lets the forgotten go in its order.
+#[test]
+fn a_full_table(rt: HostRuntime) {
+    let steps = [
+        Step::Fill(1, 1024, 0),
+        Step::Heard(2000, At::A, 1, 400, Learnt::Full),
+        Step::Announce(2000, None, At::A, 59999, Learnt::Full),
+        Step::Has(2000, 59999, false),
+        Step::Counts(59999, 1024),
+        Step::Alarms(0, None, None),
+        Step::Heard(2000, At::A, 2, 60000, Learnt::Learned),
+        Step::Tells(2000, 60000, Some((0, NEVER, 2, 0))),
+        Step::Lists(60000, &[2000]),
+        Step::Alarms(64, node_down(961, 60000), node_down(1024, 60000)),
+    ];
+    assert_eq!(rt; differs(rt.alloc(), &steps), None);
+}
+
+// What a prune found late is not reported again, though the entry went and came back in between. A hearing of a node that
+// stands in a full table, forgotten, removes nothing.
+#[test]
+fn lateness_outlives_its_entry(rt: HostRuntime) {
+    let steps = [
+        Step::FillA(1, 2, 0),
+        Step::Prune(0, 0),
+        Step::Alarms(2, ring_error(1, Port::B, 0), ring_error(2, Port::B, 0)),
+        Step::Fill(3, 1022, 1),
+        Step::Heard(2000, At::A, 1, 60000, Learnt::Learned),
+        Step::Alarms(4, ring_error(1, Port::B, 0), node_down(2, 60000)),
+        Step::Heard(2000, At::B, 1, 60000, Learnt::Known),
+        Step::Heard(1, At::A, 1, 60000, Learnt::Learned),
+        Step::Prune(60000, 0),
+        Step::Alarms(4, ring_error(1, Port::B, 0), node_down(2, 60000)),
+        Step::Heard(3, At::A, 2, 60001, Learnt::Learned),
+        Step::Counts(60001, 3),
+        Step::Alarms(4, ring_error(1, Port::B, 0), node_down(2, 60000)),
+    ];
+    assert_eq!(rt; differs(rt.alloc(), &steps), None);
+}
+
+// Held places show nothing; one that is used goes last.
+#[test]
+fn places(rt: HostRuntime) {
+    let steps = [
+        Step::Reserve(5, Some(6)),
+        Step::Reserve(5, None),
+        Step::Has(5, 0, false),
+        Step::Lists(0, &[]),
+        Step::Prune(0, 0),
+        Step::Heard(7, At::A, 1, 0, Learnt::Learned),
+        Step::Heard(6, At::A, 1, 0, Learnt::Learned),
+        Step::Release,
+        Step::Heard(5, At::A, 1, 0, Learnt::Learned),
+        Step::Lists(0, &[7, 6, 5]),
+    ];
+    assert_eq!(rt; differs(rt.alloc(), &steps), None);
+}

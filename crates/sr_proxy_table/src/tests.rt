@@ -1,0 +1,118 @@
+use super::*;
+use sr_frame::{Learnt, Mac};
+use std::alloc::Global;
+
+// What is done to a table, or asked of it, and what it has to answer.
+#[derive(Clone, Copy)]
+enum Step {
+    Learn(u16, u64, Learnt),
+    // So many addresses from this one on.
+    Fill(u16, u16, u64),
+    Has(u16, u64, bool),
+    Prune(u64, usize),
+    Lists(u64, &'static [u16]),
+    Counts(u64, usize),
+}
+
+fn mac(number: u16) -> Mac {
+    let [high, low] = number.to_be_bytes();
+    Mac([2, 0, 0, 0, high, low])
+}
+
+// A call is made once more where memory ran out.
+fn learn(table: &mut ProxyTable, number: u16, now: u64) -> Option<Learnt> {
+    for _ in 0..2u8 {
+        if let Ok(learnt) = table.learn(mac(number), now) {
+            return Some(learnt);
+        }
+    }
+    None
+}
+
+fn fills(table: &mut ProxyTable, first: u16, count: u16, now: u64) -> bool {
+    for number in 0..count {
+        if learn(table, first.wrapping_add(number), now) != Some(Learnt::Learned) {
+            return false;
+        }
+    }
+    true
+}
+
+fn counts(table: &ProxyTable, now: u64, want: usize) -> bool {
+    for _ in 0..2u8 {
+        if let Ok(macs) = table.list(now) {
+            return macs.len() == want;
+        }
+    }
+    false
+}
+
+fn lists(table: &ProxyTable, now: u64, want: &[u16]) -> bool {
+    for _ in 0..4u8 {
+        if let Ok(macs) = table.list(now) {
+            let numbers = macs
+                .iter()
+                .map(|mac| mac.0[4] as u16 * 256 + mac.0[5] as u16);
+            return numbers.eq(want.iter().copied());
+        }
+    }
+    false
+}
+
+fn holds(table: &mut ProxyTable, step: Step) -> bool {
+    match step {
+        Step::Learn(number, now, want) => learn(table, number, now) == Some(want),
+        Step::Fill(first, count, now) => fills(table, first, count, now),
+        Step::Has(number, now, want) => table.has(mac(number), now) == want,
+        Step::Prune(now, want) => table.prune(now) == want,
+        Step::Lists(now, want) => lists(table, now, want),
+        Step::Counts(now, want) => counts(table, now, want),
+    }
+}
+
+// The place of the first step that differs.
+fn differs(alloc: Global, steps: &[Step]) -> Option<usize> {
+    let mut table = ProxyTable::new(alloc);
+    for (place, step) in steps.iter().enumerate() {
+        if !holds(&mut table, *step) {
+            return Some(place);
+        }
+    }
+    None
+}
+
+#[test]
+fn addresses_are_learned_renewed_and_forgotten(rt: HostRuntime) {
+    let steps = [
+        Step::Has(9, 0, false),
+        Step::Learn(9, 0, Learnt::Learned),
+        Step::Prune(59999, 0),
+        Step::Has(9, 59999, true),
+        Step::Has(9, 60000, false),
+        Step::Prune(60000, 1),
+        Step::Learn(9, 100, Learnt::Learned),
+        Step::Learn(8, 100, Learnt::Learned),
+        Step::Learn(9, 60099, Learnt::Known),
+        Step::Learn(9, 50, Learnt::Known),
+        Step::Has(9, 120098, true),
+        Step::Lists(60099, &[9, 8]),
+        Step::Lists(60100, &[9]),
+        Step::Learn(8, 60100, Learnt::Learned),
+        Step::Lists(60100, &[9, 8]),
+    ];
+    assert_eq!(rt; differs(rt.alloc(), &steps), None);
+}
+
+#[test]
+fn a_full_table(rt: HostRuntime) {
+    let steps = [
+        Step::Fill(1, 255, 0),
+        Step::Learn(256, 1, Learnt::Learned),
+        Step::Learn(257, 59999, Learnt::Full),
+        Step::Has(257, 59999, false),
+        Step::Counts(59999, 256),
+        Step::Learn(257, 60000, Learnt::Learned),
+        Step::Lists(60000, &[256, 257]),
+    ];
+    assert_eq!(rt; differs(rt.alloc(), &steps), None);
+}
