@@ -1,9 +1,11 @@
 //! The command line.
 
+use crate::script_line::{ScriptTask, script_command, script_task};
 use clap::{Arg, Command, Error};
 use hex::FromHex;
 use sr_frame::Mac;
 use sr_script::{RoleName, Setup};
+use sr_slots::Keys;
 use std::alloc::{AllocError, Global};
 use std::fmt;
 
@@ -14,6 +16,8 @@ pub enum Refused {
     Parser(Error),
     /// The address is not 12 hexadecimal digits.
     Mac,
+    /// The value of this option of a script.
+    Option(&'static str),
 }
 
 impl fmt::Display for Refused {
@@ -21,6 +25,7 @@ impl fmt::Display for Refused {
         match self {
             Refused::Parser(error) => write!(f, "{error}"),
             Refused::Mac => write!(f, "fault mac\n"),
+            Refused::Option(name) => write!(f, "fault {name}\n"),
         }
     }
 }
@@ -56,7 +61,8 @@ fn command<'a>(alloc: Global) -> Result<Command<'a>, AllocError> {
         .bin_name("seamless")?
         .about("Runs a script of events on a node of a redundant network")
         .subcommand_required(true)
-        .subcommand(replay)
+        .subcommand(replay)?
+        .subcommand(script_command(alloc)?)
 }
 
 /// The address that 12 hexadecimal digits of either case spell.
@@ -65,21 +71,37 @@ fn mac_of(digits: &str) -> Option<Mac> {
     Some(Mac(octets))
 }
 
-/// The setup that the words of the command line ask for.
+/// What the program is to do.
+#[derive(Clone, Copy, Debug)]
+pub enum Task<'a> {
+    /// Replay a script at a node.
+    Replay(Setup),
+    /// Print a script of captures.
+    Script(ScriptTask<'a>),
+}
+
+/// What the words of the command line ask for, a node's setup under fixed keys.
 ///
 /// # Errors
 /// `Mac` where the address alone is wrong, else `Parser`.
-pub fn setup_of(alloc: Global, words: &[String]) -> Result<Setup, Refused> {
+pub fn task_of<'a>(alloc: Global, words: &'a [String]) -> Result<Task<'a>, Refused> {
     let matches = command(alloc)?.try_get_matches_from(words)?;
+    if let Some(script) = matches.subcommand_matches("script") {
+        return match script_task(script) {
+            Ok(task) => Ok(Task::Script(task)),
+            Err(name) => Err(Refused::Option(name)),
+        };
+    }
     let mac = matches
         .subcommand_matches("replay")
         .and_then(|replay| replay.get_str("mac"))
         .and_then(mac_of);
     match mac {
-        Some(mac) => Ok(Setup {
+        Some(mac) => Ok(Task::Replay(Setup {
             role: RoleName::Danp,
             mac,
-        }),
+            keys: Keys::FIXED,
+        })),
         None => Err(Refused::Mac),
     }
 }

@@ -2,12 +2,17 @@
 #![tactic(auto)]
 
 mod command_line;
+mod script;
+mod script_line;
 
-use command_line::setup_of;
+use command_line::{Task, task_of};
+use script::run_script;
 use sr_script::{Fault, Setup, Word, run};
+use sr_slots::Keys;
 use std::io::{self, BufReader};
 use std::process::ExitCode;
-use std::rt::Env;
+use std::random::RandomSource;
+use std::rt::{Env, Files};
 
 /// The exit status of a fault of the script, a read, a write or memory.
 const RUN_FAILED: u8 = 1;
@@ -23,15 +28,18 @@ fn main(rt: HostRuntime) -> ExitCode {
 }
 
 /// Reads the command line and runs the script. An error is the exit status; why is on standard error.
-fn start<R: AllocGlobal + Print + Eprint + Input + Env>(rt: &R) -> Result<(), u8> {
+fn start<R: AllocGlobal + Print + Eprint + Input + Env + Files + RandomSource>(
+    rt: &R,
+) -> Result<(), u8> {
     let Ok(args) = std::env::args(rt) else {
         return Err(NOT_STARTED);
     };
     let Ok(words) = args.collect::<Vec<String>>(rt.alloc()) else {
         return Err(NOT_STARTED);
     };
-    match setup_of(rt.alloc(), words.as_slice()) {
-        Ok(setup) => replay(rt, &setup).map_err(|fault| {
+    match task_of(rt.alloc(), words.as_slice()) {
+        Ok(Task::Script(task)) => run_script(rt, &task).map_err(|()| RUN_FAILED),
+        Ok(Task::Replay(setup)) => replay(rt, &setup).map_err(|fault| {
             let _ = eprintln!(rt; "{fault}");
             RUN_FAILED
         }),
@@ -42,13 +50,28 @@ fn start<R: AllocGlobal + Print + Eprint + Input + Env>(rt: &R) -> Result<(), u8
     }
 }
 
-/// Runs the script on standard input, and writes what the node answers to standard output.
-fn replay<R: AllocGlobal + Print + Input>(rt: &R, setup: &Setup) -> Result<(), Fault> {
+/// Runs the script on standard input, and writes what the node answers to standard output. The keys of the node's tables are
+/// drawn anew.
+fn replay<R: AllocGlobal + Print + Input + RandomSource>(
+    rt: &R,
+    setup: &Setup,
+) -> Result<(), Fault> {
+    let Ok(keys) = Keys::new(rt) else {
+        return Err(Fault {
+            line: 1,
+            word: Word::Read,
+        });
+    };
     let Ok(mut reader) = BufReader::new(rt.alloc(), rt.reader()) else {
         return Err(Fault {
             line: 1,
             word: Word::Memory,
         });
     };
-    run(rt.alloc(), setup, &mut reader, &mut io::writer(rt))
+    run(
+        rt.alloc(),
+        &Setup { keys, ..*setup },
+        &mut reader,
+        &mut io::writer(rt),
+    )
 }

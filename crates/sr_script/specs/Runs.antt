@@ -1,6 +1,8 @@
 -- What a run of a script writes, and where it ends.
 use Rattle.std.specs.Prelude.{◌≡◌, ℕ, ◌+◌, ◌<◌, ◌≤◌, List, [], ◌∷◌, ◌++◌, length, Option, ◌⊎◌}
 use Rattle.std.specs.Io.KnownBytes.{Appends}
+use Rattle.sr_forwarding.specs.RoleImages.{role_of}
+use Rattle.sr_forwarding.specs.declared.role_image.RoleKind.TheVariants.{Danp}
 use Rattle.sr_node.specs.Images.{State, begun}
 use Rattle.sr_script.specs.declared.fault.Fault.{Fault}
 use Rattle.sr_script.specs.declared.fault.Word.{Word}
@@ -12,7 +14,7 @@ use Rattle.sr_script.specs.Replies.{Replied}
 
 -- the node at the start of a run
 abbrev pub start_of : Setup → State
-start_of setup = begun (record { mac = setup.mac })
+start_of setup = begun (role_of Danp setup.mac)
 
 -- a line of a length and at a place that a script may have
 pub record HasPlace (number : ℕ) (line : List ℕ) : Type 0 where

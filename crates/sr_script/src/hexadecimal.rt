@@ -7,7 +7,6 @@ ghost use Rattle.sr_script.specs.Commands.{IsHex};
 ghost use Rattle.hex.specs.Hex.{decode_of, decode_pairs, encode_lower, lower_digits, hex_digit_value};
 
 use crate::fault::Word;
-use std::alloc::AllocError;
 
 /// The value of a digit of either case; 255 where it is none.
 #[inline(always)]
@@ -61,42 +60,4 @@ pub(crate) fn read_hex(digits: &[u8], octets: &mut Vec<u8>) -> Result<(), Word>
     } else {
         Err(Word::Line)
     }
-}
-
-/// The digit of a number, in lower case.
-#[inline(always)]
-fn digit_of(number: u8) -> u8
-    requires { number < 16 }
-    ensures { result ≡ slice_index lower_digits number }
-{
-    if number < 10 {
-        b'0' + number
-    } else {
-        b'a' - 10 + number
-    }
-}
-
-/// Writes the digits of octets, two each.
-fn write_pairs(octets: &[u8], digits: &mut [u8])
-    requires { length digits.old ≡ 2 * length octets.now }
-    ensures { digits.new ≡ encode_lower octets.now }
-{
-    for i in 0..octets.len() {
-        let octet = octets[i];
-        let high = digit_of(octet >> 4);
-        let low = digit_of(octet & 15);
-        digits[2 * i] = high;
-        digits[2 * i + 1] = low;
-    }
-}
-
-/// Appends octets as hexadecimal digits of lower case, two each.
-pub(crate) fn append_hex(text: &mut Vec<u8>, octets: &[u8]) -> Result<(), AllocError>
-    requires { length octets.now < 2 ^ 32 }
-    ensures { OnOk result (text.new.items ≡ text.old.items ++ encode_lower octets.now) }
-{
-    let start = text.len();
-    text.resize(start + 2 * octets.len(), 0)?;
-    write_pairs(octets, &mut text[start..]);
-    Ok(())
 }

@@ -14,6 +14,3 @@ mod words;
 pub use fault::{Fault, Word};
 pub use running::run;
 pub use setups::{RoleName, Setup};
-
-#[cfg(test)]
-mod tests;

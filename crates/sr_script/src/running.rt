@@ -11,7 +11,8 @@ use crate::answering::answer;
 use crate::fault::{Fault, Word};
 use crate::lines::{is_at_end, next_line};
 use crate::setups::{RoleName, Setup};
-use sr_node::{Node, NodeOf, Role};
+use sr_forwarding::{Danp, Role};
+use sr_node::{Node, NodeOf};
 use std::alloc::Global;
 use std::io::{BufRead, Write};
 
@@ -19,8 +20,9 @@ use std::io::{BufRead, Write};
 const MAX_LINES: u64 = 1_000_000;
 
 /// What is used again for each line.
-#[derive(Debug, Drop)]
+#[derive(Drop)]
 struct Buffers {
+    alloc: Global,
     line: Vec<u8>,
     octets: Vec<u8>,
     text: Vec<u8>,
@@ -54,6 +56,7 @@ fn turn<N: Role, R: BufRead, W: Write>(
         return Ok(false);
     }
     answer(
+        buffers.alloc,
         node,
         number,
         &buffers.line,
@@ -120,12 +123,22 @@ pub fn run<R: BufRead, W: Write>(
 {
     let RoleName::Danp = setup.role;
     let mut buffers = Buffers {
+        alloc,
         line: Vec::new(alloc),
         octets: Vec::new(alloc),
         text: Vec::new(alloc),
     };
-    match Node::danp(alloc, setup.mac) {
-        Ok(mut node) => replay(&mut node, &mut buffers, reader, writer),
+    match Box::new(alloc, Danp::new(setup.mac)) {
+        Ok(danp) => {
+            let role: Box<dyn Role + Send> = danp;
+            match Node::with_keys(alloc, role, setup.keys) {
+                Ok(mut node) => replay(&mut node, &mut buffers, reader, writer),
+                Err(_) => Err(Fault {
+                    line: 1,
+                    word: Word::Memory,
+                }),
+            }
+        }
         Err(_) => Err(Fault {
             line: 1,
             word: Word::Memory,

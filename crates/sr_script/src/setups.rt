@@ -1,6 +1,7 @@
 //! What a run is told beside its script.
 
 use sr_frame::Mac;
+use sr_slots::Keys;
 
 /// The roles that a node can have.
 #[derive(Clone, Copy, Debug, PartialEq, Eq)]
@@ -16,4 +17,6 @@ pub struct Setup {
     pub role: RoleName,
     /// The address of the node.
     pub mac: Mac,
+    /// The keys of its tables. Nothing that is printed depends on them.
+    pub keys: Keys,
 }

@@ -14,6 +14,7 @@ returns-clause-ok g c =
       c.obey.new.text.items,
       after,
       obeys,
-      c.in_ok-append_outlets.ensures.text,
-      c.in_ok-append_outlets.ensures.node,
+      c.in_ok-append_outlets.ensures.ok.0,
+      c.in_ok-append_outlets.ensures.ok.1,
+      c.in_ok-append_outlets.ensures.ok.2,
     )

@@ -1,0 +1,58 @@
+-- Bodies of packets, of which a front is kept.
+use Rattle.std.proofs.Common.{◌≡◌, ℕ, ◌+◌, ◌-◌, ◌<◌, ◌≤◌, List, [], ◌++◌, length, take, Option, Some, None, true, false, sym, ap, refl, ◌∙◌, arith, inr}
+use Rattle.std.specs.Prelude.{IfSome}
+use Rattle.std.proofs.lemmas.List.{length-take}
+use Rattle.std.proofs.lemmas.List.{length-append, take_at}
+use Rattle.sr_capture.specs.Taking.{Loses, LeavesNone, TakesAll}
+use Rattle.sr_capture.specs.declared.header.Form.{Form}
+use Rattle.sr_capture.specs.declared.packet.Packet.{Packet}
+use Rattle.sr_capture.specs.declared.packet.Head.{Head}
+use Rattle.sr_capture.specs.Records.{TakesBody, IsHead, EndsEarly, LosesRecord, Captured, IsRecord, Shows}
+use Rattle.sr_capture.specs.TakingLemmas.{LosesSome, loses_more, none_left}
+
+-- a front is kept, the rest passed over
+pub body_done : (held wanted near far : ℕ) (kept : List ℕ) (a b c : Option (List ℕ)) → TakesAll true near kept a b → LosesSome far b c
+    → near + far ≡ held → (wanted ≤ 1524 → near ≡ wanted) → TakesBody true held wanted kept a c
+body_done held wanted near far kept a b c k s sum all = (
+  kept ++ s.0,
+  loses_more kept s.0 a b c k.0 s.2,
+  omega (arith, length-append kept s.0, k.1, s.1),
+  λ small. sym (take_at kept s.0 wanted (omega (arith, k.1, all small))),
+)
+
+-- the input ends in the front
+pub body_short : (held wanted near : ℕ) (kept : List ℕ) (a b : Option (List ℕ)) → TakesAll false near kept a b → near ≤ held
+    → TakesBody false held wanted kept a b
+body_short held wanted near kept a b k few = (kept, k.0, omega (arith, k.1), k.2)
+
+-- the input ends behind it
+pub body_ends : (held wanted near far n : ℕ) (kept kept' : List ℕ) (a b c : Option (List ℕ)) → TakesAll true near kept a b → LosesSome n b c → n < far
+    → LeavesNone b c → near + far ≡ held → TakesBody false held wanted kept' a c
+body_ends held wanted near far n kept kept' a b c k s short none sum =
+    (kept ++ s.0, loses_more kept s.0 a b c k.0 s.2, omega (arith, length-append kept s.0, k.1, s.1), none_left kept a b c k.0 none)
+
+-- a head and its body are a record
+pub record_done : (form : Form) (shown : Packet) (head : Head) (front kept : List ℕ) (wanted : ℕ) (a b c : Option (List ℕ)) → Loses front a b
+    → IsHead form front head → TakesBody true head.held wanted kept b c → wanted ≡ head.held - form.check_len → shown.time ≡ head.time
+    → shown.extent ≡ head.extent → shown.len ≡ wanted → shown.octets.items ≡ kept → shown.size ≡ 16 + head.held → LosesRecord form shown a c
+record_done form shown head front kept wanted a b c l is_head body cut time extent len octets size =
+    let own = take (length body.0 - form.check_len) body.0 in
+    let packet : Captured = record { time = head.time; extent = head.extent; octets = own } in
+    let far : length own ≡ wanted = omega (arith, length-take (length body.0 - form.check_len) body.0, body.2, cut) in
+    let same : take wanted body.0 ≡ own = ap (λ n. take n body.0) (omega (arith, body.2, cut)) in
+    let is_record : IsRecord form (front ++ body.0) packet =
+    record { front = front; head = head; body = body.0; spelled = refl; is_head = is_head; size = body.2; time = refl; extent = refl; octets = refl } in
+    let shows : Shows shown packet =
+    record { time = time; extent = extent; len = len ∙ sym far; octets = λ small. octets ∙ body.3 (omega (arith, far)) ∙ same } in
+    (front ++ body.0, packet, loses_more front body.0 a b c l body.1, is_record, shows, omega (arith, length-append front body.0, is_head.size, body.2))
+
+-- the input ends in a body
+pub ends_early : (a b c : Option (List ℕ)) (form : Form) (head : Head) (front kept : List ℕ) (wanted : ℕ) → Loses front a b → IsHead form front head
+    → TakesBody false head.held wanted kept b c → IfSome a (EndsEarly form)
+ends_early None b c form head front kept wanted l is_head body = tt
+ends_early (Some xs) None c form head front kept wanted l is_head body = absurd l
+ends_early (Some xs) (Some ys) None form head front kept wanted l is_head body = absurd body.1
+ends_early (Some xs) (Some ys) (Some zs) form head front kept wanted l is_head body =
+    let far : length ys ≡ length body.0 + length zs = ap length body.1 ∙ length-append body.0 zs in
+    let none : length zs ≡ 0 = ap length body.3 in
+    inr (front, head, ys, l, is_head, omega (arith, body.2))

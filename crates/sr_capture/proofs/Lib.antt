@@ -1,0 +1,2 @@
+pub mod Headed
+pub mod Bodies

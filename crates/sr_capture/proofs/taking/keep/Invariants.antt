@@ -1,0 +1,12 @@
+use Rattle.std.proofs.Common.{◌≤◌, ◌-◌, length, vec_len}
+use Rattle.sr_capture.specs.Taking.{Loses}
+use Rattle.sr_capture.proofs.taking.keep.Given as goal
+
+abbrev pub invariant-loop-reader : goal.invariant-loop-reader
+invariant-loop-reader g l = record {
+  short : length l.kept.items ≤ l.count;
+  lost : Loses l.kept.items (g.R.Read.remaining l.fn.reader) (g.R.Read.remaining l.reader);
+}
+
+abbrev pub decreases-loop-reader : goal.decreases-loop-reader
+decreases-loop-reader g l = l.count - vec_len l.kept

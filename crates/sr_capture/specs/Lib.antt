@@ -1,0 +1,5 @@
+pub mod Numbers
+pub mod Taking
+pub mod TakingLemmas
+pub mod Headers
+pub mod Records

@@ -1,0 +1,56 @@
+//! Why a capture is not read on.
+
+ghost use Rattle.std.specs.Prelude.{◌≡◌};
+
+use std::alloc::AllocError;
+use thiserror::Error;
+
+/// What is wrong with a capture.
+#[derive(Clone, Copy, Debug, PartialEq, Eq, Error)]
+pub enum Reason {
+    /// The reader failed; an interrupted read is a failure too.
+    #[error("the file can not be read")]
+    Read,
+    /// A growth was refused.
+    #[error("out of memory")]
+    NoMemory,
+    /// The file begins as one that gzip compressed.
+    #[error("the file is compressed: gunzip it")]
+    Compressed,
+    /// The file begins as no capture.
+    #[error("the file is no capture")]
+    Unknown,
+    /// The file ends within its header.
+    #[error("the file ends within its header")]
+    Short,
+    /// The version is not 2.4.
+    #[error("the version of the format is not 2.4")]
+    Version,
+    /// The link type is not Ethernet.
+    #[error("link type {0} is not Ethernet")]
+    Link(u16),
+    /// The file ends within a packet.
+    #[error("the file ends within a packet")]
+    Unfinished,
+}
+
+impl From<AllocError> for Reason {
+    ghost use Rattle.sr_capture.specs.declared.fault.Reason.TheVariants.{NoMemory as OutOfMemory};
+
+    ghost from_gives = { λ _ e. e ≡ OutOfMemory };
+
+    fn from(_e: AllocError) -> Reason {
+        Reason::NoMemory
+    }
+}
+
+/// What is wrong with a capture, and where.
+#[derive(Clone, Copy, Debug, PartialEq, Eq, Error)]
+#[error("{reason}, at octet {at}")]
+pub struct CaptureFault {
+    /// The offset of the octet: that of the field which is wrong, of the packet that is not whole, or of the octet that
+    /// could not be read.
+    pub at: u64,
+    /// What is wrong.
+    pub reason: Reason,
+}

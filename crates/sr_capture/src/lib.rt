@@ -1,0 +1,16 @@
+//! Captures of Ethernet traffic, as tcpdump and Wireshark write them: the packets of a file, in one pass over any
+//! buffered reader and in bounded memory.
+#![tactic(auto)]
+
+mod fault;
+mod header;
+mod numbers;
+mod packet;
+mod record;
+mod taking;
+
+pub use fault::{CaptureFault, Reason};
+pub use header::{Form, HEADER_LEN, TimeUnit, read_header};
+pub use numbers::ByteOrder;
+pub use packet::{Extent, MAX_KEPT, Packet};
+pub use record::next_packet;

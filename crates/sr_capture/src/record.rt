@@ -1,0 +1,160 @@
+//! The packets of a pcap file.
+
+ghost use Rattle.std.specs.Prelude.{◌≡◌, ◌≢◌, ◌≤◌, ◌<◌, ◌+◌, ◌-◌, ◌*◌, ◌++◌, ◌^◌, ◌⊎◌, ℕ, List, length, take, IfOk, IfErr, IfSome, MatchOption, vec_len};
+ghost use Rattle.sr_capture.specs.Taking.{Loses};
+ghost use Rattle.sr_capture.specs.Records.{nanoseconds_of, IsHead, TakesBody, TakesPacket, WasAtEnd, EndsEarly};
+
+use crate::fault::{CaptureFault, Reason};
+use crate::header::{Form, TimeUnit};
+use crate::numbers::word_at;
+use crate::packet::{Extent, Head, MAX_KEPT, Packet};
+use crate::taking::{keep, skip};
+use std::io::BufRead;
+
+/// The length of a packet's head.
+const HEAD_LEN: usize = 16;
+
+/// How many nanoseconds a unit has.
+fn nanoseconds_of(unit: TimeUnit) -> u64
+    ensures value { result ≡ nanoseconds_of unit }
+    ensures most { result ≤ 1000 }
+{
+    match unit {
+        TimeUnit::Micro => 1000,
+        TimeUnit::Nano => 1,
+    }
+}
+
+/// What the octets of a head say.
+fn head_of(form: Form, octets: &[u8]) -> Head
+    requires { length octets.now ≡ 16 }
+    ensures { IsHead form octets.now result }
+{
+    let seconds = u64::from(word_at(form.order, octets, 0));
+    let fraction = u64::from(word_at(form.order, octets, 4));
+    let held = word_at(form.order, octets, 8);
+    let len = word_at(form.order, octets, 12);
+    Head {
+        time: seconds * 1_000_000_000 + fraction * nanoseconds_of(form.unit),
+        held,
+        extent: if held < len {
+            Extent::Cut
+        } else {
+            Extent::Whole
+        },
+    }
+}
+
+/// Takes the head of a packet. None where nothing is left. `octets` is used for it.
+fn take_head<R: BufRead>(
+    reader: &mut R,
+    form: Form,
+    octets: &mut Vec<u8>,
+) -> Result<Option<Head>, CaptureFault>
+    ensures taken { IfOk result (λ head. MatchOption head (WasAtEnd (R.remaining reader.old) (R.remaining reader.new))
+        (λ head. (front : List ℕ) × Loses front (R.remaining reader.old) (R.remaining reader.new) × IsHead form front head)) }
+    ensures unfinished { IfErr result (λ fault. fault.reason ≡ Reason.Unfinished
+        → (fault.at ≡ 0) × IfSome (R.remaining reader.old) (λ xs. (0 < length xs) × (length xs < 16))) }
+    ensures fault { IfErr result (λ fault. (fault.reason ≡ Reason.Read) ⊎ (fault.reason ≡ Reason.NoMemory) ⊎ (fault.reason ≡ Reason.Unfinished)) }
+{
+    match keep(reader, HEAD_LEN, octets) {
+        Ok(true) => Ok(Some(head_of(form, octets))),
+        Ok(false) => {
+            if octets.is_empty() {
+                return Ok(None);
+            }
+            Err(CaptureFault {
+                at: 0,
+                reason: Reason::Unfinished,
+            })
+        }
+        Err(reason) => Err(CaptureFault {
+            at: octets.len() as u64,
+            reason,
+        }),
+    }
+}
+
+/// How many octets are kept of so many: all, or none where no frame is as long.
+fn kept_of(wanted: u32) -> usize
+    ensures few { result ≤ wanted }
+    ensures all { wanted ≤ 1524 → result ≡ wanted }
+{
+    let wanted = wanted as usize;
+    if wanted <= MAX_KEPT { wanted } else { 0 }
+}
+
+/// Takes the body of a packet, and keeps what is wanted of it, if a frame can be as long. False where the input ends before.
+///
+/// # Errors
+/// `Read` where the reader fails, `NoMemory`; counted from the first octet of the body.
+fn take_body<R: BufRead>(
+    reader: &mut R,
+    held: u32,
+    wanted: u32,
+    kept: &mut Vec<u8>,
+) -> Result<bool, CaptureFault>
+    requires { wanted ≤ held }
+    ensures taken { IfOk result (λ whole. TakesBody whole held wanted kept.new.items (R.remaining reader.old) (R.remaining reader.new)) }
+    ensures fault { IfErr result (λ fault. (fault.reason ≡ Reason.Read) ⊎ (fault.reason ≡ Reason.NoMemory)) }
+    ensures place { IfErr result (λ fault. fault.at ≤ held) }
+{
+    let near = kept_of(wanted);
+    match keep(reader, near, kept) {
+        Ok(true) => {}
+        Ok(false) => return Ok(false),
+        Err(reason) => {
+            return Err(CaptureFault {
+                at: kept.len() as u64,
+                reason,
+            });
+        }
+    }
+    let far = u64::from(held) - near as u64;
+    match skip(reader, far) {
+        Ok(skipped) if skipped < far => Ok(false),
+        Ok(_) => Ok(true),
+        Err(skipped) => Err(CaptureFault {
+            at: near as u64 + skipped,
+            reason: Reason::Read,
+        }),
+    }
+}
+
+/// Takes the next packet. False where nothing is left.
+///
+/// # Errors
+/// `Unfinished` where the input ends within a packet, at 0; `Read` where the reader fails; `NoMemory`. The place is
+/// counted from the first octet of the packet. What `packet` then holds says nothing.
+pub fn next_packet<R: BufRead>(
+    reader: &mut R,
+    form: Form,
+    packet: &mut Packet,
+) -> Result<bool, CaptureFault>
+    ensures taken { IfOk result (λ more. TakesPacket more form packet.new (R.remaining reader.old) (R.remaining reader.new)) }
+    ensures unfinished { IfErr result (λ fault. fault.reason ≡ Reason.Unfinished
+        → (fault.at ≡ 0) × IfSome (R.remaining reader.old) (EndsEarly form)) }
+    ensures fault { IfErr result (λ fault. (fault.reason ≡ Reason.Read) ⊎ (fault.reason ≡ Reason.NoMemory) ⊎ (fault.reason ≡ Reason.Unfinished)) }
+{
+    let Some(head) = take_head(reader, form, &mut packet.octets)? else {
+        return Ok(false);
+    };
+    let wanted = head.held.saturating_sub(u32::from(form.check_len));
+    match take_body(reader, head.held, wanted, &mut packet.octets) {
+        Ok(true) => {
+            packet.time = head.time;
+            packet.extent = head.extent;
+            packet.len = u64::from(wanted);
+            packet.size = HEAD_LEN as u64 + u64::from(head.held);
+            Ok(true)
+        }
+        Ok(false) => Err(CaptureFault {
+            at: 0,
+            reason: Reason::Unfinished,
+        }),
+        Err(fault) => Err(CaptureFault {
+            at: HEAD_LEN as u64 + fault.at,
+            reason: fault.reason,
+        }),
+    }
+}

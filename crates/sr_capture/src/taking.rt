@@ -1,0 +1,89 @@
+//! Octets taken from a reader.
+
+ghost use Rattle.std.specs.Prelude.{◌≡◌, ◌≢◌, ◌≤◌, ◌<◌, ◌+◌, ◌++◌, ◌^◌, ℕ, List, length, IfOk, IfErr, IfSome, vec_len, ◌⊎◌};
+ghost use Rattle.sr_capture.specs.Taking.{Loses, HasSome, SkipsSome, Skips, TakesAll};
+
+use crate::fault::Reason;
+use std::io::BufRead;
+
+/// Appends what the reader has at hand, at most so many octets. False where nothing is left.
+fn keep_some<R: BufRead>(reader: &mut R, room: usize, kept: &mut Vec<u8>) -> Result<bool, Reason>
+    requires { 0 < room }
+    ensures kept { IfOk result (λ more. (bs : List ℕ) × (kept.new.items ≡ kept.old.items ++ bs)
+        × Loses bs (R.remaining reader.old) (R.remaining reader.new) × HasSome more room (length bs) (R.remaining reader.old) (R.remaining reader.new)) }
+    ensures fault { IfErr result (λ reason. (reason ≡ Reason.Read) ⊎ (reason ≡ Reason.NoMemory)) }
+    ensures few { vec_len kept.new ≤ vec_len kept.old + room }
+    ensures err { IfErr result (λ _. kept.new.items ≡ kept.old.items) }
+{
+    let Ok(available) = reader.fill_buf() else {
+        return Err(Reason::Read);
+    };
+    if available.is_empty() {
+        return Ok(false);
+    }
+    let near = &available[..available.len().min(room)];
+    kept.extend_from_slice(near)?;
+    let taken = near.len();
+    reader.consume(taken);
+    Ok(true)
+}
+
+/// Takes so many octets into `kept`, in place of what it held. False where the input ends before.
+///
+/// # Errors
+/// `Read` where the reader fails, `NoMemory`. What was taken till then is in `kept`.
+pub(crate) fn keep<R: BufRead>(
+    reader: &mut R,
+    count: usize,
+    kept: &mut Vec<u8>,
+) -> Result<bool, Reason>
+    ensures taken { IfOk result (λ whole. TakesAll whole count kept.new.items (R.remaining reader.old) (R.remaining reader.new)) }
+    ensures fault { IfErr result (λ reason. (reason ≡ Reason.Read) ⊎ (reason ≡ Reason.NoMemory)) }
+    ensures few { vec_len kept.new ≤ count }
+{
+    kept.clear();
+    while kept.len() < count {
+        if !keep_some(reader, count - kept.len(), kept)? {
+            return Ok(false);
+        }
+    }
+    Ok(true)
+}
+
+/// Passes over what the reader has at hand, at most so many octets. None where the reader fails; 0 where nothing is left.
+fn skip_some<R: BufRead>(reader: &mut R, room: u64) -> Option<u64>
+    requires { 0 < room }
+    ensures { IfSome result (λ taken. (bs : List ℕ) × (length bs ≡ taken)
+        × Loses bs (R.remaining reader.old) (R.remaining reader.new) × SkipsSome room taken (R.remaining reader.old) (R.remaining reader.new)) }
+{
+    let Ok(available) = reader.fill_buf() else {
+        return None;
+    };
+    if available.is_empty() {
+        return Some(0);
+    }
+    let near = &available[..available.len().min(room as usize)];
+    let taken = near.len();
+    reader.consume(taken);
+    Some(taken as u64)
+}
+
+/// Passes over octets. How many: fewer than asked for where the input ends before.
+///
+/// # Errors
+/// How many octets were passed over before the reader failed.
+pub(crate) fn skip<R: BufRead>(reader: &mut R, count: u64) -> Result<u64, u64>
+    ensures few { IfErr result (λ skipped. skipped ≤ count) }
+    ensures taken { IfOk result (λ skipped. (bs : List ℕ) × (length bs ≡ skipped)
+        × Loses bs (R.remaining reader.old) (R.remaining reader.new) × Skips count skipped (R.remaining reader.old) (R.remaining reader.new)) }
+{
+    let mut skipped = 0;
+    while skipped < count {
+        match skip_some(reader, count - skipped) {
+            None => return Err(skipped),
+            Some(0) => return Ok(skipped),
+            Some(more) => skipped += more,
+        }
+    }
+    Ok(skipped)
+}

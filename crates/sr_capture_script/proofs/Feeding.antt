@@ -1,0 +1,127 @@
+-- A file whose packets are taken one by one.
+use Rattle.std.proofs.Common.{◌≡◌, ℕ, ◌+◌, ◌-◌, ◌^◌, ◌≤◌, List, [], ◌∷◌, ◌++◌, length, Option, Some, None, sym, ap, subst, refl, ◌∙◌, arith, append_assoc}
+use Rattle.std.specs.Prelude.{min, max}
+use Rattle.std.proofs.lemmas.List.{length-append, append-nil}
+use Rattle.sr_capture.specs.declared.header.Form.{Form}
+use Rattle.sr_capture.specs.Taking.{Loses, LeavesNone}
+use Rattle.sr_capture.specs.TakingLemmas.{loses_more, none_left, loses_nothing}
+use Rattle.sr_capture.specs.Records.{Captured, IsRecord, AreRecords, Shows}
+use Rattle.sr_capture_script.specs.declared.choice.Inlet.{Inlet}
+use Rattle.sr_capture_script.specs.Items.{Item, moment_of, items_from, items_of}
+use Rattle.sr_capture_script.specs.Sources.{Progress, last_moment, IsDue, Feeds, GoesOn}
+use Rattle.sr_capture_script.specs.Picking.{NotBefore}
+
+-- one record more
+records_more : (form : Form) (octets more : List ℕ) (packets : List Captured) (packet : Captured) → AreRecords form octets packets
+    → IsRecord form more packet → AreRecords form (octets ++ more) (packets ++ packet ∷ [])
+records_more form octets more [] packet h r =
+    (more, [], ap (λ (l : List ℕ). l ++ more) h ∙ sym (append-nil more), r, refl)
+records_more form octets more (p ∷ ps) packet h r =
+    (h.0, h.1 ++ more, ap (λ (l : List ℕ). l ++ more) h.2 ∙ append_assoc h.0 h.1 more, h.3, records_more form h.1 more ps packet h.4 r)
+
+last_moment_more : (delay last : ℕ) (packets : List Captured) (packet : Captured)
+    → last_moment delay last (packets ++ packet ∷ []) ≡ moment_of delay (last_moment delay last packets) packet
+last_moment_more delay last [] packet = refl
+last_moment_more delay last (p ∷ ps) packet = last_moment_more delay (moment_of delay last p) ps packet
+
+-- the item of a packet behind others
+abbrev item_behind : Inlet → ℕ → ℕ → ℕ → List Captured → Captured → Item
+item_behind inlet delay last number packets packet =
+    record { inlet = inlet; number = number + length packets; moment = moment_of delay (last_moment delay last packets) packet; packet = packet }
+
+item_is : (inlet : Inlet) (n m moment : ℕ) (packet : Captured) → n ≡ m
+    → (let x : Item = record { inlet = inlet; number = n; moment = moment; packet = packet } in x) ≡ record { inlet = inlet; number = m; moment = moment; packet = packet }
+item_is inlet n m moment packet e = ap (λ (k : ℕ). let x : Item = record { inlet = inlet; number = k; moment = moment; packet = packet } in x) e
+
+items_more : (inlet : Inlet) (delay last number : ℕ) (packets : List Captured) (packet : Captured)
+    → items_from inlet delay last number (packets ++ packet ∷ []) ≡ items_from inlet delay last number packets ++ item_behind inlet delay last number packets packet ∷ []
+items_more inlet delay last number [] packet =
+    ap (λ (x : Item). x ∷ []) (item_is inlet number (number + 0) (moment_of delay last packet) packet (omega arith))
+items_more inlet delay last number (p ∷ ps) packet =
+    let rest = items_more inlet delay (moment_of delay last p) (number + 1) ps packet in
+    let first : Item = record { inlet = inlet; number = number; moment = moment_of delay last p; packet = p } in
+    let moved = item_is inlet (number + 1 + length ps) (number + length (p ∷ ps)) (moment_of delay (last_moment delay (moment_of delay last p) ps) packet) packet (omega arith) in
+    ap (λ (l : List Item). first ∷ l) (rest ∙ ap (λ (x : Item). items_from inlet delay (moment_of delay last p) (number + 1) ps ++ x ∷ []) moved)
+
+-- an item went, and the next one is due
+pub record Served (inlet : Inlet) (form : Form) (delay : ℕ) (start now : Option (List ℕ)) (p q : Progress) (m : ℕ) (gone : List Item) : Type 0 where
+  pub item : Item
+  pub at : item.inlet ≡ inlet
+  pub when : item.moment ≡ m
+  pub number : p.number ≡ min item.number (2 ^ 64 - 1)
+  pub shown : Shows p.shown item.packet
+  pub later : NotBefore q.due m
+  pub feeds : Feeds inlet form delay start now q (gone ++ item ∷ [])
+
+-- the next packet is due
+feeds_next : (inlet : Inlet) (form : Form) (delay : ℕ) (start mid now : Option (List ℕ)) (p q : Progress) (gone : List Item) (m : ℕ)
+    (packets : List Captured) (octets : List ℕ) → Loses octets start mid → AreRecords form octets packets → p.number ≡ min (length packets) (2 ^ 64 - 1)
+    → p.moment ≡ last_moment delay 0 packets → items_of inlet delay packets ≡ gone → q.due ≡ Some m → GoesOn form delay (Some m) mid now p q
+    → Feeds inlet form delay start now q gone
+feeds_next inlet form delay start mid now p q gone m packets octets lost records number moment items due goes =
+    let packet = goes.1 in
+    let item = item_behind inlet delay 0 1 packets packet in
+    let whole : items_of inlet delay (packets ++ packet ∷ []) ≡ gone ++ item ∷ [] =
+    items_more inlet delay 0 1 packets packet ∙ ap (λ (l : List Item). l ++ item ∷ []) items in
+    let when : m ≡ moment_of delay (last_moment delay 0 packets) packet = goes.5 ∙ ap (λ n. moment_of delay n packet) moment in
+    let count : length (packets ++ packet ∷ []) ≡ length packets + 1 = length-append packets (packet ∷ []) in
+    let is_due : IsDue inlet q (Some m) (items_of inlet delay (packets ++ packet ∷ [])) gone start now =
+    (item, whole, refl, sym when, goes.6, omega (arith, goes.7, number), goes.4) in
+    record {
+      packets = packets ++ packet ∷ [];
+      octets = octets ++ goes.0;
+      lost = loses_more octets goes.0 start mid now lost goes.2;
+      records = records_more form octets goes.0 packets packet records goes.3;
+      number = omega (arith, goes.7, number, count);
+      moment = goes.6 ∙ when ∙ sym (last_moment_more delay 0 packets packet);
+      due = subst (λ (o : Option ℕ). IsDue inlet q o (items_of inlet delay (packets ++ packet ∷ [])) gone start now) (sym due) is_due;
+    }
+
+-- the file is at its end
+feeds_end : (inlet : Inlet) (form : Form) (delay : ℕ) (start mid now : Option (List ℕ)) (p q : Progress) (gone : List Item)
+    (packets : List Captured) (octets : List ℕ) → Loses octets start mid → AreRecords form octets packets → p.number ≡ min (length packets) (2 ^ 64 - 1)
+    → p.moment ≡ last_moment delay 0 packets → items_of inlet delay packets ≡ gone → q.due ≡ None → GoesOn form delay None mid now p q
+    → Feeds inlet form delay start now q gone
+feeds_end inlet form delay start mid now p q gone packets octets lost records number moment items due goes =
+    let is_due : IsDue inlet q None (items_of inlet delay packets) gone start now = (items, none_left octets start mid now lost goes.1) in
+    record {
+      packets = packets;
+      octets = octets;
+      lost = subst (λ (l : List ℕ). Loses l start now) (append-nil octets) (loses_more octets [] start mid now lost goes.0);
+      records = records;
+      number = goes.3 ∙ number;
+      moment = goes.2 ∙ moment;
+      due = subst (λ (o : Option ℕ). IsDue inlet q o (items_of inlet delay packets) gone start now) (sym due) is_due;
+    }
+
+feeds_on : (d : Option ℕ) (inlet : Inlet) (form : Form) (delay : ℕ) (start mid now : Option (List ℕ)) (p q : Progress) (gone : List Item)
+    (packets : List Captured) (octets : List ℕ) → Loses octets start mid → AreRecords form octets packets → p.number ≡ min (length packets) (2 ^ 64 - 1)
+    → p.moment ≡ last_moment delay 0 packets → items_of inlet delay packets ≡ gone → q.due ≡ d → GoesOn form delay d mid now p q
+    → Feeds inlet form delay start now q gone
+feeds_on None inlet form delay start mid now p q gone packets octets l r n m i due goes = feeds_end inlet form delay start mid now p q gone packets octets l r n m i due goes
+feeds_on (Some x) inlet form delay start mid now p q gone packets octets l r n m i due goes = feeds_next inlet form delay start mid now p q gone x packets octets l r n m i due goes
+
+later_than : (d : Option ℕ) (form : Form) (delay : ℕ) (mid now : Option (List ℕ)) (p q : Progress) → GoesOn form delay d mid now p q → NotBefore d p.moment
+later_than None form delay mid now p q goes = tt
+later_than (Some x) form delay mid now p q goes = omega (arith, goes.5)
+
+-- a file of which nothing was taken
+pub feeds_first : (inlet : Inlet) (form : Form) (delay : ℕ) (start now : Option (List ℕ)) (p q : Progress) → p.number ≡ 0 → p.moment ≡ 0
+    → GoesOn form delay q.due start now p q → Feeds inlet form delay start now q []
+feeds_first inlet form delay start now p q number moment goes =
+    feeds_on q.due inlet form delay start start now p q [] [] [] (loses_nothing start) refl (omega (arith, number)) moment refl refl goes
+
+pub serves : (inlet : Inlet) (form : Form) (delay : ℕ) (start mid now : Option (List ℕ)) (p q : Progress) (m : ℕ) (gone : List Item) → p.due ≡ Some m
+    → Feeds inlet form delay start mid p gone → GoesOn form delay q.due mid now p q → Served inlet form delay start now p q m gone
+serves inlet form delay start mid now p q m gone due feeds goes =
+    let is_due : IsDue inlet p (Some m) (items_of inlet delay feeds.packets) gone start mid =
+    subst (λ (o : Option ℕ). IsDue inlet p o (items_of inlet delay feeds.packets) gone start mid) due feeds.due in
+    record {
+      item = is_due.0;
+      at = is_due.2;
+      when = is_due.3;
+      number = is_due.5;
+      shown = is_due.6;
+      later = subst (NotBefore q.due) is_due.4 (later_than q.due form delay mid now p q goes);
+      feeds = feeds_on q.due inlet form delay start mid now p q (gone ++ is_due.0 ∷ []) feeds.packets feeds.octets feeds.lost feeds.records feeds.number feeds.moment is_due.1 refl goes;
+    }

@@ -1,0 +1,6 @@
+pub mod Feeding
+pub mod Ordering
+pub mod Writing
+pub mod Going
+pub mod Outcomes
+pub mod Opened

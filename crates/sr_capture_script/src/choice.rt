@@ -1,0 +1,77 @@
+//! What of the captures is wanted, and where it came in.
+
+ghost use Rattle.std.specs.Prelude.{◌≤◌, ◌^◌, IfSome};
+
+/// A port where the packets of a file came in.
+#[derive(Clone, Copy, Debug, PartialEq, Eq)]
+pub enum Inlet {
+    /// LAN A, or one direction of a ring.
+    A,
+    /// LAN B, or the other direction.
+    B,
+    /// The interlink of a RedBox.
+    C,
+}
+
+/// Which lines are wanted. Times are in milliseconds from the earliest packet on.
+#[derive(Clone, Copy, Debug)]
+pub struct Choice {
+    /// The first time.
+    pub from: u64,
+    /// The last time.
+    pub to: u64,
+    /// At most so far apart are the times of lines, within 60 s after a packet. None: there are no tick lines.
+    pub tick: Option<u64>,
+}
+
+/// The most that a file's times are put off, in nanoseconds: some 146 years.
+pub const MAX_DELAY: u64 = 0x4000_0000_0000_0000;
+
+/// How far the times of each file are put off, in nanoseconds.
+#[derive(Clone, Copy, Debug)]
+pub struct Delays {
+    /// Those of the file of inlet A.
+    pub a: u64,
+    /// Those of the file of inlet B.
+    pub b: u64,
+    /// Those of the file of inlet C.
+    pub c: u64,
+    pub ghost small_a: { a ≤ 2 ^ 62 },
+    pub ghost small_b: { b ≤ 2 ^ 62 },
+    pub ghost small_c: { c ≤ 2 ^ 62 },
+}
+
+/// How a script is made.
+#[derive(Clone, Copy, Debug)]
+pub struct Options {
+    /// Which lines are wanted.
+    pub choice: Choice,
+    /// How many octets of check sequence stand behind each packet of a file whose header tells none.
+    pub check_len: u8,
+    /// How far the times of each file are put off.
+    pub delays: Delays,
+}
+
+/// How far a time is put off that is shifted so many milliseconds, where the least shift is that. None: too far.
+fn delay_of(shift: i64, least: i64) -> Option<u64>
+    ensures { IfSome result (λ delay. delay ≤ 2 ^ 62) }
+{
+    let apart = u64::try_from(shift.checked_sub(least)?).ok()?;
+    let delay = apart.checked_mul(1_000_000)?;
+    if delay <= MAX_DELAY {
+        Some(delay)
+    } else {
+        None
+    }
+}
+
+/// The delays that stand for shifts in milliseconds: as much apart from one another. None where these are more than 146
+/// years apart.
+pub fn delays_of(shift_a: i64, shift_b: i64, shift_c: i64) -> Option<Delays> {
+    let least = shift_a.min(shift_b).min(shift_c);
+    Some(Delays {
+        a: delay_of(shift_a, least)?,
+        b: delay_of(shift_b, least)?,
+        c: delay_of(shift_c, least)?,
+    })
+}

@@ -1,0 +1,71 @@
+//! Printing the packet of a file that is due, and taking its next one.
+
+ghost use Rattle.std.specs.Prelude.{◌≡◌, ◌++◌, List, ℕ, Option, OnOk, unwrap_or};
+ghost use Rattle.std.specs.Io.KnownBytes.{Appends};
+ghost use Rattle.sr_capture_script.specs.Items.{Item};
+ghost use Rattle.sr_capture_script.specs.SourceViews.{IsFed, Serves};
+
+use crate::advancing::advance;
+use crate::choice::{Choice, Inlet};
+use crate::fault::ScriptFault;
+use crate::lines::reason_of;
+use crate::pieces::{Place, append_piece};
+use crate::source::Source;
+use sr_capture::Packet;
+use std::io::{BufRead, Write};
+
+/// Where times are counted from, in nanoseconds, and the last time that was printed, in milliseconds.
+#[derive(Clone, Copy, Debug)]
+pub(crate) struct Clock {
+    pub base: Option<u64>,
+    pub last: Option<u64>,
+}
+
+/// How many packets are not used, with this one.
+fn unused_after(unused: u64, packet: &Packet) -> u64 {
+    unused.saturating_add(u64::from(reason_of(packet).is_some()))
+}
+
+/// Writes a text.
+pub(crate) fn write_text<W: Write>(writer: &mut W, text: &[u8]) -> Result<(), ScriptFault>
+    ensures { OnOk result (Appends (W.contents writer.old) (W.contents writer.new) text.now) }
+{
+    if writer.write_all(text).is_err() {
+        return Err(ScriptFault::Write);
+    }
+    Ok(())
+}
+
+/// Prints the packet that is due at this moment, and takes the next one. `text` is used for it.
+pub(crate) fn serve<R: BufRead, W: Write>(
+    source: &mut Source<R>,
+    inlet: Inlet,
+    moment: u64,
+    clock: &mut Clock,
+    choice: &Choice,
+    text: &mut Vec<u8>,
+    writer: &mut W,
+) -> Result<(), ScriptFault>
+    requires { source.old.due ≡ Some moment }
+    ensures served { OnOk result ((start : Option (List ℕ)) (gone : List Item) → IsFed R.remaining inlet start source.old gone
+        → Serves R.remaining inlet choice.now (unwrap_or clock.old.base moment) moment start gone source.old source.new
+        (W.contents writer.old) (W.contents writer.new)) }
+    ensures same { OnOk result ((source.new.form ≡ source.old.form) × (source.new.delay ≡ source.old.delay)) }
+    ensures base { OnOk result (clock.new.base ≡ Some (unwrap_or clock.old.base moment)) }
+{
+    let base = clock.base.unwrap_or(moment);
+    clock.base = Some(base);
+    text.clear();
+    let place = Place {
+        inlet,
+        number: source.number,
+        moment,
+    };
+    append_piece(text, choice, base, &mut clock.last, place, &source.packet)?;
+    write_text(writer, text.as_slice())?;
+    source.unused = unused_after(source.unused, &source.packet);
+    match advance(source) {
+        Ok(()) => Ok(()),
+        Err(fault) => Err(ScriptFault::File(inlet, fault)),
+    }
+}

@@ -1,0 +1,29 @@
+//! A file whose packets are taken one by one.
+
+ghost use Rattle.std.specs.Prelude.{◌≤◌, ◌^◌};
+
+use sr_capture::{Form, Packet};
+
+/// A file whose packets are taken one by one, and the packet that is due.
+#[derive(Drop)]
+pub(crate) struct Source<R> {
+    /// The reader behind the header. None: there is no file.
+    pub reader: Option<R>,
+    /// What its header says.
+    pub form: Form,
+    /// How far its times are put off, in nanoseconds.
+    pub delay: u64,
+    /// How many octets of it were taken.
+    pub place: u64,
+    /// How many of its packets were taken.
+    pub number: u64,
+    /// How many of those that were printed are not used.
+    pub unused: u64,
+    /// The latest moment of one, in nanoseconds.
+    pub moment: u64,
+    /// The moment of the packet that is due. None: it is at its end.
+    pub due: Option<u64>,
+    /// The packet that is due.
+    pub packet: Packet,
+    pub ghost bounded: { delay ≤ 2 ^ 62 },
+}

@@ -1,0 +1,142 @@
+//! The subcommand `script`: opens the captures, and says what is wrong with one.
+
+use crate::script_line::ScriptTask;
+use sr_capture::{CaptureFault, Reason};
+use sr_capture_script::{Inlet, ScriptFault, script};
+use std::fs::File;
+use std::io::{self, BufReader, BufWriter, Write};
+use std::rt::Files;
+
+/// The most lines that `replay` takes.
+const MAX_LINES: u64 = 1_000_000;
+
+/// A writer that counts lines.
+#[derive(Drop)]
+struct Counted<W> {
+    inner: W,
+    lines: u64,
+}
+
+impl<W: Write> Write for Counted<W> {
+    fn write(&mut self, buf: &[u8]) -> io::Result<usize> {
+        let taken = self.inner.write(buf)?;
+        for octet in &buf[..taken] {
+            if *octet == b'\n' {
+                self.lines = self.lines.saturating_add(1);
+            }
+        }
+        Ok(taken)
+    }
+
+    fn flush(&mut self) -> io::Result<()> {
+        self.inner.flush()
+    }
+}
+
+/// The letter of an inlet.
+fn letter_of(inlet: Inlet) -> &'static str {
+    match inlet {
+        Inlet::A => "A",
+        Inlet::B => "B",
+        Inlet::C => "C",
+    }
+}
+
+/// The common name of a link type.
+fn link_name(link: u16) -> &'static str {
+    match link {
+        0 => "BSD loopback",
+        9 => "PPP",
+        12 | 14 | 101 => "raw IP",
+        105 => "Wi-Fi",
+        113 => "Linux cooked",
+        127 => "Wi-Fi with radiotap",
+        228 => "raw IPv4",
+        229 => "raw IPv6",
+        276 => "Linux cooked, version 2",
+        _ => "another one",
+    }
+}
+
+/// Says what is wrong with a file: a line with the inlet, the word and the octet, and one that explains it.
+fn tell_file<R: Eprint>(rt: &R, inlet: Inlet, fault: CaptureFault) {
+    let letter = letter_of(inlet);
+    let at = fault.at;
+    let word = match fault.reason {
+        Reason::Read => "read",
+        Reason::NoMemory => "memory",
+        _ => "format",
+    };
+    let _ = eprintln!(rt; "fault {letter} {word} {at}");
+    let reason = fault.reason;
+    match reason {
+        Reason::Link(link) => {
+            let name = link_name(link);
+            let _ = eprintln!(rt; "{reason}: {name}");
+        }
+        _ => {
+            let _ = eprintln!(rt; "{reason}");
+        }
+    }
+}
+
+/// Opens the file of an inlet, if there is one.
+fn open_file<R: AllocGlobal + Eprint + Files>(
+    rt: &R,
+    inlet: Inlet,
+    path: Option<&str>,
+) -> Result<Option<BufReader<R::File>>, ()> {
+    let Some(path) = path else {
+        return Ok(None);
+    };
+    let letter = letter_of(inlet);
+    let Ok(file) = File::open(rt, path) else {
+        let _ = eprintln!(rt; "fault {letter} open 0");
+        return Err(());
+    };
+    match BufReader::new(rt.alloc(), file) {
+        Ok(reader) => Ok(Some(reader)),
+        Err(_) => {
+            let _ = eprintln!(rt; "fault {letter} memory 0");
+            Err(())
+        }
+    }
+}
+
+/// Writes the script to standard output. A fault is told on standard error.
+pub fn run_script<R: AllocGlobal + Print + Eprint + Files>(
+    rt: &R,
+    task: &ScriptTask<'_>,
+) -> Result<(), ()> {
+    let a = open_file(rt, Inlet::A, task.a)?;
+    let b = open_file(rt, Inlet::B, task.b)?;
+    let c = open_file(rt, Inlet::C, task.c)?;
+    let Ok(inner) = BufWriter::new(rt.alloc(), io::writer(rt)) else {
+        let _ = eprintln!(rt; "fault memory");
+        return Err(());
+    };
+    let mut writer = Counted { inner, lines: 0 };
+    let outcome = script(rt.alloc(), a, b, c, &task.options, &mut writer);
+    let flushed = writer.flush();
+    let lines = writer.lines;
+    if lines > MAX_LINES {
+        let _ = eprintln!(rt;
+            "{lines} lines: a script has at most {MAX_LINES}; take a part by --from and --to"
+        );
+    }
+    match outcome {
+        Ok(()) if flushed.is_ok() => Ok(()),
+        Err(ScriptFault::File(inlet, fault)) => {
+            tell_file(rt, inlet, fault);
+            Err(())
+        }
+        Err(ScriptFault::NoMemory) => {
+            let _ = eprintln!(rt; "fault memory");
+            Err(())
+        }
+        _ => {
+            let _ = eprintln!(rt; "fault write");
+            Err(())
+        }
+    }
+}

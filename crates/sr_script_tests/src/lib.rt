@@ -1,0 +1,15 @@
+//! Tests of `sr_script`, above it, so that its own functions are proved once: runs over readers and writers in memory.
+#![tactic(auto)]
+
+#[cfg(test)]
+mod failing;
+#[cfg(test)]
+mod lines;
+#[cfg(test)]
+mod replays;
+#[cfg(test)]
+mod runs;
+#[cfg(test)]
+mod steps;
+#[cfg(test)]
+mod texts;

@@ -1,0 +1,193 @@
+//! Lines, their endings, and readers and writers that fail.
+
+use crate::steps::{Step, expect_steps};
+use crate::texts::Part::{These, Times};
+use crate::texts::Text;
+use sr_script::Word;
+use std::io::ErrorKind;
+
+// Each line is obeyed, so that its frame of one octet is refused, or skipped, or it is the fault of line 3.
+const LINES: &[Step] = &[
+    Step::Obeyed(b"in A 0 00"),
+    Step::Obeyed(b"in B 0 fF"),
+    Step::Obeyed(b"in A 0 Aa\n"),
+    Step::Obeyed(b"in A 18446744073709551615 00"),
+    Step::Obeyed(b"in A 10 00\n\n"),
+    Step::Obeyed(b"in B 0 00\n#"),
+    Step::Obeyed(b"in A 0 00\n# in A\r\0\x7f"),
+    Step::Skipped(b""),
+    Step::Skipped(b"\n"),
+    Step::Skipped(b"#"),
+    Step::Skipped(b"#in A 0 00"),
+    Step::Skipped(b"# \r"),
+    Step::Refused(b"in A 0 00\r\n"),
+    Step::Refused(b"\r\n"),
+    Step::Refused(b"in  A 0 00"),
+    Step::Refused(b"in A  0 00"),
+    Step::Refused(b"in A 0  00"),
+    Step::Refused(b"in A 0 00 "),
+    Step::Refused(b" in A 0 00"),
+    Step::Refused(b"in A 05 00"),
+    Step::Refused(b"in A 00 00"),
+    Step::Refused(b"in A +5 00"),
+    Step::Refused(b"in A -5 00"),
+    Step::Refused(b"in A  00"),
+    Step::Refused(b"in A 18446744073709551616 00"),
+    Step::Refused(b"in A 99999999999999999999 00"),
+    Step::Refused(b"in a 0 00"),
+    Step::Refused(b"in C 0 00"),
+    Step::Refused(b"in H 0 00"),
+    Step::Refused(b"in A 0 0"),
+    Step::Refused(b"in A 0 000"),
+    Step::Refused(b"in A 0 0g"),
+    Step::Refused(b"in A 0 "),
+    Step::Refused(b"in A 0"),
+    Step::Refused(b"In A 0 00"),
+    Step::Refused(b"#\x80"),
+    Step::Refused(b"send 0 00"),
+    Step::Refused(b"tick"),
+    Step::Refused(b"tick "),
+    Step::Refused(b"tick 05"),
+    Step::Refused(b"tick +5"),
+    Step::Refused(b"tick 0 "),
+    Step::Refused(b"tick  0"),
+    Step::Refused(b" tick 0"),
+    Step::Refused(b"Tick 0"),
+    Step::Refused(b"tick 0 00"),
+    Step::Refused(b"tick 18446744073709551616"),
+];
+
+#[test]
+fn lines_and_endings(rt: HostRuntime) {
+    expect_steps(&rt, LINES);
+}
+
+/// What is answered where the second line is long, and where it is not.
+const FIRST: Text = &[These(b"refused 1 TooShort\n")];
+
+const FIRST_AND_THIRD: Text = &[These(b"refused 1 TooShort\nrefused 3 TooShort\n")];
+
+// A line has 8000 octets at most. One that is too long and not ASCII is too long.
+const LONG: &[Step] = &[
+    Step::Run(
+        &[
+            These(b"in A 0 00\n#"),
+            Times(7999, b" "),
+            These(b"\nin A 0 00"),
+        ],
+        FIRST_AND_THIRD,
+        None,
+    ),
+    Step::Run(
+        &[
+            These(b"in A 0 00\n#"),
+            Times(8000, b" "),
+            These(b"\nin A 0 00"),
+        ],
+        FIRST,
+        Some((2, Word::Long)),
+    ),
+    Step::Run(
+        &[
+            These(b"in A 0 00\n#"),
+            Times(8000, b"\x80"),
+            These(b"\nin A 0 00"),
+        ],
+        FIRST,
+        Some((2, Word::Long)),
+    ),
+    Step::Run(
+        &[
+            These(b"in A 0 00\n#"),
+            Times(7999, b"\x80"),
+            These(b"\nin A 0 00"),
+        ],
+        FIRST,
+        Some((2, Word::Line)),
+    ),
+    Step::Run(
+        &[
+            These(b"in A 0 00\n#"),
+            Times(20000, b" "),
+            These(b"\nin A 0 00"),
+        ],
+        FIRST,
+        Some((2, Word::Long)),
+    ),
+];
+
+#[test]
+fn long_lines(rt: HostRuntime) {
+    expect_steps(&rt, LONG);
+}
+
+// A script has 1,000,000 lines at most. Each of the runs takes its time.
+const A_MILLION: &[Step] = &[Step::EmptyLines(1_000_000, None)];
+
+#[test]
+fn a_million_lines(rt: HostRuntime) {
+    expect_steps(&rt, A_MILLION);
+}
+
+const ONE_MORE: &[Step] = &[Step::EmptyLines(1_000_001, Some((1_000_001, Word::Long)))];
+
+#[test]
+fn a_million_lines_and_one(rt: HostRuntime) {
+    expect_steps(&rt, ONE_MORE);
+}
+
+const READERS: &[Step] = &[
+    Step::Broken(b"", ErrorKind::Other, b"", 1),
+    Step::Broken(b"", ErrorKind::Interrupted, b"", 1),
+    Step::Broken(b"in A 0 00\n", ErrorKind::Other, b"refused 1 TooShort\n", 2),
+    Step::Broken(
+        b"in A 0 00\n",
+        ErrorKind::Interrupted,
+        b"refused 1 TooShort\n",
+        2,
+    ),
+    Step::Broken(
+        b"in A 0 00\nin A 0 00",
+        ErrorKind::Other,
+        b"refused 1 TooShort\n",
+        2,
+    ),
+    Step::Broken(
+        b"in A 0 00\nin A 0 00",
+        ErrorKind::Interrupted,
+        b"refused 1 TooShort\n",
+        2,
+    ),
+    Step::Broken(
+        b"\nin A 0 00\n#",
+        ErrorKind::Other,
+        b"refused 2 TooShort\n",
+        3,
+    ),
+    Step::Broken(
+        b"\nin A 0 00\n#",
+        ErrorKind::Interrupted,
+        b"refused 2 TooShort\n",
+        3,
+    ),
+];
+
+#[test]
+fn reader_fails(rt: HostRuntime) {
+    expect_steps(&rt, READERS);
+}
+
+/// Each line prints 19 octets.
+const TWO_FRAMES: &[u8] = b"in A 0 00\nin A 0 00\n";
+
+const WRITERS: &[Step] = &[
+    Step::Narrow(TWO_FRAMES, 0, Some((1, Word::Write))),
+    Step::Narrow(TWO_FRAMES, 19, Some((2, Word::Write))),
+    Step::Narrow(TWO_FRAMES, 38, None),
+    Step::Unflushed(TWO_FRAMES, Some((1, Word::Write))),
+];
+
+#[test]
+fn writer_fails(rt: HostRuntime) {
+    expect_steps(&rt, WRITERS);
+}

@@ -1,0 +1,149 @@
+//! The runs. Each function keeps to itself what it owns, and answers whether all was as it had to be, or None for want
+//! of memory.
+
+use crate::failing::{Broken, EmptyLines, Narrow, Unflushed};
+use crate::texts::{Text, joined};
+use sr_frame::Mac;
+use sr_script::{Fault, RoleName, Setup, Word, run};
+use sr_slots::Keys;
+use std::alloc::Global;
+use std::io::{BufReader, ErrorKind, Read};
+
+/// A node with the address 02:00:00:00:00:01.
+const SETUP: Setup = Setup {
+    role: RoleName::Danp,
+    mac: Mac([2, 0, 0, 0, 0, 1]),
+    keys: Keys::FIXED,
+};
+
+/// How a run has to end: with the fault of a line, or well.
+pub type Ending = Option<(u64, Word)>;
+
+fn is_ended(outcome: Result<(), Fault>, ending: Ending) -> Option<bool> {
+    match outcome {
+        Ok(()) => Some(ending.is_none()),
+        Err(
+            Fault {
+                word: Word::Memory,
+                ..
+            },
+        ) => None,
+        Err(Fault { line, word }) => Some(ending == Some((line, word))),
+    }
+}
+
+/// Whether a run writes this and ends so.
+fn writes(alloc: Global, script: &[u8], wanted: &[u8], ending: Ending) -> Option<bool> {
+    let mut written: Vec<u8> = Vec::new(alloc);
+    let mut reader = script;
+    let outcome = run(alloc, &SETUP, &mut reader, &mut written);
+    Some(is_ended(outcome, ending)? && written.as_slice() == wanted)
+}
+
+pub fn is_run(alloc: Global, script: Text, wanted: Text, ending: Ending) -> Option<bool> {
+    let script = joined(alloc, script)?;
+    let wanted = joined(alloc, wanted)?;
+    writes(alloc, &script, &wanted, ending)
+}
+
+/// The same of a script with a last line.
+pub fn is_run_to(
+    alloc: Global,
+    before: Text,
+    line: &[u8],
+    wanted: &[u8],
+    ending: Ending,
+) -> Option<bool> {
+    let mut script = joined(alloc, before)?;
+    script.extend_from_slice(line).ok()?;
+    writes(alloc, &script, wanted, ending)
+}
+
+/// Whether a run over this reader, which fails or is long, writes this and ends so.
+fn is_read<R: Read + Drop>(
+    alloc: Global,
+    reader: R,
+    wanted: &[u8],
+    ending: Ending,
+) -> Option<bool> {
+    let Ok(mut reader) = BufReader::new(alloc, reader) else {
+        return None;
+    };
+    let mut written: Vec<u8> = Vec::new(alloc);
+    let outcome = run(alloc, &SETUP, &mut reader, &mut written);
+    Some(is_ended(outcome, ending)? && written.as_slice() == wanted)
+}
+
+pub fn is_broken(
+    alloc: Global,
+    octets: &[u8],
+    kind: ErrorKind,
+    wanted: &[u8],
+    line: u64,
+) -> Option<bool> {
+    is_read(
+        alloc,
+        Broken { octets, kind },
+        wanted,
+        Some((line, Word::Read)),
+    )
+}
+
+pub fn are_empty_lines(alloc: Global, left: usize, ending: Ending) -> Option<bool> {
+    is_read(alloc, EmptyLines { left }, &[], ending)
+}
+
+pub fn is_narrow(alloc: Global, script: &[u8], room: usize, ending: Ending) -> Option<bool> {
+    let mut reader = script;
+    is_ended(
+        run(alloc, &SETUP, &mut reader, &mut Narrow { room }),
+        ending,
+    )
+}
+
+pub fn is_unflushed(alloc: Global, script: &[u8], ending: Ending) -> Option<bool> {
+    let mut reader = script;
+    is_ended(run(alloc, &SETUP, &mut reader, &mut Unflushed), ending)
+}
+
+/// Whether these are the answers to the first lines, to so many.
+fn are_answers(written: &[u8], answers: &[&[u8]], count: usize) -> bool {
+    let mut rest = written;
+    for answer in answers.iter().take(count) {
+        match rest.strip_prefix(*answer) {
+            Some(behind) => rest = behind,
+            None => return false,
+        }
+    }
+    rest.is_empty()
+}
+
+fn runs_again(alloc: Global, script: &[u8], answers: &[&[u8]], written: &mut Vec<u8>) -> bool {
+    written.clear();
+    let mut reader = script;
+    run(alloc, &SETUP, &mut reader, written).is_ok() && are_answers(written, answers, answers.len())
+}
+
+/// Whether a run writes these answers, one to each line. Where memory is refused, it ends at the line at work with the lines
+/// before it answered, and the next run is whole. What the test itself needs comes first.
+pub fn is_taken_up(alloc: Global, script: &[u8], answers: &[&[u8]]) -> Option<bool> {
+    let mut written: Vec<u8> = Vec::new(alloc);
+    written.reserve(400).ok()?;
+    let mut reader = script;
+    match run(alloc, &SETUP, &mut reader, &mut written) {
+        Ok(()) => Some(are_answers(&written, answers, answers.len())),
+        Err(
+            Fault {
+                line,
+                word: Word::Memory,
+            },
+        ) => {
+            let before = (line.clamp(1, 5) - 1) as usize;
+            Some(
+                are_answers(&written, answers, before)
+                    && runs_again(alloc, script, answers, &mut written),
+            )
+        }
+        Err(_) => Some(false),
+    }
+}

@@ -1,0 +1,83 @@
+//! One driver for all tests: it makes the runs of a table, and answers at which one it differs.
+
+use crate::runs::{
+    Ending, are_empty_lines, is_broken, is_narrow, is_run, is_run_to, is_taken_up, is_unflushed,
+};
+use crate::texts::{Part, Text};
+use sr_script::Word;
+use std::alloc::Global;
+use std::io::ErrorKind;
+use std::process::Abort;
+
+/// A run, and what has to come of it.
+#[derive(Clone, Copy)]
+pub enum Step {
+    /// A script, what is written, and how the run ends.
+    Run(Text, Text, Ending),
+    /// A line, at the end of a script, with what may stand behind it: its frame of one octet is refused.
+    Obeyed(&'static [u8]),
+    /// The end of a script, to which nothing is answered.
+    Skipped(&'static [u8]),
+    /// A line that is none of a script.
+    Refused(&'static [u8]),
+    /// The reader gives these octets and then fails so: what is written, and at which line the run ends.
+    Broken(&'static [u8], ErrorKind, &'static [u8], u64),
+    /// The reader gives so many LFs.
+    EmptyLines(usize, Ending),
+    /// The writer takes so many octets and then fails.
+    Narrow(&'static [u8], usize, Ending),
+    /// The writer takes all, and does not pass it on.
+    Unflushed(&'static [u8], Ending),
+    /// A script, and the answers to each of its lines. Memory may be refused once.
+    TakenUp(&'static [u8], &'static [&'static [u8]]),
+}
+
+const TWO_LINES: Text = &[Part::These(b"#\n\n")];
+
+const A_FRAME_AND_A_LINE: Text = &[Part::These(b"in A 0 00\n\n")];
+
+/// Whether a run comes to what it has to. None for want of memory.
+fn comes(alloc: Global, step: Step) -> Option<bool> {
+    match step {
+        Step::Run(script, wanted, ending) => is_run(alloc, script, wanted, ending),
+        Step::Obeyed(line) => is_run_to(alloc, TWO_LINES, line, b"refused 3 TooShort\n", None),
+        Step::Skipped(line) => is_run_to(
+            alloc,
+            A_FRAME_AND_A_LINE,
+            line,
+            b"refused 1 TooShort\n",
+            None,
+        ),
+        Step::Refused(line) => is_run_to(
+            alloc,
+            A_FRAME_AND_A_LINE,
+            line,
+            b"refused 1 TooShort\n",
+            Some((3, Word::Line)),
+        ),
+        Step::Broken(octets, kind, wanted, line) => is_broken(alloc, octets, kind, wanted, line),
+        Step::EmptyLines(left, ending) => are_empty_lines(alloc, left, ending),
+        Step::Narrow(script, room, ending) => is_narrow(alloc, script, room, ending),
+        Step::Unflushed(script, ending) => is_unflushed(alloc, script, ending),
+        Step::TakenUp(script, answers) => is_taken_up(alloc, script, answers),
+    }
+}
+
+/// The place of the first step that differs, or None. Where memory is refused, the step is gone again.
+fn first_wrong(alloc: Global, steps: &[Step]) -> Option<usize> {
+    for (place, step) in steps.iter().enumerate() {
+        let is_right = match comes(alloc, *step) {
+            None => comes(alloc, *step),
+            other => other,
+        };
+        if is_right != Some(true) {
+            return Some(place);
+        }
+    }
+    None
+}
+
+/// Fails the test at the place of the first step that differs.
+pub fn expect_steps<R: Abort + AllocGlobal>(rt: &R, steps: &[Step]) {
+    assert_eq!(rt; first_wrong(rt.alloc(), steps), None);
+}
