@@ -98,6 +98,14 @@ fn shown(table: &Small, spot: Option<Spot>, number: usize) -> Option<(u32, u64)>
     }
 }
 
+// Adds an address that has no value, where it finds room, and tells whether there was memory. None where it finds none.
+fn add(table: &mut Small, key: Mac, value: u32, now: u64) -> Option<bool> {
+    if table.get(key).is_some() || table.is_full(now) {
+        return None;
+    }
+    Some(table.append(key, value, now).is_ok())
+}
+
 // Hears an address, at a spot that may be another's or old. Whether the two agree.
 fn hear(table: &mut Small, plain: &mut Plain, spot: Option<Spot>, event: Event) -> bool {
     let Event {
@@ -119,10 +127,10 @@ fn hear(table: &mut Small, plain: &mut Plain, spot: Option<Spot>, event: Event) 
     if table.is_full(now) != table.is_full_now(now) {
         return false;
     }
-    if table.get(mac(number)).is_some() || table.is_full(now) {
-        return !plain.add(number, value, now);
+    match add(table, mac(number), value, now) {
+        Some(done) => done && plain.add(number, value, now),
+        None => !plain.add(number, value, now),
     }
-    table.append(mac(number), value, now).is_ok() && plain.add(number, value, now)
 }
 
 // One event at both. Whether they agree after it.

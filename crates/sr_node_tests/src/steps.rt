@@ -170,14 +170,21 @@ fn tick(node: &mut Node, now: u64) -> Outcome {
     happens(node, &Event::Tick { now })
 }
 
-/// The host sends. Want of memory for the frame itself is met by another try.
-fn send(alloc: Global, node: &mut Node, dst: Mac, src: Mac, len: usize, now: u64) -> Outcome {
+/// A frame of zeros behind its addresses, as long as a frame may be.
+fn zeros_between(dst: Mac, src: Mac) -> [u8; 1524] {
     let mut octets = [0u8; 1524];
     octets[..6].copy_from_slice(&dst.0);
     octets[6..12].copy_from_slice(&src.0);
     octets[12] = 0x08;
+    octets
+}
+
+/// The host sends. Want of memory for the frame itself is met by another try.
+fn send(alloc: Global, node: &mut Node, dst: Mac, src: Mac, len: usize, now: u64) -> Outcome {
+    let octets = zeros_between(dst, src);
+    let sent = &octets[..len.min(1524)];
     for _ in 0..2 {
-        if let Ok(frame) = Frame::copy(alloc, &octets[..len.min(1524)]) {
+        if let Ok(frame) = Frame::copy(alloc, sent) {
             return happens(node, &Event::Send { frame, now });
         }
     }
