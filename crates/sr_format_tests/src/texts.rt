@@ -9,6 +9,8 @@ pub enum Part {
     Zeros(usize),
     /// A payload that a Linux node sent: `53 51`, the count of its octets, each octet's place, and zeros to 46 octets.
     Counted(u16),
+    /// From the fourth octet up to this one, each octet is its place, modulo 256.
+    Places(usize),
 }
 
 /// Octets, in parts.
@@ -36,10 +38,17 @@ fn append_part(octets: &mut Vec<u8>, part: Part) -> Result<(), AllocError> {
             Ok(())
         }
         Part::Counted(count) => append_counted(octets, count),
+        Part::Places(end) => {
+            for place in 4..end {
+                octets.push((place % 256) as u8)?;
+            }
+            Ok(())
+        }
     }
 }
 
-fn append_text(octets: &mut Vec<u8>, text: Text) -> Result<(), AllocError> {
+/// Appends a text.
+pub fn append_text(octets: &mut Vec<u8>, text: Text) -> Result<(), AllocError> {
     for part in text {
         append_part(octets, *part)?;
     }

@@ -37,6 +37,3 @@ pub use prp_framing::{MAX_NET, PrpFraming};
 pub use role::Role;
 pub use role_image::{Proxied, RoleImage, RoleKind};
 pub use sr_frame::{Learnt, Port};
-
-#[cfg(test)]
-mod tests;

@@ -1,13 +1,14 @@
 //! What a Linux HSR node and a Linux PRP node sent (net/hsr of Linux 7.2, address 02:00:00:00:00:01), one frame of each length,
 //! destination and type. Of the copies for both ports one is here: the other differs in the path, or in the LAN, alone.
 
-use super::Piece::{self, Octets, Places, Zeros};
+use crate::texts::Part::{Places, These, Zeros};
+use crate::texts::Text;
 
 /// A frame of a ring: the addresses, the VLAN tag or nothing, the tag's size and number, the inner type and what follows it.
-pub type Tagged = (&'static [u8], &'static [u8], u16, u16, &'static [Piece]);
+pub type Tagged = (&'static [u8], &'static [u8], u16, u16, Text);
 
 /// A frame of a LAN: the addresses, what follows them up to the trailer, the trailer's size and number.
-pub type Trailed = (&'static [u8], &'static [Piece], u16, u16);
+pub type Trailed = (&'static [u8], Text, u16, u16);
 
 const NODE: &[u8] = b"\x02\x00\x00\x00\x00\x02\x02\x00\x00\x00\x00\x01";
 
@@ -19,13 +20,13 @@ const GROUP: &[u8] = b"\x01\x00\x5e\x00\x01\x05\x02\x00\x00\x00\x00\x01";
 
 /// The frames of the HSR node.
 pub const TAGGED: &[Tagged] = &[
-    (NODE, &[], 52, 64511, &[Octets(b"\x08"), Zeros(47)]),
+    (NODE, &[], 52, 64511, &[These(b"\x08"), Zeros(47)]),
     (
         NODE,
         &[],
         53,
         64516,
-        &[Octets(b"\x08\x00\x53\x51\x00\x2f"), Places(47)],
+        &[These(b"\x08\x00\x53\x51\x00\x2f"), Places(47)],
     ),
     (
         SUPERVISION,
@@ -33,7 +34,7 @@ pub const TAGGED: &[Tagged] = &[
         52,
         64517,
         &[
-            Octets(b"\x88\xfb\x00\x01\x7d\xff\x17\x06\x02\x00\x00\x00\x00\x01"),
+            These(b"\x88\xfb\x00\x01\x7d\xff\x17\x06\x02\x00\x00\x00\x00\x01"),
             Zeros(34),
         ],
     ),
@@ -42,80 +43,80 @@ pub const TAGGED: &[Tagged] = &[
         &[],
         66,
         64518,
-        &[Octets(b"\x08\x00\x53\x51\x00\x3c"), Places(60)],
+        &[These(b"\x08\x00\x53\x51\x00\x3c"), Places(60)],
     ),
     (
         NODE,
         &[],
         106,
         64519,
-        &[Octets(b"\x08\x00\x53\x51\x00\x64"), Places(100)],
+        &[These(b"\x08\x00\x53\x51\x00\x64"), Places(100)],
     ),
     (
         NODE,
         &[],
         1006,
         64520,
-        &[Octets(b"\x08\x00\x53\x51\x03\xe8"), Places(1000)],
+        &[These(b"\x08\x00\x53\x51\x03\xe8"), Places(1000)],
     ),
     (
         NODE,
         &[],
         1500,
         64521,
-        &[Octets(b"\x08\x00\x53\x51\x05\xd6"), Places(1494)],
+        &[These(b"\x08\x00\x53\x51\x05\xd6"), Places(1494)],
     ),
     (
         BROADCAST,
         &[],
         52,
         64522,
-        &[Octets(b"\x08\x00\x53\x51\x00\x01"), Places(46)],
+        &[These(b"\x08\x00\x53\x51\x00\x01"), Places(46)],
     ),
     (
         GROUP,
         &[],
         52,
         64523,
-        &[Octets(b"\x08\x00\x53\x51\x00\x02"), Places(46)],
+        &[These(b"\x08\x00\x53\x51\x00\x02"), Places(46)],
     ),
     (
         NODE,
         b"\x81\x00\x00\x05",
         48,
         64526,
-        &[Octets(b"\x08"), Zeros(43)],
+        &[These(b"\x08"), Zeros(43)],
     ),
     (
         NODE,
         b"\x81\x00\x00\x05",
         52,
         64528,
-        &[Octets(b"\x08\x00\x53\x51\x00\x2e"), Places(46)],
+        &[These(b"\x08\x00\x53\x51\x00\x2e"), Places(46)],
     ),
     (
         NODE,
         b"\x81\x00\x00\x05",
         53,
         64529,
-        &[Octets(b"\x08\x00\x53\x51\x00\x2f"), Places(47)],
+        &[These(b"\x08\x00\x53\x51\x00\x2f"), Places(47)],
     ),
     (
         NODE,
         b"\x81\x00\x00\x05",
         106,
         64530,
-        &[Octets(b"\x08\x00\x53\x51\x00\x64"), Places(100)],
+        &[These(b"\x08\x00\x53\x51\x00\x64"), Places(100)],
     ),
 ];
 
 /// The frames of the PRP node.
 pub const TRAILED: &[Trailed] = &[
-    (NODE, &[Octets(b"\x08"), Zeros(47)], 52, 64511),
+    (NODE, &[These(b"\x08"), Zeros(47)], 52, 64511),
     (
         SUPERVISION,
         &[
-            Octets(b"\x88\xfb\x00\x01\x7d\xff\x14\x06\x02\x00\x00\x00\x00\x01"),
+            These(b"\x88\xfb\x00\x01\x7d\xff\x14\x06\x02\x00\x00\x00\x00\x01"),
             Zeros(34),
         ],
         52,
@@ -123,74 +124,74 @@ pub const TRAILED: &[Trailed] = &[
     ),
     (
         NODE,
-        &[Octets(b"\x08\x00\x53\x51\x00\x2f"), Places(47)],
+        &[These(b"\x08\x00\x53\x51\x00\x2f"), Places(47)],
         53,
         64518,
     ),
     (
         NODE,
-        &[Octets(b"\x08\x00\x53\x51\x00\x3c"), Places(60)],
+        &[These(b"\x08\x00\x53\x51\x00\x3c"), Places(60)],
         66,
         64519,
     ),
     (
         NODE,
-        &[Octets(b"\x08\x00\x53\x51\x00\x64"), Places(100)],
+        &[These(b"\x08\x00\x53\x51\x00\x64"), Places(100)],
         106,
         64520,
     ),
     (
         NODE,
-        &[Octets(b"\x08\x00\x53\x51\x03\xe8"), Places(1000)],
+        &[These(b"\x08\x00\x53\x51\x03\xe8"), Places(1000)],
         1006,
         64521,
     ),
     (
         NODE,
-        &[Octets(b"\x08\x00\x53\x51\x05\xd5"), Places(1493)],
+        &[These(b"\x08\x00\x53\x51\x05\xd5"), Places(1493)],
         1499,
         64522,
     ),
     (
         NODE,
-        &[Octets(b"\x08\x00\x53\x51\x05\xd6"), Places(1494)],
+        &[These(b"\x08\x00\x53\x51\x05\xd6"), Places(1494)],
         1500,
         64523,
     ),
     (
         BROADCAST,
-        &[Octets(b"\x08\x00\x53\x51\x00\x01"), Places(46)],
+        &[These(b"\x08\x00\x53\x51\x00\x01"), Places(46)],
         52,
         64524,
     ),
     (
         GROUP,
-        &[Octets(b"\x08\x00\x53\x51\x00\x02"), Places(46)],
+        &[These(b"\x08\x00\x53\x51\x00\x02"), Places(46)],
         52,
         64525,
     ),
     (
         NODE,
-        &[Octets(b"\x00\x2e\x53\x51\x00\x04"), Places(46)],
+        &[These(b"\x00\x2e\x53\x51\x00\x04"), Places(46)],
         52,
         64527,
     ),
     (
         NODE,
-        &[Octets(b"\x89\x2f\x53\x51\x00\x05"), Places(46)],
+        &[These(b"\x89\x2f\x53\x51\x00\x05"), Places(46)],
         52,
         64528,
     ),
     (
         NODE,
-        &[Octets(b"\x81\x00\x00\x05\x08"), Zeros(47)],
+        &[These(b"\x81\x00\x00\x05\x08"), Zeros(47)],
         52,
         64529,
     ),
     (
         NODE,
         &[
-            Octets(b"\x81\x00\x00\x05\x08\x00\x53\x51\x00\x2f"),
+            These(b"\x81\x00\x00\x05\x08\x00\x53\x51\x00\x2f"),
             Places(47),
         ],
         53,
@@ -199,7 +200,7 @@ pub const TRAILED: &[Trailed] = &[
     (
         NODE,
         &[
-            Octets(b"\x81\x00\x00\x05\x08\x00\x53\x51\x00\x64"),
+            These(b"\x81\x00\x00\x05\x08\x00\x53\x51\x00\x64"),
             Places(100),
         ],
         106,
@@ -208,7 +209,7 @@ pub const TRAILED: &[Trailed] = &[
     (
         NODE,
         &[
-            Octets(b"\x81\x00\x00\x05\x08\x00\x53\x51\x05\xd2"),
+            These(b"\x81\x00\x00\x05\x08\x00\x53\x51\x05\xd2"),
             Places(1490),
         ],
         1496,
@@ -217,7 +218,7 @@ pub const TRAILED: &[Trailed] = &[
     (
         NODE,
         &[
-            Octets(b"\x81\x00\x00\x05\x08\x00\x53\x51\x05\xd6"),
+            These(b"\x81\x00\x00\x05\x08\x00\x53\x51\x05\xd6"),
             Places(1494),
         ],
         1500,
@@ -226,7 +227,7 @@ pub const TRAILED: &[Trailed] = &[
     (
         NODE,
         &[
-            Octets(b"\x88\xa8\x00\x05\x08\x00\x53\x51\x00\x07"),
+            These(b"\x88\xa8\x00\x05\x08\x00\x53\x51\x00\x07"),
             Places(46),
         ],
         56,
@@ -235,7 +236,7 @@ pub const TRAILED: &[Trailed] = &[
     (
         NODE,
         &[
-            Octets(b"\x81\x00\x00\x05\x81\x00\x00\x06\x08\x00\x53\x51\x00\x08"),
+            These(b"\x81\x00\x00\x05\x81\x00\x00\x06\x08\x00\x53\x51\x00\x08"),
             Places(46),
         ],
         56,
