@@ -9,6 +9,3 @@ mod rows;
 
 pub use lane_sets::{Lane, Lanes};
 pub use record::{Apart, Record};
-
-#[cfg(test)]
-mod tests;

@@ -1,5 +1,5 @@
-//! Tests of `sr_frame`, `sr_prp_trailer`, `sr_hsr_tag`, `sr_supervision` and `sr_forwarding`, above them, so that their
-//! own functions are proved once.
+//! Tests of `sr_sequence`, `sr_frame`, `sr_prp_trailer`, `sr_hsr_tag`, `sr_supervision` and `sr_forwarding`, above them,
+//! so that their own functions are proved once.
 #![tactic(auto)]
 
 #[cfg(test)]
@@ -14,6 +14,8 @@ mod framings;
 mod growths;
 #[cfg(test)]
 mod linux_frames;
+#[cfg(test)]
+mod numbers;
 #[cfg(test)]
 mod reading_edges;
 #[cfg(test)]

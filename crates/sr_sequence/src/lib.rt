@@ -47,6 +47,3 @@ pub fn place(reference: Seq, seq: Seq, window: u16) -> Distance
         Distance::Ahead(seq.0.wrapping_sub(reference.0))
     }
 }
-
-#[cfg(test)]
-mod tests;

@@ -1,4 +1,6 @@
-use super::*;
+//! Sequence numbers.
+
+use sr_sequence::{Distance, Seq, place};
 
 #[test]
 fn places(rt: HostRuntime) {

@@ -1,11 +1,10 @@
-//! Worked values, and a comparison with a plain slow record.
-mod slow;
+//! Duplicate records: worked values, and a comparison with a plain slow record.
 
 ghost use Rattle.std.specs.Prelude.{◌≡◌, ◌⊎◌};
 
-use crate::{Apart, Lane, Lanes, Record};
+use crate::slow_record::Slow;
 use bitflags::Flags;
-use slow::Slow;
+use sr_dup_window::{Apart, Lane, Lanes, Record};
 use sr_sequence::Seq;
 use std::alloc::Global;
 use std::test::Fail;

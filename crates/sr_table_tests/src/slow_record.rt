@@ -1,5 +1,5 @@
 //! A plain slow record: all numbers ever noted, one by one, each as it would be without its 16 bits.
-use crate::Lanes;
+use sr_dup_window::Lanes;
 use sr_sequence::Seq;
 use std::alloc::Global;
 use std::test::Fail;
