@@ -1,5 +1,6 @@
 -- What a steady run leaves in the table: of each source that is not forgotten, its epoch.
-use Rattle.std.proofs.Common.{◌≡◌, ℕ, ◌-◌, ◌≤◌, Bool, true, false, cond, if◌then◌else◌, ◌||◌, ◌&&◌, not, List, [], ◌∷◌, ◌++◌, length, Option, None, Some, is_some, ℤ, arith, refl, sym, ap, ◌∙◌, subst, inl, inr}
+use Rattle.std.proofs.Common.{◌≡◌, ℕ, ◌-◌, ◌≤◌, Bool, true, false, cond, if◌then◌else◌, ◌||◌, ◌&&◌, not, List, [], ◌∷◌, ◌++◌, length,
+    Option, None, Some, is_some, ℤ, arith, refl, sym, ap, ◌∙◌, subst, inl, inr}
 use Rattle.std.specs.Prelude.{max, nat_lt}
 use Rattle.std.specs.Ordering.{int_eq}
 use Rattle.std.specs.List.{list_any, IsDistinct}
@@ -23,7 +24,8 @@ use Rattle.sr_frame.specs.Addresses.{mac_eq}
 use Rattle.sr_frame.specs.AddressLemmas.{mac_same, mac_refl, mac_laws}
 use Rattle.sr_dup_table.specs.Limits.{window, most_sources, forget_time}
 use Rattle.sr_dup_table.specs.Sources.{Heard, Sources, is_live, live_at, with_room, begun_at, heard_next, answer_of, after_of}
-use Rattle.sr_dup_runs.specs.TableRuns.{Noting, epoch, greatest_of, is_copy, copies_of, was_noted, IsNearAll, TableTurn, arrived, aged, notings_of, arrivals_of, latest, TableRun, IsNext, AreSteady, AreInOrder, EachPairIsNewOnce, BeyondIsNew}
+use Rattle.sr_dup_runs.specs.TableRuns.{Noting, epoch, greatest_of, is_copy, copies_of, was_noted, IsNearAll, TableTurn, arrived, aged,
+    notings_of, arrivals_of, latest, TableRun, IsNext, AreSteady, AreInOrder, EachPairIsNewOnce, BeyondIsNew}
 
 -- the notings of a source's epoch at a time
 abbrev pub noted_epoch : Mac → ℕ → List Noting → List Noting
@@ -63,7 +65,9 @@ none_noted src n lane (x ∷ xs) none =
     ]
 
 -- where all copies are in the epoch, what was noted of them was noted in it
-noted_in_epoch : (src : Mac) (now : ℕ) (n : ℤ) (lane : Lane) (xs : List Noting) → copies_of src n (arrivals_of xs) ≡ copies_of src n (epoch src now (arrivals_of xs)) → was_noted src n lane xs ≡ was_noted src n lane (noted_epoch src now xs)
+noted_in_epoch : (src : Mac) (now : ℕ) (n : ℤ) (lane : Lane) (xs : List Noting) →
+    copies_of src n (arrivals_of xs) ≡ copies_of src n (epoch src now (arrivals_of xs)) →
+    was_noted src n lane xs ≡ was_noted src n lane (noted_epoch src now xs)
 noted_in_epoch src now n lane [] together = refl
 noted_in_epoch src now n lane (x ∷ xs) together =
     elim (cases_Bool (mac_eq src x.arrival.src)) [
@@ -72,10 +76,12 @@ noted_in_epoch src now n lane (x ∷ xs) together =
             | inl live ↦
                 elim (cases_Bool (int_eq n x.arrival.number)) [
                   | inl same ↦
-                      let both : x.arrival ∷ copies_of src n (arrivals_of xs) ≡ x.arrival ∷ copies_of src n (epoch src x.arrival.time (arrivals_of xs)) = rw (own, live, own, same) at together in
+                      let both : x.arrival ∷ copies_of src n (arrivals_of xs) ≡ x.arrival
+                      ∷ copies_of src n (epoch src x.arrival.time (arrivals_of xs)) = rw (own, live, own, same) at together in
                       let rest : copies_of src n (arrivals_of xs) ≡ copies_of src n (epoch src x.arrival.time (arrivals_of xs)) = cc in
                       rw (own, live, own, same) (ap (λ r. has x.lanes lane || r) (noted_in_epoch src x.arrival.time n lane xs rest))
-                  | inr other ↦ rw (own, live, own, other) (noted_in_epoch src x.arrival.time n lane xs (rw (own, live, own, other) at together))
+                  | inr other ↦ rw (own, live, own, other)
+                  (noted_in_epoch src x.arrival.time n lane xs (rw (own, live, own, other) at together))
                 ]
             | inr old ↦
                 let over : epoch src now (arrivals_of (x ∷ xs)) ≡ [] = rw (own, old) refl in
@@ -112,14 +118,16 @@ now_is_live : (now : ℕ) → nat_lt (now - now) forget_time ≡ true
 now_is_live now = lt-ltb (now - now) forget_time (omega arith)
 
 -- the family of some arrivals has a number where one of them does
-family_any : (xs : List Noting) (lane : Lane) (n : ℤ) → family_of xs lane n ≡ list_any (λ x. int_eq n x.arrival.number && has x.lanes lane) xs
+family_any : (xs : List Noting) (lane : Lane) (n : ℤ) →
+    family_of xs lane n ≡ list_any (λ x. int_eq n x.arrival.number && has x.lanes lane) xs
 family_any [] lane n = refl
 family_any (x ∷ []) lane n = or_none (int_eq n x.arrival.number && has x.lanes lane)
   where
     or_none : (b : Bool) → b ≡ (b || false)
     or_none true = refl
     or_none false = refl
-family_any (x ∷ y ∷ before) lane n = turned (family_of (y ∷ before) lane n) (int_eq n x.arrival.number && has x.lanes lane) _ (family_any (y ∷ before) lane n)
+family_any (x ∷ y ∷ before) lane n = turned (family_of (y ∷ before) lane n) (int_eq n x.arrival.number && has x.lanes lane) _
+    (family_any (y ∷ before) lane n)
   where
     turned : (a b c : Bool) → a ≡ c → (a || b) ≡ (b || c)
     turned true true c e = refl
@@ -128,7 +136,9 @@ family_any (x ∷ y ∷ before) lane n = turned (family_of (y ∷ before) lane n
     turned false false c e = e
 
 -- one more arrival of the source, among the copies and among all
-head_any : (src : Mac) (n : ℤ) (lane : Lane) (x : Noting) (xs : List Noting) → mac_eq src x.arrival.src ≡ true → list_any (λ y. int_eq n y.arrival.number && has y.lanes lane) xs ≡ was_noted src n lane xs → list_any (λ y. int_eq n y.arrival.number && has y.lanes lane) (x ∷ xs) ≡ was_noted src n lane (x ∷ xs)
+head_any : (src : Mac) (n : ℤ) (lane : Lane) (x : Noting) (xs : List Noting) → mac_eq src x.arrival.src ≡ true →
+    list_any (λ y. int_eq n y.arrival.number && has y.lanes lane) xs ≡ was_noted src n lane xs →
+    list_any (λ y. int_eq n y.arrival.number && has y.lanes lane) (x ∷ xs) ≡ was_noted src n lane (x ∷ xs)
 head_any src n lane x xs own ih =
     elim (cases_Bool (int_eq n x.arrival.number)) [
       | inl same ↦ rw (own, same) (ap (λ r. has x.lanes lane || r) ih)
@@ -136,20 +146,23 @@ head_any src n lane x xs own ih =
     ]
 
 -- all arrivals of an epoch are the source's
-epoch_any : (src : Mac) (now : ℕ) (n : ℤ) (lane : Lane) (xs : List Noting) → list_any (λ y. int_eq n y.arrival.number && has y.lanes lane) (noted_epoch src now xs) ≡ was_noted src n lane (noted_epoch src now xs)
+epoch_any : (src : Mac) (now : ℕ) (n : ℤ) (lane : Lane) (xs : List Noting) →
+    list_any (λ y. int_eq n y.arrival.number && has y.lanes lane) (noted_epoch src now xs) ≡ was_noted src n lane (noted_epoch src now xs)
 epoch_any src now n lane [] = refl
 epoch_any src now n lane (x ∷ xs) =
     elim (cases_Bool (mac_eq src x.arrival.src)) [
       | inl own ↦
           elim (cases_Bool (nat_lt (now - x.arrival.time) forget_time)) [
-            | inl live ↦ rw (own, live) (head_any src n lane x (noted_epoch src x.arrival.time xs) own (epoch_any src x.arrival.time n lane xs))
+            | inl live ↦ rw (own, live)
+            (head_any src n lane x (noted_epoch src x.arrival.time xs) own (epoch_any src x.arrival.time n lane xs))
             | inr old ↦ rw (own, old) refl
           ]
       | inr other ↦ rw other (epoch_any src now n lane xs)
     ]
 
 -- so the family of an epoch says what was noted in it
-family_of_epoch : (src : Mac) (now : ℕ) (n : ℤ) (lane : Lane) (xs : List Noting) → family_of (noted_epoch src now xs) lane n ≡ was_noted src n lane (noted_epoch src now xs)
+family_of_epoch : (src : Mac) (now : ℕ) (n : ℤ) (lane : Lane) (xs : List Noting) →
+    family_of (noted_epoch src now xs) lane n ≡ was_noted src n lane (noted_epoch src now xs)
 family_of_epoch src now n lane xs = family_any (noted_epoch src now xs) lane n ∙ epoch_any src now n lane xs
 
 -- what is kept of a source stays kept as time passes, and past arrivals of others
@@ -157,24 +170,29 @@ keeps_later : (q : Mac) (xs : List Noting) (last now : ℕ) (o : Option Heard) �
 keeps_later q xs last now None le k = λ later h. k later (omega (arith, le, h))
 keeps_later q xs last now (Some h) le k = record { time = omega (arith, k.time, le); stands = k.stands; later = k.later }
 
-keeps_past : (q : Mac) (x : Noting) (xs : List Noting) (last : ℕ) (o : Option Heard) → mac_eq q x.arrival.src ≡ false → Keeps q xs last o → Keeps q (x ∷ xs) last o
+keeps_past : (q : Mac) (x : Noting) (xs : List Noting) (last : ℕ) (o : Option Heard) → mac_eq q x.arrival.src ≡ false → Keeps q xs last o →
+    Keeps q (x ∷ xs) last o
 keeps_past q x xs last None other k = λ now h. rw other (k now h)
 keeps_past q x xs last (Some h) other k = record { time = k.time; stands = rw other k.stands; later = λ now g. rw other (k.later now g) }
 
 -- a forgotten entry may go
-keeps_filtered : (q : Mac) (xs : List Noting) (last now : ℕ) (o : Option Heard) → last ≤ now → Keeps q xs last o → Keeps q xs now (option_filter (is_live now) o)
+keeps_filtered : (q : Mac) (xs : List Noting) (last now : ℕ) (o : Option Heard) → last ≤ now → Keeps q xs last o →
+    Keeps q xs now (option_filter (is_live now) o)
 keeps_filtered q xs last now None le k = keeps_later q xs last now None le k
 keeps_filtered q xs last now (Some h) le k =
     elim (cases_Bool (is_live now h)) [
       | inl live ↦ rw live (keeps_later q xs last now (Some h) le k)
-      | inr old ↦ rw old (λ later g. k.later later (omega (arith, k.time, le, g)) ∙ ap (λ b. cond b (noted_epoch q h.time xs) []) (stays_old now later h.time g old))
+      | inr old ↦ rw old (λ later g. k.later later (omega (arith, k.time, le, g)) ∙ ap (λ b. cond b (noted_epoch q h.time xs) [])
+      (stays_old now later h.time g old))
     ]
   where
     stays_old : (now later time : ℕ) → now ≤ later → nat_lt (now - time) forget_time ≡ false → nat_lt (later - time) forget_time ≡ false
     stays_old now later time le old = grind (arith, le)
 
 -- what is kept of the source that arrived
-keeps_own : (q : Mac) (x : Noting) (xs : List Noting) (h : Heard) → mac_eq q x.arrival.src ≡ true → h.time ≡ x.arrival.time → StandsFor window h.seen (family_of (x ∷ noted_epoch q x.arrival.time xs)) (top_of (x ∷ noted_epoch q x.arrival.time xs)) → KeepsEpoch q (x ∷ xs) x.arrival.time h
+keeps_own : (q : Mac) (x : Noting) (xs : List Noting) (h : Heard) → mac_eq q x.arrival.src ≡ true → h.time ≡ x.arrival.time →
+    StandsFor window h.seen (family_of (x ∷ noted_epoch q x.arrival.time xs)) (top_of (x ∷ noted_epoch q x.arrival.time xs)) →
+    KeepsEpoch q (x ∷ xs) x.arrival.time h
 keeps_own q x xs h own at stands =
     let now_is : noted_epoch q x.arrival.time (x ∷ xs) ≡ x ∷ noted_epoch q x.arrival.time xs = rw (own, now_is_live x.arrival.time) refl in
     record {
@@ -184,23 +202,31 @@ keeps_own q x xs h own at stands =
     }
 
 -- a window after an arrival in its epoch
-live_stands : (w : Window) (es : List Noting) (x : Noting) → StandsFor window w (family_of es) (top_of es) → IsNearNoted es x.arrival.number → is_empty x.lanes ≡ false → StandsFor window (window_noted window w (wire x.arrival.number) x.lanes) (family_of (x ∷ es)) (top_of (x ∷ es))
+live_stands : (w : Window) (es : List Noting) (x : Noting) → StandsFor window w (family_of es) (top_of es) → IsNearNoted es x.arrival.number
+    → is_empty x.lanes ≡ false →
+    StandsFor window (window_noted window w (wire x.arrival.number) x.lanes) (family_of (x ∷ es)) (top_of (x ∷ es))
 live_stands w [] x stands near some = let no : false ≡ true = stands.top.member.1 in absurd cc
-live_stands w (y ∷ ys) x stands near some = noted-stands window w (family_of (y ∷ ys)) (top_of (y ∷ ys)) x.arrival.number (wire x.arrival.number) x.lanes (inl refl) some stands near refl
+live_stands w (y ∷ ys) x stands near some = noted-stands window w (family_of (y ∷ ys)) (top_of (y ∷ ys)) x.arrival.number
+    (wire x.arrival.number) x.lanes (inl refl) some stands near refl
 
 -- a window that begins
-begun_stands : (es : List Noting) (x : Noting) → es ≡ [] → is_empty x.lanes ≡ false → StandsFor window (window_begun window (wire x.arrival.number) x.lanes) (family_of (x ∷ es)) (top_of (x ∷ es))
+begun_stands : (es : List Noting) (x : Noting) → es ≡ [] → is_empty x.lanes ≡ false →
+    StandsFor window (window_begun window (wire x.arrival.number) x.lanes) (family_of (x ∷ es)) (top_of (x ∷ es))
 begun_stands es x none some = rw none (begun-stands window x.lanes x.arrival.number (wire x.arrival.number) (inl refl) some refl)
 
 -- what is new of a number that a window lacks
-live_fresh : (w : Window) (es : List Noting) (x : Noting) (lane : Lane) → StandsFor window w (family_of es) (top_of es) → IsNearNoted es x.arrival.number → has (fresh_lanes window w (wire x.arrival.number) x.lanes) lane ≡ (has x.lanes lane && not (family_of es lane x.arrival.number))
+live_fresh : (w : Window) (es : List Noting) (x : Noting) (lane : Lane) → StandsFor window w (family_of es) (top_of es) →
+    IsNearNoted es x.arrival.number →
+    has (fresh_lanes window w (wire x.arrival.number) x.lanes) lane ≡ (has x.lanes lane && not (family_of es lane x.arrival.number))
 live_fresh w [] x lane stands near = let no : false ≡ true = stands.top.member.1 in absurd cc
 live_fresh w (y ∷ ys) x lane stands near =
-    ap (λ ls. has ls lane) (fresh-lanes-by-family window w (family_of (y ∷ ys)) (top_of (y ∷ ys)) x.arrival.number (wire x.arrival.number) x.lanes (inl refl) stands near refl)
+    ap (λ ls. has ls lane) (fresh-lanes-by-family window w (family_of (y ∷ ys)) (top_of (y ∷ ys)) x.arrival.number (wire x.arrival.number)
+    x.lanes (inl refl) stands near refl)
     ∙ has-lanes_where (λ l. has x.lanes l && not (family_of (y ∷ ys) l x.arrival.number)) lane
 
 -- looking up behind one more entry
-lookup_pushed : (q : Mac) (s : Sources) (m : Mac) (h : Heard) → lookup (mac_eq q) (s ++ (m, h) ∷ []) ≡ cond (is_some (lookup (mac_eq q) s)) (lookup (mac_eq q) s) (cond (mac_eq q m) (Some h) None)
+lookup_pushed : (q : Mac) (s : Sources) (m : Mac) (h : Heard) →
+    lookup (mac_eq q) (s ++ (m, h) ∷ []) ≡ cond (is_some (lookup (mac_eq q) s)) (lookup (mac_eq q) s) (cond (mac_eq q m) (Some h) None)
 lookup_pushed q [] m h = refl
 lookup_pushed q (e ∷ es) m h =
     elim (cases_Bool (mac_eq q e.0)) [
@@ -221,10 +247,13 @@ absent_key m (e ∷ es) lacks =
     ]
 
 -- looking up where the forgotten may have gone
-lookup_live : (q : Mac) (s : Sources) (now : ℕ) → IsDistinct mac_eq (keys_of s) → lookup (mac_eq q) (live_at now s) ≡ option_filter (is_live now) (lookup (mac_eq q) s)
+lookup_live : (q : Mac) (s : Sources) (now : ℕ) → IsDistinct mac_eq (keys_of s) →
+    lookup (mac_eq q) (live_at now s) ≡ option_filter (is_live now) (lookup (mac_eq q) s)
 lookup_live q s now keys = lookup-filter-values mac_laws (is_live now) q s keys
 
-lookup_with_room : (q : Mac) (s : Sources) (now : ℕ) → IsDistinct mac_eq (keys_of s) → lookup (mac_eq q) (with_room now s) ≡ cond (nat_lt (length s) most_sources) (lookup (mac_eq q) s) (option_filter (is_live now) (lookup (mac_eq q) s))
+lookup_with_room : (q : Mac) (s : Sources) (now : ℕ) → IsDistinct mac_eq (keys_of s) →
+    lookup (mac_eq q) (with_room now s) ≡ cond (nat_lt (length s) most_sources) (lookup (mac_eq q) s)
+    (option_filter (is_live now) (lookup (mac_eq q) s))
 lookup_with_room q s now keys =
     elim (cases_Bool (nat_lt (length s) most_sources)) [
       | inl room ↦ rw room refl
@@ -239,14 +268,16 @@ keys_with_room s now keys =
     ]
 
 -- the others of a table that makes room
-keeps_with_room : (q : Mac) (xs : List Noting) (last now : ℕ) (s : Sources) → Kept xs last s → last ≤ now → Keeps q xs now (lookup (mac_eq q) (with_room now s))
+keeps_with_room : (q : Mac) (xs : List Noting) (last now : ℕ) (s : Sources) → Kept xs last s → last ≤ now →
+    Keeps q xs now (lookup (mac_eq q) (with_room now s))
 keeps_with_room q xs last now s kept le =
     elim (cases_Bool (nat_lt (length s) most_sources)) [
       | inl room ↦ rw (lookup_with_room q s now kept.keys, room) (keeps_later q xs last now (lookup (mac_eq q) s) le (kept.each q))
       | inr full ↦ rw (lookup_with_room q s now kept.keys, full) (keeps_filtered q xs last now (lookup (mac_eq q) s) le (kept.each q))
     ]
 
-absent_with_room : (m : Mac) (s : Sources) (now : ℕ) → IsDistinct mac_eq (keys_of s) → lookup (mac_eq m) s ≡ None → lookup (mac_eq m) (with_room now s) ≡ None
+absent_with_room : (m : Mac) (s : Sources) (now : ℕ) → IsDistinct mac_eq (keys_of s) → lookup (mac_eq m) s ≡ None →
+    lookup (mac_eq m) (with_room now s) ≡ None
 absent_with_room m s now keys lacks =
     elim (cases_Bool (nat_lt (length s) most_sources)) [
       | inl room ↦ rw (lookup_with_room m s now keys, room) lacks
@@ -259,28 +290,40 @@ itself None = refl
 itself (Some h) = refl
 
 -- a source that is not there begins its record at the end
-pushed_keeps : (x : Noting) (xs : List Noting) (last : ℕ) (s : Sources) → Kept xs last s → last ≤ x.arrival.time → is_empty x.lanes ≡ false → lookup (mac_eq x.arrival.src) s ≡ None → Kept (x ∷ xs) x.arrival.time (with_room x.arrival.time s ++ (x.arrival.src, begun_at (wire x.arrival.number) x.lanes x.arrival.time) ∷ [])
+pushed_keeps : (x : Noting) (xs : List Noting) (last : ℕ) (s : Sources) → Kept xs last s → last ≤ x.arrival.time → is_empty x.lanes ≡ false
+    → lookup (mac_eq x.arrival.src) s ≡ None →
+    Kept (x ∷ xs) x.arrival.time
+    (with_room x.arrival.time s ++ (x.arrival.src, begun_at (wire x.arrival.number) x.lanes x.arrival.time) ∷ [])
 pushed_keeps x xs last s kept le some lacks =
     let r = with_room x.arrival.time s in
     let h = begun_at (wire x.arrival.number) x.lanes x.arrival.time in
     let absent : lookup (mac_eq x.arrival.src) r ≡ None = absent_with_room x.arrival.src s x.arrival.time kept.keys lacks in
     let before : Keeps x.arrival.src xs last (lookup (mac_eq x.arrival.src) s) = kept.each x.arrival.src in
     let none : noted_epoch x.arrival.src x.arrival.time xs ≡ [] = (rw lacks at before) x.arrival.time le in
-    let own : KeepsEpoch x.arrival.src (x ∷ xs) x.arrival.time h = keeps_own x.arrival.src x xs h (mac_refl x.arrival.src) refl (begun_stands (noted_epoch x.arrival.src x.arrival.time xs) x none some) in
-    let found : lookup (mac_eq x.arrival.src) (r ++ (x.arrival.src, h) ∷ []) ≡ Some h = rw (lookup_pushed x.arrival.src r x.arrival.src h, absent, mac_refl x.arrival.src) refl in
+    let own : KeepsEpoch x.arrival.src (x ∷ xs) x.arrival.time h = keeps_own x.arrival.src x xs h (mac_refl x.arrival.src) refl
+    (begun_stands (noted_epoch x.arrival.src x.arrival.time xs) x none some) in
+    let found : lookup (mac_eq x.arrival.src) (r ++ (x.arrival.src, h) ∷ [])
+    ≡ Some h = rw (lookup_pushed x.arrival.src r x.arrival.src h, absent, mac_refl x.arrival.src) refl in
     let here : Keeps x.arrival.src (x ∷ xs) x.arrival.time (lookup (mac_eq x.arrival.src) (r ++ (x.arrival.src, h) ∷ [])) = rw found own in
     record {
       each = λ q. elim (cases_Bool (mac_eq q x.arrival.src)) [
-        | inl same ↦ let P : Mac → Type 0 = λ m. Keeps m (x ∷ xs) x.arrival.time (lookup (mac_eq m) (r ++ (x.arrival.src, h) ∷ [])) in subst P (sym (mac_same q x.arrival.src same)) here
+        | inl same ↦ let P : Mac →
+        Type 0 = λ m. Keeps m (x ∷ xs) x.arrival.time (lookup (mac_eq m) (r ++ (x.arrival.src, h) ∷ [])) in subst P
+        (sym (mac_same q x.arrival.src same)) here
         | inr other ↦
-            let stays : lookup (mac_eq q) (r ++ (x.arrival.src, h) ∷ []) ≡ lookup (mac_eq q) r = rw (lookup_pushed q r x.arrival.src h, other) (itself (lookup (mac_eq q) r)) in
+            let stays : lookup (mac_eq q) (r ++ (x.arrival.src, h) ∷ [])
+            ≡ lookup (mac_eq q) r = rw (lookup_pushed q r x.arrival.src h, other) (itself (lookup (mac_eq q) r)) in
             rw stays (keeps_past q x xs x.arrival.time (lookup (mac_eq q) r) other (keeps_with_room q xs last x.arrival.time s kept le))
       ];
-      keys = rw (keys_pushed r x.arrival.src h) (IsDistinct-push mac_laws (keys_of r) x.arrival.src (keys_with_room s x.arrival.time kept.keys) (absent_key x.arrival.src r absent));
+      keys = rw (keys_pushed r x.arrival.src h)
+      (IsDistinct-push mac_laws (keys_of r) x.arrival.src (keys_with_room s x.arrival.time kept.keys) (absent_key x.arrival.src r absent));
     }
 
 -- a source that is there
-set_keeps : (x : Noting) (xs : List Noting) (last : ℕ) (s : Sources) (h : Heard) → Kept xs last s → last ≤ x.arrival.time → is_empty x.lanes ≡ false → lookup (mac_eq x.arrival.src) s ≡ Some h → IsNearNoted (noted_epoch x.arrival.src x.arrival.time xs) x.arrival.number → Kept (x ∷ xs) x.arrival.time (set_value (mac_eq x.arrival.src) s (heard_next h (wire x.arrival.number) x.lanes x.arrival.time))
+set_keeps : (x : Noting) (xs : List Noting) (last : ℕ) (s : Sources) (h : Heard) → Kept xs last s → last ≤ x.arrival.time →
+    is_empty x.lanes ≡ false → lookup (mac_eq x.arrival.src) s ≡ Some h →
+    IsNearNoted (noted_epoch x.arrival.src x.arrival.time xs) x.arrival.number →
+    Kept (x ∷ xs) x.arrival.time (set_value (mac_eq x.arrival.src) s (heard_next h (wire x.arrival.number) x.lanes x.arrival.time))
 set_keeps x xs last s h kept le some there near =
     let next = heard_next h (wire x.arrival.number) x.lanes x.arrival.time in
     let t = set_value (mac_eq x.arrival.src) s next in
@@ -289,33 +332,48 @@ set_keeps x xs last s h kept le some there near =
     let found : (q : Mac) → lookup (mac_eq q) t ≡ cond (mac_eq x.arrival.src q) (Some next) (lookup (mac_eq q) s) =
     λ q. lookup-set_value mac_laws (mac_eq x.arrival.src) (λ a b e. mac_laws.congr x.arrival.src a b e) q next s (rw there refl) in
     let own : KeepsEpoch x.arrival.src (x ∷ xs) x.arrival.time next = next_keeps x xs last h was le some near in
-    let here : Keeps x.arrival.src (x ∷ xs) x.arrival.time (lookup (mac_eq x.arrival.src) t) = rw (found x.arrival.src, mac_refl x.arrival.src) own in
+    let here : Keeps x.arrival.src (x ∷ xs) x.arrival.time (lookup (mac_eq x.arrival.src) t) = rw
+    (found x.arrival.src, mac_refl x.arrival.src) own in
     record {
       each = λ q. elim (cases_Bool (mac_eq q x.arrival.src)) [
-        | inl same ↦ let P : Mac → Type 0 = λ m. Keeps m (x ∷ xs) x.arrival.time (lookup (mac_eq m) t) in subst P (sym (mac_same q x.arrival.src same)) here
+        | inl same ↦ let P : Mac →
+        Type 0 = λ m. Keeps m (x ∷ xs) x.arrival.time (lookup (mac_eq m) t) in subst P (sym (mac_same q x.arrival.src same)) here
         | inr other ↦
             let stays : lookup (mac_eq q) t ≡ lookup (mac_eq q) s = rw (found q, mac_laws.symm x.arrival.src q, other) refl in
-            rw stays (keeps_past q x xs x.arrival.time (lookup (mac_eq q) s) other (keeps_later q xs last x.arrival.time (lookup (mac_eq q) s) le (kept.each q)))
+            rw stays (keeps_past q x xs x.arrival.time (lookup (mac_eq q) s) other
+            (keeps_later q xs last x.arrival.time (lookup (mac_eq q) s) le (kept.each q)))
       ];
       keys = rw (keys-set_value (mac_eq x.arrival.src) s next) kept.keys;
     }
   where
-    next_keeps : (x : Noting) (xs : List Noting) (last : ℕ) (h : Heard) → KeepsEpoch x.arrival.src xs last h → last ≤ x.arrival.time → is_empty x.lanes ≡ false → IsNearNoted (noted_epoch x.arrival.src x.arrival.time xs) x.arrival.number → KeepsEpoch x.arrival.src (x ∷ xs) x.arrival.time (heard_next h (wire x.arrival.number) x.lanes x.arrival.time)
+    next_keeps : (x : Noting) (xs : List Noting) (last : ℕ) (h : Heard) → KeepsEpoch x.arrival.src xs last h → last ≤ x.arrival.time →
+    is_empty x.lanes ≡ false → IsNearNoted (noted_epoch x.arrival.src x.arrival.time xs) x.arrival.number →
+    KeepsEpoch x.arrival.src (x ∷ xs) x.arrival.time (heard_next h (wire x.arrival.number) x.lanes x.arrival.time)
     next_keeps x xs last h was le some near =
         let since : h.time ≤ x.arrival.time = omega (arith, was.time, le) in
         let later_is = was.later x.arrival.time since in
         elim (cases_Bool (is_live x.arrival.time h)) [
           | inl live ↦
-              let same : noted_epoch x.arrival.src x.arrival.time xs ≡ noted_epoch x.arrival.src h.time xs = later_is ∙ ap (λ b. cond b (noted_epoch x.arrival.src h.time xs) []) live in
-              let stands : StandsFor window h.seen (family_of (noted_epoch x.arrival.src x.arrival.time xs)) (top_of (noted_epoch x.arrival.src x.arrival.time xs)) = rw same was.stands in
-              rw live (keeps_own x.arrival.src x xs (record { seen = window_noted window h.seen (wire x.arrival.number) x.lanes; time = max h.time x.arrival.time }) (mac_refl x.arrival.src) (omega (arith, since)) (live_stands h.seen (noted_epoch x.arrival.src x.arrival.time xs) x stands near some))
+              let same : noted_epoch x.arrival.src x.arrival.time xs ≡ noted_epoch x.arrival.src h.time xs = later_is ∙ ap
+              (λ b. cond b (noted_epoch x.arrival.src h.time xs) []) live in
+              let stands : StandsFor window h.seen (family_of (noted_epoch x.arrival.src x.arrival.time xs))
+              (top_of (noted_epoch x.arrival.src x.arrival.time xs)) = rw same was.stands in
+              rw live (keeps_own x.arrival.src x xs
+              (record { seen = window_noted window h.seen (wire x.arrival.number) x.lanes; time = max h.time x.arrival.time })
+              (mac_refl x.arrival.src) (omega (arith, since))
+              (live_stands h.seen (noted_epoch x.arrival.src x.arrival.time xs) x stands near some))
           | inr old ↦
-              let none : noted_epoch x.arrival.src x.arrival.time xs ≡ [] = later_is ∙ ap (λ b. cond b (noted_epoch x.arrival.src h.time xs) []) old in
-              rw old (keeps_own x.arrival.src x xs (begun_at (wire x.arrival.number) x.lanes x.arrival.time) (mac_refl x.arrival.src) refl (begun_stands (noted_epoch x.arrival.src x.arrival.time xs) x none some))
+              let none : noted_epoch x.arrival.src x.arrival.time xs
+              ≡ [] = later_is ∙ ap (λ b. cond b (noted_epoch x.arrival.src h.time xs) []) old in
+              rw old (keeps_own x.arrival.src x xs (begun_at (wire x.arrival.number) x.lanes x.arrival.time) (mac_refl x.arrival.src) refl
+              (begun_stands (noted_epoch x.arrival.src x.arrival.time xs) x none some))
         ]
 
 -- an arrival that is answered
-arrived_keeps : (x : Noting) (fresh : Lanes) (xs : List Noting) (last : ℕ) (s : Sources) (o : Option Heard) → Kept xs last s → last ≤ x.arrival.time → is_empty x.lanes ≡ false → IsNearNoted (noted_epoch x.arrival.src x.arrival.time xs) x.arrival.number → lookup (mac_eq x.arrival.src) s ≡ o → Kept (x ∷ xs) x.arrival.time (after_of o s x.arrival.src (wire x.arrival.number) x.lanes x.arrival.time)
+arrived_keeps : (x : Noting) (fresh : Lanes) (xs : List Noting) (last : ℕ) (s : Sources) (o : Option Heard) → Kept xs last s →
+    last ≤ x.arrival.time → is_empty x.lanes ≡ false → IsNearNoted (noted_epoch x.arrival.src x.arrival.time xs) x.arrival.number →
+    lookup (mac_eq x.arrival.src) s ≡ o →
+    Kept (x ∷ xs) x.arrival.time (after_of o s x.arrival.src (wire x.arrival.number) x.lanes x.arrival.time)
 arrived_keeps x fresh xs last s None kept le some near there = pushed_keeps x xs last s kept le some there
 arrived_keeps x fresh xs last s (Some h) kept le some near there = set_keeps x xs last s h kept le some there near
 
@@ -327,7 +385,8 @@ aged_keeps xs last now s kept le = record {
 }
 
 -- a number that is near the epoch's arrivals is near its notings
-near_noted : (x : Noting) (xs : List Noting) → IsNext (arrivals_of xs) x.arrival → IsNearNoted (noted_epoch x.arrival.src x.arrival.time xs) x.arrival.number
+near_noted : (x : Noting) (xs : List Noting) → IsNext (arrivals_of xs) x.arrival →
+    IsNearNoted (noted_epoch x.arrival.src x.arrival.time xs) x.arrival.number
 near_noted x xs next = subst (λ ys. IsNearAll ys x.arrival.number) (sym (arrivals-epoch x.arrival.src x.arrival.time xs)) next.0
 
 none_twice : IsDistinct mac_eq []
@@ -335,7 +394,8 @@ unfolding IsDistinct
 none_twice = tt
 
 -- a steady run keeps each source's epoch
-run_keeps : (turns : List TableTurn) (t : Sources) → TableRun turns t → AreInOrder turns → AreSteady (arrivals_of (notings_of turns)) → Kept (notings_of turns) (latest turns) t
+run_keeps : (turns : List TableTurn) (t : Sources) → TableRun turns t → AreInOrder turns → AreSteady (arrivals_of (notings_of turns)) →
+    Kept (notings_of turns) (latest turns) t
 run_keeps [] t run order steady = rw run (record { each = λ q now le. refl; keys = none_twice })
 run_keeps (arrived x fresh ∷ before) t run order steady =
     let s = run.0 in
@@ -349,7 +409,8 @@ run_keeps (aged now ∷ before) t run order steady =
     rw run.2 (aged_keeps (notings_of before) (latest before) now s kept order.1)
 
 -- a source with no epoch: all asked lanes are new
-begun_new : (x : Noting) (xs : List Noting) (lane : Lane) → noted_epoch x.arrival.src x.arrival.time xs ≡ [] → IsNext (arrivals_of xs) x.arrival → has x.lanes lane ≡ (has x.lanes lane && not (was_noted x.arrival.src x.arrival.number lane xs))
+begun_new : (x : Noting) (xs : List Noting) (lane : Lane) → noted_epoch x.arrival.src x.arrival.time xs ≡ [] →
+    IsNext (arrivals_of xs) x.arrival → has x.lanes lane ≡ (has x.lanes lane && not (was_noted x.arrival.src x.arrival.number lane xs))
 begun_new x xs lane none next =
     let a = x.arrival in
     rw (noted_in_epoch a.src a.time a.number lane xs next.1, none) (and_true (has x.lanes lane))
@@ -359,14 +420,22 @@ begun_new x xs lane none next =
     and_true false = refl
 
 -- a source with an epoch: those that it lacks
-live_new : (x : Noting) (xs : List Noting) (w : Window) (lane : Lane) → StandsFor window w (family_of (noted_epoch x.arrival.src x.arrival.time xs)) (top_of (noted_epoch x.arrival.src x.arrival.time xs)) → IsNext (arrivals_of xs) x.arrival → has (fresh_lanes window w (wire x.arrival.number) x.lanes) lane ≡ (has x.lanes lane && not (was_noted x.arrival.src x.arrival.number lane xs))
+live_new : (x : Noting) (xs : List Noting) (w : Window) (lane : Lane) →
+    StandsFor window w (family_of (noted_epoch x.arrival.src x.arrival.time xs)) (top_of (noted_epoch x.arrival.src x.arrival.time xs)) →
+    IsNext (arrivals_of xs) x.arrival →
+    has (fresh_lanes window w (wire x.arrival.number) x.lanes) lane
+    ≡ (has x.lanes lane && not (was_noted x.arrival.src x.arrival.number lane xs))
 live_new x xs w lane stands next =
     let a = x.arrival in
     live_fresh w (noted_epoch a.src a.time xs) x lane stands (near_noted x xs next)
-    ∙ ap (λ b. has x.lanes lane && not b) (family_of_epoch a.src a.time a.number lane xs ∙ sym (noted_in_epoch a.src a.time a.number lane xs next.1))
+    ∙ ap (λ b. has x.lanes lane && not b)
+    (family_of_epoch a.src a.time a.number lane xs ∙ sym (noted_in_epoch a.src a.time a.number lane xs next.1))
 
 -- what a table that keeps the epochs answers
-answers_new : (x : Noting) (fresh : Lanes) (xs : List Noting) (last : ℕ) (s : Sources) (o : Option Heard) (lane : Lane) → Keeps x.arrival.src xs last o → last ≤ x.arrival.time → IsNext (arrivals_of xs) x.arrival → answer_of o s (wire x.arrival.number) x.lanes x.arrival.time ≡ Some fresh → has fresh lane ≡ (has x.lanes lane && not (was_noted x.arrival.src x.arrival.number lane xs))
+answers_new : (x : Noting) (fresh : Lanes) (xs : List Noting) (last : ℕ) (s : Sources) (o : Option Heard) (lane : Lane) →
+    Keeps x.arrival.src xs last o → last ≤ x.arrival.time → IsNext (arrivals_of xs) x.arrival →
+    answer_of o s (wire x.arrival.number) x.lanes x.arrival.time ≡ Some fresh →
+    has fresh lane ≡ (has x.lanes lane && not (was_noted x.arrival.src x.arrival.number lane xs))
 answers_new x fresh xs last s None lane k le next is =
     elim (cases_Bool (nat_lt (length (with_room x.arrival.time s)) most_sources)) [
       | inl room ↦
@@ -378,13 +447,17 @@ answers_new x fresh xs last s (Some h) lane k le next is =
     let later_is = k.later x.arrival.time (omega (arith, k.time, le)) in
     elim (cases_Bool (is_live x.arrival.time h)) [
       | inl live ↦
-          let same : fresh_lanes window h.seen (wire x.arrival.number) x.lanes ≡ fresh = let e : Some (fresh_lanes window h.seen (wire x.arrival.number) x.lanes) ≡ Some fresh = rw live at is in cc in
-          let now_is : noted_epoch x.arrival.src x.arrival.time xs ≡ noted_epoch x.arrival.src h.time xs = later_is ∙ ap (λ b. cond b (noted_epoch x.arrival.src h.time xs) []) live in
-          let stands : StandsFor window h.seen (family_of (noted_epoch x.arrival.src x.arrival.time xs)) (top_of (noted_epoch x.arrival.src x.arrival.time xs)) = rw now_is k.stands in
+          let same : fresh_lanes window h.seen (wire x.arrival.number) x.lanes
+          ≡ fresh = let e : Some (fresh_lanes window h.seen (wire x.arrival.number) x.lanes) ≡ Some fresh = rw live at is in cc in
+          let now_is : noted_epoch x.arrival.src x.arrival.time xs ≡ noted_epoch x.arrival.src h.time xs = later_is ∙ ap
+          (λ b. cond b (noted_epoch x.arrival.src h.time xs) []) live in
+          let stands : StandsFor window h.seen (family_of (noted_epoch x.arrival.src x.arrival.time xs))
+          (top_of (noted_epoch x.arrival.src x.arrival.time xs)) = rw now_is k.stands in
           ap (λ ls. has ls lane) (sym same) ∙ live_new x xs h.seen lane stands next
       | inr old ↦
           let same : x.lanes ≡ fresh = let e : Some x.lanes ≡ Some fresh = rw old at is in cc in
-          let none : noted_epoch x.arrival.src x.arrival.time xs ≡ [] = later_is ∙ ap (λ b. cond b (noted_epoch x.arrival.src h.time xs) []) old in
+          let none : noted_epoch x.arrival.src x.arrival.time xs ≡ [] = later_is ∙ ap (λ b. cond b (noted_epoch x.arrival.src h.time xs) [])
+          old in
           ap (λ ls. has ls lane) (sym same) ∙ begun_new x xs lane none next
     ]
 
@@ -393,10 +466,12 @@ pub each_pair_is_new_once : EachPairIsNewOnce
 each_pair_is_new_once x fresh before t lane run steady =
     let s = run.0 in
     let kept = run_keeps before s run.1 steady.0.0 steady.1.0 in
-    answers_new x fresh (notings_of before) (latest before) s (lookup (mac_eq x.arrival.src) s) lane (kept.each x.arrival.src) steady.0.1 steady.1.1 run.2.1
+    answers_new x fresh (notings_of before) (latest before) s (lookup (mac_eq x.arrival.src) s) lane (kept.each x.arrival.src) steady.0.1
+    steady.1.1 run.2.1
 
 -- outside the window a record has no lane
-all_fresh : (w : Window) (seq : ℕ) (lanes : Lanes) (lane : Lane) → window ≤ steps seq w.reference → has (fresh_lanes window w seq lanes) lane ≡ has lanes lane
+all_fresh : (w : Window) (seq : ℕ) (lanes : Lanes) (lane : Lane) → window ≤ steps seq w.reference →
+    has (fresh_lanes window w seq lanes) lane ≡ has lanes lane
 all_fresh w seq lanes lane far =
     let ahead : lanes_of window w seq ≡ none = rw (le-ltb (steps seq w.reference) window far) refl in
     has-difference lanes (lanes_of window w seq) lane

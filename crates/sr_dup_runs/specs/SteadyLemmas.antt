@@ -8,7 +8,8 @@ use Rattle.sr_sequence.specs.Numbers.{IsNear}
 use Rattle.sr_dup_window.specs.Families.{greater}
 use Rattle.sr_frame.specs.AddressLemmas.{mac_refl}
 use Rattle.sr_dup_table.specs.Limits.{window, forget_time}
-use Rattle.sr_dup_runs.specs.TableRuns.{epoch, greatest_of, copies_of, IsNearAll, AreSteady, at_once, NumbersAreSteady, late_copies, over_the_end}
+use Rattle.sr_dup_runs.specs.TableRuns.{epoch, greatest_of, copies_of, IsNearAll, AreSteady, at_once, NumbersAreSteady, late_copies,
+    over_the_end}
 
 -- the greatest of some numbers, one at least
 abbrev greatest_in : List ℤ → ℤ
@@ -33,7 +34,8 @@ still_live now = lt-ltb (now - now) forget_time (omega arith)
 
 epoch_all : (src : Mac) (now : ℕ) (ns : List ℤ) → epoch src now (at_once src now ns) ≡ at_once src now ns
 epoch_all src now [] = refl
-epoch_all src now (n ∷ ns) = rw (mac_refl src, still_live now) (ap (λ ys. record { src = src; number = n; time = now } ∷ ys) (epoch_all src now ns))
+epoch_all src now (n ∷ ns) = rw (mac_refl src, still_live now)
+    (ap (λ ys. record { src = src; number = n; time = now } ∷ ys) (epoch_all src now ns))
 
 near_all : (src : Mac) (now : ℕ) (n : ℤ) (ns : List ℤ) → AreNear (n ∷ ns) → IsNearAll (at_once src now ns) n
 near_all src now n [] near = tt
@@ -48,10 +50,23 @@ steady_of src now [] near = tt
 steady_of src now (n ∷ ns) near =
     let xs = at_once src now ns in
     let all = sym (epoch_all src now ns) in
-    (steady_of src now ns (near_before n ns near), (subst (λ ys. IsNearAll ys n) all (near_all src now n ns near), ap (λ ys. copies_of src n ys) all))
+    (steady_of src now ns (near_before n ns near),
+    (subst (λ ys. IsNearAll ys n) all (near_all src now n ns near), ap (λ ys. copies_of src n ys) all))
 
 pub late_copies_are_steady : NumbersAreSteady late_copies
-late_copies_are_steady src now = steady_of src now late_copies (((((tt, record { above = omega (arith, ints); below = omega (arith, ints) }), record { above = omega (arith, ints); below = omega (arith, ints) }), record { above = omega (arith, ints); below = omega (arith, ints) }), record { above = omega (arith, ints); below = omega (arith, ints) }), record { above = omega (arith, ints); below = omega (arith, ints) })
+late_copies_are_steady src now = steady_of src now late_copies
+    (((((tt, record { above = omega (arith, ints); below = omega (arith, ints) }),
+    record { above = omega (arith, ints); below = omega (arith, ints) }),
+    record { above = omega (arith, ints); below = omega (arith, ints) }),
+    record { above = omega (arith, ints); below = omega (arith, ints) }),
+    record { above = omega (arith, ints); below = omega (arith, ints) })
 
 pub over_the_end_is_steady : NumbersAreSteady over_the_end
-over_the_end_is_steady src now = steady_of src now over_the_end (((((((tt, record { above = omega (arith, ints); below = omega (arith, ints) }), record { above = omega (arith, ints); below = omega (arith, ints) }), record { above = omega (arith, ints); below = omega (arith, ints) }), record { above = omega (arith, ints); below = omega (arith, ints) }), record { above = omega (arith, ints); below = omega (arith, ints) }), record { above = omega (arith, ints); below = omega (arith, ints) }), record { above = omega (arith, ints); below = omega (arith, ints) })
+over_the_end_is_steady src now = steady_of src now over_the_end
+    (((((((tt, record { above = omega (arith, ints); below = omega (arith, ints) }),
+    record { above = omega (arith, ints); below = omega (arith, ints) }),
+    record { above = omega (arith, ints); below = omega (arith, ints) }),
+    record { above = omega (arith, ints); below = omega (arith, ints) }),
+    record { above = omega (arith, ints); below = omega (arith, ints) }),
+    record { above = omega (arith, ints); below = omega (arith, ints) }),
+    record { above = omega (arith, ints); below = omega (arith, ints) })

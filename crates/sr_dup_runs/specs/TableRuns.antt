@@ -1,5 +1,6 @@
 -- Runs of a table from its start, and what they are asked to be. Newest first, so that what came before a turn is the rest of the list.
-use Rattle.std.specs.Prelude.{◌≡◌, ℕ, ◌-◌, ◌≤◌, ◌⊎◌, Bool, false, not, ◌&&◌, nat_lt, List, [], ◌∷◌, map, filter, Some, if◌then◌else◌, ℤ, pos}
+use Rattle.std.specs.Prelude.{◌≡◌, ℕ, ◌-◌, ◌≤◌, ◌⊎◌, Bool, false, not, ◌&&◌, nat_lt, List, [], ◌∷◌, map, filter, Some, if◌then◌else◌, ℤ,
+    pos}
 use Rattle.std.specs.Ordering.{int_eq}
 use Rattle.std.specs.List.{list_any}
 use Rattle.std.specs.Map.{lookup}
@@ -48,7 +49,8 @@ IsNearAll (x ∷ before) number = IsNear window (greatest_of (x ∷ before)) num
 
 -- an arrival after others: it is near those of its epoch, and all copies before it are in its epoch
 abbrev pub IsNext : List Arrival → Arrival → Type 0
-IsNext before x = IsNearAll (epoch x.src x.time before) x.number × (copies_of x.src x.number before ≡ copies_of x.src x.number (epoch x.src x.time before))
+IsNext before x = IsNearAll (epoch x.src x.time before) x.number
+    × (copies_of x.src x.number before ≡ copies_of x.src x.number (epoch x.src x.time before))
 
 -- arrivals, each of which is next after those before it; whatever the lanes on which they are noted
 abbrev pub AreSteady : List Arrival → Type 0

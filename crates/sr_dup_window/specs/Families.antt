@@ -1,5 +1,6 @@
 -- Sets of whole numbers without bound, one for each lane, and for which of them a window stands.
-use Rattle.std.specs.Prelude.{◌≡◌, ℕ, ◌<◌, Bool, true, ◌||◌, ◌&&◌, not, length, slice_index_or, ℤ, pos, ◌+ℤ◌, ◌-ℤ◌, ◌≤ℤ◌, int_lt, if◌then◌else◌}
+use Rattle.std.specs.Prelude.{◌≡◌, ℕ, ◌<◌, Bool, true, ◌||◌, ◌&&◌, not, length, slice_index_or, ℤ, pos, ◌+ℤ◌, ◌-ℤ◌, ◌≤ℤ◌, int_lt,
+    if◌then◌else◌}
 use Rattle.std.specs.Ordering.{int_eq}
 use Rattle.sr_sequence.specs.Numbers.{wire, IsNear}
 use Rattle.sr_dup_window.specs.declared.lane_sets.Lane.{Lane}
@@ -63,7 +64,8 @@ pub record Notes (w : ℕ) (new : Window) (lanes answer : Lanes) (family : Famil
 -- `note`: so it is for every family that the old window stands for, and every near number
 abbrev pub NotesAs : ℕ → Window → Window → ℕ → Lanes → Lanes → Type 0
 NotesAs w old new seq lanes answer =
-    (family : Family) (greatest n : ℤ) → StandsFor w old family greatest → IsNear w greatest n → wire n ≡ seq → Notes w new lanes answer family greatest n
+    (family : Family) (greatest n : ℤ) → StandsFor w old family greatest → IsNear w greatest n → wire n ≡ seq →
+    Notes w new lanes answer family greatest n
 
 -- `merge` of windows whose greatest numbers are close: the new one stands for the join
 abbrev pub Merges : ℕ → Window → Window → Window → Type 0

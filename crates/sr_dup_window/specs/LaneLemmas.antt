@@ -1,5 +1,6 @@
 -- What is in a set of lanes.
-use Rattle.std.proofs.Common.{◌≡◌, ℕ, ◌+◌, ◌*◌, ◌-◌, ◌%◌, ◌<◌, Bool, true, false, eqb, ◌||◌, ◌&&◌, not, min, max, arith, refl, sym, ap, ◌∙◌, inl, inr, w8, bit_and, bit_or}
+use Rattle.std.proofs.Common.{◌≡◌, ℕ, ◌+◌, ◌*◌, ◌-◌, ◌%◌, ◌<◌, Bool, true, false, eqb, ◌||◌, ◌&&◌, not, min, max, arith, refl, sym, ap, ◌∙◌,
+    inl, inr, w8, bit_and, bit_or}
 use Rattle.std.proofs.lemmas.Bool.Decides.{nat_tests}
 use Rattle.std.proofs.lemmas.Bool.{or_cases, or_left, or_right, false≢true, false_from_ne_true, not-true, not-false, or_parts}
 use Rattle.std.proofs.lemmas.Nat.Bits.{bit_at-lt, bit_at_or, bit_at_and, bit_at_not}
@@ -19,7 +20,8 @@ flag_is true = refl
 flag_is false = refl
 
 -- the six tests are the six lowest bits
-bits_of : (a b c d e f : ℕ) → a < 2 → b < 2 → c < 2 → d < 2 → e < 2 → f < 2 → (lane : Lane) → bit_at (a + 2 * b + 4 * c + 8 * d + 16 * e + 32 * f) (index_of lane) ≡ elim lane [ H ↦ a | A ↦ b | B ↦ c | C ↦ d | GotA ↦ e | GotB ↦ f ]
+bits_of : (a b c d e f : ℕ) → a < 2 → b < 2 → c < 2 → d < 2 → e < 2 → f < 2 → (lane : Lane) →
+    bit_at (a + 2 * b + 4 * c + 8 * d + 16 * e + 32 * f) (index_of lane) ≡ elim lane [ H ↦ a | A ↦ b | B ↦ c | C ↦ d | GotA ↦ e | GotB ↦ f ]
 bits_of a b c d e f ha hb hc hd he hf H = omega arith
 bits_of a b c d e f ha hb hc hd he hf A = omega arith
 bits_of a b c d e f ha hb hc hd he hf B = omega arith
@@ -30,10 +32,13 @@ bits_of a b c d e f ha hb hc hd he hf GotB = omega arith
 bit_of_test : (test : Lane → Bool) (lane : Lane) → bit_at (lanes_where test).0 (index_of lane) ≡ flag (test lane)
 bit_of_test test lane =
     bits_of (flag (test H)) (flag (test A)) (flag (test B)) (flag (test C)) (flag (test GotA)) (flag (test GotB))
-    (flag_small (test H)) (flag_small (test A)) (flag_small (test B)) (flag_small (test C)) (flag_small (test GotA)) (flag_small (test GotB)) lane
+    (flag_small (test H)) (flag_small (test A)) (flag_small (test B)) (flag_small (test C)) (flag_small (test GotA))
+    (flag_small (test GotB)) lane
     ∙ picked lane
   where
-    picked : (lane : Lane) → elim lane [ H ↦ flag (test H) | A ↦ flag (test A) | B ↦ flag (test B) | C ↦ flag (test C) | GotA ↦ flag (test GotA) | GotB ↦ flag (test GotB) ] ≡ flag (test lane)
+    picked : (lane : Lane) → elim
+        lane [ H ↦ flag (test H) | A ↦ flag (test A) | B ↦ flag (test B) | C ↦ flag (test C) | GotA ↦ flag (test GotA) | GotB ↦ flag
+        (test GotB) ] ≡ flag (test lane)
     picked H = refl
     picked A = refl
     picked B = refl
@@ -131,14 +136,20 @@ known_bits_are n =
     and_mask n 6 ∙ low_bits n
     ∙ ap (λ x. x + 2 * bit_at n 1 + 4 * bit_at n 2 + 8 * bit_at n 3 + 16 * bit_at n 4 + 32 * bit_at n 5) (flag_of_bit n 0)
     ∙ ap (λ x. flag (eqb (bit_at n 0) 1) + 2 * x + 4 * bit_at n 2 + 8 * bit_at n 3 + 16 * bit_at n 4 + 32 * bit_at n 5) (flag_of_bit n 1)
-    ∙ ap (λ x. flag (eqb (bit_at n 0) 1) + 2 * flag (eqb (bit_at n 1) 1) + 4 * x + 8 * bit_at n 3 + 16 * bit_at n 4 + 32 * bit_at n 5) (flag_of_bit n 2)
-    ∙ ap (λ x. flag (eqb (bit_at n 0) 1) + 2 * flag (eqb (bit_at n 1) 1) + 4 * flag (eqb (bit_at n 2) 1) + 8 * x + 16 * bit_at n 4 + 32 * bit_at n 5) (flag_of_bit n 3)
-    ∙ ap (λ x. flag (eqb (bit_at n 0) 1) + 2 * flag (eqb (bit_at n 1) 1) + 4 * flag (eqb (bit_at n 2) 1) + 8 * flag (eqb (bit_at n 3) 1) + 16 * x + 32 * bit_at n 5) (flag_of_bit n 4)
-    ∙ ap (λ x. flag (eqb (bit_at n 0) 1) + 2 * flag (eqb (bit_at n 1) 1) + 4 * flag (eqb (bit_at n 2) 1) + 8 * flag (eqb (bit_at n 3) 1) + 16 * flag (eqb (bit_at n 4) 1) + 32 * x) (flag_of_bit n 5)
+    ∙ ap (λ x. flag (eqb (bit_at n 0) 1) + 2 * flag (eqb (bit_at n 1) 1) + 4 * x + 8 * bit_at n 3 + 16 * bit_at n 4 + 32 * bit_at n 5)
+    (flag_of_bit n 2)
+    ∙ ap (λ x. flag (eqb (bit_at n 0) 1) + 2 * flag (eqb (bit_at n 1) 1) + 4 * flag (eqb (bit_at n 2) 1) + 8 * x + 16 * bit_at n 4 + 32 *
+    bit_at n 5) (flag_of_bit n 3)
+    ∙ ap (λ x. flag (eqb (bit_at n 0) 1) + 2 * flag (eqb (bit_at n 1) 1) + 4 * flag (eqb (bit_at n 2) 1) + 8 * flag (eqb (bit_at n 3) 1) +
+    16 * x + 32 * bit_at n 5) (flag_of_bit n 4)
+    ∙ ap (λ x. flag (eqb (bit_at n 0) 1) + 2 * flag (eqb (bit_at n 1) 1) + 4 * flag (eqb (bit_at n 2) 1) + 8 * flag (eqb (bit_at n 3) 1) +
+    16 * flag (eqb (bit_at n 4) 1) + 32 * x) (flag_of_bit n 5)
 
 -- the set of a number's bits, and its lanes
-pub lanes_from_bits : (n : ℕ) (test : Lane → Bool) → ((lane : Lane) → eqb (bit_at n (index_of lane)) 1 ≡ test lane) → bit_and n 63 ≡ (lanes_where test).0
-lanes_from_bits n test same = known_bits_are n ∙ ap (λ lanes. lanes.0) (lanes_where-same (λ lane. eqb (bit_at n (index_of lane)) 1) test same)
+pub lanes_from_bits : (n : ℕ) (test : Lane → Bool) → ((lane : Lane) → eqb (bit_at n (index_of lane)) 1 ≡ test lane) →
+    bit_and n 63 ≡ (lanes_where test).0
+lanes_from_bits n test same = known_bits_are n ∙ ap (λ lanes. lanes.0)
+    (lanes_where-same (λ lane. eqb (bit_at n (index_of lane)) 1) test same)
 
 -- a bit of an `|`, and of an `&` with a `!`
 pub either_bit : (a b i : ℕ) → eqb (bit_at (bit_or a b) i) 1 ≡ (eqb (bit_at a i) 1 || eqb (bit_at b i) 1)
@@ -168,4 +179,5 @@ pub union_bits : (a b : Lanes) → bit_and (bit_or a.0 b.0) 63 ≡ (union a b).0
 union_bits a b = lanes_from_bits (bit_or a.0 b.0) (λ lane. has a lane || has b lane) (λ lane. either_bit a.0 b.0 (index_of lane))
 
 pub difference_bits : (a b : Lanes) → b.0 < 256 → bit_and (bit_and a.0 (255 - b.0)) 63 ≡ (difference a b).0
-difference_bits a b h = lanes_from_bits (bit_and a.0 (255 - b.0)) (λ lane. has a lane && not (has b lane)) (λ lane. cleared_bit a.0 b.0 (index_of lane) h (index_small lane))
+difference_bits a b h = lanes_from_bits (bit_and a.0 (255 - b.0)) (λ lane. has a lane && not (has b lane))
+    (λ lane. cleared_bit a.0 b.0 (index_of lane) h (index_small lane))

@@ -26,9 +26,11 @@ pub marks-count : {N : ℕ} (r : Record N) → length (marks_of r) ≡ 64 * N
 unfolding marks_of
 marks-count {N} r = length-map-range_with_len (λ k. lanes_at r.rows ((r.reference.0 + (65536 - k)) % 65536 % (64 * N))) 0 (64 * N)
 
-pub marks-at : {N : ℕ} (r : Record N) (k : ℕ) → k < 64 * N → get_or (marks_of r) k none ≡ lanes_at r.rows ((r.reference.0 + (65536 - k)) % 65536 % (64 * N))
+pub marks-at : {N : ℕ} (r : Record N) (k : ℕ) → k < 64 * N →
+    get_or (marks_of r) k none ≡ lanes_at r.rows ((r.reference.0 + (65536 - k)) % 65536 % (64 * N))
 unfolding marks_of
-marks-at {N} r k h = get_or-map-range_with_len (λ k. lanes_at r.rows ((r.reference.0 + (65536 - k)) % 65536 % (64 * N))) 0 (64 * N) k k none h (omega arith)
+marks-at {N} r k h = get_or-map-range_with_len (λ k. lanes_at r.rows ((r.reference.0 + (65536 - k)) % 65536 % (64 * N))) 0 (64 * N) k k none
+    h (omega arith)
 
 -- a record shows W numbers, the newest of which is noted on some lane
 pub record-whole : {N : ℕ} (r : Record N) → IsWhole (64 * N) (window_of r)

@@ -45,7 +45,9 @@ EqualWhereOneServes N =
 -- merging in either order gives one record, where it is not refused
 abbrev pub MergeCommutes : ℕ → Type 0
 MergeCommutes N =
-    (a b c d : Record N) → steps (window_of a).reference (window_of b).reference ≢ 32768 → window_of c ≡ window_merged (64 * N) (window_of a) (window_of b) → window_of d ≡ window_merged (64 * N) (window_of b) (window_of a) → c ≡ d
+    (a b c d : Record N) → steps (window_of a).reference (window_of b).reference ≢ 32768 →
+    window_of c ≡ window_merged (64 * N) (window_of a) (window_of b) → window_of d ≡ window_merged (64 * N) (window_of b) (window_of a) →
+    c ≡ d
 
 -- merging a record with itself leaves it
 abbrev pub MergeIsIdempotent : ℕ → Type 0
@@ -54,4 +56,7 @@ MergeIsIdempotent N = (a b : Record N) → window_of b ≡ window_merged (64 * N
 -- merging in either grouping gives one record, where the three greatest numbers are close, pair by pair
 abbrev pub MergeAssociates : ℕ → Type 0
 MergeAssociates N =
-    (a b c d e : Record N) (m n k : ℤ) → wire m ≡ (window_of a).reference → wire n ≡ (window_of b).reference → wire k ≡ (window_of c).reference → IsClose m n → IsClose n k → IsClose m k → window_of d ≡ window_merged (64 * N) (window_merged (64 * N) (window_of a) (window_of b)) (window_of c) → window_of e ≡ window_merged (64 * N) (window_of a) (window_merged (64 * N) (window_of b) (window_of c)) → d ≡ e
+    (a b c d e : Record N) (m n k : ℤ) → wire m ≡ (window_of a).reference → wire n ≡ (window_of b).reference →
+    wire k ≡ (window_of c).reference → IsClose m n → IsClose n k → IsClose m k →
+    window_of d ≡ window_merged (64 * N) (window_merged (64 * N) (window_of a) (window_of b)) (window_of c) →
+    window_of e ≡ window_merged (64 * N) (window_of a) (window_merged (64 * N) (window_of b) (window_of c)) → d ≡ e

@@ -44,14 +44,17 @@ SameNumbers s t = (lane : Lane) (n : ℤ) → family_of s lane n ≡ family_of t
 
 -- a record stands for the cut of the union of all that its parts took
 abbrev pub TreesStand : ℕ → Type 0
-TreesStand N = (t : Tree) (r : Record N) → IsSteady (64 * N) t → window_of r ≡ made (64 * N) t → StandsFor (64 * N) (window_of r) (family_of t) (greatest_of t)
+TreesStand N = (t : Tree) (r : Record N) → IsSteady (64 * N) t → window_of r ≡ made (64 * N) t →
+    StandsFor (64 * N) (window_of r) (family_of t) (greatest_of t)
 
 -- a number is new on just the asked lanes on which the union of all that came before, never cut, lacks it
 abbrev pub AnswersByTheUnion : ℕ → Type 0
 AnswersByTheUnion N =
-    (t : Tree) (r : Record N) (lanes : Lanes) (n : ℤ) → IsSteady (64 * N) (note t lanes n) → window_of r ≡ made (64 * N) t → fresh_lanes (64 * N) (window_of r) (wire n) lanes ≡ lacking lanes (family_of t) n
+    (t : Tree) (r : Record N) (lanes : Lanes) (n : ℤ) → IsSteady (64 * N) (note t lanes n) → window_of r ≡ made (64 * N) t →
+    fresh_lanes (64 * N) (window_of r) (wire n) lanes ≡ lacking lanes (family_of t) n
 
 -- records that took the same numbers on the same lanes, in any orders and trees, are equal values
 abbrev pub TreesAgree : ℕ → Type 0
 TreesAgree N =
-    (s t : Tree) (a b : Record N) → IsSteady (64 * N) s → IsSteady (64 * N) t → window_of a ≡ made (64 * N) s → window_of b ≡ made (64 * N) t → SameNumbers s t → a ≡ b
+    (s t : Tree) (a b : Record N) → IsSteady (64 * N) s → IsSteady (64 * N) t → window_of a ≡ made (64 * N) s →
+    window_of b ≡ made (64 * N) t → SameNumbers s t → a ≡ b

@@ -1,5 +1,6 @@
 -- What stands where in the octets of a frame.
-use Rattle.std.proofs.Common.{◌≡◌, ℕ, ◌+◌, ◌-◌, ◌*◌, ◌≤◌, ◌<◌, ◌&&◌, Bool, true, false, IsTrue, ◌↔◌, nat_eq, List, ◌++◌, length, take, drop, sym, ap, subst, refl, ◌∙◌, arith, eqb-true, eq-eqb}
+use Rattle.std.proofs.Common.{◌≡◌, ℕ, ◌+◌, ◌-◌, ◌*◌, ◌≤◌, ◌<◌, ◌&&◌, Bool, true, false, IsTrue, ◌↔◌, nat_eq, List, ◌++◌, length, take, drop,
+    sym, ap, subst, refl, ◌∙◌, arith, eqb-true, eq-eqb}
 use Rattle.std.proofs.lemmas.Bool.{and_parts}
 use lib.Pointwise.{pointwise_decides}
 use Rattle.sr_supervision.specs.Supervised.{IsAddressed, supervision_address}
@@ -64,13 +65,16 @@ supervision_is f b legal says =
     says.1 (record { dst = sym dst ∙ there.0 parts.0; kind = sym kind ∙ eqb-true (type_in (spelling f)) 0x88FB parts.1 }))
 
 -- a tagged frame, cut before its type and behind the tag
-tagged_split : (head kind path_size seq inner rest : List ℕ) → (head ++ kind) ++ ((path_size ++ seq ++ inner) ++ rest) ≡ head ++ ((kind ++ path_size ++ seq) ++ (inner ++ rest))
+tagged_split : (head kind path_size seq inner rest : List ℕ) →
+    (head ++ kind) ++ ((path_size ++ seq ++ inner) ++ rest) ≡ head ++ ((kind ++ path_size ++ seq) ++ (inner ++ rest))
 tagged_split head kind path_size seq inner rest =
     append_assoc head kind ((path_size ++ seq ++ inner) ++ rest)
     ∙ ap (λ x. head ++ (kind ++ x)) (append_assoc (path_size ++ seq) inner rest ∙ append_assoc path_size seq (inner ++ rest))
-    ∙ ap (λ x. head ++ x) (sym (append_assoc kind path_size (seq ++ (inner ++ rest))) ∙ sym (append_assoc (kind ++ path_size) seq (inner ++ rest)))
+    ∙ ap (λ x. head ++ x) (sym (append_assoc kind path_size (seq ++ (inner ++ rest))) ∙ sym
+    (append_assoc (kind ++ path_size) seq (inner ++ rest)))
 
-cut_out : (head middle tail : List ℕ) (a b : ℕ) → length head ≡ a → length middle ≡ 6 → b ≡ a + 6 → take a (head ++ (middle ++ tail)) ++ drop b (head ++ (middle ++ tail)) ≡ head ++ tail
+cut_out : (head middle tail : List ℕ) (a b : ℕ) → length head ≡ a → length middle ≡ 6 → b ≡ a + 6 →
+    take a (head ++ (middle ++ tail)) ++ drop b (head ++ (middle ++ tail)) ≡ head ++ tail
 cut_out head middle tail a b h m e =
     let behind : drop b (head ++ (middle ++ tail)) ≡ tail =
     ap (drop b) (sym (append_assoc head middle tail)) ∙ drop_at (head ++ middle) tail b (omega (arith, length-append head middle)) in
@@ -88,7 +92,8 @@ without_tag_is octets plain t is =
     ap (λ p. head_of f ++ kind ++ p) is.payload ∙ tagged_split (head_of f) kind path_size seq inner is.rest in
     ap without_tag is.spelled
     ∙ ap (λ o. take (least_len (spelling f) - 2) o ++ drop (least_len (spelling f) + 4) o) split
-    ∙ cut_out (head_of f) (kind ++ path_size ++ seq) (inner ++ is.rest) (least_len (spelling f) - 2) (least_len (spelling f) + 4) (sym (head_len f is.legal)) refl (omega (arith, least_len-spelling f is.legal, length-append (head_of f) kind))
+    ∙ cut_out (head_of f) (kind ++ path_size ++ seq) (inner ++ is.rest) (least_len (spelling f) - 2) (least_len (spelling f) + 4)
+    (sym (head_len f is.legal)) refl (omega (arith, least_len-spelling f is.legal, length-append (head_of f) kind))
     ∙ sym (append_assoc (head_of f) inner is.rest)
     ∙ sym is.plain_is
 

@@ -18,16 +18,20 @@ same_parts a b x y same e =
 pub number_once : (m n : ℕ) → m < 2 ^ 16 → n < 2 ^ 16 → to_be_bytes w16 m ≡ to_be_bytes w16 n → m ≡ n
 number_once m n p q e = sym (from_be_bytes-to_be_bytes_2 m p) ∙ ap (from_be_bytes w16) e ∙ from_be_bytes-to_be_bytes_2 n q
 
-pub number_and_rest : (m n : ℕ) (x y : List ℕ) → m < 2 ^ 16 → n < 2 ^ 16 → to_be_bytes w16 m ++ x ≡ to_be_bytes w16 n ++ y → (m ≡ n) × (x ≡ y)
+pub number_and_rest : (m n : ℕ) (x y : List ℕ) → m < 2 ^ 16 → n < 2 ^ 16 → to_be_bytes w16 m ++ x ≡ to_be_bytes w16 n ++ y →
+    (m ≡ n) × (x ≡ y)
 number_and_rest m n x y p q e =
     let both = same_parts (to_be_bytes w16 m) (to_be_bytes w16 n) x y refl e in
     (number_once m n p q both.0, both.1)
 
 -- what follows the addresses, at each case of the tag
-tail_once : (v w : Option ℕ) (k l : ℕ) (p q : List ℕ) → ((c : ℕ) → v ≡ Some c → c < 2 ^ 16) → ((c : ℕ) → w ≡ Some c → c < 2 ^ 16) → k < 2 ^ 16 → l < 2 ^ 16 → (v ≡ None → k ≢ 0x8100) → (w ≡ None → l ≢ 0x8100) → tag_of v ++ (to_be_bytes w16 k ++ p) ≡ tag_of w ++ (to_be_bytes w16 l ++ q) → (v ≡ w) × (k ≡ l) × (p ≡ q)
+tail_once : (v w : Option ℕ) (k l : ℕ) (p q : List ℕ) → ((c : ℕ) → v ≡ Some c → c < 2 ^ 16) → ((c : ℕ) → w ≡ Some c → c < 2 ^ 16) →
+    k < 2 ^ 16 → l < 2 ^ 16 → (v ≡ None → k ≢ 0x8100) → (w ≡ None → l ≢ 0x8100) →
+    tag_of v ++ (to_be_bytes w16 k ++ p) ≡ tag_of w ++ (to_be_bytes w16 l ++ q) → (v ≡ w) × (k ≡ l) × (p ≡ q)
 tail_once None None k l p q vf wf kf lf vu wu e = let b = number_and_rest k l p q kf lf e in (refl, b.0, b.1)
 tail_once (Some c) (Some d) k l p q vf wf kf lf vu wu e =
-    let a = number_and_rest 0x8100 0x8100 (to_be_bytes w16 c ++ (to_be_bytes w16 k ++ p)) (to_be_bytes w16 d ++ (to_be_bytes w16 l ++ q)) (omega arith) (omega arith) e in
+    let a = number_and_rest 0x8100 0x8100 (to_be_bytes w16 c ++ (to_be_bytes w16 k ++ p)) (to_be_bytes w16 d ++ (to_be_bytes w16 l ++ q))
+    (omega arith) (omega arith) e in
     let b = number_and_rest c d (to_be_bytes w16 k ++ p) (to_be_bytes w16 l ++ q) (vf c refl) (wf d refl) a.1 in
     let t = number_and_rest k l p q kf lf b.1 in
     (ap (λ (n : ℕ). Some n) b.0, t.0, t.1)
@@ -47,7 +51,8 @@ regrouped f =
 abbrev fields : List ℕ → List ℕ → Option ℕ → ℕ → List ℕ → Fields
 fields dst src vlan kind payload = record { dst = dst; src = src; vlan = vlan; kind = kind; payload = payload }
 
-same_record : (a b s t : List ℕ) (v w : Option ℕ) (k l : ℕ) (p q : List ℕ) → a ≡ b → s ≡ t → v ≡ w → k ≡ l → p ≡ q → fields a s v k p ≡ fields b t w l q
+same_record : (a b s t : List ℕ) (v w : Option ℕ) (k l : ℕ) (p q : List ℕ) → a ≡ b → s ≡ t → v ≡ w → k ≡ l → p ≡ q →
+    fields a s v k p ≡ fields b t w l q
 same_record a b s t v w k l p q e1 e2 e3 e4 e5 = cc
 
 pub same_fields : (f g : Fields) → f.dst ≡ g.dst → f.src ≡ g.src → f.vlan ≡ g.vlan → f.kind ≡ g.kind → f.payload ≡ g.payload → f ≡ g

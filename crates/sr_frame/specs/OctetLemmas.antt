@@ -14,7 +14,9 @@ AreOctets-take n octets h i =
     ]
 
 -- two octets and the rest, by the number that the two spell
-pub number_parts : (octets : List ℕ) (n : ℕ) → AreOctets octets → 2 ≤ length octets → n ≡ from_be_bytes w16 (take 2 octets) → octets ≡ to_be_bytes w16 n ++ drop 2 octets
+pub number_parts : (octets : List ℕ) (n : ℕ) → AreOctets octets → 2 ≤ length octets → n ≡ from_be_bytes w16 (take 2 octets) →
+    octets ≡ to_be_bytes w16 n ++ drop 2 octets
 number_parts octets n fits long n_is =
-    let front : to_be_bytes w16 n ≡ take 2 octets = be_bytes_2 (take 2 octets) n (omega (arith, length-take 2 octets)) (AreOctets-take 2 octets fits) n_is in
+    let front : to_be_bytes w16 n ≡ take 2 octets = be_bytes_2 (take 2 octets) n (omega (arith, length-take 2 octets))
+    (AreOctets-take 2 octets fits) n_is in
     sym (ap (λ (t : List ℕ). t ++ drop 2 octets) front ∙ take-append-drop 2 octets)

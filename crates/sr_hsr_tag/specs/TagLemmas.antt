@@ -17,13 +17,16 @@ same_made a b c d k l m n e1 e2 e3 e4 = cc
 -- tags that six octets spell are one
 pub tag_once : (s t : HsrTag) → IsTag s → IsTag t → tag_octets s ≡ tag_octets t → s ≡ t
 tag_once s t fs ft e =
-    let word = number_and_rest (s.path * 4096 + s.size) (t.path * 4096 + t.size) (to_be_bytes w16 s.seq.0 ++ to_be_bytes w16 s.inner) (to_be_bytes w16 t.seq.0 ++ to_be_bytes w16 t.inner) (omega (arith, fs.path, fs.size)) (omega (arith, ft.path, ft.size)) e in
+    let word = number_and_rest (s.path * 4096 + s.size) (t.path * 4096 + t.size) (to_be_bytes w16 s.seq.0 ++ to_be_bytes w16 s.inner)
+    (to_be_bytes w16 t.seq.0 ++ to_be_bytes w16 t.inner) (omega (arith, fs.path, fs.size)) (omega (arith, ft.path, ft.size)) e in
     let seq = number_and_rest s.seq.0 t.seq.0 (to_be_bytes w16 s.inner) (to_be_bytes w16 t.inner) fs.seq ft.seq word.1 in
     let inner = number_and_rest s.inner t.inner [] [] fs.inner ft.inner seq.1 in
-    same_made s.path s.size s.seq.0 s.inner t.path t.size t.seq.0 t.inner (omega (arith, fs.size, ft.size, word.0)) (omega (arith, fs.size, ft.size, word.0)) seq.0 inner.0
+    same_made s.path s.size s.seq.0 s.inner t.path t.size t.seq.0 t.inner (omega (arith, fs.size, ft.size, word.0))
+    (omega (arith, fs.size, ft.size, word.0)) seq.0 inner.0
 
 -- where a frame is tagged, its own payload begins with the tag
-pub tag_in_payload : (f : Fields) (plain : List ℕ) (t : HsrTag) → IsLegal f → IsTagged (spelling f) plain t → (rest : List ℕ) × (f.kind ≡ 0x892F) × (f.payload ≡ tag_octets t ++ rest) × (plain ≡ with_type f t.inner rest)
+pub tag_in_payload : (f : Fields) (plain : List ℕ) (t : HsrTag) → IsLegal f → IsTagged (spelling f) plain t →
+    (rest : List ℕ) × (f.kind ≡ 0x892F) × (f.payload ≡ tag_octets t ++ rest) × (plain ≡ with_type f t.inner rest)
 tag_in_payload f plain t legal is =
     let same : is.fields ≡ f = spelled_once is.fields f is.legal legal (sym is.spelled) in (
       is.rest,
@@ -33,22 +36,26 @@ tag_in_payload f plain t legal is =
     )
 
 -- a tagged frame has six octets behind its type
-pub tagged_is_long : (f : Fields) (plain : List ℕ) (t : HsrTag) → IsLegal f → IsTagged (spelling f) plain t → (f.kind ≡ 0x892F) × (6 ≤ length f.payload)
+pub tagged_is_long : (f : Fields) (plain : List ℕ) (t : HsrTag) → IsLegal f → IsTagged (spelling f) plain t →
+    (f.kind ≡ 0x892F) × (6 ≤ length f.payload)
 tagged_is_long f plain t legal is =
     let at = tag_in_payload f plain t legal is in
     (at.1, omega (arith, ap length at.2, length-append (tag_octets t) at.0))
 
 -- the tag that the first six octets spell is the tag, and what stands behind them is the rest
-pub tag_at_front : (f : Fields) (front rest plain : List ℕ) (s t : HsrTag) → IsLegal f → front ≡ take 6 f.payload → rest ≡ drop 6 f.payload → front ≡ tag_octets s → IsTag s → IsTagged (spelling f) plain t → (s ≡ t) × (with_type f s.inner rest ≡ plain)
+pub tag_at_front : (f : Fields) (front rest plain : List ℕ) (s t : HsrTag) → IsLegal f → front ≡ take 6 f.payload → rest ≡ drop 6 f.payload
+    → front ≡ tag_octets s → IsTag s → IsTagged (spelling f) plain t → (s ≡ t) × (with_type f s.inner rest ≡ plain)
 tag_at_front f front rest plain s t legal front_is rest_is spelled fits is =
     let at = tag_in_payload f plain t legal is in
-    let split : tag_octets s ++ rest ≡ f.payload = ap (λ (l : List ℕ). l ++ rest) (sym spelled ∙ front_is) ∙ ap (λ (l : List ℕ). take 6 f.payload ++ l) rest_is ∙ take-append-drop 6 f.payload in
+    let split : tag_octets s ++ rest ≡ f.payload = ap (λ (l : List ℕ). l ++ rest) (sym spelled ∙ front_is) ∙ ap
+    (λ (l : List ℕ). take 6 f.payload ++ l) rest_is ∙ take-append-drop 6 f.payload in
     let both = same_parts (tag_octets s) (tag_octets t) rest at.0 refl (split ∙ at.2) in
     let same : s ≡ t = tag_once s t fits is.tag both.0 in
     (same, ap (λ (u : HsrTag). with_type f u.inner rest) same ∙ ap (λ (l : List ℕ). with_type f t.inner l) both.1 ∙ sym at.3)
 
 -- octets are tagged in one way
-pub tagged_once : (octets plain others : List ℕ) (s t : HsrTag) → IsTagged octets plain s → IsTagged octets others t → (plain ≡ others) × (s ≡ t)
+pub tagged_once : (octets plain others : List ℕ) (s t : HsrTag) → IsTagged octets plain s → IsTagged octets others t →
+    (plain ≡ others) × (s ≡ t)
 tagged_once octets plain others s t a b =
     let f = a.fields in
     let Tagged : List ℕ → Type 0 = λ o. IsTagged o others t in
@@ -58,19 +65,22 @@ tagged_once octets plain others s t a b =
     (a.plain_is ∙ ap (λ (u : HsrTag). with_type f u.inner a.rest) same ∙ ap (λ (l : List ℕ). with_type f t.inner l) both.1 ∙ sym at.3, same)
 
 -- how long a tagged frame is, and what stands before its payload
-lengths : (octets plain : List ℕ) (t : HsrTag) (is : IsTagged octets plain t) → (length octets ≡ length plain + 6) × (least_len octets ≡ length (head_of is.fields) + 2) × (length plain ≡ length (head_of is.fields) + 2 + length is.rest)
+lengths : (octets plain : List ℕ) (t : HsrTag) (is : IsTagged octets plain t) → (length octets ≡ length plain + 6)
+    × (least_len octets ≡ length (head_of is.fields) + 2) × (length plain ≡ length (head_of is.fields) + 2 + length is.rest)
 lengths octets plain t is =
     let f = is.fields in
     let header : length (header_of f) ≡ length (head_of f) + 2 = length-append (head_of f) (to_be_bytes w16 f.kind) in
     let payload : length f.payload ≡ 6 + length is.rest = ap length is.payload ∙ length-append (tag_octets t) is.rest in
-    let plain_len : length plain ≡ length (head_of f) + 2 + length is.rest = ap length is.plain_is ∙ omega (arith, length-append (head_of f ++ to_be_bytes w16 t.inner) is.rest, length-append (head_of f) (to_be_bytes w16 t.inner)) in (
+    let plain_len : length plain ≡ length (head_of f) + 2 + length is.rest = ap length is.plain_is ∙ omega
+    (arith, length-append (head_of f ++ to_be_bytes w16 t.inner) is.rest, length-append (head_of f) (to_be_bytes w16 t.inner)) in (
       ap length is.spelled ∙ omega (arith, length-spelling f, header, payload, plain_len),
       ap least_len is.spelled ∙ least_len-spelling f is.legal ∙ header,
       plain_len,
     )
 
 -- a frame and a tag of the right size are spelled in one way
-pub tagged_spelled_once : (octets others plain : List ℕ) (t : HsrTag) → IsTagged octets plain t → IsTagged others plain t → t.size ≡ octets_behind_type octets → t.size ≡ octets_behind_type others → octets ≡ others
+pub tagged_spelled_once : (octets others plain : List ℕ) (t : HsrTag) → IsTagged octets plain t → IsTagged others plain t →
+    t.size ≡ octets_behind_type octets → t.size ≡ octets_behind_type others → octets ≡ others
 tagged_spelled_once octets others plain t a b sized_a sized_b =
     let f = a.fields in
     let g = b.fields in
@@ -78,10 +88,12 @@ tagged_spelled_once octets others plain t a b sized_a sized_b =
     let lb = lengths others plain t b in
     let inner = to_be_bytes w16 t.inner in
     let heads_len : length (head_of f) ≡ length (head_of g) = omega (arith, la.0, la.1, la.2, lb.0, lb.1, lb.2, sized_a, sized_b) in
-    let fronts_len : length (head_of f ++ inner) ≡ length (head_of g ++ inner) = omega (arith, length-append (head_of f) inner, length-append (head_of g) inner, heads_len) in
+    let fronts_len : length (head_of f ++ inner)
+    ≡ length (head_of g ++ inner) = omega (arith, length-append (head_of f) inner, length-append (head_of g) inner, heads_len) in
     let rests = same_parts (head_of f ++ inner) (head_of g ++ inner) a.rest b.rest fronts_len (sym a.plain_is ∙ b.plain_is) in
     let heads = same_parts (head_of f) (head_of g) inner inner heads_len rests.0 in
     let whole = λ (head payload : List ℕ) (kind : ℕ). head ++ to_be_bytes w16 kind ++ payload in
     a.spelled ∙ ap (λ (k : ℕ). whole (head_of f) f.payload k) a.kind ∙ ap (λ (p : List ℕ). whole (head_of f) p 0x892F) a.payload
-    ∙ ap (λ (r : List ℕ). whole (head_of f) (tag_octets t ++ r) 0x892F) rests.1 ∙ ap (λ (h : List ℕ). whole h (tag_octets t ++ b.rest) 0x892F) heads.0
+    ∙ ap (λ (r : List ℕ). whole (head_of f) (tag_octets t ++ r) 0x892F) rests.1 ∙ ap
+    (λ (h : List ℕ). whole h (tag_octets t ++ b.rest) 0x892F) heads.0
     ∙ sym (b.spelled ∙ ap (λ (k : ℕ). whole (head_of g) g.payload k) b.kind ∙ ap (λ (p : List ℕ). whole (head_of g) p 0x892F) b.payload)

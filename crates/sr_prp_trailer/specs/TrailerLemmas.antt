@@ -21,13 +21,16 @@ lan_once A B e = cc
 lan_once B A e = cc
 
 -- what a trailer says, by its six octets and its size
-trailer_once : (t v : Trailer) → t.seq.0 < 2 ^ 16 → v.seq.0 < 2 ^ 16 → t.size < 4096 → t.size ≡ v.size → trailer_octets t ≡ trailer_octets v → t ≡ v
+trailer_once : (t v : Trailer) → t.seq.0 < 2 ^ 16 → v.seq.0 < 2 ^ 16 → t.size < 4096 → t.size ≡ v.size → trailer_octets t ≡ trailer_octets v
+    → t ≡ v
 trailer_once t v tf vf small size e =
     let word : Trailer → List ℕ = λ t. to_be_bytes w16 (lan_id t.lan * 4096 + t.size) in
-    let ends = same_parts (to_be_bytes w16 t.seq.0 ++ word t) (to_be_bytes w16 v.seq.0 ++ word v) (0x88 ∷ 0xFB ∷ []) (0x88 ∷ 0xFB ∷ []) refl e in
+    let ends = same_parts (to_be_bytes w16 t.seq.0 ++ word t) (to_be_bytes w16 v.seq.0 ++ word v) (0x88 ∷ 0xFB ∷ []) (0x88 ∷ 0xFB ∷ []) refl
+    e in
     let parts = same_parts (to_be_bytes w16 t.seq.0) (to_be_bytes w16 v.seq.0) (word t) (word v) refl ends.0 in
     let seq : t.seq.0 ≡ v.seq.0 = number_once t.seq.0 v.seq.0 tf vf parts.0 in
-    let words : lan_id t.lan * 4096 + t.size ≡ lan_id v.lan * 4096 + v.size = number_once _ _ (omega (arith, lan_small t.lan, small)) (omega (arith, lan_small v.lan, small, size)) parts.1 in
+    let words : lan_id t.lan * 4096 + t.size ≡ lan_id v.lan * 4096 + v.size = number_once _ _ (omega (arith, lan_small t.lan, small))
+    (omega (arith, lan_small v.lan, small, size)) parts.1 in
     let own : lan_id t.lan ≡ lan_id v.lan = omega (arith, words, size) in
     λ j. record { seq = record { 0 = seq j }; lan = lan_once t.lan v.lan own j; size = size j }
 
@@ -44,5 +47,6 @@ trailed_once octets a b t v p q =
 pub trailed_frame : (octets plain : List ℕ) (t : Trailer) → IsTrailed octets plain t → length octets ≤ 1524 → HasFrameLength octets
 trailed_frame octets plain t is most =
     let long = is.frame.least in
-    let same : least_len octets ≡ least_len plain = ap least_len is.spelled ∙ least_len_more plain (trailer_octets t) (omega (arith, least_len_bounds plain, long)) in
+    let same : least_len octets ≡ least_len plain = ap least_len is.spelled ∙ least_len_more plain (trailer_octets t)
+    (omega (arith, least_len_bounds plain, long)) in
     record { least = omega (arith, same, long, ap length is.spelled, length-append plain (trailer_octets t)); most = most }

@@ -97,4 +97,5 @@ pub data IsCutShort (octets : List ℕ) : Type 0 where
 pub data EndsEarly (payload : List ℕ) : Type 0 where
   in_start : length payload < 4 → EndsEarly payload
   in_first : (version seq : ℕ) (behind : List ℕ) → Starts payload version seq behind → version ≤ 1 → IsCutShort behind → EndsEarly payload
-  in_later : (version seq : ℕ) (behind rest : List ℕ) (life : Life) (mac : Mac) → Starts payload version seq behind → version ≤ 1 → IsFirstTlv behind life mac rest → RunsPast rest → EndsEarly payload
+  in_later : (version seq : ℕ) (behind rest : List ℕ) (life : Life) (mac : Mac) → Starts payload version seq behind → version ≤ 1 →
+      IsFirstTlv behind life mac rest → RunsPast rest → EndsEarly payload

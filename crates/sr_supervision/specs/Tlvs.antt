@@ -11,7 +11,8 @@ redbox_in kind value = if (kind == 30) && (length value == 6) then Some (record 
 pub data IsTlvs : List ℕ → Option Mac → Type 0 where
   no_more : IsTlvs [] None
   ended : (behind : List ℕ) → IsTlvs (0 ∷ behind) None
-  tlv : (kind : ℕ) (value rest : List ℕ) (later : Option Mac) → kind ≢ 0 → IsTlvs rest later → IsTlvs (kind ∷ length value ∷ value ++ rest) (option_or (redbox_in kind value) later)
+  tlv : (kind : ℕ) (value rest : List ℕ) (later : Option Mac) → kind ≢ 0 → IsTlvs rest later →
+      IsTlvs (kind ∷ length value ∷ value ++ rest) (option_or (redbox_in kind value) later)
 
 -- The octets end within the head or the value of a TLV.
 pub data RunsPast : List ℕ → Type 0 where
