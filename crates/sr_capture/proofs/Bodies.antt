@@ -1,13 +1,16 @@
 -- Bodies of packets, of which a front is kept.
-use Rattle.std.proofs.Common.{◌≡◌, ℕ, ◌+◌, ◌-◌, ◌<◌, ◌≤◌, List, [], ◌++◌, length, take, Option, Some, None, true, false, sym, ap, refl, ◌∙◌, arith, inr}
+use Rattle.std.proofs.Common.{◌≡◌, ℕ, ◌+◌, ◌-◌, ◌<◌, ◌≤◌, List, ◌++◌, length, take, Option, Some, None, true, false, sym, ap, subst, refl, ◌∙◌, arith, inl, inr}
 use Rattle.std.specs.Prelude.{IfSome}
 use Rattle.std.proofs.lemmas.List.{length-take}
 use Rattle.std.proofs.lemmas.List.{length-append, take_at}
-use Rattle.sr_capture.specs.Taking.{Loses, LeavesNone, TakesAll}
+use Rattle.sr_capture.specs.declared.fault.CaptureFault.{CaptureFault}
+use Rattle.sr_capture.specs.declared.fault.Reason.{Reason}
+use Rattle.sr_capture.specs.Taking.{Loses, LosesBelow, LeavesNone, TakesAll}
+use Rattle.sr_capture.specs.Headers.{IsLack}
 use Rattle.sr_capture.specs.declared.header.Form.{Form}
 use Rattle.sr_capture.specs.declared.packet.Packet.{Packet}
 use Rattle.sr_capture.specs.declared.packet.Head.{Head}
-use Rattle.sr_capture.specs.Records.{TakesBody, IsHead, EndsEarly, LosesRecord, Captured, IsRecord, Shows}
+use Rattle.sr_capture.specs.Records.{TakesBody, IsHead, IsPart, EndsEarly, IsNoRecord, LosesRecord, Captured, IsRecord, Shows}
 use Rattle.sr_capture.specs.TakingLemmas.{LosesSome, loses_more, none_left}
 
 -- a front is kept, the rest passed over
@@ -55,4 +58,35 @@ ends_early (Some xs) (Some ys) None form head front kept wanted l is_head body =
 ends_early (Some xs) (Some ys) (Some zs) form head front kept wanted l is_head body =
     let far : length ys ≡ length body.0 + length zs = ap length body.1 ∙ length-append body.0 zs in
     let none : length zs ≡ 0 = ap length body.3 in
-    inr (front, head, ys, l, is_head, omega (arith, body.2))
+    let all : length xs ≡ length front + length ys = ap length l ∙ length-append front ys in
+    (omega (arith, is_head.size), inr (front, head, ys, l, is_head, omega (arith, body.2)))
+
+-- so many octets that are fewer were lost
+abbrev pub LosesFewer : ℕ → ℕ → Option (List ℕ) → Option (List ℕ) → Type 0
+LosesFewer count n a b = (octets : List ℕ) × (length octets ≡ n) × LosesBelow count octets a b
+
+-- a lack in the front of a body
+pub lacks_near : (held near n : ℕ) (kept : List ℕ) (a b : Option (List ℕ)) → length kept ≡ n → LosesBelow near kept a b → near ≤ held
+    → LosesFewer held n a b
+lacks_near held near n kept a b size l few = (kept, size, (l.0, omega (arith, l.1)))
+
+-- and behind it
+pub lacks_far : (held near far n : ℕ) (kept : List ℕ) (a b c : Option (List ℕ)) → TakesAll true near kept a b → LosesFewer far n b c
+    → near + far ≡ held → LosesFewer held (near + n) a c
+lacks_far held near far n kept a b c k l sum =
+    let size : length (kept ++ l.0) ≡ near + n = omega (arith, length-append kept l.0, k.1, l.1) in
+    (kept ++ l.0, size, (loses_more kept l.0 a b c k.0 l.2.0, omega (arith, size, l.1, l.2.1)))
+
+-- a lack in a head
+pub lacks_head : (form : Form) (fault : CaptureFault) (octets : List ℕ) (a b : Option (List ℕ)) → IsLack fault.reason → fault.at ≡ length octets
+    → LosesBelow 16 octets a b → IsNoRecord form fault a b
+lacks_head form fault octets a b lack at l = inl (lack, (octets, sym at, l.0, inl l.1))
+
+-- a lack in a body
+pub lacks_body : (form : Form) (head : Head) (fault : CaptureFault) (reason : Reason) (n : ℕ) (front : List ℕ) (a b c : Option (List ℕ)) → Loses front a b
+    → IsHead form front head → IsLack reason × LosesFewer head.held n b c → fault.reason ≡ reason → fault.at ≡ 16 + n → IsNoRecord form fault a c
+lacks_body form head fault reason n front a b c l is_head lack why at =
+    let body = lack.1.0 in
+    let size : length (front ++ body) ≡ fault.at = omega (arith, length-append front body, is_head.size, lack.1.1, at) in
+    let part : IsPart form (front ++ body) = inr (front, head, body, refl, is_head, lack.1.2.1) in
+    inl (subst IsLack (sym why) lack.0, (front ++ body, size, loses_more front body a b c l lack.1.2.0, part))

@@ -1,8 +1,8 @@
 -- The front of a file.
-use Rattle.std.proofs.Common.{◌≡◌, ℕ, ◌<◌, ◌≤◌, List, [], ◌++◌, length, take, Option, Some, None, Bool, true, false, sym, ap, subst, refl, ◌∙◌, arith}
+use Rattle.std.proofs.Common.{◌≡◌, ℕ, List, ◌++◌, take, Option, Some, None, Bool, true, false, sym, ap, subst, ◌∙◌, arith}
 use Rattle.std.specs.Prelude.{IfSome}
 use Rattle.std.proofs.lemmas.List.{append-nil, take_at, take_all}
-use Rattle.sr_capture.specs.Taking.{Loses, LeavesNone, TakesAll}
+use Rattle.sr_capture.specs.Taking.{Loses, TakesAll}
 use Rattle.sr_capture.specs.declared.fault.Reason.{Reason}
 use Rattle.sr_capture.specs.Headers.{IsRefused}
 

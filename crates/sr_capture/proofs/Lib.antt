@@ -1,2 +1,3 @@
 pub mod Headed
 pub mod Bodies
+pub mod Unique

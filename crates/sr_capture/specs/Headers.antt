@@ -1,5 +1,5 @@
 -- The header of a pcap file, 24 octets: magic number, version 2.4, eight octets of no meaning, snap length, link type.
-use Rattle.std.specs.Prelude.{◌≡◌, ◌≢◌, ℕ, ◌+◌, ◌*◌, ◌/◌, ◌%◌, ◌^◌, ◌<◌, ◌≤◌, ◌⊎◌, List, length, take, slice_index, ◌==◌, if◌then◌else◌, Option, Some, None, IfSome}
+use Rattle.std.specs.Prelude.{◌≡◌, ◌≢◌, ℕ, ◌*◌, ◌/◌, ◌%◌, ◌^◌, ◌<◌, ◌≤◌, ◌⊎◌, List, length, take, slice_index, ◌==◌, if◌then◌else◌, Option, IfSome}
 use Rattle.sr_capture.specs.declared.fault.Reason.{Reason}
 use Rattle.sr_capture.specs.declared.fault.Reason.TheVariants as reason
 use Rattle.sr_capture.specs.declared.numbers.ByteOrder.{ByteOrder}
@@ -9,7 +9,7 @@ use Rattle.sr_capture.specs.declared.header.TimeUnit.TheVariants.{Micro, Nano}
 use Rattle.sr_capture.specs.declared.header.Form.{Form}
 use Rattle.sr_capture.specs.declared.fault.CaptureFault.{CaptureFault}
 use Rattle.sr_capture.specs.Numbers.{half_at, word_at}
-use Rattle.sr_capture.specs.Taking.{Loses}
+use Rattle.sr_capture.specs.Taking.{Loses, LosesBelow}
 
 -- the first four octets, read with the greatest first
 abbrev pub magic_of : ByteOrder → TimeUnit → ℕ
@@ -65,10 +65,18 @@ place_of reason.Version = 4
 place_of (reason.Link link) = 20
 place_of other = 0
 
--- a refusal of what a file begins with; of reads and memory nothing is known
-abbrev pub IsNoHeader : Option (List ℕ) → CaptureFault → Type 0
-IsNoHeader known fault = (fault.reason ≡ reason.Read) ⊎ ((fault.reason ≡ reason.NoMemory)
-    ⊎ ((fault.at ≡ place_of fault.reason) × IfSome known (λ xs. IsRefused (take 24 xs) fault.reason)))
+-- the reader failed, or memory was refused, behind octets that were taken
+abbrev pub IsLack : Reason → Type 0
+IsLack why = (why ≡ reason.Read) ⊎ (why ≡ reason.NoMemory)
+
+-- a lack behind fewer octets than a header has
+abbrev pub LacksHeader : CaptureFault → Option (List ℕ) → Option (List ℕ) → Type 0
+LacksHeader fault old new = IsLack fault.reason × ((octets : List ℕ) × (length octets ≡ fault.at) × LosesBelow 24 octets old new)
+
+-- why a file has no header: a lack, or a refusal of what it begins with, at the field that is wrong
+abbrev pub IsNoHeader : CaptureFault → Option (List ℕ) → Option (List ℕ) → Type 0
+IsNoHeader fault old new = LacksHeader fault old new
+    ⊎ ((fault.at ≡ place_of fault.reason) × IfSome old (λ xs. IsRefused (take 24 xs) fault.reason))
 
 -- the known octets were a header of this form
 abbrev pub LosesHeader : Form → Option (List ℕ) → Option (List ℕ) → Type 0

@@ -3,3 +3,4 @@ pub mod Taking
 pub mod TakingLemmas
 pub mod Headers
 pub mod Records
+pub mod Laws

@@ -1,14 +1,16 @@
 -- The packets of a pcap file: each is a head of 16 octets and then the octets that were captured.
-use Rattle.std.specs.Prelude.{◌≡◌, ℕ, ◌+◌, ◌-◌, ◌*◌, ◌<◌, ◌≤◌, ◌⊎◌, List, [], ◌∷◌, ◌++◌, length, take, nat_lt, if◌then◌else◌, Option, Some, None, Bool, true, false}
+use Rattle.std.specs.Prelude.{◌≡◌, ℕ, ◌+◌, ◌-◌, ◌*◌, ◌<◌, ◌≤◌, ◌⊎◌, List, [], ◌∷◌, ◌++◌, length, take, nat_lt, if◌then◌else◌, Option, Bool, true, false, IfSome}
 use Rattle.sr_capture.specs.declared.header.TimeUnit.{TimeUnit}
 use Rattle.sr_capture.specs.declared.header.TimeUnit.TheVariants.{Micro, Nano}
+use Rattle.sr_capture.specs.declared.fault.CaptureFault.{CaptureFault}
+use Rattle.sr_capture.specs.declared.fault.Reason.TheVariants.{Unfinished}
 use Rattle.sr_capture.specs.declared.header.Form.{Form}
 use Rattle.sr_capture.specs.declared.packet.Extent.{Extent}
 use Rattle.sr_capture.specs.declared.packet.Extent.TheVariants.{Whole, Cut}
 use Rattle.sr_capture.specs.declared.packet.Packet.{Packet}
 use Rattle.sr_capture.specs.declared.packet.Head.{Head}
 use Rattle.sr_capture.specs.Numbers.{word_at}
-use Rattle.sr_capture.specs.Headers.{IsHeader}
+use Rattle.sr_capture.specs.Headers.{IsHeader, IsLack}
 use Rattle.sr_capture.specs.Taking.{Loses, LeavesNone}
 
 -- what a file has of a packet: when it came in nanoseconds, whether all of it is there, and its octets without check sequence
@@ -41,10 +43,23 @@ pub record IsRecord (form : Form) (bytes : List ℕ) (packet : Captured) : Type 
   pub extent : packet.extent ≡ head.extent
   pub octets : packet.octets ≡ take (length body - form.check_len) body
 
--- the octets end within a record: within its head, or behind it
-abbrev pub EndsEarly : Form → List ℕ → Type 0
-EndsEarly form octets = (0 < length octets × length octets < 16)
+-- the octets are the beginning of a record: less than its head, or the head and less than the body
+abbrev pub IsPart : Form → List ℕ → Type 0
+IsPart form octets = (length octets < 16)
     ⊎ ((front : List ℕ) × (head : Head) × (rest : List ℕ) × (octets ≡ front ++ rest) × IsHead form front head × (length rest < head.held))
+
+-- the octets end within a record
+abbrev pub EndsEarly : Form → List ℕ → Type 0
+EndsEarly form octets = (0 < length octets) × IsPart form octets
+
+-- the reader failed, or memory was refused, behind the beginning of a record
+abbrev pub LacksRecord : Form → CaptureFault → Option (List ℕ) → Option (List ℕ) → Type 0
+LacksRecord form fault old new = IsLack fault.reason × ((octets : List ℕ) × (length octets ≡ fault.at) × Loses octets old new × IsPart form octets)
+
+-- why there is no next packet: a lack, or the file ends within a record, at its first octet
+abbrev pub IsNoRecord : Form → CaptureFault → Option (List ℕ) → Option (List ℕ) → Type 0
+IsNoRecord form fault old new = LacksRecord form fault old new
+    ⊎ ((fault.reason ≡ Unfinished) × (fault.at ≡ 0) × IfSome old (EndsEarly form))
 
 -- a value that shows a packet; the octets of one that is longer than a frame are not kept
 pub record Shows (shown : Packet) (packet : Captured) : Type 0 where

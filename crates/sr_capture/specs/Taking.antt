@@ -1,11 +1,15 @@
 -- Octets that a reader loses, where they are known.
-use Rattle.std.specs.Prelude.{◌≡◌, ℕ, ◌<◌, ◌≤◌, List, [], ◌++◌, length, take, Option, Some, None, Bool, true, false}
+use Rattle.std.specs.Prelude.{◌≡◌, ℕ, ◌<◌, ◌≤◌, List, [], ◌++◌, length, Option, Some, None, Bool, true, false}
 
 -- the known octets were these, and then those that are left
 abbrev pub Loses : List ℕ → Option (List ℕ) → Option (List ℕ) → Type 0
 Loses octets None new = Unit {0}
 Loses octets (Some xs) None = ⊥
 Loses octets (Some xs) (Some ys) = xs ≡ octets ++ ys
+
+-- fewer octets than these were lost
+abbrev pub LosesBelow : ℕ → List ℕ → Option (List ℕ) → Option (List ℕ) → Type 0
+LosesBelow count octets old new = Loses octets old new × (length octets < count)
 
 -- none is left of the known octets
 abbrev pub LeavesNone : Option (List ℕ) → Option (List ℕ) → Type 0

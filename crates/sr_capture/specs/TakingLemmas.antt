@@ -1,13 +1,19 @@
 -- What a reader loses, step by step.
-use Rattle.std.proofs.Common.{◌≡◌, ℕ, ◌+◌, ◌<◌, ◌≤◌, List, [], ◌++◌, length, Option, Some, None, Bool, true, false, sym, ap, refl, ◌∙◌, arith, append_assoc}
+use Rattle.std.proofs.Common.{◌≡◌, ℕ, ◌+◌, ◌<◌, List, [], ◌++◌, length, Option, Some, None, false, sym, ap, subst, refl, ◌∙◌, arith, append_assoc}
 use Rattle.std.specs.Prelude.{IfSome}
 use Rattle.std.specs.Io.KnownBytes.{Keeps}
-use Rattle.std.proofs.lemmas.List.{length-append}
-use Rattle.sr_capture.specs.Taking.{Loses, LeavesNone, HasSome, TakesAll, SkipsSome, Skips}
+use Rattle.std.proofs.lemmas.List.{length-append, append-nil}
+use Rattle.sr_capture.specs.Taking.{Loses, LeavesNone, TakesAll}
 
 pub loses_nothing : (a : Option (List ℕ)) → Loses [] a a
 loses_nothing None = tt
 loses_nothing (Some xs) = refl
+
+-- what is kept is not lost
+pub keeps_all : (a b : Option (List ℕ)) → Keeps a b → Loses [] a b
+keeps_all None b kept = tt
+keeps_all (Some x) None kept = absurd kept
+keeps_all (Some x) (Some y) kept = sym kept
 
 -- nothing is shown: nothing is left
 pub at_end : (a b : Option (List ℕ)) (shown : List ℕ) → Keeps a b → IfSome a (λ xs. length shown ≡ 0 → xs ≡ []) → length shown ≡ 0
@@ -50,3 +56,7 @@ pub skips_end : (n : ℕ) (a b c : Option (List ℕ)) → LosesSome n a b → Lo
 skips_end n a b c l k none =
     let all : LosesSome (n + 0) a c = skips_on n 0 a b c l k in
     ((all.0, omega (arith, all.1), all.2), none_left l.0 a b c l.2 none)
+
+-- nothing more was lost
+pub loses_no_more : (first : List ℕ) (a b c : Option (List ℕ)) → Loses first a b → Loses [] b c → Loses first a c
+loses_no_more first a b c l m = subst (λ (t : List ℕ). Loses t a c) (append-nil first) (loses_more first [] a b c l m)

@@ -122,10 +122,11 @@ fn place_of(reason: Reason) -> u64
 ///
 /// # Errors
 /// `Compressed`, `Unknown`, `Short`, `Version` or `Link` for what is no header of a capture of Ethernet, the first of
-/// them that fits, at the field that is wrong; `Read` where the reader fails; `NoMemory`.
+/// them that fits, at the field that is wrong; `Read` where the reader fails and `NoMemory`, at the octet that could not be
+/// taken.
 pub fn read_header<R: BufRead>(reader: &mut R, octets: &mut Vec<u8>) -> Result<Form, CaptureFault>
     ensures found { IfOk result (λ form. LosesHeader form (R.remaining reader.old) (R.remaining reader.new)) }
-    ensures refused { IfErr result (IsNoHeader (R.remaining reader.old)) }
+    ensures refused { IfErr result (λ fault. IsNoHeader fault (R.remaining reader.old) (R.remaining reader.new)) }
 {
     match keep(reader, HEADER_LEN, octets) {
         Ok(_) => {}

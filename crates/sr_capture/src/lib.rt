@@ -4,6 +4,7 @@
 
 mod fault;
 mod header;
+mod laws;
 mod numbers;
 mod packet;
 mod record;
@@ -11,6 +12,7 @@ mod taking;
 
 pub use fault::{CaptureFault, Reason};
 pub use header::{Form, HEADER_LEN, TimeUnit, read_header};
+pub use laws::packets_are_unique;
 pub use numbers::ByteOrder;
 pub use packet::{Extent, MAX_KEPT, Packet};
 pub use record::next_packet;

@@ -1,8 +1,9 @@
 //! The packets of a pcap file.
 
 ghost use Rattle.std.specs.Prelude.{◌≡◌, ◌≢◌, ◌≤◌, ◌<◌, ◌+◌, ◌-◌, ◌*◌, ◌++◌, ◌^◌, ◌⊎◌, ℕ, List, length, take, IfOk, IfErr, IfSome, MatchOption, vec_len};
-ghost use Rattle.sr_capture.specs.Taking.{Loses};
-ghost use Rattle.sr_capture.specs.Records.{nanoseconds_of, IsHead, TakesBody, TakesPacket, WasAtEnd, EndsEarly};
+ghost use Rattle.sr_capture.specs.Taking.{Loses, LosesBelow};
+ghost use Rattle.sr_capture.specs.Headers.{IsLack};
+ghost use Rattle.sr_capture.specs.Records.{nanoseconds_of, IsHead, TakesBody, TakesPacket, WasAtEnd, IsNoRecord};
 
 use crate::fault::{CaptureFault, Reason};
 use crate::header::{Form, TimeUnit};
@@ -53,9 +54,7 @@ fn take_head<R: BufRead>(
 ) -> Result<Option<Head>, CaptureFault>
     ensures taken { IfOk result (λ head. MatchOption head (WasAtEnd (R.remaining reader.old) (R.remaining reader.new))
         (λ head. (front : List ℕ) × Loses front (R.remaining reader.old) (R.remaining reader.new) × IsHead form front head)) }
-    ensures unfinished { IfErr result (λ fault. fault.reason ≡ Reason.Unfinished
-        → (fault.at ≡ 0) × IfSome (R.remaining reader.old) (λ xs. (0 < length xs) × (length xs < 16))) }
-    ensures fault { IfErr result (λ fault. (fault.reason ≡ Reason.Read) ⊎ (fault.reason ≡ Reason.NoMemory) ⊎ (fault.reason ≡ Reason.Unfinished)) }
+    ensures fault { IfErr result (λ fault. IsNoRecord form fault (R.remaining reader.old) (R.remaining reader.new)) }
 {
     match keep(reader, HEAD_LEN, octets) {
         Ok(true) => Ok(Some(head_of(form, octets))),
@@ -96,8 +95,8 @@ fn take_body<R: BufRead>(
 ) -> Result<bool, CaptureFault>
     requires { wanted ≤ held }
     ensures taken { IfOk result (λ whole. TakesBody whole held wanted kept.new.items (R.remaining reader.old) (R.remaining reader.new)) }
-    ensures fault { IfErr result (λ fault. (fault.reason ≡ Reason.Read) ⊎ (fault.reason ≡ Reason.NoMemory)) }
-    ensures place { IfErr result (λ fault. fault.at ≤ held) }
+    ensures fault { IfErr result (λ fault. IsLack fault.reason × ((octets : List ℕ) × (length octets ≡ fault.at)
+        × LosesBelow held octets (R.remaining reader.old) (R.remaining reader.new))) }
 {
     let near = kept_of(wanted);
     match keep(reader, near, kept) {
@@ -124,17 +123,15 @@ fn take_body<R: BufRead>(
 /// Takes the next packet. False where nothing is left.
 ///
 /// # Errors
-/// `Unfinished` where the input ends within a packet, at 0; `Read` where the reader fails; `NoMemory`. The place is
-/// counted from the first octet of the packet. What `packet` then holds says nothing.
+/// `Unfinished` where the input ends within a packet, at 0; `Read` where the reader fails and `NoMemory`, at the octet that
+/// could not be taken. The place is counted from the first octet of the packet. What `packet` then holds says nothing.
 pub fn next_packet<R: BufRead>(
     reader: &mut R,
     form: Form,
     packet: &mut Packet,
 ) -> Result<bool, CaptureFault>
     ensures taken { IfOk result (λ more. TakesPacket more form packet.new (R.remaining reader.old) (R.remaining reader.new)) }
-    ensures unfinished { IfErr result (λ fault. fault.reason ≡ Reason.Unfinished
-        → (fault.at ≡ 0) × IfSome (R.remaining reader.old) (EndsEarly form)) }
-    ensures fault { IfErr result (λ fault. (fault.reason ≡ Reason.Read) ⊎ (fault.reason ≡ Reason.NoMemory) ⊎ (fault.reason ≡ Reason.Unfinished)) }
+    ensures fault { IfErr result (λ fault. IsNoRecord form fault (R.remaining reader.old) (R.remaining reader.new)) }
 {
     let Some(head) = take_head(reader, form, &mut packet.octets)? else {
         return Ok(false);

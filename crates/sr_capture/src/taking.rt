@@ -1,7 +1,7 @@
 //! Octets taken from a reader.
 
-ghost use Rattle.std.specs.Prelude.{◌≡◌, ◌≢◌, ◌≤◌, ◌<◌, ◌+◌, ◌++◌, ◌^◌, ℕ, List, length, IfOk, IfErr, IfSome, vec_len, ◌⊎◌};
-ghost use Rattle.sr_capture.specs.Taking.{Loses, HasSome, SkipsSome, Skips, TakesAll};
+ghost use Rattle.std.specs.Prelude.{◌≡◌, ◌≢◌, ◌≤◌, ◌<◌, ◌+◌, [], ◌++◌, ◌^◌, ℕ, List, length, IfOk, IfErr, IfSome, IfNone, vec_len, ◌⊎◌};
+ghost use Rattle.sr_capture.specs.Taking.{Loses, LosesBelow, HasSome, SkipsSome, Skips, TakesAll};
 
 use crate::fault::Reason;
 use std::io::BufRead;
@@ -13,7 +13,7 @@ fn keep_some<R: BufRead>(reader: &mut R, room: usize, kept: &mut Vec<u8>) -> Res
         × Loses bs (R.remaining reader.old) (R.remaining reader.new) × HasSome more room (length bs) (R.remaining reader.old) (R.remaining reader.new)) }
     ensures fault { IfErr result (λ reason. (reason ≡ Reason.Read) ⊎ (reason ≡ Reason.NoMemory)) }
     ensures few { vec_len kept.new ≤ vec_len kept.old + room }
-    ensures err { IfErr result (λ _. kept.new.items ≡ kept.old.items) }
+    ensures err { IfErr result (λ _. (kept.new.items ≡ kept.old.items) × Loses [] (R.remaining reader.old) (R.remaining reader.new)) }
 {
     let Ok(available) = reader.fill_buf() else {
         return Err(Reason::Read);
@@ -40,6 +40,7 @@ pub(crate) fn keep<R: BufRead>(
     ensures taken { IfOk result (λ whole. TakesAll whole count kept.new.items (R.remaining reader.old) (R.remaining reader.new)) }
     ensures fault { IfErr result (λ reason. (reason ≡ Reason.Read) ⊎ (reason ≡ Reason.NoMemory)) }
     ensures few { vec_len kept.new ≤ count }
+    ensures err { IfErr result (λ _. LosesBelow count kept.new.items (R.remaining reader.old) (R.remaining reader.new)) }
 {
     kept.clear();
     while kept.len() < count {
@@ -53,7 +54,8 @@ pub(crate) fn keep<R: BufRead>(
 /// Passes over what the reader has at hand, at most so many octets. None where the reader fails; 0 where nothing is left.
 fn skip_some<R: BufRead>(reader: &mut R, room: u64) -> Option<u64>
     requires { 0 < room }
-    ensures { IfSome result (λ taken. (bs : List ℕ) × (length bs ≡ taken)
+    ensures none { IfNone result (Loses [] (R.remaining reader.old) (R.remaining reader.new)) }
+    ensures some { IfSome result (λ taken. (bs : List ℕ) × (length bs ≡ taken)
         × Loses bs (R.remaining reader.old) (R.remaining reader.new) × SkipsSome room taken (R.remaining reader.old) (R.remaining reader.new)) }
 {
     let Ok(available) = reader.fill_buf() else {
@@ -73,7 +75,7 @@ fn skip_some<R: BufRead>(reader: &mut R, room: u64) -> Option<u64>
 /// # Errors
 /// How many octets were passed over before the reader failed.
 pub(crate) fn skip<R: BufRead>(reader: &mut R, count: u64) -> Result<u64, u64>
-    ensures few { IfErr result (λ skipped. skipped ≤ count) }
+    ensures err { IfErr result (λ skipped. (bs : List ℕ) × (length bs ≡ skipped) × LosesBelow count bs (R.remaining reader.old) (R.remaining reader.new)) }
     ensures taken { IfOk result (λ skipped. (bs : List ℕ) × (length bs ≡ skipped)
         × Loses bs (R.remaining reader.old) (R.remaining reader.new) × Skips count skipped (R.remaining reader.old) (R.remaining reader.new)) }
 {

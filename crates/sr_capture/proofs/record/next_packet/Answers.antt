@@ -1,5 +1,5 @@
-use Rattle.std.proofs.Common.{arith, refl, ◌∙◌}
-use Rattle.sr_capture.proofs.Bodies.{record_done, ends_early}
+use Rattle.std.proofs.Common.{arith, refl, inr}
+use Rattle.sr_capture.proofs.Bodies.{record_done, ends_early, lacks_body}
 use Rattle.sr_capture.proofs.record.next_packet.Goals as goal
 
 pub returns-in-Ok-true-clause-taken : goal.returns-in-Ok-true-clause-taken
@@ -9,8 +9,13 @@ returns-in-Ok-true-clause-taken g c =
     record_done c.args.form _ c.in-Some.head h.0 c.take_body.new.kept.items _ _ _ _ h.1 h.2 body
     (omega (arith, c.saturating_sub-wanted.ensures, c.from.ensures)) refl refl c.from-packet.ensures refl (omega (arith, c.from-in-Ok-true.ensures))
 
-pub returns-in-Ok-false-clause-unfinished : goal.returns-in-Ok-false-clause-unfinished
-returns-in-Ok-false-clause-unfinished g c _ =
+pub returns-in-Ok-false-clause-fault : goal.returns-in-Ok-false-clause-fault
+returns-in-Ok-false-clause-fault g c =
     let h = rw c.in-Some.is at c.in_ok-head.ensures.taken in
     let body = rw c.in-Ok-false.field-0-test at c.in-Ok-false.ensures.taken in
-    (refl, ends_early _ _ _ c.args.form c.in-Some.head h.0 c.take_body.new.kept.items c.saturating_sub-wanted.result h.1 h.2 body)
+    inr (refl, refl, ends_early _ _ _ c.args.form c.in-Some.head h.0 c.take_body.new.kept.items c.saturating_sub-wanted.result h.1 h.2 body)
+
+pub returns-in-Err-clause-fault : goal.returns-in-Err-clause-fault
+returns-in-Err-clause-fault g c =
+    let h = rw c.in-Some.is at c.in_ok-head.ensures.taken in
+    lacks_body c.args.form c.in-Some.head _ c.in-Err.fault.reason c.in-Err.fault.at h.0 _ _ _ h.1 h.2 c.in-Err.ensures.fault refl refl

@@ -1,5 +1,5 @@
-use Rattle.std.proofs.Common.{arith, ◌+◌, ◌≡◌, ◌-◌}
-use Rattle.sr_capture.proofs.Bodies.{body_done, body_short, body_ends}
+use Rattle.std.proofs.Common.{arith, ◌≡◌, ◌-◌, inl, refl}
+use Rattle.sr_capture.proofs.Bodies.{body_done, body_ends, lacks_far}
 use Rattle.sr_capture.proofs.record.take_body.Goals as goal
 
 pub returns-in-Ok-clause-taken : goal.returns-in-Ok-clause-taken
@@ -16,3 +16,11 @@ returns-in-Ok-2-clause-taken g c =
     let front = rw c.in-Ok-true.field-0-test at c.in-Ok-true.ensures.taken in
     body_done c.args.held c.args.wanted c.kept_of-near.result c.in-Ok-2.field-0 c.keep.new.kept.items _ _ _ front (s.0, s.1, s.2)
     (omega (arith, s.3.0, c.if-skipped-far.false, c.from.ensures, c.kept_of-near.ensures.few)) c.kept_of-near.ensures.all
+
+pub returns-in-Err-skip-clause-fault : goal.returns-in-Err-skip-clause-fault
+returns-in-Err-skip-clause-fault g c =
+    let front = rw c.in-Ok-true.field-0-test at c.in-Ok-true.ensures.taken in (
+      inl refl,
+      lacks_far c.args.held c.kept_of-near.result (c.from.result - c.kept_of-near.result) c.in-Err-skip.skipped c.keep.new.kept.items _ _ _ front c.in-Err-skip.ensures.err
+          (omega (arith, c.kept_of-near.ensures.few, c.from.ensures)),
+    )
