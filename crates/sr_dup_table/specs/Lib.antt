@@ -2,4 +2,5 @@ pub mod Limits
 pub mod Sources
 pub mod Shown
 pub mod EqualityLemmas
+pub mod Same
 pub mod Ageing

@@ -2,7 +2,7 @@
 ghost use Rattle.std.specs.Prelude.{◌≡◌, ℕ, ◌+◌, ◌≤◌, ◌↔◌, [], true, false, not, nat_lt, Some, None, length, ◌++◌, ◌∷◌, IsOk, OnOk, OnErr, IfOk, IfErr, IfSome, IfNone, IsErr, IsErrOf, is_some};
 ghost use Rattle.std.specs.Result.{result_ok};
 ghost use Rattle.std.specs.Map.{lookup};
-ghost use Rattle.std.specs.Option.{option_map};
+ghost use Rattle.std.specs.Option.{option_copied, option_map};
 ghost use Rattle.sr_dup_window.specs.LaneSets.{is_empty};
 ghost use Rattle.sr_dup_window.specs.Windows.{window_of};
 ghost use Rattle.sr_frame.specs.Addresses.{mac_eq};
@@ -88,6 +88,13 @@ impl DupTable {
         ensures { sources_of result ≡ self.now.sources }
     {
         self.slots.iter()
+    }
+
+    // What the table has of a source, forgotten or not.
+    pub(crate) fn entry(&self, src: Mac) -> Option<&Aged<Record<16>>>
+        ensures { option_map heard_of (option_copied result) ≡ lookup (mac_eq src) self.now.sources }
+    {
+        self.slots.get(src)
     }
 
     /// How many sources stand in the table, the forgotten ones among them.
