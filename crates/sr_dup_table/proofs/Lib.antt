@@ -2,3 +2,4 @@ pub mod SourceLemmas
 pub mod RunLemmas
 pub mod EntryLemmas
 pub mod SameLemmas
+pub mod JoinLemmas

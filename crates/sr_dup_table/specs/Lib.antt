@@ -3,4 +3,5 @@ pub mod Sources
 pub mod Shown
 pub mod EqualityLemmas
 pub mod Same
+pub mod Joins
 pub mod Ageing

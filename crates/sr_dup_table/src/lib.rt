@@ -5,6 +5,7 @@ mod entry;
 mod equality;
 mod fault;
 mod laws;
+mod merging;
 mod same;
 mod table;
 
