@@ -1,3 +1,5 @@
 pub mod SourceLemmas
 pub mod RunLemmas
 pub mod EntryLemmas
+pub mod SameLemmas
+pub mod JoinLemmas

@@ -1,15 +1,15 @@
 -- Lists of sources that are tested as one are one.
-use Rattle.std.proofs.Common.{◌≡◌, Bool, true, eqb, ◌&&◌, List, ap}
+use Rattle.std.proofs.Common.{◌≡◌, eqb, ◌&&◌, ap}
 use Rattle.std.specs.Cmp.{IsEquivalence, decided}
 use Rattle.std.specs.Cmp.Lexicographic.{pointwise, pointwise_decides}
 use Rattle.std.specs.Bool.{Decides}
 use Rattle.std.proofs.lemmas.Bool.Decides.{Decides-eqb, Decides-like, Decides-and}
 use Rattle.sr_frame.specs.declared.fields.Mac.{Mac}
-use Rattle.sr_dup_window.specs.Windows.{Window, same_window}
+use Rattle.sr_dup_window.specs.Windows.{same_window}
 use Rattle.sr_dup_window.specs.WindowLemmas.{Decides-same_window}
 use Rattle.sr_dup_table.specs.Sources.{Heard, Sources, same_heard, same_sources}
 
-Decides-heard : (a b : Heard) → Decides (same_heard a b) (a ≡ b)
+pub Decides-heard : (a b : Heard) → Decides (same_heard a b) (a ≡ b)
 Decides-heard a b =
     Decides-like (same_heard a b) (λ e. λ i. record { seen = e.0 i; time = e.1 i })
     (λ e. (ap (λ (h : Heard). h.seen) e, ap (λ (h : Heard). h.time) e))

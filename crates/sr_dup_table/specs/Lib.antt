@@ -2,4 +2,6 @@ pub mod Limits
 pub mod Sources
 pub mod Shown
 pub mod EqualityLemmas
+pub mod Same
+pub mod Joins
 pub mod Ageing

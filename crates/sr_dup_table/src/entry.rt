@@ -1,7 +1,8 @@
 //! What the table has of one source: the numbers of this epoch, and when it was last heard.
-ghost use Rattle.std.specs.Prelude.{◌≡◌, false};
+ghost use Rattle.std.specs.Prelude.{◌≡◌, ◌≤◌, Some, false};
 ghost use Rattle.sr_dup_window.specs.LaneSets.{is_empty};
 ghost use Rattle.sr_dup_table.specs.Sources.{is_live, heard_next, fresh_at};
+ghost use Rattle.sr_dup_table.specs.Joins.{is_apart, joined_heard};
 ghost use Rattle.sr_dup_table.specs.Shown.{heard_of};
 
 use crate::table::ENTRY_FORGET_TIME;
@@ -10,7 +11,7 @@ use sr_dup_window::{Lanes, Record};
 use sr_sequence::Seq;
 
 // Whether the source is not forgotten.
-fn is_live(entry: &Aged<Record<16>>, now: u64) -> bool
+pub(crate) fn is_live(entry: &Aged<Record<16>>, now: u64) -> bool
     ensures { result ≡ is_live now (heard_of entry.now) }
 {
     entry.is_live(ENTRY_FORGET_TIME, now)
@@ -41,4 +42,13 @@ pub fn hear(entry: &mut Aged<Record<16>>, seq: Seq, lanes: Lanes, now: u64) -> L
         entry.value = Record::begin(seq, lanes);
         lanes
     }
+}
+
+/// Joins what another table has of the source, unless the two records are apart. Answers whether it did.
+pub fn join(entry: &mut Aged<Record<16>>, other: &Aged<Record<16>>) -> bool
+    ensures later { entry.old.time ≤ entry.new.time }
+    ensures joined { is_apart (Some (heard_of entry.old)) (heard_of other.now) ≡ false → heard_of entry.new ≡ joined_heard (heard_of entry.old) (heard_of other.now) }
+{
+    entry.time = entry.time.max(other.time);
+    entry.value.merge(&other.value).is_ok()
 }

@@ -9,7 +9,7 @@ use sr_dup_window::Record;
 use sr_slots::Iter;
 
 // Whether two entries show the same.
-fn same_entry(one: &Aged<Record<16>>, other: &Aged<Record<16>>) -> bool
+pub(crate) fn same_entry(one: &Aged<Record<16>>, other: &Aged<Record<16>>) -> bool
     ensures { result ≡ same_heard (heard_of one.now) (heard_of other.now) }
 {
     one.value.is_same(&other.value) && one.time == other.time

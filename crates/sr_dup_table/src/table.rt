@@ -2,16 +2,18 @@
 ghost use Rattle.std.specs.Prelude.{◌≡◌, ℕ, ◌+◌, ◌≤◌, ◌↔◌, [], true, false, not, nat_lt, Some, None, length, ◌++◌, ◌∷◌, IsOk, OnOk, OnErr, IfOk, IfErr, IfSome, IfNone, IsErr, IsErrOf, is_some};
 ghost use Rattle.std.specs.Result.{result_ok};
 ghost use Rattle.std.specs.Map.{lookup};
-ghost use Rattle.std.specs.Option.{option_map};
+ghost use Rattle.std.specs.Option.{option_copied, option_map};
 ghost use Rattle.sr_dup_window.specs.LaneSets.{is_empty};
 ghost use Rattle.sr_dup_window.specs.Windows.{window_of};
 ghost use Rattle.sr_frame.specs.Addresses.{mac_eq};
 ghost use Rattle.sr_slots.specs.Places.{KeepsHeld};
 ghost use Rattle.sr_dup_table.specs.Limits.{most_sources};
 ghost use Rattle.sr_dup_table.specs.Sources.{IsTable, is_held, is_ready, live_at, live_others, arrive_fault, with_room, arrive_answer, after_arrive, heard_next, fresh_at};
+ghost use Rattle.std.specs.Bool.{OnTrue, OnFalse};
+ghost use Rattle.sr_dup_table.specs.Joins.{is_apart, joined_heard, with_source};
 ghost use Rattle.sr_dup_table.specs.Shown.{heard_of, sources_of};
 
-use crate::entry::{fresh, hear};
+use crate::entry::{fresh, hear, join};
 use crate::fault::{DupFault, TableFull};
 use sr_aged_slots::{Aged, AgedSlots};
 use sr_dup_window::{Lanes, Record};
@@ -88,6 +90,13 @@ impl DupTable {
         ensures { sources_of result ≡ self.now.sources }
     {
         self.slots.iter()
+    }
+
+    // What the table has of a source, forgotten or not.
+    pub(crate) fn entry(&self, src: Mac) -> Option<&Aged<Record<16>>>
+        ensures { option_map heard_of (option_copied result) ≡ lookup (mac_eq src) self.now.sources }
+    {
+        self.slots.get(src)
     }
 
     /// How many sources stand in the table, the forgotten ones among them.
@@ -298,7 +307,7 @@ impl DupTable {
     }
 
     // Adds a source to a table that is not full. The forgotten ones of a crowded table go.
-    fn put_last(&mut self, src: Mac, first: Record<16>, now: u64) -> Result<(), NoMemory>
+    pub(crate) fn put_last(&mut self, src: Mac, first: Record<16>, now: u64) -> Result<(), NoMemory>
         requires absent { lookup (mac_eq src) self.old.sources ≡ None }
         requires room { nat_lt (length (with_room now self.old.sources)) most_sources ≡ true }
         ensures sources { OnOk result (self.new.sources ≡ with_room now self.old.sources ++ (src, record { seen = window_of first; time = now }) ∷ []) }
@@ -309,6 +318,27 @@ impl DupTable {
     {
         self.slots.append(src, first, now)?;
         Ok(())
+    }
+
+    // Joins a record to that of its source, and answers whether there is one.
+    pub(crate) fn join(&mut self, src: Mac, other: &Aged<Record<16>>) -> bool
+        requires { is_apart (lookup (mac_eq src) self.old.sources) (heard_of other.now) ≡ false }
+        ensures found { result ≡ is_some (lookup (mac_eq src) self.old.sources) }
+        ensures joined { OnTrue result (self.new.sources ≡ with_source self.old.sources (src, heard_of other.now)) }
+        ensures none { OnFalse result (self.new ≡ self.old) }
+    {
+        let Some(_joined) = self.slots.update_at(
+            None,
+            src,
+            |entry: &mut Aged<Record<16>>| -> bool
+                ensures later { entry.old.time ≤ entry.new.time }
+                ensures joined { is_apart (Some (heard_of entry.old)) (heard_of other.entry.now) ≡ false → heard_of entry.new ≡ joined_heard (heard_of entry.old) (heard_of other.entry.now) }
+            { join(entry, other) },
+        )
+        else {
+            return false;
+        };
+        true
     }
 
     // Whether a new source has no room.

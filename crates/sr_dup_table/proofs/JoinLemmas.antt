@@ -1,0 +1,202 @@
+-- The join of two tables, one source after another.
+use Rattle.std.proofs.Common.{◌≡◌, ℕ, suc, ◌+◌, ◌≤◌, Bool, true, false, cond, not, nat_lt, [], ◌∷◌, ◌++◌, length, Option, None, Some, is_some, refl, sym, ap, ◌∙◌, subst, arith, append_assoc}
+use Rattle.std.specs.Prelude.{find}
+use Rattle.std.specs.List.{IsDistinct, AllByRecursion}
+use Rattle.std.specs.Map.{lookup, keys_of}
+use Rattle.std.specs.Option.{option_map}
+use Rattle.std.proofs.lemmas.Map.{keys-set_value, length-set_value}
+use Rattle.std.proofs.lemmas.Map.Entries.{length-keys_of}
+use Rattle.std.proofs.lemmas.List.{length-append, map-append, append-nil}
+use Rattle.sr_frame.specs.declared.fields.Mac.{Mac}
+use Rattle.sr_frame.specs.Addresses.{mac_eq}
+use Rattle.sr_frame.specs.AddressLemmas.{mac_same, mac_symm}
+use Rattle.sr_slots.specs.EntryLemmas.{lookup-set, lookup-push, lookup-passing, distinct-passing}
+use Rattle.sr_slots.specs.Calls.{passing}
+use Rattle.std.proofs.lemmas.Bool.{ltb-false}
+use Rattle.sr_dup_table.specs.declared.fault.DupFault.TheVariants.{TableFull, Apart}
+use Rattle.sr_dup_table.specs.Sources.{Heard, Sources, is_live, live_at}
+use Rattle.sr_dup_table.specs.Joins.{joined, joined_heard, lacking_in, IsJoin, join_count, is_apart, first_apart, join_fault, new_source, apart_source, or_else, put_with, with_source, with_sources}
+use Rattle.sr_dup_table.proofs.SameLemmas.{absent_apart}
+
+-- what stands at an address after one source was joined
+at_with : (s : Sources) (e : Mac × Heard) (q : Mac) (o : Option Heard) → lookup (mac_eq e.0) s ≡ o
+    → lookup (mac_eq q) (put_with o s e) ≡ cond (mac_eq e.0 q) (joined o (Some e.1)) (lookup (mac_eq q) s)
+at_with s e q None at = lookup-push e.0 q e.1 s at
+at_with s e q (Some h) at = lookup-set e.0 q (joined_heard h e.1) s (ap is_some at)
+
+lookup-with : (s : Sources) (e : Mac × Heard) (q : Mac) → lookup (mac_eq q) (with_source s e) ≡ cond (mac_eq e.0 q) (joined (lookup (mac_eq e.0) s) (Some e.1)) (lookup (mac_eq q) s)
+lookup-with s e q = at_with s e q (lookup (mac_eq e.0) s) refl
+
+-- another address is left as it was
+pub lookup-other : (s : Sources) (e : Mac × Heard) (q : Mac) → mac_eq e.0 q ≡ false → lookup (mac_eq q) (with_source s e) ≡ lookup (mac_eq q) s
+lookup-other s e q apart = lookup-with s e q ∙ ap (λ b. cond b (joined (lookup (mac_eq e.0) s) (Some e.1)) (lookup (mac_eq q) s)) apart
+
+joined-right : (a : Option Heard) → joined a None ≡ a
+joined-right None = refl
+joined-right (Some a) = refl
+
+-- the sources that are lacking, where those that are looked for are the same
+lacking-same : (m : Mac) (s other t : Sources) → AllByRecursion (λ y. mac_eq m y ≡ false) (keys_of t)
+    → ((q : Mac) → mac_eq m q ≡ false → lookup (mac_eq q) other ≡ lookup (mac_eq q) s) → lacking_in other t ≡ lacking_in s t
+lacking-same m s other [] apart same = refl
+lacking-same m s other (x ∷ t) apart same = λ i. cond (not (is_some (same x.0 apart.0 i))) (x ∷ lacking-same m s other t apart.1 same i) (lacking-same m s other t apart.1 same i)
+
+-- nor do other records come apart
+apart-same : (m : Mac) (s other t : Sources) → AllByRecursion (λ y. mac_eq m y ≡ false) (keys_of t)
+    → ((q : Mac) → mac_eq m q ≡ false → lookup (mac_eq q) other ≡ lookup (mac_eq q) s) → first_apart other t ≡ first_apart s t
+apart-same m s other [] apart same = refl
+apart-same m s other (x ∷ t) apart same = by (is_apart (lookup (mac_eq x.0) s) x.1) (is_apart (lookup (mac_eq x.0) other) x.1)
+    (ap (λ o. is_apart o x.1) (same x.0 apart.0)) (apart-same m s other t apart.1 same)
+  where
+    by : (a b : Bool) → b ≡ a → first_apart other t ≡ first_apart s t
+        → option_map (λ e. e.0) (cond b (Some x) (find (λ e. is_apart (lookup (mac_eq e.0) other) e.1) t))
+        ≡ option_map (λ e. e.0) (cond a (Some x) (find (λ e. is_apart (lookup (mac_eq e.0) s) e.1) t))
+    by true true e ih = refl
+    by true false e ih = cc
+    by false true e ih = cc
+    by false false e ih = ih
+
+-- the live ones of a list
+pub live-none : (now : ℕ) (s : Sources) (q : Mac) → IsDistinct mac_eq (keys_of s) → lookup (mac_eq q) s ≡ None → lookup (mac_eq q) (live_at now s) ≡ None
+live-none now s q unique at = lookup-passing (is_live now) q s unique ∙ ap (passing (is_live now)) at
+
+pub live-there : (now : ℕ) (s : Sources) (q : Mac) (h : Heard) → IsDistinct mac_eq (keys_of s) → lookup (mac_eq q) s ≡ Some h → is_live now h ≡ true → lookup (mac_eq q) (live_at now s) ≡ Some h
+live-there now s q h unique at live = lookup-passing (is_live now) q s unique ∙ ap (passing (is_live now)) at ∙ ap (λ b. cond b (Some h) None) live
+
+pub live-gone : (now : ℕ) (s : Sources) (q : Mac) (h : Heard) → IsDistinct mac_eq (keys_of s) → lookup (mac_eq q) s ≡ Some h → is_live now h ≡ false → lookup (mac_eq q) (live_at now s) ≡ None
+live-gone now s q h unique at dead = lookup-passing (is_live now) q s unique ∙ ap (passing (is_live now)) at ∙ ap (λ b. cond b (Some h) None) dead
+
+-- the first of some is live, or not
+pub live-first : (now : ℕ) (e : Mac × Heard) (r es : Sources) → es ≡ e ∷ r → is_live now e.1 ≡ true → live_at now es ≡ e ∷ live_at now r
+live-first now e r es parts live = ap (live_at now) parts ∙ ap (λ b. cond b (e ∷ live_at now r) (live_at now r)) live
+
+pub live-passed : (now : ℕ) (e : Mac × Heard) (r es : Sources) → es ≡ e ∷ r → is_live now e.1 ≡ false → live_at now es ≡ live_at now r
+live-passed now e r es parts dead = ap (live_at now) parts ∙ ap (λ b. cond b (e ∷ live_at now r) (live_at now r)) dead
+
+-- what is seen of the first of some
+pub count-first : (s t : Sources) (e : Mac × Heard) → length (lacking_in s (e ∷ t)) ≡ length (new_source (lookup (mac_eq e.0) s) e) + length (lacking_in s t)
+count-first s t e = by (is_some (lookup (mac_eq e.0) s))
+  where
+    by : (b : Bool) → length (cond (not b) (e ∷ lacking_in s t) (lacking_in s t)) ≡ length (cond b [] (e ∷ [])) + length (lacking_in s t)
+    by true = omega arith
+    by false = omega arith
+
+pub apart-first : (s t : Sources) (e : Mac × Heard) (o : Option Mac) → or_else o (first_apart s (e ∷ t)) ≡ or_else (or_else o (apart_source (lookup (mac_eq e.0) s) e)) (first_apart s t)
+apart-first s t e (Some m) = refl
+apart-first s t e None = by (is_apart (lookup (mac_eq e.0) s) e.1)
+  where
+    by : (b : Bool) → option_map (λ e. e.0) (cond b (Some e) (find (λ e. is_apart (lookup (mac_eq e.0) s) e.1) t)) ≡ or_else (cond b (Some e.0) None) (first_apart s t)
+    by true = refl
+    by false = refl
+
+-- the addresses of live sources are among all
+apart-live : (now : ℕ) (m : Mac) (t : Sources) → AllByRecursion (λ y. mac_eq m y ≡ false) (keys_of t) → AllByRecursion (λ y. mac_eq m y ≡ false) (keys_of (live_at now t))
+apart-live now m [] h = tt
+apart-live now m (e ∷ t) h = by (is_live now e.1) (apart-live now m t h.1)
+  where
+    by : (b : Bool) → AllByRecursion (λ y. mac_eq m y ≡ false) (keys_of (live_at now t)) → AllByRecursion (λ y. mac_eq m y ≡ false) (keys_of (cond b (e ∷ live_at now t) (live_at now t)))
+    by true ih = (h.0, ih)
+    by false ih = ih
+
+-- one more source is joined
+length-put : (s : Sources) (e : Mac × Heard) (o : Option Heard) → length s ≤ length (put_with o s e)
+length-put s e None = omega (arith, length-append s (e ∷ []))
+length-put s e (Some h) = omega (arith, length-set_value (mac_eq e.0) s (joined_heard h e.1))
+
+length-with : (s t : Sources) → length s ≤ length (with_sources s t)
+length-with s [] = omega arith
+length-with s (e ∷ t) = omega (arith, length-put s e (lookup (mac_eq e.0) s), length-with (with_source s e) t)
+
+pub record Takes (now : ℕ) (s : Sources) (e : Mac × Heard) (r all : Sources) : Type 0 where
+  pub room : length (with_source s e) ≤ 1024
+  pub close : is_apart (lookup (mac_eq e.0) s) e.1 ≡ false
+  pub later : first_apart (with_source s e) (live_at now r) ≡ None
+  pub rest : with_sources (with_source s e) (live_at now r) ≡ all
+
+pub takes : (now : ℕ) (s : Sources) (e : Mac × Heard) (r es all : Sources) → es ≡ e ∷ r → is_live now e.1 ≡ true → IsDistinct mac_eq (keys_of es)
+    → length all ≤ 1024 → first_apart s (live_at now es) ≡ None → with_sources s (live_at now es) ≡ all → Takes now s e r all
+unfolding IsDistinct
+takes now s e r es all parts live unique few none joins =
+    let here : live_at now es ≡ e ∷ live_at now r = live-first now e r es parts live in
+    let left : with_sources (with_source s e) (live_at now r) ≡ all = sym (ap (with_sources s) here) ∙ joins in
+    let apart : AllByRecursion (λ y. mac_eq e.0 y ≡ false) (keys_of r) = (subst (λ x. IsDistinct mac_eq (keys_of x)) parts unique).0 in
+    let both = first_close (is_apart (lookup (mac_eq e.0) s) e.1) (sym (ap (first_apart s) here) ∙ none) in
+    record {
+      room = omega (arith, length-with (with_source s e) (live_at now r), ap length left);
+      close = both.0;
+      later = apart-same e.0 s (with_source s e) (live_at now r) (apart-live now e.0 r apart) (λ q other. lookup-other s e q other) ∙ both.1;
+      rest = left;
+    }
+  where
+    first_close : (b : Bool) → option_map (λ e. e.0) (cond b (Some e) (find (λ e. is_apart (lookup (mac_eq e.0) s) e.1) (live_at now r))) ≡ None → (b ≡ false) × (first_apart s (live_at now r) ≡ None)
+    first_close true h = cc
+    first_close false h = (refl, h)
+
+-- the keys that are left
+pub distinct-rest : (e : Mac × Heard) (r es : Sources) → es ≡ e ∷ r → IsDistinct mac_eq (keys_of es) → IsDistinct mac_eq (keys_of r)
+unfolding IsDistinct
+distinct-rest e r es parts unique = (subst (λ x. IsDistinct mac_eq (keys_of x)) parts unique).1
+
+-- sources that are joined one after another are the join
+keys-put : (s t : Sources) (e : Mac × Heard) (o : Option Heard) → lookup (mac_eq e.0) s ≡ o → lacking_in (put_with o s e) t ≡ lacking_in s t
+    → keys_of (put_with o s e) ++ keys_of (lacking_in (put_with o s e) t) ≡ keys_of s ++ keys_of (cond (not (is_some o)) (e ∷ lacking_in s t) (lacking_in s t))
+keys-put s t e None at same =
+    (λ i. keys_of (s ++ e ∷ []) ++ keys_of (same i))
+    ∙ ap (λ ks. ks ++ keys_of (lacking_in s t)) (map-append (λ e. e.0) s (e ∷ []))
+    ∙ append_assoc (keys_of s) (e.0 ∷ []) (keys_of (lacking_in s t))
+keys-put s t e (Some h) at same = λ i. keys-set_value (mac_eq e.0) s (joined_heard h e.1) i ++ keys_of (same i)
+
+pub with-is-join : (s t : Sources) → IsDistinct mac_eq (keys_of t) → IsJoin s t (with_sources s t)
+unfolding IsDistinct
+with-is-join s [] unique = record { each = λ q. sym (joined-right (lookup (mac_eq q) s)); order = sym (append-nil (keys_of s)) }
+with-is-join s (e ∷ t) unique = by (with-is-join (with_source s e) t unique.1)
+  where
+    others : lacking_in (with_source s e) t ≡ lacking_in s t
+    others = lacking-same e.0 s (with_source s e) t unique.0 (λ q apart. lookup-other s e q apart)
+
+    at : (q : Mac) (b : Bool) → mac_eq e.0 q ≡ b → (c : Bool) → mac_eq q e.0 ≡ c
+        → joined (lookup (mac_eq q) (with_source s e)) (lookup (mac_eq q) t) ≡ joined (lookup (mac_eq q) s) (cond c (Some e.1) (lookup (mac_eq q) t))
+    at q true p true r =
+        let same : e.0 ≡ q = mac_same e.0 q p in
+        let none : lookup (mac_eq q) t ≡ None = ap (λ m. lookup (mac_eq m) t) (sym same) ∙ absent_apart e.0 t unique.0 in
+        let one : lookup (mac_eq q) (with_source s e) ≡ joined (lookup (mac_eq q) s) (Some e.1) =
+        lookup-with s e q ∙ ap (λ b. cond b (joined (lookup (mac_eq e.0) s) (Some e.1)) (lookup (mac_eq q) s)) p ∙ ap (λ m. joined (lookup (mac_eq m) s) (Some e.1)) same in
+        (λ i. joined (one i) (none i)) ∙ joined-right (joined (lookup (mac_eq q) s) (Some e.1))
+    at q true p false r = let bad : true ≡ false = sym p ∙ mac_symm e.0 q ∙ r in cc
+    at q false p true r = let bad : true ≡ false = sym r ∙ mac_symm q e.0 ∙ p in cc
+    at q false p false r = ap (λ o. joined o (lookup (mac_eq q) t)) (lookup-other s e q p)
+
+    by : IsJoin (with_source s e) t (with_sources (with_source s e) t) → IsJoin s (e ∷ t) (with_sources s (e ∷ t))
+    by ih = record {
+      each = λ q. ih.each q ∙ at q (mac_eq e.0 q) refl (mac_eq q e.0) refl;
+      order = ih.order ∙ keys-put s t e (lookup (mac_eq e.0) s) refl others;
+    }
+
+pub join-length : (s t both : Sources) → IsJoin s t both → length both ≡ join_count s t
+join-length s t both j =
+    sym (length-keys_of both) ∙ ap length j.order ∙ length-append (keys_of s) (keys_of (lacking_in s t))
+    ∙ (λ i. length-keys_of s i + length-keys_of (lacking_in s t) i)
+
+-- where nothing is in the way there is room, and no records are apart
+pub none-in-the-way : (one other : Sources) → join_fault one other ≡ None → (join_count one other ≤ 1024) × (first_apart one other ≡ None)
+none-in-the-way one other h = by (nat_lt 1024 (join_count one other)) refl h
+  where
+    mapped : (o : Option Mac) → option_map Apart o ≡ None → o ≡ None
+    mapped None e = refl
+    mapped (Some m) e = cc
+
+    by : (b : Bool) → nat_lt 1024 (join_count one other) ≡ b → cond b (Some TableFull) (option_map Apart (first_apart one other)) ≡ None
+        → (join_count one other ≤ 1024) × (first_apart one other ≡ None)
+    by true p e = cc
+    by false p e = (ltb-false 1024 (join_count one other) p, mapped (first_apart one other) e)
+
+pub lacking_le : (s t : Sources) → length (lacking_in s t) ≤ length t
+lacking_le s [] = omega arith
+lacking_le s (e ∷ t) = by (not (is_some (lookup (mac_eq e.0) s))) (lacking_le s t)
+  where
+    by : (b : Bool) → length (lacking_in s t) ≤ length t → length (cond b (e ∷ lacking_in s t) (lacking_in s t)) ≤ suc (length t)
+    by true h = omega arith
+    by false h = omega arith
+
+pub distinct-live : (now : ℕ) (s : Sources) → IsDistinct mac_eq (keys_of s) → IsDistinct mac_eq (keys_of (live_at now s))
+distinct-live now s unique = distinct-passing (is_live now) s unique

@@ -1,0 +1,73 @@
+-- The join of two tables, source by source.
+use Rattle.std.specs.Prelude.{◌≡◌, ℕ, ◌+◌, Bool, false, not, is_some, nat_eq, nat_lt, max, [], ◌∷◌, ◌++◌, length, filter, find, Option, None, Some, if◌then◌else◌}
+use Rattle.std.specs.Map.{lookup, set_value, keys_of}
+use Rattle.std.specs.Option.{option_map}
+use Rattle.sr_frame.specs.declared.fields.Mac.{Mac}
+use Rattle.sr_frame.specs.Addresses.{mac_eq}
+use Rattle.sr_sequence.specs.Places.{steps}
+use Rattle.sr_dup_window.specs.Windows.{window_merged}
+use Rattle.sr_dup_table.specs.declared.fault.DupFault.{DupFault}
+use Rattle.sr_dup_table.specs.declared.fault.DupFault.TheVariants.{TableFull, Apart}
+use Rattle.sr_dup_table.specs.Limits.{window, most_sources}
+use Rattle.sr_dup_table.specs.Sources.{Heard, Sources}
+
+-- the numbers of both records, and the later of their times
+abbrev pub joined_heard : Heard → Heard → Heard
+joined_heard a b = record { seen = window_merged window a.seen b.seen; time = max a.time b.time }
+
+-- what both have of an address
+abbrev pub joined : Option Heard → Option Heard → Option Heard
+joined None other = other
+joined (Some a) None = Some a
+joined (Some a) (Some b) = Some (joined_heard a b)
+
+-- the sources that other ones lack
+abbrev pub lacking_in : Sources → Sources → Sources
+lacking_in s t = filter (λ e. not (is_some (lookup (mac_eq e.0) s))) t
+
+-- of each address what both have; first the sources of the one in their order, and then those that the other alone has
+pub record IsJoin (one other both : Sources) : Type 0 where
+  pub each : (src : Mac) → lookup (mac_eq src) both ≡ joined (lookup (mac_eq src) one) (lookup (mac_eq src) other)
+  pub order : keys_of both ≡ keys_of one ++ keys_of (lacking_in one other)
+
+-- how many sources the join has
+abbrev pub join_count : Sources → Sources → ℕ
+join_count one other = length one + length (lacking_in one other)
+
+-- two greatest numbers that are half of all numbers apart
+abbrev pub is_apart : Option Heard → Heard → Bool
+is_apart None b = false
+is_apart (Some a) b = nat_eq (steps a.seen.reference b.seen.reference) 32768
+
+-- the first source of the other table whose records are apart
+abbrev pub first_apart : Sources → Sources → Option Mac
+first_apart one other = option_map (λ e. e.0) (find (λ e. is_apart (lookup (mac_eq e.0) one) e.1) other)
+
+-- why two tables have no join: there are too many sources, or else two records are apart
+abbrev pub join_fault : Sources → Sources → Option DupFault
+join_fault one other = if nat_lt most_sources (join_count one other) then Some TableFull else option_map Apart (first_apart one other)
+
+-- a source of the other table that is new, or whose records are apart, beside what the one table has of it
+abbrev pub new_source : Option Heard → Mac × Heard → Sources
+new_source known e = if is_some known then [] else e ∷ []
+
+abbrev pub apart_source : Option Heard → Mac × Heard → Option Mac
+apart_source known e = if is_apart known e.1 then Some e.0 else None
+
+-- the first of two
+abbrev pub or_else : Option Mac → Option Mac → Option Mac
+or_else None second = second
+or_else (Some first) second = Some first
+
+-- one source joined to others
+abbrev pub put_with : Option Heard → Sources → Mac × Heard → Sources
+put_with None s e = s ++ e ∷ []
+put_with (Some h) s e = set_value (mac_eq e.0) s (joined_heard h e.1)
+
+abbrev pub with_source : Sources → Mac × Heard → Sources
+with_source s e = put_with (lookup (mac_eq e.0) s) s e
+
+-- several, one after another
+abbrev pub with_sources : Sources → Sources → Sources
+with_sources s [] = s
+with_sources s (e ∷ t) = with_sources (with_source s e) t
