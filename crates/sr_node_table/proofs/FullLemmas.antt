@@ -1,13 +1,12 @@
 -- Where a table is full.
-use Rattle.std.proofs.Common.{◌≡◌, ℕ, suc, ◌<◌, ◌≤◌, Bool, true, false, cond, not, ◌&&◌, nat_lt, List, [], ◌∷◌, length, Option, None, Some, refl, sym, ap, ◌∙◌, arith}
+use Rattle.std.proofs.Common.{◌≡◌, ℕ, suc, ◌<◌, ◌≤◌, Bool, true, false, cond, not, ◌&&◌, nat_lt, [], ◌∷◌, length, Option, None, Some, refl, sym, ap, ◌∙◌, arith}
 use Rattle.std.specs.Map.{lookup}
 use Rattle.std.proofs.lemmas.Bool.{ltb-true, ltb-false, le-ltb}
 use Rattle.sr_frame.specs.declared.fields.Mac.{Mac}
-use Rattle.sr_frame.specs.declared.learnt.Learnt.{Learnt}
 use Rattle.sr_frame.specs.declared.learnt.Learnt.TheVariants.{Learned, Known, Full}
 use Rattle.sr_frame.specs.Addresses.{mac_eq}
 use Rattle.sr_aged_slots.specs.AgeLemmas.{length-live_le}
-use Rattle.sr_node_table.specs.Nodes.{Entry, Entries, Table, Hearing, is_live, live_at, live_others, learnt_again, with_room, answer_of, answer_to}
+use Rattle.sr_node_table.specs.Nodes.{Entry, Entries, Table, Hearing, is_live, live_at, live_others, learnt_again, answer_of, answer_to}
 
 -- an address that has an entry is kept
 kept_again : (now : ℕ) (e : Entry) → learnt_again now e ≡ Full → ⊥

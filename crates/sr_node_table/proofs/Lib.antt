@@ -1,3 +1,4 @@
 pub mod WatchLemmas
 pub mod FullLemmas
 pub mod LawLemmas
+pub mod SameLemmas

@@ -1,4 +1,4 @@
-use Rattle.std.proofs.Common.{◌≡◌, ◌≤◌, ◌∙◌, sym, ap, subst, refl, Ok, length}
+use Rattle.std.proofs.Common.{◌≤◌, ◌∙◌, sym, ap, subst, Ok, length}
 use Rattle.sr_node_table.specs.Nodes.{hearing_of, live_others}
 use Rattle.sr_node_table.proofs.FullLemmas.{full_where}
 use Rattle.sr_node_table.proofs.table.NodeTable.hear.Goals as goal
