@@ -11,7 +11,6 @@ use Rattle.sr_forwarding.specs.declared.form.Form.TheVariants as form
 use Rattle.sr_forwarding.specs.declared.fault.ReadFault.TheVariants as read
 use Rattle.sr_forwarding.specs.declared.header.Header.{Header}
 use Rattle.sr_forwarding.specs.declared.outlets.Outlets.{Outlets}
-use Rattle.sr_forwarding.specs.declared.role_image.RoleImage.{RoleImage}
 use Rattle.sr_forwarding.specs.declared.role_image.RoleKind.{RoleKind}
 use Rattle.sr_forwarding.specs.declared.role_image.RoleKind.TheVariants as kind
 use Rattle.sr_forwarding.specs.Outlets.{listed}

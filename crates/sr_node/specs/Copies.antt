@@ -1,6 +1,5 @@
 -- The copies of a frame that goes out, each for an outlet.
 use Rattle.std.specs.Prelude.{◌<◌, Bool, true, false, List, [], ◌∷◌, ◌++◌, length, Option, None, Some, IsSome}
-use Rattle.sr_frame.specs.declared.ports.Port.{Port}
 use Rattle.sr_frame.specs.declared.ports.Port.TheVariants.{H, A, B, C}
 use Rattle.sr_forwarding.specs.declared.outlets.Outlets.{Outlets}
 use Rattle.sr_forwarding.specs.Outlets.{has}

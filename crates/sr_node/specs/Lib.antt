@@ -6,6 +6,7 @@ pub mod Copies
 pub mod Lanes
 pub mod LifeChecks
 pub mod Images
+pub mod NodeImages
 pub mod Arriving
 pub mod Sending
 pub mod Ticking

@@ -1,5 +1,5 @@
 -- What a node does with a frame of its host, at a moment.
-use Rattle.std.specs.Prelude.{◌≡◌, ℕ, not, nat_lt, List, length, Option, None, Some, if◌then◌else◌}
+use Rattle.std.specs.Prelude.{◌≡◌, ℕ, not, nat_lt, List, length, Option, Some, if◌then◌else◌}
 use Rattle.sr_frame.specs.declared.ports.Port.TheVariants.{H}
 use Rattle.sr_frame.specs.Frame.{least_len}
 use Rattle.sr_forwarding.specs.Limits.{longest_plain}

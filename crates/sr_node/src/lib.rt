@@ -5,7 +5,9 @@ mod arriving;
 mod copies;
 mod event;
 mod fault;
+mod image;
 mod lanes;
+mod laws;
 mod life_checks;
 mod looking;
 mod node;
@@ -18,6 +20,8 @@ mod ticking;
 
 pub use event::{Answer, Event};
 pub use fault::StepFault;
+pub use image::NodeImage;
+pub use laws::equal_where_the_states_are;
 pub use node::{Node, NodeOf};
 pub use outbox::Outbox;
 pub use per_port::PerPort;

@@ -2,6 +2,7 @@
 
 ghost use Rattle.std.specs.Prelude.{◌≡◌, ◌↔◌, [], ◌<◌, None, Some, IfOk, IsSome, IfSome, length, drop};
 ghost use Rattle.sr_node.specs.Outboxes.{box_at, boxes_empty, first_full, first_of, is_full, boxes_left};
+ghost use Rattle.sr_node.specs.NodeImages.{items_of};
 ghost use Rattle.sr_node.specs.Copies.{with_copy};
 
 use crate::PerPort;
@@ -62,6 +63,17 @@ impl Outbox {
         self.queue.front()
     }
 
+    // The parcels, each with octets of its own.
+    fn to_list(&self, alloc: Global) -> Result<Vec<Parcel>, NoMemory>
+        ensures { IfOk result (λ parcels. parcels.items ≡ self.now) }
+    {
+        let mut parcels = Vec::with_capacity(alloc, self.queue.len())?;
+        for parcel in self.queue.iter() {
+            parcels.push_reserved(parcel.try_clone(alloc)?);
+        }
+        Ok(parcels)
+    }
+
     /// The first parcel, taken out.
     fn take(&mut self) -> Option<Parcel>
         ensures result { result ≡ first_of self.old }
@@ -90,6 +102,18 @@ impl PerPort<Outbox> {
             a: Outbox::new(alloc)?,
             b: Outbox::new(alloc)?,
             c: Outbox::new(alloc)?,
+        })
+    }
+
+    /// The parcels of each queue, each with octets of its own.
+    pub(crate) fn to_lists(&self, alloc: Global) -> Result<PerPort<Vec<Parcel>>, NoMemory>
+        ensures { IfOk result (λ lists. items_of lists ≡ self.now) }
+    {
+        Ok(PerPort {
+            h: self.h.to_list(alloc)?,
+            a: self.a.to_list(alloc)?,
+            b: self.b.to_list(alloc)?,
+            c: self.c.to_list(alloc)?,
         })
     }
 

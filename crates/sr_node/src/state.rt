@@ -8,15 +8,16 @@ ghost use Rattle.sr_node.specs.Lanes.{is_host, new_outlets, sources_after};
 ghost use Rattle.sr_node.specs.Outboxes.{box_at, boxes_left, first_full, first_of};
 ghost use Rattle.sr_node.specs.Copies.{Room, copies_for, put_copies};
 ghost use Rattle.sr_node.specs.LifeChecks.{is_due};
-ghost use Rattle.sr_node.specs.Images.{shown, start, with_time, after, IsReady, IsIdle};
+ghost use Rattle.sr_node.specs.Images.{shown, node_state, start, with_time, after, IsReady, IsIdle};
+ghost use Rattle.sr_node.specs.NodeImages.{state_of};
 ghost use Rattle.sr_node.specs.Arriving.{is_plain_at_interlink, number_at, next_at, wrong_lan_after, full_fault};
 
 use crate::copies::{Copies, copies_for, put_copies};
 use crate::lanes::{lanes_noted, outlets_on};
 use crate::life_checks::is_due;
-use crate::{Outbox, PerPort, StepFault};
+use crate::{NodeImage, Outbox, PerPort, StepFault};
 use sr_dup_table::{DupTable, TableFull};
-use sr_forwarding::{Form, Header, Outlets, Parcel, ParcelView};
+use sr_forwarding::{Form, Header, Outlets, Parcel, ParcelView, RoleImage};
 use sr_frame::{NoMemory, Port};
 use sr_sequence::Seq;
 use sr_slots::{Keys, Spot};
@@ -126,6 +127,22 @@ impl Core {
         ensures { result.now ≡ self.now.wrong_lan }
     {
         &self.wrong_lan
+    }
+
+    /// All of it as data, beside this role. NoMemory: a growth was refused.
+    pub(crate) fn image(&self, role: RoleImage) -> Result<NodeImage, NoMemory>
+        ensures { IfOk result (λ i. state_of i ≡ node_state role self.now) }
+    {
+        Ok(NodeImage {
+            role,
+            time: self.time,
+            next: self.next,
+            next_life: self.next_life,
+            life_at: self.life_at,
+            sources: self.table.try_clone(self.alloc)?,
+            outboxes: self.out.to_lists(self.alloc)?,
+            wrong_lan: self.wrong_lan,
+        })
     }
 
     /// A copy for each of these outlets, where there is room. NoMemory: a growth was refused.
