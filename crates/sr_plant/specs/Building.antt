@@ -1,0 +1,69 @@
+-- Of what nodes a plant is made, and how it begins.
+use Rattle.std.specs.Prelude.{ℕ, Bool, true, false, not, ◌&&◌, nat_le, List, [], ◌∷◌, length, replicate, if◌then◌else◌}
+use Rattle.std.specs.List.{list_any}
+use Rattle.sr_frame.specs.declared.fields.Mac.{Mac}
+use Rattle.sr_frame.specs.Addresses.{mac_eq}
+use Rattle.sr_forwarding.specs.Parcels.{ParcelImage}
+use Rattle.sr_forwarding.specs.declared.role_image.RoleKind.{RoleKind}
+use Rattle.sr_forwarding.specs.declared.role_image.RoleKind.TheVariants.{Danp, Danh}
+use Rattle.sr_node.specs.Images.{State}
+use Rattle.sr_node.specs.Outboxes.{Outboxes}
+use Rattle.sr_plant.specs.declared.topology.Topology.{Topology}
+use Rattle.sr_plant.specs.declared.topology.Topology.TheVariants.{Ring, TwinLan}
+use Rattle.sr_plant.specs.declared.fault.PlantFault.{PlantFault}
+use Rattle.sr_plant.specs.declared.fault.PlantFault.TheVariants.{BadPlant, NoMemory}
+use Rattle.sr_plant.specs.Limits.{fewest_nodes, most_nodes}
+use Rattle.sr_plant.specs.Topologies.{link_count}
+use Rattle.sr_plant.specs.Plants.{Plant}
+
+-- the kind is that of the topology
+abbrev pub is_kind_of : Topology → RoleKind → Bool
+is_kind_of Ring Danh = true
+is_kind_of TwinLan Danp = true
+is_kind_of topology kind = false
+
+abbrev pub is_empty : List ParcelImage → Bool
+is_empty [] = true
+is_empty (p ∷ ps) = false
+
+-- no frame waits at an outlet
+abbrev pub has_nothing_waiting : Outboxes → Bool
+has_nothing_waiting o = is_empty o.h && is_empty o.a && is_empty o.b && is_empty o.c
+
+-- a node of a plant of this topology
+abbrev pub is_fit : Topology → State → Bool
+is_fit topology n = is_kind_of topology n.role.kind && has_nothing_waiting n.core.out
+
+abbrev pub are_fit : Topology → List State → Bool
+are_fit topology [] = true
+are_fit topology (n ∷ ns) = is_fit topology n && are_fit topology ns
+
+-- a node has this address
+abbrev pub has_address : Mac → List State → Bool
+has_address mac ns = list_any (λ n. mac_eq n.role.mac mac) ns
+
+-- no two nodes have one address
+abbrev pub are_apart : List State → Bool
+are_apart [] = true
+are_apart (n ∷ ns) = not (has_address n.role.mac ns) && are_apart ns
+
+-- of these nodes a plant is made: 2 to 16, each with an address of its own, of the kind of the topology, and with no frame waiting
+abbrev pub is_plant : Topology → List State → Bool
+is_plant topology ns =
+    nat_le fewest_nodes (length ns) && nat_le (length ns) most_nodes && are_fit topology ns && are_apart ns
+
+-- a new plant of them: nothing is in flight, no link is cut, and nothing was handed up
+abbrev pub opening : Topology → List State → Plant
+opening topology ns = record {
+  topology = topology;
+  nodes = ns;
+  flight = [];
+  cut = replicate (link_count topology (length ns)) false;
+  clock = 0;
+  handed = replicate (length ns) [];
+}
+
+-- why a plant is not made
+abbrev pub plant_fault : Bool → PlantFault
+plant_fault true = NoMemory
+plant_fault false = BadPlant

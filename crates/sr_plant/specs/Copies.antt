@@ -1,0 +1,25 @@
+-- Copies of frames, between nodes.
+use Rattle.std.specs.Prelude.{ℕ, ◌==◌, Bool, false, List, slice_index_or}
+use Rattle.std.specs.List.{list_any}
+use Rattle.sr_frame.specs.declared.ports.Port.{Port}
+use Rattle.sr_forwarding.specs.Parcels.{ParcelImage}
+use Rattle.sr_plant_laws.specs.Ledger.{Hop}
+
+-- a copy in flight: where it leads and the links that it is on, the outlet that put it out, and the parcel, whose octets are those that
+-- the framing of this outlet writes
+pub record Copy : Type 0 where
+  pub hop : Hop
+  pub outlet : Port
+  pub parcel : ParcelImage
+
+-- the copy is on this link
+abbrev pub is_on : ℕ → Copy → Bool
+is_on link c = list_any (λ l. l == link) c.hop.links
+
+-- a link is cut, where this says of each link whether it is
+abbrev pub is_cut : List Bool → ℕ → Bool
+is_cut cut link = slice_index_or cut link false
+
+-- a link that the copy is on is cut
+abbrev pub is_stopped : List Bool → Copy → Bool
+is_stopped cut c = list_any (is_cut cut) c.hop.links

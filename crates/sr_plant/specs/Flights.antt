@@ -1,0 +1,38 @@
+-- The copies in flight as they are kept: each parcel once, and the copies as places among the parcels.
+use Rattle.std.specs.Prelude.{◌≡◌, ℕ, ◌==◌, Bool, List, [], ◌∷◌, map, Option, None, Some, option_to_list}
+use Rattle.slab.specs.Slab.{Slab, get}
+use Rattle.sr_forwarding.specs.Parcels.{ParcelImage, plain_parcel}
+use Rattle.sr_plant_laws.specs.Ledger.{Hop as Step}
+use Rattle.sr_plant_laws.specs.Lists.{how_many}
+use Rattle.sr_plant.specs.declared.hop.Hop.{Hop}
+use Rattle.sr_plant.specs.declared.flight.Kept.{Kept}
+use Rattle.sr_plant.specs.declared.flight.Flying.{Flying}
+use Rattle.sr_plant.specs.Copies.{Copy}
+
+-- of how many copies in flight a parcel is
+abbrev pub copies_of : Option Kept → ℕ
+copies_of None = 0
+copies_of (Some k) = k.copies
+
+abbrev pub parcel_of : Option Kept → ParcelImage
+parcel_of None = plain_parcel [] None
+parcel_of (Some k) = k.parcel
+
+-- the copy has its parcel at this place
+abbrev pub is_of : ℕ → Flying → Bool
+is_of key f = f.key == key
+
+-- each parcel is kept with the count of its copies, and none without copies
+abbrev pub AreCounted : Slab Kept → List Flying → Type 0
+AreCounted kept fs = (key : ℕ) → how_many (is_of key) fs ≡ copies_of (get kept key)
+
+-- where it leads, and its links
+abbrev pub hop_of : Hop → Step
+hop_of h = record { to = record { node = h.node; port = h.port }; links = h.first ∷ option_to_list h.second }
+
+abbrev pub copy_in : Slab Kept → Flying → Copy
+copy_in kept f = record { hop = hop_of f.hop; outlet = f.outlet; parcel = parcel_of (get kept f.key) }
+
+-- the copies as they are
+abbrev pub copies_in : Slab Kept → List Flying → List Copy
+copies_in kept fs = map (copy_in kept) fs

@@ -1,0 +1,47 @@
+-- A plant as data: nodes, and what is between them.
+use Rattle.std.specs.Prelude.{◌≡◌, ℕ, ◌+◌, ◌<◌, Bool, List, length}
+use Rattle.sr_forwarding.specs.Parcels.{ParcelImage}
+use Rattle.sr_node.specs.Images.{State}
+use Rattle.sr_node.specs.Outboxes.{boxes_empty}
+use Rattle.sr_plant_laws.specs.Lists.{Each}
+use Rattle.sr_plant.specs.declared.topology.Topology.{Topology}
+use Rattle.sr_plant.specs.Topologies.{link_count, kind_of}
+use Rattle.sr_plant.specs.Copies.{Copy}
+
+-- what clauses see of the traffic: what shows, and the room that is held
+pub record TrafficValue : Type 0 where
+  pub flight : List Copy
+  pub cut : List Bool
+  pub clock : ℕ
+
+-- How the nodes are joined, each node, the copies in flight, of each link whether it is cut, the clock in milliseconds, and what each node
+-- handed up to its host, oldest first.
+pub record Plant : Type 0 where
+  pub topology : Topology
+  pub nodes : List State
+  pub flight : List Copy
+  pub cut : List Bool
+  pub clock : ℕ
+  pub handed : List (List ParcelImage)
+
+abbrev pub plant_of : Topology → List State → TrafficValue → List (List ParcelImage) → Plant
+plant_of topology nodes traffic handed = record {
+  topology = topology;
+  nodes = nodes;
+  flight = traffic.flight;
+  cut = traffic.cut;
+  clock = traffic.clock;
+  handed = handed;
+}
+
+-- nothing waits at an outlet of the node
+abbrev pub IsEmptied : State → Type 0
+IsEmptied s = s.core.out ≡ boxes_empty
+
+-- As a plant is between its events: its nodes are of the kind of its topology and nothing waits in them, and each node and each link has its place.
+pub record IsInOrder (s : Plant) : Type 0 where
+  pub kinds : Each (λ n. n.role.kind ≡ kind_of s.topology) s.nodes
+  pub emptied : Each IsEmptied s.nodes
+  pub links : length s.cut ≡ link_count s.topology (length s.nodes)
+  pub hosts : length s.handed ≡ length s.nodes
+  pub receivers : Each (λ c. c.hop.to.node < length s.nodes) s.flight

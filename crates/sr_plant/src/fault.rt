@@ -1,0 +1,41 @@
+//! Why a plant is not made, or refuses an event.
+
+ghost use Rattle.std.specs.Prelude.{◌≡◌};
+
+use sr_frame::NoMemory;
+use sr_node::StepFault;
+use thiserror::Error;
+
+/// Why a plant is not made, or refuses an event. Where several reasons hold, the first in this order is answered, but
+/// for `NoMemory` of the plant's own, which comes before `Node`.
+#[derive(Clone, Copy, Debug, PartialEq, Eq, Error)]
+pub enum PlantFault {
+    /// 1: the plant has no such node, or no such link.
+    #[error("no such node or link")]
+    NoSuchNode,
+    /// 2: no copy is in flight at this place.
+    #[error("no such copy")]
+    NoSuchCopy,
+    /// 3: the time is before the plant's.
+    #[error("the clock would go back")]
+    ClockBack,
+    /// 4: the node refuses it.
+    #[error("the node refuses it")]
+    Node(#[source] StepFault),
+    /// 5: the nodes make no plant.
+    #[error("the nodes make no plant")]
+    BadPlant,
+    /// 6: memory ran out.
+    #[error("out of memory")]
+    NoMemory,
+}
+
+impl From<NoMemory> for PlantFault {
+    ghost use Rattle.sr_plant.specs.declared.fault.PlantFault.TheVariants as fault;
+
+    ghost from_gives = { λ e f. f ≡ fault.NoMemory };
+
+    fn from(_e: NoMemory) -> PlantFault {
+        PlantFault::NoMemory
+    }
+}
