@@ -347,8 +347,8 @@ set_keeps x xs last s h kept le some there near =
     }
   where
     next_keeps : (x : Noting) (xs : List Noting) (last : ℕ) (h : Heard) → KeepsEpoch x.arrival.src xs last h → last ≤ x.arrival.time →
-    is_empty x.lanes ≡ false → IsNearNoted (noted_epoch x.arrival.src x.arrival.time xs) x.arrival.number →
-    KeepsEpoch x.arrival.src (x ∷ xs) x.arrival.time (heard_next h (wire x.arrival.number) x.lanes x.arrival.time)
+        is_empty x.lanes ≡ false → IsNearNoted (noted_epoch x.arrival.src x.arrival.time xs) x.arrival.number →
+        KeepsEpoch x.arrival.src (x ∷ xs) x.arrival.time (heard_next h (wire x.arrival.number) x.lanes x.arrival.time)
     next_keeps x xs last h was le some near =
         let since : h.time ≤ x.arrival.time = omega (arith, was.time, le) in
         let later_is = was.later x.arrival.time since in
