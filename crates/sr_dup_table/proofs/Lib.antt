@@ -3,3 +3,4 @@ pub mod RunLemmas
 pub mod EntryLemmas
 pub mod SameLemmas
 pub mod JoinLemmas
+pub mod JoinLawLemmas

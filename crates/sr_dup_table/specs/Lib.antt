@@ -4,4 +4,5 @@ pub mod Shown
 pub mod EqualityLemmas
 pub mod Same
 pub mod Joins
+pub mod JoinLaws
 pub mod Ageing

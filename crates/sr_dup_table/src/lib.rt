@@ -4,6 +4,7 @@
 mod entry;
 mod equality;
 mod fault;
+pub mod join_laws;
 mod laws;
 mod merging;
 mod same;

@@ -1,23 +1,21 @@
 -- What holds of all records, and of every tree of calls.
 use Rattle.std.proofs.Common.{◌≡◌, ℕ, ◌*◌, ◌<◌, get_or, ℤ, pos, arith, refl, sym, ap, ◌∙◌, subst}
-use Rattle.std.proofs.Math.Bool.{or_comm, or_assoc, or_self}
 use Rattle.std.specs.Prelude.{◌-ℤ◌}
 use Rattle.std.proofs.lemmas.Int.{ints}
 use Rattle.sr_sequence.specs.Numbers.{wire, IsNear}
-use Rattle.sr_sequence.specs.Places.{steps}
 use Rattle.sr_dup_window.specs.declared.lane_sets.Lane.{Lane}
 use Rattle.sr_dup_window.specs.declared.record.Record.{Record}
 use Rattle.sr_dup_window.specs.LaneSets.{has, none}
 use Rattle.sr_dup_window.specs.LaneLemmas.{lanes_where-same}
 use Rattle.sr_dup_window.specs.Bitmaps.{IsWidth}
-use Rattle.sr_dup_window.specs.Windows.{Window, window_of, window_merged, lanes_behind}
+use Rattle.sr_dup_window.specs.Windows.{Window, window_of, lanes_behind}
 use Rattle.sr_dup_window.specs.WindowLemmas.{begun-stands, noted-stands, merged-stands, width-most, has-by-family, fresh-lanes-by-family, same-numbers}
-use Rattle.sr_dup_window.specs.Families.{Family, IsClose, join, greater, StandsFor}
-use Rattle.sr_dup_window.specs.FamilyLemmas.{close_swap, close_greater}
+use Rattle.sr_dup_window.specs.Families.{Family, StandsFor}
 use Rattle.sr_dup_window.specs.Records.{WindowsTell, WindowsAreWhole, EachStands, StandsByHas, EqualWhereOneServes, MergeCommutes, MergeIsIdempotent, MergeAssociates}
 use Rattle.sr_dup_window.specs.RecordLemmas.{record-width, record-whole}
 use Rattle.sr_dup_window.specs.Trees.{Tree, begin, note, merge, made, family_of, greatest_of, IsSteady, TreesStand, AnswersByTheUnion, TreesAgree}
-use Rattle.sr_dup_window.proofs.OwnLemmas.{own_family, own-stands, lies_behind, close_numbers}
+use Rattle.sr_dup_window.specs.OwnLemmas.{own_family, own-stands, lies_behind}
+use Rattle.sr_dup_window.specs.MergeLemmas.{carried, merged-commutes, merged-self, merged-associates}
 use Rattle.sr_dup_window.proofs.SameLemmas.{same_shown}
 
 -- a window that is made along a steady tree stands for all that the tree took
@@ -48,9 +46,6 @@ trees_agree_lem N s t a b steady_s steady_t made_s made_t same =
 -- each record by its own numbers
 own : {N : ℕ} (r : Record N) (m : ℤ) → wire m ≡ (window_of r).reference → StandsFor (64 * N) (window_of r) (own_family (64 * N) (window_of r) m) m
 own {N} r m e = own-stands (64 * N) (window_of r) m (record-width r) (record-whole r) e
-
-carried : (n : ℕ) → n < 65536 → wire (pos n) ≡ n
-carried n h = omega arith
 
 pub each_stands_lem : (N : ℕ) → EachStands N
 each_stands_lem N r =
@@ -92,48 +87,15 @@ equal_where_one_serves_lem N a b =
       λ s. same_numbers a b s.0 s.0 s.1 s.1 s.2 s.3 (λ lane x. refl),
     )
 
--- a record that shows a merged window stands for the join
-joins : {N : ℕ} (r : Record N) (a b : Window) (f g : Family) (m n : ℤ) → window_of r ≡ window_merged (64 * N) a b → StandsFor (64 * N) a f m → StandsFor (64 * N) b g n → IsClose m n → StandsFor (64 * N) (window_of r) (join f g) (greater m n)
-joins {N} r a b f g m n e s t close =
-    let Q : Window → Type 0 = λ x. StandsFor (64 * N) x (join f g) (greater m n) in
-    subst Q (sym e) (merged-stands (64 * N) a b f g m n (record-width r) s t close)
-
 pub merge_commutes_lem : (N : ℕ) → MergeCommutes N
 merge_commutes_lem N a b c d apart left right =
-    let m : ℤ = pos (window_of a).reference in
-    let at_m : wire m ≡ (window_of a).reference = carried (window_of a).reference (record-whole a).carried in
-    let other = close_numbers m (window_of b).reference (record-whole b).carried (λ e. apart (ap (λ r. steps r (window_of b).reference) (sym at_m) ∙ e)) in
-    let n : ℤ = other.0 in
-    let f : Family = own_family (64 * N) (window_of a) m in
-    let g : Family = own_family (64 * N) (window_of b) n in
-    let s : StandsFor (64 * N) (window_of a) f m = own a m at_m in
-    let t : StandsFor (64 * N) (window_of b) g n = own b n other.1 in
-    same_numbers c d (join f g) (join g f) (greater m n) (greater n m)
-    (joins c (window_of a) (window_of b) f g m n left s t other.2)
-    (joins d (window_of b) (window_of a) g f n m right t s (close_swap m n other.2))
-    (λ lane x. or_comm (f lane x) (g lane x))
+    same_shown c d (left ∙ merged-commutes (64 * N) (window_of a) (window_of b) (record-width a) (record-whole a) (record-whole b) apart ∙ sym right)
 
 pub merge_is_idempotent_lem : (N : ℕ) → MergeIsIdempotent N
-merge_is_idempotent_lem N a b e =
-    let m : ℤ = pos (window_of a).reference in
-    let f : Family = own_family (64 * N) (window_of a) m in
-    let s : StandsFor (64 * N) (window_of a) f m = own a m (carried (window_of a).reference (record-whole a).carried) in
-    same_numbers b a (join f f) f (greater m m) m
-    (joins b (window_of a) (window_of a) f f m m e s s (omega (arith, ints), omega (arith, ints))) s
-    (λ lane x. or_self (f lane x))
+merge_is_idempotent_lem N a b e = same_shown b a (e ∙ merged-self (64 * N) (window_of a) (record-width a) (record-whole a))
 
 pub merge_associates_lem : (N : ℕ) → MergeAssociates N
 merge_associates_lem N a b c d e m n k at_m at_n at_k mn nk mk left right =
-    let w = 64 * N in
-    let f : Family = own_family w (window_of a) m in
-    let g : Family = own_family w (window_of b) n in
-    let h : Family = own_family w (window_of c) k in
-    let s : StandsFor w (window_of a) f m = own a m at_m in
-    let t : StandsFor w (window_of b) g n = own b n at_n in
-    let u : StandsFor w (window_of c) h k = own c k at_k in
-    let ab : StandsFor w (window_merged w (window_of a) (window_of b)) (join f g) (greater m n) = merged-stands w (window_of a) (window_of b) f g m n (record-width a) s t mn in
-    let bc : StandsFor w (window_merged w (window_of b) (window_of c)) (join g h) (greater n k) = merged-stands w (window_of b) (window_of c) g h n k (record-width a) t u nk in
-    same_numbers d e (join (join f g) h) (join f (join g h)) (greater (greater m n) k) (greater m (greater n k))
-    (joins d (window_merged w (window_of a) (window_of b)) (window_of c) (join f g) h (greater m n) k left ab u (close_greater m n k mk nk))
-    (joins e (window_of a) (window_merged w (window_of b) (window_of c)) f (join g h) m (greater n k) right s bc (close_swap (greater n k) m (close_greater n k m (close_swap m n mn) (close_swap m k mk))))
-    (λ lane x. or_assoc (f lane x) (g lane x) (h lane x))
+    same_shown d e (left
+    ∙ merged-associates (64 * N) (window_of a) (window_of b) (window_of c) m n k (record-width a) (record-whole a) (record-whole b) (record-whole c) at_m at_n at_k mn nk mk
+    ∙ sym right)

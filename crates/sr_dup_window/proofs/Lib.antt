@@ -4,5 +4,4 @@ pub mod SpotLemmas
 pub mod ShowLemmas
 pub mod CallLemmas
 pub mod SameLemmas
-pub mod OwnLemmas
 pub mod LawLemmas

@@ -8,3 +8,5 @@ pub mod WindowLemmas
 pub mod Trees
 pub mod Records
 pub mod RecordLemmas
+pub mod OwnLemmas
+pub mod MergeLemmas
