@@ -1,1 +1,2 @@
 pub mod SanBoxes
+pub mod Interlinks

@@ -1,6 +1,11 @@
 //! RedBoxes: the roles of nodes between a ring and what is no part of it.
 #![tactic(auto)]
 
+mod hsr_box;
+mod prp_box;
+mod ring_boxes;
 mod san_box;
 
+pub use hsr_box::{HsrBox, HsrRouting};
+pub use prp_box::{PrpBox, PrpRouting};
 pub use san_box::SanBox;
