@@ -20,10 +20,7 @@ impl OwnRole<DanhRouting> {
     pub fn new(mac: Mac) -> Danh
         ensures { result.mac ≡ mac }
     {
-        OwnRole {
-            mac,
-            routing: DanhRouting,
-        }
+        OwnRole::of(mac, DanhRouting)
     }
 }
 

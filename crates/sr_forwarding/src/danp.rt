@@ -20,10 +20,7 @@ impl OwnRole<DanpRouting> {
     pub fn new(mac: Mac) -> Danp
         ensures { result.mac ≡ mac }
     {
-        OwnRole {
-            mac,
-            routing: DanpRouting,
-        }
+        OwnRole::of(mac, DanpRouting)
     }
 }
 

@@ -35,6 +35,16 @@ pub struct OwnRole<R: Routing> {
     pub routing: R,
 }
 
+impl<R: Routing> OwnRole<R> {
+    /// The role of the node with this address.
+    pub fn of(mac: Mac, routing: R) -> OwnRole<R>
+        ensures mac { result.mac ≡ mac }
+        ensures routing { result.routing ≡ routing }
+    {
+        OwnRole { mac, routing }
+    }
+}
+
 impl<R: Routing> Role for OwnRole<R> {
     ghost use Rattle.sr_forwarding.specs.RoleImages.{role_of};
 

@@ -1,1 +1,2 @@
 pub mod SanLemmas
+pub mod NetLemmas
