@@ -126,6 +126,12 @@ const WRONG_LAN: &[Step] = &[
     Step::In(Port::B, Sent::InB(8), 2, Outcome::Up),
     Step::Take(Port::H, Taken::Plain(Sent::InB(8), 8, 1, false)),
     Step::Time(3),
+    Step::In(Port::A, Sent::InB(7), 2, Outcome::Nowhere),
+    Step::WrongLan(Port::A, 2),
+    Step::In(Port::B, Sent::Own, 3, Outcome::Own),
+    Step::WrongLan(Port::B, 0),
+    Step::WrongLan(Port::H, 0),
+    Step::WrongLan(Port::C, 0),
 ];
 
 #[test]

@@ -23,6 +23,9 @@ pub const PRP: [u8; 2] = [0x88, 0xfb];
 /// The type of a frame with an HSR tag.
 pub const HSR: [u8; 2] = [0x89, 0x2f];
 
+/// The type of a VLAN tag.
+pub const VLAN: [u8; 2] = [0x81, 0x00];
+
 /// A frame of 66 octets, by what differs from test to test.
 #[derive(Clone, Copy)]
 pub enum Sent {
@@ -40,8 +43,12 @@ pub enum Sent {
     Own,
     /// A ring frame: destination, source, path and number.
     Tagged(Mac, Mac, u8, u16),
+    /// The other node's ring frame to the node, of this type behind its tag.
+    TaggedAround([u8; 2]),
     /// The other node's supervision frame in a ring, with this number.
     Supervision(u16),
+    /// A supervision frame in a ring that speaks of a third node, for which the other node stands; with this size.
+    Announcing(u8),
 }
 
 /// 46 zeros behind the addresses and the type, and a trailer with this number, LAN id and size.
@@ -72,6 +79,16 @@ fn supervision(seq: u16) -> [u8; 66] {
     octets
 }
 
+/// Supervision of a third node whose RedBox is the other node.
+fn announcing(size: u8) -> [u8; 66] {
+    let mut octets = supervision(64511);
+    octets[15] = size;
+    octets[20..40].copy_from_slice(&[
+        0, 1, 0x7d, 0xff, 0x17, 6, 2, 0, 0, 0, 0, 3, 0x1e, 6, 2, 0, 0, 0, 0, 2,
+    ]);
+    octets
+}
+
 /// An address of one source of many.
 fn source(number: u16) -> Mac {
     let [high, low] = number.to_be_bytes();
@@ -88,13 +105,27 @@ pub fn octets_of(sent: Sent) -> [u8; 66] {
         Sent::OfSourceNoNumber(number) => frame(OWN, source(number), IP, 5, 0xa0, 0x35),
         Sent::Own => frame(EVERYONE, OWN, IP, 7, 0xa0, 0x34),
         Sent::Tagged(dst, src, path, seq) => tagged(dst, src, path, seq),
+        Sent::TaggedAround(kind) => {
+            let mut octets = tagged(OWN, OTHER, 0, 0);
+            octets[18..20].copy_from_slice(&kind);
+            octets
+        }
         Sent::Supervision(seq) => supervision(seq),
+        Sent::Announcing(size) => announcing(size),
     }
 }
 
 /// The frame without its trailer.
 pub fn plain_form(octets: &[u8; 66]) -> &[u8] {
     &octets[..60]
+}
+
+/// The ring frame without its tag.
+pub fn untagged_form(octets: [u8; 66]) -> [u8; 60] {
+    let mut plain = [0u8; 60];
+    plain[..12].copy_from_slice(&octets[..12]);
+    plain[12..].copy_from_slice(&octets[18..]);
+    plain
 }
 
 /// The life check of the node with its two numbers, in the LAN whose id stands in this octet.
