@@ -1,11 +1,11 @@
 -- Lists of sources that are tested as one are one.
-use Rattle.std.proofs.Common.{◌≡◌, Bool, true, eqb, ◌&&◌, List, ap}
+use Rattle.std.proofs.Common.{◌≡◌, eqb, ◌&&◌, ap}
 use Rattle.std.specs.Cmp.{IsEquivalence, decided}
 use Rattle.std.specs.Cmp.Lexicographic.{pointwise, pointwise_decides}
 use Rattle.std.specs.Bool.{Decides}
 use Rattle.std.proofs.lemmas.Bool.Decides.{Decides-eqb, Decides-like, Decides-and}
 use Rattle.sr_frame.specs.declared.fields.Mac.{Mac}
-use Rattle.sr_dup_window.specs.Windows.{Window, same_window}
+use Rattle.sr_dup_window.specs.Windows.{same_window}
 use Rattle.sr_dup_window.specs.WindowLemmas.{Decides-same_window}
 use Rattle.sr_dup_table.specs.Sources.{Heard, Sources, same_heard, same_sources}
 
