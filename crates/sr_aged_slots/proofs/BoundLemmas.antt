@@ -1,7 +1,7 @@
 -- The oldest time, through what is done to a table.
-use Rattle.std.proofs.Common.{◌≡◌, ◌≢◌, ℕ, suc, ◌-◌, ◌<◌, ◌≤◌, ◌^◌, min, Bool, true, false, cond, not, nat_lt, List, [], ◌∷◌, ◌++◌, length, Some, refl, sym, ap, ◌∙◌, arith, inl, inr}
+use Rattle.std.proofs.Common.{◌≡◌, ◌≢◌, ℕ, suc, ◌-◌, ◌<◌, ◌≤◌, ◌^◌, min, Bool, true, false, cond, not, nat_lt, nat_le, filter, List, [], ◌∷◌, ◌++◌, length, Some, refl, sym, ap, ◌∙◌, arith, inl, inr}
 use Rattle.std.specs.Map.{lookup, set_value}
-use Rattle.std.proofs.lemmas.Bool.{cases_eq, ltb-true, ltb-false, lt-ltb, le-ltb}
+use Rattle.std.proofs.lemmas.Bool.{cases_eq, ltb-true, ltb-false, lt-ltb, le-ltb, leb-true, leb-false}
 use Rattle.std.proofs.lemmas.List.{length-append}
 use Rattle.std.proofs.lemmas.Map.{length-set_value}
 use Rattle.sr_frame.specs.declared.fields.Mac.{Mac}
@@ -13,18 +13,18 @@ use Rattle.sr_aged_slots.specs.AgeLemmas.{length-live_le}
 pub recent_later : (span now a b : ℕ) → a ≤ b → is_recent span now a ≡ true → is_recent span now b ≡ true
 recent_later span now a b le h = let l : now - a < span = ltb-true (now - a) span h in lt-ltb (now - b) span (omega arith)
 
-pub many_from : (n most : ℕ) → true ≡ not (nat_lt n most) → most ≤ n
-many_from n most h = by (nat_lt n most) refl h
+-- the times less than a span ago are those from a limit on
+pub recent_from : (span now time : ℕ) → 0 < span → nat_le (now - (span - 1)) time ≡ is_recent span now time
+recent_from span now time some = by (nat_le (now - (span - 1)) time) refl
   where
-    by : (b : Bool) → nat_lt n most ≡ b → true ≡ not b → most ≤ n
-    by true t e = cc
-    by false t e = ltb-false n most t
+    by : (b : Bool) → nat_le (now - (span - 1)) time ≡ b → b ≡ is_recent span now time
+    by true t = let l : now - (span - 1) ≤ time = leb-true (now - (span - 1)) time t in sym (lt-ltb (now - time) span (omega arith))
+    by false t = let l : time < now - (span - 1) = leb-false (now - (span - 1)) time t in sym (le-ltb (now - time) span (omega arith))
 
 module _ {V : Type 0} where
-  -- no oldest time is above all times
-  pub oldest_of_le : (es : List (Mac × Aged V)) → oldest_of es ≤ 18446744073709551615
-  oldest_of_le [] = omega arith
-  oldest_of_le (e ∷ es) = omega (arith, oldest_of_le es)
+  -- what is left from a limit on is what is live
+  pub live_from : (span now limit : ℕ) → 0 < span → limit ≡ now - (span - 1) → (es : List (Mac × Aged V)) → filter (λ e. nat_le limit e.1.time) es ≡ live_at span now es
+  live_from span now limit some is es = (λ j. filter (λ e. nat_le (is j) e.1.time) es) ∙ (λ j. filter (λ e. recent_from span now e.1.time some j) es)
 
   -- the oldest time, where a value is last
   oldest_of-push : (es : List (Mac × Aged V)) (m : Mac) (w : Aged V) → w.time < 2 ^ 64 → oldest_of (es ++ (m, w) ∷ []) ≡ min (oldest_of es) w.time

@@ -8,14 +8,23 @@ use Rattle.sr_aged_slots.specs.declared.aged.Aged.{Aged}
 abbrev pub is_recent : ℕ → ℕ → ℕ → Bool
 is_recent span now time = nat_lt (now - time) span
 
+-- of whatever has a time, what is not forgotten
+module _ {X : Type 0} (time : X → ℕ) where
+  abbrev pub live_by : ℕ → ℕ → List (Mac × X) → List (Mac × X)
+  live_by span now es = filter (λ e. is_recent span now (time e.1)) es
+
+  -- a table of `most` lets its forgotten ones go
+  abbrev pub room_by : ℕ → ℕ → ℕ → List (Mac × X) → List (Mac × X)
+  room_by span most now es = if nat_lt (length es) most then es else live_by span now es
+
 module _ {V : Type 0} where
   -- the values that are not forgotten
   abbrev pub live_at : ℕ → ℕ → List (Mac × Aged V) → List (Mac × Aged V)
-  live_at span now es = filter (λ e. is_recent span now e.1.time) es
+  live_at span now es = live_by (λ v. v.time) span now es
 
-  -- a table of `most` values lets its forgotten ones go
+  -- the values of a table, of which a full one lets the forgotten ones go
   abbrev pub with_room : ℕ → ℕ → ℕ → List (Mac × Aged V) → List (Mac × Aged V)
-  with_room span most now es = if nat_lt (length es) most then es else live_at span now es
+  with_room span most now es = room_by (λ v. v.time) span most now es
 
   -- the oldest time, or the latest of all times where there is no value
   abbrev pub oldest_of : List (Mac × Aged V) → ℕ

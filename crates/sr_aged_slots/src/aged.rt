@@ -2,6 +2,8 @@
 ghost use Rattle.std.specs.Prelude.{◌≡◌};
 ghost use Rattle.sr_aged_slots.specs.Ages.{is_recent};
 
+use sr_slots::Ranked;
+
 /// A value, and when its address was last heard, in milliseconds.
 #[derive(Clone, Copy, Drop)]
 pub struct Aged<V> {
@@ -15,6 +17,15 @@ impl<V> Aged<V> {
         ensures { result ≡ is_recent span now self.now.time }
     {
         is_recent(span, now, self.time)
+    }
+}
+
+// By the time of its last hearing.
+impl<V> Ranked for Aged<V> {
+    ghost rank_of = { λ entry. entry.time };
+
+    fn rank(&self) -> u64 {
+        self.time
     }
 }
 

@@ -40,28 +40,18 @@ impl<V: Drop, const SPAN: u64, const MOST: usize> Model for AgedSlots<V, SPAN, M
     ghost invariant = { λ t. IsBounded SPAN MOST t.slots.entries t.oldest t.is_exact };
 }
 
-// The oldest time of a value.
-fn oldest_in<V: Drop>(slots: &Slots<Aged<V>>) -> u64
-    ensures { result ≡ oldest_of slots.now.entries }
-{
-    let mut oldest = u64::MAX;
-    for (_, entry) in slots.iter() {
-        oldest = oldest.min(entry.time);
-    }
-    oldest
-}
-
 // Takes the forgotten values out, and answers the oldest time of those that are left. Held places stay.
 fn forget<V: Drop>(slots: &mut Slots<Aged<V>>, span: u64, now: u64) -> u64
+    requires { 0 < span }
     ensures entries { slots.new.entries ≡ live_at span now slots.old.entries }
     ensures held { slots.new.held ≡ slots.old.held }
     ensures oldest { result ≡ oldest_of slots.new.entries }
 {
-    slots.sift(|entry| entry.is_live(span, now), |entry| entry.time)
+    slots.sift(now.saturating_sub(span - 1))
 }
 
 impl<V: Drop, const SPAN: u64, const MOST: usize> AgedSlots<V, SPAN, MOST> {
-    // Lets the empty places go where there are an eighth more places than there may be values.
+    // Lets the empty places go where there are an eighth more places than there may be values, before one more comes.
     fn sweep(&mut self)
         ensures { self.new ≡ self.old }
     {
@@ -228,7 +218,7 @@ impl<V: Drop, const SPAN: u64, const MOST: usize> AgedSlots<V, SPAN, MOST> {
         if self.is_exact {
             return is_recent(SPAN, now, self.oldest);
         }
-        is_recent(SPAN, now, self.oldest) || is_recent(SPAN, now, oldest_in(&self.slots))
+        is_recent(SPAN, now, self.oldest) || is_recent(SPAN, now, self.slots.least_rank())
     }
 
     /// Whether an address without a value finds no room: `MOST` values are live.
@@ -243,7 +233,7 @@ impl<V: Drop, const SPAN: u64, const MOST: usize> AgedSlots<V, SPAN, MOST> {
         ensures { self.new ≡ self.old }
     {
         if !self.is_exact && !is_recent(SPAN, now, self.oldest) {
-            self.oldest = oldest_in(&self.slots);
+            self.oldest = self.slots.least_rank();
             self.is_exact = true;
         }
     }

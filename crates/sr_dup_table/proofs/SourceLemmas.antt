@@ -10,6 +10,7 @@ use Rattle.sr_frame.specs.Addresses.{mac_eq}
 use Rattle.sr_dup_window.specs.declared.record.Record.{Record}
 use Rattle.sr_aged_slots.specs.declared.aged.Aged.{Aged}
 use Rattle.sr_aged_slots.specs.Ages as ages
+use Rattle.sr_aged_slots.specs.AgeLemmas.{length-live_by_le}
 use Rattle.sr_dup_table.specs.Sources.{Heard, Sources, is_live, live_at, live_others, with_room, fresh_at, answer_of, arrive_answer}
 use Rattle.sr_dup_table.specs.Shown.{heard_of, sources_of}
 
@@ -60,12 +61,7 @@ pub length-shown : (es : List (Mac × Entry)) → length (sources_of es) ≡ len
 length-shown es = length-map es (λ e. (e.0, heard_of e.1))
 
 pub length-live_le : (now : ℕ) (s : Sources) → length (live_at now s) ≤ length s
-length-live_le now [] = omega arith
-length-live_le now (e ∷ s) = by (is_live now e.1) (length-live_le now s)
-  where
-    by : (b : Bool) → length (live_at now s) ≤ length s → length (cond b (e ∷ live_at now s) (live_at now s)) ≤ suc (length s)
-    by true h = omega arith
-    by false h = omega arith
+length-live_le now s = length-live_by_le (λ h. h.time) 400 now s
 
 -- a source that shows no record has none
 pub none-shown : (test : Mac → Bool) (es : List (Mac × Entry)) → lookup test (sources_of es) ≡ None → lookup test es ≡ None

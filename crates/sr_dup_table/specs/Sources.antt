@@ -55,7 +55,7 @@ fresh_at h seq lanes now = if is_live now h then fresh_lanes window h.seen seq l
 
 -- the sources that are not forgotten
 abbrev pub live_at : ℕ → Sources → Sources
-live_at now s = filter (λ e. is_live now e.1) s
+live_at now s = ages.live_by (λ h. h.time) forget_time now s
 
 -- the live sources but one
 abbrev pub live_others : Mac → ℕ → Sources → Sources
@@ -68,7 +68,7 @@ pub record IsTable (s : Sources) : Type 0 where
 
 -- a full table lets its forgotten sources go
 abbrev pub with_room : ℕ → Sources → Sources
-with_room now s = if nat_lt (length s) most_sources then s else live_at now s
+with_room now s = ages.room_by (λ h. h.time) forget_time most_sources now s
 
 -- what an arrival answers: the lanes on which it is new, or nothing where the table is full
 abbrev pub answer_of : Option Heard → Sources → ℕ → Lanes → ℕ → Option Lanes

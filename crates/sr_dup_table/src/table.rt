@@ -120,15 +120,15 @@ impl DupTable {
         self.slots.hold(src)
     }
 
-    /// Sees to it that the next arrival of a source takes no memory: a source with a record needs none, and is looked for at a
-    /// spot first; for any other a place is held. NoMemory: memory ran out, and nothing changes.
+    /// Sees to it that the next arrival of a source takes no memory: a source with a record needs none, where a spot tells of one;
+    /// for any other a place is held. NoMemory: memory ran out, and nothing changes.
     pub fn reserve_at(&mut self, spot: Option<Spot>, src: Mac) -> Result<(), NoMemory>
         ensures sources { self.new.sources ≡ self.old.sources }
         ensures ready { OnOk result (is_ready self.new src ≡ true) }
         ensures others { OnOk result (KeepsHeld self.old.held self.new.held src) }
         ensures err { OnErr result (self.new ≡ self.old) }
     {
-        if self.has_record(spot, src) {
+        if spot.is_some() && self.has_record(spot, src) {
             return Ok(());
         }
         self.reserve(src)

@@ -4,6 +4,8 @@ use Rattle.std.specs.Map.{lookup, set_value, keys_of}
 use Rattle.std.specs.Map.Calls.{RetainsPairs}
 use Rattle.std.specs.List.{list_any, IsDistinct, AllByRecursion, position_or_len, insert, remove, slice_get}
 use Rattle.std.specs.Option.{option_map_or}
+use Rattle.std.proofs.Math.Bool.{or-true}
+use Rattle.std.proofs.lemmas.Bool.{not-true, not-false}
 use Rattle.std.proofs.lemmas.List.Folds.{list_any-append}
 use Rattle.std.proofs.lemmas.List.{take_all, drop_all, length-append}
 use Rattle.indexmap.specs.IndexMap.{insert_entry, move_index}
@@ -12,11 +14,7 @@ use Rattle.sr_slots.specs.declared.places.Slot.{Slot}
 use Rattle.sr_frame.specs.Addresses.{mac_eq}
 use Rattle.sr_slots.specs.Places.{entry_at, held_at, entries_of, held_of, slot_of, KeepsHeld, KeepsAllHeld}
 use Rattle.sr_frame.specs.AddressLemmas.{mac_same, mac_refl}
-use Rattle.sr_slots.specs.EntryLemmas.{one_if, head_differs, lookup-set, distinct-set}
-
-or_true : (b : Bool) → (b || true) ≡ true
-or_true true = refl
-or_true false = refl
+use Rattle.sr_slots.specs.EntryLemmas.{one_if, head_differs}
 
 -- the value in the place that was found
 abbrev pub value_in : {V : Type 0} → Option (Slot V) → Option V
@@ -31,7 +29,7 @@ any_held q m true xs ys h =
 
 pub any_behind : (m : Mac) (xs ys : List Mac) → list_any (mac_eq m) ys ≡ true → list_any (mac_eq m) (xs ++ ys) ≡ true
 any_behind m [] ys y = y
-any_behind m (x ∷ xs) ys y = ap (λ b. mac_eq m x || b) (any_behind m xs ys y) ∙ or_true (mac_eq m x)
+any_behind m (x ∷ xs) ys y = ap (λ b. mac_eq m x || b) (any_behind m xs ys y) ∙ or-true (mac_eq m x)
 
 length-held_at : (m : Mac) (b : Bool) (ys : List Mac) → length (held_at m b ++ ys) ≡ one_if b + length ys
 length-held_at m true ys = omega arith
@@ -68,28 +66,20 @@ none_from (Some x) h = cc
 pub given_back : (old mid new : List Mac) (key : Mac) → true ≡ not (list_any (mac_eq key) old) → KeepsHeld old mid key → KeepsHeld mid new key → list_any (mac_eq key) new ≡ false → KeepsAllHeld old new
 given_back old mid new key newly first second none other = by (mac_eq other key) refl
   where
-    was : (b : Bool) → true ≡ not b → b ≡ false
-    was true h = cc
-    was false h = refl
-
     by : (b : Bool) → mac_eq other key ≡ b → list_any (mac_eq other) new ≡ list_any (mac_eq other) old
     by true t =
         let k = mac_same other key t in
-        ap (λ m. list_any (mac_eq m) new) k ∙ none ∙ sym (was (list_any (mac_eq key) old) newly) ∙ sym (ap (λ m. list_any (mac_eq m) old) k)
+        ap (λ m. list_any (mac_eq m) new) k ∙ none ∙ sym (not-true (list_any (mac_eq key) old) (sym newly)) ∙ sym (ap (λ m. list_any (mac_eq m) old) k)
     by false t = second other t ∙ first other t
 
 -- and one that was held already stays
 pub held_still : (old new : List Mac) (key : Mac) → false ≡ not (list_any (mac_eq key) old) → KeepsHeld old new key → list_any (mac_eq key) new ≡ true → KeepsAllHeld old new
 held_still old new key again others held other = by (mac_eq other key) refl
   where
-    was : (b : Bool) → false ≡ not b → b ≡ true
-    was true h = refl
-    was false h = cc
-
     by : (b : Bool) → mac_eq other key ≡ b → list_any (mac_eq other) new ≡ list_any (mac_eq other) old
     by true t =
         let k = mac_same other key t in
-        ap (λ m. list_any (mac_eq m) new) k ∙ held ∙ sym (was (list_any (mac_eq key) old) again) ∙ sym (ap (λ m. list_any (mac_eq m) old) k)
+        ap (λ m. list_any (mac_eq m) new) k ∙ held ∙ sym (not-false (list_any (mac_eq key) old) (sym again)) ∙ sym (ap (λ m. list_any (mac_eq m) old) k)
     by false t = others other t
 
 -- writing the value that is there changes nothing

@@ -1,7 +1,8 @@
 -- Going over the places in turn, taking out what does not pass.
-use Rattle.std.proofs.Common.{◌≡◌, ℕ, ◌+◌, ◌<◌, ◌≤◌, ◌^◌, min, Bool, true, false, cond, List, [], ◌∷◌, ◌++◌, length, filter, Option, None, Some, MatchOption, refl, sym, ap, ◌∙◌, subst, append_assoc, append-nil, arith}
+use Rattle.std.proofs.Common.{◌≡◌, ℕ, ◌+◌, ◌<◌, ◌≤◌, ◌^◌, min, Bool, true, false, cond, List, [], ◌∷◌, ◌++◌, length, filter, Option, None, Some, refl, sym, ap, ◌∙◌, subst, append_assoc, append-nil, arith}
 use Rattle.std.specs.Map.{values_of}
 use Rattle.std.specs.List.{slice_get}
+use Rattle.std.specs.Option.{option_map}
 use Rattle.std.proofs.lemmas.List.{length-append}
 use Rattle.indexmap.specs.IndexMap.{set_value_at}
 use Rattle.sr_frame.specs.declared.fields.Mac.{Mac}
@@ -32,7 +33,7 @@ module _ {V : Type 0} where
       by true = refl
       by false = refl
 
-  module _ (IsTest : (V → Bool) → Type 0) (IsOrder : (V → ℕ) → Type 0) where
+  module _ (test : V → Bool) (order : V → ℕ) where
     -- the first places are done: of them those are left that pass, and they are counted
     pub record Sifted (old now : List (Mac × Slot V)) (index count least : ℕ) : Type 0 where
       pub done : List (Mac × Slot V)
@@ -42,11 +43,11 @@ module _ {V : Type 0} where
       pub len : length now ≡ length old
       pub counted : count ≡ length (entries_of done)
       pub held : held_of now ≡ held_of old
-      pub kept : (test : V → Bool) → IsTest test → entries_of done ++ filter (λ e. test e.1) (entries_of rest) ≡ filter (λ e. test e.1) (entries_of old)
-      pub ranked : (order : V → ℕ) → IsOrder order → least ≡ least_rank order (entries_of done)
+      pub kept : entries_of done ++ filter (λ e. test e.1) (entries_of rest) ≡ filter (λ e. test e.1) (entries_of old)
+      pub ranked : least ≡ least_rank order (entries_of done)
 
     pub none_done : (old : List (Mac × Slot V)) → Sifted old old 0 0 18446744073709551615
-    none_done old = record { done = []; rest = old; now_is = refl; at = refl; len = refl; counted = refl; held = refl; kept = λ test is. refl; ranked = λ order is. refl }
+    none_done old = record { done = []; rest = old; now_is = refl; at = refl; len = refl; counted = refl; held = refl; kept = refl; ranked = refl }
 
     -- the place that comes next
     record Next (rest : List (Mac × Slot V)) : Type 0 where
@@ -67,20 +68,20 @@ module _ {V : Type 0} where
         by (x ∷ rest) e = absurd (omega (arith, end, s.at, s.len, ap length s.now_is, length-append s.done s.rest, ap length e))
 
     pub all_kept : (old now : List (Mac × Slot V)) (index count least : ℕ) → index ≡ length old → (s : Sifted old now index count least)
-        → (test : V → Bool) → IsTest test → entries_of now ≡ filter (λ e. test e.1) (entries_of old)
-    all_kept old now index count least end s test is =
+        → entries_of now ≡ filter (λ e. test e.1) (entries_of old)
+    all_kept old now index count least end s =
         let over = all_done old now index count least end s in
         ap entries_of (s.now_is ∙ ap (λ l. s.done ++ l) over ∙ append-nil s.done)
         ∙ sym (append-nil (entries_of s.done))
         ∙ ap (λ l. entries_of s.done ++ filter (λ e. test e.1) (entries_of l)) (sym over)
-        ∙ s.kept test is
+        ∙ s.kept
 
     pub all_is : (old now : List (Mac × Slot V)) (index count least : ℕ) → index ≡ length old → (s : Sifted old now index count least) → s.done ≡ now
     all_is old now index count least end s = sym (s.now_is ∙ ap (λ l. s.done ++ l) (all_done old now index count least end s) ∙ append-nil s.done)
 
     module _ (old now : List (Mac × Slot V)) (index count least : ℕ) (s : Sifted old now index count least) (was w : Slot V)
         (there : slice_get (values_of now) index ≡ Some was) (held : w.held ≡ was.held)
-        (passes : (test : V → Bool) → IsTest test → w.value ≡ passing test was.value) (within : index < length now) where
+        (passes : w.value ≡ passing test was.value) (within : index < length now) where
       next : Next s.rest
       next = next_of s.done s.rest (omega (arith, s.at, ap length s.now_is))
 
@@ -108,17 +109,17 @@ module _ {V : Type 0} where
           ∙ ap held_of (sym now_at)
           ∙ s.held
 
-      still_kept : (test : V → Bool) → IsTest test → entries_of (s.done ++ (next.first.0, w) ∷ []) ++ filter (λ e. test e.1) (entries_of next.back) ≡ filter (λ e. test e.1) (entries_of old)
-      still_kept test is =
+      still_kept : entries_of (s.done ++ (next.first.0, w) ∷ []) ++ filter (λ e. test e.1) (entries_of next.back) ≡ filter (λ e. test e.1) (entries_of old)
+      still_kept =
           ap (λ l. l ++ filter (λ e. test e.1) (entries_of next.back)) done_entries
           ∙ append_assoc (entries_of s.done) (entry_at next.first.0 w.value) (filter (λ e. test e.1) (entries_of next.back))
-          ∙ ap (λ r. entries_of s.done ++ (entry_at next.first.0 r ++ filter (λ e. test e.1) (entries_of next.back))) (passes test is ∙ ap (λ v. passing test v.value) (sym was_is))
+          ∙ ap (λ r. entries_of s.done ++ (entry_at next.first.0 r ++ filter (λ e. test e.1) (entries_of next.back))) (passes ∙ ap (λ v. passing test v.value) (sym was_is))
           ∙ ap (λ l. entries_of s.done ++ l) (sym (filter_first test next.first.0 next.first.1.value (entries_of next.back)))
           ∙ ap (λ l. entries_of s.done ++ filter (λ e. test e.1) (entries_of l)) (sym next.rest_is)
-          ∙ s.kept test is
+          ∙ s.kept
 
       step : (count' least' : ℕ) → count' ≡ length (entries_of s.done ++ entry_at next.first.0 w.value)
-          → ((order : V → ℕ) → IsOrder order → least' ≡ least_rank order (entries_of s.done ++ entry_at next.first.0 w.value)) → Sifted old (set_value_at now index w) (index + 1) count' least'
+          → least' ≡ least_rank order (entries_of s.done ++ entry_at next.first.0 w.value) → Sifted old (set_value_at now index w) (index + 1) count' least'
       step count' least' counted ranked = record {
         done = s.done ++ (next.first.0, w) ∷ [];
         rest = next.back;
@@ -128,36 +129,31 @@ module _ {V : Type 0} where
         counted = counted ∙ ap length (sym done_entries);
         held = still_held;
         kept = still_kept;
-        ranked = λ order is. ranked order is ∙ ap (least_rank order) (sym done_entries);
+        ranked = ranked ∙ ap (least_rank order) (sym done_entries);
       }
 
       -- what is left has this rank, and where it has none it is nothing
-      module _ (Rank : V → ℕ → Type 0) (reads : (order : V → ℕ) → IsOrder order → (v : V) (n : ℕ) → Rank v n → n ≡ order v) where
-        pub step_none : (P : Type 0) → MatchOption w.value P (λ v. (n : ℕ) × (None ≡ Some n) × Rank v n) → Sifted old (set_value_at now index w) (index + 1) count least
-        step_none P ranked =
-            let none = nothing w.value ranked in
-            let same : entries_of s.done ≡ entries_of s.done ++ entry_at next.first.0 w.value = sym (ap (λ r. entries_of s.done ++ entry_at next.first.0 r) none ∙ append-nil (entries_of s.done)) in
-            step count least (s.counted ∙ ap length same) (λ order is. s.ranked order is ∙ ap (least_rank order) same)
-          where
-            nothing : (r : Option V) → MatchOption r P (λ v. (n : ℕ) × (None ≡ Some n) × Rank v n) → r ≡ None
-            nothing None h = refl
-            nothing (Some v) h = let bad : None ≡ Some h.0 = h.1 in cc
+      pub step_none : None ≡ option_map order w.value → Sifted old (set_value_at now index w) (index + 1) count least
+      step_none ranked =
+          let none = nothing w.value ranked in
+          let same : entries_of s.done ≡ entries_of s.done ++ entry_at next.first.0 w.value = sym (ap (λ r. entries_of s.done ++ entry_at next.first.0 r) none ∙ append-nil (entries_of s.done)) in
+          step count least (s.counted ∙ ap length same) (s.ranked ∙ ap (least_rank order) same)
+        where
+          nothing : (r : Option V) → None ≡ option_map order r → r ≡ None
+          nothing None h = refl
+          nothing (Some v) h = cc
 
-        pub step_some : (n : ℕ) → MatchOption w.value (Some n ≡ None) (λ v. (m : ℕ) × (Some n ≡ Some m) × Rank v m) → n < 2 ^ 64
-            → Sifted old (set_value_at now index w) (index + 1) (count + 1) (min least n)
-        step_some n ranked fits =
-            let h = ranked_value w.value ranked in
-            let v = h.0 in
-            let last : entries_of s.done ++ (next.first.0, v) ∷ [] ≡ entries_of s.done ++ entry_at next.first.0 w.value = ap (λ r. entries_of s.done ++ entry_at next.first.0 r) (sym h.1) in
-            step (count + 1) (min least n) (omega (arith, s.counted, length-append (entries_of s.done) ((next.first.0, v) ∷ []), ap length last))
-            (λ order is.
-            (λ j. min (s.ranked order is j) (reads order is v n h.2 j))
-            ∙ sym (least_rank-push order (entries_of s.done) next.first.0 v (subst (λ k. k < 2 ^ 64) (reads order is v n h.2) fits))
-            ∙ ap (least_rank order) last)
-          where
-            ranked_value : (r : Option V) → MatchOption r (Some n ≡ None) (λ v. (m : ℕ) × (Some n ≡ Some m) × Rank v m) → (v : V) × (r ≡ Some v) × Rank v n
-            ranked_value None h = cc
-            ranked_value (Some v) h = let same : n ≡ h.0 = cc in (v, refl, subst (λ k. Rank v k) (sym same) h.2)
+      pub step_some : (n : ℕ) → Some n ≡ option_map order w.value → n < 2 ^ 64 → Sifted old (set_value_at now index w) (index + 1) (count + 1) (min least n)
+      step_some n ranked fits =
+          let h = ranked_value w.value ranked in
+          let v = h.0 in
+          let last : entries_of s.done ++ (next.first.0, v) ∷ [] ≡ entries_of s.done ++ entry_at next.first.0 w.value = ap (λ r. entries_of s.done ++ entry_at next.first.0 r) (sym h.1) in
+          step (count + 1) (min least n) (omega (arith, s.counted, length-append (entries_of s.done) ((next.first.0, v) ∷ []), ap length last))
+          ((λ j. min (s.ranked j) (h.2 j)) ∙ sym (least_rank-push order (entries_of s.done) next.first.0 v (subst (λ k. k < 2 ^ 64) h.2 fits)) ∙ ap (least_rank order) last)
+        where
+          ranked_value : (r : Option V) → Some n ≡ option_map order r → (v : V) × (r ≡ Some v) × (n ≡ order v)
+          ranked_value None h = cc
+          ranked_value (Some v) h = let same : n ≡ order v = cc in (v, refl, same)
 
     pub few : (old now : List (Mac × Slot V)) (index count least : ℕ) → (s : Sifted old now index count least) → count ≤ index
     few old now index count least s = omega (arith, s.counted, entries_le s.done, s.at)

@@ -1,8 +1,8 @@
--- What a passed closure did with a value, or says of it.
+-- What a passed closure did with a value, and what the ranks of the values say.
 use Rattle.std.specs.Prelude.{◌≡◌, ℕ, min, Bool, List, [], ◌∷◌, Option, None, Some, if◌then◌else◌}
 use Rattle.std.specs.Map.{lookup, set_value}
 use Rattle.std.specs.Borrow.{Bor, MutBor}
-use Rattle.std.specs.Fn.{Once, Shared, FnOnceReturnsAtMut, FnReturnsAt}
+use Rattle.std.specs.Fn.{Once, FnOnceReturnsAtMut}
 use Rattle.sr_frame.specs.declared.fields.Mac.{Mac}
 use Rattle.sr_frame.specs.Addresses.{mac_eq}
 
@@ -13,14 +13,6 @@ pub record ChangesAt {F V R : Type 0} (g : Once F (MutBor V × Unit {0}) (R × (
   pub found : lookup (mac_eq key) old ≡ Some was
   pub called : FnOnceReturnsAtMut g f was answer is
   pub written : new ≡ set_value (mac_eq key) old is
-
--- each call of the closure answers what the test says
-abbrev pub Tests : {F V : Type 0} → Shared F (Bor V × Unit {0}) Bool → F → (V → Bool) → Type 0
-Tests {F} {V} g f test = (v : V) (b : Bool) → FnReturnsAt g f v b → b ≡ test v
-
--- each call of the closure answers the rank of its value
-abbrev pub Ranks : {F V : Type 0} → Shared F (Bor V × Unit {0}) ℕ → F → (V → ℕ) → Type 0
-Ranks {F} {V} g f order = (v : V) (n : ℕ) → FnReturnsAt g f v n → n ≡ order v
 
 -- the least rank of the values, or the greatest number of 64 bits where there is none
 abbrev pub least_rank : {V : Type 0} → (V → ℕ) → List (Mac × V) → ℕ

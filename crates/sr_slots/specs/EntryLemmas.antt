@@ -1,12 +1,12 @@
 -- Entries by address: a look-up through a write, a new entry and a test of the values.
-use Rattle.std.proofs.Common.{◌≡◌, ℕ, ◌+◌, Bool, true, false, cond, List, [], ◌∷◌, ◌++◌, length, filter, Option, None, Some, is_some, refl, sym, ap, ◌∙◌, subst, arith}
+use Rattle.std.proofs.Common.{◌≡◌, ℕ, ◌+◌, ◌≤◌, Bool, true, false, cond, List, [], ◌∷◌, ◌++◌, length, filter, Option, None, Some, is_some, refl, sym, ap, ◌∙◌, subst, arith}
 use Rattle.std.specs.List.{IsDistinct, AllByRecursion}
 use Rattle.std.specs.Map.{lookup, set_value, keys_of}
 use Rattle.std.proofs.lemmas.Map.{lookup-set_value, keys-set_value}
 use Rattle.sr_frame.specs.declared.fields.Mac.{Mac}
 use Rattle.sr_frame.specs.Addresses.{mac_eq}
 use Rattle.sr_frame.specs.AddressLemmas.{mac_same, mac_symm, mac_laws}
-use Rattle.sr_slots.specs.Calls.{passing}
+use Rattle.sr_slots.specs.Calls.{least_rank, passing}
 
 -- a test as a number
 abbrev pub one_if : Bool → ℕ
@@ -18,6 +18,11 @@ head_differs true x r h = cc
 head_differs false x r h = (refl, h)
 
 module _ {X : Type 0} where
+  -- no least rank is above all numbers of 64 bits
+  pub least_rank_le : (order : X → ℕ) (es : List (Mac × X)) → least_rank order es ≤ 18446744073709551615
+  least_rank_le order [] = omega arith
+  least_rank_le order (e ∷ es) = omega (arith, least_rank_le order es)
+
   -- a write at an address
   pub lookup-set : (m q : Mac) (w : X) (es : List (Mac × X)) → is_some (lookup (mac_eq m) es) ≡ true → lookup (mac_eq q) (set_value (mac_eq m) es w) ≡ cond (mac_eq m q) (Some w) (lookup (mac_eq q) es)
   lookup-set m q w es there = lookup-set_value mac_laws (mac_eq m) (mac_laws.congr m) q w es there

@@ -1,17 +1,18 @@
 //! The table of addresses.
-ghost use Rattle.std.specs.Prelude.{◌≡◌, ◌++◌, ◌∷◌, [], None, true, false, ℕ, Bool, is_some, length, filter, IsOk, IfOk, OnOk, OnErr, IfSome, IfNone, not};
+ghost use Rattle.std.specs.Prelude.{◌≡◌, ◌++◌, ◌∷◌, [], None, true, false, is_some, length, filter, nat_le, IsOk, IfOk, OnOk, OnErr, IfSome, IfNone, not};
 ghost use Rattle.std.specs.List.{IsDistinct};
 ghost use Rattle.std.specs.Map.{keys_of};
 ghost use Rattle.std.specs.Option.{option_copied, option_map};
 ghost use Rattle.sr_frame.specs.Addresses.{mac_eq};
 ghost use Rattle.sr_slots.specs.Places.{is_held, value_at, KeepsHeld, KeepsHeldBut, KeepsAllHeld};
 ghost use Rattle.std.specs.Map.Iter.{ShowsInOrder};
-ghost use Rattle.sr_slots.specs.Calls.{ChangesAt, Tests, Ranks, least_rank, shown_entry};
+ghost use Rattle.sr_slots.specs.Calls.{ChangesAt, least_rank, shown_entry};
 
 use crate::entries::Iter;
 use crate::keys::Keys;
 use crate::places;
 use crate::places::Slot;
+use crate::ranked::Ranked;
 use indexmap::IndexMap;
 use sr_frame::{Mac, NoMemory};
 use std::alloc::Global;
@@ -26,14 +27,14 @@ pub struct Spot {
 /// Values by address, in the order in which the addresses came. A place can be held for an address that has no value yet. What goes
 /// leaves an empty place, until the address comes back or `sweep` is called.
 #[derive(Drop)]
-pub struct Slots<V: Drop> {
+pub struct Slots<V: Drop + Ranked> {
     map: IndexMap<Mac, Slot<V>, Keys>,
     alloc: Global,
     count: usize,
     held: usize,
 }
 
-impl<V: Drop> Model for Slots<V> {
+impl<V: Drop + Ranked> Model for Slots<V> {
     ghost use Rattle.std.specs.Prelude.{◌≡◌, length};
     ghost use Rattle.sr_slots.specs.Places.{Places, entries_of, held_of};
 
@@ -44,7 +45,7 @@ impl<V: Drop> Model for Slots<V> {
     ghost invariant = { λ s. (s.count ≡ length (entries_of s.map.entries)) × (s.held ≡ length (held_of s.map.entries)) };
 }
 
-impl<V: Drop> Slots<V> {
+impl<V: Drop + Ranked> Slots<V> {
     /// An empty table under fixed keys, which takes no memory yet.
     pub fn new(alloc: Global) -> Slots<V>
         ensures entries { result.entries ≡ [] }
@@ -216,30 +217,36 @@ impl<V: Drop> Slots<V> {
         }
     }
 
-    /// Takes the values out that do not pass the test. The others keep their order, and held places stay held. Answers the least
+    /// Takes the values out whose rank is below a limit. The others keep their order, and held places stay held. Answers the least
     /// rank of those that are left, or the greatest number where none is.
-    pub fn sift<F: Fn(&V) -> bool, G: Fn(&V) -> u64>(&mut self, keep: F, rank: G) -> u64
-        requires callable { F.IsAlwaysCallable keep × G.IsAlwaysCallable rank }
-        ensures kept { (test : V → Bool) → Tests F.Fn keep test → self.new.entries ≡ filter (λ e. test e.1) self.old.entries }
+    pub fn sift(&mut self, limit: u64) -> u64
+        ensures kept { self.new.entries ≡ filter (λ e. nat_le limit (V.rank_of e.1)) self.old.entries }
         ensures held { self.new.held ≡ self.old.held }
-        ensures least { (order : V → ℕ) → Ranks G.Fn rank order → result ≡ least_rank order self.new.entries }
+        ensures least { result ≡ least_rank V.rank_of self.new.entries }
     {
-        let passed = places::sift(&mut self.map, keep, rank);
-        self.count = passed.count;
-        passed.least
+        let left = places::sift(&mut self.map, limit);
+        self.count = left.count;
+        left.least
     }
 
-    /// Lets the places go that have no value and are not held, where there are more than `most` places. Nothing that shows changes.
+    /// The least rank of a value, or the greatest number where there is none.
+    pub fn least_rank(&self) -> u64
+        ensures { result ≡ least_rank V.rank_of self.now.entries }
+    {
+        places::least_rank(&self.map)
+    }
+
+    /// Lets the places go that have no value and are not held, where there are `most` places or more. Nothing that shows changes.
     pub fn sweep(&mut self, most: usize)
         ensures { self.new ≡ self.old }
     {
-        if self.map.len() > most {
+        if self.map.len() >= most {
             places::sweep(&mut self.map);
         }
     }
 }
 
-impl<V: Drop + Copy> Slots<V> {
+impl<V: Drop + Ranked + Copy> Slots<V> {
     /// A table of its own with the same values in the same order, under the same keys. It holds no place.
     /// NoMemory: memory ran out.
     pub fn try_clone(&self, alloc: Global) -> Result<Slots<V>, NoMemory>

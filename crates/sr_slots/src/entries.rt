@@ -6,17 +6,18 @@ ghost use Rattle.std.specs.Prelude.{length};
 ghost use Rattle.sr_slots.specs.Calls.{shown_entry};
 
 use crate::places::Slot;
+use crate::ranked::Ranked;
 use indexmap::map;
 use sr_frame::Mac;
 use std::marker::Model;
 
 /// The addresses and their values that are left, in order.
 #[derive(Drop)]
-pub struct Iter<'a, V: Drop> {
+pub struct Iter<'a, V: Drop + Ranked> {
     pub(crate) places: map::Iter<'a, Mac, Slot<V>>,
 }
 
-impl<'a, V: Drop> Model for Iter<'a, V> {
+impl<'a, V: Drop + Ranked> Model for Iter<'a, V> {
     ghost use Rattle.std.specs.Prelude.{List};
     ghost use Rattle.sr_frame.specs.declared.fields.Mac.{Mac};
 
@@ -27,7 +28,7 @@ impl<'a, V: Drop> Model for Iter<'a, V> {
     ghost view = { λ it. entries_of it.places };
 }
 
-impl<'a, V: Drop> Iterator for Iter<'a, V> {
+impl<'a, V: Drop + Ranked> Iterator for Iter<'a, V> {
     type Item = (Mac, &'a V);
 
     ghost next_gives = { TakesFirst shown_entry };

@@ -1,15 +1,15 @@
 //! The map behind a table. A held place is an entry that may have no value.
-ghost use Rattle.std.specs.Prelude.{◌≡◌, ◌+◌, ◌^◌, ◌<◌, ◌++◌, ◌∷◌, ◌||◌, [], None, Some, true, false, not, Bool, is_some, length, filter, IsOk, OnOk, OnErr, IfOk, IfSome, IfNone, MatchOption, if◌then◌else◌, ℕ};
-ghost use Rattle.std.specs.Fn.{FnReturnsAt};
+ghost use Rattle.std.specs.Prelude.{◌≡◌, ◌+◌, ◌^◌, ◌<◌, ◌++◌, ◌∷◌, ◌||◌, [], None, Some, true, false, not, Bool, is_some, length, filter, nat_le, IsOk, OnOk, OnErr, IfOk, IfSome, IfNone, if◌then◌else◌};
 ghost use Rattle.std.specs.List.{list_any};
 ghost use Rattle.std.specs.Map.{lookup};
 ghost use Rattle.std.specs.Option.{option_copied, option_map};
 ghost use Rattle.indexmap.specs.IndexMap.{values};
 ghost use Rattle.sr_frame.specs.Addresses.{mac_eq};
 ghost use Rattle.sr_slots.specs.Places.{entries_of, held_of, slot_of, StandsAt, KeepsHeld};
-ghost use Rattle.sr_slots.specs.Calls.{ChangesAt, Tests, Ranks, least_rank, passing};
+ghost use Rattle.sr_slots.specs.Calls.{ChangesAt, least_rank, passing};
 
 use crate::keys::Keys;
+use crate::ranked::Ranked;
 use crate::room::Room;
 use indexmap::IndexMap;
 use indexmap::map::Entry;
@@ -18,13 +18,13 @@ use std::alloc::Global;
 
 /// A place: its value, if there is one, and whether it is held.
 #[derive(Drop)]
-pub struct Slot<V: Drop> {
+pub struct Slot<V: Drop + Ranked> {
     pub value: Room<V>,
     pub held: bool,
 }
 
 /// The value at an address.
-pub fn value_of<V: Drop>(map: &IndexMap<Mac, Slot<V>, Keys>, key: Mac) -> Option<&V>
+pub fn value_of<V: Drop + Ranked>(map: &IndexMap<Mac, Slot<V>, Keys>, key: Mac) -> Option<&V>
     ensures { option_copied result ≡ lookup (mac_eq key) (entries_of map.now.entries) }
 {
     // The length says that no two addresses are equal.
@@ -36,7 +36,7 @@ pub fn value_of<V: Drop>(map: &IndexMap<Mac, Slot<V>, Keys>, key: Mac) -> Option
 }
 
 /// The value at an address, and the index of its place.
-pub fn find<V: Drop>(map: &IndexMap<Mac, Slot<V>, Keys>, key: Mac) -> Option<(usize, &V)>
+pub fn find<V: Drop + Ranked>(map: &IndexMap<Mac, Slot<V>, Keys>, key: Mac) -> Option<(usize, &V)>
     ensures { option_map (λ found. found.1.now) result ≡ lookup (mac_eq key) (entries_of map.now.entries) }
 {
     let _places = map.len();
@@ -45,7 +45,7 @@ pub fn find<V: Drop>(map: &IndexMap<Mac, Slot<V>, Keys>, key: Mac) -> Option<(us
 }
 
 // Whether the place of an address is at this index.
-fn stands_at<V: Drop>(map: &IndexMap<Mac, Slot<V>, Keys>, index: usize, key: Mac) -> bool
+fn stands_at<V: Drop + Ranked>(map: &IndexMap<Mac, Slot<V>, Keys>, index: usize, key: Mac) -> bool
     ensures { result ≡ true → StandsAt key map.now.entries index }
 {
     let _places = map.len();
@@ -56,7 +56,7 @@ fn stands_at<V: Drop>(map: &IndexMap<Mac, Slot<V>, Keys>, index: usize, key: Mac
 }
 
 // The index of the place of an address: the given one, if it is there, else by a look-up.
-fn index_of<V: Drop>(
+fn index_of<V: Drop + Ranked>(
     map: &IndexMap<Mac, Slot<V>, Keys>,
     first: Option<usize>,
     key: Mac,
@@ -73,7 +73,7 @@ fn index_of<V: Drop>(
 }
 
 /// The value at an address, whose place is looked for at an index first.
-pub fn value_at<V: Drop>(
+pub fn value_at<V: Drop + Ranked>(
     map: &IndexMap<Mac, Slot<V>, Keys>,
     first: Option<usize>,
     key: Mac,
@@ -87,7 +87,7 @@ pub fn value_at<V: Drop>(
 }
 
 /// Changes the value at an address in its place, which is looked for at an index first. With the answer it says whether a held place was used up.
-pub fn change_at<V: Drop, R, F: FnOnce(&mut V) -> R>(
+pub fn change_at<V: Drop + Ranked, R, F: FnOnce(&mut V) -> R>(
     map: &mut IndexMap<Mac, Slot<V>, Keys>,
     first: Option<usize>,
     key: Mac,
@@ -112,7 +112,7 @@ pub fn change_at<V: Drop, R, F: FnOnce(&mut V) -> R>(
 }
 
 // Puts a value into a place, and answers whether that was held.
-fn fill<V: Drop>(slot: &mut Slot<V>, value: V) -> bool
+fn fill<V: Drop + Ranked>(slot: &mut Slot<V>, value: V) -> bool
     ensures slot { slot.new ≡ slot_of (Some value) false }
     ensures held { result ≡ slot.old.held }
 {
@@ -123,7 +123,7 @@ fn fill<V: Drop>(slot: &mut Slot<V>, value: V) -> bool
 }
 
 // A new place with a value.
-fn filled<V: Drop>(alloc: Global, value: V) -> Result<Slot<V>, NoMemory>
+fn filled<V: Drop + Ranked>(alloc: Global, value: V) -> Result<Slot<V>, NoMemory>
     ensures { IfOk result (λ slot. slot ≡ slot_of (Some value) false) }
 {
     let mut room = Room::new(alloc)?;
@@ -135,7 +135,7 @@ fn filled<V: Drop>(alloc: Global, value: V) -> Result<Slot<V>, NoMemory>
 }
 
 /// Gives an address without a value one. It goes last. Answers whether a held place was used up.
-pub fn put_last<V: Drop>(
+pub fn put_last<V: Drop + Ranked>(
     map: &mut IndexMap<Mac, Slot<V>, Keys>,
     alloc: Global,
     key: Mac,
@@ -168,7 +168,7 @@ pub fn put_last<V: Drop>(
 }
 
 /// Holds a place for an address. Answers whether it was not held before.
-pub fn hold<V: Drop>(
+pub fn hold<V: Drop + Ranked>(
     map: &mut IndexMap<Mac, Slot<V>, Keys>,
     alloc: Global,
     key: Mac,
@@ -203,7 +203,7 @@ pub fn hold<V: Drop>(
 }
 
 /// Gives up the held place of an address. Answers whether there was one.
-pub fn give_up<V: Drop>(map: &mut IndexMap<Mac, Slot<V>, Keys>, key: Mac) -> bool
+pub fn give_up<V: Drop + Ranked>(map: &mut IndexMap<Mac, Slot<V>, Keys>, key: Mac) -> bool
     ensures entries { entries_of map.new.entries ≡ entries_of map.old.entries }
     ensures held { list_any (mac_eq key) (held_of map.new.entries) ≡ false }
     ensures len { length (held_of map.new.entries) + (if result then 1 else 0) ≡ length (held_of map.old.entries) }
@@ -222,7 +222,7 @@ pub fn give_up<V: Drop>(map: &mut IndexMap<Mac, Slot<V>, Keys>, key: Mac) -> boo
 }
 
 /// Gives up all held places.
-pub fn release<V: Drop>(map: &mut IndexMap<Mac, Slot<V>, Keys>)
+pub fn release<V: Drop + Ranked>(map: &mut IndexMap<Mac, Slot<V>, Keys>)
     ensures entries { entries_of map.new.entries ≡ entries_of map.old.entries }
     ensures held { held_of map.new.entries ≡ [] }
 {
@@ -236,74 +236,66 @@ pub fn release<V: Drop>(map: &mut IndexMap<Mac, Slot<V>, Keys>)
     );
 }
 
-// Whether a place has a value that passes.
-fn has_passing<V: Drop, F: Fn(&V) -> bool>(slot: &Slot<V>, keep: &F) -> bool
-    requires { F.IsAlwaysCallable keep.now }
-    ensures { MatchOption slot.now.value (result ≡ false) (λ v. FnReturnsAt F.Fn keep.now v result) }
-{
-    match slot.value.get() {
-        Some(value) => keep(value),
-        None => false,
-    }
-}
-
-// Leaves the value at an index if it passes, and answers its rank then.
-fn sift_at<V: Drop, F: Fn(&V) -> bool, G: Fn(&V) -> u64>(
-    slot: &mut Slot<V>,
-    keep: &F,
-    rank: &G,
-) -> Option<u64>
-    requires callable { F.IsAlwaysCallable keep.now × G.IsAlwaysCallable rank.now }
+// Leaves the value of a place if its rank is not below the limit, and answers its rank then.
+fn sift_at<V: Drop + Ranked>(slot: &mut Slot<V>, limit: u64) -> Option<u64>
     ensures held { slot.new.held ≡ slot.old.held }
-    ensures kept { (test : V → Bool) → Tests F.Fn keep.now test → slot.new.value ≡ passing test slot.old.value }
-    ensures ranked { MatchOption slot.new.value (result ≡ None) (λ v. (n : ℕ) × (result ≡ Some n) × FnReturnsAt G.Fn rank.now v n) }
+    ensures kept { slot.new.value ≡ passing (λ v. nat_le limit (V.rank_of v)) slot.old.value }
+    ensures ranked { result ≡ option_map V.rank_of slot.new.value }
 {
-    let passes = has_passing(slot, keep);
-    if !passes {
+    let rank = slot.value.rank()?;
+    if rank < limit {
         slot.value.clear();
+        return None;
     }
-    match slot.value.get() {
-        Some(value) => Some(rank(value)),
-        None => None,
-    }
+    Some(rank)
 }
 
-/// How many values passed a test, and the least rank among them.
+/// How many values are left, and the least rank among them.
 #[derive(Clone, Copy)]
-pub struct Passed {
+pub struct Left {
     pub count: usize,
     pub least: u64,
 }
 
-/// Takes the values out that do not pass the test, and moves nothing. Held places stay held.
-pub fn sift<V: Drop, F: Fn(&V) -> bool, G: Fn(&V) -> u64>(
-    map: &mut IndexMap<Mac, Slot<V>, Keys>,
-    keep: F,
-    rank: G,
-) -> Passed
-    requires callable { F.IsAlwaysCallable keep × G.IsAlwaysCallable rank }
-    ensures kept { (test : V → Bool) → Tests F.Fn keep test → entries_of map.new.entries ≡ filter (λ e. test e.1) (entries_of map.old.entries) }
+/// Takes the values out whose rank is below the limit, and moves nothing. Held places stay held.
+pub fn sift<V: Drop + Ranked>(map: &mut IndexMap<Mac, Slot<V>, Keys>, limit: u64) -> Left
+    ensures kept { entries_of map.new.entries ≡ filter (λ e. nat_le limit (V.rank_of e.1)) (entries_of map.old.entries) }
     ensures held { held_of map.new.entries ≡ held_of map.old.entries }
     ensures count { result.count ≡ length (entries_of map.new.entries) }
-    ensures least { (order : V → ℕ) → Ranks G.Fn rank order → result.least ≡ least_rank order (entries_of map.new.entries) }
+    ensures least { result.least ≡ least_rank V.rank_of (entries_of map.new.entries) }
 {
-    let mut passed = Passed {
+    // The length is the bound of the places.
+    let _places = map.len();
+    let mut left = Left {
         count: 0,
         least: u64::MAX,
     };
-    for index in 0..map.len() {
-        if let Some(slot) = map.get_index_mut(index) {
-            if let Some(rank) = sift_at(slot, &keep, &rank) {
-                passed.count += 1;
-                passed.least = passed.least.min(rank);
-            }
+    let mut index = 0;
+    while let Some(slot) = map.get_index_mut(index) {
+        if let Some(rank) = sift_at(slot, limit) {
+            left.count += 1;
+            left.least = left.least.min(rank);
+        }
+        index += 1;
+    }
+    left
+}
+
+/// The least rank of a value, or the greatest number where there is none.
+pub fn least_rank<V: Drop + Ranked>(map: &IndexMap<Mac, Slot<V>, Keys>) -> u64
+    ensures { result ≡ least_rank V.rank_of (entries_of map.now.entries) }
+{
+    let mut least = u64::MAX;
+    for (_, slot) in map.iter() {
+        if let Some(rank) = slot.value.rank() {
+            least = least.min(rank);
         }
     }
-    passed
+    least
 }
 
 /// Takes the places out that have no value and are not held.
-pub fn sweep<V: Drop>(map: &mut IndexMap<Mac, Slot<V>, Keys>)
+pub fn sweep<V: Drop + Ranked>(map: &mut IndexMap<Mac, Slot<V>, Keys>)
     ensures entries { entries_of map.new.entries ≡ entries_of map.old.entries }
     ensures held { held_of map.new.entries ≡ held_of map.old.entries }
 {

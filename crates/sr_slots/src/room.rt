@@ -1,29 +1,36 @@
-//! A value behind a pointer: its memory is taken before there is a value, and it moves with no value.
+//! A value behind a pointer: its memory is taken before there is a value, and it moves with no value. Its rank stands before the
+//! pointer.
 ghost use Rattle.std.specs.Prelude.{◌≡◌, None, Some, Option, is_some, IfOk, IfSome, IfNone};
 ghost use Rattle.std.specs.Fn.{FnOnceReturnsAtMut};
-ghost use Rattle.std.specs.Option.{option_copied};
+ghost use Rattle.std.specs.Option.{option_copied, option_map};
 
+use crate::ranked::Ranked;
 use sr_frame::NoMemory;
 use std::alloc::Global;
 use std::marker::Model;
 
 /// Memory for one value, and the value, if there is one. What was taken out stays in the memory, unseen, until the next value comes:
-/// so taking it out writes one octet, however large it is.
+/// so taking it out writes one octet, however large it is. Going over the ranks of many reads no value.
 #[derive(Drop)]
-pub struct Room<V: Drop> {
+pub struct Room<V: Drop + Ranked> {
     memory: Box<Option<V>>,
+    // That of the value, where there is one.
+    rank: u64,
     is_used: bool,
 }
 
-impl<V: Drop> Model for Room<V> {
-    ghost use Rattle.std.specs.Prelude.{Option, None, if◌then◌else◌};
+impl<V: Drop + Ranked> Model for Room<V> {
+    ghost use Rattle.std.specs.Prelude.{◌≡◌, Option, None, Some, true, if◌then◌else◌};
+    ghost use Rattle.std.specs.Option.{option_map};
 
     ghost Value = { Option V };
 
     ghost view = { λ p. if p.is_used then p.memory.value else None };
+
+    ghost invariant = { λ p. p.is_used ≡ true → option_map V.rank_of p.memory.value ≡ Some p.rank };
 }
 
-impl<V: Drop> Room<V> {
+impl<V: Drop + Ranked> Room<V> {
     /// Room for a value. NoMemory: memory ran out.
     pub fn new(alloc: Global) -> Result<Room<V>, NoMemory>
         ensures { IfOk result (λ room. room ≡ None) }
@@ -31,6 +38,7 @@ impl<V: Drop> Room<V> {
         match Box::new(alloc, None) {
             Ok(memory) => Ok(Room {
                 memory,
+                rank: 0,
                 is_used: false,
             }),
             Err(_) => Err(NoMemory),
@@ -48,10 +56,18 @@ impl<V: Drop> Room<V> {
         }
     }
 
+    /// The rank of the value.
+    pub fn rank(&self) -> Option<u64>
+        ensures { result ≡ option_map V.rank_of self.now }
+    {
+        if self.is_used { Some(self.rank) } else { None }
+    }
+
     /// Puts a value there, and takes no memory.
     pub fn put(&mut self, value: V)
         ensures { self.new ≡ Some value }
     {
+        self.rank = value.rank();
         *self.memory = Some(value);
         self.is_used = true;
     }
@@ -73,6 +89,8 @@ impl<V: Drop> Room<V> {
             return None;
         }
         let value = (*self.memory).as_mut()?;
-        Some(change(value))
+        let answer = change(value);
+        self.rank = value.rank();
+        Some(answer)
     }
 }

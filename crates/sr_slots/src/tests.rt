@@ -5,6 +5,14 @@ use std::hash::BuildHasher;
 use std::io;
 use std::random::RandomSource;
 
+impl Ranked for u32 {
+    ghost rank_of = { λ value. value };
+
+    fn rank(&self) -> u64 {
+        *self as u64
+    }
+}
+
 fn mac(last: u8) -> Mac {
     Mac([2, 0, 0, 0, 0, last])
 }
@@ -20,8 +28,8 @@ enum Step {
     Release,
     /// This value replaces the one of the address, looked for where the other address is. Whether there was one.
     Set(u8, u8, u32, bool),
-    /// The values that are this one go, and this is the least of those that are left.
-    Drop(u32, u64),
+    /// The values below this one go, and this is the least of those that are left.
+    Sift(u64, u64),
     /// The last octets of the addresses that have a value, in order, as the digits of one number; and the sum of the values.
     Shows(u32, u32),
 }
@@ -29,19 +37,19 @@ enum Step {
 const HELD_PLACES_GO_LAST: [Step; 17] = [
     Step::Add(3, 30),
     Step::Hold(1),
-    Step::Add(2, 20),
+    Step::Add(2, 5),
     Step::Set(1, 1, 0, false),
-    Step::Shows(32, 50),
+    Step::Shows(32, 35),
     Step::Add(1, 10),
-    Step::Shows(321, 60),
+    Step::Shows(321, 45),
     Step::Set(3, 3, 60, true),
     Step::Hold(2),
-    Step::Drop(20, 10),
+    Step::Sift(6, 10),
     Step::Shows(31, 70),
     Step::Add(2, 21),
     Step::Release,
     Step::Shows(312, 91),
-    Step::Drop(7, 10),
+    Step::Sift(10, 10),
     Step::Hold(9),
     Step::Shows(312, 91),
 ];
@@ -51,7 +59,7 @@ const WHAT_GOES_COMES_BACK_LAST: [Step; 14] = [
     Step::Add(1, 10),
     Step::Add(2, 20),
     Step::Add(3, 30),
-    Step::Drop(10, 20),
+    Step::Sift(11, 20),
     Step::Set(1, 1, 5, false),
     Step::Set(1, 2, 5, false),
     Step::Shows(23, 50),
@@ -61,13 +69,13 @@ const WHAT_GOES_COMES_BACK_LAST: [Step; 14] = [
     Step::Set(1, 2, 12, true),
     Step::Set(3, 1, 31, true),
     Step::Shows(231, 64),
-    Step::Drop(99, 12),
+    Step::Sift(12, 12),
 ];
 
 const NONE_IS_LEFT: [Step; 6] = [
     Step::Add(1, 10),
     Step::Add(2, 10),
-    Step::Drop(10, u64::MAX),
+    Step::Sift(11, u64::MAX),
     Step::Shows(0, 0),
     Step::Add(2, 5),
     Step::Shows(2, 5),
@@ -122,9 +130,9 @@ fn obeys(slots: &mut Slots<u32>, step: Step) -> bool {
             true
         }
         Step::Set(last, at, value, there) => set(slots, last, at, value) == there,
-        Step::Drop(gone, least) => {
+        Step::Sift(limit, least) => {
             slots.sweep(2);
-            slots.sift(|value| *value != gone, |value| *value as u64) == least
+            slots.sift(limit) == least && slots.least_rank() == least
         }
         Step::Shows(order, sum) => shows(slots, order, sum),
     }

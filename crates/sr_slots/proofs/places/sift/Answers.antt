@@ -1,37 +1,38 @@
-use Rattle.std.proofs.Common.{arith, length, sym, ◌<◌, ◌≡◌, false, true}
-use Rattle.std.specs.Fn.{FnReturnsAt}
-use Rattle.sr_slots.proofs.SiftLemmas.{none_done, few, step_none, step_some}
-use Rattle.sr_slots.proofs.places.sift.Goals.{in-Some+in-Some-sift_at, in-Some+in_default-sift_at, in_default}
+use Rattle.std.proofs.Common.{arith, sym, ◌<◌, refl, length}
+use Rattle.indexmap.proofs.CallerLemmas.{index_map_len-with_value_at}
+use Rattle.sr_slots.proofs.SiftLemmas.{few, step_none, step_some}
+use Rattle.sr_slots.proofs.places.sift.Goals.{in-Some-sift_at, in_default-sift_at}
 use Rattle.sr_slots.proofs.places.sift.Goals as goal
 
-pub loop-index-init : goal.loop-index-init
-loop-index-init g c = record { sifted = none_done _ _ c.args.map.now.entries; end = c.len-index-end.ensures.len }
+pub overflow_add-left : goal.overflow_add-left
+overflow_add-left g c =
+    let s = c.loop-slot.invariant.sifted in
+    let within : c.loop-slot.index < length c.loop-slot.map.entries = c.in-Some.ensures.found.0 refl in
+    omega (arith, few _ _ _ _ _ _ _ s, s.len, c.loop-slot.invariant.small)
 
-pub overflow_add-passed : goal.overflow_add-passed
-overflow_add-passed g c =
-    let s = c.loop-index.invariant.sifted in
-    omega (arith, few _ _ _ _ _ _ _ s, c.loop-index-test.true, c.len-index-end.ensures.small)
+pub loop-slot-smaller : goal.loop-slot-smaller
+loop-slot-smaller g c =
+    let within : c.loop-slot.index < length c.loop-slot.map.entries = c.in-Some.ensures.found.0 refl in
+    omega (arith, index_map_len-with_value_at c.loop-slot.map c.loop-slot.index c.sift_at.new.slot)
 
-pub loop-index-preserved : goal.loop-index-preserved
-loop-index-preserved g c =
-    let s = c.loop-index.invariant.sifted in
+pub loop-slot-preserved : goal.loop-slot-preserved
+loop-slot-preserved g c =
+    let s = c.loop-slot.invariant.sifted in
     let old = c.args.map.now.entries in
-    let now = c.loop-index.map.entries in
-    let end = c.loop-index.invariant.end in
-    let within : c.loop-index.index < length now = omega (arith, c.loop-index-test.true, end, s.len) in
-    elim c.match-get_index_mut.branch [
-      | in-Some+in-Some-sift_at w ↦
-          rw (w.map-is, w.passed-is, w.min.ensures) (record {
-            sifted = step_some _ _ old now c.loop-index.index c.loop-index.passed.count c.loop-index.passed.least s w.in-Some.slot.now w.sift_at.new.slot (sym w.in-Some.ensures.value)
-                w.sift_at.ensures.held w.sift_at.ensures.kept within (λ v n. FnReturnsAt g.G.Fn c.args.rank v n) (λ order is v n call. is v n call) w.in-Some-sift_at.rank
-                w.in-Some-sift_at.ensures.ranked (omega arith);
-            end = end;
+    let now = c.loop-slot.map.entries in
+    let within : c.loop-slot.index < length now = c.in-Some.ensures.found.0 refl in
+    let small = c.loop-slot.invariant.small in
+    elim c.match-sift_at.branch [
+      | in-Some-sift_at w ↦
+          rw (w.left-is, w.min.ensures) (record {
+            sifted = step_some _ _ old now c.loop-slot.index c.loop-slot.left.count c.loop-slot.left.least s c.in-Some.slot.now c.sift_at.new.slot (sym c.in-Some.ensures.value)
+                c.sift_at.ensures.held c.sift_at.ensures.kept within w.in-Some-sift_at.rank w.in-Some-sift_at.ensures.ranked (omega arith);
+            small = small;
           })
-      | in-Some+in_default-sift_at w ↦
-          rw (w.map-is, w.passed-is) (record {
-            sifted = step_none _ _ old now c.loop-index.index c.loop-index.passed.count c.loop-index.passed.least s w.in-Some.slot.now w.sift_at.new.slot (sym w.in-Some.ensures.value)
-                w.sift_at.ensures.held w.sift_at.ensures.kept within (λ v n. FnReturnsAt g.G.Fn c.args.rank v n) (λ order is v n call. is v n call) _ w.in_default-sift_at.ensures.ranked;
-            end = end;
+      | in_default-sift_at w ↦
+          rw w.left-is (record {
+            sifted = step_none _ _ old now c.loop-slot.index c.loop-slot.left.count c.loop-slot.left.least s c.in-Some.slot.now c.sift_at.new.slot (sym c.in-Some.ensures.value)
+                c.sift_at.ensures.held c.sift_at.ensures.kept within w.in_default-sift_at.ensures.ranked;
+            small = small;
           })
-      | in_default w ↦ let bad : false ≡ true = w.in_default.ensures.found.1 within in cc
     ]

@@ -1,11 +1,13 @@
-use Rattle.std.proofs.Common.{◌≡◌, length}
-use Rattle.sr_slots.specs.Calls.{Tests, Ranks}
+use Rattle.std.proofs.Common.{◌<◌, ◌^◌, ◌-◌, length, nat_le}
 use Rattle.sr_slots.proofs.SiftLemmas.{Sifted}
 use Rattle.sr_slots.proofs.places.sift.Given as goal
 
 -- the places so far were gone over
-abbrev pub invariant-loop-index : goal.invariant-loop-index
-invariant-loop-index g l = record {
-  sifted : Sifted (Tests g.F.Fn l.fn.keep) (Ranks g.G.Fn l.fn.rank) l.fn.map.entries l.map.entries l.index l.passed.count l.passed.least;
-  end : l.index-end ≡ length l.fn.map.entries;
+abbrev pub invariant-loop-slot : goal.invariant-loop-slot
+invariant-loop-slot g l = record {
+  sifted : Sifted (λ v. nat_le l.limit (g.V.Ranked.rank_of v)) g.V.Ranked.rank_of l.fn.map.entries l.map.entries l.index l.left.count l.left.least;
+  small : length l.fn.map.entries < 2 ^ 63;
 }
+
+abbrev pub decreases-loop-slot : goal.decreases-loop-slot
+decreases-loop-slot g l = length l.map.entries - l.index
