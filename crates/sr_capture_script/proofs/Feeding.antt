@@ -1,14 +1,20 @@
 -- A file whose packets are taken one by one.
-use Rattle.std.proofs.Common.{◌≡◌, ℕ, ◌+◌, ◌-◌, ◌^◌, ◌≤◌, List, [], ◌∷◌, ◌++◌, length, Option, Some, None, sym, ap, subst, refl, ◌∙◌, arith, append_assoc}
-use Rattle.std.specs.Prelude.{min, max}
+use Rattle.std.proofs.Common.{◌≡◌, ℕ, ◌+◌, ◌-◌, ◌^◌, List, [], ◌∷◌, ◌++◌, length, Option, Some, None, sym, ap, subst, refl, ◌∙◌, arith, append_assoc, inl, inr}
+use Rattle.std.specs.Prelude.{min, cond}
 use Rattle.std.proofs.lemmas.List.{length-append, append-nil}
+use Rattle.std.proofs.lemmas.List.Sums.{sum_by-append}
+use Rattle.sr_capture.specs.declared.fault.CaptureFault.{CaptureFault}
 use Rattle.sr_capture.specs.declared.header.Form.{Form}
-use Rattle.sr_capture.specs.Taking.{Loses, LeavesNone}
+use Rattle.sr_capture.specs.Taking.{Loses}
 use Rattle.sr_capture.specs.TakingLemmas.{loses_more, none_left, loses_nothing}
 use Rattle.sr_capture.specs.Records.{Captured, IsRecord, AreRecords, Shows}
 use Rattle.sr_capture_script.specs.declared.choice.Inlet.{Inlet}
+use Rattle.sr_capture_script.specs.declared.flaws.Flaw.{Flaw}
+use Rattle.sr_capture_script.specs.declared.flaws.Flaw.TheVariants as flaw
+use Rattle.sr_capture_script.specs.declared.flaws.FlawCounts.{FlawCounts}
+use Rattle.sr_capture_script.specs.Flaws.{flaw_of, is_flaw, tally, tallied, counted}
 use Rattle.sr_capture_script.specs.Items.{Item, moment_of, items_from, items_of}
-use Rattle.sr_capture_script.specs.Sources.{Progress, last_moment, IsDue, Feeds, GoesOn}
+use Rattle.sr_capture_script.specs.Sources.{Progress, last_moment, IsDue, Feeds, GoesOn, IsUntaken, IsStuck, IsFaulty}
 use Rattle.sr_capture_script.specs.Picking.{NotBefore}
 
 -- one record more
@@ -43,6 +49,27 @@ items_more inlet delay last number (p ∷ ps) packet =
     let moved = item_is inlet (number + 1 + length ps) (number + length (p ∷ ps)) (moment_of delay (last_moment delay (moment_of delay last p) ps) packet) packet (omega arith) in
     ap (λ (l : List Item). first ∷ l) (rest ∙ ap (λ (x : Item). items_from inlet delay (moment_of delay last p) (number + 1) ps ++ x ∷ []) moved)
 
+-- the number of a reason's packets with one more
+tally_more : (why : Flaw) (packets : List Captured) (packet : Captured)
+    → tally why (packets ++ packet ∷ []) ≡ min (tally why packets + cond (is_flaw why (flaw_of packet)) 1 0) (2 ^ 64 - 1)
+tally_more why packets packet =
+    let f : Captured → ℕ = λ p. cond (is_flaw why (flaw_of p)) 1 0 in
+    omega (arith, sum_by-append f packets (packet ∷ []))
+
+counts_are : (a b c d e f : ℕ) → a ≡ d → b ≡ e → c ≡ f
+    → (let n : FlawCounts = record { cut = a; long = b; empty = c } in n) ≡ record { cut = d; long = e; empty = f }
+counts_are a b c d e f p q r = cc
+
+counted_by : (o : Option Flaw) (packets more : List Captured)
+    → ((why : Flaw) → tally why more ≡ min (tally why packets + cond (is_flaw why o) 1 0) (2 ^ 64 - 1)) → counted (tallied packets) o ≡ tallied more
+counted_by None packets more h = counts_are _ _ _ _ _ _ (omega (arith, h flaw.Cut)) (omega (arith, h flaw.Long)) (omega (arith, h flaw.Empty))
+counted_by (Some flaw.Cut) packets more h = counts_are _ _ _ _ _ _ (omega (arith, h flaw.Cut)) (omega (arith, h flaw.Long)) (omega (arith, h flaw.Empty))
+counted_by (Some flaw.Long) packets more h = counts_are _ _ _ _ _ _ (omega (arith, h flaw.Cut)) (omega (arith, h flaw.Long)) (omega (arith, h flaw.Empty))
+counted_by (Some flaw.Empty) packets more h = counts_are _ _ _ _ _ _ (omega (arith, h flaw.Cut)) (omega (arith, h flaw.Long)) (omega (arith, h flaw.Empty))
+
+tallied_more : (packets : List Captured) (packet : Captured) → counted (tallied packets) (flaw_of packet) ≡ tallied (packets ++ packet ∷ [])
+tallied_more packets packet = counted_by (flaw_of packet) packets (packets ++ packet ∷ []) (λ why. tally_more why packets packet)
+
 -- an item went, and the next one is due
 pub record Served (inlet : Inlet) (form : Form) (delay : ℕ) (start now : Option (List ℕ)) (p q : Progress) (m : ℕ) (gone : List Item) : Type 0 where
   pub item : Item
@@ -55,10 +82,11 @@ pub record Served (inlet : Inlet) (form : Form) (delay : ℕ) (start now : Optio
 
 -- the next packet is due
 feeds_next : (inlet : Inlet) (form : Form) (delay : ℕ) (start mid now : Option (List ℕ)) (p q : Progress) (gone : List Item) (m : ℕ)
-    (packets : List Captured) (octets : List ℕ) → Loses octets start mid → AreRecords form octets packets → p.number ≡ min (length packets) (2 ^ 64 - 1)
+    (packets : List Captured) (octets : List ℕ) → Loses octets start mid → AreRecords form octets packets → p.place ≡ min (24 + length octets) (2 ^ 64 - 1)
+    → p.flaws ≡ tallied packets → p.number ≡ min (length packets) (2 ^ 64 - 1)
     → p.moment ≡ last_moment delay 0 packets → items_of inlet delay packets ≡ gone → q.due ≡ Some m → GoesOn form delay (Some m) mid now p q
     → Feeds inlet form delay start now q gone
-feeds_next inlet form delay start mid now p q gone m packets octets lost records number moment items due goes =
+feeds_next inlet form delay start mid now p q gone m packets octets lost records place flaws number moment items due goes =
     let packet = goes.1 in
     let item = item_behind inlet delay 0 1 packets packet in
     let whole : items_of inlet delay (packets ++ packet ∷ []) ≡ gone ++ item ∷ [] =
@@ -72,6 +100,8 @@ feeds_next inlet form delay start mid now p q gone m packets octets lost records
       octets = octets ++ goes.0;
       lost = loses_more octets goes.0 start mid now lost goes.2;
       records = records_more form octets goes.0 packets packet records goes.3;
+      place = omega (arith, goes.8, place, length-append octets goes.0);
+      flaws = goes.9 ∙ ap (λ (n : FlawCounts). counted n (flaw_of packet)) flaws ∙ tallied_more packets packet;
       number = omega (arith, goes.7, number, count);
       moment = goes.6 ∙ when ∙ sym (last_moment_more delay 0 packets packet);
       due = subst (λ (o : Option ℕ). IsDue inlet q o (items_of inlet delay (packets ++ packet ∷ [])) gone start now) (sym due) is_due;
@@ -79,37 +109,42 @@ feeds_next inlet form delay start mid now p q gone m packets octets lost records
 
 -- the file is at its end
 feeds_end : (inlet : Inlet) (form : Form) (delay : ℕ) (start mid now : Option (List ℕ)) (p q : Progress) (gone : List Item)
-    (packets : List Captured) (octets : List ℕ) → Loses octets start mid → AreRecords form octets packets → p.number ≡ min (length packets) (2 ^ 64 - 1)
+    (packets : List Captured) (octets : List ℕ) → Loses octets start mid → AreRecords form octets packets → p.place ≡ min (24 + length octets) (2 ^ 64 - 1)
+    → p.flaws ≡ tallied packets → p.number ≡ min (length packets) (2 ^ 64 - 1)
     → p.moment ≡ last_moment delay 0 packets → items_of inlet delay packets ≡ gone → q.due ≡ None → GoesOn form delay None mid now p q
     → Feeds inlet form delay start now q gone
-feeds_end inlet form delay start mid now p q gone packets octets lost records number moment items due goes =
+feeds_end inlet form delay start mid now p q gone packets octets lost records place flaws number moment items due goes =
     let is_due : IsDue inlet q None (items_of inlet delay packets) gone start now = (items, none_left octets start mid now lost goes.1) in
     record {
       packets = packets;
       octets = octets;
       lost = subst (λ (l : List ℕ). Loses l start now) (append-nil octets) (loses_more octets [] start mid now lost goes.0);
       records = records;
+      place = goes.4 ∙ place;
+      flaws = goes.5 ∙ flaws;
       number = goes.3 ∙ number;
       moment = goes.2 ∙ moment;
       due = subst (λ (o : Option ℕ). IsDue inlet q o (items_of inlet delay packets) gone start now) (sym due) is_due;
     }
 
 feeds_on : (d : Option ℕ) (inlet : Inlet) (form : Form) (delay : ℕ) (start mid now : Option (List ℕ)) (p q : Progress) (gone : List Item)
-    (packets : List Captured) (octets : List ℕ) → Loses octets start mid → AreRecords form octets packets → p.number ≡ min (length packets) (2 ^ 64 - 1)
+    (packets : List Captured) (octets : List ℕ) → Loses octets start mid → AreRecords form octets packets → p.place ≡ min (24 + length octets) (2 ^ 64 - 1)
+    → p.flaws ≡ tallied packets → p.number ≡ min (length packets) (2 ^ 64 - 1)
     → p.moment ≡ last_moment delay 0 packets → items_of inlet delay packets ≡ gone → q.due ≡ d → GoesOn form delay d mid now p q
     → Feeds inlet form delay start now q gone
-feeds_on None inlet form delay start mid now p q gone packets octets l r n m i due goes = feeds_end inlet form delay start mid now p q gone packets octets l r n m i due goes
-feeds_on (Some x) inlet form delay start mid now p q gone packets octets l r n m i due goes = feeds_next inlet form delay start mid now p q gone x packets octets l r n m i due goes
+feeds_on None inlet form delay start mid now p q gone packets octets l r pl fl n m i due goes = feeds_end inlet form delay start mid now p q gone packets octets l r pl fl n m i due goes
+feeds_on (Some x) inlet form delay start mid now p q gone packets octets l r pl fl n m i due goes = feeds_next inlet form delay start mid now p q gone x packets octets l r pl fl n m i due goes
 
 later_than : (d : Option ℕ) (form : Form) (delay : ℕ) (mid now : Option (List ℕ)) (p q : Progress) → GoesOn form delay d mid now p q → NotBefore d p.moment
 later_than None form delay mid now p q goes = tt
 later_than (Some x) form delay mid now p q goes = omega (arith, goes.5)
 
 -- a file of which nothing was taken
-pub feeds_first : (inlet : Inlet) (form : Form) (delay : ℕ) (start now : Option (List ℕ)) (p q : Progress) → p.number ≡ 0 → p.moment ≡ 0
+pub feeds_first : (inlet : Inlet) (form : Form) (delay : ℕ) (start now : Option (List ℕ)) (p q : Progress) → IsUntaken p
     → GoesOn form delay q.due start now p q → Feeds inlet form delay start now q []
-feeds_first inlet form delay start now p q number moment goes =
-    feeds_on q.due inlet form delay start start now p q [] [] [] (loses_nothing start) refl (omega (arith, number)) moment refl refl goes
+feeds_first inlet form delay start now p q none goes =
+    feeds_on q.due inlet form delay start start now p q [] [] [] (loses_nothing start) refl (omega (arith, none.place)) none.flaws (omega (arith, none.number))
+    none.moment refl refl goes
 
 pub serves : (inlet : Inlet) (form : Form) (delay : ℕ) (start mid now : Option (List ℕ)) (p q : Progress) (m : ℕ) (gone : List Item) → p.due ≡ Some m
     → Feeds inlet form delay start mid p gone → GoesOn form delay q.due mid now p q → Served inlet form delay start now p q m gone
@@ -123,5 +158,43 @@ serves inlet form delay start mid now p q m gone due feeds goes =
       number = is_due.5;
       shown = is_due.6;
       later = subst (NotBefore q.due) is_due.4 (later_than q.due form delay mid now p q goes);
-      feeds = feeds_on q.due inlet form delay start mid now p q (gone ++ is_due.0 ∷ []) feeds.packets feeds.octets feeds.lost feeds.records feeds.number feeds.moment is_due.1 refl goes;
+      feeds = feeds_on q.due inlet form delay start mid now p q (gone ++ is_due.0 ∷ []) feeds.packets feeds.octets feeds.lost feeds.records feeds.place feeds.flaws feeds.number feeds.moment is_due.1 refl goes;
+    }
+
+-- an item went, and the file has a fault behind it
+pub record Stuck (inlet : Inlet) (form : Form) (delay : ℕ) (fault : CaptureFault) (start : Option (List ℕ)) (p : Progress) (m : ℕ) (gone : List Item) : Type 0 where
+  pub item : Item
+  pub at : item.inlet ≡ inlet
+  pub when : item.moment ≡ m
+  pub number : p.number ≡ min item.number (2 ^ 64 - 1)
+  pub shown : Shows p.shown item.packet
+  pub faulty : IsFaulty inlet form delay fault start (gone ++ item ∷ [])
+
+-- an offset of 64 bits is that of the octets
+pub stuck_at : (form : Form) (place n : ℕ) (fault : CaptureFault) (old new : Option (List ℕ)) → place ≡ min n (2 ^ 64 - 1) → IsStuck form place fault old new
+    → IsStuck form n fault old new
+stuck_at form place n fault old new e (inl s) = inl (s.0, (s.1.0, s.1.1, s.1.2, omega (arith, s.1.3)))
+stuck_at form place n fault old new e (inr s) = inr (s.0, omega (arith, s.1), s.2)
+
+pub sticks : (inlet : Inlet) (form : Form) (delay : ℕ) (fault : CaptureFault) (start mid now : Option (List ℕ)) (p : Progress) (m : ℕ) (gone : List Item)
+    → p.due ≡ Some m → Feeds inlet form delay start mid p gone → IsStuck form p.place fault mid now → Stuck inlet form delay fault start p m gone
+sticks inlet form delay fault start mid now p m gone due feeds stuck =
+    let is_due : IsDue inlet p (Some m) (items_of inlet delay feeds.packets) gone start mid =
+    subst (λ (o : Option ℕ). IsDue inlet p o (items_of inlet delay feeds.packets) gone start mid) due feeds.due in
+    record {
+      item = is_due.0;
+      at = is_due.2;
+      when = is_due.3;
+      number = is_due.5;
+      shown = is_due.6;
+      faulty = record {
+        packets = feeds.packets;
+        octets = feeds.octets;
+        left = mid;
+        after = now;
+        lost = feeds.lost;
+        records = feeds.records;
+        items = is_due.1;
+        stuck = stuck_at form p.place (24 + length feeds.octets) fault mid now feeds.place stuck;
+      };
     }

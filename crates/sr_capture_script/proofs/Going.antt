@@ -1,33 +1,29 @@
 -- Three files, part of the way through their packets.
-use Rattle.std.proofs.Common.{◌≡◌, ℕ, ◌+◌, ◌*◌, ◌<◌, ◌≤◌, List, [], ◌∷◌, ◌++◌, Option, Some, None, sym, ap, subst, refl, ◌∙◌, arith}
-use Rattle.std.specs.Prelude.{unwrap_or, IfSome}
+use Rattle.std.proofs.Common.{◌≡◌, ℕ, ◌<◌, ◌≤◌, List, [], ◌∷◌, ◌++◌, Option, Some, None, sym, ap, subst, refl, ◌∙◌, arith}
+use Rattle.std.specs.Prelude.{unwrap_or}
 use Rattle.std.specs.Io.KnownBytes.{Appends}
 use Rattle.std.proofs.KnownBytes.{Appends-nil, Appends-trans}
-use Rattle.std.proofs.lemmas.List.{append-nil}
-use Rattle.sr_capture.specs.declared.header.Form.{Form}
-use Rattle.sr_capture.specs.Taking.{Loses, LeavesNone}
-use Rattle.sr_capture.specs.Records.{Captured, AreRecords}
 use Rattle.sr_capture_script.specs.declared.choice.Choice.{Choice}
 use Rattle.sr_capture_script.specs.declared.choice.Inlet.{Inlet}
 use Rattle.sr_capture_script.specs.declared.choice.Inlet.TheVariants.{A, B, C}
+use Rattle.sr_capture_script.specs.declared.serving.Clock.{Clock}
 use Rattle.sr_capture_script.specs.declared.source.Source.{Source}
-use Rattle.sr_capture_script.specs.Items.{Item, key_of, came_at, IsInOrder, items_of, AllTo, AllToDue}
-use Rattle.sr_capture_script.specs.Picking.{NotBefore, IsAfter, IsEarliest, NoneDue}
-use Rattle.sr_capture_script.specs.Sources.{Progress, Feeds, IsDue}
+use Rattle.sr_capture_script.specs.Items.{Item, key_of, came_at, AllTo, AllToDue}
+use Rattle.sr_capture_script.specs.Picking.{NotBefore, IsAfter, IsEarliest}
 use Rattle.sr_capture_script.specs.SourceViews.{IsFed, Serves}
-use Rattle.sr_capture_script.specs.Texts.{AreLinesFrom, IsPiece}
-use Rattle.sr_capture_script.specs.Merging.{HasRecords, Scripts}
+use Rattle.sr_capture_script.specs.Texts.{piece_of, last_after, first_moment, last_line, lines_of}
 use Rattle.sr_capture_script.specs.Going.{Going}
 use Rattle.sr_capture_script.proofs.Ordering.{order_more, due_more, came_here, came_apart}
-use Rattle.sr_capture_script.proofs.Writing.{lines_from_more}
+use Rattle.sr_capture_script.proofs.Writing.{lines_more, last_line_more, first_more}
 
 to_nothing : (i : Inlet) (d : Option ℕ) → AllToDue i d []
 to_nothing i None = tt
 to_nothing i (Some m) = tt
 
-pub going_from : {R : Type 0} (remaining : R → Option (List ℕ)) (choice : Choice) (sa sb sc : Option (List ℕ)) (a b c : Source R) (held : Option (List ℕ))
-    → IsFed remaining A sa a [] → IsFed remaining B sb b [] → IsFed remaining C sc c [] → Going remaining choice sa sb sc a b c None held held
-going_from remaining choice sa sb sc a b c held fa fb fc = record {
+pub going_from : {R : Type 0} (remaining : R → Option (List ℕ)) (choice : Choice) (sa sb sc : Option (List ℕ)) (a b c : Source R) (clock : Clock)
+    (held : Option (List ℕ)) → clock.base ≡ None → clock.last ≡ None
+    → IsFed remaining A sa a [] → IsFed remaining B sb b [] → IsFed remaining C sc c [] → Going remaining choice sa sb sc a b c clock held held
+going_from remaining choice sa sb sc a b c clock held base last fa fb fc = record {
   out = [];
   fed_a = fa;
   fed_b = fb;
@@ -36,8 +32,8 @@ going_from remaining choice sa sb sc a b c held fa fb fc = record {
   to_a = to_nothing A a.due;
   to_b = to_nothing B b.due;
   to_c = to_nothing C c.due;
-  text = [];
-  lines = (refl, refl);
+  base = base;
+  last = last;
   wrote = Appends-nil held;
 }
 
@@ -48,26 +44,70 @@ not_before_is d m n h e = let P : Option ℕ → Type 0 = λ o. NotBefore o m in
 is_after_is : (d : Option ℕ) (m n : ℕ) → IsAfter d m → d ≡ Some n → m < n
 is_after_is d m n h e = let P : Option ℕ → Type 0 = λ o. IsAfter o m in subst P e h
 
--- the base once an item of this moment is printed
-moved_lines : (choice : Choice) (base : Option ℕ) (m : ℕ) (out : List Item) (item : Item) (text more : List ℕ) → item.moment ≡ m
-    → AreLinesFrom choice base out text → IsPiece choice (unwrap_or base m) item more
-    → AreLinesFrom choice (Some (unwrap_or base m)) (out ++ item ∷ []) (text ++ more)
-moved_lines choice base m out item text more e lines piece =
-    let P : ℕ → Type 0 = λ n. AreLinesFrom choice (Some (unwrap_or base n)) (out ++ item ∷ []) (text ++ more) in
-    let Q : ℕ → Type 0 = λ n. IsPiece choice (unwrap_or base n) item more in
-    subst P e (lines_from_more base choice out item text more lines (subst Q (sym e) piece))
+-- the item of this moment that is next comes to what is printed: how the lines grow, and the clock
+pub more_lines : (choice : Choice) (clock : Clock) (m : ℕ) (out : List Item) (item : Item) (held mid now : Option (List ℕ)) → item.moment ≡ m
+    → clock.base ≡ first_moment out → clock.last ≡ last_line choice out → Appends held mid (lines_of choice out)
+    → Appends mid now (piece_of choice (unwrap_or clock.base m) clock.last item) → Appends held now (lines_of choice (out ++ item ∷ []))
+more_lines choice clock m out item held mid now e base last held_mid mid_now =
+    let bases : unwrap_or clock.base m ≡ unwrap_or (first_moment out) item.moment = ap (λ (o : Option ℕ). unwrap_or o m) base ∙ ap (unwrap_or (first_moment out)) (sym e) in
+    let piece : piece_of choice (unwrap_or clock.base m) clock.last item ≡ piece_of choice (unwrap_or (first_moment out) item.moment) (last_line choice out) item =
+    ap (λ n. piece_of choice n clock.last item) bases ∙ ap (λ (o : Option ℕ). piece_of choice (unwrap_or (first_moment out) item.moment) o item) last in
+    let all : lines_of choice out ++ piece_of choice (unwrap_or clock.base m) clock.last item ≡ lines_of choice (out ++ item ∷ []) =
+    ap (λ (l : List ℕ). lines_of choice out ++ l) piece ∙ sym (lines_more choice out item) in
+    subst (Appends held now) all (Appends-trans held mid now (lines_of choice out) (piece_of choice (unwrap_or clock.base m) clock.last item) held_mid mid_now)
 
-key_is : (i : Inlet) (m : ℕ) (item : Item) → item.inlet ≡ i → item.moment ≡ m → key_of item.inlet item.moment ≡ key_of i m
+-- the clock after it
+pub record Ticked (choice : Choice) (before after : Clock) (m : ℕ) : Type 0 where
+  pub base : after.base ≡ Some (unwrap_or before.base m)
+  pub last : after.last ≡ last_after choice (unwrap_or before.base m) before.last m
+
+base_more : (choice : Choice) (before after : Clock) (m : ℕ) (out : List Item) (item : Item) → Ticked choice before after m → item.moment ≡ m
+    → before.base ≡ first_moment out → after.base ≡ first_moment (out ++ item ∷ [])
+base_more choice before after m out item ticked e base =
+    ticked.base ∙ ap (λ (o : Option ℕ). Some (unwrap_or o m)) base ∙ ap (λ n. Some (unwrap_or (first_moment out) n)) (sym e) ∙ sym (first_more out item)
+
+last_more : (choice : Choice) (before after : Clock) (m : ℕ) (out : List Item) (item : Item) → Ticked choice before after m → item.moment ≡ m
+    → before.base ≡ first_moment out → before.last ≡ last_line choice out → after.last ≡ last_line choice (out ++ item ∷ [])
+last_more choice before after m out item ticked e base last =
+    ticked.last ∙ ap (λ (o : Option ℕ). last_after choice (unwrap_or o m) before.last m) base
+    ∙ ap (λ n. last_after choice (unwrap_or (first_moment out) n) before.last n) (sym e)
+    ∙ ap (λ (o : Option ℕ). last_after choice (unwrap_or (first_moment out) item.moment) o item.moment) last ∙ sym (last_line_more choice out item)
+
+pub key_is : (i : Inlet) (m : ℕ) (item : Item) → item.inlet ≡ i → item.moment ≡ m → key_of item.inlet item.moment ≡ key_of i m
 key_is i m item e f = ap (λ (j : Inlet). key_of j item.moment) e ∙ ap (λ n. key_of i n) f
 
-pub goes_a : {R : Type 0} (remaining : R → Option (List ℕ)) (choice : Choice) (sa sb sc : Option (List ℕ)) (a a' b c : Source R) (base : Option ℕ)
-    (held mid now : Option (List ℕ)) (m : ℕ) → Going remaining choice sa sb sc a b c base held mid → IsEarliest A m a.due b.due c.due
-    → ((start : Option (List ℕ)) (gone : List Item) → IsFed remaining A start a gone → Serves remaining A choice (unwrap_or base m) m start gone a a' mid now)
-    → Going remaining choice sa sb sc a' b c (Some (unwrap_or base m)) held now
-goes_a remaining choice sa sb sc a a' b c base held mid now m g early serves =
+-- what is due elsewhere comes behind the item too
+pub behind_a : (m : ℕ) (b c : Option ℕ) (a : Option ℕ) (out : List Item) (item : Item) → IsEarliest A m a b c → AllTo (key_of A m) out
+    → key_of item.inlet item.moment ≡ key_of A m → AllToDue B b (out ++ item ∷ []) × AllToDue C c (out ++ item ∷ [])
+behind_a m b c a out item early to key = (
+  due_more B b (key_of A m) out item to key (λ n e. omega (arith, not_before_is b m n early.1 e)),
+  due_more C c (key_of A m) out item to key (λ n e. omega (arith, not_before_is c m n early.2 e)),
+)
+
+pub behind_b : (m : ℕ) (a c : Option ℕ) (b : Option ℕ) (out : List Item) (item : Item) → IsEarliest B m a b c → AllTo (key_of B m) out
+    → key_of item.inlet item.moment ≡ key_of B m → AllToDue A a (out ++ item ∷ []) × AllToDue C c (out ++ item ∷ [])
+behind_b m a c b out item early to key = (
+  due_more A a (key_of B m) out item to key (λ n e. omega (arith, is_after_is a m n early.1 e)),
+  due_more C c (key_of B m) out item to key (λ n e. omega (arith, not_before_is c m n early.2 e)),
+)
+
+pub behind_c : (m : ℕ) (a b : Option ℕ) (c : Option ℕ) (out : List Item) (item : Item) → IsEarliest C m a b c → AllTo (key_of C m) out
+    → key_of item.inlet item.moment ≡ key_of C m → AllToDue A a (out ++ item ∷ []) × AllToDue B b (out ++ item ∷ [])
+behind_c m a b c out item early to key = (
+  due_more A a (key_of C m) out item to key (λ n e. omega (arith, is_after_is a m n early.1 e)),
+  due_more B b (key_of C m) out item to key (λ n e. omega (arith, is_after_is b m n early.2 e)),
+)
+
+pub goes_a : {R : Type 0} (remaining : R → Option (List ℕ)) (choice : Choice) (sa sb sc : Option (List ℕ)) (a a' b c : Source R) (before after : Clock)
+    (held mid now : Option (List ℕ)) (m : ℕ) → Going remaining choice sa sb sc a b c before held mid → IsEarliest A m a.due b.due c.due → Ticked choice before after m
+    → ((start : Option (List ℕ)) (gone : List Item) → IsFed remaining A start a gone
+    → Serves remaining A choice (unwrap_or before.base m) m before.last start gone a' mid now)
+    → Going remaining choice sa sb sc a' b c after held now
+goes_a remaining choice sa sb sc a a' b c before after held mid now m g early ticked serves =
     let s = serves sa (came_at A g.out) g.fed_a in
     let to : AllTo (key_of A m) g.out = subst (λ (o : Option ℕ). AllToDue A o g.out) early.0 g.to_a in
     let key = key_is A m s.item s.at s.when in
+    let behind = behind_a m b.due c.due a.due g.out s.item early to key in
     record {
       out = g.out ++ s.item ∷ [];
       fed_a = subst (λ (l : List Item). IsFed remaining A sa a' l) (sym (came_here A g.out s.item s.at)) s.fed;
@@ -75,106 +115,57 @@ goes_a remaining choice sa sb sc a a' b c base held mid now m g early serves =
       fed_c = subst (λ (l : List Item). IsFed remaining C sc c l) (sym (came_apart C A g.out s.item s.at refl)) g.fed_c;
       order = order_more g.out s.item g.order (subst (λ n. AllTo n g.out) (sym key) to);
       to_a = due_more A a'.due (key_of A m) g.out s.item to key (λ n e. omega (arith, not_before_is a'.due m n s.later e));
-      to_b = due_more B b.due (key_of A m) g.out s.item to key (λ n e. omega (arith, not_before_is b.due m n early.1 e));
-      to_c = due_more C c.due (key_of A m) g.out s.item to key (λ n e. omega (arith, not_before_is c.due m n early.2 e));
-      text = g.text ++ s.text;
-      lines = moved_lines choice base m g.out s.item g.text s.text s.when g.lines s.piece;
-      wrote = Appends-trans held mid now g.text s.text g.wrote s.wrote;
+      to_b = behind.0;
+      to_c = behind.1;
+      base = base_more choice before after m g.out s.item ticked s.when g.base;
+      last = last_more choice before after m g.out s.item ticked s.when g.base g.last;
+      wrote = more_lines choice before m g.out s.item held mid now s.when g.base g.last g.wrote s.wrote;
     }
 
-pub goes_b : {R : Type 0} (remaining : R → Option (List ℕ)) (choice : Choice) (sa sb sc : Option (List ℕ)) (a b b' c : Source R) (base : Option ℕ)
-    (held mid now : Option (List ℕ)) (m : ℕ) → Going remaining choice sa sb sc a b c base held mid → IsEarliest B m a.due b.due c.due
-    → ((start : Option (List ℕ)) (gone : List Item) → IsFed remaining B start b gone → Serves remaining B choice (unwrap_or base m) m start gone b b' mid now)
-    → Going remaining choice sa sb sc a b' c (Some (unwrap_or base m)) held now
-goes_b remaining choice sa sb sc a b b' c base held mid now m g early serves =
+pub goes_b : {R : Type 0} (remaining : R → Option (List ℕ)) (choice : Choice) (sa sb sc : Option (List ℕ)) (a b b' c : Source R) (before after : Clock)
+    (held mid now : Option (List ℕ)) (m : ℕ) → Going remaining choice sa sb sc a b c before held mid → IsEarliest B m a.due b.due c.due → Ticked choice before after m
+    → ((start : Option (List ℕ)) (gone : List Item) → IsFed remaining B start b gone
+    → Serves remaining B choice (unwrap_or before.base m) m before.last start gone b' mid now)
+    → Going remaining choice sa sb sc a b' c after held now
+goes_b remaining choice sa sb sc a b b' c before after held mid now m g early ticked serves =
     let s = serves sb (came_at B g.out) g.fed_b in
     let to : AllTo (key_of B m) g.out = subst (λ (o : Option ℕ). AllToDue B o g.out) early.0 g.to_b in
     let key = key_is B m s.item s.at s.when in
+    let behind = behind_b m a.due c.due b.due g.out s.item early to key in
     record {
       out = g.out ++ s.item ∷ [];
-      fed_a = subst (λ (l : List Item). IsFed remaining A sa a l) (sym (came_apart A B g.out s.item s.at refl)) g.fed_a;
       fed_b = subst (λ (l : List Item). IsFed remaining B sb b' l) (sym (came_here B g.out s.item s.at)) s.fed;
+      fed_a = subst (λ (l : List Item). IsFed remaining A sa a l) (sym (came_apart A B g.out s.item s.at refl)) g.fed_a;
       fed_c = subst (λ (l : List Item). IsFed remaining C sc c l) (sym (came_apart C B g.out s.item s.at refl)) g.fed_c;
       order = order_more g.out s.item g.order (subst (λ n. AllTo n g.out) (sym key) to);
-      to_a = due_more A a.due (key_of B m) g.out s.item to key (λ n e. omega (arith, is_after_is a.due m n early.1 e));
       to_b = due_more B b'.due (key_of B m) g.out s.item to key (λ n e. omega (arith, not_before_is b'.due m n s.later e));
-      to_c = due_more C c.due (key_of B m) g.out s.item to key (λ n e. omega (arith, not_before_is c.due m n early.2 e));
-      text = g.text ++ s.text;
-      lines = moved_lines choice base m g.out s.item g.text s.text s.when g.lines s.piece;
-      wrote = Appends-trans held mid now g.text s.text g.wrote s.wrote;
+      to_a = behind.0;
+      to_c = behind.1;
+      base = base_more choice before after m g.out s.item ticked s.when g.base;
+      last = last_more choice before after m g.out s.item ticked s.when g.base g.last;
+      wrote = more_lines choice before m g.out s.item held mid now s.when g.base g.last g.wrote s.wrote;
     }
 
-pub goes_c : {R : Type 0} (remaining : R → Option (List ℕ)) (choice : Choice) (sa sb sc : Option (List ℕ)) (a b c c' : Source R) (base : Option ℕ)
-    (held mid now : Option (List ℕ)) (m : ℕ) → Going remaining choice sa sb sc a b c base held mid → IsEarliest C m a.due b.due c.due
-    → ((start : Option (List ℕ)) (gone : List Item) → IsFed remaining C start c gone → Serves remaining C choice (unwrap_or base m) m start gone c c' mid now)
-    → Going remaining choice sa sb sc a b c' (Some (unwrap_or base m)) held now
-goes_c remaining choice sa sb sc a b c c' base held mid now m g early serves =
+pub goes_c : {R : Type 0} (remaining : R → Option (List ℕ)) (choice : Choice) (sa sb sc : Option (List ℕ)) (a b c c' : Source R) (before after : Clock)
+    (held mid now : Option (List ℕ)) (m : ℕ) → Going remaining choice sa sb sc a b c before held mid → IsEarliest C m a.due b.due c.due → Ticked choice before after m
+    → ((start : Option (List ℕ)) (gone : List Item) → IsFed remaining C start c gone
+    → Serves remaining C choice (unwrap_or before.base m) m before.last start gone c' mid now)
+    → Going remaining choice sa sb sc a b c' after held now
+goes_c remaining choice sa sb sc a b c c' before after held mid now m g early ticked serves =
     let s = serves sc (came_at C g.out) g.fed_c in
     let to : AllTo (key_of C m) g.out = subst (λ (o : Option ℕ). AllToDue C o g.out) early.0 g.to_c in
     let key = key_is C m s.item s.at s.when in
+    let behind = behind_c m a.due b.due c.due g.out s.item early to key in
     record {
       out = g.out ++ s.item ∷ [];
+      fed_c = subst (λ (l : List Item). IsFed remaining C sc c' l) (sym (came_here C g.out s.item s.at)) s.fed;
       fed_a = subst (λ (l : List Item). IsFed remaining A sa a l) (sym (came_apart A C g.out s.item s.at refl)) g.fed_a;
       fed_b = subst (λ (l : List Item). IsFed remaining B sb b l) (sym (came_apart B C g.out s.item s.at refl)) g.fed_b;
-      fed_c = subst (λ (l : List Item). IsFed remaining C sc c' l) (sym (came_here C g.out s.item s.at)) s.fed;
       order = order_more g.out s.item g.order (subst (λ n. AllTo n g.out) (sym key) to);
-      to_a = due_more A a.due (key_of C m) g.out s.item to key (λ n e. omega (arith, is_after_is a.due m n early.1 e));
-      to_b = due_more B b.due (key_of C m) g.out s.item to key (λ n e. omega (arith, is_after_is b.due m n early.2 e));
       to_c = due_more C c'.due (key_of C m) g.out s.item to key (λ n e. omega (arith, not_before_is c'.due m n s.later e));
-      text = g.text ++ s.text;
-      lines = moved_lines choice base m g.out s.item g.text s.text s.when g.lines s.piece;
-      wrote = Appends-trans held mid now g.text s.text g.wrote s.wrote;
+      to_a = behind.0;
+      to_b = behind.1;
+      base = base_more choice before after m g.out s.item ticked s.when g.base;
+      last = last_more choice before after m g.out s.item ticked s.when g.base g.last;
+      wrote = more_lines choice before m g.out s.item held mid now s.when g.base g.last g.wrote s.wrote;
     }
-
-has_records : (start now : Option (List ℕ)) (form : Form) (octets : List ℕ) (packets : List Captured) → Loses octets start now → LeavesNone start now
-    → AreRecords form octets packets → HasRecords form start packets
-has_records None now form octets packets lost none records = tt
-has_records (Some xs) None form octets packets lost none records = absurd lost
-has_records (Some xs) (Some ys) form octets packets lost none records =
-    subst (λ (l : List ℕ). AreRecords form l packets) (sym (lost ∙ ap (λ (l : List ℕ). octets ++ l) none ∙ append-nil octets)) records
-
--- a file at its end has given all
-record Whole (inlet : Inlet) (form : Form) (delay : ℕ) (start : Option (List ℕ)) (gone : List Item) : Type 0 where
-  packets : List Captured
-  has : HasRecords form start packets
-  items : gone ≡ items_of inlet delay packets
-
-whole : (inlet : Inlet) (start now : Option (List ℕ)) (form : Form) (delay : ℕ) (p : Progress) (gone : List Item)
-    → p.due ≡ None → Feeds inlet form delay start now p gone → Whole inlet form delay start gone
-whole inlet start now form delay p gone none fed =
-    let due : IsDue inlet p None (items_of inlet delay fed.packets) gone start now =
-    subst (λ (o : Option ℕ). IsDue inlet p o (items_of inlet delay fed.packets) gone start now) none fed.due in
-    record { packets = fed.packets; has = has_records start now form fed.octets fed.packets fed.lost due.1 fed.records; items = sym due.0 }
-
-pub gone_all : {R : Type 0} (remaining : R → Option (List ℕ)) (choice : Choice) (sa sb sc : Option (List ℕ)) (a b c : Source R) (base : Option ℕ)
-    (held now : Option (List ℕ)) → Going remaining choice sa sb sc a b c base held now → NoneDue a.due b.due c.due
-    → Scripts choice a.form b.form c.form a.delay b.delay c.delay sa sb sc held now
-gone_all remaining choice sa sb sc a b c base held now g none =
-    let wa = whole A sa _ a.form a.delay _ (came_at A g.out) none.0 g.fed_a in
-    let wb = whole B sb _ b.form b.delay _ (came_at B g.out) none.1 g.fed_b in
-    let wc = whole C sc _ c.form c.delay _ (came_at C g.out) none.2 g.fed_c in
-    record {
-      packets_a = wa.packets;
-      packets_b = wb.packets;
-      packets_c = wc.packets;
-      has_a = wa.has;
-      has_b = wb.has;
-      has_c = wc.has;
-      merged = g.out;
-      is_merge = record { at_a = wa.items; at_b = wb.items; at_c = wc.items; order = g.order };
-      base = base;
-      text = g.text;
-      lines = g.lines;
-      wrote = g.wrote;
-    }
-
--- the same with other names for forms and delays
-pub scripts_as : (choice : Choice) (fa fb fc ga gb gc : Form) (da db dc ea eb ec : ℕ) (sa sb sc held now : Option (List ℕ)) → fa ≡ ga → fb ≡ gb → fc ≡ gc
-    → da ≡ ea → db ≡ eb → dc ≡ ec → Scripts choice fa fb fc da db dc sa sb sc held now → Scripts choice ga gb gc ea eb ec sa sb sc held now
-scripts_as choice fa fb fc ga gb gc da db dc ea eb ec sa sb sc held now ha hb hc ia ib ic s =
-    let s1 = subst (λ (f : Form). Scripts choice f fb fc da db dc sa sb sc held now) ha s in
-    let s2 = subst (λ (f : Form). Scripts choice ga f fc da db dc sa sb sc held now) hb s1 in
-    let s3 = subst (λ (f : Form). Scripts choice ga gb f da db dc sa sb sc held now) hc s2 in
-    let s4 = subst (λ (n : ℕ). Scripts choice ga gb gc n db dc sa sb sc held now) ia s3 in
-    let s5 = subst (λ (n : ℕ). Scripts choice ga gb gc ea n dc sa sb sc held now) ib s4 in
-    subst (λ (n : ℕ). Scripts choice ga gb gc ea eb n sa sb sc held now) ic s5

@@ -1,11 +1,11 @@
 -- Items in order, one by one.
-use Rattle.std.proofs.Common.{◌≡◌, ℕ, ◌+◌, ◌*◌, ◌≤◌, List, [], ◌∷◌, ◌++◌, Option, Some, None, Bool, true, false, sym, ap, subst, refl, ◌∙◌, arith}
-use Rattle.std.specs.Prelude.{filter, cond}
+use Rattle.std.proofs.Common.{◌≡◌, ℕ, ◌≤◌, List, [], ◌∷◌, ◌++◌, Option, Some, None, Bool, true, false, ap, refl, ◌∙◌, arith}
+use Rattle.std.specs.Prelude.{cond}
 use Rattle.std.proofs.lemmas.List.{append-nil}
 use Rattle.std.proofs.lemmas.List.Elements.{filter-append}
 use Rattle.sr_capture_script.specs.declared.choice.Inlet.{Inlet}
 use Rattle.sr_capture_script.specs.declared.choice.Inlet.TheVariants.{A, B, C}
-use Rattle.sr_capture_script.specs.Items.{Item, key_of, rank, is_same, came_at, AllFrom, IsInOrder, AllTo, AllToDue}
+use Rattle.sr_capture_script.specs.Items.{Item, key_of, is_same, came_at, AllFrom, IsInOrder, AllTo, AllToDue}
 
 all_to_more : (j k : ℕ) (xs : List Item) (x : Item) → AllTo j xs → j ≤ k → key_of x.inlet x.moment ≤ k → AllTo k (xs ++ x ∷ [])
 all_to_more j k [] x h le at = (at, tt)

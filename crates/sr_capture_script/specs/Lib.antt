@@ -1,5 +1,7 @@
+pub mod Shifts
 pub mod Picking
 pub mod Items
+pub mod Flaws
 pub mod Texts
 pub mod Sources
 pub mod SourceViews

@@ -1,14 +1,15 @@
 -- What is printed for packets.
-use Rattle.std.specs.Prelude.{◌≡◌, ℕ, ◌+◌, ◌-◌, ◌/◌, ◌≤◌, min, List, [], ◌∷◌, ◌++◌, length, codes, Option, Some, None, nat_lt, ◌==◌, ◌||◌, if◌then◌else◌, ◌^◌}
-use Rattle.std.specs.List.{join_with_byte, flat_map}
+use Rattle.std.specs.Prelude.{ℕ, ◌+◌, ◌-◌, ◌*◌, ◌/◌, min, map, List, [], ◌∷◌, ◌++◌, length, codes, Option, Some, None, unwrap_or, Bool, not, nat_lt, ◌||◌, if◌then◌else◌, ◌^◌}
+use Rattle.std.specs.List.{join_with_byte, flat_map, range_with_len}
 use Rattle.std.specs.Fmt.{decimal}
 use Rattle.hex.specs.Hex.{encode_lower}
-use Rattle.sr_capture.specs.declared.packet.Extent.{Extent}
-use Rattle.sr_capture.specs.declared.packet.Extent.TheVariants.{Whole, Cut}
 use Rattle.sr_capture.specs.Records.{Captured}
 use Rattle.sr_capture_script.specs.declared.choice.Inlet.{Inlet}
 use Rattle.sr_capture_script.specs.declared.choice.Inlet.TheVariants.{A, B, C}
 use Rattle.sr_capture_script.specs.declared.choice.Choice.{Choice}
+use Rattle.sr_capture_script.specs.declared.flaws.Flaw.{Flaw}
+use Rattle.sr_capture_script.specs.declared.flaws.FlawCounts.{FlawCounts}
+use Rattle.sr_capture_script.specs.Flaws.{flaw_of, name_of, tallied}
 use Rattle.sr_capture_script.specs.Items.{Item}
 
 -- words with single spaces between them, as a line
@@ -25,48 +26,89 @@ abbrev pub arrival_line : Inlet → ℕ → List ℕ → List ℕ
 arrival_line inlet time octets = printed (codes "in" ∷ letter_of inlet ∷ decimal time ∷ encode_lower octets ∷ [])
 
 -- a packet that is not used, by its number, and why
-abbrev pub comment_line : Inlet → ℕ → List ℕ → List ℕ
-comment_line inlet number reason = printed (codes "#" ∷ letter_of inlet ∷ decimal number ∷ reason ∷ [])
+abbrev pub comment_line : Inlet → ℕ → Flaw → List ℕ
+comment_line inlet number flaw = printed (codes "#" ∷ letter_of inlet ∷ decimal number ∷ name_of flaw ∷ [])
 
 -- time passes
 abbrev pub tick_line : ℕ → List ℕ
 tick_line time = printed (codes "tick" ∷ decimal time ∷ [])
 
--- why a packet of this extent and length is not used
-abbrev pub reason_by : Extent → ℕ → Option (List ℕ)
-reason_by Cut len = Some (codes "cut")
-reason_by Whole len = if nat_lt 1524 len then Some (codes "long") else if len == 0 then Some (codes "empty") else None
+-- how many packets a file had, and how many of them are not used for each reason
+abbrev pub numbers_line : Inlet → ℕ → FlawCounts → List ℕ
+numbers_line inlet number counts = printed (codes "#" ∷ letter_of inlet ∷ decimal number ∷ codes "packets," ∷ decimal counts.cut ∷ codes "cut,"
+    ∷ decimal counts.long ∷ codes "long," ∷ decimal counts.empty ∷ codes "empty" ∷ [])
 
-abbrev pub line_by : Option (List ℕ) → Inlet → ℕ → ℕ → List ℕ → List ℕ
+-- the line of the counts of a file's packets; numbers are printed up to 18446744073709551615
+abbrev pub counts_line : Inlet → List Captured → List ℕ
+counts_line inlet packets = numbers_line inlet (min (length packets) (2 ^ 64 - 1)) (tallied packets)
+
+abbrev pub line_by : Option Flaw → Inlet → ℕ → ℕ → List ℕ → List ℕ
 line_by None inlet number time octets = arrival_line inlet time octets
-line_by (Some reason) inlet number time octets = comment_line inlet number reason
+line_by (Some flaw) inlet number time octets = comment_line inlet number flaw
 
 -- the line of a packet; its number is printed up to 18446744073709551615
 abbrev pub line_of : Inlet → ℕ → ℕ → Captured → List ℕ
-line_of inlet number time packet = line_by (reason_by packet.extent (length packet.octets)) inlet (min number (2 ^ 64 - 1)) time packet.octets
+line_of inlet number time packet = line_by (flaw_of packet) inlet (min number (2 ^ 64 - 1)) time packet.octets
 
 -- milliseconds since a moment
-abbrev pub time_since : ℕ → Item → ℕ
-time_since base item = (item.moment - base) / 1000000
+abbrev pub time_since : ℕ → ℕ → ℕ
+time_since base moment = (moment - base) / 1000000
 
--- what is printed for an item, ticks apart: nothing outside of the times that are wanted
-abbrev pub text_of : Choice → ℕ → Item → List ℕ
-text_of choice base item =
-    if nat_lt (time_since base item) choice.from || nat_lt choice.to (time_since base item) then []
-    else line_of item.inlet item.number (time_since base item) item.packet
+-- whether lines of this time are wanted
+abbrev pub is_wanted : Choice → ℕ → Bool
+is_wanted choice time = not (nat_lt time choice.from || nat_lt choice.to time)
 
--- the lines of the items, in order, with tick lines between them
-abbrev pub AreLines : Choice → ℕ → List Item → List ℕ → Type 0
-AreLines choice base [] text = text ≡ []
-AreLines choice base (item ∷ items) text = (ticks : List ℕ) × (rest : List ℕ)
-    × (text ≡ flat_map tick_line ticks ++ text_of choice base item ++ rest) × AreLines choice base items rest
+-- how many steps there are from a line's time on that end neither after `most` nor more than a minute behind the line
+abbrev pub tick_count : ℕ → ℕ → ℕ → ℕ
+tick_count last step most = (min most (last + 60000) - last) / step
 
--- a packet's piece of the text
-abbrev pub IsPiece : Choice → ℕ → Item → List ℕ → Type 0
-IsPiece choice base item text = (ticks : List ℕ) × (text ≡ flat_map tick_line ticks ++ text_of choice base item)
+-- the times at the ends of these steps
+abbrev pub tick_times : ℕ → ℕ → ℕ → List ℕ
+tick_times last step most = map (λ k. last + k * step) (range_with_len 1 (tick_count last step most))
 
--- the lines of the items, whose times are counted from the first of them
-abbrev pub AreLinesFrom : Choice → Option ℕ → List Item → List ℕ → Type 0
-AreLinesFrom choice None items text = (items ≡ []) × (text ≡ [])
-AreLinesFrom choice (Some base) items text = AreLines choice base items text
-    × ((first : Item) × (rest : List Item) × (items ≡ first ∷ rest) × (base ≡ first.moment))
+-- the ticks behind a line of this time, if there is one and ticks are wanted
+abbrev pub ticks_behind : Option ℕ → Option ℕ → ℕ → List ℕ
+ticks_behind None step most = []
+ticks_behind (Some last) None most = []
+ticks_behind (Some last) (Some step) most = flat_map tick_line (tick_times last step most)
+
+-- what is printed for an item, where a line of the time `last` stands before: ticks and its line, or nothing if its time is not wanted
+abbrev pub piece_of : Choice → ℕ → Option ℕ → Item → List ℕ
+piece_of choice base last item =
+    if is_wanted choice (time_since base item.moment)
+    then ticks_behind last choice.tick (time_since base item.moment - 1) ++ line_of item.inlet item.number (time_since base item.moment) item.packet
+    else []
+
+-- the time of the last line behind an item
+abbrev pub last_after : Choice → ℕ → Option ℕ → ℕ → Option ℕ
+last_after choice base last moment = if is_wanted choice (time_since base moment) then Some (time_since base moment) else last
+
+-- what is printed for items in order
+abbrev pub pieces_of : Choice → ℕ → Option ℕ → List Item → List ℕ
+pieces_of choice base last [] = []
+pieces_of choice base last (item ∷ items) = piece_of choice base last item ++ pieces_of choice base (last_after choice base last item.moment) items
+
+abbrev pub last_of : Choice → ℕ → Option ℕ → List Item → Option ℕ
+last_of choice base last [] = last
+last_of choice base last (item ∷ items) = last_of choice base (last_after choice base last item.moment) items
+
+-- the moment of the first item
+abbrev pub first_moment : List Item → Option ℕ
+first_moment [] = None
+first_moment (item ∷ items) = Some item.moment
+
+-- times are counted from the first item on
+abbrev pub base_of : List Item → ℕ
+base_of items = unwrap_or (first_moment items) 0
+
+-- the lines of the items
+abbrev pub lines_of : Choice → List Item → List ℕ
+lines_of choice items = pieces_of choice (base_of items) None items
+
+-- the time of the last line of an item
+abbrev pub last_line : Choice → List Item → Option ℕ
+last_line choice items = last_of choice (base_of items) None items
+
+-- the ticks behind the last line
+abbrev pub last_ticks : Choice → Option ℕ → List ℕ
+last_ticks choice last = ticks_behind last choice.tick choice.to

@@ -1,9 +1,10 @@
 //! Taking the next packet of a file.
 
-ghost use Rattle.std.specs.Prelude.{◌≡◌, OnOk};
-ghost use Rattle.sr_capture_script.specs.Sources.{left_of, GoesOn};
-ghost use Rattle.sr_capture_script.specs.SourceViews.{progress_of};
+ghost use Rattle.std.specs.Prelude.{◌≡◌, OnOk, IfErr};
+ghost use Rattle.sr_capture_script.specs.Sources.{left_of, GoesOn, IsStuck};
+ghost use Rattle.sr_capture_script.specs.SourceViews.{progress_of, IsSame};
 
+use crate::flaws::{counted, flaw_of};
 use crate::source::Source;
 use sr_capture::{CaptureFault, next_packet};
 use std::io::BufRead;
@@ -15,7 +16,9 @@ use std::io::BufRead;
 pub(crate) fn advance<R: BufRead>(source: &mut Source<R>) -> Result<(), CaptureFault>
     ensures goes { OnOk result (GoesOn source.old.form source.old.delay source.new.due (left_of R.remaining source.old.reader)
         (left_of R.remaining source.new.reader) (progress_of source.old) (progress_of source.new)) }
-    ensures same { OnOk result ((source.new.form ≡ source.old.form) × (source.new.delay ≡ source.old.delay)) }
+    ensures same { IsSame source.old source.new }
+    ensures fault { IfErr result (λ fault. IsStuck source.old.form source.old.place fault
+        (left_of R.remaining source.old.reader) (left_of R.remaining source.new.reader)) }
 {
     let Some(reader) = source.reader.as_mut() else {
         source.due = None;
@@ -25,6 +28,7 @@ pub(crate) fn advance<R: BufRead>(source: &mut Source<R>) -> Result<(), CaptureF
         Ok(true) => {
             source.place = source.place.saturating_add(source.packet.size);
             source.number = source.number.saturating_add(1);
+            source.flaws = counted(source.flaws, flaw_of(&source.packet));
             source.moment = source.moment.max(source.packet.time + source.delay);
             source.due = Some(source.moment);
             Ok(())

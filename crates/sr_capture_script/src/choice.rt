@@ -1,6 +1,6 @@
 //! What of the captures is wanted, and where it came in.
 
-ghost use Rattle.std.specs.Prelude.{◌≤◌, ◌^◌, IfSome};
+ghost use Rattle.std.specs.Prelude.{◌≤◌, ◌^◌};
 
 /// A port where the packets of a file came in.
 #[derive(Clone, Copy, Debug, PartialEq, Eq)]
@@ -50,28 +50,4 @@ pub struct Options {
     pub check_len: u8,
     /// How far the times of each file are put off.
     pub delays: Delays,
-}
-
-/// How far a time is put off that is shifted so many milliseconds, where the least shift is that. None: too far.
-fn delay_of(shift: i64, least: i64) -> Option<u64>
-    ensures { IfSome result (λ delay. delay ≤ 2 ^ 62) }
-{
-    let apart = u64::try_from(shift.checked_sub(least)?).ok()?;
-    let delay = apart.checked_mul(1_000_000)?;
-    if delay <= MAX_DELAY {
-        Some(delay)
-    } else {
-        None
-    }
-}
-
-/// The delays that stand for shifts in milliseconds: as much apart from one another. None where these are more than 146
-/// years apart.
-pub fn delays_of(shift_a: i64, shift_b: i64, shift_c: i64) -> Option<Delays> {
-    let least = shift_a.min(shift_b).min(shift_c);
-    Some(Delays {
-        a: delay_of(shift_a, least)?,
-        b: delay_of(shift_b, least)?,
-        c: delay_of(shift_c, least)?,
-    })
 }

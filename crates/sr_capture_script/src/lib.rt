@@ -4,6 +4,7 @@
 mod advancing;
 mod choice;
 mod fault;
+mod flaws;
 mod lines;
 mod merging;
 mod opening;
@@ -11,11 +12,13 @@ mod picking;
 mod pieces;
 mod scripting;
 mod serving;
+mod shifts;
 mod source;
 
-pub use choice::{Choice, Delays, Inlet, MAX_DELAY, Options, delays_of};
+pub use choice::{Choice, Delays, Inlet, MAX_DELAY, Options};
 pub use fault::ScriptFault;
 pub use scripting::script;
+pub use shifts::delays_of;
 
 #[cfg(test)]
 mod tests;

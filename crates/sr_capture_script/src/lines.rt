@@ -1,21 +1,20 @@
 //! The lines of a script.
 
-ghost use Rattle.std.specs.Prelude.{◌≡◌, ◌≤◌, ◌<◌, ◌^◌, ◌++◌, ◌∷◌, [], List, ℕ, ◌-◌, min, length, OnOk};
-ghost use Rattle.std.specs.Option.{option_copied};
+ghost use Rattle.std.specs.Prelude.{◌≡◌, ◌≤◌, ◌<◌, ◌^◌, ◌++◌, ◌∷◌, [], List, ℕ, ◌-◌, min, length, OnOk, IfErr};
 ghost use Rattle.hex.specs.Hex.{encode_lower};
 ghost use Rattle.sr_capture.specs.Records.{Captured, Shows};
-ghost use Rattle.sr_capture_script.specs.Texts.{letter_of, arrival_line, comment_line, tick_line, reason_by, line_of};
+ghost use Rattle.sr_capture_script.specs.Texts.{letter_of, arrival_line, comment_line, tick_line, numbers_line, line_of};
 
 use crate::choice::Inlet;
 use crate::fault::ScriptFault;
-use crate::source::Source;
-use sr_capture::{Extent, MAX_KEPT, Packet};
+use crate::flaws::{Flaw, FlawCounts, flaw_of, name_of};
+use sr_capture::{MAX_KEPT, Packet};
 use sr_hex::append_hex;
 use std::alloc::AllocError;
 use std::io::Write;
 
-/// The name of an inlet.
-fn name_of(inlet: Inlet) -> &'static str
+/// The letter of an inlet.
+fn letter_of(inlet: Inlet) -> &'static str
     ensures { result.now ≡ letter_of inlet }
 {
     match inlet {
@@ -25,35 +24,19 @@ fn name_of(inlet: Inlet) -> &'static str
     }
 }
 
-/// Why a packet is not used. None where it is.
-pub(crate) fn reason_of(packet: &Packet) -> Option<&'static str>
-    ensures { option_copied result ≡ reason_by packet.now.extent packet.now.len }
-{
-    match packet.extent {
-        Extent::Cut => Some("cut"),
-        Extent::Whole => {
-            if packet.len > MAX_KEPT as u64 {
-                Some("long")
-            } else if packet.len == 0 {
-                Some("empty")
-            } else {
-                None
-            }
-        }
-    }
-}
-
 /// Appends the line of a packet that is not used.
 fn append_comment(
     text: &mut Vec<u8>,
     inlet: Inlet,
     number: u64,
-    reason: &str,
+    flaw: Flaw,
 ) -> Result<(), ScriptFault>
-    ensures { OnOk result (text.new.items ≡ text.old.items ++ comment_line inlet number reason.now) }
+    ensures ok { OnOk result (text.new.items ≡ text.old.items ++ comment_line inlet number flaw) }
+    ensures err { IfErr result (λ fault. fault ≡ ScriptFault.NoMemory) }
 {
-    let name = name_of(inlet);
-    match writeln!(text, "# {name} {number} {reason}") {
+    let letter = letter_of(inlet);
+    let reason = name_of(flaw);
+    match writeln!(text, "# {letter} {number} {reason}") {
         Ok(()) => Ok(()),
         Err(_) => Err(ScriptFault::NoMemory),
     }
@@ -61,7 +44,8 @@ fn append_comment(
 
 /// Appends a tick line.
 pub(crate) fn append_tick(text: &mut Vec<u8>, time: u64) -> Result<(), ScriptFault>
-    ensures { OnOk result (text.new.items ≡ text.old.items ++ tick_line time) }
+    ensures ok { OnOk result (text.new.items ≡ text.old.items ++ tick_line time) }
+    ensures err { IfErr result (λ fault. fault ≡ ScriptFault.NoMemory) }
 {
     match writeln!(text, "tick {time}") {
         Ok(()) => Ok(()),
@@ -77,10 +61,11 @@ fn append_arrival(
     octets: &[u8],
 ) -> Result<(), ScriptFault>
     requires { length octets.now < 2 ^ 32 }
-    ensures { OnOk result (text.new.items ≡ text.old.items ++ arrival_line inlet time octets.now) }
+    ensures ok { OnOk result (text.new.items ≡ text.old.items ++ arrival_line inlet time octets.now) }
+    ensures err { IfErr result (λ fault. fault ≡ ScriptFault.NoMemory) }
 {
-    let name = name_of(inlet);
-    match write!(text, "in {name} {time} ") {
+    let letter = letter_of(inlet);
+    match write!(text, "in {letter} {time} ") {
         Ok(()) => {}
         Err(_) => return Err(ScriptFault::NoMemory),
     }
@@ -97,11 +82,12 @@ pub(crate) fn append_line(
     time: u64,
     packet: &Packet,
 ) -> Result<(), ScriptFault>
-    ensures { OnOk result ((captured : Captured) (n : ℕ) → Shows packet.now captured → number ≡ min n (2 ^ 64 - 1)
+    ensures ok { OnOk result ((captured : Captured) (n : ℕ) → Shows packet.now captured → number ≡ min n (2 ^ 64 - 1)
         → text.new.items ≡ text.old.items ++ line_of inlet n time captured) }
+    ensures err { IfErr result (λ fault. fault ≡ ScriptFault.NoMemory) }
 {
-    match reason_of(packet) {
-        Some(reason) => append_comment(text, inlet, number, reason),
+    match flaw_of(packet) {
+        Some(flaw) => append_comment(text, inlet, number, flaw),
         None => {
             let octets = packet.octets.as_slice();
             append_arrival(text, inlet, time, &octets[..octets.len().min(MAX_KEPT)])
@@ -109,19 +95,22 @@ pub(crate) fn append_line(
     }
 }
 
-/// Appends how many packets a file had, where there is a file.
-pub(crate) fn append_counts<R>(
+/// Appends how many packets a file had.
+pub(crate) fn append_numbers(
     text: &mut Vec<u8>,
     inlet: Inlet,
-    source: &Source<R>,
-) -> Result<(), ScriptFault> {
-    if source.reader.is_none() {
-        return Ok(());
-    }
-    let name = name_of(inlet);
-    let number = source.number;
-    let unused = source.unused;
-    match writeln!(text, "# {name} {number} packets, {unused} not used") {
+    number: u64,
+    counts: FlawCounts,
+) -> Result<(), ScriptFault>
+    ensures ok { OnOk result (text.new.items ≡ text.old.items ++ numbers_line inlet number counts) }
+    ensures err { IfErr result (λ fault. fault ≡ ScriptFault.NoMemory) }
+{
+    let letter = letter_of(inlet);
+    let FlawCounts { cut, long, empty } = counts;
+    match writeln!(
+        text,
+        "# {letter} {number} packets, {cut} cut, {long} long, {empty} empty"
+    ) {
         Ok(()) => Ok(()),
         Err(_) => Err(ScriptFault::NoMemory),
     }

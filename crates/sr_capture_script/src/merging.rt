@@ -1,11 +1,11 @@
 //! The packets of three files, merged by time.
 
-ghost use Rattle.std.specs.Prelude.{◌≡◌, [], List, ℕ, Option, OnOk};
+ghost use Rattle.std.specs.Prelude.{◌≡◌, ◌≢◌, [], List, ℕ, Option, OnOk, IfOk, IfErr};
 ghost use Rattle.sr_capture_script.specs.declared.choice.Inlet.TheVariants.{A as AtA, B as AtB, C as AtC};
 ghost use Rattle.sr_capture_script.specs.Picking.{IsEarliest};
 ghost use Rattle.sr_capture_script.specs.Going.{Going};
-ghost use Rattle.sr_capture_script.specs.SourceViews.{IsFed};
-ghost use Rattle.sr_capture_script.specs.Merging.{Scripts};
+ghost use Rattle.sr_capture_script.specs.SourceViews.{IsFed, IsSame};
+ghost use Rattle.sr_capture_script.specs.Merging.{feed_of, Merges, Halts};
 
 use crate::choice::{Choice, Inlet};
 use crate::fault::ScriptFault;
@@ -28,11 +28,14 @@ fn serve_at<R: BufRead, W: Write>(
 ) -> Result<(), ScriptFault>
     requires { IsEarliest inlet moment a.old.due b.old.due c.old.due }
     ensures goes { OnOk result ((start_a start_b start_c held : Option (List ℕ))
-        → Going R.remaining choice.now start_a start_b start_c a.old b.old c.old clock.old.base held (W.contents writer.old)
-        → Going R.remaining choice.now start_a start_b start_c a.new b.new c.new clock.new.base held (W.contents writer.new)) }
-    ensures same_a { OnOk result ((a.new.form ≡ a.old.form) × (a.new.delay ≡ a.old.delay)) }
-    ensures same_b { OnOk result ((b.new.form ≡ b.old.form) × (b.new.delay ≡ b.old.delay)) }
-    ensures same_c { OnOk result ((c.new.form ≡ c.old.form) × (c.new.delay ≡ c.old.delay)) }
+        → Going R.remaining choice.now start_a start_b start_c a.old b.old c.old clock.old held (W.contents writer.old)
+        → Going R.remaining choice.now start_a start_b start_c a.new b.new c.new clock.new held (W.contents writer.new)) }
+    ensures halts { IfErr result (λ fault. fault ≢ ScriptFault.Write → (start_a start_b start_c held : Option (List ℕ))
+        → Going R.remaining choice.now start_a start_b start_c a.old b.old c.old clock.old held (W.contents writer.old)
+        → Halts choice.now (feed_of a.old start_a) (feed_of b.old start_b) (feed_of c.old start_c) fault held (W.contents writer.new)) }
+    ensures same_a { IsSame a.old a.new }
+    ensures same_b { IsSame b.old b.new }
+    ensures same_c { IsSame c.old c.new }
 {
     match inlet {
         Inlet::A => serve(a, Inlet::A, moment, clock, choice, text, writer),
@@ -50,10 +53,17 @@ pub(crate) fn merge<R: BufRead, W: Write>(
     text: &mut Vec<u8>,
     writer: &mut W,
 ) -> Result<Option<u64>, ScriptFault>
-    ensures { OnOk result ((starts_a starts_b starts_c : Option (List ℕ)) → IsFed R.remaining AtA starts_a a.old []
-        → IsFed R.remaining AtB starts_b b.old [] → IsFed R.remaining AtC starts_c c.old []
-        → Scripts choice.now a.old.form b.old.form c.old.form a.old.delay b.old.delay c.old.delay starts_a starts_b starts_c
+    ensures merged { IfOk result (λ last. (start_a start_b start_c : Option (List ℕ)) → IsFed R.remaining AtA start_a a.old []
+        → IsFed R.remaining AtB start_b b.old [] → IsFed R.remaining AtC start_c c.old []
+        → Merges choice.now (feed_of a.old start_a) (feed_of b.old start_b) (feed_of c.old start_c) a.new b.new c.new last
         (W.contents writer.old) (W.contents writer.new)) }
+    ensures halts { IfErr result (λ fault. fault ≢ ScriptFault.Write → (start_a start_b start_c : Option (List ℕ))
+        → IsFed R.remaining AtA start_a a.old [] → IsFed R.remaining AtB start_b b.old [] → IsFed R.remaining AtC start_c c.old []
+        → Halts choice.now (feed_of a.old start_a) (feed_of b.old start_b) (feed_of c.old start_c) fault
+        (W.contents writer.old) (W.contents writer.new)) }
+    ensures same_a { IsSame a.old a.new }
+    ensures same_b { IsSame b.old b.new }
+    ensures same_c { IsSame c.old c.new }
 {
     let mut clock = Clock {
         base: None,

@@ -1,11 +1,14 @@
 //! A file up to its first packet.
 
-ghost use Rattle.std.specs.Prelude.{None, ◌≡◌, ◌≤◌, ◌^◌, IfOk};
-ghost use Rattle.sr_capture_script.specs.Opening.{given, IsOpened};
+ghost use Rattle.std.specs.Prelude.{None, ◌≡◌, ◌≤◌, ◌^◌, IfOk, IfErr};
+ghost use Rattle.sr_capture_script.specs.Sources.{IsUntaken};
+ghost use Rattle.sr_capture_script.specs.SourceViews.{progress_of};
+ghost use Rattle.sr_capture_script.specs.Opening.{given, IsOpened, FailsAtFront};
 
 use crate::advancing::advance;
 use crate::choice::Inlet;
 use crate::fault::ScriptFault;
+use crate::flaws::FlawCounts;
 use crate::source::Source;
 use sr_capture::{ByteOrder, Form, HEADER_LEN, Packet, TimeUnit, read_header};
 use std::alloc::Global;
@@ -16,6 +19,13 @@ const NO_FORM: Form = Form {
     order: ByteOrder::Little,
     unit: TimeUnit::Micro,
     check_len: 0,
+};
+
+/// The counts of no packets.
+const NO_FLAWS: FlawCounts = FlawCounts {
+    cut: 0,
+    long: 0,
+    empty: 0,
 };
 
 /// A form with a check sequence of this length where it has none.
@@ -38,7 +48,7 @@ fn untaken<R>(alloc: Global, reader: Option<R>, form: Form, delay: u64) -> Sourc
     ensures reader { result.reader ≡ reader }
     ensures form { result.form ≡ form }
     ensures delay { result.delay ≡ delay }
-    ensures none { (result.number ≡ 0) × (result.moment ≡ 0) × (result.due ≡ None) }
+    ensures none { IsUntaken (progress_of result) }
 {
     Source {
         reader,
@@ -46,7 +56,7 @@ fn untaken<R>(alloc: Global, reader: Option<R>, form: Form, delay: u64) -> Sourc
         delay,
         place: HEADER_LEN as u64,
         number: 0,
-        unused: 0,
+        flaws: NO_FLAWS,
         moment: 0,
         due: None,
         packet: Packet::new(alloc),
@@ -67,6 +77,7 @@ pub(crate) fn open<R: BufRead + Drop>(
     requires { delay ≤ 2 ^ 62 }
     ensures opened { IfOk result (λ source. IsOpened R.remaining inlet check file source) }
     ensures delay { IfOk result (λ source. source.delay ≡ delay) }
+    ensures fault { IfErr result (λ fault. FailsAtFront R.remaining inlet check file fault) }
 {
     let mut reader = match file {
         Some(reader) => reader,

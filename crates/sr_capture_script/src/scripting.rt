@@ -1,15 +1,15 @@
 //! A script from captures.
 
-ghost use Rattle.std.specs.Prelude.{◌≡◌, ◌++◌, [], List, ℕ, Option, OnOk};
+ghost use Rattle.std.specs.Prelude.{◌≡◌, ◌≢◌, ◌++◌, [], List, ℕ, Option, OnOk, IfErr, is_some};
 ghost use Rattle.std.specs.Io.KnownBytes.{Appends};
 ghost use Rattle.sr_capture_script.specs.declared.choice.Inlet.TheVariants.{A as AtA, B as AtB, C as AtC};
 ghost use Rattle.sr_capture_script.specs.SourceViews.{IsFed};
-ghost use Rattle.sr_capture_script.specs.Merging.{Scripts};
-ghost use Rattle.sr_capture_script.specs.Opening.{IsScript};
+ghost use Rattle.sr_capture_script.specs.Merging.{numbers_of, end_of, feed_of, Scripts, Halts};
+ghost use Rattle.sr_capture_script.specs.Opening.{IsScript, IsScriptUpTo};
 
-use crate::choice::{Inlet, Options};
+use crate::choice::{Choice, Inlet, Options};
 use crate::fault::ScriptFault;
-use crate::lines::append_counts;
+use crate::lines::append_numbers;
 use crate::merging::merge;
 use crate::opening::open;
 use crate::pieces::append_ticks;
@@ -18,21 +18,34 @@ use crate::source::Source;
 use std::alloc::Global;
 use std::io::{BufRead, Write};
 
+/// Appends how many packets a file had, if there is one.
+fn append_counts<R>(text: &mut Vec<u8>, inlet: Inlet, source: &Source<R>) -> Result<(), ScriptFault>
+    ensures ok { OnOk result (text.new.items ≡ text.old.items
+        ++ numbers_of (is_some source.now.reader) inlet source.now.number source.now.flaws) }
+    ensures err { IfErr result (λ fault. fault ≡ ScriptFault.NoMemory) }
+{
+    if source.reader.is_none() {
+        return Ok(());
+    }
+    append_numbers(text, inlet, source.number, source.flaws)
+}
+
 /// Appends what stands behind the last packet: ticks, and how many packets each file had.
 fn append_end<R>(
     text: &mut Vec<u8>,
-    options: &Options,
+    choice: &Choice,
     last: Option<u64>,
     a: &Source<R>,
     b: &Source<R>,
     c: &Source<R>,
-) -> Result<(), ScriptFault> {
-    append_ticks(
-        text,
-        last,
-        options.choice.to.saturating_add(1),
-        options.choice.tick,
-    )?;
+) -> Result<(), ScriptFault>
+    ensures ok { OnOk result (text.new.items ≡ text.old.items ++ end_of choice.now last
+        (numbers_of (is_some a.now.reader) AtA a.now.number a.now.flaws)
+        (numbers_of (is_some b.now.reader) AtB b.now.number b.now.flaws)
+        (numbers_of (is_some c.now.reader) AtC c.now.number c.now.flaws)) }
+    ensures err { IfErr result (λ fault. fault ≡ ScriptFault.NoMemory) }
+{
+    append_ticks(text, last, choice.tick, choice.to)?;
     append_counts(text, Inlet::A, a)?;
     append_counts(text, Inlet::B, b)?;
     append_counts(text, Inlet::C, c)
@@ -47,16 +60,19 @@ fn print<R: BufRead, W: Write>(
     text: &mut Vec<u8>,
     writer: &mut W,
 ) -> Result<(), ScriptFault>
-    ensures { OnOk result ((start_a start_b start_c : Option (List ℕ)) → IsFed R.remaining AtA start_a a.old []
+    ensures scripts { OnOk result ((start_a start_b start_c : Option (List ℕ)) → IsFed R.remaining AtA start_a a.old []
         → IsFed R.remaining AtB start_b b.old [] → IsFed R.remaining AtC start_c c.old []
-        → (mid : Option (List ℕ)) × (last : List ℕ)
-        × Scripts options.now.choice a.old.form b.old.form c.old.form a.old.delay b.old.delay c.old.delay
-        start_a start_b start_c (W.contents writer.old) mid
-        × Appends mid (W.contents writer.new) last) }
+        → (all : List ℕ) × Scripts options.now.choice (feed_of a.old start_a) (feed_of b.old start_b) (feed_of c.old start_c)
+        (is_some a.old.reader) (is_some b.old.reader) (is_some c.old.reader) all
+        × Appends (W.contents writer.old) (W.contents writer.new) all) }
+    ensures halts { IfErr result (λ fault. fault ≢ ScriptFault.Write → (start_a start_b start_c : Option (List ℕ))
+        → IsFed R.remaining AtA start_a a.old [] → IsFed R.remaining AtB start_b b.old [] → IsFed R.remaining AtC start_c c.old []
+        → Halts options.now.choice (feed_of a.old start_a) (feed_of b.old start_b) (feed_of c.old start_c) fault
+        (W.contents writer.old) (W.contents writer.new)) }
 {
     let last = merge(a, b, c, &options.choice, text, writer)?;
     text.clear();
-    append_end(text, options, last, a, b, c)?;
+    append_end(text, &options.choice, last, a, b, c)?;
     write_text(writer, text.as_slice())?;
     match writer.flush() {
         Ok(()) => Ok(()),
@@ -70,7 +86,9 @@ fn print<R: BufRead, W: Write>(
 /// by a comment line with its number. Behind the last packet a comment line counts those of each file.
 ///
 /// # Errors
-/// The fault of a file, `Write`, `NoMemory`, or `Endless` for 2^64 packets; what was written before stays.
+/// The fault of a file, `Write`, `NoMemory`, or `Endless` for 2^64 packets. Unless it was the writer, what was written
+/// then is the lines of the packets before the fault: those of its own file before the octet that it tells, and those of
+/// the other files that are not later.
 pub fn script<R: BufRead + Drop, W: Write>(
     alloc: Global,
     file_a: Option<R>,
@@ -80,11 +98,17 @@ pub fn script<R: BufRead + Drop, W: Write>(
     writer: &mut W,
 ) -> Result<(), ScriptFault>
     // What is written is the lines of the packets of all files, each once, in order of time and each file's in its own
-    // order; and then an end.
-    ensures { OnOk result ((text : List ℕ) × (last : List ℕ)
+    // order, with ticks between them; and then the counts of each file.
+    ensures scripts { OnOk result ((text : List ℕ)
         × IsScript R.remaining options.now.choice options.now.check_len file_a file_b file_c
         options.now.delays.a options.now.delays.b options.now.delays.c text
-        × Appends (W.contents writer.old) (W.contents writer.new) (text ++ last)) }
+        × Appends (W.contents writer.old) (W.contents writer.new) text) }
+
+    // What is written is the lines of the packets that come before the fault, and the fault is where it says.
+    ensures ended { IfErr result (λ fault. fault ≢ ScriptFault.Write → (text : List ℕ)
+        × IsScriptUpTo R.remaining options.now.choice options.now.check_len file_a file_b file_c
+        options.now.delays.a options.now.delays.b options.now.delays.c fault text
+        × Appends (W.contents writer.old) (W.contents writer.new) text) }
 {
     let Options {
         delays,

@@ -1,17 +1,16 @@
 //! Printing the packet of a file that is due, and taking its next one.
 
-ghost use Rattle.std.specs.Prelude.{◌≡◌, ◌++◌, List, ℕ, Option, OnOk, unwrap_or};
+ghost use Rattle.std.specs.Prelude.{◌≡◌, ◌++◌, List, ℕ, Option, OnOk, IfErr, unwrap_or};
 ghost use Rattle.std.specs.Io.KnownBytes.{Appends};
 ghost use Rattle.sr_capture_script.specs.Items.{Item};
-ghost use Rattle.sr_capture_script.specs.SourceViews.{IsFed, Serves};
+ghost use Rattle.sr_capture_script.specs.SourceViews.{IsFed, IsSame, Serves, StopsServing};
+ghost use Rattle.sr_capture_script.specs.Texts.{last_after};
 
 use crate::advancing::advance;
 use crate::choice::{Choice, Inlet};
 use crate::fault::ScriptFault;
-use crate::lines::reason_of;
 use crate::pieces::{Place, append_piece};
 use crate::source::Source;
-use sr_capture::Packet;
 use std::io::{BufRead, Write};
 
 /// Where times are counted from, in nanoseconds, and the last time that was printed, in milliseconds.
@@ -21,14 +20,10 @@ pub(crate) struct Clock {
     pub last: Option<u64>,
 }
 
-/// How many packets are not used, with this one.
-fn unused_after(unused: u64, packet: &Packet) -> u64 {
-    unused.saturating_add(u64::from(reason_of(packet).is_some()))
-}
-
 /// Writes a text.
 pub(crate) fn write_text<W: Write>(writer: &mut W, text: &[u8]) -> Result<(), ScriptFault>
-    ensures { OnOk result (Appends (W.contents writer.old) (W.contents writer.new) text.now) }
+    ensures ok { OnOk result (Appends (W.contents writer.old) (W.contents writer.new) text.now) }
+    ensures err { IfErr result (λ fault. fault ≡ ScriptFault.Write) }
 {
     if writer.write_all(text).is_err() {
         return Err(ScriptFault::Write);
@@ -48,10 +43,13 @@ pub(crate) fn serve<R: BufRead, W: Write>(
 ) -> Result<(), ScriptFault>
     requires { source.old.due ≡ Some moment }
     ensures served { OnOk result ((start : Option (List ℕ)) (gone : List Item) → IsFed R.remaining inlet start source.old gone
-        → Serves R.remaining inlet choice.now (unwrap_or clock.old.base moment) moment start gone source.old source.new
+        → Serves R.remaining inlet choice.now (unwrap_or clock.old.base moment) moment clock.old.last start gone source.new
         (W.contents writer.old) (W.contents writer.new)) }
-    ensures same { OnOk result ((source.new.form ≡ source.old.form) × (source.new.delay ≡ source.old.delay)) }
-    ensures base { OnOk result (clock.new.base ≡ Some (unwrap_or clock.old.base moment)) }
+    ensures same { IsSame source.old source.new }
+    ensures clock { OnOk result ((clock.new.base ≡ Some (unwrap_or clock.old.base moment))
+        × (clock.new.last ≡ last_after choice.now (unwrap_or clock.old.base moment) clock.old.last moment)) }
+    ensures stopped { IfErr result (λ fault. StopsServing R.remaining inlet choice.now (unwrap_or clock.old.base moment) moment clock.old.last fault
+        source.old source.new (W.contents writer.old) (W.contents writer.new)) }
 {
     let base = clock.base.unwrap_or(moment);
     clock.base = Some(base);
@@ -63,7 +61,6 @@ pub(crate) fn serve<R: BufRead, W: Write>(
     };
     append_piece(text, choice, base, &mut clock.last, place, &source.packet)?;
     write_text(writer, text.as_slice())?;
-    source.unused = unused_after(source.unused, &source.packet);
     match advance(source) {
         Ok(()) => Ok(()),
         Err(fault) => Err(ScriptFault::File(inlet, fault)),

@@ -2,6 +2,7 @@
 
 ghost use Rattle.std.specs.Prelude.{◌≤◌, ◌^◌};
 
+use crate::flaws::FlawCounts;
 use sr_capture::{Form, Packet};
 
 /// A file whose packets are taken one by one, and the packet that is due.
@@ -17,8 +18,8 @@ pub(crate) struct Source<R> {
     pub place: u64,
     /// How many of its packets were taken.
     pub number: u64,
-    /// How many of those that were printed are not used.
-    pub unused: u64,
+    /// How many of these are not used.
+    pub flaws: FlawCounts,
     /// The latest moment of one, in nanoseconds.
     pub moment: u64,
     /// The moment of the packet that is due. None: it is at its end.

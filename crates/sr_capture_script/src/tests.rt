@@ -75,7 +75,7 @@ fn at_a(at: u64, reason: Reason) -> Option<ScriptFault> {
 
 /// What a merged script says.
 const MERGED: &[u8] =
-    b"in B 0 010203\nin A 100 abcd\n# A 2 cut\n# A 2 packets, 1 not used\n# B 1 packets, 0 not used\n";
+    b"in B 0 010203\nin A 100 abcd\n# A 2 cut\n# A 2 packets, 1 cut, 0 long, 0 empty\n# B 1 packets, 0 cut, 0 long, 0 empty\n";
 
 /// What is printed before a file ends within its first packet.
 const NOTHING: &[u8] = b"";

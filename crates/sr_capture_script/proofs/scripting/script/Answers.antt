@@ -1,11 +1,36 @@
-use Rattle.sr_capture_script.proofs.Opened.{is_script}
-use Rattle.sr_capture_script.proofs.Outcomes.{on_ok_both}
+use Rattle.std.proofs.Common.{[], refl, inl, inr}
+use Rattle.std.proofs.KnownBytes.{Appends-nil}
+use Rattle.sr_capture_script.proofs.Opened.{are_opened, is_script, is_script_to}
+use Rattle.sr_capture_script.proofs.Outcomes.{on_ok_both, handed_on, if_err_map}
 use Rattle.sr_capture_script.proofs.scripting.script.Goals as goal
 
-pub returns : goal.returns
-returns g c =
+pub returns-clause-scripts : goal.returns-clause-scripts
+returns-clause-scripts g c =
     let o = c.args.options.now in
-    on_ok_both c.print.result _ _ _ c.print.ensures c.print.ensures
-    (λ merged again. is_script g.R.Read.remaining o.choice o.check_len c.args.file_a c.args.file_b c.args.file_c c.in_ok-a.a c.in_ok-b.b c.in_ok-c.c
-    o.delays.a o.delays.b o.delays.c (g.W.Write.contents c.args.writer.now) (g.W.Write.contents c.print.new.writer)
-    c.in_ok-a.ensures.opened c.in_ok-b.ensures.opened c.in_ok-c.ensures.opened c.in_ok-a.ensures.delay c.in_ok-b.ensures.delay c.in_ok-c.ensures.delay merged)
+    let opened = are_opened g.R.Read.remaining o.check_len c.args.file_a c.args.file_b c.args.file_c c.in_ok-a.a c.in_ok-b.b c.in_ok-c.c o.delays.a o.delays.b o.delays.c
+    c.in_ok-a.ensures.opened c.in_ok-b.ensures.opened c.in_ok-c.ensures.opened c.in_ok-a.ensures.delay c.in_ok-b.ensures.delay c.in_ok-c.ensures.delay in
+    on_ok_both c.print.result _ _ _ c.print.ensures.scripts c.print.ensures.scripts (λ h again.
+    let s = h opened.at_a.start opened.at_b.start opened.at_c.start opened.at_a.fed opened.at_b.fed opened.at_c.fed in
+    (s.0, is_script g.R.Read.remaining o.choice o.check_len c.args.file_a c.args.file_b c.args.file_c c.in_ok-a.a c.in_ok-b.b c.in_ok-c.c o.delays.a o.delays.b o.delays.c s.0 opened s.1, s.2))
+
+pub returns-clause-ended : goal.returns-clause-ended
+returns-clause-ended g c =
+    let o = c.args.options.now in
+    let opened = are_opened g.R.Read.remaining o.check_len c.args.file_a c.args.file_b c.args.file_c c.in_ok-a.a c.in_ok-b.b c.in_ok-c.c o.delays.a o.delays.b o.delays.c
+    c.in_ok-a.ensures.opened c.in_ok-b.ensures.opened c.in_ok-c.ensures.opened c.in_ok-a.ensures.delay c.in_ok-b.ensures.delay c.in_ok-c.ensures.delay in
+    if_err_map c.print.result _ _ c.print.ensures.halts (λ fault h other.
+    is_script_to g.R.Read.remaining o.choice o.check_len c.args.file_a c.args.file_b c.args.file_c c.in_ok-a.a c.in_ok-b.b c.in_ok-c.c o.delays.a o.delays.b o.delays.c fault
+    (g.W.Write.contents c.args.writer.now) (g.W.Write.contents c.print.new.writer) opened
+    (h other opened.at_a.start opened.at_b.start opened.at_c.start opened.at_a.fed opened.at_b.fed opened.at_c.fed))
+
+pub returns-in_err-a-clause-ended : goal.returns-in_err-a-clause-ended
+returns-in_err-a-clause-ended g c =
+    handed_on c.from_residual.result _ _ c.from_residual.ensures.1 (λ other. ([], inl (refl, inl c.in_err-a.ensures.fault), Appends-nil (g.W.Write.contents c.args.writer.now)))
+
+pub returns-in_err-b-clause-ended : goal.returns-in_err-b-clause-ended
+returns-in_err-b-clause-ended g c =
+    handed_on c.from_residual-in_err-b.result _ _ c.from_residual-in_err-b.ensures.1 (λ other. ([], inl (refl, inr (inl c.in_err-b.ensures.fault)), Appends-nil (g.W.Write.contents c.args.writer.now)))
+
+pub returns-in_err-c-clause-ended : goal.returns-in_err-c-clause-ended
+returns-in_err-c-clause-ended g c =
+    handed_on c.from_residual-in_err-c.result _ _ c.from_residual-in_err-c.ensures.1 (λ other. ([], inl (refl, inr (inr c.in_err-c.ensures.fault)), Appends-nil (g.W.Write.contents c.args.writer.now)))
