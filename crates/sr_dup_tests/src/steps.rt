@@ -1,0 +1,184 @@
+//! One driver for all tests: it makes three tables, takes them through a table of steps, and answers at which step they differ.
+ghost use Rattle.std.specs.Prelude.{◌≡◌, false};
+ghost use Rattle.sr_dup_window.specs.LaneSets.{is_empty};
+
+use sr_dup_table::{DupFault, DupTable};
+use sr_dup_window::Lanes;
+use sr_frame::Mac;
+use sr_sequence::Seq;
+use std::alloc::Global;
+use std::process::Abort;
+
+/// One of the tables.
+#[derive(Clone, Copy, PartialEq, Eq)]
+pub enum Which {
+    One,
+    Two,
+    Three,
+}
+
+/// What a merge came to.
+#[derive(Clone, Copy, PartialEq, Eq)]
+pub enum Merged {
+    Joined,
+    Full,
+    /// The records of this source are apart.
+    Apart(u16),
+    /// Something else, or a refusal that changed a table.
+    Wrong,
+}
+
+/// A step, and what it has to come to.
+#[derive(Clone, Copy)]
+pub enum Step {
+    /// A table hears a number of a source, which goes to the host, at this time.
+    Hear(Which, u16, u16, u64),
+    /// It hears number 5 of so many sources, from one on, at this time.
+    Fill(Which, u16, u16, u64),
+    /// The first table takes in the second at this time.
+    Merge(Which, Which, u64, Merged),
+    /// So many sources stand in a table.
+    Count(Which, usize),
+    /// Whether a number of a source was heard, at this time.
+    Knows(Which, u16, u16, u64, bool),
+    /// Whether two tables are the same in any order.
+    Same(Which, Which, bool),
+    /// Whether two tables are equal.
+    Equal(Which, Which, bool),
+}
+
+#[derive(Drop)]
+struct Tables {
+    one: DupTable,
+    two: DupTable,
+    three: DupTable,
+}
+
+fn mac(number: u16) -> Mac {
+    let [high, low] = number.to_be_bytes();
+    Mac([2, 0, 0, 0, high, low])
+}
+
+fn number_of(mac: Mac) -> u16 {
+    u16::from_be_bytes([mac.0[4], mac.0[5]])
+}
+
+fn handed_up() -> Lanes
+    ensures { is_empty result ≡ false }
+{
+    Lanes::H
+}
+
+fn table(tables: &Tables, which: Which) -> &DupTable {
+    match which {
+        Which::One => &tables.one,
+        Which::Two => &tables.two,
+        Which::Three => &tables.three,
+    }
+}
+
+// A number that is heard, asked for again where memory runs out.
+fn hear(table: &mut DupTable, src: u16, seq: u16, now: u64) -> bool {
+    match table.arrive(mac(src), Seq(seq), handed_up(), now) {
+        Ok(_) => true,
+        Err(_) => table.arrive(mac(src), Seq(seq), handed_up(), now).is_ok(),
+    }
+}
+
+fn fill(table: &mut DupTable, from: u16, count: u16, now: u64) -> bool {
+    for more in 0..count {
+        if !hear(table, from.wrapping_add(more), 5, now) {
+            return false;
+        }
+    }
+    true
+}
+
+fn outcome_of(answer: Result<(), DupFault>) -> Merged {
+    match answer {
+        Ok(()) => Merged::Joined,
+        Err(DupFault::TableFull) => Merged::Full,
+        Err(DupFault::Apart(src)) => Merged::Apart(number_of(src)),
+        Err(_) => Merged::Wrong,
+    }
+}
+
+// A clone. Where memory runs out it is asked for again.
+fn cloned(alloc: Global, table: &DupTable) -> Option<DupTable> {
+    match table.try_clone(alloc) {
+        Ok(own) => Some(own),
+        Err(_) => table.try_clone(alloc).ok(),
+    }
+}
+
+// A merge that is done again where memory runs out. What is refused changes nothing.
+fn merge(alloc: Global, table: &mut DupTable, other: &DupTable, now: u64) -> Merged {
+    let Some(before) = cloned(alloc, table) else {
+        return Merged::Wrong;
+    };
+    let mut answer = table.merge(alloc, other, now);
+    if answer.is_err() && *table != before {
+        return Merged::Wrong;
+    }
+    if answer == Err(DupFault::NoMemory) {
+        answer = table.merge(alloc, other, now);
+    }
+    if answer.is_err() && *table != before {
+        return Merged::Wrong;
+    }
+    outcome_of(answer)
+}
+
+fn merge_tables(alloc: Global, tables: &mut Tables, into: Which, from: Which, now: u64) -> Merged {
+    let Some(other) = cloned(alloc, table(tables, from)) else {
+        return Merged::Wrong;
+    };
+    match into {
+        Which::One => merge(alloc, &mut tables.one, &other, now),
+        Which::Two => merge(alloc, &mut tables.two, &other, now),
+        Which::Three => merge(alloc, &mut tables.three, &other, now),
+    }
+}
+
+fn knows(table: &DupTable, src: u16, seq: u16, now: u64) -> Option<bool> {
+    match table.fresh(mac(src), Seq(seq), handed_up(), now) {
+        Ok(lanes) => Some(lanes.is_empty()),
+        Err(_) => None,
+    }
+}
+
+fn holds(alloc: Global, tables: &mut Tables, step: Step) -> bool {
+    match step {
+        Step::Hear(Which::One, src, seq, now) => hear(&mut tables.one, src, seq, now),
+        Step::Hear(Which::Two, src, seq, now) => hear(&mut tables.two, src, seq, now),
+        Step::Hear(Which::Three, src, seq, now) => hear(&mut tables.three, src, seq, now),
+        Step::Fill(Which::One, from, count, now) => fill(&mut tables.one, from, count, now),
+        Step::Fill(Which::Two, from, count, now) => fill(&mut tables.two, from, count, now),
+        Step::Fill(Which::Three, from, count, now) => fill(&mut tables.three, from, count, now),
+        Step::Merge(into, from, now, answer) => merge_tables(alloc, tables, into, from, now)
+            == answer,
+        Step::Count(which, count) => table(tables, which).source_count() == count,
+        Step::Knows(which, src, seq, now, answer) => knows(table(tables, which), src, seq, now)
+            == Some(answer),
+        Step::Same(one, other, answer) => table(tables, one).same(table(tables, other)) == answer,
+        Step::Equal(one, other, answer) => (table(tables, one) == table(tables, other)) == answer,
+    }
+}
+
+// The place of the first step that comes to something else.
+fn first_wrong(alloc: Global, steps: &[Step]) -> Option<usize> {
+    let mut tables = Tables {
+        one: DupTable::new(alloc),
+        two: DupTable::new(alloc),
+        three: DupTable::new(alloc),
+    };
+    steps
+        .iter()
+        .position(|step| !holds(alloc, &mut tables, *step))
+}
+
+/// Fails at the first step that comes to something else.
+pub fn expect_steps<R: Abort + AllocGlobal>(rt: &R, steps: &[Step]) {
+    let wrong = first_wrong(rt.alloc(), steps);
+    assert_eq!(rt; wrong, None);
+}
