@@ -3,7 +3,7 @@
 ghost use Rattle.std.specs.Prelude.{◌≡◌, IfOk, OnOk, OnErr, IfErr, None, Some, false, max};
 ghost use Rattle.sr_node.specs.Faults.{or_no_memory};
 ghost use Rattle.sr_node.specs.Outboxes.{first_full};
-ghost use Rattle.sr_node.specs.Copies.{copies_for, Room};
+ghost use Rattle.sr_node.specs.Copies.{no_copies, copies_for, Room};
 ghost use Rattle.sr_node.specs.Images.{shown, node_state, IsReady, IsIdle};
 ghost use Rattle.sr_node.specs.Lanes.{is_host};
 ghost use Rattle.sr_forwarding.specs.Proxies.{learned};
@@ -11,7 +11,7 @@ ghost use Rattle.sr_node.specs.Arriving.{is_too_long, is_untagged, takes_unnumbe
 ghost use Rattle.sr_node.specs.Octets.{OctetsArrived, OctetsRefused};
 ghost use Rattle.sr_node.specs.Plans.{ArrivalIs, IsAdmitted, IsPassing};
 
-use crate::copies::Copies;
+use crate::copies::{Copies, no_copies};
 use crate::state::is_plain_at_interlink;
 use crate::{Answer, NodeOf, StepFault};
 use sr_forwarding::{Form, Framing, Header, Outlets, ParcelView, ReadFault, Role, RoleKind};
@@ -204,24 +204,26 @@ impl<R: Role> NodeOf<R> {
         spot: Option<Spot>,
         now: u64,
         outlets: Outlets,
-    ) -> Result<Copies, NoMemory>
-        requires { first_full self.old.core.out outlets ≡ None }
-        ensures copies { IfOk result (λ cs. cs ≡ copies_for outlets going.now) }
-        ensures room { IfOk result (λ cs. Room self.new.core.out cs) }
+        copies: &mut Copies,
+    ) -> Result<(), NoMemory>
+        requires full { first_full self.old.core.out outlets ≡ None }
+        requires none { copies.old ≡ no_copies }
+        ensures copies { OnOk result (copies.new ≡ copies_for outlets going.now) }
+        ensures room { OnOk result (Room self.new.core.out copies.new) }
         ensures ready { OnOk result (IsReady self.new.core.table header.now.src header.now.seq) }
         ensures role { OnOk result (R.meaning self.new.role ≡ learned (R.meaning self.old.role) header.now port now) }
         ensures shown { shown self.new.core ≡ shown self.old.core }
         ensures err { OnErr result (R.meaning self.new.role ≡ R.meaning self.old.role) }
         ensures idle { OnErr result (IsIdle self.old.core → IsIdle self.new.core) }
     {
-        let copies = self.core.copies(outlets, going)?;
+        self.core.copies(outlets, going, copies)?;
         self.core.hold(header, spot)?;
         // Its success shows, so it is the last.
         if let Err(fault) = self.role.learn(self.core.alloc(), header, port, now) {
             self.core.release();
             return Err(fault);
         }
-        Ok(copies)
+        Ok(())
     }
 
     // Lets an arrival pass: growths first, then changes.
@@ -246,9 +248,9 @@ impl<R: Role> NodeOf<R> {
         let header = self.header_on(port, &parcel, now);
         let next = self.core.next_at(port, &parcel);
         let going = numbered(port, parcel, self.core.next());
-        let copies = self.grow(port, &going, &header, spot, now, outlets)?;
-        self.core
-            .pass(port, &going, &header, spot, next, wanted, copies, now);
+        let mut copies = no_copies();
+        self.grow(port, &going, &header, spot, now, outlets, &mut copies)?;
+        self.core.pass(port, &going, &header, spot, next, wanted, &mut copies, now);
         Ok(())
     }
 

@@ -1,8 +1,8 @@
 //! The copies of a frame that goes out, each with octets of its own.
 
-ghost use Rattle.std.specs.Prelude.{◌≡◌, None, IfOk};
+ghost use Rattle.std.specs.Prelude.{◌≡◌, None, OnOk};
 ghost use Rattle.sr_node.specs.Outboxes.{first_full};
-ghost use Rattle.sr_node.specs.Copies.{copy_if, copies_for, put_copies, Room};
+ghost use Rattle.sr_node.specs.Copies.{no_copies, copy_if, copies_for, put_copies, Room};
 
 use crate::{Outbox, PerPort};
 use sr_forwarding::{Outlets, Parcel, ParcelView};
@@ -12,14 +12,32 @@ use std::alloc::Global;
 /// A copy for each outlet that gets one.
 pub(crate) type Copies = PerPort<Option<Parcel>>;
 
-// The parcel, if it is wanted.
-fn copy_if(alloc: Global, wanted: bool, parcel: &ParcelView<'_>) -> Result<Option<Parcel>, NoMemory>
-    ensures { IfOk result (λ copy. copy ≡ copy_if wanted parcel.now) }
+/// No copy. Copies are large, so they are filled and emptied where they stand.
+pub(crate) fn no_copies() -> Copies
+    ensures { result ≡ no_copies }
 {
-    if !wanted {
-        return Ok(None);
+    PerPort {
+        h: None,
+        a: None,
+        b: None,
+        c: None,
     }
-    Ok(Some(parcel.to_parcel(alloc)?))
+}
+
+// The parcel, if it is wanted.
+fn copy_if(
+    alloc: Global,
+    wanted: bool,
+    parcel: &ParcelView<'_>,
+    copy: &mut Option<Parcel>,
+) -> Result<(), NoMemory>
+    requires { copy.old ≡ None }
+    ensures { OnOk result (copy.new ≡ copy_if wanted parcel.now) }
+{
+    if wanted {
+        *copy = Some(parcel.to_parcel(alloc)?);
+    }
+    Ok(())
 }
 
 /// A copy for each of these outlets.
@@ -27,24 +45,24 @@ pub(crate) fn copies_for(
     alloc: Global,
     outlets: Outlets,
     parcel: &ParcelView<'_>,
-) -> Result<Copies, NoMemory>
-    ensures { IfOk result (λ cs. cs ≡ copies_for outlets parcel.now) }
+    copies: &mut Copies,
+) -> Result<(), NoMemory>
+    requires { copies.old ≡ no_copies }
+    ensures { OnOk result (copies.new ≡ copies_for outlets parcel.now) }
 {
-    Ok(PerPort {
-        h: copy_if(alloc, outlets.has(Port::H), parcel)?,
-        a: copy_if(alloc, outlets.has(Port::A), parcel)?,
-        b: copy_if(alloc, outlets.has(Port::B), parcel)?,
-        c: copy_if(alloc, outlets.has(Port::C), parcel)?,
-    })
+    copy_if(alloc, outlets.has(Port::H), parcel, &mut copies.h)?;
+    copy_if(alloc, outlets.has(Port::A), parcel, &mut copies.a)?;
+    copy_if(alloc, outlets.has(Port::B), parcel, &mut copies.b)?;
+    copy_if(alloc, outlets.has(Port::C), parcel, &mut copies.c)
 }
 
 /// Puts each copy last in its queue.
-pub(crate) fn put_copies(out: &mut PerPort<Outbox>, copies: Copies)
-    requires { Room out.old copies }
-    ensures { out.new ≡ put_copies out.old copies }
+pub(crate) fn put_copies(out: &mut PerPort<Outbox>, copies: &mut Copies)
+    requires { Room out.old copies.old }
+    ensures { out.new ≡ put_copies out.old copies.old }
 {
-    out.h.put(copies.h);
-    out.a.put(copies.a);
-    out.b.put(copies.b);
-    out.c.put(copies.c);
+    out.h.put(&mut copies.h);
+    out.a.put(&mut copies.a);
+    out.b.put(&mut copies.b);
+    out.c.put(&mut copies.c);
 }

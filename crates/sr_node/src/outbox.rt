@@ -83,11 +83,11 @@ impl Outbox {
     }
 
     /// Puts a copy last, if there is one.
-    pub(crate) fn put(&mut self, copy: Option<Parcel>)
-        requires { IsSome copy → length self.old < 256 }
-        ensures { self.new ≡ with_copy self.old copy }
+    pub(crate) fn put(&mut self, copy: &mut Option<Parcel>)
+        requires { IsSome copy.old → length self.old < 256 }
+        ensures { self.new ≡ with_copy self.old copy.old }
     {
-        if let Some(parcel) = copy {
+        if let Some(parcel) = copy.take() {
             self.queue.push_back_reserved(parcel);
         }
     }

@@ -10,6 +10,7 @@ ghost use Rattle.sr_node.specs.Arriving.{full_fault};
 ghost use Rattle.sr_node.specs.Sending.{sent_parcel, send_outlets, send_refusal, SentAs};
 
 use crate::arriving::MAX_PLAIN_LEN;
+use crate::copies::no_copies;
 use crate::{Answer, NodeOf, StepFault};
 use sr_forwarding::{Header, Outlets, ParcelView, ReadFault, Role};
 use sr_frame::{Frame, Port};
@@ -71,8 +72,10 @@ impl<R: Role> NodeOf<R> {
     {
         let outlets = self.plan_send(frame, now)?;
         let number = self.core.next();
-        let copies = self.core.copies(outlets, &self.sent_parcel(frame))?;
-        self.core.send(copies, now);
+        let mut copies = no_copies();
+        self.core
+            .copies(outlets, &self.sent_parcel(frame), &mut copies)?;
+        self.core.send(&mut copies, now);
         Ok(Answer::Sent(number))
     }
 }

@@ -6,7 +6,7 @@ ghost use Rattle.std.specs.Result.{result_ok};
 ghost use Rattle.sr_dup_table.specs.Sources.{live_at};
 ghost use Rattle.sr_node.specs.Lanes.{is_host, new_outlets, sources_after};
 ghost use Rattle.sr_node.specs.Outboxes.{box_at, boxes_left, first_full, first_of};
-ghost use Rattle.sr_node.specs.Copies.{Room, copies_for, put_copies};
+ghost use Rattle.sr_node.specs.Copies.{Room, no_copies, copies_for, put_copies};
 ghost use Rattle.sr_node.specs.LifeChecks.{is_due};
 ghost use Rattle.sr_node.specs.Images.{shown, node_state, start, with_time, after, IsReady, IsIdle};
 ghost use Rattle.sr_node.specs.NodeImages.{state_of};
@@ -150,12 +150,14 @@ impl Core {
         &self,
         outlets: Outlets,
         parcel: &ParcelView<'_>,
-    ) -> Result<Copies, NoMemory>
-        requires { first_full self.now.out outlets ≡ None }
-        ensures copies { IfOk result (λ cs. cs ≡ copies_for outlets parcel.now) }
-        ensures room { IfOk result (λ cs. Room self.now.out cs) }
+        copies: &mut Copies,
+    ) -> Result<(), NoMemory>
+        requires full { first_full self.now.out outlets ≡ None }
+        requires none { copies.old ≡ no_copies }
+        ensures copies { OnOk result (copies.new ≡ copies_for outlets parcel.now) }
+        ensures room { OnOk result (Room self.now.out copies.new) }
     {
-        copies_for(self.alloc, outlets, parcel)
+        copies_for(self.alloc, outlets, parcel, copies)
     }
 
     /// OutboxFull of the first of these outlets, in the order H, A, B, C, whose queue is full, if one is.
@@ -287,18 +289,18 @@ impl Core {
         spot: Option<Spot>,
         next: Seq,
         wanted: Outlets,
-        copies: Copies,
+        copies: &mut Copies,
         now: u64,
     )
         requires port { is_host port ≡ false }
         requires ready { IsReady self.old.table header.now.src header.now.seq }
         requires answered { is_some (new_outlets self.old.table.sources port header.now.src header.now.seq wanted now) ≡ true }
-        requires room { Room self.old.out copies }
+        requires room { Room self.old.out copies.old }
         ensures shown { shown self.new ≡ record (shown self.old) {
           time = now;
           next = next;
           sources = sources_after self.old.table.sources port header.now.src header.now.seq wanted now;
-          out = put_copies self.old.out copies;
+          out = put_copies self.old.out copies.old;
           wrong_lan = wrong_lan_after self.old.wrong_lan port parcel.now;
         } }
         ensures idle { IsIdle self.new }
@@ -333,12 +335,12 @@ impl Core {
     }
 
     /// The changes of a frame of the node that goes out under the next number, of which none can fail.
-    pub(crate) fn send(&mut self, copies: Copies, now: u64)
-        requires { Room self.old.out copies }
+    pub(crate) fn send(&mut self, copies: &mut Copies, now: u64)
+        requires { Room self.old.out copies.old }
         ensures shown { shown self.new ≡ record (shown self.old) {
           time = now;
           next = after self.old.next;
-          out = put_copies self.old.out copies;
+          out = put_copies self.old.out copies.old;
         } }
         ensures held { self.new.table ≡ self.old.table }
     {

@@ -3,12 +3,12 @@
 ghost use Rattle.std.specs.Prelude.{◌≡◌, IfOk, OnOk, OnErr, IfErr, None, Some};
 ghost use Rattle.sr_node.specs.Faults.{or_no_memory};
 ghost use Rattle.sr_node.specs.Outboxes.{first_full};
-ghost use Rattle.sr_node.specs.Copies.{copies_for, Room};
+ghost use Rattle.sr_node.specs.Copies.{no_copies, copies_for, Room};
 ghost use Rattle.sr_node.specs.Images.{node_state, IsIdle};
 ghost use Rattle.sr_node.specs.Ticking.{life_header, next_life_check, tick_refusal, TickedAs};
 ghost use Rattle.sr_node.specs.Plans.{LifeIs};
 
-use crate::copies::Copies;
+use crate::copies::{Copies, no_copies};
 use crate::life_checks::life_frame;
 use crate::{Answer, NodeOf, StepFault};
 use sr_forwarding::{Header, Outlets, ParcelView, Role};
@@ -43,11 +43,12 @@ impl<R: Role> NodeOf<R> {
     }
 
     // All growths of a life check.
-    fn life_copies(&self, outlets: Outlets) -> Result<Copies, NoMemory>
-        requires { first_full self.now.core.out outlets ≡ None }
-        ensures copies { IfOk result (λ cs. cs ≡ copies_for outlets
+    fn life_copies(&self, outlets: Outlets, copies: &mut Copies) -> Result<(), NoMemory>
+        requires full { first_full self.now.core.out outlets ≡ None }
+        requires none { copies.old ≡ no_copies }
+        ensures copies { OnOk result (copies.new ≡ copies_for outlets
             (next_life_check (node_state (R.meaning self.now.role) self.now.core))) }
-        ensures room { IfOk result (λ cs. Room self.now.core.out cs) }
+        ensures room { OnOk result (Room self.now.core.out copies.new) }
     {
         let frame = life_frame(
             self.core.alloc(),
@@ -56,7 +57,7 @@ impl<R: Role> NodeOf<R> {
             self.core.next_life(),
         )?;
         let parcel = ParcelView::plain_with(&frame, Some(self.core.next()));
-        self.core.copies(outlets, &parcel)
+        self.core.copies(outlets, &parcel, copies)
     }
 
     /// Lets time pass up to this moment, and sends a life check where one is due.
@@ -79,9 +80,10 @@ impl<R: Role> NodeOf<R> {
                 life: None,
             });
         };
-        let copies = self.life_copies(outlets)?;
+        let mut copies = no_copies();
+        self.life_copies(outlets, &mut copies)?;
         let number = self.core.next();
-        self.core.send(copies, now);
+        self.core.send(&mut copies, now);
         self.core.set_life(now);
         Ok(Answer::Ticked {
             sources: self.core.age(now),
