@@ -1,20 +1,20 @@
 //! What a node puts out, as text.
 
-ghost use Rattle.std.specs.Prelude.{◌≡◌, ◌++◌, ◌∷◌, [], ℕ, List, OnOk, IfErr};
+ghost use Rattle.std.specs.Prelude.{◌≡◌, ◌++◌, ◌∷◌, [], ◌≤◌, ℕ, List, length, OnOk, IfErr};
 ghost use Rattle.hex.specs.Hex.{encode_lower};
-ghost use Rattle.sr_frame.specs.Frame.{HasFrameLength};
 ghost use Rattle.sr_node.specs.Images.{node_state};
 ghost use Rattle.sr_forwarding.specs.Encoding.{IsWritten};
+ghost use Rattle.sr_forwarding.specs.Parcels.{plain_of};
 ghost use Rattle.sr_script.specs.Commands.{letter_of};
 ghost use Rattle.sr_script.specs.Stations.{framing_of};
-ghost use Rattle.sr_script.specs.Texts.{frame_line, IsLine};
+ghost use Rattle.sr_script.specs.Texts.{frame_line, GoesAs, IsLine};
 ghost use Rattle.sr_script.specs.Replies.{Emptied, AllEmptied};
 
 use crate::carriers::carrier_of;
 use crate::fault::Word;
 use crate::setups::RoleName;
 use sr_forwarding::{Framing, Parcel, Role};
-use sr_frame::Port;
+use sr_frame::{Port, append};
 use sr_hex::append_hex;
 use sr_node::NodeOf;
 use std::alloc::AllocError;
@@ -33,7 +33,7 @@ fn letter_of(port: Port) -> u8
 
 /// Appends the line for a frame that goes out at a port.
 fn append_frame(text: &mut Vec<u8>, port: Port, frame: &[u8]) -> Result<(), AllocError>
-    requires { HasFrameLength frame.now }
+    requires { length frame.now ≤ 1524 }
     ensures { OnOk result (text.new.items ≡ text.old.items ++ (letter_of port ++ (32 ∷ encode_lower frame.now)) ++ 10 ∷ []) }
 {
     text.push(letter_of(port))?;
@@ -43,16 +43,47 @@ fn append_frame(text: &mut Vec<u8>, port: Port, frame: &[u8]) -> Result<(), Allo
     Ok(())
 }
 
-/// Writes a parcel as the frame that it goes out as at a port, in place of what the list held.
-fn write_frame(role: RoleName, port: Port, parcel: &Parcel, frame: &mut Vec<u8>) -> Result<(), Word>
-    ensures ok { OnOk result (IsWritten (framing_of role port) parcel.now.form parcel.now frame.new.items) }
-    ensures frame { OnOk result (HasFrameLength frame.new.items) }
+/// Writes the plain form of a parcel into an empty list.
+fn write_plain(parcel: &Parcel, frame: &mut Vec<u8>) -> Result<(), Word>
+    requires { frame.old.items ≡ [] }
+    ensures ok { OnOk result (frame.new.items ≡ plain_of parcel.now) }
+    ensures size { OnOk result (length frame.new.items ≤ 1524) }
     ensures err { IfErr result (λ word. word ≡ Word.Memory) }
 {
-    frame.clear();
+    match append(frame, &parcel.plain()) {
+        Ok(()) => Ok(()),
+        Err(_) => Err(Word::Memory),
+    }
+}
+
+/// Writes a parcel by the framing of a port into an empty list.
+fn write_framed(
+    role: RoleName,
+    port: Port,
+    parcel: &Parcel,
+    frame: &mut Vec<u8>,
+) -> Result<(), Word>
+    requires { frame.old.items ≡ [] }
+    ensures ok { OnOk result (IsWritten (framing_of role port) parcel.now.form parcel.now frame.new.items) }
+    ensures size { OnOk result (length frame.new.items ≤ 1524) }
+    ensures err { IfErr result (λ word. word ≡ Word.Memory) }
+{
     match carrier_of(role, port).write(frame, &parcel.view()) {
         Ok(()) => Ok(()),
         Err(_) => Err(Word::Memory),
+    }
+}
+
+/// Writes a parcel as the frame that it goes out as at a port, in place of what the list held.
+fn write_frame(role: RoleName, port: Port, parcel: &Parcel, frame: &mut Vec<u8>) -> Result<(), Word>
+    ensures ok { OnOk result (GoesAs role port parcel.now frame.new.items) }
+    ensures size { OnOk result (length frame.new.items ≤ 1524) }
+    ensures err { IfErr result (λ word. word ≡ Word.Memory) }
+{
+    frame.clear();
+    match port {
+        Port::H => write_plain(parcel, frame),
+        Port::A | Port::B | Port::C => write_framed(role, port, parcel, frame),
     }
 }
 
