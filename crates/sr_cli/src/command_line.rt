@@ -42,12 +42,12 @@ impl From<AllocError> for Refused {
     }
 }
 
-/// What the parser knows: `seamless replay --role danp --mac M`.
+/// What the parser knows: `seamless replay --role danp|danh --mac M`.
 fn command<'a>(alloc: Global) -> Result<Command<'a>, AllocError> {
     let role = Arg::new(alloc, "role")
         .long("role")
         .required(true)
-        .value_parser(["danp"].as_slice())
+        .value_parser(["danp", "danh"].as_slice())
         .help("The role of the node");
     let mac = Arg::new(alloc, "mac")
         .long("mac")
@@ -71,6 +71,14 @@ fn mac_of(digits: &str) -> Option<Mac> {
     Some(Mac(octets))
 }
 
+/// The role of a word that the parser let through.
+fn role_of(word: &str) -> RoleName {
+    match word {
+        "danh" => RoleName::Danh,
+        _ => RoleName::Danp,
+    }
+}
+
 /// What the program is to do.
 #[derive(Clone, Copy, Debug)]
 pub enum Task<'a> {
@@ -92,13 +100,16 @@ pub fn task_of<'a>(alloc: Global, words: &'a [String]) -> Result<Task<'a>, Refus
             Err(name) => Err(Refused::Option(name)),
         };
     }
-    let mac = matches
-        .subcommand_matches("replay")
+    let replay = matches.subcommand_matches("replay");
+    let role = replay
+        .and_then(|replay| replay.get_str("role"))
+        .map_or(RoleName::Danp, role_of);
+    let mac = replay
         .and_then(|replay| replay.get_str("mac"))
         .and_then(mac_of);
     match mac {
         Some(mac) => Ok(Task::Replay(Setup {
-            role: RoleName::Danp,
+            role,
             mac,
             keys: Keys::FIXED,
         })),

@@ -1,12 +1,14 @@
 -- Digits of either case, by their codes.
 use Rattle.std.proofs.Common.{◌≡◌, ℕ, zero, suc, ◌+◌, ◌*◌, ◌%◌, ◌<◌, ◌≤◌, Bool, true, false, cond, List, length, take, drop, slice_index, slice_set, Option, Some, None, unwrap_or, Result, Ok, Err, refl, sym, ap, ◌∙◌, arith, inl, inr}
-use Rattle.std.specs.Prelude.{◌==◌, ◌&&◌, if◌then◌else◌, nat_lt, bit_or, max, MatchBool, IsErr}
+use Rattle.std.specs.Prelude.{is_some, ◌/◌, ◌==◌, ◌&&◌, if◌then◌else◌, nat_lt, bit_or, max, MatchBool, IsErr}
 use Rattle.std.specs.List.{AllPass}
 use Rattle.std.proofs.lemmas.Bool.{and_parts, cases_lt, eqb-true}
 use Rattle.std.proofs.lemmas.Bool.Decides.{nat_tests}
+use Rattle.std.proofs.lemmas.List.Elements.{All-more}
 use Rattle.hex.specs.Hex.{decode_of, decode_pairs, hex_digit_value, is_hex_digit, pair_value}
 use Rattle.hex.proofs.Pairs.{prepend, decode_step, decode_done}
-use Rattle.hex.proofs.HexLemmas.{decode_of-even, decode_of-ok}
+use Rattle.hex.proofs.HexLemmas.{decode_of-even, decode_of-ok, decode_of-digits}
+use Rattle.sr_script.specs.Commands.{IsHex}
 
 -- how far a code stands above that of `0`, and in lower case above that of `a`, modulo 256
 abbrev pub above_zero : ℕ → ℕ
@@ -115,3 +117,19 @@ octets_done s out i worst twice past before good =
     refused : {E : Type 0} (r : Result (List ℕ) E) → ((bytes : List ℕ) → r ≡ Ok bytes → ⊥) → IsErr r
     refused (Ok bytes) h = absurd (h bytes refl)
     refused (Err e) h = refl
+
+-- one digit more
+pub digits_more : (s : List ℕ) (i v : ℕ) → i < length s → v ≡ unwrap_or (hex_digit_value (slice_index s i)) 255 → v < 16
+    → AllPass is_hex_digit (take i s) → AllPass is_hex_digit (take (i + 1) s)
+digits_more s i v fits e small before = All-more (λ c. is_hex_digit c ≡ true) s i 0 fits before (ap is_some (digit_is (hex_digit_value (slice_index s i)) v e small))
+
+-- one that is none
+pub no_digit_at : (s : List ℕ) (i v : ℕ) → i < length s → v ≡ unwrap_or (hex_digit_value (slice_index s i)) 255 → 15 < v → AllPass is_hex_digit s → ⊥
+no_digit_at s i v fits e large all = let small = digit_small (slice_index s i) v e (all i 0 fits) in omega arith
+
+-- pairs of digits spell octets, at least one
+pub pairs_spell : (s : List ℕ) → length s % 2 ≡ 0 → (length s / 2 ≡ 0 → ⊥) → AllPass is_hex_digit s → (octets : List ℕ) × IsHex s octets
+pairs_spell s even some all =
+    let h = decode_of-digits s even all in
+    let size = decode_of-ok s h.0 h.1 in
+    (h.0, (h.1, omega (arith, size.2)))

@@ -4,4 +4,4 @@ pub mod Digits
 pub mod Numerals
 pub mod Spellings
 pub mod Going
-pub mod Printing
+pub mod PrintedLines

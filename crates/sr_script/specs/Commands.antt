@@ -6,7 +6,7 @@ use Rattle.hex.specs.Hex.{decode_of}
 use Rattle.sr_frame.specs.declared.ports.Port.{Port}
 use Rattle.sr_frame.specs.declared.ports.Port.TheVariants.{H, A, B, C}
 use Rattle.sr_script.specs.declared.reading.Command.{Command}
-use Rattle.sr_script.specs.declared.reading.Command.TheVariants.{Skip, Arrive, Tick}
+use Rattle.sr_script.specs.declared.reading.Command.TheVariants.{Skip, Arrive, Send, Tick}
 
 -- words with single spaces between them
 abbrev pub spaced : List (List ℕ) → List ℕ
@@ -44,12 +44,29 @@ Says line Skip octets = ((line ≡ []) ⊎ IsComment line) × (octets ≡ [])
 Says line (Arrive port time) octets = (digits : List ℕ)
     × (line ≡ spaced (codes "in" ∷ letter_of port ∷ decimal time ∷ digits ∷ []))
     × IsInlet port × (time < 2 ^ 64) × IsHex digits octets
+Says line (Send time) octets = (digits : List ℕ) × (line ≡ spaced (codes "send" ∷ decimal time ∷ digits ∷ []))
+    × (time < 2 ^ 64) × IsHex digits octets
 Says line (Tick time) octets = IsTick line time × (octets ≡ [])
 
--- the words behind `in`
+-- the line is one of a script of events at a node
+abbrev pub IsEventLine : List ℕ → Type 0
+IsEventLine line = (command : Command) × (octets : List ℕ) × Says line command octets
+
+-- a time, and then octets
+abbrev pub IsTimed : List ℕ → ℕ → List ℕ → Type 0
+IsTimed text time octets = (digits : List ℕ) × (text ≡ spaced (decimal time ∷ digits ∷ [])) × (time < 2 ^ 64) × IsHex digits octets
+
+-- the words behind `in`: a port where frames come in, a time, and then octets
 abbrev pub IsArrival : List ℕ → Command → List ℕ → Type 0
 IsArrival text Skip octets = ⊥
-IsArrival text (Arrive port time) octets = (digits : List ℕ)
-    × (text ≡ spaced (letter_of port ∷ decimal time ∷ digits ∷ []))
+IsArrival text (Arrive port time) octets = (digits : List ℕ) × (text ≡ spaced (letter_of port ∷ decimal time ∷ digits ∷ []))
     × IsInlet port × (time < 2 ^ 64) × IsHex digits octets
+IsArrival text (Send time) octets = ⊥
 IsArrival text (Tick time) octets = ⊥
+
+-- the words behind `send`
+abbrev pub IsSending : List ℕ → Command → List ℕ → Type 0
+IsSending text Skip octets = ⊥
+IsSending text (Arrive port time) octets = ⊥
+IsSending text (Send time) octets = IsTimed text time octets
+IsSending text (Tick time) octets = ⊥

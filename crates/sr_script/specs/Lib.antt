@@ -1,7 +1,9 @@
 pub mod Octets
 pub mod Lines
 pub mod Commands
+pub mod Carriers
+pub mod Stations
 pub mod Texts
-pub mod Replies
 pub mod Runs
 pub mod Turns
+pub mod Replies

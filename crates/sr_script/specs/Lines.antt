@@ -27,6 +27,10 @@ TakesLine more line (Some xs) None = ⊥
 TakesLine true line (Some xs) (Some ys) = lines_of xs ≡ line ∷ lines_of ys
 TakesLine false line (Some xs) (Some ys) = lines_of xs ≡ []
 
+-- of a line no more than 8000 octets were taken, and not its end
+abbrev pub TakesPart : Option (List ℕ) → Option (List ℕ) → Type 0
+TakesPart before after = (part : List ℕ) × Consumes before after part × Lacks 10 part × (length part ≤ 8000)
+
 -- what stands behind the octets that were taken of a line
 abbrev pub end_of : Piece → List ℕ
 end_of Part = []

@@ -1,55 +1,79 @@
--- What a run of a script writes, and where it ends.
-use Rattle.std.specs.Prelude.{◌≡◌, ℕ, ◌+◌, ◌<◌, ◌≤◌, List, [], ◌∷◌, ◌++◌, length, Option, ◌⊎◌}
-use Rattle.std.specs.Io.KnownBytes.{Appends}
-use Rattle.sr_forwarding.specs.RoleImages.{role_of}
-use Rattle.sr_forwarding.specs.declared.role_image.RoleKind.TheVariants.{Danp}
-use Rattle.sr_node.specs.Images.{State, begun}
+-- What a run of a script writes, and where it ends, whatever the lines are for.
+use Rattle.std.specs.Prelude.{◌≡◌, ℕ, ◌+◌, ◌<◌, ◌≤◌, List, [], ◌∷◌, ◌++◌, length, Option, None, Some, ◌⊎◌}
+use Rattle.std.specs.Io.KnownBytes.{Appends, Keeps}
 use Rattle.sr_script.specs.declared.fault.Fault.{Fault}
 use Rattle.sr_script.specs.declared.fault.Word.{Word}
 use Rattle.sr_script.specs.declared.fault.Word.TheVariants as word
-use Rattle.sr_script.specs.declared.reading.Command.{Command}
-use Rattle.sr_script.specs.declared.setups.Setup.{Setup}
-use Rattle.sr_script.specs.Commands.{Says}
-use Rattle.sr_script.specs.Replies.{Replied}
+use Rattle.sr_script.specs.Lines.{lines_of}
+use Rattle.sr_script.specs.Octets.{Lacks}
 
--- the node at the start of a run
-abbrev pub start_of : Setup → State
-start_of setup = begun (role_of Danp setup.mac)
+-- What a session does, over its states: which lines it knows; from a state, a line with this number may be answered with
+-- this text, and leave a state; at a state, this may be printed at the end of the script.
+pub record Dialogue (S : Type 0) : Type 1 where
+  pub Knows : List ℕ → Type 0
+  pub Replied : S → ℕ → List ℕ → List ℕ → S → Type 0
+  pub Ends : S → List ℕ → Type 0
 
 -- a line of a length and at a place that a script may have
 pub record HasPlace (number : ℕ) (line : List ℕ) : Type 0 where
   pub count : number ≤ 1000000
   pub short : length line ≤ 8000
 
--- the lines, of which the first has this number, are lines of a script; the node answers them with this text, and comes to t
-abbrev pub Replies : State → ℕ → List (List ℕ) → List ℕ → State → Type 0
-Replies s number [] text t = (text ≡ []) × (t ≡ s)
-Replies s number (line ∷ lines) text t = (first : List ℕ) × (u : State) × (rest : List ℕ) × HasPlace number line
-    × Replied s number line first u × Replies u (number + 1) lines rest t × (text ≡ first ++ rest)
+-- the lines, of which the first has this number, are lines of a script; the session answers them with this text, and comes to t
+abbrev pub Replies : {S : Type 0} → Dialogue S → S → ℕ → List (List ℕ) → List ℕ → S → Type 0
+Replies d s number [] text t = (text ≡ []) × (t ≡ s)
+Replies d s number (line ∷ lines) text t = (first : List ℕ) × (u : _) × (rest : List ℕ) × HasPlace number line
+    × d.Replied s number line first u × Replies d u (number + 1) lines rest t × (text ≡ first ++ rest)
+
+-- all lines are answered, then the end is printed, and what is held grew by that
+abbrev pub IsAnswered : {S : Type 0} → Dialogue S → S → List (List ℕ) → Option (List ℕ) → Option (List ℕ) → Type 0
+IsAnswered d start lines held now = (text : List ℕ) × (t : _) × (last : List ℕ) × Replies d start 1 lines text t × d.Ends t last
+    × Appends held now (text ++ last)
 
 -- all lines are answered, and what is held grew by the answers
-abbrev pub IsAnswered : State → List (List ℕ) → Option (List ℕ) → Option (List ℕ) → Type 0
-IsAnswered start lines held now = (text : List ℕ) × (t : State) × Replies start 1 lines text t × Appends held now text
+abbrev pub AreAnswered : {S : Type 0} → Dialogue S → S → List (List ℕ) → Option (List ℕ) → Option (List ℕ) → Type 0
+AreAnswered d start lines held now = (text : List ℕ) × (t : _) × Replies d start 1 lines text t × Appends held now text
 
--- no line says anything like it
-abbrev pub SaysNothing : List ℕ → Type 0
-SaysNothing line = (command : Command) (octets : List ℕ) → Says line command octets → ⊥
+-- of the first of the lines that are left, the reader gave no more than 8000 octets, and no end
+abbrev pub IsWithinLine : List (List ℕ) → Option (List ℕ) → Type 0
+IsWithinLine left None = ⊥
+IsWithinLine left (Some rest) = (part : List ℕ) × (left ≡ lines_of (part ++ rest)) × Lacks 10 part × (length part ≤ 8000)
 
--- the fault of the first of the lines that are left; of reads, writes and memory nothing is known
-abbrev pub HasFault : ℕ → List (List ℕ) → Word → Type 0
-HasFault number [] word.Line = ⊥
-HasFault number (line ∷ lines) word.Line = HasPlace number line × SaysNothing line
-HasFault number [] word.Long = ⊥
-HasFault number (line ∷ lines) word.Long = (1000000 < number) ⊎ (8000 < length line)
-HasFault number left word.Read = Unit {0}
-HasFault number left word.Write = Unit {0}
-HasFault number left word.Memory = Unit {0}
+-- the fault of the first of the lines that are left, the reader having this left: where it is `read`, the line was not read, and
+-- where it is `write` or `memory`, the line is none of those that are `line` or `long`
+abbrev pub HasFault : {S : Type 0} → Dialogue S → ℕ → Word → List (List ℕ) → Option (List ℕ) → Type 0
+HasFault d number word.Line [] rest = ⊥
+HasFault d number word.Line (line ∷ lines) rest = HasPlace number line × (d.Knows line → ⊥)
+HasFault d number word.Long [] rest = ⊥
+HasFault d number word.Long (line ∷ lines) rest = (1000000 < number) ⊎ (8000 < length line)
+HasFault d number word.Read left rest = IsWithinLine left rest
+HasFault d number word.Write [] rest = Unit {0}
+HasFault d number word.Write (line ∷ lines) rest = HasPlace number line × d.Knows line
+HasFault d number word.Memory [] rest = Unit {0}
+HasFault d number word.Memory (line ∷ lines) rest = HasPlace number line × d.Knows line
 
--- the run came to the line of the fault: those before it are answered, and nothing more is written
-pub record EndsAt (start : State) (lines : List (List ℕ)) (fault : Fault) (held now : Option (List ℕ)) : Type 0 where
+-- what is held stays; where a write failed, nothing is known of it
+abbrev pub KeepsUnless : Word → Option (List ℕ) → Option (List ℕ) → Type 0
+KeepsUnless word.Line held now = Keeps held now
+KeepsUnless word.Long held now = Keeps held now
+KeepsUnless word.Read held now = Keeps held now
+KeepsUnless word.Write held now = Unit {0}
+KeepsUnless word.Memory held now = Keeps held now
+
+-- the run came to the line of the fault: those before it are answered, and then nothing more is written
+pub record EndsAt {S : Type 0} (d : Dialogue S) (start : S) (lines : List (List ℕ)) (fault : Fault) (rest held now : Option (List ℕ)) : Type 0 where
   pub before : List (List ℕ)
   pub left : List (List ℕ)
   pub parted : lines ≡ before ++ left
   pub number : fault.line ≡ length before + 1
-  pub answered : IsAnswered start before held now
-  pub reason : HasFault fault.line left fault.word
+  pub then_held : Option (List ℕ)
+  pub answered : AreAnswered d start before held then_held
+  pub kept : KeepsUnless fault.word then_held now
+  pub reason : HasFault d fault.line fault.word left rest
+
+-- memory was refused before the first line was read
+pub record IsNotBegun (fault : Fault) (left rest held now : Option (List ℕ)) : Type 0 where
+  pub line : fault.line ≡ 1
+  pub word_is : fault.word ≡ word.Memory
+  pub read : Keeps left rest
+  pub written : Keeps held now

@@ -4,38 +4,39 @@ use Rattle.std.specs.Fmt.{decimal}
 use Rattle.hex.specs.Hex.{encode_lower}
 use Rattle.sr_frame.specs.declared.ports.Port.{Port}
 use Rattle.sr_frame.specs.declared.ports.Port.TheVariants.{H, A, B, C}
-use Rattle.sr_prp_trailer.specs.declared.trailer.Lan.TheVariants as lan
 use Rattle.sr_forwarding.specs.declared.fault.ReadFault.TheVariants as read
 use Rattle.sr_forwarding.specs.Encoding.{IsWritten}
-use Rattle.sr_forwarding.specs.Framings.{FramingImage, Trailed, Ordinary}
-use Rattle.sr_forwarding.specs.Parcels.{ParcelImage}
+use Rattle.sr_forwarding.specs.Parcels.{ParcelImage, plain_of}
 use Rattle.sr_node.specs.declared.fault.StepFault.{StepFault}
 use Rattle.sr_node.specs.declared.fault.StepFault.TheVariants as fault
+use Rattle.sr_script.specs.declared.setups.RoleName.{RoleName}
 use Rattle.sr_script.specs.Commands.{spaced, letter_of}
+use Rattle.sr_script.specs.Stations.{framing_of}
 
 -- words as a line of their own
 abbrev pub printed : List (List ℕ) → List ℕ
 printed words = spaced words ++ 10 ∷ []
 
--- the framings of the ports of a doubly attached node of a PRP network: A and B are in its LANs
-abbrev pub framing_of : Port → FramingImage
-framing_of H = Ordinary
-framing_of A = Trailed lan.A 0
-framing_of B = Trailed lan.B 0
-framing_of C = Ordinary
-
 -- octets that go out at a port, in lower case
 abbrev pub frame_line : Port → List ℕ → List ℕ
 frame_line port octets = printed (letter_of port ∷ encode_lower octets ∷ [])
 
--- the line of a parcel: what the framing of the outlet writes it as
-abbrev pub IsLine : Port → ParcelImage → List ℕ → Type 0
-IsLine port p line = (octets : List ℕ) × IsWritten (framing_of port) p.form p octets × (line ≡ frame_line port octets)
+-- the octets that a parcel goes out as: the host gets the plain form, every other outlet what its framing writes
+abbrev pub GoesAs : RoleName → Port → ParcelImage → List ℕ → Type 0
+GoesAs role H p octets = octets ≡ plain_of p
+GoesAs role A p octets = IsWritten (framing_of role A) p.form p octets
+GoesAs role B p octets = IsWritten (framing_of role B) p.form p octets
+GoesAs role C p octets = IsWritten (framing_of role C) p.form p octets
+
+-- the line of a parcel
+abbrev pub IsLine : RoleName → Port → ParcelImage → List ℕ → Type 0
+IsLine role port p line = (octets : List ℕ) × GoesAs role port p octets × (line ≡ frame_line port octets)
 
 -- the lines of parcels, in order
-abbrev pub AreLines : Port → List ParcelImage → List ℕ → Type 0
-AreLines port [] text = text ≡ []
-AreLines port (p ∷ ps) text = (line : List ℕ) × (rest : List ℕ) × IsLine port p line × AreLines port ps rest × (text ≡ line ++ rest)
+abbrev pub AreLines : RoleName → Port → List ParcelImage → List ℕ → Type 0
+AreLines role port [] text = text ≡ []
+AreLines role port (p ∷ ps) text =
+    (line : List ℕ) × (rest : List ℕ) × IsLine role port p line × AreLines role port ps rest × (text ≡ line ++ rest)
 
 -- what a refusal is called; want of memory is none
 abbrev pub name_of : StepFault → Option (List ℕ)

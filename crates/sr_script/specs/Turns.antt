@@ -1,27 +1,33 @@
 -- One turn of a run: a line is read, answered and written.
-use Rattle.std.specs.Prelude.{◌≡◌, ◌≢◌, ℕ, ◌≤◌, Bool, true, false, List, ◌∷◌, length, Option, IfSome}
+use Rattle.std.specs.Prelude.{◌≡◌, ℕ, ◌+◌, ◌≤◌, Bool, true, false, List, ◌∷◌, length, Option, None, Some, IfSome}
 use Rattle.std.specs.Io.KnownBytes.{Appends, Keeps}
-use Rattle.sr_node.specs.Images.{State}
 use Rattle.sr_script.specs.declared.fault.Word.{Word}
 use Rattle.sr_script.specs.declared.fault.Word.TheVariants as word
-use Rattle.sr_script.specs.Lines.{lines_of, TakesLine, BeginsLong}
-use Rattle.sr_script.specs.Replies.{Replied}
-use Rattle.sr_script.specs.Runs.{SaysNothing}
+use Rattle.sr_script.specs.Lines.{lines_of, TakesLine, TakesPart, BeginsLong}
+use Rattle.sr_script.specs.Runs.{Dialogue, Replies, KeepsUnless}
 
 -- a line was read and answered, or none was left
-abbrev pub Turned : Bool → ℕ → State → State → Option (List ℕ) → Option (List ℕ) → Option (List ℕ) → Option (List ℕ) → Type 0
-Turned true number s t left rest held now = (line : List ℕ) × (text : List ℕ) × TakesLine true line left rest × (length line ≤ 8000)
-    × Replied s number line text t × Appends held now text
-Turned false number s t left rest held now = (line : List ℕ) × TakesLine false line left rest × Keeps held now
+abbrev pub Turned : {S : Type 0} → Dialogue S → Bool → ℕ → S → S → Option (List ℕ) → Option (List ℕ) → Option (List ℕ) → Option (List ℕ) → Type 0
+Turned d true number s t left rest held now = (line : List ℕ) × (text : List ℕ) × TakesLine true line left rest × (length line ≤ 8000)
+    × d.Replied s number line text t × Appends held now text
+Turned d false number s t left rest held now = (line : List ℕ) × TakesLine false line left rest × Keeps held now × (t ≡ s)
 
--- what was left begins with a line of this fault
-abbrev pub BeginsFaulty : Word → List ℕ → Type 0
-BeginsFaulty word.Line text = (line : List ℕ) × (lines : List (List ℕ)) × (lines_of text ≡ line ∷ lines) × (length line ≤ 8000) × SaysNothing line
-BeginsFaulty word.Long text = BeginsLong text
-BeginsFaulty word.Read text = Unit {0}
-BeginsFaulty word.Write text = Unit {0}
-BeginsFaulty word.Memory text = Unit {0}
+-- a line was read, which the session knows
+abbrev pub IsKnown : {S : Type 0} → Dialogue S → Option (List ℕ) → Option (List ℕ) → Type 0
+IsKnown d left rest = (line : List ℕ) × TakesLine true line left rest × (length line ≤ 8000) × d.Knows line
 
--- the turn failed: of a write nothing is known, else nothing was written
-abbrev pub Failed : Word → Option (List ℕ) → Option (List ℕ) → Option (List ℕ) → Type 0
-Failed w left held now = IfSome left (BeginsFaulty w) × (w ≢ word.Write → Keeps held now)
+-- why the turn failed
+abbrev pub HasFailed : {S : Type 0} → Dialogue S → Word → Option (List ℕ) → Option (List ℕ) → Type 0
+HasFailed d word.Line left rest = (line : List ℕ) × TakesLine true line left rest × (length line ≤ 8000) × (d.Knows line → ⊥)
+HasFailed d word.Long left rest = IfSome left BeginsLong
+HasFailed d word.Read left rest = TakesPart left rest
+HasFailed d word.Write left rest = IsKnown d left rest
+HasFailed d word.Memory left rest = IsKnown d left rest
+
+-- the turn failed, and unless it was at the writer nothing was written
+abbrev pub Failed : {S : Type 0} → Dialogue S → Word → Option (List ℕ) → Option (List ℕ) → Option (List ℕ) → Option (List ℕ) → Type 0
+Failed d w left rest held now = HasFailed d w left rest × KeepsUnless w held now
+
+-- all lines are answered, which came to t, and what is held grew by the answers; behind them the next number is n
+abbrev pub AllAnswered : {S : Type 0} → Dialogue S → S → List (List ℕ) → Option (List ℕ) → Option (List ℕ) → S → ℕ → Type 0
+AllAnswered d start lines held now t n = (text : List ℕ) × Replies d start 1 lines text t × (n ≡ length lines + 1) × Appends held now text

@@ -1,10 +1,11 @@
 //! Octets as hexadecimal digits. The loops have no branch for a digit, so that they run on many
 //! digits at a time.
 
-ghost use Rattle.std.specs.Prelude.{◌≡◌, ◌*◌, ◌+◌, ◌-◌, ◌<◌, ◌++◌, ◌∷◌, [], ℕ, List, length, unwrap_or, take, MatchBool, MatchResult, IfOk, IfErr, OnOk, IsErr, slice_index, ◌^◌};
+ghost use Rattle.std.specs.Prelude.{◌≡◌, ◌*◌, ◌+◌, ◌-◌, ◌<◌, ◌++◌, ◌∷◌, [], ℕ, List, length, unwrap_or, take, MatchBool, MatchResult, IfOk, IfErr, OnOk, IsErr, Err, IsTrue, ◌↔◌, slice_index, ◌^◌};
 ghost use Rattle.sr_script.specs.Lines.{IsOneOf};
 ghost use Rattle.sr_script.specs.Commands.{IsHex};
-ghost use Rattle.hex.specs.Hex.{decode_of, decode_pairs, encode_lower, lower_digits, hex_digit_value};
+ghost use Rattle.std.specs.List.{AllPass};
+ghost use Rattle.hex.specs.Hex.{decode_of, decode_pairs, encode_lower, lower_digits, hex_digit_value, is_hex_digit};
 
 use crate::fault::Word;
 
@@ -40,21 +41,56 @@ fn read_pairs(digits: &[u8], octets: &mut [u8]) -> bool
     worst < 16
 }
 
+/// Whether all octets are digits.
+fn are_digits(digits: &[u8]) -> bool
+    ensures { IsTrue result ↔ AllPass is_hex_digit digits.now }
+{
+    for digit in digits {
+        if digit_value(*digit) > 15 {
+            return false;
+        }
+    }
+    true
+}
+
+/// Gives a list so many octets. Where it has to grow, the digits are looked at first.
+fn make_room(digits: &[u8], octets: &mut Vec<u8>, count: usize) -> Result<(), Word>
+    ensures ok { OnOk result (length octets.new.items ≡ count) }
+    ensures bad { result ≡ Err Word.Line → AllPass is_hex_digit digits.now → ⊥ }
+    ensures memory { result ≡ Err Word.Memory → AllPass is_hex_digit digits.now }
+    ensures fault { IfErr result (λ word. IsOneOf word (Word.Line ∷ Word.Memory ∷ [])) }
+{
+    if octets.capacity() >= count {
+        octets.resize(count, 0).unwrap();
+        return Ok(());
+    }
+    if !are_digits(digits) {
+        return Err(Word::Line);
+    }
+    match octets.resize(count, 0) {
+        Ok(()) => Ok(()),
+        Err(_) => Err(Word::Memory),
+    }
+}
+
 /// Reads hexadecimal digits of either case, two an octet, into `octets`, in place of what it held.
 ///
 /// # Errors
-/// `Line` where the digits are none, not even in number, or not all digits; `Memory`. What `octets` then holds
-/// says nothing.
+/// `Line` where the digits are none, not even in number, or not all digits, whatever memory there is; `Memory`. What
+/// `octets` then holds says nothing.
 pub(crate) fn read_hex(digits: &[u8], octets: &mut Vec<u8>) -> Result<(), Word>
     ensures found { OnOk result (IsHex digits.now octets.new.items) }
     ensures only { (os : List ℕ) → IsHex digits.now os → IfErr result (λ word. word ≡ Word.Memory) }
+    ensures memory { result ≡ Err Word.Memory → (os : List ℕ) × IsHex digits.now os }
     ensures fault { IfErr result (λ word. IsOneOf word (Word.Line ∷ Word.Memory ∷ [])) }
 {
     let count = digits.len() / 2;
     if digits.len() % 2 != 0 || count == 0 {
         return Err(Word::Line);
     }
-    octets.resize(count, 0)?;
+    if let Err(word) = make_room(digits, octets, count) {
+        return Err(word);
+    }
     if read_pairs(digits, octets.as_mut_slice()) {
         Ok(())
     } else {

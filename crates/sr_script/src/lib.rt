@@ -2,15 +2,19 @@
 #![tactic(auto)]
 
 mod answering;
+mod carriers;
 mod fault;
 mod hexadecimal;
 mod lines;
 mod numbers;
+mod printing;
 mod reading;
+mod replaying;
 mod running;
+mod session;
 mod setups;
 mod words;
 
 pub use fault::{Fault, Word};
-pub use running::run;
+pub use replaying::run;
 pub use setups::{RoleName, Setup};

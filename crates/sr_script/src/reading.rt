@@ -1,9 +1,9 @@
 //! What a line of a script asks for.
 
-ghost use Rattle.std.specs.Prelude.{◌≡◌, ◌↔◌, ◌<◌, ◌^◌, ℕ, List, IfOk, IfErr, OnOk, IfSome, IsTrue, MatchResult, ◌∷◌, []};
+ghost use Rattle.std.specs.Prelude.{◌≡◌, ◌↔◌, ◌<◌, ◌^◌, ℕ, List, codes, IfOk, IfErr, OnOk, IfSome, IsSomeAnd, IsTrue, ◌++◌, MatchResult, Err, ◌∷◌, []};
 ghost use Rattle.std.specs.Fmt.{decimal};
 ghost use Rattle.sr_script.specs.Lines.{IsOneOf};
-ghost use Rattle.sr_script.specs.Commands.{Says, spaced, IsComment, IsInlet, IsHex, letter_of, IsArrival, IsTick};
+ghost use Rattle.sr_script.specs.Commands.{Says, IsEventLine, spaced, IsComment, IsInlet, IsHex, letter_of, IsTimed, IsArrival, IsSending, IsTick};
 
 use crate::fault::Word;
 use crate::hexadecimal::read_hex;
@@ -18,6 +18,8 @@ pub(crate) enum Command {
     Skip,
     /// Octets that arrive at a port, at a time in milliseconds.
     Arrive(Port, u64),
+    /// The host sends octets, at a time in milliseconds.
+    Send(u64),
     /// Time passes, in milliseconds.
     Tick(u64),
 }
@@ -29,15 +31,58 @@ fn is_comment(line: &[u8]) -> bool
     !line.is_empty() && line[0] == b'#' && line.iter().all(|octet| *octet < 128)
 }
 
-/// The port of a word where frames come in.
-fn inlet_of(word: &[u8]) -> Option<Port>
-    ensures found { IfSome result (λ port. (word.now ≡ letter_of port) × IsInlet port) }
-    ensures only { (port : Port) → IsInlet port → word.now ≡ letter_of port → result ≡ Some port }
+/// What stands behind the word `in` and a space.
+fn behind_in(line: &[u8]) -> Option<&[u8]>
+    ensures found { IfSome result (λ rest. line.now ≡ codes "in " ++ rest.now) }
+    ensures only { (rest : List ℕ) → line.now ≡ codes "in " ++ rest → IsSomeAnd result (λ r. r.now ≡ rest) }
 {
-    match word {
-        b"A" => Some(Port::A),
-        b"B" => Some(Port::B),
+    match line {
+        [b'i', b'n', b' ', rest @ ..] => Some(rest),
         _ => None,
+    }
+}
+
+/// What stands behind the word `send` and a space.
+fn behind_send(line: &[u8]) -> Option<&[u8]>
+    ensures found { IfSome result (λ rest. line.now ≡ codes "send " ++ rest.now) }
+    ensures only { (rest : List ℕ) → line.now ≡ codes "send " ++ rest → IsSomeAnd result (λ r. r.now ≡ rest) }
+{
+    match line {
+        [b's', b'e', b'n', b'd', b' ', rest @ ..] => Some(rest),
+        _ => None,
+    }
+}
+
+/// The port that a text begins with, where frames come in, and what stands behind it and a space.
+fn split_inlet(text: &[u8]) -> Option<(Port, &[u8])>
+    ensures found { IfSome result (λ parts. (text.now ≡ letter_of parts.0 ++ 32 ∷ parts.1.now) × IsInlet parts.0) }
+    ensures only { (port : Port) (rest : List ℕ) → IsInlet port → text.now ≡ letter_of port ++ 32 ∷ rest
+        → IsSomeAnd result (λ parts. (parts.0 ≡ port) × (parts.1.now ≡ rest)) }
+{
+    match text {
+        [b'A', b' ', rest @ ..] => Some((Port::A, rest)),
+        [b'B', b' ', rest @ ..] => Some((Port::B, rest)),
+        _ => None,
+    }
+}
+
+/// Reads a time, and then octets.
+fn timed(text: &[u8], octets: &mut Vec<u8>) -> Result<u64, Word>
+    ensures found { IfOk result (λ time. IsTimed text.now time octets.new.items) }
+    ensures only { (time : ℕ) (os : List ℕ) → IsTimed text.now time os
+        → MatchResult result (λ t. (t ≡ time) × (octets.new.items ≡ os)) (λ word. word ≡ Word.Memory) }
+    ensures memory { result ≡ Err Word.Memory → (time : ℕ) × (os : List ℕ) × IsTimed text.now time os }
+    ensures fault { IfErr result (λ word. IsOneOf word (Word.Line ∷ Word.Memory ∷ [])) }
+{
+    let Some((time, digits)) = split_word(text) else {
+        return Err(Word::Line);
+    };
+    let Some(time) = number_of(time) else {
+        return Err(Word::Line);
+    };
+    match read_hex(digits, octets) {
+        Ok(()) => Ok(time),
+        Err(word) => Err(word),
     }
 }
 
@@ -46,19 +91,30 @@ fn arrival(text: &[u8], octets: &mut Vec<u8>) -> Result<Command, Word>
     ensures found { IfOk result (λ command. IsArrival text.now command octets.new.items) }
     ensures only { (port : Port) (time : ℕ) (os : List ℕ) → IsArrival text.now (Command.Arrive port time) os
         → MatchResult result (λ command. (command ≡ Command.Arrive port time) × (octets.new.items ≡ os)) (λ word. word ≡ Word.Memory) }
+    ensures memory { result ≡ Err Word.Memory → (port : Port) × (time : ℕ) × (os : List ℕ) × IsArrival text.now (Command.Arrive port time) os }
     ensures fault { IfErr result (λ word. IsOneOf word (Word.Line ∷ Word.Memory ∷ [])) }
 {
-    let Some((port, rest)) = split_word(text) else {
+    let Some((port, rest)) = split_inlet(text) else {
         return Err(Word::Line);
     };
-    let Some((time, digits)) = split_word(rest) else {
-        return Err(Word::Line);
-    };
-    let (Some(port), Some(time)) = (inlet_of(port), number_of(time)) else {
-        return Err(Word::Line);
-    };
-    read_hex(digits, octets)?;
-    Ok(Command::Arrive(port, time))
+    match timed(rest, octets) {
+        Ok(time) => Ok(Command::Arrive(port, time)),
+        Err(word) => Err(word),
+    }
+}
+
+/// Reads what stands behind the word `send`: the time and the octets.
+fn sending(text: &[u8], octets: &mut Vec<u8>) -> Result<Command, Word>
+    ensures found { IfOk result (λ command. IsSending text.now command octets.new.items) }
+    ensures only { (time : ℕ) (os : List ℕ) → IsSending text.now (Command.Send time) os
+        → MatchResult result (λ command. (command ≡ Command.Send time) × (octets.new.items ≡ os)) (λ word. word ≡ Word.Memory) }
+    ensures memory { result ≡ Err Word.Memory → (time : ℕ) × (os : List ℕ) × IsSending text.now (Command.Send time) os }
+    ensures fault { IfErr result (λ word. IsOneOf word (Word.Line ∷ Word.Memory ∷ [])) }
+{
+    match timed(text, octets) {
+        Ok(time) => Ok(Command::Send(time)),
+        Err(word) => Err(word),
+    }
 }
 
 /// The time of a line that says that time passes.
@@ -72,19 +128,23 @@ fn tick_of(line: &[u8]) -> Option<u64>
 /// What a line asks for. The octets that it names are then in `octets`, and nothing else is.
 ///
 /// # Errors
-/// `Line` where the line is none of a script; `Memory`.
+/// `Line` where the line is none of a script, whatever memory there is; `Memory`.
 pub(crate) fn command_of(line: &[u8], octets: &mut Vec<u8>) -> Result<Command, Word>
     ensures found { IfOk result (λ command. Says line.now command octets.new.items) }
     ensures only { (command : Command) (os : List ℕ) → Says line.now command os
         → MatchResult result (λ found. (found ≡ command) × (octets.new.items ≡ os)) (λ word. word ≡ Word.Memory) }
+    ensures memory { result ≡ Err Word.Memory → IsEventLine line.now }
     ensures fault { IfErr result (λ word. IsOneOf word (Word.Line ∷ Word.Memory ∷ [])) }
 {
     if line.is_empty() || is_comment(line) {
         octets.clear();
         return Ok(Command::Skip);
     }
-    if let Some(rest) = line.strip_prefix(b"in ".as_slice()) {
+    if let Some(rest) = behind_in(line) {
         return arrival(rest, octets);
+    }
+    if let Some(rest) = behind_send(line) {
+        return sending(rest, octets);
     }
     octets.clear();
     match tick_of(line) {

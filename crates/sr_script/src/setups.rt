@@ -8,6 +8,8 @@ use sr_slots::Keys;
 pub enum RoleName {
     /// A doubly attached node of a PRP network (IEC 62439-3 clause 4).
     Danp,
+    /// A doubly attached node of an HSR ring (IEC 62439-3 clause 5).
+    Danh,
 }
 
 /// The node that a script is run on.

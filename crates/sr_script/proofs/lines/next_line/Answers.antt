@@ -5,7 +5,13 @@ use Rattle.sr_script.proofs.lines.next_line.Goals as goal
 pub loop-reader-preserved : goal.loop-reader-preserved
 loop-reader-preserved g c =
     let more = goes_on _ _ _ _ _ c.loop-reader.invariant.unbroken c.loop-reader.invariant.took (rw c.in-Part.is at c.in_ok-take_piece.ensures.taken) in
-    record { short = more.0; unbroken = more.1; took = more.2 }
+    record {
+      short = more.0;
+      unbroken = more.1;
+      room = omega (arith, c.in_ok-take_piece.ensures.room, c.loop-reader.invariant.room);
+      no_less = omega (arith, c.in_ok-take_piece.ensures.room, c.loop-reader.invariant.no_less);
+      took = more.2;
+    }
 
 pub returns-in-Last-clause-taken : goal.returns-in-Last-clause-taken
 returns-in-Last-clause-taken g c =

@@ -1,7 +1,7 @@
 use Rattle.std.proofs.Common.{ℕ, List, ◌++◌, ap, refl, ◌∙◌}
 use Rattle.sr_node.specs.Images.{node_state}
-use Rattle.sr_script.proofs.Printing.{four_parts}
-use Rattle.sr_script.proofs.answering.append_outlets.Goals as goal
+use Rattle.sr_script.proofs.PrintedLines.{four_parts}
+use Rattle.sr_script.proofs.printing.append_outlets.Goals as goal
 
 pub returns-clause-ok : goal.returns-clause-ok
 returns-clause-ok g c =

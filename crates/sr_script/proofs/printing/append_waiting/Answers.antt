@@ -3,8 +3,8 @@ use Rattle.sr_forwarding.specs.Parcels.{ParcelImage}
 use Rattle.sr_node.specs.Images.{State, node_state}
 use Rattle.sr_node.specs.Outboxes.{box_at}
 use Rattle.sr_script.specs.Replies.{emptied}
-use Rattle.sr_script.proofs.Printing.{Printed, printed_more, printed_all, left_at, box_left, emptied_left, left_is_emptied}
-use Rattle.sr_script.proofs.answering.append_waiting.Goals as goal
+use Rattle.sr_script.proofs.PrintedLines.{Printed, printed_more, printed_all, left_at, box_left, emptied_left, left_is_emptied}
+use Rattle.sr_script.proofs.printing.append_waiting.Goals as goal
 
 pub loop-parcel-preserved : goal.loop-parcel-preserved
 loop-parcel-preserved g c =
@@ -16,10 +16,10 @@ loop-parcel-preserved g c =
     let line = c.in_ok-append_parcel.ensures.ok in
     let left : box_at c.take.new.self.core.out port ≡ drop 1 (box_at c.loop-parcel.node.core.out port) =
     ap (λ (u : State). box_at u.core.out port) took.1 ∙ box_left s port in
-    let more = printed_more port whole (box_at c.loop-parcel.node.core.out port) c.in-Some.parcel before c.loop-parcel.text.items line.0 (sym took.0) line.1 c.loop-parcel.invariant.lines in
+    let more = printed_more c.args.role port whole (box_at c.loop-parcel.node.core.out port) c.in-Some.parcel before c.loop-parcel.text.items line.0 (sym took.0) line.1 c.loop-parcel.invariant.lines in
     record {
-      lines = subst (λ (q : List ParcelImage). Printed port whole q before c.append_parcel.new.text.items) (sym left)
-          (subst (λ (text : List ℕ). Printed port whole (drop 1 (box_at c.loop-parcel.node.core.out port)) before text) (sym line.2) more);
+      lines = subst (λ (q : List ParcelImage). Printed c.args.role port whole q before c.append_parcel.new.text.items) (sym left)
+          (subst (λ (text : List ℕ). Printed c.args.role port whole (drop 1 (box_at c.loop-parcel.node.core.out port)) before text) (sym line.2) more);
       node = ap (λ (u : State). emptied u port) took.1 ∙ emptied_left s port ∙ c.loop-parcel.invariant.node;
     }
 
@@ -29,5 +29,5 @@ returns-clause-ok g c =
     let port = c.args.port in
     let none : c.take.result ≡ None = search rules in
     let empty = sym c.take.ensures.took.0 ∙ none in
-    let all = printed_all port (box_at c.args.node.now.core.out port) (box_at c.loop-parcel.node.core.out port) c.args.text.now.items c.loop-parcel.text.items empty c.loop-parcel.invariant.lines in
+    let all = printed_all c.args.role port (box_at c.args.node.now.core.out port) (box_at c.loop-parcel.node.core.out port) c.args.text.now.items c.loop-parcel.text.items empty c.loop-parcel.invariant.lines in
     (all.0, (all.1, c.take.ensures.took.1 ∙ left_is_emptied s port empty ∙ c.loop-parcel.invariant.node), all.2)

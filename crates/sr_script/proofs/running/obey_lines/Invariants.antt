@@ -1,0 +1,10 @@
+use Rattle.std.proofs.Common.{◌≤◌, vec_capacity}
+use Rattle.sr_script.proofs.Going.{Going}
+use Rattle.sr_script.proofs.running.obey_lines.Given as goal
+
+abbrev pub invariant-loop-number : goal.invariant-loop-number
+invariant-loop-number g l = record {
+  room : 8001 ≤ vec_capacity l.line;
+  going : Going g.S.Session.dialogue (g.S.Session.state l.fn.session) (g.R.Read.remaining l.fn.reader) (g.R.Read.remaining l.reader)
+      (g.W.Write.contents l.fn.writer) (g.W.Write.contents l.writer) (g.S.Session.state l.session) l.number;
+}

@@ -1,0 +1,142 @@
+//! What a node puts out, as text.
+
+ghost use Rattle.std.specs.Prelude.{◌≡◌, ◌++◌, ◌∷◌, [], ◌≤◌, ℕ, List, length, OnOk, IfErr};
+ghost use Rattle.hex.specs.Hex.{encode_lower};
+ghost use Rattle.sr_node.specs.Images.{node_state};
+ghost use Rattle.sr_forwarding.specs.Encoding.{IsWritten};
+ghost use Rattle.sr_forwarding.specs.Parcels.{plain_of};
+ghost use Rattle.sr_script.specs.Commands.{letter_of};
+ghost use Rattle.sr_script.specs.Stations.{framing_of};
+ghost use Rattle.sr_script.specs.Texts.{frame_line, GoesAs, IsLine};
+ghost use Rattle.sr_script.specs.Replies.{Emptied, AllEmptied};
+
+use crate::carriers::carrier_of;
+use crate::fault::Word;
+use crate::setups::RoleName;
+use sr_forwarding::{Framing, Parcel, Role};
+use sr_frame::{Port, append};
+use sr_hex::append_hex;
+use sr_node::NodeOf;
+use std::alloc::AllocError;
+
+/// The letter of a port.
+fn letter_of(port: Port) -> u8
+    ensures { letter_of port ≡ result ∷ [] }
+{
+    match port {
+        Port::H => b'H',
+        Port::A => b'A',
+        Port::B => b'B',
+        Port::C => b'C',
+    }
+}
+
+/// Appends the line for a frame that goes out at a port.
+fn append_frame(text: &mut Vec<u8>, port: Port, frame: &[u8]) -> Result<(), AllocError>
+    requires { length frame.now ≤ 1524 }
+    ensures { OnOk result (text.new.items ≡ text.old.items ++ (letter_of port ++ (32 ∷ encode_lower frame.now)) ++ 10 ∷ []) }
+{
+    text.push(letter_of(port))?;
+    text.push(b' ')?;
+    append_hex(text, frame)?;
+    text.push(b'\n')?;
+    Ok(())
+}
+
+/// Writes the plain form of a parcel into an empty list.
+fn write_plain(parcel: &Parcel, frame: &mut Vec<u8>) -> Result<(), Word>
+    requires { frame.old.items ≡ [] }
+    ensures ok { OnOk result (frame.new.items ≡ plain_of parcel.now) }
+    ensures size { OnOk result (length frame.new.items ≤ 1524) }
+    ensures err { IfErr result (λ word. word ≡ Word.Memory) }
+{
+    match append(frame, &parcel.plain()) {
+        Ok(()) => Ok(()),
+        Err(_) => Err(Word::Memory),
+    }
+}
+
+/// Writes a parcel by the framing of a port into an empty list.
+fn write_framed(
+    role: RoleName,
+    port: Port,
+    parcel: &Parcel,
+    frame: &mut Vec<u8>,
+) -> Result<(), Word>
+    requires { frame.old.items ≡ [] }
+    ensures ok { OnOk result (IsWritten (framing_of role port) parcel.now.form parcel.now frame.new.items) }
+    ensures size { OnOk result (length frame.new.items ≤ 1524) }
+    ensures err { IfErr result (λ word. word ≡ Word.Memory) }
+{
+    match carrier_of(role, port).write(frame, &parcel.view()) {
+        Ok(()) => Ok(()),
+        Err(_) => Err(Word::Memory),
+    }
+}
+
+/// Writes a parcel as the frame that it goes out as at a port, in place of what the list held.
+fn write_frame(role: RoleName, port: Port, parcel: &Parcel, frame: &mut Vec<u8>) -> Result<(), Word>
+    ensures ok { OnOk result (GoesAs role port parcel.now frame.new.items) }
+    ensures size { OnOk result (length frame.new.items ≤ 1524) }
+    ensures err { IfErr result (λ word. word ≡ Word.Memory) }
+{
+    frame.clear();
+    match port {
+        Port::H => write_plain(parcel, frame),
+        Port::A | Port::B | Port::C => write_framed(role, port, parcel, frame),
+    }
+}
+
+/// Appends the line for a parcel that goes out at a port. The list is used again.
+fn append_parcel(
+    role: RoleName,
+    port: Port,
+    parcel: &Parcel,
+    frame: &mut Vec<u8>,
+    text: &mut Vec<u8>,
+) -> Result<(), Word>
+    ensures ok { OnOk result ((line : List ℕ) × IsLine role port parcel.now line × (text.new.items ≡ text.old.items ++ line)) }
+    ensures err { IfErr result (λ word. word ≡ Word.Memory) }
+{
+    write_frame(role, port, parcel, frame)?;
+    append_frame(text, port, frame)?;
+    Ok(())
+}
+
+/// Takes all that waits at a port, and appends a line for each frame.
+fn append_waiting<R: Role>(
+    role: RoleName,
+    node: &mut NodeOf<R>,
+    port: Port,
+    frame: &mut Vec<u8>,
+    text: &mut Vec<u8>,
+) -> Result<(), Word>
+    ensures ok { OnOk result ((lines : List ℕ)
+        × Emptied role port (node_state (R.meaning node.old.role) node.old.core) lines (node_state (R.meaning node.new.role) node.new.core)
+        × (text.new.items ≡ text.old.items ++ lines)) }
+    ensures err { IfErr result (λ word. word ≡ Word.Memory) }
+{
+    while let Some(parcel) = node.take(port) {
+        append_parcel(role, port, &parcel, frame, text)?;
+    }
+    Ok(())
+}
+
+/// Takes all that waits, outlet by outlet, and appends a line for each frame.
+pub(crate) fn append_outlets<R: Role>(
+    role: RoleName,
+    node: &mut NodeOf<R>,
+    frame: &mut Vec<u8>,
+    text: &mut Vec<u8>,
+) -> Result<(), Word>
+    ensures ok { OnOk result ((lines : List ℕ)
+        × AllEmptied role (node_state (R.meaning node.old.role) node.old.core) lines (node_state (R.meaning node.new.role) node.new.core)
+        × (text.new.items ≡ text.old.items ++ lines)) }
+    ensures err { IfErr result (λ word. word ≡ Word.Memory) }
+{
+    append_waiting(role, node, Port::H, frame, text)?;
+    append_waiting(role, node, Port::A, frame, text)?;
+    append_waiting(role, node, Port::B, frame, text)?;
+    append_waiting(role, node, Port::C, frame, text)?;
+    Ok(())
+}

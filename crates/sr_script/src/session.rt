@@ -1,0 +1,36 @@
+//! What the lines of a script are for.
+
+ghost use Rattle.std.specs.Prelude.{◌≡◌, ◌∷◌, [], OnOk, IfErr, Err};
+ghost use Rattle.sr_script.specs.Lines.{IsOneOf};
+
+use crate::fault::Word;
+
+/// What obeys the lines of a script, and says what is printed for each and at the end. It knows no reader and no writer.
+pub(crate) trait Session: Send + Drop {
+    ghost use Rattle.sr_script.specs.Runs.{Dialogue};
+
+    // What clauses see of it.
+    ghost State: { Type 0 };
+
+    ghost state: { Self → State };
+
+    // Which lines it knows, what it answers to them, and what it says at the end.
+    ghost dialogue: { Dialogue State };
+
+    /// Obeys the line with this number. `text` is then what is to be printed for it.
+    ///
+    /// `Line` where the line is none that it knows, whatever memory there is; `Memory`.
+    fn answer(&mut self, number: u64, line: &[u8], text: &mut Vec<u8>) -> Result<(), Word>
+        requires { text.old.items ≡ [] }
+        ensures ok { OnOk result (dialogue.Replied (state self.old) number line.now text.new.items (state self.new)) }
+        ensures known { OnOk result (dialogue.Knows line.now) }
+        ensures bad { result ≡ Err Word.Line → dialogue.Knows line.now → ⊥ }
+        ensures memory { result ≡ Err Word.Memory → dialogue.Knows line.now }
+        ensures fault { IfErr result (λ word. IsOneOf word (Word.Line ∷ Word.Memory ∷ [])) };
+
+    /// What is to be printed at the end of the script.
+    fn finish(&mut self, text: &mut Vec<u8>) -> Result<(), Word>
+        requires { text.old.items ≡ [] }
+        ensures ok { OnOk result (dialogue.Ends (state self.old) text.new.items) }
+        ensures err { IfErr result (λ word. word ≡ Word.Memory) };
+}
