@@ -19,6 +19,3 @@ pub use choice::{Choice, Delays, Inlet, MAX_DELAY, Options};
 pub use fault::ScriptFault;
 pub use scripting::script;
 pub use shifts::delays_of;
-
-#[cfg(test)]
-mod tests;

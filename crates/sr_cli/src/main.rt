@@ -2,14 +2,16 @@
 #![tactic(auto)]
 
 mod command_line;
+mod progress;
 mod script;
 mod script_line;
 
 use command_line::{Task, task_of};
+use progress::Progress;
 use script::run_script;
 use sr_script::{Fault, Setup, Word, run};
 use sr_slots::Keys;
-use std::io::{self, BufReader};
+use std::io::{self, BufReader, IsTerminal};
 use std::process::ExitCode;
 use std::random::RandomSource;
 use std::rt::{Env, Files};
@@ -21,7 +23,12 @@ const RUN_FAILED: u8 = 1;
 const NOT_STARTED: u8 = 2;
 
 fn main(rt: HostRuntime) -> ExitCode {
-    match start(&rt) {
+    let progress = if rt.stderr().is_terminal() {
+        Progress::Told
+    } else {
+        Progress::Silent
+    };
+    match start(&rt, progress) {
         Ok(()) => ExitCode::SUCCESS,
         Err(code) => ExitCode::from(code),
     }
@@ -30,6 +37,7 @@ fn main(rt: HostRuntime) -> ExitCode {
 /// Reads the command line and runs the script. An error is the exit status; why is on standard error.
 fn start<R: AllocGlobal + Print + Eprint + Input + Env + Files + RandomSource>(
     rt: &R,
+    progress: Progress,
 ) -> Result<(), u8> {
     let Ok(args) = std::env::args(rt) else {
         return Err(NOT_STARTED);
@@ -38,7 +46,7 @@ fn start<R: AllocGlobal + Print + Eprint + Input + Env + Files + RandomSource>(
         return Err(NOT_STARTED);
     };
     match task_of(rt.alloc(), words.as_slice()) {
-        Ok(Task::Script(task)) => run_script(rt, &task).map_err(|()| RUN_FAILED),
+        Ok(Task::Script(task)) => run_script(rt, &task, progress).map_err(|()| RUN_FAILED),
         Ok(Task::Replay(setup)) => replay(rt, &setup).map_err(|fault| {
             let _ = eprintln!(rt; "{fault}");
             RUN_FAILED

@@ -1,5 +1,6 @@
 //! The subcommand `script`: opens the captures, and says what is wrong with one.
 
+use crate::progress::{Metered, Progress};
 use crate::script_line::ScriptTask;
 use sr_capture::{CaptureFault, Reason};
 use sr_capture_script::{Inlet, ScriptFault, script};
@@ -80,12 +81,16 @@ fn tell_file<R: Eprint>(rt: &R, inlet: Inlet, fault: CaptureFault) {
     }
 }
 
+/// A file that is read ahead, and tells how far it was read.
+type Opened<'a, R> = BufReader<Metered<'a, <R as Files>::File, R>>;
+
 /// Opens the file of an inlet, if there is one.
-fn open_file<R: AllocGlobal + Eprint + Files>(
-    rt: &R,
+fn open_file<'a, R: AllocGlobal + Eprint + Files>(
+    rt: &'a R,
     inlet: Inlet,
     path: Option<&str>,
-) -> Result<Option<BufReader<R::File>>, ()> {
+    progress: Progress,
+) -> Result<Option<Opened<'a, R>>, ()> {
     let Some(path) = path else {
         return Ok(None);
     };
@@ -94,7 +99,8 @@ fn open_file<R: AllocGlobal + Eprint + Files>(
         let _ = eprintln!(rt; "fault {letter} open 0");
         return Err(());
     };
-    match BufReader::new(rt.alloc(), file) {
+    let len = std::fs::metadata(rt, path).map_or(0, |metadata| metadata.len());
+    match BufReader::new(rt.alloc(), Metered::new(rt, file, letter, len, progress)) {
         Ok(reader) => Ok(Some(reader)),
         Err(_) => {
             let _ = eprintln!(rt; "fault {letter} memory 0");
@@ -107,10 +113,11 @@ fn open_file<R: AllocGlobal + Eprint + Files>(
 pub fn run_script<R: AllocGlobal + Print + Eprint + Files>(
     rt: &R,
     task: &ScriptTask<'_>,
+    progress: Progress,
 ) -> Result<(), ()> {
-    let a = open_file(rt, Inlet::A, task.a)?;
-    let b = open_file(rt, Inlet::B, task.b)?;
-    let c = open_file(rt, Inlet::C, task.c)?;
+    let a = open_file(rt, Inlet::A, task.a, progress)?;
+    let b = open_file(rt, Inlet::B, task.b, progress)?;
+    let c = open_file(rt, Inlet::C, task.c, progress)?;
     let Ok(inner) = BufWriter::new(rt.alloc(), io::writer(rt)) else {
         let _ = eprintln!(rt; "fault memory");
         return Err(());

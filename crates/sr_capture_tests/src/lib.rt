@@ -1,0 +1,18 @@
+//! Tests of `sr_capture` and `sr_capture_script`, above them, so that their own functions are proved once: captures in
+//! memory, and the scripts that they give.
+#![tactic(auto)]
+
+#[cfg(test)]
+mod damage;
+#[cfg(test)]
+mod failing;
+#[cfg(test)]
+mod headers;
+#[cfg(test)]
+mod merging;
+#[cfg(test)]
+mod runs;
+#[cfg(test)]
+mod steps;
+#[cfg(test)]
+mod texts;
