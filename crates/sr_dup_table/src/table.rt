@@ -85,15 +85,15 @@ impl DupTable {
         Ok(DupTable { slots })
     }
 
-    // The entries in order.
-    pub(crate) fn entries(&self) -> Iter<'_, Aged<Record<16>>>
+    /// The sources in order, forgotten or not, each with its record and the time when it was last heard.
+    pub fn entries(&self) -> Iter<'_, Aged<Record<16>>>
         ensures { sources_of result ≡ self.now.sources }
     {
         self.slots.iter()
     }
 
-    // What the table has of a source, forgotten or not.
-    pub(crate) fn entry(&self, src: Mac) -> Option<&Aged<Record<16>>>
+    /// The record of a source, forgotten or not, and the time when it was last heard.
+    pub fn entry(&self, src: Mac) -> Option<&Aged<Record<16>>>
         ensures { option_map heard_of (option_copied result) ≡ lookup (mac_eq src) self.now.sources }
     {
         self.slots.get(src)

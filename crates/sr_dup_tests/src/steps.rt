@@ -2,6 +2,7 @@
 ghost use Rattle.std.specs.Prelude.{◌≡◌, false};
 ghost use Rattle.sr_dup_window.specs.LaneSets.{is_empty};
 
+use sr_dup_snapshots::snapshot;
 use sr_dup_table::{DupFault, DupTable};
 use sr_dup_window::Lanes;
 use sr_frame::Mac;
@@ -31,7 +32,7 @@ pub enum Merged {
 /// A step, and what it has to come to.
 #[derive(Clone, Copy)]
 pub enum Step {
-    /// A table hears a number of a source, which goes to the host, at this time.
+    /// A table hears a number of a source at port A, which goes to the host, at this time.
     Hear(Which, u16, u16, u64),
     /// It hears number 5 of so many sources, from one on, at this time.
     Fill(Which, u16, u16, u64),
@@ -45,6 +46,10 @@ pub enum Step {
     Same(Which, Which, bool),
     /// Whether two tables are equal.
     Equal(Which, Which, bool),
+    /// The snapshot of a table has so many octets, and zeros but at these places.
+    Text(Which, usize, &'static [(usize, u8)]),
+    /// Whether two tables have one snapshot.
+    SameText(Which, Which, bool),
 }
 
 #[derive(Drop)]
@@ -66,7 +71,7 @@ fn number_of(mac: Mac) -> u16 {
 fn handed_up() -> Lanes
     ensures { is_empty result ≡ false }
 {
-    Lanes::H
+    Lanes::H.union(Lanes::GOT_A)
 }
 
 fn table(tables: &Tables, which: Which) -> &DupTable {
@@ -147,6 +152,33 @@ fn knows(table: &DupTable, src: u16, seq: u16, now: u64) -> Option<bool> {
     }
 }
 
+// A snapshot, asked for again where memory runs out.
+fn text_of(alloc: Global, table: &DupTable) -> Option<Vec<u8>> {
+    match snapshot(alloc, table) {
+        Ok(text) => Some(text),
+        Err(_) => snapshot(alloc, table).ok(),
+    }
+}
+
+fn has_text(alloc: Global, table: &DupTable, len: usize, places: &[(usize, u8)]) -> bool {
+    let Some(text) = text_of(alloc, table) else {
+        return false;
+    };
+    let marked = text.iter().filter(|octet| **octet != 0).count();
+    text.len() == len
+        && marked == places.len()
+        && places
+            .iter()
+            .all(|(place, octet)| text.get(*place) == Some(octet))
+}
+
+fn has_same_text(alloc: Global, one: &DupTable, other: &DupTable) -> bool {
+    match (text_of(alloc, one), text_of(alloc, other)) {
+        (Some(text), Some(second)) => text == second,
+        _ => false,
+    }
+}
+
 fn holds(alloc: Global, tables: &mut Tables, step: Step) -> bool {
     match step {
         Step::Hear(Which::One, src, seq, now) => hear(&mut tables.one, src, seq, now),
@@ -162,6 +194,10 @@ fn holds(alloc: Global, tables: &mut Tables, step: Step) -> bool {
             == Some(answer),
         Step::Same(one, other, answer) => table(tables, one).same(table(tables, other)) == answer,
         Step::Equal(one, other, answer) => (table(tables, one) == table(tables, other)) == answer,
+        Step::Text(which, len, places) => has_text(alloc, table(tables, which), len, places),
+        Step::SameText(one, other, answer) => {
+            has_same_text(alloc, table(tables, one), table(tables, other)) == answer
+        }
     }
 }
 

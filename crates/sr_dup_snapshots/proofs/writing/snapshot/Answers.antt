@@ -1,0 +1,26 @@
+use Rattle.std.proofs.Common.{◌≡◌, ℕ, ◌++◌, ◌∷◌, [], ◌∙◌, List, length, sym, ap, subst}
+use Rattle.std.specs.List.{flat_map}
+use Rattle.std.specs.List.Sorted.{IsStrictlySortedBy}
+use Rattle.std.specs.Int.{w16, to_be_bytes}
+use Rattle.sr_dup_snapshots.specs.Snapshots.{mac_order, source_octets}
+use Rattle.sr_dup_snapshots.specs.Ordered.{sources_at}
+use Rattle.sr_dup_snapshots.proofs.OrderLemmas.{keys-of-all, count-of-all, same-at}
+use Rattle.sr_dup_snapshots.proofs.writing.snapshot.Goals as goal
+
+pub returns : goal.returns
+returns c =
+    let s = c.args.table.now.sources in
+    let macs = c.in_ok-macs.macs.items in
+    let moved = c.in_ok-macs.ensures.all in
+    let head : List ℕ = 0x53 ∷ 0x52 ∷ 0x44 ∷ 0x57 ∷ 1 ∷ [] in
+    let first : c.extend_from_slice.new.self.items ≡ head = c.in_ok-extend_from_slice.ensures.items ∙ ap (λ l. l ++ head) c.in_ok-octets.ensures.items in
+    let count : c.to_be_bytes.result ≡ to_be_bytes w16 (length (sources_at s macs)) =
+    c.to_be_bytes.ensures ∙ ap (to_be_bytes w16) (c.source_count-count.ensures.count ∙ sym (count-of-all s macs moved)) in
+    let front : c.extend_from_slice-2.new.self.items ≡ head ++ to_be_bytes w16 (length (sources_at s macs)) =
+    c.in_ok-extend_from_slice-2.ensures.items ∙ (λ i. first i ++ count i) in
+    record {
+      ordered = sources_at s macs;
+      same = same-at s macs moved;
+      ascending = subst (IsStrictlySortedBy mac_order) (sym (keys-of-all s macs moved)) c.in_ok-macs.ensures.ascending;
+      spelled = c.in_ok-put_sources.ensures ∙ (λ i. front i ++ flat_map source_octets (sources_at s (c.deref.ensures.value i)));
+    }

@@ -1,0 +1,60 @@
+-- A snapshot, version 1: the octets `53 52 44 57` and 01, the number of sources, and the sources in ascending order of their addresses.
+use Rattle.std.specs.Prelude.{◌≡◌, ℕ, ◌+◌, ◌*◌, Bool, List, [], ◌∷◌, ◌++◌, length, map, slice_index_or}
+use Rattle.std.specs.List.{flat_map, range_with_len}
+use Rattle.std.specs.List.Sorted.{IsStrictlySortedBy}
+use Rattle.std.specs.Map.{keys_of}
+use Rattle.std.specs.Cmp.Lexicographic.{slice_cmp}
+use Rattle.std.specs.Ordering.{nat_cmp}
+use Rattle.std.specs.declared.cmp.Ordering.{Ordering}
+use Rattle.std.specs.Int.{w16, w64, to_be_bytes}
+use Rattle.sr_frame.specs.declared.fields.Mac.{Mac}
+use Rattle.sr_dup_window.specs.declared.lane_sets.Lane.{Lane}
+use Rattle.sr_dup_window.specs.declared.lane_sets.Lane.TheVariants.{H, A, B, C, GotA, GotB}
+use Rattle.sr_dup_window.specs.declared.lane_sets.Lanes.{Lanes}
+use Rattle.sr_dup_window.specs.LaneSets.{flag, has, none}
+use Rattle.sr_dup_window.specs.Windows.{Window}
+use Rattle.sr_dup_table.specs.Sources.{Heard, Sources}
+use Rattle.sr_dup_table.specs.Same.{AreSame}
+
+-- whether the number at a distance before the greatest one is noted on a lane
+abbrev pub is_noted : List Lanes → Lane → ℕ → Bool
+is_noted marks lane back = has (slice_index_or marks back none) lane
+
+-- eight tests as an octet, the first as its lowest bit
+abbrev pub octet_of : (ℕ → Bool) → ℕ
+octet_of test =
+    flag (test 0) + 2 * flag (test 1) + 4 * flag (test 2) + 8 * flag (test 3)
+    + 16 * flag (test 4) + 32 * flag (test 5) + 64 * flag (test 6) + 128 * flag (test 7)
+
+-- octet i of a lane: of the numbers 8 i to 8 i + 7 before the greatest one, which are noted
+abbrev pub lane_octet : List Lanes → Lane → ℕ → ℕ
+lane_octet marks lane i = octet_of (λ j. is_noted marks lane (8 * i + j))
+
+-- the 128 octets of a lane
+unfoldable pub lane_octets : List Lanes → Lane → List ℕ
+lane_octets marks lane = map (lane_octet marks lane) (range_with_len 0 128)
+
+-- a record: the 16 bits of its greatest number, and the six lanes in order
+abbrev pub record_octets : Window → List ℕ
+record_octets w =
+    to_be_bytes w16 w.reference ++ lane_octets w.marks H ++ lane_octets w.marks A ++ lane_octets w.marks B
+    ++ lane_octets w.marks C ++ lane_octets w.marks GotA ++ lane_octets w.marks GotB
+
+-- a source: its address, when it was last heard, and its record
+abbrev pub source_octets : Mac × Heard → List ℕ
+source_octets e = e.0.0 ++ to_be_bytes w64 e.1.time ++ record_octets e.1.seen
+
+-- the octets of sources
+abbrev pub spelling : Sources → List ℕ
+spelling s = (0x53 ∷ 0x52 ∷ 0x44 ∷ 0x57 ∷ 1 ∷ []) ++ to_be_bytes w16 (length s) ++ flat_map source_octets s
+
+-- addresses in the order of their octets, the first one greatest
+abbrev pub mac_order : Mac → Mac → Ordering
+mac_order x y = slice_cmp nat_cmp x.0 y.0
+
+-- the octets are those of the same sources in strictly ascending order of address
+pub record IsSnapshot (octets : List ℕ) (s : Sources) : Type 0 where
+  pub ordered : Sources
+  pub same : AreSame s ordered
+  pub ascending : IsStrictlySortedBy mac_order (keys_of ordered)
+  pub spelled : octets ≡ spelling ordered
