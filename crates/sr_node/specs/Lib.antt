@@ -14,3 +14,4 @@ pub mod Taking
 pub mod Octets
 pub mod Steps
 pub mod Plans
+pub mod Absorbing

@@ -1,6 +1,7 @@
 //! A redundancy node over any role: events come in, and each frame goes out once where the role wants it.
 #![tactic(auto)]
 
+mod absorbing;
 mod arriving;
 mod copies;
 mod event;

@@ -1,6 +1,6 @@
 //! What a node keeps beside its role: what grows, and the changes, of which none can fail.
 
-ghost use Rattle.std.specs.Prelude.{◌≡◌, ◌+◌, IfOk, OnOk, IfErr, OnErr, None, Some, true, false, is_some, length, max};
+ghost use Rattle.std.specs.Prelude.{◌≡◌, ◌+◌, IfOk, OnOk, IfErr, OnErr, None, Some, true, false, is_some, length, max, unwrap_or};
 ghost use Rattle.std.specs.Option.{option_map};
 ghost use Rattle.std.specs.Result.{result_ok};
 ghost use Rattle.sr_dup_table.specs.Sources.{live_at};
@@ -10,13 +10,14 @@ ghost use Rattle.sr_node.specs.Copies.{Room, no_copies, copies_for, put_copies};
 ghost use Rattle.sr_node.specs.LifeChecks.{is_due};
 ghost use Rattle.sr_node.specs.Images.{shown, node_state, start, with_time, after, IsReady, IsIdle};
 ghost use Rattle.sr_node.specs.NodeImages.{state_of};
+ghost use Rattle.sr_node.specs.Absorbing.{Absorbed, absorb_fault};
 ghost use Rattle.sr_node.specs.Arriving.{is_plain_at_interlink, number_at, next_at, wrong_lan_after, full_fault};
 
 use crate::copies::{Copies, copies_for, put_copies};
 use crate::lanes::{lanes_noted, outlets_on};
 use crate::life_checks::is_due;
 use crate::{NodeImage, Outbox, PerPort, StepFault};
-use sr_dup_table::{DupTable, TableFull};
+use sr_dup_table::{DupFault, DupTable, TableFull};
 use sr_forwarding::{Form, Header, Outlets, Parcel, ParcelView, RoleImage};
 use sr_frame::{NoMemory, Port};
 use sr_sequence::Seq;
@@ -127,6 +128,20 @@ impl Core {
         ensures { result.now ≡ self.now.wrong_lan }
     {
         &self.wrong_lan
+    }
+
+    /// Joins what the other has noted, at the later of both times. All else stays.
+    pub(crate) fn absorb(&mut self, other: &Core) -> Result<(), DupFault>
+        ensures joined { OnOk result (Absorbed (shown self.old) (shown other.now) (shown self.new)) }
+        ensures joinable { OnOk result (absorb_fault (shown self.old) (shown other.now) ≡ None) }
+        ensures refused { IfErr result (λ e. e ≡ unwrap_or (absorb_fault (shown self.old) (shown other.now)) DupFault.NoMemory) }
+        ensures same { OnErr result (self.new ≡ self.old) }
+        ensures idle { IsIdle self.old → IsIdle self.new }
+    {
+        let time = self.time.max(other.time);
+        self.table.merge(self.alloc, &other.table, time)?;
+        self.time = time;
+        Ok(())
     }
 
     /// All of it as data, beside this role. NoMemory: a growth was refused.

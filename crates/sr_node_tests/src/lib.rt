@@ -12,6 +12,8 @@ mod noted;
 #[cfg(test)]
 mod rings;
 #[cfg(test)]
+mod standbys;
+#[cfg(test)]
 mod steps;
 #[cfg(test)]
 mod ticks;

@@ -3,6 +3,7 @@
 
 use crate::calls::{arrive, arrive_of_many, arrive_zeros, hand, send, takes, takes_by_event, tick};
 use crate::frames::{OTHER, OWN, Sent, octets_of};
+use sr_dup_table::DupFault;
 use sr_forwarding::{Danh, Danp, Role, RoleKind};
 use sr_frame::{Mac, Port};
 use sr_node::{Node, StepFault};
@@ -82,6 +83,8 @@ pub enum Step {
     Time(u64),
     /// The node gets another role of its address, of this kind.
     Become(RoleKind),
+    /// The node takes over what a new node of its address has noted that heard this frame at port A at this time, or why not.
+    Absorb(Sent, u64, Option<DupFault>),
     /// So many frames of one node come in at port A at this time, under the numbers from 0 on, and each goes up.
     Fill(u16, u64),
     /// So many sources send a frame each at time 0, and each is taken out for the host.
@@ -140,6 +143,29 @@ fn becomes(alloc: Global, node: &mut Node, kind: RoleKind) -> bool {
     }
 }
 
+/// What taking over comes to. None for want of memory.
+fn absorb(alloc: Global, node: &mut Node, sent: Sent, now: u64) -> Option<Option<DupFault>> {
+    let danp = Box::new(alloc, Danp::new(OWN)).ok()?;
+    let role: Box<dyn Role + Send> = danp;
+    let mut active = Node::new(alloc, role).ok()?;
+    if arrive_of_many(&mut active, Port::A, &octets_of(sent), now) != Outcome::Up {
+        return None;
+    }
+    match node.absorb(&active) {
+        Ok(()) => Some(None),
+        Err(DupFault::NoMemory) => None,
+        Err(fault) => Some(Some(fault)),
+    }
+}
+
+/// Whether it comes to this, where need be at another try.
+fn absorbs(alloc: Global, node: &mut Node, sent: Sent, now: u64, wanted: Option<DupFault>) -> bool {
+    match absorb(alloc, node, sent, now) {
+        None => absorb(alloc, node, sent, now) == Some(wanted),
+        other => other == Some(wanted),
+    }
+}
+
 fn fills(node: &mut Node, count: u16, now: u64) -> bool {
     (0..count).all(|seq| {
         arrive_of_many(node, Port::A, &octets_of(Sent::InA(seq)), now) == Outcome::Up
@@ -181,6 +207,7 @@ fn goes(alloc: Global, node: &mut Node, step: Step) -> bool {
         Step::Take(port, wanted) => takes(alloc, node, port, wanted),
         Step::Waiting(port, wanted) => node.waiting(port) == wanted,
         Step::Time(wanted) => node.time() == wanted,
+        Step::Absorb(sent, now, wanted) => absorbs(alloc, node, sent, now, wanted),
         Step::Fill(count, now) => fills(node, count, now),
         Step::Sources(count) => hears_sources(node, count),
         Step::LifeChecks(count) => lives(node, count),

@@ -1,0 +1,42 @@
+//! Nodes that take over what others have noted.
+
+use crate::frames::{OTHER, Sent};
+use crate::steps::{Outcome, Step, expect_steps};
+use sr_dup_table::DupFault;
+use sr_frame::Port;
+
+// What the other node handed up goes up no more; what it did not hear does. The later time counts for both.
+const TAKEN_OVER: &[Step] = &[
+    Step::In(Port::A, Sent::InA(4), 100, Outcome::Up),
+    Step::Absorb(Sent::InA(5), 200, None),
+    Step::Time(200),
+    Step::In(Port::A, Sent::InA(5), 200, Outcome::Nowhere),
+    Step::In(Port::B, Sent::InB(5), 200, Outcome::Nowhere),
+    Step::In(Port::B, Sent::InB(4), 200, Outcome::Nowhere),
+    Step::In(Port::B, Sent::InB(6), 200, Outcome::Up),
+    Step::Absorb(Sent::InA(6), 100, None),
+    Step::Time(200),
+    Step::Waiting(Port::H, 2),
+];
+
+#[test]
+fn a_standby_hands_up_what_is_left(rt: HostRuntime) {
+    expect_steps(&rt, TAKEN_OVER);
+}
+
+// Of numbers that are half of all apart, neither is ahead: the node stays as it is.
+const APART: &[Step] = &[
+    Step::In(Port::A, Sent::InA(0), 100, Outcome::Up),
+    Step::Absorb(Sent::InA(32768), 200, Some(DupFault::Apart(OTHER))),
+    Step::Time(100),
+    Step::In(Port::B, Sent::InB(0), 100, Outcome::Nowhere),
+    Step::Absorb(Sent::InA(32768), 499, Some(DupFault::Apart(OTHER))),
+    Step::Absorb(Sent::InA(32768), 500, None),
+    Step::In(Port::B, Sent::InB(32768), 500, Outcome::Nowhere),
+    Step::In(Port::B, Sent::InB(0), 500, Outcome::Up),
+];
+
+#[test]
+fn numbers_half_of_all_apart_are_not_taken_over(rt: HostRuntime) {
+    expect_steps(&rt, APART);
+}
