@@ -106,6 +106,19 @@ fn add(table: &mut Small, key: Mac, value: u32, now: u64) -> Option<bool> {
     Some(table.append(key, value, now).is_ok())
 }
 
+// The same. Where memory runs out the table is as it was, and the call is repeated.
+fn add_again(table: &mut Small, key: Mac, value: u32, now: u64) -> Option<bool> {
+    match add(table, key, value, now) {
+        Some(false) => add(table, key, value, now),
+        answer => answer,
+    }
+}
+
+fn hold(table: &mut Small, key: Mac) -> bool {
+    let len = table.len();
+    table.hold(key).is_ok() || (table.len() == len && table.hold(key).is_ok())
+}
+
 // Hears an address, at a spot that may be another's or old. Whether the two agree.
 fn hear(table: &mut Small, plain: &mut Plain, spot: Option<Spot>, event: Event) -> bool {
     let Event {
@@ -127,7 +140,7 @@ fn hear(table: &mut Small, plain: &mut Plain, spot: Option<Spot>, event: Event) 
     if table.is_full(now) != table.is_full_now(now) {
         return false;
     }
-    match add(table, mac(number), value, now) {
+    match add_again(table, mac(number), value, now) {
         Some(done) => done && plain.add(number, value, now),
         None => !plain.add(number, value, now),
     }
@@ -141,7 +154,7 @@ fn agree(table: &mut Small, plain: &mut Plain, spot: Option<Spot>, event: Event)
             plain.forget(event.now);
             table.age(event.now) == before.wrapping_sub(plain.len())
         }
-        1 => table.hold(mac(event.number)).is_ok(),
+        1 => hold(table, mac(event.number)),
         2 => {
             table.release();
             true
