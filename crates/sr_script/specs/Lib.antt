@@ -1,6 +1,7 @@
 pub mod Octets
 pub mod Lines
 pub mod Commands
+pub mod FaultTexts
 pub mod Carriers
 pub mod Stations
 pub mod Texts

@@ -68,3 +68,47 @@ impl Write for Unflushed {
         Err(io::Error::from(ErrorKind::Other))
     }
 }
+
+/// The most calls that are kept.
+const MAX_CALLS: usize = 16;
+
+/// Takes all octets, and keeps which calls came: `w` for a write, `f` for one to pass on.
+#[derive(Drop)]
+pub struct Recorder {
+    pub calls: [u8; MAX_CALLS],
+    pub count: usize,
+}
+
+impl Recorder {
+    fn keep(&mut self, call: u8) {
+        if self.count < MAX_CALLS {
+            self.calls[self.count] = call;
+            self.count += 1;
+        }
+    }
+
+    /// A recorder of no calls yet.
+    pub fn new() -> Recorder {
+        Recorder {
+            calls: [0; MAX_CALLS],
+            count: 0,
+        }
+    }
+
+    /// Whether these calls came, and no others.
+    pub fn kept(&self, calls: &[u8]) -> bool {
+        self.count <= MAX_CALLS && &self.calls[..self.count] == calls
+    }
+}
+
+impl Write for Recorder {
+    fn write(&mut self, buf: &[u8]) -> io::Result<usize> {
+        self.keep(b'w');
+        Ok(buf.len())
+    }
+
+    fn flush(&mut self) -> io::Result<()> {
+        self.keep(b'f');
+        Ok(())
+    }
+}

@@ -8,6 +8,8 @@ mod lines;
 #[cfg(test)]
 mod replays;
 #[cfg(test)]
+mod ring;
+#[cfg(test)]
 mod runs;
 #[cfg(test)]
 mod steps;

@@ -202,3 +202,14 @@ const WRITERS: &[Step] = &[
 fn writer_fails(rt: HostRuntime) {
     expect_steps(&rt, WRITERS);
 }
+
+// What is printed for a line is written, and then passed on, before the next line; where nothing is, nothing is called.
+const CALLS: &[Step] = &[
+    Step::Recorded(b"in A 0 00\n\nin A 0 00\n#", b"wfwf"),
+    Step::Recorded(b"\n#\n", b""),
+];
+
+#[test]
+fn each_answer_is_passed_on(rt: HostRuntime) {
+    expect_steps(&rt, CALLS);
+}

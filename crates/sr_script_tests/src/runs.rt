@@ -1,7 +1,7 @@
 //! The runs. Each function keeps to itself what it owns, and answers whether all was as it had to be, or None for want
 //! of memory.
 
-use crate::failing::{Broken, EmptyLines, Narrow, Unflushed};
+use crate::failing::{Broken, EmptyLines, Narrow, Recorder, Unflushed};
 use crate::texts::{Text, joined};
 use sr_frame::Mac;
 use sr_script::{Fault, RoleName, Setup, Word, run};
@@ -12,6 +12,13 @@ use std::io::{BufReader, ErrorKind, Read};
 /// A node with the address 02:00:00:00:00:01.
 const SETUP: Setup = Setup {
     role: RoleName::Danp,
+    mac: Mac([2, 0, 0, 0, 0, 1]),
+    keys: Keys::FIXED,
+};
+
+/// A ring node with that address.
+const RING: Setup = Setup {
+    role: RoleName::Danh,
     mac: Mac([2, 0, 0, 0, 0, 1]),
     keys: Keys::FIXED,
 };
@@ -33,17 +40,30 @@ fn is_ended(outcome: Result<(), Fault>, ending: Ending) -> Option<bool> {
 }
 
 /// Whether a run writes this and ends so.
-fn writes(alloc: Global, script: &[u8], wanted: &[u8], ending: Ending) -> Option<bool> {
+fn writes(
+    alloc: Global,
+    setup: &Setup,
+    script: &[u8],
+    wanted: &[u8],
+    ending: Ending,
+) -> Option<bool> {
     let mut written: Vec<u8> = Vec::new(alloc);
     let mut reader = script;
-    let outcome = run(alloc, &SETUP, &mut reader, &mut written);
+    let outcome = run(alloc, setup, &mut reader, &mut written);
     Some(is_ended(outcome, ending)? && written.as_slice() == wanted)
 }
 
 pub fn is_run(alloc: Global, script: Text, wanted: Text, ending: Ending) -> Option<bool> {
     let script = joined(alloc, script)?;
     let wanted = joined(alloc, wanted)?;
-    writes(alloc, &script, &wanted, ending)
+    writes(alloc, &SETUP, &script, &wanted, ending)
+}
+
+/// The same at a ring node.
+pub fn is_ring_run(alloc: Global, script: Text, wanted: Text, ending: Ending) -> Option<bool> {
+    let script = joined(alloc, script)?;
+    let wanted = joined(alloc, wanted)?;
+    writes(alloc, &RING, &script, &wanted, ending)
 }
 
 /// The same of a script with a last line.
@@ -56,7 +76,7 @@ pub fn is_run_to(
 ) -> Option<bool> {
     let mut script = joined(alloc, before)?;
     script.extend_from_slice(line).ok()?;
-    writes(alloc, &script, wanted, ending)
+    writes(alloc, &SETUP, &script, wanted, ending)
 }
 
 /// Whether a run over this reader, which fails or is long, writes this and ends so.
@@ -104,6 +124,13 @@ pub fn is_narrow(alloc: Global, script: &[u8], room: usize, ending: Ending) -> O
 pub fn is_unflushed(alloc: Global, script: &[u8], ending: Ending) -> Option<bool> {
     let mut reader = script;
     is_ended(run(alloc, &SETUP, &mut reader, &mut Unflushed), ending)
+}
+
+/// Whether a run makes these calls of its writer.
+pub fn is_recorded(alloc: Global, script: &[u8], calls: &[u8]) -> Option<bool> {
+    let mut reader = script;
+    let mut writer = Recorder::new();
+    Some(is_ended(run(alloc, &SETUP, &mut reader, &mut writer), None)? && writer.kept(calls))
 }
 
 /// Whether these are the answers to the first lines, to so many.

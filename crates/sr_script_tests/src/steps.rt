@@ -1,7 +1,8 @@
 //! One driver for all tests: it makes the runs of a table, and answers at which one it differs.
 
 use crate::runs::{
-    Ending, are_empty_lines, is_broken, is_narrow, is_run, is_run_to, is_taken_up, is_unflushed,
+    Ending, are_empty_lines, is_broken, is_narrow, is_recorded, is_ring_run, is_run, is_run_to,
+    is_taken_up, is_unflushed,
 };
 use crate::texts::{Part, Text};
 use sr_script::Word;
@@ -14,6 +15,8 @@ use std::process::Abort;
 pub enum Step {
     /// A script, what is written, and how the run ends.
     Run(Text, Text, Ending),
+    /// The same at a ring node.
+    Ring(Text, Text, Ending),
     /// A line, at the end of a script, with what may stand behind it: its frame of one octet is refused.
     Obeyed(&'static [u8]),
     /// The end of a script, to which nothing is answered.
@@ -28,6 +31,8 @@ pub enum Step {
     Narrow(&'static [u8], usize, Ending),
     /// The writer takes all, and does not pass it on.
     Unflushed(&'static [u8], Ending),
+    /// A script, and the calls of its writer.
+    Recorded(&'static [u8], &'static [u8]),
     /// A script, and the answers to each of its lines. Memory may be refused once.
     TakenUp(&'static [u8], &'static [&'static [u8]]),
 }
@@ -40,6 +45,8 @@ const A_FRAME_AND_A_LINE: Text = &[Part::These(b"in A 0 00\n\n")];
 fn comes(alloc: Global, step: Step) -> Option<bool> {
     match step {
         Step::Run(script, wanted, ending) => is_run(alloc, script, wanted, ending),
+        Step::Ring(script, wanted, ending) => is_ring_run(alloc, script, wanted, ending),
+        Step::Recorded(script, calls) => is_recorded(alloc, script, calls),
         Step::Obeyed(line) => is_run_to(alloc, TWO_LINES, line, b"refused 3 TooShort\n", None),
         Step::Skipped(line) => is_run_to(
             alloc,
