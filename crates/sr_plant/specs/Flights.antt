@@ -22,7 +22,7 @@ parcel_of (Some k) = k.parcel
 abbrev pub is_of : ℕ → Flying → Bool
 is_of key f = f.key == key
 
--- each parcel is kept with the count of its copies, and none without copies
+-- the count that is kept with each parcel is that of its copies
 abbrev pub AreCounted : Slab Kept → List Flying → Type 0
 AreCounted kept fs = (key : ℕ) → how_many (is_of key) fs ≡ copies_of (get kept key)
 

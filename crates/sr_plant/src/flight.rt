@@ -74,20 +74,20 @@ pub(crate) fn attach(kept: &mut Slab<Kept>, places: &mut VecDeque<Flying>, flyin
 }
 
 // A copy that was taken out goes last, if it is not on this link.
-fn look_at(kept: &mut Slab<Kept>, places: &mut VecDeque<Flying>, flying: Flying, link: usize)
+fn look_at(kept: &mut Slab<Kept>, places: &mut VecDeque<Flying>, seen: Flying, link: usize)
     requires room { deque_len places.old < deque_capacity places.old }
-    requires counted { AreCounted kept.old (flying ∷ places.old.items) }
+    requires counted { AreCounted kept.old (seen ∷ places.old.items) }
     ensures counted { AreCounted kept.new places.new.items }
     ensures copies { copies_in kept.new places.new.items
-        ≡ copies_in kept.old places.old.items ++ filter (λ c. not (is_on link c)) (copy_in kept.old flying ∷ []) }
+        ≡ copies_in kept.old places.old.items ++ filter (λ c. not (is_on link c)) (copy_in kept.old seen ∷ []) }
     ensures len { deque_len places.new ≤ deque_len places.old + 1 }
     ensures capacity { deque_capacity places.new ≡ deque_capacity places.old }
 {
-    if flying.hop.is_on(link) {
-        drop_copy(kept, flying.key);
+    if seen.hop.is_on(link) {
+        drop_copy(kept, seen.key);
         return;
     }
-    places.push_back_reserved(flying);
+    places.push_back_reserved(seen);
 }
 
 // The copies that are not on a link stay.

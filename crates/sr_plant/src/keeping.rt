@@ -1,6 +1,6 @@
 //! Parcels that are kept as long as copies of them are in flight.
 
-ghost use Rattle.std.specs.Prelude.{◌≡◌, ◌≢◌, ◌+◌, ◌<◌, ◌≤◌, ℕ, IsSome};
+ghost use Rattle.std.specs.Prelude.{◌≡◌, ◌≢◌, ◌+◌, ◌<◌, ◌≤◌, ℕ, IsSome, None};
 ghost use Rattle.slab.specs.Slab.{get, slab_len};
 ghost use Rattle.sr_plant.specs.Flights.{copies_of, parcel_of};
 
@@ -35,6 +35,7 @@ pub(crate) fn drop_copy(kept: &mut Slab<Kept>, key: usize)
     requires { 0 < copies_of (get kept.old key) }
     ensures fewer { copies_of (get kept.new key) + 1 ≡ copies_of (get kept.old key) }
     ensures parcel { 0 < copies_of (get kept.new key) → parcel_of (get kept.new key) ≡ parcel_of (get kept.old key) }
+    ensures gone { copies_of (get kept.new key) ≡ 0 → get kept.new key ≡ None }
     ensures others { (other : ℕ) → other ≢ key → get kept.new other ≡ get kept.old other }
     ensures len { slab_len kept.new ≤ slab_len kept.old }
     ensures capacity { kept.new.capacity ≡ kept.old.capacity }
@@ -53,6 +54,7 @@ pub(crate) fn drop_copy(kept: &mut Slab<Kept>, key: usize)
 pub(crate) fn drop_unused(kept: &mut Slab<Kept>, key: usize)
     ensures copies { (k : ℕ) → copies_of (get kept.new k) ≡ copies_of (get kept.old k) }
     ensures parcel { (k : ℕ) → 0 < copies_of (get kept.new k) → get kept.new k ≡ get kept.old k }
+    ensures gone { copies_of (get kept.new key) ≡ 0 → get kept.new key ≡ None }
     ensures len { slab_len kept.new ≤ slab_len kept.old }
     ensures capacity { kept.new.capacity ≡ kept.old.capacity }
 {
