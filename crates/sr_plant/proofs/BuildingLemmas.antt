@@ -1,5 +1,6 @@
 -- Of what nodes a plant is made.
-use Rattle.std.proofs.Common.{◌≡◌, ℕ, suc, ◌<◌, Bool, true, false, ◌&&◌, List, [], ◌∷◌, length, map, drop, get_or, refl, nat_le}
+use Rattle.std.proofs.Common.{◌≡◌, ℕ, suc, ◌<◌, ◌≤◌, Bool, true, false, ◌&&◌, List, [], ◌∷◌, length, map, drop, get_or, refl, nat_le}
+use borrow.Author.Tests.{leb-true}
 use Rattle.std.proofs.lemmas.List.{length-replicate}
 use Rattle.sr_frame.specs.declared.fields.Mac.{Mac}
 use Rattle.sr_frame.specs.Addresses.{mac_eq}
@@ -75,9 +76,15 @@ plant_is_fit t ns e =
     let sized = nat_le fewest_nodes (length ns) && nat_le (length ns) most_nodes in
     (both sized (are_fit t ns) (both (sized && are_fit t ns) (are_apart ns) e).0).1
 
+plant_is_small : (t : Topology) (ns : List State) → is_plant t ns ≡ true → length ns ≤ most_nodes
+plant_is_small t ns e =
+    let sized = nat_le fewest_nodes (length ns) && nat_le (length ns) most_nodes in
+    leb-true (length ns) most_nodes (both (nat_le fewest_nodes (length ns)) (nat_le (length ns) most_nodes) (both sized (are_fit t ns) (both (sized && are_fit t ns) (are_apart ns) e).0).0).1
+
 -- a new plant is in order
 pub opening_in_order : (t : Topology) (ns : List State) → is_plant t ns ≡ true → IsInOrder (opening t ns)
 opening_in_order t ns e = record {
+  size = plant_is_small t ns e;
   kinds = are_of_kind t ns (plant_is_fit t ns e);
   emptied = are_emptied t ns (plant_is_fit t ns e);
   links = length-replicate (link_count t (length ns)) false;

@@ -1,5 +1,5 @@
 -- Copies of frames, between nodes.
-use Rattle.std.specs.Prelude.{ℕ, ◌==◌, Bool, false, List, slice_index_or}
+use Rattle.std.specs.Prelude.{◌≡◌, ℕ, ◌==◌, Bool, false, List, [], ◌∷◌, ◌++◌, Some, slice_get, slice_index_or}
 use Rattle.std.specs.List.{list_any}
 use Rattle.sr_frame.specs.declared.ports.Port.{Port}
 use Rattle.sr_forwarding.specs.Parcels.{ParcelImage}
@@ -23,3 +23,7 @@ is_cut cut link = slice_index_or cut link false
 -- a link that the copy is on is cut
 abbrev pub is_stopped : List Bool → Copy → Bool
 is_stopped cut c = list_any (is_cut cut) c.hop.links
+
+-- from these copies to those, the copy at a place is doubled, and the double goes last
+abbrev pub Doubles : List Copy → ℕ → List Copy → Type 0
+Doubles cs place ds = (c : Copy) × (slice_get cs place ≡ Some c) × (ds ≡ cs ++ c ∷ [])

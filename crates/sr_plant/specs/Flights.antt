@@ -5,7 +5,7 @@ use Rattle.sr_forwarding.specs.Parcels.{ParcelImage, plain_parcel}
 use Rattle.sr_plant_laws.specs.Ledger.{Hop as Step}
 use Rattle.sr_plant_laws.specs.Lists.{how_many}
 use Rattle.sr_plant.specs.declared.hop.Hop.{Hop}
-use Rattle.sr_plant.specs.declared.flight.Kept.{Kept}
+use Rattle.sr_plant.specs.declared.keeping.Kept.{Kept}
 use Rattle.sr_plant.specs.declared.flight.Flying.{Flying}
 use Rattle.sr_plant.specs.Copies.{Copy}
 
@@ -22,7 +22,7 @@ parcel_of (Some k) = k.parcel
 abbrev pub is_of : ℕ → Flying → Bool
 is_of key f = f.key == key
 
--- each parcel is kept with the count of its copies, and none without copies
+-- the count that is kept with each parcel is that of its copies
 abbrev pub AreCounted : Slab Kept → List Flying → Type 0
 AreCounted kept fs = (key : ℕ) → how_many (is_of key) fs ≡ copies_of (get kept key)
 

@@ -2,5 +2,8 @@ pub mod Limits
 pub mod Topologies
 pub mod Copies
 pub mod Flights
+pub mod Puts
 pub mod Plants
+pub mod Steps
+pub mod Given
 pub mod Building

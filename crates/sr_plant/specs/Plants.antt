@@ -1,16 +1,23 @@
 -- A plant as data: nodes, and what is between them.
-use Rattle.std.specs.Prelude.{◌≡◌, ℕ, ◌+◌, ◌<◌, Bool, List, length}
+use Rattle.std.specs.Prelude.{◌≡◌, ℕ, ◌+◌, ◌<◌, ◌≤◌, Bool, List, length}
 use Rattle.sr_forwarding.specs.Parcels.{ParcelImage}
 use Rattle.sr_node.specs.Images.{State}
 use Rattle.sr_node.specs.Outboxes.{boxes_empty}
 use Rattle.sr_plant_laws.specs.Lists.{Each}
 use Rattle.sr_plant.specs.declared.topology.Topology.{Topology}
+use Rattle.sr_plant.specs.Limits.{most_nodes}
 use Rattle.sr_plant.specs.Topologies.{link_count, kind_of}
 use Rattle.sr_plant.specs.Copies.{Copy}
 
--- what clauses see of the traffic: what shows, and the room that is held
+-- what clauses see of the copies in flight: the copies, and room for so many more parcels and copies
+pub record FlightValue : Type 0 where
+  pub copies : List Copy
+  pub parcels : ℕ
+  pub places : ℕ
+
+-- what clauses see of the traffic
 pub record TrafficValue : Type 0 where
-  pub flight : List Copy
+  pub flight : FlightValue
   pub cut : List Bool
   pub clock : ℕ
 
@@ -28,7 +35,7 @@ abbrev pub plant_of : Topology → List State → TrafficValue → List (List Pa
 plant_of topology nodes traffic handed = record {
   topology = topology;
   nodes = nodes;
-  flight = traffic.flight;
+  flight = traffic.flight.copies;
   cut = traffic.cut;
   clock = traffic.clock;
   handed = handed;
@@ -40,6 +47,7 @@ IsEmptied s = s.core.out ≡ boxes_empty
 
 -- As a plant is between its events: its nodes are of the kind of its topology and nothing waits in them, and each node and each link has its place.
 pub record IsInOrder (s : Plant) : Type 0 where
+  pub size : length s.nodes ≤ most_nodes
   pub kinds : Each (λ n. n.role.kind ≡ kind_of s.topology) s.nodes
   pub emptied : Each IsEmptied s.nodes
   pub links : length s.cut ≡ link_count s.topology (length s.nodes)

@@ -1,5 +1,9 @@
 -- How the nodes of a plant are joined.
 use Rattle.std.specs.Prelude.{ℕ, ◌+◌}
+use Rattle.sr_frame.specs.declared.ports.Port.{Port}
+use Rattle.sr_frame.specs.declared.ports.Port.TheVariants.{H, A, B, C}
+use Rattle.sr_prp_trailer.specs.declared.trailer.Lan.TheVariants as lan
+use Rattle.sr_forwarding.specs.Framings.{FramingImage, Tagged, Trailed, Ordinary}
 use Rattle.sr_forwarding.specs.declared.role_image.RoleKind.{RoleKind}
 use Rattle.sr_forwarding.specs.declared.role_image.RoleKind.TheVariants.{Danp, Danh}
 use Rattle.sr_plant_laws.specs.Ledger.{Net}
@@ -23,3 +27,14 @@ link_count TwinLan n = n + n
 abbrev pub kind_of : Topology → RoleKind
 kind_of Ring = Danh
 kind_of TwinLan = Danp
+
+-- how frames are carried at a port: with a tag in a ring, whose path is that of the outlet's direction, and with a trailer in a LAN
+abbrev pub framing_of : Topology → Port → FramingImage
+framing_of Ring H = Ordinary
+framing_of Ring A = Tagged 0
+framing_of Ring B = Tagged 1
+framing_of Ring C = Ordinary
+framing_of TwinLan H = Ordinary
+framing_of TwinLan A = Trailed lan.A 0
+framing_of TwinLan B = Trailed lan.B 0
+framing_of TwinLan C = Ordinary

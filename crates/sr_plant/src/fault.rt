@@ -39,3 +39,13 @@ impl From<NoMemory> for PlantFault {
         PlantFault::NoMemory
     }
 }
+
+impl From<StepFault> for PlantFault {
+    ghost use Rattle.sr_plant.specs.declared.fault.PlantFault.TheVariants as fault;
+
+    ghost from_gives = { λ e f. f ≡ fault.Node e };
+
+    fn from(e: StepFault) -> PlantFault {
+        PlantFault::Node(e)
+    }
+}

@@ -1,28 +1,30 @@
 //! The copies in flight. Each parcel is kept once, until its last copy is gone.
 
-ghost use Rattle.std.specs.Prelude.{◌≡◌, [], length};
+ghost use Rattle.std.specs.Prelude.{◌≡◌, ◌≤◌, ◌<◌, ◌+◌, [], ◌∷◌, ◌++◌, length, filter, not, remove, slice_get, IsSome, IfSome, OnOk, OnErr, Some, option_to_list};
+ghost use Rattle.std.specs.VecDeque.{deque_len, deque_capacity};
+ghost use Rattle.slab.specs.Slab.{get, slab_len};
+ghost use Rattle.sr_plant.specs.Copies.{is_on, Doubles};
+ghost use Rattle.sr_plant.specs.Limits.{most_nodes};
+ghost use Rattle.sr_plant.specs.Puts.{all_put, those_passing};
+ghost use Rattle.sr_plant.specs.Flights.{AreCounted, copy_in, copies_in, parcel_of};
 
 use crate::hop::Hop;
+use crate::keeping::{Kept, add_copy, drop_copy, drop_unused};
+use crate::outlet::Outlet;
+use crate::putting::put_copies;
 use slab::Slab;
 use sr_forwarding::Parcel;
-use sr_frame::Port;
+use sr_frame::{NoMemory, Port};
 use std::alloc::Global;
 use std::collections::VecDeque;
 use std::marker::Model;
 
-/// A parcel that was put out, and of how many copies in flight it is.
-#[derive(Drop)]
-pub(crate) struct Kept {
-    parcel: Parcel,
-    copies: usize,
-}
-
 /// A copy in flight: where its parcel is kept, where it leads, and the outlet that put it out.
 #[derive(Clone, Copy)]
 pub(crate) struct Flying {
-    key: usize,
-    hop: Hop,
-    outlet: Port,
+    pub(crate) key: usize,
+    pub(crate) hop: Hop,
+    pub(crate) outlet: Port,
 }
 
 /// The copies in flight, in the order in which they were put out.
@@ -33,21 +35,80 @@ pub(crate) struct Flight {
 }
 
 impl Model for Flight {
-    ghost use Rattle.std.specs.Prelude.{List};
-    ghost use Rattle.sr_plant.specs.Copies.{Copy};
+    ghost use Rattle.std.specs.Prelude.{◌-◌};
+    ghost use Rattle.std.specs.VecDeque.{deque_len, deque_capacity};
+    ghost use Rattle.slab.specs.Slab.{slab_len};
+    ghost use Rattle.sr_plant.specs.Plants.{FlightValue};
+    ghost use Rattle.sr_plant.specs.Limits.{most_nodes};
+    ghost use Rattle.sr_plant.specs.Puts.{all_put, those_passing};
     ghost use Rattle.sr_plant.specs.Flights.{AreCounted, copies_in};
 
-    ghost Value = { List Copy };
+    ghost Value = { FlightValue };
 
-    ghost view = { λ f. copies_in f.kept f.places.items };
+    ghost view = { λ f. record {
+      copies = copies_in f.kept f.places.items;
+      parcels = f.kept.capacity - slab_len f.kept;
+      places = deque_capacity f.places - deque_len f.places;
+    } };
 
     ghost invariant = { λ f. AreCounted f.kept f.places.items };
+}
+
+/// One copy more of a parcel that is kept.
+pub(crate) fn attach(kept: &mut Slab<Kept>, places: &mut VecDeque<Flying>, flying: Flying)
+    requires room { deque_len places.old < deque_capacity places.old }
+    requires counted { AreCounted kept.old places.old.items }
+    requires there { IsSome (get kept.old flying.key) }
+    ensures counted { AreCounted kept.new places.new.items }
+    ensures copies { copies_in kept.new places.new.items
+        ≡ copies_in kept.old places.old.items ++ copy_in kept.old flying ∷ [] }
+    ensures there { IsSome (get kept.new flying.key) }
+    ensures parcel { parcel_of (get kept.new flying.key) ≡ parcel_of (get kept.old flying.key) }
+    ensures kept_len { slab_len kept.new ≡ slab_len kept.old }
+    ensures kept_capacity { kept.new.capacity ≡ kept.old.capacity }
+    ensures len { deque_len places.new ≡ deque_len places.old + 1 }
+    ensures capacity { deque_capacity places.new ≡ deque_capacity places.old }
+{
+    add_copy(kept, flying.key);
+    places.push_back_reserved(flying);
+}
+
+// A copy that was taken out goes last, if it is not on this link.
+fn look_at(kept: &mut Slab<Kept>, places: &mut VecDeque<Flying>, seen: Flying, link: usize)
+    requires room { deque_len places.old < deque_capacity places.old }
+    requires counted { AreCounted kept.old (seen ∷ places.old.items) }
+    ensures counted { AreCounted kept.new places.new.items }
+    ensures copies { copies_in kept.new places.new.items
+        ≡ copies_in kept.old places.old.items ++ filter (λ c. not (is_on link c)) (copy_in kept.old seen ∷ []) }
+    ensures len { deque_len places.new ≤ deque_len places.old + 1 }
+    ensures capacity { deque_capacity places.new ≡ deque_capacity places.old }
+{
+    if seen.hop.is_on(link) {
+        drop_copy(kept, seen.key);
+        return;
+    }
+    places.push_back_reserved(seen);
+}
+
+// The copies that are not on a link stay.
+fn keep_off(kept: &mut Slab<Kept>, places: &mut VecDeque<Flying>, link: usize)
+    requires counted { AreCounted kept.old places.old.items }
+    ensures counted { AreCounted kept.new places.new.items }
+    ensures copies { copies_in kept.new places.new.items
+        ≡ filter (λ c. not (is_on link c)) (copies_in kept.old places.old.items) }
+{
+    for _ in 0..places.len() {
+        let Some(flying) = places.pop_front() else {
+            return;
+        };
+        look_at(kept, places, flying, link);
+    }
 }
 
 impl Flight {
     /// Nothing in flight.
     pub(crate) fn new(alloc: Global) -> Flight
-        ensures { result ≡ [] }
+        ensures { result.copies ≡ [] }
     {
         Flight {
             kept: Slab::new(alloc),
@@ -57,8 +118,69 @@ impl Flight {
 
     /// How many copies are in flight.
     pub(crate) fn len(&self) -> usize
-        ensures { result ≡ length self.now }
+        ensures { result ≡ length self.now.copies }
     {
         self.places.len()
+    }
+
+    /// Room for so many parcels and copies more. NoMemory: a growth was refused. Nothing in flight changes.
+    pub(crate) fn reserve(&mut self, parcels: usize, places: usize) -> Result<(), NoMemory>
+        ensures copies { self.new.copies ≡ self.old.copies }
+        ensures parcels { OnOk result (parcels ≤ self.new.parcels) }
+        ensures places { OnOk result (places ≤ self.new.places) }
+    {
+        self.kept.reserve(parcels)?;
+        self.places.reserve(places)?;
+        Ok(())
+    }
+
+    /// A parcel is put out at an outlet, if there is one: a copy for each node to which it leads over no link that is cut.
+    pub(crate) fn put(&mut self, outlet: Outlet, parcel: Option<Parcel>, cut: &[bool])
+        requires small { outlet.nodes ≤ most_nodes }
+        requires node { outlet.node < outlet.nodes }
+        requires parcels { 1 ≤ self.old.parcels }
+        requires places { outlet.nodes ≤ self.old.places }
+        ensures copies { self.new.copies ≡ self.old.copies ++ those_passing cut.now
+            (all_put outlet.topology outlet.nodes outlet.node outlet.port (option_to_list parcel)) }
+        ensures parcels { self.old.parcels ≤ self.new.parcels + 1 }
+        ensures places { self.old.places ≤ self.new.places + outlet.nodes }
+    {
+        let Some(parcel) = parcel else {
+            return;
+        };
+        let key = self.kept.insert_reserved(Kept { parcel, copies: 0 });
+        put_copies(&mut self.kept, &mut self.places, outlet, key, cut);
+        drop_unused(&mut self.kept, key);
+    }
+
+    /// The copy at a place is gone.
+    pub(crate) fn remove(&mut self, place: usize)
+        requires { place < length self.old.copies }
+        ensures { self.new.copies ≡ remove self.old.copies place }
+    {
+        if let Some(flying) = self.places.remove(place) {
+            drop_copy(&mut self.kept, flying.key);
+        }
+    }
+
+    /// One copy more like that at a place, which goes last. NoMemory: a growth was refused, and nothing changes.
+    pub(crate) fn repeat(&mut self, place: usize) -> Result<(), NoMemory>
+        requires { place < length self.old.copies }
+        ensures ok { OnOk result (Doubles self.old.copies place self.new.copies) }
+        ensures err { OnErr result (self.new.copies ≡ self.old.copies) }
+    {
+        self.places.reserve(1)?;
+        if let Some(flying) = self.places.get(place) {
+            let double = *flying;
+            attach(&mut self.kept, &mut self.places, double);
+        }
+        Ok(())
+    }
+
+    /// All copies on a link are gone.
+    pub(crate) fn cut(&mut self, link: usize)
+        ensures { self.new.copies ≡ filter (λ c. not (is_on link c)) self.old.copies }
+    {
+        keep_off(&mut self.kept, &mut self.places, link);
     }
 }

@@ -1,13 +1,19 @@
 //! Whole networks as values: rings, and two LANs, of nodes and the copies of frames between them.
 #![tactic(auto)]
 
+mod acting;
 mod building;
 mod event;
 mod fault;
 mod fitness;
 mod flight;
+mod giving;
+mod happening;
 mod hop;
+mod keeping;
+mod outlet;
 mod plant;
+mod putting;
 mod topology;
 mod traffic;
 

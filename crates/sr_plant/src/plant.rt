@@ -33,7 +33,7 @@ impl<R: Role> PlantOf<R> {
 
     /// How many copies are in flight.
     pub fn in_flight(&self) -> usize
-        ensures { result ≡ length self.now.traffic.flight }
+        ensures { result ≡ length self.now.traffic.flight.copies }
     {
         self.traffic.len()
     }

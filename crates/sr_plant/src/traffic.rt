@@ -1,9 +1,15 @@
 //! What is between the nodes of a plant.
 
-ghost use Rattle.std.specs.Prelude.{◌≡◌, [], false, length, replicate, IfOk};
+ghost use Rattle.std.specs.Prelude.{◌≡◌, ◌≤◌, ◌<◌, ◌+◌, ◌++◌, [], true, false, not, length, filter, remove, replicate, slice_set, option_to_list, IfOk, OnOk, OnErr};
+ghost use Rattle.sr_plant.specs.Limits.{most_nodes};
+ghost use Rattle.sr_plant.specs.Copies.{is_on, Doubles};
+ghost use Rattle.sr_plant.specs.Puts.{all_put, those_passing};
 
+use crate::Topology;
 use crate::flight::Flight;
-use sr_frame::NoMemory;
+use crate::outlet::Outlet;
+use sr_forwarding::Parcel;
+use sr_frame::{NoMemory, Port};
 use std::alloc::Global;
 use std::marker::Model;
 
@@ -29,7 +35,9 @@ impl Model for Traffic {
 impl Traffic {
     /// Nothing in flight over so many links, of which none is cut. NoMemory: a growth was refused.
     pub(crate) fn new(alloc: Global, links: usize) -> Result<Traffic, NoMemory>
-        ensures { IfOk result (λ t. t ≡ record { flight = []; cut = replicate links false; clock = 0 }) }
+        ensures flight { IfOk result (λ t. t.flight.copies ≡ []) }
+        ensures cut { IfOk result (λ t. t.cut ≡ replicate links false) }
+        ensures clock { IfOk result (λ t. t.clock ≡ 0) }
     {
         let cut = Vec::from_elem(alloc, false, links)?;
         Ok(Traffic {
@@ -42,8 +50,119 @@ impl Traffic {
 
     /// How many copies are in flight.
     pub(crate) fn len(&self) -> usize
-        ensures { result ≡ length self.now.flight }
+        ensures { result ≡ length self.now.flight.copies }
     {
         self.flight.len()
+    }
+
+    /// How many links there are.
+    pub(crate) fn links(&self) -> usize
+        ensures { result ≡ length self.now.cut }
+    {
+        self.cut.len()
+    }
+
+    /// The time in milliseconds.
+    pub(crate) fn clock(&self) -> u64
+        ensures { result ≡ self.now.clock }
+    {
+        self.clock
+    }
+
+    /// The time becomes this.
+    pub(crate) fn set_clock(&mut self, now: u64)
+        ensures { self.new ≡ record self.old { clock = now } }
+    {
+        self.clock = now;
+    }
+
+    /// Where memory comes from.
+    pub(crate) fn alloc(&self) -> Global {
+        self.alloc
+    }
+
+    /// Room for what a node puts out at A and B, to so many nodes. NoMemory: a growth was refused. Nothing that shows
+    /// changes.
+    pub(crate) fn reserve(&mut self, nodes: usize) -> Result<(), NoMemory>
+        requires { nodes ≤ most_nodes }
+        ensures copies { self.new.flight.copies ≡ self.old.flight.copies }
+        ensures rest { (self.new.cut ≡ self.old.cut) × (self.new.clock ≡ self.old.clock) }
+        ensures parcels { OnOk result (2 ≤ self.new.flight.parcels) }
+        ensures places { OnOk result (nodes + nodes ≤ self.new.flight.places) }
+    {
+        self.flight.reserve(2, nodes + nodes)
+    }
+
+    /// What a node puts out at A and B, for which there is room, is in flight behind all else, but for what is put on a
+    /// link that is cut.
+    pub(crate) fn put(
+        &mut self,
+        topology: Topology,
+        nodes: usize,
+        node: usize,
+        a: Option<Parcel>,
+        b: Option<Parcel>,
+    )
+        requires small { nodes ≤ most_nodes }
+        requires node { node < nodes }
+        requires parcels { 2 ≤ self.old.flight.parcels }
+        requires places { nodes + nodes ≤ self.old.flight.places }
+        ensures copies { self.new.flight.copies ≡ (self.old.flight.copies
+            ++ those_passing self.old.cut (all_put topology nodes node Port.A (option_to_list a)))
+            ++ those_passing self.old.cut (all_put topology nodes node Port.B (option_to_list b)) }
+        ensures rest { (self.new.cut ≡ self.old.cut) × (self.new.clock ≡ self.old.clock) }
+    {
+        let outlet = Outlet {
+            topology,
+            nodes,
+            node,
+            port: Port::A,
+        };
+        self.flight.put(outlet, a, &self.cut);
+        let outlet = Outlet {
+            port: Port::B,
+            ..outlet
+        };
+        self.flight.put(outlet, b, &self.cut);
+    }
+
+    /// The copy at a place is gone.
+    pub(crate) fn remove(&mut self, place: usize)
+        requires { place < length self.old.flight.copies }
+        ensures copies { self.new.flight.copies ≡ remove self.old.flight.copies place }
+        ensures rest { (self.new.cut ≡ self.old.cut) × (self.new.clock ≡ self.old.clock) }
+    {
+        self.flight.remove(place);
+    }
+
+    /// The copy at a place is doubled. NoMemory: a growth was refused. Nothing that shows changes then.
+    pub(crate) fn repeat(&mut self, place: usize) -> Result<(), NoMemory>
+        requires { place < length self.old.flight.copies }
+        ensures ok { OnOk result (Doubles self.old.flight.copies place self.new.flight.copies) }
+        ensures err { OnErr result (self.new.flight.copies ≡ self.old.flight.copies) }
+        ensures rest { (self.new.cut ≡ self.old.cut) × (self.new.clock ≡ self.old.clock) }
+    {
+        self.flight.repeat(place)
+    }
+
+    /// A link is cut, and what is on it is lost.
+    pub(crate) fn cut(&mut self, link: usize)
+        requires { link < length self.old.cut }
+        ensures copies { self.new.flight.copies ≡ filter (λ c. not (is_on link c)) self.old.flight.copies }
+        ensures cut { self.new.cut ≡ slice_set self.old.cut link true }
+        ensures clock { self.new.clock ≡ self.old.clock }
+    {
+        self.flight.cut(link);
+        self.cut[link] = true;
+    }
+
+    /// A link is whole.
+    pub(crate) fn mend(&mut self, link: usize)
+        requires { link < length self.old.cut }
+        ensures copies { self.new.flight.copies ≡ self.old.flight.copies }
+        ensures cut { self.new.cut ≡ slice_set self.old.cut link false }
+        ensures clock { self.new.clock ≡ self.old.clock }
+    {
+        self.cut[link] = false;
     }
 }

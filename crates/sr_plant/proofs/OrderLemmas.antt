@@ -1,0 +1,181 @@
+-- A plant stays in order.
+use Rattle.std.proofs.Common.{◌≡◌, ℕ, zero, suc, ◌+◌, ◌<◌, ◌==◌, Bool, true, false, List, [], ◌∷◌, ◌++◌, length, map, not, slice_get, slice_set, Option, Some, None, refl, sym, ap, ◌∙◌, subst, inl, inr, take, drop, arith}
+use Rattle.std.specs.List.{filter, remove}
+use Rattle.std.proofs.lemmas.Bool.{cases_Bool}
+use Rattle.std.proofs.lemmas.Bool.Decides.{nat_tests}
+use Rattle.std.proofs.lemmas.List.{length-set}
+use Rattle.sr_frame.specs.declared.ports.Port.{Port}
+use Rattle.sr_frame.specs.declared.ports.Port.TheVariants.{H, A, B, C}
+use Rattle.sr_forwarding.specs.Parcels.{ParcelImage}
+use Rattle.sr_forwarding.specs.declared.header.Header.{Header}
+use Rattle.sr_forwarding.specs.declared.outlets.Outlets.{Outlets as Set}
+use Rattle.sr_forwarding.specs.declared.role_image.RoleImage.{RoleImage}
+use Rattle.sr_forwarding.specs.declared.role_image.RoleKind.{RoleKind}
+use Rattle.sr_forwarding.specs.declared.role_image.RoleKind.TheVariants.{Danp, Danh, San, Prp, Hsr}
+use Rattle.sr_forwarding.specs.Proxies.{learned, learned_at}
+use Rattle.sr_node.specs.declared.event.Answer.{Answer}
+use Rattle.sr_node.specs.declared.event.Answer.TheVariants as answer
+use Rattle.sr_node.specs.declared.event.Event.{Event}
+use Rattle.sr_node.specs.declared.event.Event.TheVariants as event
+use Rattle.sr_node.specs.Images.{State, time_at}
+use Rattle.sr_node.specs.Arriving.{Arrived, PassedTo, goes, going_on, header_at}
+use Rattle.sr_node.specs.Steps.{Step}
+use Rattle.sr_plant_laws.specs.Lists.{Each}
+use Rattle.sr_plant_laws.specs.ListLemmas.{each_append}
+use Rattle.sr_plant_laws.specs.Ledger.{Hop}
+use Rattle.sr_plant_laws.specs.RingParts.{onward, backward}
+use Rattle.sr_plant_laws.specs.Rings.{beyond}
+use Rattle.sr_plant_laws.specs.TwinLans.{other_members, lan_hops}
+use Rattle.sr_plant.specs.declared.topology.Topology.{Topology}
+use Rattle.sr_plant.specs.declared.topology.Topology.TheVariants.{Ring, TwinLan}
+use Rattle.sr_plant.specs.Topologies.{net_of, kind_of}
+use Rattle.sr_plant.specs.Copies.{Copy, is_on, is_stopped}
+use Rattle.sr_plant.specs.Puts.{copy_over, all_put, put_out, those_passing}
+use Rattle.sr_plant.specs.Plants.{Plant, IsEmptied, IsInOrder}
+use Rattle.sr_plant.specs.Steps.{emptied, acted, Acts}
+use Rattle.sr_plant.proofs.PutLemmas.{lan_append}
+
+each_set : {X : Type 0} (P : X → Type 0) (xs : List X) (i : ℕ) (y : X) → Each P xs → P y → Each P (slice_set xs i y)
+each_set P [] i y each one = tt
+each_set P (x ∷ xs) zero y each one = (one, each.1)
+each_set P (x ∷ xs) (suc i) y each one = (each.0, each_set P xs i y each.1 one)
+
+each_got : {X : Type 0} (P : X → Type 0) (xs : List X) (i : ℕ) (x : X) → Each P xs → slice_get xs i ≡ Some x → (i < length xs) × P x
+each_got P [] i x each at = absurd (cc)
+each_got P (y ∷ ys) zero x each at = let same : y ≡ x = cc in (omega arith, rw (← same) each.0)
+each_got P (y ∷ ys) (suc i) x each at = let r = each_got P ys i x each.1 at in (omega (arith, r.0), r.1)
+
+pub each_filter : {X : Type 0} (P : X → Type 0) (p : X → Bool) (xs : List X) → Each P xs → Each P (filter p xs)
+each_filter P p [] each = tt
+each_filter P p (x ∷ xs) each = elim (cases_Bool (p x)) [
+  | inl is ↦ rw is (each.0, each_filter P p xs each.1)
+  | inr not ↦ rw not (each_filter P p xs each.1)
+]
+
+pub each_take : {X : Type 0} (P : X → Type 0) (xs : List X) (i : ℕ) → Each P xs → Each P (take i xs)
+each_take P xs zero each = tt
+each_take P [] (suc i) each = tt
+each_take P (x ∷ xs) (suc i) each = (each.0, each_take P xs i each.1)
+
+pub each_drop : {X : Type 0} (P : X → Type 0) (xs : List X) (i : ℕ) → Each P xs → Each P (drop i xs)
+each_drop P xs zero each = each
+each_drop P [] (suc i) each = tt
+each_drop P (x ∷ xs) (suc i) each = each_drop P xs i each.1
+
+-- hops lead to nodes of the plant
+others_within : (k n m : ℕ) (p : Port) (first : ℕ) → Each (λ h. h.to.node < n + m) (lan_hops p first k (other_members n k))
+others_within k zero m p first = tt
+others_within k (suc n) m p first =
+    let below : Each (λ h. h.to.node < suc n + m) (lan_hops p first k (other_members n k)) =
+    subst (λ (b : ℕ). Each (λ h. h.to.node < b) (lan_hops p first k (other_members n k))) (omega arith) (others_within k n (suc m) p first) in
+    elim (cases_Bool (n == k)) [
+      | inl is ↦ rw is below
+      | inr not ↦ rw (not, lan_append p first k (other_members n k) (n ∷ [])) (each_append (λ (h : Hop). h.to.node < suc n + m) (lan_hops p first k (other_members n k)) (lan_hops p first k (n ∷ [])) below (omega arith, tt))
+    ]
+
+next_within : (n k : ℕ) → k < n → beyond n onward k < n
+next_within n k within = elim (cases_Bool (k + 1 == n)) [
+  | inl is ↦ rw is (omega arith)
+  | inr not ↦ rw not (grind (arith, nat_tests))
+]
+
+before_within : (n k : ℕ) → k < n → beyond n backward k < n
+before_within n k within = elim (cases_Bool (k == 0)) [
+  | inl is ↦ rw is (omega arith)
+  | inr not ↦ rw not (grind (arith, nat_tests))
+]
+
+net_within : (t : Topology) (n k : ℕ) (o : Port) → k < n → Each (λ h. h.to.node < n) (net_of t n k o)
+net_within Ring n k H within = tt
+net_within Ring n k A within = (before_within n k within, tt)
+net_within Ring n k B within = (next_within n k within, tt)
+net_within Ring n k C within = tt
+net_within TwinLan n k H within = tt
+net_within TwinLan n k A within = subst (λ (b : ℕ). Each (λ h. h.to.node < b) (lan_hops A 0 k (other_members n k))) (omega arith) (others_within k n 0 A 0)
+net_within TwinLan n k B within = subst (λ (b : ℕ). Each (λ h. h.to.node < b) (lan_hops B n k (other_members n k))) (omega arith) (others_within k n 0 B n)
+net_within TwinLan n k C within = tt
+
+copies_within : (n : ℕ) (o : Port) (p : ParcelImage) (hs : List Hop) → Each (λ h. h.to.node < n) hs → Each (λ c. c.hop.to.node < n) (map (copy_over o p) hs)
+copies_within n o p [] each = tt
+copies_within n o p (h ∷ hs) each = (each.0, copies_within n o p hs each.1)
+
+put_within : (t : Topology) (n k : ℕ) (o : Port) (ps : List ParcelImage) → k < n → Each (λ c. c.hop.to.node < n) (all_put t n k o ps)
+put_within t n k o [] within = tt
+put_within t n k o (p ∷ ps) within =
+    each_append (λ (c : Copy). c.hop.to.node < n) _ _ (copies_within n o p (net_of t n k o) (net_within t n k o within)) (put_within t n k o ps within)
+
+-- a node keeps its kind
+learned_kind : (kind : RoleKind) (port : Port) (r : RoleImage) (h : Header) (now : ℕ) → (learned_at kind port r h now).kind ≡ r.kind
+learned_kind San C r h now = refl
+learned_kind San H r h now = refl
+learned_kind San A r h now = refl
+learned_kind San B r h now = refl
+learned_kind Danp port r h now = refl
+learned_kind Danh port r h now = refl
+learned_kind (Prp lan net) port r h now = refl
+learned_kind Hsr port r h now = refl
+
+pub arrived_kind : (s : State) (port : Port) (p : ParcelImage) (now : ℕ) (a : Answer) (t : State) → Arrived s port p now a t → t.role.kind ≡ s.role.kind
+arrived_kind s port p now answer.Own t came = rw came.1 refl
+arrived_kind s port p now (answer.Passed ports) t came = by_outlets (goes s port p now) came.1
+  where
+    by_outlets : (o : Option Set) → PassedTo s port p now o ports.items t → t.role.kind ≡ s.role.kind
+    by_outlets None came = absurd came
+    by_outlets (Some o) came = rw came.1 (learned_kind s.role.kind port s.role (header_at s (going_on s port p) now) now)
+arrived_kind s port p now (answer.Sent number) t came = absurd came
+arrived_kind s port p now (answer.Ticked sources nodes proxies life) t came = absurd came
+arrived_kind s port p now (answer.Taken given) t came = absurd came
+
+step_kind : (s : State) (e : Event) (a : Answer) (t : State) → Step s e a t → t.role.kind ≡ s.role.kind
+step_kind s (event.Arrive port p now) a t step = arrived_kind s port p (time_at s now) a t step
+step_kind s (event.Send frame now) (answer.Sent number) t step = rw step.1 refl
+step_kind s (event.Send frame now) answer.Own t step = absurd step
+step_kind s (event.Send frame now) (answer.Passed ports) t step = absurd step
+step_kind s (event.Send frame now) (answer.Ticked sources nodes proxies life) t step = absurd step
+step_kind s (event.Send frame now) (answer.Taken given) t step = absurd step
+step_kind s (event.Tick now) (answer.Ticked sources nodes proxies life) t step = rw step.4 refl
+step_kind s (event.Tick now) answer.Own t step = absurd step
+step_kind s (event.Tick now) (answer.Passed ports) t step = absurd step
+step_kind s (event.Tick now) (answer.Sent number) t step = absurd step
+step_kind s (event.Tick now) (answer.Taken given) t step = absurd step
+step_kind s (event.Take port) (answer.Taken given) t step = rw step.1 refl
+step_kind s (event.Take port) answer.Own t step = absurd step
+step_kind s (event.Take port) (answer.Passed ports) t step = absurd step
+step_kind s (event.Take port) (answer.Sent number) t step = absurd step
+step_kind s (event.Take port) (answer.Ticked sources nodes proxies life) t step = absurd step
+
+-- a plant of which a node acted
+pub acted_in_order : (s : Plant) (i now : ℕ) (before u : State) → IsInOrder s → slice_get s.nodes i ≡ Some before → u.role.kind ≡ before.role.kind →
+    IsInOrder (acted s i u now)
+acted_in_order s i now before u order there kind =
+    let same : length (slice_set s.nodes i (emptied u)) ≡ length s.nodes = length-set s.nodes i (emptied u) in
+    let got = each_got (λ n. n.role.kind ≡ kind_of s.topology) s.nodes i before order.kinds there in
+    let n = length s.nodes in
+    let out = u.core.out in
+    let put : Each (λ c. c.hop.to.node < n) (put_out s.topology n i out) =
+    each_append (λ (c : Copy). c.hop.to.node < n) _ _ (put_within s.topology n i A out.a got.0) (each_append (λ (c : Copy). c.hop.to.node < n) _ _ (put_within s.topology n i B out.b got.0) (put_within s.topology n i C out.c got.0)) in
+    let flight = each_append (λ (c : Copy). c.hop.to.node < n) s.flight (those_passing s.cut (put_out s.topology n i out)) order.receivers (each_filter (λ (c : Copy). c.hop.to.node < n) (λ c. not (is_stopped s.cut c)) (put_out s.topology n i out) put) in
+    record {
+      size = rw same order.size;
+      kinds = each_set (λ n. n.role.kind ≡ kind_of s.topology) s.nodes i (emptied u) order.kinds (kind ∙ got.1);
+      emptied = each_set IsEmptied s.nodes i (emptied u) order.emptied refl;
+      links = rw same order.links;
+      hosts = rw same (length-set _ i _ ∙ order.hosts);
+      receivers = rw same flight;
+    }
+
+pub acts_in_order : (s : Plant) (i now : ℕ) (e : Event) (t : Plant) → IsInOrder s → Acts s i e now t → IsInOrder t
+acts_in_order s i now e t order acts =
+    subst IsInOrder (sym acts.plant) (acted_in_order s i now acts.before acts.after order acts.there (step_kind acts.before e acts.answer acts.after acts.step))
+
+-- a plant of which a link was cut
+pub cut_in_order : (s : Plant) (link : ℕ) → IsInOrder s →
+    IsInOrder (record s { flight = filter (λ c. not (is_on link c)) s.flight; cut = slice_set s.cut link true })
+cut_in_order s link order = record {
+  size = order.size;
+  kinds = order.kinds;
+  emptied = order.emptied;
+  links = length-set s.cut link true ∙ order.links;
+  hosts = order.hosts;
+  receivers = each_filter (λ (c : Copy). c.hop.to.node < length s.nodes) (λ c. not (is_on link c)) s.flight order.receivers;
+}

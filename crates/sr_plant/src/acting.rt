@@ -1,0 +1,65 @@
+//! Nodes take events, and what they put out is put in flight.
+
+ghost use Rattle.std.specs.Prelude.{◌≡◌, ◌<◌, ◌⊎◌, IfOk, IfErr, OnOk, OnErr, map, length};
+ghost use Rattle.sr_node.specs.Faults.{or_no_memory};
+ghost use Rattle.sr_node.specs.Images.{node_state};
+ghost use Rattle.sr_node.specs.Steps.{refusal_of};
+ghost use Rattle.sr_plant.specs.Plants.{plant_of, IsEmptied, IsInOrder};
+ghost use Rattle.sr_plant.specs.Given.{StepsOut};
+ghost use Rattle.sr_plant.specs.Steps.{Acts, NodeRefuses};
+
+use crate::giving::take_out;
+use crate::{PlantFault, PlantOf};
+use sr_forwarding::{Parcel, Role};
+use sr_node::{Event, NodeOf};
+
+// A node takes an event, what it has for its host goes up, and what came out at A and at B is answered. The growth comes
+// first.
+fn step_out<R: Role>(
+    node: &mut NodeOf<R>,
+    up: &mut Vec<Parcel>,
+    event: &Event,
+) -> Result<(Option<Parcel>, Option<Parcel>), PlantFault>
+    requires { IsEmptied (node_state (R.meaning node.old.role) node.old.core) }
+    ensures ok { IfOk result (λ g. StepsOut (node_state (R.meaning node.old.role) node.old.core) event.now g.0 g.1
+        up.old.items up.new.items (node_state (R.meaning node.new.role) node.new.core)) }
+    ensures err { IfErr result (λ f. (f ≡ PlantFault.NoMemory)
+        ⊎ (f ≡ PlantFault.Node (or_no_memory (refusal_of (node_state (R.meaning node.old.role) node.old.core) event.now)))) }
+    ensures same { OnErr result ((node_state (R.meaning node.new.role) node.new.core
+        ≡ node_state (R.meaning node.old.role) node.old.core) × (up.new.items ≡ up.old.items)) }
+{
+    if up.reserve(1).is_err() {
+        return Err(PlantFault::NoMemory);
+    }
+    let _answer = node.step(event)?;
+    Ok(take_out(node, up))
+}
+
+impl<R: Role> PlantOf<R> {
+    /// A node takes an event, all growths first, and the plant's clock goes to this time.
+    pub(crate) fn act(&mut self, node: usize, event: &Event, now: u64) -> Result<(), PlantFault>
+        requires in_order { IsInOrder
+            (plant_of self.old.topology (map (λ n. node_state (R.meaning n.role) n.core) self.old.nodes.items) self.old.traffic (map (λ h. h.items) self.old.handed.items)) }
+        requires there { node < length self.old.nodes.items }
+        ensures ok { OnOk result (Acts
+            (plant_of self.old.topology (map (λ n. node_state (R.meaning n.role) n.core) self.old.nodes.items) self.old.traffic (map (λ h. h.items) self.old.handed.items))
+            node event.now now
+            (plant_of self.new.topology (map (λ n. node_state (R.meaning n.role) n.core) self.new.nodes.items) self.new.traffic (map (λ h. h.items) self.new.handed.items))) }
+        ensures in_order { OnOk result (IsInOrder
+            (plant_of self.new.topology (map (λ n. node_state (R.meaning n.role) n.core) self.new.nodes.items) self.new.traffic (map (λ h. h.items) self.new.handed.items))) }
+        ensures err { IfErr result (λ f. (f ≡ PlantFault.NoMemory) ⊎ NodeRefuses
+            (plant_of self.old.topology (map (λ n. node_state (R.meaning n.role) n.core) self.old.nodes.items) self.old.traffic (map (λ h. h.items) self.old.handed.items))
+            node event.now f) }
+        ensures same { OnErr result (
+            plant_of self.new.topology (map (λ n. node_state (R.meaning n.role) n.core) self.new.nodes.items) self.new.traffic (map (λ h. h.items) self.new.handed.items)
+            ≡ plant_of self.old.topology (map (λ n. node_state (R.meaning n.role) n.core) self.old.nodes.items) self.old.traffic (map (λ h. h.items) self.old.handed.items)) }
+    {
+        let nodes = self.nodes.len();
+        self.traffic.reserve(nodes)?;
+        let given = step_out(&mut self.nodes[node], &mut self.handed[node], event)?;
+        self.traffic
+            .put(self.topology, nodes, node, given.0, given.1);
+        self.traffic.set_clock(now);
+        Ok(())
+    }
+}

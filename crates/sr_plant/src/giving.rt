@@ -1,0 +1,38 @@
+//! What waits in a node is taken out.
+
+ghost use Rattle.std.specs.Prelude.{◌≡◌, ◌<◌, ◌++◌, option_to_list};
+ghost use Rattle.std.specs.Vec.{vec_len, vec_capacity};
+ghost use Rattle.sr_node.specs.Images.{node_state};
+ghost use Rattle.sr_plant.specs.Given.{IsAtMostOneEach, GivesOut};
+
+use sr_forwarding::{Parcel, Role};
+use sr_frame::Port;
+use sr_node::NodeOf;
+
+// The parcel goes last, if there is one.
+fn append(list: &mut Vec<Parcel>, parcel: Option<Parcel>)
+    requires { vec_len list.old < vec_capacity list.old }
+    ensures { list.new.items ≡ list.old.items ++ option_to_list parcel }
+{
+    if let Some(parcel) = parcel {
+        list.push_reserved(parcel);
+    }
+}
+
+/// Takes out all that waits in a node, where it is at most one parcel at each outlet: the host's goes up, and those of A
+/// and B are answered. What waits at an interlink leads nowhere.
+pub(crate) fn take_out<R: Role>(
+    node: &mut NodeOf<R>,
+    up: &mut Vec<Parcel>,
+) -> (Option<Parcel>, Option<Parcel>)
+    requires few { IsAtMostOneEach (node_state (R.meaning node.old.role) node.old.core).core.out }
+    requires room { vec_len up.old < vec_capacity up.old }
+    ensures { GivesOut (node_state (R.meaning node.old.role) node.old.core) result.0 result.1
+        up.old.items up.new.items (node_state (R.meaning node.new.role) node.new.core) }
+{
+    append(up, node.take(Port::H));
+    let a = node.take(Port::A);
+    let b = node.take(Port::B);
+    let _ = node.take(Port::C);
+    (a, b)
+}

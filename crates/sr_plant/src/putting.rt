@@ -1,0 +1,77 @@
+//! How copies of a parcel that is put out come to be in flight.
+
+ghost use Rattle.std.specs.Prelude.{◌≡◌, ◌≤◌, ◌<◌, ◌+◌, ◌++◌, map, option_to_list, IsSome};
+ghost use Rattle.std.specs.VecDeque.{deque_len, deque_capacity};
+ghost use Rattle.slab.specs.Slab.{get, slab_len};
+ghost use Rattle.sr_plant.specs.Limits.{most_nodes};
+ghost use Rattle.sr_plant.specs.Flights.{AreCounted, copies_in, parcel_of};
+ghost use Rattle.sr_plant.specs.Puts.{copy_over, copies_put, those_passing, hop_to};
+
+use crate::flight::{Flying, attach};
+use crate::keeping::Kept;
+use crate::outlet::Outlet;
+use slab::Slab;
+use std::collections::VecDeque;
+
+// The copy of a parcel that is kept to one node, if the outlet leads there, and over no link that is cut.
+fn put_copy(
+    kept: &mut Slab<Kept>,
+    places: &mut VecDeque<Flying>,
+    outlet: Outlet,
+    key: usize,
+    to: usize,
+    cut: &[bool],
+)
+    requires small { outlet.nodes ≤ most_nodes }
+    requires node { outlet.node < outlet.nodes }
+    requires to { to < outlet.nodes }
+    requires room { deque_len places.old < deque_capacity places.old }
+    requires counted { AreCounted kept.old places.old.items }
+    requires there { IsSome (get kept.old key) }
+    ensures counted { AreCounted kept.new places.new.items }
+    ensures copies { copies_in kept.new places.new.items ≡ copies_in kept.old places.old.items
+        ++ those_passing cut.now (map (copy_over outlet.port (parcel_of (get kept.old key)))
+        (option_to_list (hop_to outlet.topology outlet.nodes outlet.node outlet.port to))) }
+    ensures there { IsSome (get kept.new key) }
+    ensures parcel { parcel_of (get kept.new key) ≡ parcel_of (get kept.old key) }
+    ensures kept_len { slab_len kept.new ≡ slab_len kept.old }
+    ensures kept_capacity { kept.new.capacity ≡ kept.old.capacity }
+    ensures len { deque_len places.new ≤ deque_len places.old + 1 }
+    ensures capacity { deque_capacity places.new ≡ deque_capacity places.old }
+{
+    let Some(hop) = outlet.hop(to) else {
+        return;
+    };
+    if hop.is_stopped(cut) {
+        return;
+    }
+    let outlet = outlet.port;
+    attach(kept, places, Flying { key, hop, outlet });
+}
+
+/// The copies of a parcel that is kept: one for each node to which the outlet leads over no link that is cut.
+pub(crate) fn put_copies(
+    kept: &mut Slab<Kept>,
+    places: &mut VecDeque<Flying>,
+    outlet: Outlet,
+    key: usize,
+    cut: &[bool],
+)
+    requires small { outlet.nodes ≤ most_nodes }
+    requires node { outlet.node < outlet.nodes }
+    requires room { deque_len places.old + outlet.nodes ≤ deque_capacity places.old }
+    requires counted { AreCounted kept.old places.old.items }
+    requires there { IsSome (get kept.old key) }
+    ensures counted { AreCounted kept.new places.new.items }
+    ensures copies { copies_in kept.new places.new.items ≡ copies_in kept.old places.old.items
+        ++ those_passing cut.now
+        (copies_put outlet.topology outlet.nodes outlet.node outlet.port (parcel_of (get kept.old key))) }
+    ensures kept_len { slab_len kept.new ≡ slab_len kept.old }
+    ensures kept_capacity { kept.new.capacity ≡ kept.old.capacity }
+    ensures len { deque_len places.new ≤ deque_len places.old + outlet.nodes }
+    ensures capacity { deque_capacity places.new ≡ deque_capacity places.old }
+{
+    for to in 0..outlet.nodes {
+        put_copy(kept, places, outlet, key, to, cut);
+    }
+}
