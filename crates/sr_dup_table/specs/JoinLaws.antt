@@ -29,8 +29,8 @@ AreClose None b c = Unit {0}
 
 -- merging in either order gives the same, where it is not refused
 abbrev pub MergeCommutes : Type 0
-MergeCommutes = (now : ℕ) (one other both turned : Sources) → IsSound one → IsSound other → first_apart (live_at now one) (live_at now other) ≡ None
-    → MergesTo now one other both → MergesTo now other one turned → AreSame both turned
+MergeCommutes = (now : ℕ) (one other both turned : Sources) → IsSound one → IsSound other
+    → first_apart (live_at now one) (live_at now other) ≡ None → MergesTo now one other both → MergesTo now other one turned → AreSame both turned
 
 -- merging a table with itself leaves what is live
 abbrev pub MergeIsIdempotent : Type 0
@@ -38,9 +38,12 @@ MergeIsIdempotent = (now : ℕ) (one both : Sources) → IsSound one → MergesT
 
 -- merging in either grouping gives the same, where of each address the three records' greatest numbers are close
 abbrev pub MergeAssociates : Type 0
-MergeAssociates = (now : ℕ) (one other third first second left right : Sources) → IsSound one → IsSound other → IsSound third → IsTable first → IsTable second
-    → ((src : Mac) → AreClose (lookup (mac_eq src) (live_at now one)) (lookup (mac_eq src) (live_at now other)) (lookup (mac_eq src) (live_at now third)))
-    → MergesTo now one other first → MergesTo now first third left → MergesTo now other third second → MergesTo now one second right → AreSame left right
+MergeAssociates = (now : ℕ) (one other third first second left right : Sources)
+    → IsSound one → IsSound other → IsSound third → IsTable first → IsTable second
+    → ((src : Mac) → AreClose (lookup (mac_eq src) (live_at now one)) (lookup (mac_eq src) (live_at now other))
+    (lookup (mac_eq src) (live_at now third)))
+    → MergesTo now one other first → MergesTo now first third left
+    → MergesTo now other third second → MergesTo now one second right → AreSame left right
 
 -- a record stands for a family, which was heard at a time
 abbrev pub Stands : Option Heard → Family → ℤ → ℕ → Type 0

@@ -1,5 +1,6 @@
 -- The join of two tables, source by source.
-use Rattle.std.specs.Prelude.{◌≡◌, ℕ, ◌+◌, Bool, false, not, is_some, nat_eq, nat_lt, max, [], ◌∷◌, ◌++◌, length, filter, find, Option, None, Some, if◌then◌else◌}
+use Rattle.std.specs.Prelude.{◌≡◌, ℕ, ◌+◌, Bool, false, not, is_some, nat_eq, nat_lt, max}
+use Rattle.std.specs.Prelude.{[], ◌∷◌, ◌++◌, length, filter, find, Option, None, Some, if◌then◌else◌}
 use Rattle.std.specs.Map.{lookup, set_value, keys_of}
 use Rattle.std.specs.Option.{option_map}
 use Rattle.sr_frame.specs.declared.fields.Mac.{Mac}

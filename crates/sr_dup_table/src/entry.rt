@@ -47,7 +47,8 @@ pub fn hear(entry: &mut Aged<Record<16>>, seq: Seq, lanes: Lanes, now: u64) -> L
 /// Joins what another table has of the source, unless the two records are apart. Answers whether it did.
 pub fn join(entry: &mut Aged<Record<16>>, other: &Aged<Record<16>>) -> bool
     ensures later { entry.old.time ≤ entry.new.time }
-    ensures joined { is_apart (Some (heard_of entry.old)) (heard_of other.now) ≡ false → heard_of entry.new ≡ joined_heard (heard_of entry.old) (heard_of other.now) }
+    ensures joined { is_apart (Some (heard_of entry.old)) (heard_of other.now) ≡ false
+        → heard_of entry.new ≡ joined_heard (heard_of entry.old) (heard_of other.now) }
 {
     entry.time = entry.time.max(other.time);
     entry.value.merge(&other.value).is_ok()

@@ -7,7 +7,8 @@ ghost use Rattle.sr_frame.specs.Addresses.{mac_eq};
 ghost use Rattle.sr_sequence.specs.Places.{steps};
 ghost use Rattle.sr_dup_table.specs.Limits.{most_sources};
 ghost use Rattle.sr_dup_table.specs.Sources.{IsTable, live_at};
-ghost use Rattle.sr_dup_table.specs.Joins.{IsJoin, new_source, apart_source, or_else, is_apart, first_apart, join_fault, with_source, with_sources};
+ghost use Rattle.sr_dup_table.specs.Joins.{IsJoin, new_source, apart_source, or_else, is_apart, first_apart};
+ghost use Rattle.sr_dup_table.specs.Joins.{join_fault, with_source, with_sources};
 ghost use Rattle.sr_dup_table.specs.Shown.{heard_of, sources_of};
 ghost use Rattle.sr_dup_window.specs.Windows.{window_of};
 
@@ -63,8 +64,10 @@ struct Tally {
 // Sees a source of the other table, beside what this one has of it.
 fn see(tally: &mut Tally, src: Mac, known: Option<&Aged<Record<16>>>, entry: &Aged<Record<16>>)
     requires { tally.old.count ≤ 2048 }
-    ensures count { tally.new.count ≡ tally.old.count + length (new_source (option_map heard_of (option_copied known.entry)) (src, heard_of entry.now)) }
-    ensures apart { tally.new.apart ≡ or_else tally.old.apart (apart_source (option_map heard_of (option_copied known.entry)) (src, heard_of entry.now)) }
+    ensures count { tally.new.count ≡ tally.old.count
+        + length (new_source (option_map heard_of (option_copied known.entry)) (src, heard_of entry.now)) }
+    ensures apart { tally.new.apart ≡ or_else tally.old.apart
+        (apart_source (option_map heard_of (option_copied known.entry)) (src, heard_of entry.now)) }
 {
     match known {
         None => tally.count += 1,
@@ -137,7 +140,8 @@ impl DupTable {
         ensures held { OnOk result (self.new.held ≡ []) }
 
         // Exactly where there is a fault it is answered, and otherwise at most NoMemory.
-        ensures refused { IfErr result (λ e. e ≡ unwrap_or (join_fault (live_at now self.old.sources) (live_at now other.now.sources)) DupFault.NoMemory) }
+        ensures refused { IfErr result (λ e. e
+            ≡ unwrap_or (join_fault (live_at now self.old.sources) (live_at now other.now.sources)) DupFault.NoMemory) }
         ensures joinable { OnOk result (join_fault (live_at now self.old.sources) (live_at now other.now.sources) ≡ None) }
         ensures err { OnErr result (self.new ≡ self.old) }
     {

@@ -332,7 +332,8 @@ impl DupTable {
             src,
             |entry: &mut Aged<Record<16>>| -> bool
                 ensures later { entry.old.time ≤ entry.new.time }
-                ensures joined { is_apart (Some (heard_of entry.old)) (heard_of other.entry.now) ≡ false → heard_of entry.new ≡ joined_heard (heard_of entry.old) (heard_of other.entry.now) }
+                ensures joined { is_apart (Some (heard_of entry.old)) (heard_of other.entry.now) ≡ false
+                    → heard_of entry.new ≡ joined_heard (heard_of entry.old) (heard_of other.entry.now) }
             { join(entry, other) },
         )
         else {
