@@ -241,9 +241,10 @@ fn hands_back(node: &mut Node, role: Box<dyn Role + Send>) -> bool {
     }
 }
 
-/// The place of the first step at which a node of a ring differs, before it gets a box of its address and after it.
-pub fn differs_after_exchange(alloc: Global, before: &[Step], after: &[Step]) -> Option<usize> {
-    let wrong = Some(before.len() + after.len());
+// The place of the first step at which a node of a ring differs after it got a box of its address; as many as there are where it
+// differed before, or where memory ran out.
+fn exchanged_differs(alloc: Global, before: &[Step], after: &[Step]) -> Option<usize> {
+    let wrong = Some(after.len());
     let (Ok(ring), Ok(own), Ok(other)) = (
         Box::new(alloc, Danh::new(OWN)),
         Box::new(alloc, SanBox::new(alloc, OWN)),
@@ -266,4 +267,16 @@ pub fn differs_after_exchange(alloc: Global, before: &[Step], after: &[Step]) ->
         return wrong;
     }
     differs(alloc, &mut node, after)
+}
+
+/// The place of the first step at which a node of a ring differs after it got a box of its address; as many as there are where it
+/// differed before. Where memory ran out as it was made, it is made again.
+pub fn differs_after_exchange(alloc: Global, before: &[Step], after: &[Step]) -> Option<usize> {
+    for _ in 0..8u8 {
+        let place = exchanged_differs(alloc, before, after);
+        if place != Some(after.len()) {
+            return place;
+        }
+    }
+    Some(after.len())
 }
