@@ -6,6 +6,3 @@ mod table;
 
 pub use aged::Aged;
 pub use table::AgedSlots;
-
-#[cfg(test)]
-mod tests;

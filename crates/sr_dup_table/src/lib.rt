@@ -14,6 +14,3 @@ pub use fault::{DupFault, TableFull};
 pub use laws::{ageing_keeps_answers, equal_where_the_sources_are};
 pub use same::same_is_an_equivalence;
 pub use table::{DupTable, ENTRY_FORGET_TIME, Look, MOST_SOURCES};
-
-#[cfg(test)]
-mod tests;

@@ -1,7 +1,18 @@
-//! Tests of `sr_dup_window`, above it, so that its own functions are proved once.
+//! Tests of `sr_dup_window`, `sr_aged_slots`, `sr_dup_table` and `sr_dup_snapshots`, above them, so that their own
+//! functions are proved once.
 #![tactic(auto)]
 
+#[cfg(test)]
+mod ages;
+#[cfg(test)]
+mod duplicates;
+#[cfg(test)]
+mod joins;
 #[cfg(test)]
 mod records;
 #[cfg(test)]
 mod slow_record;
+#[cfg(test)]
+mod snapshots;
+#[cfg(test)]
+mod steps;

@@ -1,6 +1,6 @@
 //! Long random runs beside a plain table, with limits so small that it fills, forgets and sweeps all the time.
 
-use super::*;
+use sr_aged_slots::AgedSlots;
 use sr_frame::Mac;
 use sr_slots::Spot;
 use std::alloc::Global;

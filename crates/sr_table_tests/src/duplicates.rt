@@ -1,7 +1,9 @@
+//! Duplicate records by source: times, edges and limits.
+
 ghost use Rattle.std.specs.Prelude.{◌≡◌, false};
 ghost use Rattle.sr_dup_window.specs.LaneSets.{is_empty};
 
-use super::*;
+use sr_dup_table::{DupFault, DupTable, Look, MOST_SOURCES, TableFull};
 use sr_dup_window::Lanes;
 use sr_frame::Mac;
 use sr_sequence::Seq;
