@@ -24,7 +24,8 @@ pub record GivesOut (u : State) (at_a at_b : Option ParcelImage) (before up_afte
   pub rest : t ≡ emptied u
 
 -- a node takes an event and is emptied
-pub record StepsOut (s : State) (event : Event) (at_a at_b : Option ParcelImage) (before up_after : List ParcelImage) (t : State) : Type 0 where
+pub record StepsOut (s : State) (event : Event) (at_a at_b : Option ParcelImage) (before up_after : List ParcelImage) (t : State) :
+    Type 0 where
   pub answer : Answer
   pub after : State
   pub fits : refusal_of s event ≡ None

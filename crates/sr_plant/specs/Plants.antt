@@ -45,7 +45,8 @@ plant_of topology nodes traffic handed = record {
 abbrev pub IsEmptied : State → Type 0
 IsEmptied s = s.core.out ≡ boxes_empty
 
--- As a plant is between its events: its nodes are of the kind of its topology and nothing waits in them, and each node and each link has its place.
+-- As a plant is between its events: it has 16 nodes at most, they are of the kind of its topology and nothing waits in them, each link and
+-- each host has its place, and each copy in flight leads to a node.
 pub record IsInOrder (s : Plant) : Type 0 where
   pub size : length s.nodes ≤ most_nodes
   pub kinds : Each (λ n. n.role.kind ≡ kind_of s.topology) s.nodes

@@ -129,7 +129,8 @@ abbrev pub Fails : Plant → PlantEvent → PlantFault → Type 0
 Fails s (Send i frame) f = (f ≡ NoMemory) ⊎ NodeRefuses s i (node.Send frame s.clock) f
 Fails s (Carry place) f =
     (f ≡ NoMemory)
-    ⊎ ((c : Copy) × (fault : StepFault) × (slice_get s.flight place ≡ Some c) × IsRefused s c fault × (is_loss fault ≡ false) × (f ≡ Node fault))
+    ⊎ ((c : Copy) × (fault : StepFault) × (slice_get s.flight place ≡ Some c)
+    × IsRefused s c fault × (is_loss fault ≡ false) × (f ≡ Node fault))
 Fails s (Drop place) f = ⊥
 Fails s (Repeat place) f = f ≡ NoMemory
 Fails s (Cut link) f = ⊥
