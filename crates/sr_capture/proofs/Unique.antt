@@ -1,5 +1,5 @@
 -- Files that are read in one way.
-use Rattle.std.proofs.Common.{◌≡◌, ℕ, ◌-◌, List, [], ◌∷◌, ◌++◌, length, take, sym, ap, subst, refl, ◌∙◌, arith, append_assoc}
+use Rattle.std.proofs.Common.{◌≡◌, ℕ, ◌-◌, List, [], ◌∷◌, ◌++◌, length, take, sym, ap, subst, refl, ◌∙◌, arith, append_assoc, inl, inr}
 use Rattle.std.proofs.lemmas.List.{length-append, take_at, append_cancel_left}
 use Rattle.sr_capture.specs.declared.header.Form.{Form}
 use Rattle.sr_capture.specs.declared.header.TimeUnit.{TimeUnit}
@@ -9,8 +9,8 @@ use Rattle.sr_capture.specs.declared.numbers.ByteOrder.TheVariants.{Little, Big}
 use Rattle.sr_capture.specs.declared.packet.Extent.{Extent}
 use Rattle.sr_capture.specs.Numbers.{word_at}
 use Rattle.sr_capture.specs.Headers.{magic_of, check_len_of, IsHeader}
-use Rattle.sr_capture.specs.Records.{Captured, IsHead, IsRecord, AreRecords}
-use Rattle.sr_capture.specs.Laws.{RecordsAreUnique, PacketsAreUnique}
+use Rattle.sr_capture.specs.Records.{Captured, IsHead, IsRecord, AreRecords, EndsEarly}
+use Rattle.sr_capture.specs.Laws.{RecordsAreUnique, PacketsAreUnique, BrokenFilesAreNone}
 
 -- fronts of one length
 pub same_front : (a b c d : List ℕ) → a ++ b ≡ c ++ d → length a ≡ length c → a ≡ c
@@ -102,3 +102,40 @@ packets_are_unique octets xs ys h k =
     let form : h.0 ≡ k.0 = one_form k.1 h.0 k.0 (subst (λ (l : List ℕ). IsHeader l h.0) front h.4) k.4 in
     let own : AreRecords k.0 h.2 xs = subst (λ (f : Form). AreRecords f h.2 xs) form h.5 in
     records_are_unique k.0 k.2 xs ys (subst (λ (l : List ℕ). AreRecords k.0 l xs) rest own) k.5
+
+-- the beginning of a record begins no records
+no_early : (form : Form) (rest : List ℕ) (packets : List Captured) → EndsEarly form rest → AreRecords form rest packets → ⊥
+no_early form rest [] early h = omega (arith, early.0, ap length h)
+no_early form rest (x ∷ xs) (some, inl short) h =
+    let r = h.3 in
+    omega (arith, short, ap length h.2, length-append h.0 h.1, ap length r.spelled, length-append r.front r.body, r.is_head.size)
+no_early form rest (x ∷ xs) (some, inr part) h =
+    let r = h.3 in
+    let whole : part.0 ++ part.2 ≡ r.front ++ (r.body ++ h.1) =
+    sym part.3 ∙ h.2 ∙ ap (λ (l : List ℕ). l ++ h.1) r.spelled ∙ append_assoc r.front r.body h.1 in
+    let front : part.0 ≡ r.front = same_front part.0 part.2 r.front (r.body ++ h.1) whole (part.4.size ∙ sym r.is_head.size) in
+    let left : part.2 ≡ r.body ++ h.1 = same_rest part.0 part.2 r.front (r.body ++ h.1) whole front in
+    let own : IsHead form r.front part.1 = subst (λ (l : List ℕ). IsHead form l part.1) front part.4 in
+    let held : part.1.held ≡ r.head.held = own.held ∙ sym r.is_head.held in
+    omega (arith, part.5, held, r.size, ap length left, length-append r.body h.1)
+
+-- nor behind whole records
+no_break : (form : Form) (body rest : List ℕ) (xs ys : List Captured) → AreRecords form body xs → EndsEarly form rest → AreRecords form (body ++ rest) ys → ⊥
+no_break form body rest [] ys none early h =
+    no_early form rest ys early (subst (λ (l : List ℕ). AreRecords form (l ++ rest) ys) none h)
+no_break form body rest (x ∷ xs) [] h early none =
+    no_record form h.0 (h.1 ++ rest) x (sym none ∙ ap (λ (l : List ℕ). l ++ rest) h.2 ∙ append_assoc h.0 h.1 rest) h.3
+no_break form body rest (x ∷ xs) (y ∷ ys) h early k =
+    let whole : h.0 ++ (h.1 ++ rest) ≡ k.0 ++ k.1 = sym (append_assoc h.0 h.1 rest) ∙ ap (λ (l : List ℕ). l ++ rest) (sym h.2) ∙ k.2 in
+    let agree = one_record form h.0 (h.1 ++ rest) k.0 k.1 x y whole h.3 k.3 in
+    let left : h.1 ++ rest ≡ k.1 = same_rest h.0 (h.1 ++ rest) k.0 k.1 whole agree.octets in
+    no_break form h.1 rest xs ys h.4 early (subst (λ (l : List ℕ). AreRecords form l ys) (sym left) k.4)
+
+pub broken_files_are_none : BrokenFilesAreNone
+broken_files_are_none octets packets b k =
+    let whole : b.front ++ (b.body ++ b.rest) ≡ k.1 ++ k.2 = sym b.spelled ∙ k.3 in
+    let front : b.front ≡ k.1 = same_front b.front (b.body ++ b.rest) k.1 k.2 whole (b.header.size ∙ sym k.4.size) in
+    let left : b.body ++ b.rest ≡ k.2 = same_rest b.front (b.body ++ b.rest) k.1 k.2 whole front in
+    let form : k.0 ≡ b.form = one_form k.1 k.0 b.form k.4 (subst (λ (l : List ℕ). IsHeader l b.form) front b.header) in
+    let own : AreRecords b.form k.2 packets = subst (λ (f : Form). AreRecords f k.2 packets) form k.5 in
+    no_break b.form b.body b.rest b.packets packets b.records b.early (subst (λ (l : List ℕ). AreRecords b.form l packets) (sym left) own)

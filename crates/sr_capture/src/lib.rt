@@ -12,7 +12,7 @@ mod taking;
 
 pub use fault::{CaptureFault, Reason};
 pub use header::{Form, HEADER_LEN, TimeUnit, read_header};
-pub use laws::packets_are_unique;
+pub use laws::{broken_files_are_none, packets_are_unique};
 pub use numbers::ByteOrder;
 pub use packet::{Extent, MAX_KEPT, Packet};
 pub use record::next_packet;

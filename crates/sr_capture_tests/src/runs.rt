@@ -61,10 +61,12 @@ pub type Ending = Option<(Inlet, u64, Reason)>;
 /// Where a packet ends in a file, and its line.
 pub type Ends = &'static [(usize, &'static [u8])];
 
+/// Whether a script that is written to a list ends so. None where memory was refused, to the list too.
 fn is_ended(outcome: Result<(), ScriptFault>, ending: Ending) -> Option<bool> {
     match outcome {
         Ok(()) => Some(ending.is_none()),
         Err(ScriptFault::NoMemory) => None,
+        Err(ScriptFault::Write) => None,
         Err(
             ScriptFault::File(
                 _,
@@ -240,6 +242,7 @@ fn is_endured(alloc: Global, octets: &[u8]) -> Option<bool> {
     match script(alloc, Some(octets), None, None, &ALL, &mut written) {
         Ok(()) => Some(true),
         Err(ScriptFault::NoMemory) => None,
+        Err(ScriptFault::Write) => None,
         Err(
             ScriptFault::File(
                 Inlet::A,
