@@ -29,7 +29,9 @@ pub record IsFromLan (net : ℕ) (octets : List ℕ) : Type 0 where
 
 -- whoever reads them sees the network in the path
 abbrev pub PathsNameNets : Type 0
-PathsNameNets = (net path : ℕ) (octets : List ℕ) (p : ParcelImage) → 0 < net → IsFromLan net octets → IsRead (Tagged path) octets p → IsOfNet net p.path
+PathsNameNets =
+    (net path : ℕ) (octets : List ℕ) (p : ParcelImage)
+    → 0 < net → IsFromLan net octets → IsRead (Tagged path) octets p → IsOfNet net p.path
 
 -- and no box of the network, of whichever LAN, puts a frame with such a path from the ring into its LAN
 abbrev pub NoFrameGoesBack : Type 0
