@@ -16,6 +16,3 @@ pub use node::{Announced, AtPort, Node, Told};
 pub use status::{GREATEST_AGE, Status};
 pub use table::{MAX_ALARMS, MAX_NODES, NODE_FORGET_TIME, NodeTable};
 pub use watching::{HEARD_LATELY, MAX_BEHIND};
-
-#[cfg(test)]
-mod tests;

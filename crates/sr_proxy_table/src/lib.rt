@@ -4,6 +4,3 @@
 mod table;
 
 pub use table::{MAX_PROXIED, PROXY_FORGET_TIME, ProxyTable};
-
-#[cfg(test)]
-mod tests;

@@ -1,5 +1,5 @@
-//! Tests of `sr_dup_window`, `sr_aged_slots`, `sr_dup_table` and `sr_dup_snapshots`, above them, so that their own
-//! functions are proved once.
+//! Tests of `sr_dup_window`, `sr_aged_slots`, `sr_dup_table`, `sr_dup_snapshots`, `sr_node_table` and `sr_proxy_table`,
+//! above them, so that their own functions are proved once.
 #![tactic(auto)]
 
 #[cfg(test)]
@@ -8,6 +8,10 @@ mod ages;
 mod duplicates;
 #[cfg(test)]
 mod joins;
+#[cfg(test)]
+mod nodes;
+#[cfg(test)]
+mod proxied;
 #[cfg(test)]
 mod records;
 #[cfg(test)]

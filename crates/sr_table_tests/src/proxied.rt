@@ -1,5 +1,7 @@
-use super::*;
+//! The addresses that a RedBox stands for.
+
 use sr_frame::{Learnt, Mac};
+use sr_proxy_table::ProxyTable;
 use std::alloc::Global;
 
 // What is done to a table, or asked of it, and what it has to answer.

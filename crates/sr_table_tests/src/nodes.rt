@@ -1,5 +1,7 @@
-use super::*;
+//! The nodes that are heard: ages, late ports, alarms and limits.
+
 use sr_frame::{Learnt, Mac, Port};
+use sr_node_table::{Alarm, NodeTable};
 use sr_sequence::Seq;
 use sr_supervision::{Life, Supervision};
 use std::alloc::Global;
