@@ -9,7 +9,8 @@ pub length-live_by_le : {X : Type 0} (time : X → ℕ) (span now : ℕ) (es : L
 length-live_by_le time span now [] = omega arith
 length-live_by_le {X} time span now (e ∷ es) = by (is_recent span now (time e.1)) (length-live_by_le time span now es)
   where
-    by : (b : Bool) → length (live_by time span now es) ≤ length es → length (cond b (e ∷ live_by time span now es) (live_by time span now es)) ≤ suc (length es)
+    by : (b : Bool) → length (live_by time span now es) ≤ length es →
+        length (cond b (e ∷ live_by time span now es) (live_by time span now es)) ≤ suc (length es)
     by true h = omega arith
     by false h = omega arith
 

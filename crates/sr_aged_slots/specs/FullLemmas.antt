@@ -1,5 +1,31 @@
 -- Where a table is full: exactly where as many others are live as may be.
-use Rattle.std.proofs.Common.{◌≡◌, ℕ, suc, ◌<◌, ◌≤◌, Bool, true, false, cond, not, ◌&&◌, nat_lt, List, [], ◌∷◌, length, filter, Option, None, Some, refl, sym, ap, ◌∙◌, arith}
+use Rattle.std.proofs.Common.{
+  ◌≡◌,
+  ℕ,
+  suc,
+  ◌<◌,
+  ◌≤◌,
+  Bool,
+  true,
+  false,
+  cond,
+  not,
+  ◌&&◌,
+  nat_lt,
+  List,
+  [],
+  ◌∷◌,
+  length,
+  filter,
+  Option,
+  None,
+  Some,
+  refl,
+  sym,
+  ap,
+  ◌∙◌,
+  arith,
+}
 use Rattle.std.specs.Map.{lookup}
 use Rattle.std.proofs.lemmas.Bool.{ltb-true, ltb-false, le-ltb}
 use Rattle.sr_frame.specs.declared.fields.Mac.{Mac}
@@ -28,7 +54,8 @@ module _ {V : Type 0} (span most : ℕ) (m : Mac) (now : ℕ) where
   others_none [] h = refl
   others_none (e ∷ es) h = by (mac_eq m e.0) h (is_recent span now e.1.time) (others_none es)
     where
-      by : (t : Bool) → cond t (Some e.1) (lookup (mac_eq m) es) ≡ None → (b : Bool) → (lookup (mac_eq m) es ≡ None → others es ≡ live_at span now es)
+      by : (t : Bool) → cond t (Some e.1) (lookup (mac_eq m) es) ≡ None → (b : Bool) →
+          (lookup (mac_eq m) es ≡ None → others es ≡ live_at span now es)
           → cond (b && not t) (e ∷ others es) (others es) ≡ cond b (e ∷ live_at span now es) (live_at span now es)
       by true h b ih = cc
       by false h true ih = ap (λ l. e ∷ l) (ih h)
@@ -46,7 +73,8 @@ module _ {V : Type 0} (span most : ℕ) (m : Mac) (now : ℕ) where
   others_some [] x there = cc
   others_some (e ∷ es) x there = by (mac_eq m e.0) there (is_recent span now e.1.time) (others_some es x)
     where
-      by : (t : Bool) → cond t (Some e.1) (lookup (mac_eq m) es) ≡ Some x → (b : Bool) → (lookup (mac_eq m) es ≡ Some x → length (others es) < length es)
+      by : (t : Bool) → cond t (Some e.1) (lookup (mac_eq m) es) ≡ Some x → (b : Bool) →
+          (lookup (mac_eq m) es ≡ Some x → length (others es) < length es)
           → length (cond (b && not t) (e ∷ others es) (others es)) < suc (length es)
       by true there true ih = omega (arith, length-others_le es)
       by true there false ih = omega (arith, length-others_le es)
@@ -67,7 +95,8 @@ module _ {V : Type 0} (span most : ℕ) (m : Mac) (now : ℕ) where
           → ((cond (nat_lt (length (cond b es l)) most) Learned Full ≡ Full) → length l ≡ most)
           × (length l ≡ most → cond (nat_lt (length (cond b es l)) most) Learned Full ≡ Full)
       by true t = (
-        λ h. let a : length es < most = ltb-true (length es) most t in let b : most ≤ length es = ltb-false (length es) most (full (nat_lt (length es) most) h) in absurd (omega arith),
+        λ h. let a : length es < most = ltb-true (length es) most t in let b : most ≤ length es = ltb-false (length es) most
+            (full (nat_lt (length es) most) h) in absurd (omega arith),
         λ h. let a : length es < most = ltb-true (length es) most t in absurd (omega arith),
       )
       by false t = (
@@ -79,10 +108,12 @@ module _ {V : Type 0} (span most : ℕ) (m : Mac) (now : ℕ) where
   -- are live
   pub full_where : (es : Entries V) (answer : Option (Aged V) → Learnt) → ((e : Aged V) → answer (Some e) ≡ Full → ⊥)
       → answer None ≡ cond (nat_lt (length (with_room span most now es)) most) Learned Full → length es ≤ most
-      → (answer (lookup (mac_eq m) es) ≡ Full → length (others es) ≡ most) × (length (others es) ≡ most → answer (lookup (mac_eq m) es) ≡ Full)
+      → (answer (lookup (mac_eq m) es) ≡ Full → length (others es) ≡ most)
+      × (length (others es) ≡ most → answer (lookup (mac_eq m) es) ≡ Full)
   full_where es answer kept room few = by (lookup (mac_eq m) es) refl
     where
-      by : (o : Option (Aged V)) → lookup (mac_eq m) es ≡ o → (answer o ≡ Full → length (others es) ≡ most) × (length (others es) ≡ most → answer o ≡ Full)
+      by : (o : Option (Aged V)) → lookup (mac_eq m) es ≡ o → (answer o ≡ Full → length (others es) ≡ most)
+          × (length (others es) ≡ most → answer o ≡ Full)
       by (Some x) there = (λ e. absurd (kept x e), λ e. absurd (omega (arith, others_some es x there)))
       by None none =
           let w = room_where es (live_at span now es) few (length-live_le span now es) in

@@ -8,7 +8,8 @@ cons_is None ys = refl
 cons_is (Some x) ys = refl
 
 -- one entry more, of which there may be something
-pub gathered : {E X : Type 0} (f : E → Option X) (all rest before : List E) (e : E) (items next : List X) → before ≡ e ∷ rest → next ≡ items ++ cons_option (f e) []
+pub gathered : {E X : Type 0} (f : E → Option X) (all rest before : List E) (e : E) (items next : List X) → before ≡ e ∷ rest →
+    next ≡ items ++ cons_option (f e) []
     → items ++ filter_map f before ≡ filter_map f all → next ++ filter_map f rest ≡ filter_map f all
 gathered f all rest before e items next first more h =
     ap (λ l. l ++ filter_map f rest) more

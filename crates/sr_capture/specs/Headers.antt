@@ -1,5 +1,24 @@
 -- The header of a pcap file, 24 octets: magic number, version 2.4, eight octets of no meaning, snap length, link type.
-use Rattle.std.specs.Prelude.{◌≡◌, ◌≢◌, ℕ, ◌*◌, ◌/◌, ◌%◌, ◌^◌, ◌<◌, ◌≤◌, ◌⊎◌, List, length, take, slice_index, ◌==◌, if◌then◌else◌, Option, IfSome}
+use Rattle.std.specs.Prelude.{
+  ◌≡◌,
+  ◌≢◌,
+  ℕ,
+  ◌*◌,
+  ◌/◌,
+  ◌%◌,
+  ◌^◌,
+  ◌<◌,
+  ◌≤◌,
+  ◌⊎◌,
+  List,
+  length,
+  take,
+  slice_index,
+  ◌==◌,
+  if◌then◌else◌,
+  Option,
+  IfSome,
+}
 use Rattle.sr_capture.specs.declared.fault.Reason.{Reason}
 use Rattle.sr_capture.specs.declared.fault.Reason.TheVariants as reason
 use Rattle.sr_capture.specs.declared.numbers.ByteOrder.{ByteOrder}

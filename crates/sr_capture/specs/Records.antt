@@ -1,5 +1,27 @@
 -- The packets of a pcap file: each is a head of 16 octets and then the octets that were captured.
-use Rattle.std.specs.Prelude.{◌≡◌, ℕ, ◌+◌, ◌-◌, ◌*◌, ◌<◌, ◌≤◌, ◌⊎◌, List, [], ◌∷◌, ◌++◌, length, take, nat_lt, if◌then◌else◌, Option, Bool, true, false, IfSome}
+use Rattle.std.specs.Prelude.{
+  ◌≡◌,
+  ℕ,
+  ◌+◌,
+  ◌-◌,
+  ◌*◌,
+  ◌<◌,
+  ◌≤◌,
+  ◌⊎◌,
+  List,
+  [],
+  ◌∷◌,
+  ◌++◌,
+  length,
+  take,
+  nat_lt,
+  if◌then◌else◌,
+  Option,
+  Bool,
+  true,
+  false,
+  IfSome,
+}
 use Rattle.sr_capture.specs.declared.header.TimeUnit.{TimeUnit}
 use Rattle.sr_capture.specs.declared.header.TimeUnit.TheVariants.{Micro, Nano}
 use Rattle.sr_capture.specs.declared.fault.CaptureFault.{CaptureFault}
@@ -54,7 +76,8 @@ EndsEarly form octets = (0 < length octets) × IsPart form octets
 
 -- the reader failed, or memory was refused, behind the beginning of a record
 abbrev pub LacksRecord : Form → CaptureFault → Option (List ℕ) → Option (List ℕ) → Type 0
-LacksRecord form fault old new = IsLack fault.reason × ((octets : List ℕ) × (length octets ≡ fault.at) × Loses octets old new × IsPart form octets)
+LacksRecord form fault old new = IsLack fault.reason
+    × ((octets : List ℕ) × (length octets ≡ fault.at) × Loses octets old new × IsPart form octets)
 
 -- why there is no next packet: a lack, or the file ends within a record, at its first octet
 abbrev pub IsNoRecord : Form → CaptureFault → Option (List ℕ) → Option (List ℕ) → Type 0
@@ -84,7 +107,8 @@ TakesPacket false form shown old new = WasAtEnd old new
 
 -- the body of a packet was taken, of which so many octets are wanted; or the input ended before
 abbrev pub TakesBody : Bool → ℕ → ℕ → List ℕ → Option (List ℕ) → Option (List ℕ) → Type 0
-TakesBody true held wanted kept old new = (body : List ℕ) × Loses body old new × (length body ≡ held) × (wanted ≤ 1524 → kept ≡ take wanted body)
+TakesBody true held wanted kept old new = (body : List ℕ) × Loses body old new × (length body ≡ held)
+    × (wanted ≤ 1524 → kept ≡ take wanted body)
 TakesBody false held wanted kept old new = (body : List ℕ) × Loses body old new × (length body < held) × LeavesNone old new
 
 -- the octets are the records of these packets, one behind the other
@@ -95,4 +119,5 @@ AreRecords form octets (packet ∷ packets) = (front : List ℕ) × (rest : List
 
 -- the octets are a capture of Ethernet with these packets
 abbrev pub IsCapture : List ℕ → List Captured → Type 0
-IsCapture octets packets = (form : Form) × (front : List ℕ) × (rest : List ℕ) × (octets ≡ front ++ rest) × IsHeader front form × AreRecords form rest packets
+IsCapture octets packets = (form : Form) × (front : List ℕ) × (rest : List ℕ) × (octets ≡ front ++ rest) × IsHeader front form
+    × AreRecords form rest packets

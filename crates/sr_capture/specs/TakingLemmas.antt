@@ -1,5 +1,25 @@
 -- What a reader loses, step by step.
-use Rattle.std.proofs.Common.{◌≡◌, ℕ, ◌+◌, ◌<◌, List, [], ◌++◌, length, Option, Some, None, false, sym, ap, subst, refl, ◌∙◌, arith, append_assoc}
+use Rattle.std.proofs.Common.{
+  ◌≡◌,
+  ℕ,
+  ◌+◌,
+  ◌<◌,
+  List,
+  [],
+  ◌++◌,
+  length,
+  Option,
+  Some,
+  None,
+  false,
+  sym,
+  ap,
+  subst,
+  refl,
+  ◌∙◌,
+  arith,
+  append_assoc,
+}
 use Rattle.std.specs.Prelude.{IfSome}
 use Rattle.std.specs.Io.KnownBytes.{Keeps}
 use Rattle.std.proofs.lemmas.List.{length-append, append-nil}

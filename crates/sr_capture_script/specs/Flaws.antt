@@ -1,5 +1,23 @@
 -- Why packets are not used.
-use Rattle.std.specs.Prelude.{ℕ, ◌+◌, ◌-◌, ◌^◌, min, List, length, codes, Option, Some, None, Bool, true, false, nat_lt, ◌==◌, if◌then◌else◌}
+use Rattle.std.specs.Prelude.{
+  ℕ,
+  ◌+◌,
+  ◌-◌,
+  ◌^◌,
+  min,
+  List,
+  length,
+  codes,
+  Option,
+  Some,
+  None,
+  Bool,
+  true,
+  false,
+  nat_lt,
+  ◌==◌,
+  if◌then◌else◌,
+}
 use Rattle.std.specs.List.{count_by}
 use Rattle.sr_capture.specs.declared.packet.Extent.{Extent}
 use Rattle.sr_capture.specs.declared.packet.Extent.TheVariants.{Whole, Cut}

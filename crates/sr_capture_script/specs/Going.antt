@@ -10,7 +10,8 @@ use Rattle.sr_capture_script.specs.SourceViews.{IsFed}
 use Rattle.sr_capture_script.specs.Texts.{first_moment, last_line, lines_of}
 
 -- some items are printed, in order, and none of them comes behind one that is due
-pub record Going {R : Type 0} (remaining : R → Option (List ℕ)) (choice : Choice) (start_a start_b start_c : Option (List ℕ)) (a b c : Source R)
+pub record Going {R : Type 0} (remaining : R → Option (List ℕ)) (choice : Choice) (start_a start_b start_c : Option (List ℕ))
+    (a b c : Source R)
     (clock : Clock) (held now : Option (List ℕ)) : Type 0 where
   pub out : List Item
   pub fed_a : IsFed remaining A start_a a (came_at A out)

@@ -44,20 +44,21 @@ pub record HasCounted {R : Type 0} (s : Source R) (packets : List Captured) : Ty
   pub flaws : s.flaws ≡ tallied packets
 
 -- the packets of three files are merged and printed
-pub record Merges {R : Type 0} (choice : Choice) (x y z : Feed) (a b c : Source R) (last : Option ℕ) (held now : Option (List ℕ)) : Type 0 where
-  pub packets_a : List Captured
-  pub packets_b : List Captured
-  pub packets_c : List Captured
-  pub has_a : HasRecords x packets_a
-  pub has_b : HasRecords y packets_b
-  pub has_c : HasRecords z packets_c
-  pub counted_a : HasCounted a packets_a
-  pub counted_b : HasCounted b packets_b
-  pub counted_c : HasCounted c packets_c
-  pub merged : List Item
-  pub is_merge : IsMerge (items_of A x.delay packets_a) (items_of B y.delay packets_b) (items_of C z.delay packets_c) merged
-  pub last_is : last ≡ last_line choice merged
-  pub wrote : Appends held now (lines_of choice merged)
+pub record Merges {R : Type 0} (choice : Choice) (x y z : Feed) (a b c : Source R) (last : Option ℕ) (held now : Option (List ℕ)) : Type 0
+  where
+    pub packets_a : List Captured
+    pub packets_b : List Captured
+    pub packets_c : List Captured
+    pub has_a : HasRecords x packets_a
+    pub has_b : HasRecords y packets_b
+    pub has_c : HasRecords z packets_c
+    pub counted_a : HasCounted a packets_a
+    pub counted_b : HasCounted b packets_b
+    pub counted_c : HasCounted c packets_c
+    pub merged : List Item
+    pub is_merge : IsMerge (items_of A x.delay packets_a) (items_of B y.delay packets_b) (items_of C z.delay packets_c) merged
+    pub last_is : last ≡ last_line choice merged
+    pub wrote : Appends held now (lines_of choice merged)
 
 -- the end of a script: ticks, and the counts of each file
 abbrev pub end_of : Choice → Option ℕ → List ℕ → List ℕ → List ℕ → List ℕ
@@ -85,7 +86,8 @@ fault_at inlet other = None
 
 -- the item of the packets that is next: it comes behind all that are printed, or with the last of them
 abbrev pub IsNext : Inlet → ℕ → List Captured → List Item → Type 0
-IsNext inlet delay packets printed = (item : Item) × (items_of inlet delay packets ≡ came_at inlet printed ++ item ∷ []) × AllTo (key_of inlet item.moment) printed
+IsNext inlet delay packets printed = (item : Item) × (items_of inlet delay packets ≡ came_at inlet printed ++ item ∷ [])
+    × AllTo (key_of inlet item.moment) printed
 
 -- a file begins with these packets, and the last of them is next
 pub record Waits (inlet : Inlet) (feed : Feed) (packets : List Captured) (printed : List Item) : Type 0 where

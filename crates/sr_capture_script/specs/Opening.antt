@@ -55,11 +55,12 @@ HasBegun remaining check form None start = start ≡ Some []
 HasBegun remaining check form (Some reader) start = TakesHeader check form (remaining reader) start
 
 -- a file that is open, its first packet due
-pub record IsOpened {R : Type 0} (remaining : R → Option (List ℕ)) (inlet : Inlet) (check : ℕ) (file : Option R) (s : Source R) : Type 0 where
-  pub start : Option (List ℕ)
-  pub begun : HasBegun remaining check s.form file start
-  pub fed : IsFed remaining inlet start s []
-  pub there : is_some s.reader ≡ is_some file
+pub record IsOpened {R : Type 0} (remaining : R → Option (List ℕ)) (inlet : Inlet) (check : ℕ) (file : Option R) (s : Source R) : Type 0
+  where
+    pub start : Option (List ℕ)
+    pub begun : HasBegun remaining check s.form file start
+    pub fed : IsFed remaining inlet start s []
+    pub there : is_some s.reader ≡ is_some file
 
 -- behind these packets the octets have this fault
 pub record HasFault (check : ℕ) (octets : List ℕ) (packets : List Captured) (fault : CaptureFault) : Type 0 where
@@ -76,7 +77,8 @@ HasFaultAtFront check octets fault = ((left : Option (List ℕ)) × IsNoHeader f
 
 -- the fault is of the file of this inlet, before its first packet
 abbrev pub FailsAtFront : {R : Type 0} → (R → Option (List ℕ)) → Inlet → ℕ → Option R → ScriptFault → Type 0
-FailsAtFront {R = R} remaining inlet check file fault = (own : CaptureFault) × (reader : R) × (fault ≡ File inlet own) × (file ≡ Some reader)
+FailsAtFront {R = R} remaining inlet check file fault = (own : CaptureFault) × (reader : R) × (fault ≡ File inlet own)
+    × (file ≡ Some reader)
     × IfSome (remaining reader) (λ octets. HasFaultAtFront check octets own)
 
 -- the text is the script of up to three files, each file's times put off by a delay
@@ -97,7 +99,8 @@ pub record IsScript {R : Type 0} (remaining : R → Option (List ℕ)) (choice :
 abbrev pub HasComeIn : Inlet → ℕ → ℕ → List ℕ → List Item → Type 0
 HasComeIn inlet check delay octets printed = (packets : List Captured)
     × ((IsFile check octets packets × (came_at inlet printed ≡ items_of inlet delay packets))
-    ⊎ ((form : Form) × (place : ℕ) × (rest : List ℕ) × BeginsWith check octets packets form place rest × IsNext inlet delay packets printed))
+    ⊎ ((form : Form) × (place : ℕ) × (rest : List ℕ) × BeginsWith check octets packets form place rest
+    × IsNext inlet delay packets printed))
 
 -- octets of which all packets are printed that come before a fault
 abbrev pub HasFaultIn : Inlet → ℕ → ℕ → CaptureFault → List ℕ → List Item → Type 0
@@ -111,7 +114,8 @@ StandsIn (Some fault) inlet check delay octets printed = HasFaultIn inlet check 
 -- how far a file came, where its octets are known
 abbrev pub FileStands : {R : Type 0} → (R → Option (List ℕ)) → Option CaptureFault → Inlet → ℕ → ℕ → Option R → List Item → Type 0
 FileStands remaining fault inlet check delay None printed = came_at inlet printed ≡ []
-FileStands remaining fault inlet check delay (Some reader) printed = IfSome (remaining reader) (λ octets. StandsIn fault inlet check delay octets printed)
+FileStands remaining fault inlet check delay (Some reader) printed = IfSome (remaining reader)
+    (λ octets. StandsIn fault inlet check delay octets printed)
 
 -- the text is the lines of the packets that come before a fault
 pub record IsScriptTo {R : Type 0} (remaining : R → Option (List ℕ)) (choice : Choice) (check : ℕ) (file_a file_b file_c : Option R)
@@ -126,10 +130,12 @@ pub record IsScriptTo {R : Type 0} (remaining : R → Option (List ℕ)) (choice
 -- a file fails before its first packet, and nothing is printed
 abbrev pub FailsToOpen : {R : Type 0} → (R → Option (List ℕ)) → ℕ → Option R → Option R → Option R → ScriptFault → Type 0
 FailsToOpen remaining check file_a file_b file_c fault =
-    FailsAtFront remaining A check file_a fault ⊎ (FailsAtFront remaining B check file_b fault ⊎ FailsAtFront remaining C check file_c fault)
+    FailsAtFront remaining A check file_a fault
+    ⊎ (FailsAtFront remaining B check file_b fault ⊎ FailsAtFront remaining C check file_c fault)
 
 -- what is printed where there is a fault
-abbrev pub IsScriptUpTo : {R : Type 0} → (R → Option (List ℕ)) → Choice → ℕ → Option R → Option R → Option R → ℕ → ℕ → ℕ → ScriptFault → List ℕ → Type 0
+abbrev pub IsScriptUpTo : {R : Type 0} → (R → Option (List ℕ)) → Choice → ℕ → Option R → Option R → Option R → ℕ → ℕ → ℕ → ScriptFault →
+    List ℕ → Type 0
 IsScriptUpTo remaining choice check file_a file_b file_c delay_a delay_b delay_c fault text =
     ((text ≡ []) × FailsToOpen remaining check file_a file_b file_c fault)
     ⊎ IsScriptTo remaining choice check file_a file_b file_c delay_a delay_b delay_c fault text

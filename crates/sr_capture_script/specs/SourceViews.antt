@@ -27,7 +27,8 @@ abbrev pub IsFed : {R : Type 0} → (R → Option (List ℕ)) → Inlet → Opti
 IsFed remaining inlet start s gone = Feeds inlet s.form s.delay start (left_of remaining s.reader) (progress_of s) gone
 
 -- the item that was due is gone and printed behind a line of the time `last`, and the next one is due
-pub record Serves {R : Type 0} (remaining : R → Option (List ℕ)) (inlet : Inlet) (choice : Choice) (base m : ℕ) (last : Option ℕ) (start : Option (List ℕ))
+pub record Serves {R : Type 0} (remaining : R → Option (List ℕ)) (inlet : Inlet) (choice : Choice) (base m : ℕ) (last : Option ℕ)
+    (start : Option (List ℕ))
     (gone : List Item) (after : Source R) (held now : Option (List ℕ)) : Type 0 where
   pub item : Item
   pub at : item.inlet ≡ inlet
@@ -37,7 +38,8 @@ pub record Serves {R : Type 0} (remaining : R → Option (List ℕ)) (inlet : In
   pub wrote : Appends held now (piece_of choice base last item)
 
 -- the item that was due is gone and printed, and behind it the file has a fault
-pub record Sticks (inlet : Inlet) (choice : Choice) (form : Form) (delay base m : ℕ) (last : Option ℕ) (fault : CaptureFault) (start : Option (List ℕ))
+pub record Sticks (inlet : Inlet) (choice : Choice) (form : Form) (delay base m : ℕ) (last : Option ℕ) (fault : CaptureFault)
+    (start : Option (List ℕ))
     (gone : List Item) (held now : Option (List ℕ)) : Type 0 where
   pub item : Item
   pub at : item.inlet ≡ inlet

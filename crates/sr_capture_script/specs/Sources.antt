@@ -51,7 +51,8 @@ pub record Feeds (inlet : Inlet) (form : Form) (delay : ℕ) (start now : Option
 
 -- one packet more was taken, or the file is at its end
 abbrev pub GoesOn : Form → ℕ → Option ℕ → Option (List ℕ) → Option (List ℕ) → Progress → Progress → Type 0
-GoesOn form delay None old new p q = Loses [] old new × LeavesNone old new × (q.moment ≡ p.moment) × (q.number ≡ p.number) × (q.place ≡ p.place)
+GoesOn form delay None old new p q = Loses [] old new × LeavesNone old new × (q.moment ≡ p.moment) × (q.number ≡ p.number)
+    × (q.place ≡ p.place)
     × (q.flaws ≡ p.flaws)
 GoesOn form delay (Some m) old new p q = (octets : List ℕ) × (packet : Captured) × Loses octets old new
     × IsRecord form octets packet × Shows q.shown packet × (m ≡ moment_of delay p.moment packet)
@@ -66,19 +67,21 @@ pub record IsUntaken (p : Progress) : Type 0 where
   pub flaws : p.flaws ≡ tallied []
   pub due : p.due ≡ None
 
--- why a file has no next packet at this offset: a lack, at the octet that could not be taken, or it ends within a packet, at its first octet
+-- why a file has no next packet at this offset: a lack, at the octet that could not be taken, or it ends within a packet, at its first
+-- octet
 abbrev pub IsStuck : Form → ℕ → CaptureFault → Option (List ℕ) → Option (List ℕ) → Type 0
 IsStuck form place fault old new = (IsLack fault.reason
     × ((part : List ℕ) × Loses part old new × IsPart form part × (fault.at ≡ min (place + length part) (2 ^ 64 - 1))))
     ⊎ ((fault.reason ≡ Unfinished) × (fault.at ≡ min place (2 ^ 64 - 1)) × IfSome old (EndsEarly form))
 
 -- of the records that the octets began with all are gone, and behind them is this fault
-pub record IsFaulty (inlet : Inlet) (form : Form) (delay : ℕ) (fault : CaptureFault) (start : Option (List ℕ)) (gone : List Item) : Type 0 where
-  pub packets : List Captured
-  pub octets : List ℕ
-  pub left : Option (List ℕ)
-  pub after : Option (List ℕ)
-  pub lost : Loses octets start left
-  pub records : AreRecords form octets packets
-  pub items : items_of inlet delay packets ≡ gone
-  pub stuck : IsStuck form (24 + length octets) fault left after
+pub record IsFaulty (inlet : Inlet) (form : Form) (delay : ℕ) (fault : CaptureFault) (start : Option (List ℕ)) (gone : List Item) : Type 0
+  where
+    pub packets : List Captured
+    pub octets : List ℕ
+    pub left : Option (List ℕ)
+    pub after : Option (List ℕ)
+    pub lost : Loses octets start left
+    pub records : AreRecords form octets packets
+    pub items : items_of inlet delay packets ≡ gone
+    pub stuck : IsStuck form (24 + length octets) fault left after

@@ -1,5 +1,29 @@
 -- What is printed for packets.
-use Rattle.std.specs.Prelude.{ℕ, ◌+◌, ◌-◌, ◌*◌, ◌/◌, min, map, List, [], ◌∷◌, ◌++◌, length, codes, Option, Some, None, unwrap_or, Bool, not, nat_lt, ◌||◌, if◌then◌else◌, ◌^◌}
+use Rattle.std.specs.Prelude.{
+  ℕ,
+  ◌+◌,
+  ◌-◌,
+  ◌*◌,
+  ◌/◌,
+  min,
+  map,
+  List,
+  [],
+  ◌∷◌,
+  ◌++◌,
+  length,
+  codes,
+  Option,
+  Some,
+  None,
+  unwrap_or,
+  Bool,
+  not,
+  nat_lt,
+  ◌||◌,
+  if◌then◌else◌,
+  ◌^◌,
+}
 use Rattle.std.specs.List.{join_with_byte, flat_map, range_with_len}
 use Rattle.std.specs.Fmt.{decimal}
 use Rattle.hex.specs.Hex.{encode_lower}
@@ -35,7 +59,8 @@ tick_line time = printed (codes "tick" ∷ decimal time ∷ [])
 
 -- how many packets a file had, and how many of them are not used for each reason
 abbrev pub numbers_line : Inlet → ℕ → FlawCounts → List ℕ
-numbers_line inlet number counts = printed (codes "#" ∷ letter_of inlet ∷ decimal number ∷ codes "packets," ∷ decimal counts.cut ∷ codes "cut,"
+numbers_line inlet number counts = printed
+    (codes "#" ∷ letter_of inlet ∷ decimal number ∷ codes "packets," ∷ decimal counts.cut ∷ codes "cut,"
     ∷ decimal counts.long ∷ codes "long," ∷ decimal counts.empty ∷ codes "empty" ∷ [])
 
 -- the line of the counts of a file's packets; numbers are printed up to 18446744073709551615
@@ -76,7 +101,8 @@ ticks_behind (Some last) (Some step) most = flat_map tick_line (tick_times last 
 abbrev pub piece_of : Choice → ℕ → Option ℕ → Item → List ℕ
 piece_of choice base last item =
     if is_wanted choice (time_since base item.moment)
-    then ticks_behind last choice.tick (time_since base item.moment - 1) ++ line_of item.inlet item.number (time_since base item.moment) item.packet
+    then ticks_behind last choice.tick (time_since base item.moment - 1) ++ line_of item.inlet item.number (time_since base item.moment)
+    item.packet
     else []
 
 -- the time of the last line behind an item
@@ -86,7 +112,8 @@ last_after choice base last moment = if is_wanted choice (time_since base moment
 -- what is printed for items in order
 abbrev pub pieces_of : Choice → ℕ → Option ℕ → List Item → List ℕ
 pieces_of choice base last [] = []
-pieces_of choice base last (item ∷ items) = piece_of choice base last item ++ pieces_of choice base (last_after choice base last item.moment) items
+pieces_of choice base last (item ∷ items) = piece_of choice base last item
+    ++ pieces_of choice base (last_after choice base last item.moment) items
 
 abbrev pub last_of : Choice → ℕ → Option ℕ → List Item → Option ℕ
 last_of choice base last [] = last

@@ -1,6 +1,36 @@
 -- What a steady run leaves in the table: of each source that is not forgotten, its epoch.
-use Rattle.std.proofs.Common.{◌≡◌, ℕ, ◌-◌, ◌≤◌, Bool, true, false, cond, if◌then◌else◌, ◌||◌, ◌&&◌, not, List, [], ◌∷◌, ◌++◌, length,
-    Option, None, Some, is_some, ℤ, arith, refl, sym, ap, ◌∙◌, subst, inl, inr}
+use Rattle.std.proofs.Common.{
+  ◌≡◌,
+  ℕ,
+  ◌-◌,
+  ◌≤◌,
+  Bool,
+  true,
+  false,
+  cond,
+  if◌then◌else◌,
+  ◌||◌,
+  ◌&&◌,
+  not,
+  List,
+  [],
+  ◌∷◌,
+  ◌++◌,
+  length,
+  Option,
+  None,
+  Some,
+  is_some,
+  ℤ,
+  arith,
+  refl,
+  sym,
+  ap,
+  ◌∙◌,
+  subst,
+  inl,
+  inr,
+}
 use Rattle.std.specs.Prelude.{max, nat_lt}
 use Rattle.std.specs.Ordering.{int_eq}
 use Rattle.std.specs.List.{list_any, IsDistinct}
@@ -24,8 +54,27 @@ use Rattle.sr_frame.specs.Addresses.{mac_eq}
 use Rattle.sr_frame.specs.AddressLemmas.{mac_same, mac_refl, mac_laws}
 use Rattle.sr_dup_table.specs.Limits.{window, most_sources, forget_time}
 use Rattle.sr_dup_table.specs.Sources.{Heard, Sources, is_live, live_at, with_room, begun_at, heard_next, answer_of, after_of}
-use Rattle.sr_dup_runs.specs.TableRuns.{Noting, epoch, greatest_of, is_copy, copies_of, was_noted, IsNearAll, TableTurn, arrived, aged,
-    notings_of, arrivals_of, latest, TableRun, IsNext, AreSteady, AreInOrder, EachPairIsNewOnce, BeyondIsNew}
+use Rattle.sr_dup_runs.specs.TableRuns.{
+  Noting,
+  epoch,
+  greatest_of,
+  is_copy,
+  copies_of,
+  was_noted,
+  IsNearAll,
+  TableTurn,
+  arrived,
+  aged,
+  notings_of,
+  arrivals_of,
+  latest,
+  TableRun,
+  IsNext,
+  AreSteady,
+  AreInOrder,
+  EachPairIsNewOnce,
+  BeyondIsNew,
+}
 
 -- the notings of a source's epoch at a time
 abbrev pub noted_epoch : Mac → ℕ → List Noting → List Noting
@@ -81,7 +130,7 @@ noted_in_epoch src now n lane (x ∷ xs) together =
                       let rest : copies_of src n (arrivals_of xs) ≡ copies_of src n (epoch src x.arrival.time (arrivals_of xs)) = cc in
                       rw (own, live, own, same) (ap (λ r. has x.lanes lane || r) (noted_in_epoch src x.arrival.time n lane xs rest))
                   | inr other ↦ rw (own, live, own, other)
-                  (noted_in_epoch src x.arrival.time n lane xs (rw (own, live, own, other) at together))
+                      (noted_in_epoch src x.arrival.time n lane xs (rw (own, live, own, other) at together))
                 ]
             | inr old ↦
                 let over : epoch src now (arrivals_of (x ∷ xs)) ≡ [] = rw (own, old) refl in
@@ -154,7 +203,7 @@ epoch_any src now n lane (x ∷ xs) =
       | inl own ↦
           elim (cases_Bool (nat_lt (now - x.arrival.time) forget_time)) [
             | inl live ↦ rw (own, live)
-            (head_any src n lane x (noted_epoch src x.arrival.time xs) own (epoch_any src x.arrival.time n lane xs))
+                (head_any src n lane x (noted_epoch src x.arrival.time xs) own (epoch_any src x.arrival.time n lane xs))
             | inr old ↦ rw (own, old) refl
           ]
       | inr other ↦ rw other (epoch_any src now n lane xs)
@@ -183,7 +232,7 @@ keeps_filtered q xs last now (Some h) le k =
     elim (cases_Bool (is_live now h)) [
       | inl live ↦ rw live (keeps_later q xs last now (Some h) le k)
       | inr old ↦ rw old (λ later g. k.later later (omega (arith, k.time, le, g)) ∙ ap (λ b. cond b (noted_epoch q h.time xs) [])
-      (stays_old now later h.time g old))
+          (stays_old now later h.time g old))
     ]
   where
     stays_old : (now later time : ℕ) → now ≤ later → nat_lt (now - time) forget_time ≡ false → nat_lt (later - time) forget_time ≡ false
@@ -308,15 +357,15 @@ pushed_keeps x xs last s kept le some lacks =
     record {
       each = λ q. elim (cases_Bool (mac_eq q x.arrival.src)) [
         | inl same ↦ let P : Mac →
-        Type 0 = λ m. Keeps m (x ∷ xs) x.arrival.time (lookup (mac_eq m) (r ++ (x.arrival.src, h) ∷ [])) in subst P
-        (sym (mac_same q x.arrival.src same)) here
+            Type 0 = λ m. Keeps m (x ∷ xs) x.arrival.time (lookup (mac_eq m) (r ++ (x.arrival.src, h) ∷ [])) in subst P
+            (sym (mac_same q x.arrival.src same)) here
         | inr other ↦
             let stays : lookup (mac_eq q) (r ++ (x.arrival.src, h) ∷ [])
             ≡ lookup (mac_eq q) r = rw (lookup_pushed q r x.arrival.src h, other) (itself (lookup (mac_eq q) r)) in
             rw stays (keeps_past q x xs x.arrival.time (lookup (mac_eq q) r) other (keeps_with_room q xs last x.arrival.time s kept le))
       ];
       keys = rw (keys_pushed r x.arrival.src h)
-      (IsDistinct-push mac_laws (keys_of r) x.arrival.src (keys_with_room s x.arrival.time kept.keys) (absent_key x.arrival.src r absent));
+          (IsDistinct-push mac_laws (keys_of r) x.arrival.src (keys_with_room s x.arrival.time kept.keys) (absent_key x.arrival.src r absent));
     }
 
 -- a source that is there
@@ -337,7 +386,7 @@ set_keeps x xs last s h kept le some there near =
     record {
       each = λ q. elim (cases_Bool (mac_eq q x.arrival.src)) [
         | inl same ↦ let P : Mac →
-        Type 0 = λ m. Keeps m (x ∷ xs) x.arrival.time (lookup (mac_eq m) t) in subst P (sym (mac_same q x.arrival.src same)) here
+            Type 0 = λ m. Keeps m (x ∷ xs) x.arrival.time (lookup (mac_eq m) t) in subst P (sym (mac_same q x.arrival.src same)) here
         | inr other ↦
             let stays : lookup (mac_eq q) t ≡ lookup (mac_eq q) s = rw (found q, mac_laws.symm x.arrival.src q, other) refl in
             rw stays (keeps_past q x xs x.arrival.time (lookup (mac_eq q) s) other

@@ -8,8 +8,17 @@ use Rattle.sr_sequence.specs.Numbers.{IsNear}
 use Rattle.sr_dup_window.specs.Families.{greater}
 use Rattle.sr_frame.specs.AddressLemmas.{mac_refl}
 use Rattle.sr_dup_table.specs.Limits.{window, forget_time}
-use Rattle.sr_dup_runs.specs.TableRuns.{epoch, greatest_of, copies_of, IsNearAll, AreSteady, at_once, NumbersAreSteady, late_copies,
-    over_the_end}
+use Rattle.sr_dup_runs.specs.TableRuns.{
+  epoch,
+  greatest_of,
+  copies_of,
+  IsNearAll,
+  AreSteady,
+  at_once,
+  NumbersAreSteady,
+  late_copies,
+  over_the_end,
+}
 
 -- the greatest of some numbers, one at least
 abbrev greatest_in : List ℤ → ℤ
@@ -49,24 +58,43 @@ steady_of : (src : Mac) (now : ℕ) (ns : List ℤ) → AreNear ns → AreSteady
 steady_of src now [] near = tt
 steady_of src now (n ∷ ns) near =
     let xs = at_once src now ns in
-    let all = sym (epoch_all src now ns) in
-    (steady_of src now ns (near_before n ns near),
-    (subst (λ ys. IsNearAll ys n) all (near_all src now n ns near), ap (λ ys. copies_of src n ys) all))
+    let all = sym (epoch_all src now ns) in (
+      steady_of src now ns (near_before n ns near),
+      (subst (λ ys. IsNearAll ys n) all (near_all src now n ns near), ap (λ ys. copies_of src n ys) all),
+    )
 
 pub late_copies_are_steady : NumbersAreSteady late_copies
-late_copies_are_steady src now = steady_of src now late_copies
-    (((((tt, record { above = omega (arith, ints); below = omega (arith, ints) }),
-    record { above = omega (arith, ints); below = omega (arith, ints) }),
-    record { above = omega (arith, ints); below = omega (arith, ints) }),
-    record { above = omega (arith, ints); below = omega (arith, ints) }),
-    record { above = omega (arith, ints); below = omega (arith, ints) })
+late_copies_are_steady src now = steady_of src now late_copies (
+  (
+    (
+      (
+        (tt, record { above = omega (arith, ints); below = omega (arith, ints) }),
+        record { above = omega (arith, ints); below = omega (arith, ints) },
+      ),
+      record { above = omega (arith, ints); below = omega (arith, ints) },
+    ),
+    record { above = omega (arith, ints); below = omega (arith, ints) },
+  ),
+  record { above = omega (arith, ints); below = omega (arith, ints) },
+)
 
 pub over_the_end_is_steady : NumbersAreSteady over_the_end
-over_the_end_is_steady src now = steady_of src now over_the_end
-    (((((((tt, record { above = omega (arith, ints); below = omega (arith, ints) }),
-    record { above = omega (arith, ints); below = omega (arith, ints) }),
-    record { above = omega (arith, ints); below = omega (arith, ints) }),
-    record { above = omega (arith, ints); below = omega (arith, ints) }),
-    record { above = omega (arith, ints); below = omega (arith, ints) }),
-    record { above = omega (arith, ints); below = omega (arith, ints) }),
-    record { above = omega (arith, ints); below = omega (arith, ints) })
+over_the_end_is_steady src now = steady_of src now over_the_end (
+  (
+    (
+      (
+        (
+          (
+            (tt, record { above = omega (arith, ints); below = omega (arith, ints) }),
+            record { above = omega (arith, ints); below = omega (arith, ints) },
+          ),
+          record { above = omega (arith, ints); below = omega (arith, ints) },
+        ),
+        record { above = omega (arith, ints); below = omega (arith, ints) },
+      ),
+      record { above = omega (arith, ints); below = omega (arith, ints) },
+    ),
+    record { above = omega (arith, ints); below = omega (arith, ints) },
+  ),
+  record { above = omega (arith, ints); below = omega (arith, ints) },
+)

@@ -1,6 +1,25 @@
 -- Runs of a table from its start, and what they are asked to be. Newest first, so that what came before a turn is the rest of the list.
-use Rattle.std.specs.Prelude.{◌≡◌, ℕ, ◌-◌, ◌≤◌, ◌⊎◌, Bool, false, not, ◌&&◌, nat_lt, List, [], ◌∷◌, map, filter, Some, if◌then◌else◌, ℤ,
-    pos}
+use Rattle.std.specs.Prelude.{
+  ◌≡◌,
+  ℕ,
+  ◌-◌,
+  ◌≤◌,
+  ◌⊎◌,
+  Bool,
+  false,
+  not,
+  ◌&&◌,
+  nat_lt,
+  List,
+  [],
+  ◌∷◌,
+  map,
+  filter,
+  Some,
+  if◌then◌else◌,
+  ℤ,
+  pos,
+}
 use Rattle.std.specs.Ordering.{int_eq}
 use Rattle.std.specs.List.{list_any}
 use Rattle.std.specs.Map.{lookup}
@@ -21,7 +40,8 @@ pub record Arrival : Type 0 where
   pub number : ℤ
   pub time : ℕ
 
--- the arrivals of a source's epoch at a time: each came less than 400 ms before the one after it, and the newest less than 400 ms before that time
+-- the arrivals of a source's epoch at a time: each came less than 400 ms before the one after it, and the newest less than 400 ms before
+-- that time
 abbrev pub epoch : Mac → ℕ → List Arrival → List Arrival
 epoch src now [] = []
 epoch src now (x ∷ before) =

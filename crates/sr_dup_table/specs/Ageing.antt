@@ -32,4 +32,5 @@ AreFrom now (a ∷ rest) = (now ≤ a.time) × AreFrom a.time rest
 
 -- ageing at a time changes no answer to what arrives from then on
 abbrev pub AgeingKeepsAnswers : Type 0
-AgeingKeepsAnswers = (s : Sources) (now : ℕ) (later : List TableArrival) → IsTable s → AreFrom now later → answers (live_at now s) later ≡ answers s later
+AgeingKeepsAnswers = (s : Sources) (now : ℕ) (later : List TableArrival) → IsTable s → AreFrom now later →
+    answers (live_at now s) later ≡ answers s later

@@ -17,7 +17,8 @@ Decides-heard a b =
 
 Decides-mac : (a b : Mac) → Decides (pointwise eqb a.0 b.0) (a ≡ b)
 Decides-mac a b =
-    Decides-like (pointwise eqb a.0 b.0) (λ e. λ i. record { 0 = e i }) (λ e. ap (λ (m : Mac). m.0) e) (pointwise_decides Decides-eqb a.0 b.0)
+    Decides-like (pointwise eqb a.0 b.0) (λ e. λ i. record { 0 = e i }) (λ e. ap (λ (m : Mac). m.0) e)
+    (pointwise_decides Decides-eqb a.0 b.0)
 
 Decides-source : (a b : Mac × Heard) → Decides (pointwise eqb a.0.0 b.0.0 && same_heard a.1 b.1) (a ≡ b)
 Decides-source a b =

@@ -30,7 +30,8 @@ AreClose None b c = Unit {0}
 -- merging in either order gives the same, where it is not refused
 abbrev pub MergeCommutes : Type 0
 MergeCommutes = (now : ℕ) (one other both turned : Sources) → IsSound one → IsSound other
-    → first_apart (live_at now one) (live_at now other) ≡ None → MergesTo now one other both → MergesTo now other one turned → AreSame both turned
+    → first_apart (live_at now one) (live_at now other) ≡ None → MergesTo now one other both → MergesTo now other one turned →
+    AreSame both turned
 
 -- merging a table with itself leaves what is live
 abbrev pub MergeIsIdempotent : Type 0

@@ -1,6 +1,25 @@
 -- Rows of six words of 64 bits, one for each lane, as a bitmap that goes round: spot p is bit `p mod 64` of row `p / 64`.
-use Rattle.std.specs.Prelude.{◌≡◌, ◌⊎◌, ℕ, ◌+◌, ◌-◌, ◌/◌, ◌%◌, ◌==◌, ◌&&◌, nat_lt, nat_le, ◌<◌, ◌^◌, Bool, List, [], length, slice_index,
-    slice_index_or}
+use Rattle.std.specs.Prelude.{
+  ◌≡◌,
+  ◌⊎◌,
+  ℕ,
+  ◌+◌,
+  ◌-◌,
+  ◌/◌,
+  ◌%◌,
+  ◌==◌,
+  ◌&&◌,
+  nat_lt,
+  nat_le,
+  ◌<◌,
+  ◌^◌,
+  Bool,
+  List,
+  [],
+  length,
+  slice_index,
+  slice_index_or,
+}
 use Rattle.std.specs.Int.{bit_at}
 use Rattle.sr_dup_window.specs.declared.lane_sets.Lane.{Lane}
 use Rattle.sr_dup_window.specs.declared.lane_sets.Lanes.{Lanes}

@@ -1,6 +1,23 @@
 -- Sets of whole numbers without bound, one for each lane, and for which of them a window stands.
-use Rattle.std.specs.Prelude.{◌≡◌, ℕ, ◌<◌, Bool, true, ◌||◌, ◌&&◌, not, length, slice_index_or, ℤ, pos, ◌+ℤ◌, ◌-ℤ◌, ◌≤ℤ◌, int_lt,
-    if◌then◌else◌}
+use Rattle.std.specs.Prelude.{
+  ◌≡◌,
+  ℕ,
+  ◌<◌,
+  Bool,
+  true,
+  ◌||◌,
+  ◌&&◌,
+  not,
+  length,
+  slice_index_or,
+  ℤ,
+  pos,
+  ◌+ℤ◌,
+  ◌-ℤ◌,
+  ◌≤ℤ◌,
+  int_lt,
+  if◌then◌else◌,
+}
 use Rattle.std.specs.Ordering.{int_eq}
 use Rattle.sr_sequence.specs.Numbers.{wire, IsNear}
 use Rattle.sr_dup_window.specs.declared.lane_sets.Lane.{Lane}

@@ -20,7 +20,7 @@ int_eq-back m j k =
     elim (cases_eq j k) [
       | inl e ↦ (Decides-int_eq (m -ℤ pos j) (m -ℤ pos k)).1 (ap (λ i. m -ℤ pos i) e) ∙ sym (eq-eqb j k e)
       | inr ne ↦ false_from_ne_true (int_eq (m -ℤ pos j) (m -ℤ pos k))
-      (λ t. ne (same_back m j k ((Decides-int_eq (m -ℤ pos j) (m -ℤ pos k)).0 t))) ∙ sym (ne_eqb j k ne)
+          (λ t. ne (same_back m j k ((Decides-int_eq (m -ℤ pos j) (m -ℤ pos k)).0 t))) ∙ sym (ne_eqb j k ne)
     ]
 
 pub greater_same : (m n : ℤ) → n ≤ℤ m → greater m n ≡ m

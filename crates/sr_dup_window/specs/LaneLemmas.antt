@@ -1,6 +1,32 @@
 -- What is in a set of lanes.
-use Rattle.std.proofs.Common.{◌≡◌, ℕ, ◌+◌, ◌*◌, ◌-◌, ◌%◌, ◌<◌, Bool, true, false, eqb, ◌||◌, ◌&&◌, not, min, max, arith, refl, sym, ap, ◌∙◌,
-    inl, inr, w8, bit_and, bit_or}
+use Rattle.std.proofs.Common.{
+  ◌≡◌,
+  ℕ,
+  ◌+◌,
+  ◌*◌,
+  ◌-◌,
+  ◌%◌,
+  ◌<◌,
+  Bool,
+  true,
+  false,
+  eqb,
+  ◌||◌,
+  ◌&&◌,
+  not,
+  min,
+  max,
+  arith,
+  refl,
+  sym,
+  ap,
+  ◌∙◌,
+  inl,
+  inr,
+  w8,
+  bit_and,
+  bit_or,
+}
 use Rattle.std.proofs.lemmas.Bool.Decides.{nat_tests}
 use Rattle.std.proofs.lemmas.Bool.{or_cases, or_left, or_right, false≢true, false_from_ne_true, not-true, not-false, or_parts}
 use Rattle.std.proofs.lemmas.Nat.Bits.{bit_at-lt, bit_at_or, bit_at_and, bit_at_not}
@@ -37,8 +63,15 @@ bit_of_test test lane =
     ∙ picked lane
   where
     picked : (lane : Lane) → elim
-        lane [ H ↦ flag (test H) | A ↦ flag (test A) | B ↦ flag (test B) | C ↦ flag (test C) | GotA ↦ flag (test GotA) | GotB ↦ flag
-        (test GotB) ] ≡ flag (test lane)
+        lane [
+          | H ↦ flag (test H)
+          | A ↦ flag (test A)
+          | B ↦ flag (test B)
+          | C ↦ flag (test C)
+          | GotA ↦ flag (test GotA)
+          | GotB ↦ flag
+              (test GotB)
+        ] ≡ flag (test lane)
     picked H = refl
     picked A = refl
     picked B = refl

@@ -24,8 +24,10 @@ flag b = if b then 1 else 0
 
 -- the set of the lanes for which a test holds
 abbrev pub lanes_where : (Lane → Bool) → Lanes
-lanes_where test = record { 0 = flag (test H) + 2 * flag (test A) + 4 * flag (test B) + 8 * flag (test C) + 16 * flag (test GotA) + 32 *
-    flag (test GotB) }
+lanes_where test = record {
+  0 = flag (test H) + 2 * flag (test A) + 4 * flag (test B) + 8 * flag (test C) + 16 * flag (test GotA) + 32 *
+      flag (test GotB);
+}
 
 -- no lane
 abbrev pub none : Lanes

@@ -15,7 +15,8 @@ use Rattle.sr_dup_window.specs.OwnLemmas.{own_family, own-stands, close_numbers}
 pub carried : (n : ℕ) → n < 65536 → wire (pos n) ≡ n
 carried n h = omega arith
 
-pub merged-commutes : (w : ℕ) (a b : Window) → IsWidth w → IsWhole w a → IsWhole w b → steps a.reference b.reference ≢ 32768 → window_merged w a b ≡ window_merged w b a
+pub merged-commutes : (w : ℕ) (a b : Window) → IsWidth w → IsWhole w a → IsWhole w b → steps a.reference b.reference ≢ 32768 →
+    window_merged w a b ≡ window_merged w b a
 merged-commutes w a b width one two apart =
     let m : ℤ = pos a.reference in
     let at_m : wire m ≡ a.reference = carried a.reference one.carried in
@@ -54,5 +55,6 @@ merged-associates w a b c m n k width one two three at_m at_n at_k mn nk mk =
     same-numbers w (window_merged w (window_merged w a b) c) (window_merged w a (window_merged w b c))
     (join (join f g) h) (join f (join g h)) (greater (greater m n) k) (greater m (greater n k))
     (merged-stands w (window_merged w a b) c (join f g) h (greater m n) k width ab u (close_greater m n k mk nk))
-    (merged-stands w a (window_merged w b c) f (join g h) m (greater n k) width s bc (close_swap (greater n k) m (close_greater n k m (close_swap m n mn) (close_swap m k mk))))
+    (merged-stands w a (window_merged w b c) f (join g h) m (greater n k) width s bc
+    (close_swap (greater n k) m (close_greater n k m (close_swap m n mn) (close_swap m k mk))))
     (λ lane x. or_assoc (f lane x) (g lane x) (h lane x))

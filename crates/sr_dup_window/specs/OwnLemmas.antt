@@ -1,5 +1,30 @@
 -- Each window stands for its own numbers.
-use Rattle.std.proofs.Common.{◌≡◌, ◌≢◌, ℕ, ◌+◌, ◌-◌, ◌%◌, ◌<◌, ◌≤◌, Bool, true, false, ltb, ◌&&◌, not, get_or, ℤ, pos, arith, refl, sym, ap, ◌∙◌, inl, inr}
+use Rattle.std.proofs.Common.{
+  ◌≡◌,
+  ◌≢◌,
+  ℕ,
+  ◌+◌,
+  ◌-◌,
+  ◌%◌,
+  ◌<◌,
+  ◌≤◌,
+  Bool,
+  true,
+  false,
+  ltb,
+  ◌&&◌,
+  not,
+  get_or,
+  ℤ,
+  pos,
+  arith,
+  refl,
+  sym,
+  ap,
+  ◌∙◌,
+  inl,
+  inr,
+}
 use Rattle.std.specs.Prelude.{◌+ℤ◌, ◌-ℤ◌, ◌≤ℤ◌, ◌<ℤ◌, int_lt}
 use Rattle.std.proofs.lemmas.Int.{ints}
 use Rattle.std.proofs.lemmas.Bool.{and_parts, cases_lt, cond-true, lt-ltb}
@@ -54,15 +79,19 @@ own-stands w r m width whole e =
     let inside : (n : ℤ) → n ≤ℤ m → (m -ℤ pos w) <ℤ n → (lane : Lane) → own_family w r m lane n ≡ has_of w r lane (wire n) =
     λ n h g lane. own_in (not (int_lt m n)) (int_lt (m -ℤ pos w) n) (has_of w r lane (wire n)) (not_above m n h) (below (m -ℤ pos w) n g) in
     let at : (lane : Lane) (k : ℕ) → k < w → own_family w r m lane (m -ℤ pos k) ≡ has (get_or r.marks k none) lane =
-    λ lane k h. inside (m -ℤ pos k) (omega (arith, ints)) (omega (arith, ints)) lane ∙ ap (λ d. has (lanes_behind r d) lane) (lies_behind w r.reference k m width e h) in
+    λ lane k h. inside (m -ℤ pos k) (omega (arith, ints)) (omega (arith, ints)) lane ∙ ap (λ d. has (lanes_behind r d) lane)
+    (lies_behind w r.reference k m width e h) in
     record {
       top = record {
         member = (some.0, ap (own_family w r m some.0) (sym here) ∙ at some.0 0 some_window ∙ some.1);
-        most = λ lane n t. from_not_above m n (and_parts (not (int_lt m n)) (int_lt (m -ℤ pos w) n) (and_parts (not (int_lt m n) && int_lt (m -ℤ pos w) n) (has_of w r lane (wire n)) t).0).0;
+        most = λ lane n t. from_not_above m n
+            (and_parts (not (int_lt m n)) (int_lt (m -ℤ pos w) n)
+            (and_parts (not (int_lt m n) && int_lt (m -ℤ pos w) n) (has_of w r lane (wire n)) t).0).0;
       };
       reference = sym e;
       count = whole.count;
-      shows = λ k h. sym (whole.plain k h) ∙ lanes_where-same (has (get_or r.marks k none)) (λ lane. own_family w r m lane (m -ℤ pos k)) (λ lane. sym (at lane k h));
+      shows = λ k h. sym (whole.plain k h) ∙ lanes_where-same (has (get_or r.marks k none)) (λ lane. own_family w r m lane (m -ℤ pos k))
+          (λ lane. sym (at lane k h));
     }
 
 -- two references that are not half of all numbers apart are those of two close numbers
@@ -79,5 +108,6 @@ close_numbers m s h apart =
           (m +ℤ pos (steps r s), one.carried, (omega (arith, ints), omega (arith, ints)))
     ]
   where
-    less_half : (r s : ℕ) → r < 65536 → s < 65536 → 32768 ≤ (r + (65536 - s)) % 65536 → (s + (65536 - r)) % 65536 ≢ 32768 → (s + (65536 - r)) % 65536 ≤ 32767
+    less_half : (r s : ℕ) → r < 65536 → s < 65536 → 32768 ≤ (r + (65536 - s)) % 65536 → (s + (65536 - r)) % 65536 ≢ 32768 →
+        (s + (65536 - r)) % 65536 ≤ 32767
     less_half r s h g more apart = omega arith

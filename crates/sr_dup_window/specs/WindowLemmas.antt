@@ -1,12 +1,51 @@
 -- For which families windows stand that are begun, noted in and merged.
-use Rattle.std.proofs.Common.{◌≡◌, ℕ, ◌+◌, ◌-◌, ◌%◌, ◌<◌, ◌≤◌, false, ltb, eqb, ◌||◌, ◌&&◌, not, List, ◌++◌, length, get_or, min, ℤ, pos,
-    arith, sym, ap, ◌∙◌, subst, inl, inr, refl}
+use Rattle.std.proofs.Common.{
+  ◌≡◌,
+  ℕ,
+  ◌+◌,
+  ◌-◌,
+  ◌%◌,
+  ◌<◌,
+  ◌≤◌,
+  false,
+  ltb,
+  eqb,
+  ◌||◌,
+  ◌&&◌,
+  not,
+  List,
+  ◌++◌,
+  length,
+  get_or,
+  min,
+  ℤ,
+  pos,
+  arith,
+  sym,
+  ap,
+  ◌∙◌,
+  subst,
+  inl,
+  inr,
+  refl,
+}
 use Rattle.std.specs.Prelude.{◌+ℤ◌, ◌-ℤ◌, ◌<ℤ◌}
 use Rattle.std.proofs.Math.Bool.{or-false}
 use Rattle.std.proofs.lemmas.Int.{ints}
 use Rattle.std.proofs.lemmas.Bool.{cases_eq, cases_lt, eq-eqb, ne_eqb, lt-ltb, le-ltb, cond-true, cond-false}
-use Rattle.std.proofs.lemmas.List.{get_or-set_same, get_or-set_other, length-set, length-take, length-append, length-replicate, get_or-take,
-    get_or_append_left, get_or-append_right, get_or-replicate, ext_get_or}
+use Rattle.std.proofs.lemmas.List.{
+  get_or-set_same,
+  get_or-set_other,
+  length-set,
+  length-take,
+  length-append,
+  length-replicate,
+  get_or-take,
+  get_or_append_left,
+  get_or-append_right,
+  get_or-replicate,
+  ext_get_or,
+}
 use Rattle.std.proofs.lemmas.Simd.{get_or-zip2, length-zip2}
 use Rattle.std.specs.Ordering.{on}
 use Rattle.std.specs.Cmp.Lexicographic.{pointwise, pointwise_decides}
@@ -23,12 +62,46 @@ use Rattle.sr_dup_window.specs.declared.lane_sets.Lanes.{Lanes}
 use Rattle.sr_dup_window.specs.LaneSets.{has, none, union, is_empty}
 use Rattle.sr_dup_window.specs.LaneLemmas.{has-lanes_where, lanes_where-same}
 use Rattle.sr_dup_window.specs.Bitmaps.{IsWidth}
-use Rattle.sr_dup_window.specs.Windows.{Window, no_marks, marks_with, marks_slid, window_begun, window_noted, noted_at, window_merged,
-    merged_at, lanes_of, lanes_behind, has_of, fresh_lanes, same_window}
-use Rattle.sr_dup_window.specs.Families.{Family, IsGreatest, lanes_with, lacking, singleton, join, greater, IsClose, SameCut, StandsFor,
-    Begins, NotesAs, Merges}
-use Rattle.sr_dup_window.specs.FamilyLemmas.{int_eq-back, greater_same, greater_more, lacks_above, join_greatest, singleton_greatest,
-    same_greatest}
+use Rattle.sr_dup_window.specs.Windows.{
+  Window,
+  no_marks,
+  marks_with,
+  marks_slid,
+  window_begun,
+  window_noted,
+  noted_at,
+  window_merged,
+  merged_at,
+  lanes_of,
+  lanes_behind,
+  has_of,
+  fresh_lanes,
+  same_window,
+}
+use Rattle.sr_dup_window.specs.Families.{
+  Family,
+  IsGreatest,
+  lanes_with,
+  lacking,
+  singleton,
+  join,
+  greater,
+  IsClose,
+  SameCut,
+  StandsFor,
+  Begins,
+  NotesAs,
+  Merges,
+}
+use Rattle.sr_dup_window.specs.FamilyLemmas.{
+  int_eq-back,
+  greater_same,
+  greater_more,
+  lacks_above,
+  join_greatest,
+  singleton_greatest,
+  same_greatest,
+}
 
 pub width-some : (w : ℕ) → IsWidth w → 0 < w
 width-some w (inl e) = omega arith
@@ -160,7 +233,7 @@ noted-stands w r f m n seq lanes width some s near carried =
             reference = s.reference;
             count = length-set r.marks k (union (get_or r.marks k none) lanes) ∙ s.count;
             shows = λ j h. marked_shows w r.marks f m k lanes s.count inside s.shows j h ∙ ap
-            (λ x. lanes_with (join f (singleton lanes x)) (m -ℤ pos j)) (sym e);
+                (λ x. lanes_with (join f (singleton lanes x)) (m -ℤ pos j)) (sym e);
           }))
       | ahead a later place e ↦
           let same : greater m n ≡ n = greater_more m n (omega (arith, ints)) in
@@ -172,7 +245,7 @@ noted-stands w r f m n seq lanes width some s near carried =
             top = subst P same top;
             reference = sym carried;
             count = length-set (marks_slid w a r.marks) 0 (union (get_or (marks_slid w a r.marks) 0 none) lanes) ∙ length-slid w a r.marks
-            s.count;
+                s.count;
             shows = λ j h.
                 marked_shows w (marks_slid w a r.marks) f n 0 lanes (length-slid w a r.marks s.count) (width-some w width)
                 (slid_shows w r.marks f m n a s.top e s.shows) j h
@@ -187,7 +260,7 @@ lanes-by-family w r f m n seq width s near carried =
     elim (lies w r.reference seq m n (width-some w width) (omega (arith, width-most w width)) s.reference near carried) [
       | behind k inside place e ↦ ap (lanes_behind r) place ∙ s.shows k inside ∙ ap (lanes_with f) (sym e)
       | ahead a later place e ↦ ap (lanes_behind r) place ∙ lanes_where-same (λ lane. false) (λ lane. f lane n)
-      (λ lane. sym (lacks_above f m n lane s.top later))
+          (λ lane. sym (lacks_above f m n lane s.top later))
     ]
 
 pub has-by-family : (w : ℕ) (r : Window) (f : Family) (m n : ℤ) (seq : ℕ) (lane : Lane) → IsWidth w → StandsFor w r f m → IsNear w m n →
@@ -231,7 +304,7 @@ merged-stands w a b f g m n width s t close =
             reference = s.reference;
             count = length-zip2 union a.marks (marks_slid w k b.marks) (s.count ∙ sym (length-slid w k b.marks t.count)) ∙ s.count;
             shows = zip2_shows w a.marks (marks_slid w k b.marks) f g m s.count (length-slid w k b.marks t.count) s.shows
-            (slid_shows w b.marks g n m k t.top back t.shows);
+                (slid_shows w b.marks g n m k t.top back t.shows);
           }))
       | ahead k later place e ↦
           let same : greater m n ≡ n = greater_more m n (omega (arith, ints)) in
@@ -239,9 +312,9 @@ merged-stands w a b f g m n width s t close =
             top = subst P same top;
             reference = t.reference;
             count = length-zip2 union (marks_slid w k a.marks) b.marks (length-slid w k a.marks s.count ∙ sym t.count) ∙ length-slid w k
-            a.marks s.count;
+                a.marks s.count;
             shows = zip2_shows w (marks_slid w k a.marks) b.marks f g n (length-slid w k a.marks s.count) t.count
-            (slid_shows w a.marks f m n k s.top e s.shows) t.shows;
+                (slid_shows w a.marks f m n k s.top e s.shows) t.shows;
           }))
     ]
 

@@ -32,8 +32,13 @@ pub record IsTrailedParcel (lan : Lan) (net : ℕ) (octets : List ℕ) (p : Parc
   pub trailer : Trailer
   pub trailed : IsTrailed octets plain trailer
   pub frame : HasFrameLength octets
-  pub parcel : p ≡ record { form = form.Prp; octets = octets; seq = Some trailer.seq; path = path_of lan net;
-      wrong_lan = not (same_lan trailer.lan lan) }
+  pub parcel : p ≡ record {
+    form = form.Prp;
+    octets = octets;
+    seq = Some trailer.seq;
+    path = path_of lan net;
+    wrong_lan = not (same_lan trailer.lan lan);
+  }
 
 -- the octets are no frame with a trailer behind it
 abbrev pub HasNoTrailer : List ℕ → Type 0

@@ -1,6 +1,33 @@
 -- What stands where in the octets of a frame.
-use Rattle.std.proofs.Common.{◌≡◌, ℕ, ◌+◌, ◌-◌, ◌*◌, ◌≤◌, ◌<◌, ◌&&◌, Bool, true, false, IsTrue, ◌↔◌, nat_eq, List, ◌++◌, length, take, drop,
-    sym, ap, subst, refl, ◌∙◌, arith, eqb-true, eq-eqb}
+use Rattle.std.proofs.Common.{
+  ◌≡◌,
+  ℕ,
+  ◌+◌,
+  ◌-◌,
+  ◌*◌,
+  ◌≤◌,
+  ◌<◌,
+  ◌&&◌,
+  Bool,
+  true,
+  false,
+  IsTrue,
+  ◌↔◌,
+  nat_eq,
+  List,
+  ◌++◌,
+  length,
+  take,
+  drop,
+  sym,
+  ap,
+  subst,
+  refl,
+  ◌∙◌,
+  arith,
+  eqb-true,
+  eq-eqb,
+}
 use Rattle.std.proofs.lemmas.Bool.{and_parts}
 use lib.Pointwise.{pointwise_decides}
 use Rattle.sr_supervision.specs.Supervised.{IsAddressed, supervision_address}

@@ -1,6 +1,27 @@
 -- Ethernet frames without check sequence: destination, source, at most one VLAN tag, type, payload.
-use Rattle.std.specs.Prelude.{◌≡◌, ◌≢◌, ℕ, ◌+◌, ◌-◌, ◌^◌, ◌<◌, ◌≤◌, List, [], ◌∷◌, ◌++◌, length, replicate, Option, Some, None, slice_index,
-    ◌&&◌, ◌==◌, if◌then◌else◌}
+use Rattle.std.specs.Prelude.{
+  ◌≡◌,
+  ◌≢◌,
+  ℕ,
+  ◌+◌,
+  ◌-◌,
+  ◌^◌,
+  ◌<◌,
+  ◌≤◌,
+  List,
+  [],
+  ◌∷◌,
+  ◌++◌,
+  length,
+  replicate,
+  Option,
+  Some,
+  None,
+  slice_index,
+  ◌&&◌,
+  ◌==◌,
+  if◌then◌else◌,
+}
 use Rattle.std.specs.Int.{w16, to_be_bytes}
 
 -- the fields of a frame, apart from where they lie in memory

@@ -1,6 +1,32 @@
 -- How many octets stand before a frame's payload, and which lists have the length of a frame.
-use Rattle.std.proofs.Common.{◌≡◌, ◌≢◌, ℕ, ◌+◌, ◌-◌, ◌<◌, ◌≤◌, ◌^◌, List, ◌++◌, length, get_or, Option, Some, None, sym, ap, refl, ◌∙◌,
-    arith, inl, inr, true, cond, eqb, ◌&&◌}
+use Rattle.std.proofs.Common.{
+  ◌≡◌,
+  ◌≢◌,
+  ℕ,
+  ◌+◌,
+  ◌-◌,
+  ◌<◌,
+  ◌≤◌,
+  ◌^◌,
+  List,
+  ◌++◌,
+  length,
+  get_or,
+  Option,
+  Some,
+  None,
+  sym,
+  ap,
+  refl,
+  ◌∙◌,
+  arith,
+  inl,
+  inr,
+  true,
+  cond,
+  eqb,
+  ◌&&◌,
+}
 use Rattle.std.specs.Int.{w16, to_be_bytes}
 use Rattle.std.proofs.lemmas.Bool.{cases_Bool, and_parts, eqb-true, false_from_ne_true}
 use Rattle.std.proofs.lemmas.List.{length-append, get_or_append_left, get_or-append_right}
@@ -46,11 +72,20 @@ pub least_len-spelling : (f : Fields) → IsLegal f → least_len (spelling f) �
 least_len-spelling f legal =
     let tail = tag_of f.vlan ++ (to_be_bytes w16 f.kind ++ f.payload) in
     let at : (i : ℕ) → get_or (spelling f) (12 + i) 0 ≡ get_or tail i 0 =
-    λ i. rw (regrouped f, get_or-append_right f.dst (f.src ++ tail) 6 (12 + i) 0 legal.dst (omega arith),
-    get_or-append_right f.src tail 6 (12 + i - 6) 0 legal.src (omega arith)) (ap (λ (j : ℕ). get_or tail j 0) (omega arith)) in
+    λ i. rw (
+      regrouped f,
+      get_or-append_right f.dst (f.src ++ tail) 6 (12 + i) 0 legal.dst (omega arith),
+      get_or-append_right f.src tail 6 (12 + i - 6) 0 legal.src (omega arith),
+    ) (ap (λ (j : ℕ). get_or tail j 0) (omega arith)) in
     let size : length (header_of f) ≡ 14 + length (tag_of f.vlan) =
-    omega (arith, length-append (head_of f) (to_be_bytes w16 f.kind), length-append (f.dst ++ f.src) (tag_of f.vlan),
-    length-append f.dst f.src, legal.dst, legal.src) in
+    omega (
+      arith,
+      length-append (head_of f) (to_be_bytes w16 f.kind),
+      length-append (f.dst ++ f.src) (tag_of f.vlan),
+      length-append f.dst f.src,
+      legal.dst,
+      legal.src,
+    ) in
     least_at f.vlan f.kind f.payload (get_or (spelling f) 12 0) (get_or (spelling f) 13 0) legal.kind legal.untagged (at 0) (at 1) ∙ sym
     size
 

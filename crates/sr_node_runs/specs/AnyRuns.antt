@@ -1,6 +1,24 @@
 -- What holds of every run of a node, steady or not.
-use Rattle.std.specs.Prelude.{◌≡◌, ◌⊎◌, ℕ, ℤ, Bool, false, ◌&&◌, List, [], ◌∷◌, ◌++◌, filter, Option, None, Some, IsSome, All,
-    option_to_list}
+use Rattle.std.specs.Prelude.{
+  ◌≡◌,
+  ◌⊎◌,
+  ℕ,
+  ℤ,
+  Bool,
+  false,
+  ◌&&◌,
+  List,
+  [],
+  ◌∷◌,
+  ◌++◌,
+  filter,
+  Option,
+  None,
+  Some,
+  IsSome,
+  All,
+  option_to_list,
+}
 use Rattle.std.specs.List.{list_any}
 use Rattle.std.specs.Map.{lookup}
 use Rattle.sr_frame.specs.declared.fields.Mac.{Mac}

@@ -1,6 +1,27 @@
 -- What the turns of a run bring to a node, where it is wanted, and where it goes.
-use Rattle.std.specs.Prelude.{ℕ, ℤ, pos, ◌+◌, Bool, true, false, not, ◌&&◌, ◌||◌, List, [], ◌∷◌, ◌++◌, map, filter, option_to_list, Option,
-    None, Some, if◌then◌else◌}
+use Rattle.std.specs.Prelude.{
+  ℕ,
+  ℤ,
+  pos,
+  ◌+◌,
+  Bool,
+  true,
+  false,
+  not,
+  ◌&&◌,
+  ◌||◌,
+  List,
+  [],
+  ◌∷◌,
+  ◌++◌,
+  map,
+  filter,
+  option_to_list,
+  Option,
+  None,
+  Some,
+  if◌then◌else◌,
+}
 use Rattle.std.specs.List.{list_any}
 use Rattle.std.specs.Ordering.{int_eq}
 use Rattle.sr_frame.specs.declared.fields.Mac.{Mac}

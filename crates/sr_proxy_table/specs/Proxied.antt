@@ -1,5 +1,24 @@
 -- The addresses that a RedBox stands for, and when each was learned last.
-use Rattle.std.specs.Prelude.{ℕ, Bool, not, ◌&&◌, max, nat_lt, List, [], ◌∷◌, ◌++◌, length, filter, map, Option, None, Some, is_some, if◌then◌else◌}
+use Rattle.std.specs.Prelude.{
+  ℕ,
+  Bool,
+  not,
+  ◌&&◌,
+  max,
+  nat_lt,
+  List,
+  [],
+  ◌∷◌,
+  ◌++◌,
+  length,
+  filter,
+  map,
+  Option,
+  None,
+  Some,
+  is_some,
+  if◌then◌else◌,
+}
 use Rattle.std.specs.List.{filter_map}
 use Rattle.std.specs.Map.{lookup, set_value}
 use Rattle.sr_frame.specs.Addresses.{mac_eq}

@@ -1,5 +1,25 @@
 -- The lines of a text, and what a reader of lines takes.
-use Rattle.std.specs.Prelude.{◌≡◌, ℕ, ◌<◌, ◌≤◌, List, [], ◌∷◌, ◌++◌, ◌==◌, if◌then◌else◌, Option, Some, None, Bool, true, false, length, ◌⊎◌, OnSome}
+use Rattle.std.specs.Prelude.{
+  ◌≡◌,
+  ℕ,
+  ◌<◌,
+  ◌≤◌,
+  List,
+  [],
+  ◌∷◌,
+  ◌++◌,
+  ◌==◌,
+  if◌then◌else◌,
+  Option,
+  Some,
+  None,
+  Bool,
+  true,
+  false,
+  length,
+  ◌⊎◌,
+  OnSome,
+}
 use Rattle.std.specs.Io.KnownBytes.{Consumes, IsAtEnd}
 use Rattle.sr_script.specs.Octets.{Lacks}
 use Rattle.sr_script.specs.declared.fault.Word.{Word}

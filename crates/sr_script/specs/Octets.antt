@@ -9,4 +9,5 @@ Lacks octet (b ∷ bs) = (b ≢ octet) × Lacks octet bs
 -- the first place of this octet, if there is one
 abbrev pub IsPlaceOf : ℕ → List ℕ → Option ℕ → Type 0
 IsPlaceOf octet octets None = Lacks octet octets
-IsPlaceOf octet octets (Some at) = Lacks octet (take at octets) × (take (at + 1) octets ≡ take at octets ++ octet ∷ []) × (at < length octets)
+IsPlaceOf octet octets (Some at) = Lacks octet (take at octets) × (take (at + 1) octets ≡ take at octets ++ octet ∷ [])
+    × (at < length octets)

@@ -61,7 +61,8 @@ KeepsUnless word.Write held now = Unit {0}
 KeepsUnless word.Memory held now = Keeps held now
 
 -- the run came to the line of the fault: those before it are answered, and then nothing more is written
-pub record EndsAt {S : Type 0} (d : Dialogue S) (start : S) (lines : List (List ℕ)) (fault : Fault) (rest held now : Option (List ℕ)) : Type 0 where
+pub record EndsAt {S : Type 0} (d : Dialogue S) (start : S) (lines : List (List ℕ)) (fault : Fault)
+    (rest held now : Option (List ℕ)) : Type 0 where
   pub before : List (List ℕ)
   pub left : List (List ℕ)
   pub parted : lines ≡ before ++ left

@@ -7,7 +7,8 @@ use Rattle.sr_script.specs.Lines.{lines_of, TakesLine, TakesPart, BeginsLong}
 use Rattle.sr_script.specs.Runs.{Dialogue, Replies, KeepsUnless}
 
 -- a line was read and answered, or none was left
-abbrev pub Turned : {S : Type 0} → Dialogue S → Bool → ℕ → S → S → Option (List ℕ) → Option (List ℕ) → Option (List ℕ) → Option (List ℕ) → Type 0
+abbrev pub Turned : {S : Type 0} → Dialogue S → Bool → ℕ → S → S → Option (List ℕ) → Option (List ℕ) → Option (List ℕ) → Option (List ℕ) →
+    Type 0
 Turned d true number s t left rest held now = (line : List ℕ) × (text : List ℕ) × TakesLine true line left rest × (length line ≤ 8000)
     × d.Replied s number line text t × Appends held now text
 Turned d false number s t left rest held now = (line : List ℕ) × TakesLine false line left rest × Keeps held now × (t ≡ s)

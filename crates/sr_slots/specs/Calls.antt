@@ -7,7 +7,8 @@ use Rattle.sr_frame.specs.declared.fields.Mac.{Mac}
 use Rattle.sr_frame.specs.Addresses.{mac_eq}
 
 -- the value at the address is what a call of the closure left of it, and the call gave this answer
-pub record ChangesAt {F V R : Type 0} (g : Once F (MutBor V × Unit {0}) (R × (MutBor V × Unit {0}))) (f : F) (key : Mac) (old : List (Mac × V)) (answer : R) (new : List (Mac × V)) : Type 0 where
+pub record ChangesAt {F V R : Type 0} (g : Once F (MutBor V × Unit {0}) (R × (MutBor V × Unit {0}))) (f : F) (key : Mac)
+    (old : List (Mac × V)) (answer : R) (new : List (Mac × V)) : Type 0 where
   pub was : V
   pub is : V
   pub found : lookup (mac_eq key) old ≡ Some was

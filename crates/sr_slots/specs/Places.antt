@@ -26,7 +26,8 @@ KeepsHeld old new key = (other : Mac) → mac_eq other key ≡ false → list_an
 
 -- each address but these two has a held place as before
 abbrev pub KeepsHeldBut : List Mac → List Mac → Mac → Mac → Type 0
-KeepsHeldBut old new key second = (other : Mac) → mac_eq other key ≡ false → mac_eq other second ≡ false → list_any (mac_eq other) new ≡ list_any (mac_eq other) old
+KeepsHeldBut old new key second = (other : Mac) → mac_eq other key ≡ false → mac_eq other second ≡ false →
+    list_any (mac_eq other) new ≡ list_any (mac_eq other) old
 
 -- each address has a held place as before
 abbrev pub KeepsAllHeld : List Mac → List Mac → Type 0
