@@ -5,3 +5,5 @@ pub mod PutLemmas
 pub mod GivenLemmas
 pub mod ActLemmas
 pub mod OrderLemmas
+pub mod LandLemmas
+pub mod CarryLemmas

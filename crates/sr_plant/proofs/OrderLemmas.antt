@@ -32,7 +32,7 @@ use Rattle.sr_plant.specs.Topologies.{net_of, kind_of}
 use Rattle.sr_plant.specs.Copies.{Copy, is_on, is_stopped}
 use Rattle.sr_plant.specs.Puts.{copy_over, all_put, put_out, those_passing}
 use Rattle.sr_plant.specs.Plants.{Plant, IsEmptied, IsInOrder}
-use Rattle.sr_plant.specs.Steps.{emptied, acted, Acts}
+use Rattle.sr_plant.specs.Steps.{emptied, acted, Acts, without}
 use Rattle.sr_plant.proofs.PutLemmas.{lan_append}
 
 each_set : {X : Type 0} (P : X → Type 0) (xs : List X) (i : ℕ) (y : X) → Each P xs → P y → Each P (slice_set xs i y)
@@ -40,7 +40,7 @@ each_set P [] i y each one = tt
 each_set P (x ∷ xs) zero y each one = (one, each.1)
 each_set P (x ∷ xs) (suc i) y each one = (each.0, each_set P xs i y each.1 one)
 
-each_got : {X : Type 0} (P : X → Type 0) (xs : List X) (i : ℕ) (x : X) → Each P xs → slice_get xs i ≡ Some x → (i < length xs) × P x
+pub each_got : {X : Type 0} (P : X → Type 0) (xs : List X) (i : ℕ) (x : X) → Each P xs → slice_get xs i ≡ Some x → (i < length xs) × P x
 each_got P [] i x each at = absurd (cc)
 each_got P (y ∷ ys) zero x each at = let same : y ≡ x = cc in (omega arith, rw (← same) each.0)
 each_got P (y ∷ ys) (suc i) x each at = let r = each_got P ys i x each.1 at in (omega (arith, r.0), r.1)
@@ -178,4 +178,15 @@ cut_in_order s link order = record {
   links = length-set s.cut link true ∙ order.links;
   hosts = order.hosts;
   receivers = each_filter (λ (c : Copy). c.hop.to.node < length s.nodes) (λ c. not (is_on link c)) s.flight order.receivers;
+}
+
+-- a plant without one of its copies
+pub without_in_order : (s : Plant) (place : ℕ) → IsInOrder s → IsInOrder (without s place)
+without_in_order s place order = record {
+  size = order.size;
+  kinds = order.kinds;
+  emptied = order.emptied;
+  links = order.links;
+  hosts = order.hosts;
+  receivers = each_append (λ (c : Copy). c.hop.to.node < length s.nodes) (take place s.flight) (drop (suc place) s.flight) (each_take (λ (c : Copy). c.hop.to.node < length s.nodes) s.flight place order.receivers) (each_drop (λ (c : Copy). c.hop.to.node < length s.nodes) s.flight (suc place) order.receivers);
 }

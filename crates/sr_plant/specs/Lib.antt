@@ -6,4 +6,5 @@ pub mod Puts
 pub mod Plants
 pub mod Steps
 pub mod Given
+pub mod Carrying
 pub mod Building

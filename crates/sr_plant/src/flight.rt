@@ -1,13 +1,16 @@
 //! The copies in flight. Each parcel is kept once, until its last copy is gone.
 
-ghost use Rattle.std.specs.Prelude.{◌≡◌, ◌≤◌, ◌<◌, ◌+◌, [], ◌∷◌, ◌++◌, length, filter, not, remove, slice_get, IsSome, IfSome, OnOk, OnErr, Some, option_to_list};
+ghost use Rattle.std.specs.Prelude.{◌≡◌, ◌≤◌, ◌<◌, ◌+◌, [], ◌∷◌, ◌++◌, length, filter, not, remove, slice_get, IsSome, IfOk, OnOk, OnErr, Some, option_to_list};
 ghost use Rattle.std.specs.VecDeque.{deque_len, deque_capacity};
 ghost use Rattle.slab.specs.Slab.{get, slab_len};
 ghost use Rattle.sr_plant.specs.Copies.{is_on, Doubles};
 ghost use Rattle.sr_plant.specs.Limits.{most_nodes};
 ghost use Rattle.sr_plant.specs.Puts.{all_put, those_passing};
 ghost use Rattle.sr_plant.specs.Flights.{AreCounted, copy_in, copies_in, parcel_of};
+ghost use Rattle.sr_plant.specs.Carrying.{OneComesAs};
 
+use crate::Topology;
+use crate::arriving::Arriving;
 use crate::hop::Hop;
 use crate::keeping::{Kept, add_copy, drop_copy, drop_unused};
 use crate::outlet::Outlet;
@@ -153,10 +156,29 @@ impl Flight {
         drop_unused(&mut self.kept, key);
     }
 
-    /// The copy at a place is gone.
+    /// The copy at a place as it comes to its receiver. None where its outlet has no octets for it.
+    pub(crate) fn arriving(
+        &self,
+        alloc: Global,
+        topology: Topology,
+        place: usize,
+    ) -> Result<Option<Arriving>, NoMemory>
+        requires { place < length self.now.copies }
+        ensures { IfOk result (λ a. OneComesAs topology self.now.copies place a) }
+    {
+        let flying = self.places[place];
+        match self.kept.get(flying.key) {
+            Some(entry) => Arriving::of(alloc, topology, flying.hop, flying.outlet, &entry.parcel),
+            None => Ok(None),
+        }
+    }
+
+    /// The copy at a place is gone. No room goes with it.
     pub(crate) fn remove(&mut self, place: usize)
         requires { place < length self.old.copies }
-        ensures { self.new.copies ≡ remove self.old.copies place }
+        ensures copies { self.new.copies ≡ remove self.old.copies place }
+        ensures parcels { self.old.parcels ≤ self.new.parcels }
+        ensures places { self.old.places ≤ self.new.places }
     {
         if let Some(flying) = self.places.remove(place) {
             drop_copy(&mut self.kept, flying.key);

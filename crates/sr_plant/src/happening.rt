@@ -11,8 +11,8 @@ use sr_forwarding::Role;
 use sr_frame::Frame;
 use sr_node::Event;
 
-// Whether there is something at a number below a count, or else this fault.
-fn has(place: usize, count: usize, fault: PlantFault) -> Result<(), PlantFault>
+/// Whether there is something at a number below a count, or else this fault.
+pub(crate) fn has(place: usize, count: usize, fault: PlantFault) -> Result<(), PlantFault>
     ensures ok { OnOk result (lacks place count fault ≡ None) }
     ensures err { IfErr result (λ f. lacks place count fault ≡ Some f) }
 {

@@ -2,7 +2,10 @@
 #![tactic(auto)]
 
 mod acting;
+mod applying;
+mod arriving;
 mod building;
+mod carrying;
 mod event;
 mod fault;
 mod fitness;
@@ -13,6 +16,7 @@ mod hop;
 mod keeping;
 mod outlet;
 mod plant;
+mod port_framing;
 mod putting;
 mod topology;
 mod traffic;

@@ -4,8 +4,10 @@ ghost use Rattle.std.specs.Prelude.{◌≡◌, ◌≤◌, ◌<◌, ◌+◌, ◌+
 ghost use Rattle.sr_plant.specs.Limits.{most_nodes};
 ghost use Rattle.sr_plant.specs.Copies.{is_on, Doubles};
 ghost use Rattle.sr_plant.specs.Puts.{all_put, those_passing};
+ghost use Rattle.sr_plant.specs.Carrying.{OneComesAs};
 
 use crate::Topology;
+use crate::arriving::Arriving;
 use crate::flight::Flight;
 use crate::outlet::Outlet;
 use sr_forwarding::Parcel;
@@ -126,10 +128,25 @@ impl Traffic {
         self.flight.put(outlet, b, &self.cut);
     }
 
-    /// The copy at a place is gone.
+    /// The copy at a place as it comes to its receiver. None where its outlet has no octets for it. NoMemory: a growth was
+    /// refused.
+    pub(crate) fn arriving(
+        &self,
+        topology: Topology,
+        place: usize,
+    ) -> Result<Option<Arriving>, NoMemory>
+        requires { place < length self.now.flight.copies }
+        ensures { IfOk result (λ a. OneComesAs topology self.now.flight.copies place a) }
+    {
+        self.flight.arriving(self.alloc, topology, place)
+    }
+
+    /// The copy at a place is gone. No room goes with it.
     pub(crate) fn remove(&mut self, place: usize)
         requires { place < length self.old.flight.copies }
         ensures copies { self.new.flight.copies ≡ remove self.old.flight.copies place }
+        ensures parcels { self.old.flight.parcels ≤ self.new.flight.parcels }
+        ensures places { self.old.flight.places ≤ self.new.flight.places }
         ensures rest { (self.new.cut ≡ self.old.cut) × (self.new.clock ≡ self.old.clock) }
     {
         self.flight.remove(place);

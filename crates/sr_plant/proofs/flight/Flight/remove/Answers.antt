@@ -18,8 +18,8 @@ invariant_of-self c =
     let r = removed c.self.inside.kept c.drop_copy.new.kept c.self.inside.places.items c.args.place c.in-Some.flying within c.in-Some.ensures.value c.self.invariant e.fewer e.parcel e.others in
     subst (λ (fs : List Flying). AreCounted c.drop_copy.new.kept fs) (sym c.in-Some.ensures.items) r.0
 
-pub returns-in-Some : goal.returns-in-Some
-returns-in-Some c =
+pub returns-in-Some-clause-copies : goal.returns-in-Some-clause-copies
+returns-in-Some-clause-copies c =
     let within : c.args.place < length c.self.inside.places.items = place_within c.self.inside.kept c.self.inside.places.items c.args.self.now.copies c.args.place (ap (λ v. v.copies) c.self.view_is) c.requires in
     let e = c.drop_copy.ensures in
     let r = removed c.self.inside.kept c.drop_copy.new.kept c.self.inside.places.items c.args.place c.in-Some.flying within c.in-Some.ensures.value c.self.invariant e.fewer e.parcel e.others in

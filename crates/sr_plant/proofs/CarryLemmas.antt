@@ -1,0 +1,110 @@
+-- A plant after one of its copies was carried.
+use Rattle.std.proofs.Common.{◌≡◌, ℕ, zero, suc, ◌<◌, List, [], ◌∷◌, length, slice_get, Option, Some, None, inl, inr, sym, subst, arith}
+use Rattle.sr_forwarding.specs.Parcels.{ParcelImage}
+use Rattle.sr_node.specs.Images.{State, time_at}
+use Rattle.sr_plant.specs.declared.event.PlantEvent.TheVariants.{Carry}
+use Rattle.sr_plant.specs.declared.fault.PlantFault.{PlantFault}
+use Rattle.sr_plant.specs.declared.arriving.Arriving.{Arriving}
+use Rattle.sr_plant.specs.Copies.{Copy}
+use Rattle.sr_plant.specs.Plants.{Plant, IsInOrder}
+use Rattle.sr_plant.specs.Steps.{Comes, Carried, Fails, acted, without}
+use Rattle.sr_plant.specs.Carrying.{OneComesAs, TakesOut, LosesThem, FailsToLand}
+use Rattle.sr_plant.proofs.OrderLemmas.{each_got, arrived_kind, acted_in_order, without_in_order}
+
+got_within : {X : Type 0} (xs : List X) (i : ℕ) (x : X) → slice_get xs i ≡ Some x → i < length xs
+got_within [] i x at = absurd (cc)
+got_within (y ∷ ys) zero x at = omega arith
+got_within (y ∷ ys) (suc i) x at = let r = got_within ys i x at in omega (arith, r)
+
+-- the place is one of the copies'
+pub copy_within : (s : Plant) (place : ℕ) (a : Arriving) → OneComesAs s.topology s.flight place (Some a) → place < length s.flight
+copy_within s place a one = got_within s.flight place one.0 one.1
+
+-- the receiver is a node of the plant
+pub receiver_within : (s : Plant) (place : ℕ) (a : Arriving) → IsInOrder s → OneComesAs s.topology s.flight place (Some a) →
+    a.node < length s.nodes
+receiver_within s place a order one =
+    let got = each_got (λ (c : Copy). c.hop.to.node < length s.nodes) s.flight place one.0 order.receivers one.1 in
+    rw one.2.node got.1
+
+-- what the receiver refuses for its own sake
+pub carry_fails : (s : Plant) (place now : ℕ) (a : Arriving) (before : State) (f : PlantFault) →
+    OneComesAs s.topology s.flight place (Some a) → slice_get s.nodes a.node ≡ Some before → now ≡ s.clock →
+    FailsToLand s.topology before a.port a.octets now f → Fails s (Carry place) f
+carry_fails s place now a before f one there clock fails = elim fails [
+  | inl memory ↦ inl memory
+  | inr told ↦ inr (
+    one.0,
+    told.0,
+    one.1,
+    record {
+      octets = a.octets;
+      before = before;
+      written = one.2.written;
+      there = rw one.2.node at there;
+      refused = rw (one.2.port, clock) at told.1;
+    },
+    told.2,
+    told.3,
+  )
+]
+
+-- what the receiver takes
+pub taken_comes : (s : Plant) (place now : ℕ) (a : Arriving) (before : State) (at_a at_b : Option ParcelImage)
+    (up up_after : List ParcelImage) (u : State) (t : Plant) →
+    OneComesAs s.topology s.flight place (Some a) → slice_get s.nodes a.node ≡ Some before → now ≡ s.clock →
+    (out : TakesOut s.topology before a.port a.octets now at_a at_b up up_after u) →
+    t ≡ acted (without s place) a.node out.after s.clock → Carried s place t
+taken_comes s place now a before at_a at_b up up_after u t one there clock out plant = (
+  one.0,
+  one.1,
+  inl (record {
+    octets = a.octets;
+    before = before;
+    answer = out.answer;
+    after = out.after;
+    written = one.2.written;
+    there = rw one.2.node at there;
+    taken = rw (one.2.port, clock) at out.taken;
+    plant = rw one.2.node at plant;
+  }),
+)
+
+pub taken_in_order : (s : Plant) (place now : ℕ) (a : Arriving) (before : State) (at_a at_b : Option ParcelImage)
+    (up up_after : List ParcelImage) (u : State) (t : Plant) → IsInOrder s →
+    slice_get s.nodes a.node ≡ Some before →
+    (out : TakesOut s.topology before a.port a.octets now at_a at_b up up_after u) →
+    t ≡ acted (without s place) a.node out.after s.clock → IsInOrder t
+taken_in_order s place now a before at_a at_b up up_after u t order there out plant =
+    let kind = arrived_kind before a.port out.taken.0 (time_at before now) out.answer out.after out.taken.3 in
+    subst IsInOrder (sym plant) (acted_in_order (without s place) a.node s.clock before out.after (without_in_order s place order) there kind)
+
+-- what the receiver refuses for the copy's sake
+pub lost_goes : (s : Plant) (place now : ℕ) (a : Arriving) (before : State) (up up_after : List ParcelImage) (u : State) (t : Plant) →
+    OneComesAs s.topology s.flight place (Some a) → slice_get s.nodes a.node ≡ Some before → now ≡ s.clock →
+    LosesThem s.topology before a.port a.octets now up up_after u → t ≡ without s place → Carried s place t
+lost_goes s place now a before up up_after u t one there clock lost plant = (
+  one.0,
+  one.1,
+  inr (
+    inl (
+      lost.fault,
+      lost.loss,
+      record {
+        octets = a.octets;
+        before = before;
+        written = one.2.written;
+        there = rw one.2.node at there;
+        refused = rw (one.2.port, clock) at lost.refused;
+      },
+    ),
+    plant,
+  ),
+)
+
+pub lost_in_order : (s : Plant) (place : ℕ) (t : Plant) → IsInOrder s → t ≡ without s place → IsInOrder t
+lost_in_order s place t order plant = subst IsInOrder (sym plant) (without_in_order s place order)
+
+-- what has no octets
+pub none_goes : (s : Plant) (place : ℕ) (t : Plant) → OneComesAs s.topology s.flight place None → t ≡ without s place → Carried s place t
+none_goes s place t one plant = (one.0, one.1, inr (inr one.2, plant))

@@ -1,0 +1,20 @@
+-- What becomes of a copy at its receiver.
+use Rattle.std.proofs.Common.{◌≡◌, ℕ, ◌⊎◌, false, List, Result, Ok, Err, IfErr, inl, inr}
+use Rattle.sr_frame.specs.declared.ports.Port.{Port}
+use Rattle.sr_node.specs.declared.fault.StepFault.{StepFault}
+use Rattle.sr_node.specs.Images.{State}
+use Rattle.sr_node.specs.Octets.{OctetsRefused}
+use Rattle.sr_plant.specs.declared.topology.Topology.{Topology}
+use Rattle.sr_plant.specs.declared.fault.PlantFault.{PlantFault}
+use Rattle.sr_plant.specs.declared.fault.PlantFault.TheVariants.{Node}
+use Rattle.sr_plant.specs.declared.arriving.Landing.{Landing}
+use Rattle.sr_plant.specs.Topologies.{framing_of}
+use Rattle.sr_plant.specs.Steps.{is_loss}
+use Rattle.sr_plant.specs.Carrying.{FailsToLand}
+
+-- a refusal that is no loss is the plant's
+pub fails : (t : Topology) (s : State) (port : Port) (octets : List ℕ) (now : ℕ) (fault : StepFault) (r : Result Landing PlantFault) →
+    OctetsRefused (framing_of t port) s port octets now fault → IfErr r (λ f. (is_loss fault ≡ false) × (f ≡ Node fault)) →
+    IfErr r (λ f. FailsToLand t s port octets now f)
+fails t s port octets now fault (Ok l) refused told = told
+fails t s port octets now fault (Err f) refused told = inr (fault, refused, told.0, told.1)

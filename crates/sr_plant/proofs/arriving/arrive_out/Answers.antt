@@ -1,0 +1,21 @@
+use Rattle.std.proofs.Common.{ℕ, List, subst}
+use Rattle.sr_node.specs.Images.{node_state, time_at}
+use Rattle.sr_node.specs.Octets.{OctetsRefused}
+use Rattle.sr_plant.specs.Topologies.{framing_of}
+use Rattle.sr_plant.proofs.GivenLemmas.{arrived_few}
+use Rattle.sr_plant.proofs.LandLemmas.{fails}
+use Rattle.sr_plant.proofs.arriving.arrive_out.Goals as goal
+
+pub returns-in-Err-clause-err : goal.returns-in-Err-clause-err
+returns-in-Err-clause-err g c =
+    let t = c.args.topology in
+    let s = node_state (g.R.Role.meaning c.args.node.now.role) c.args.node.now.core in
+    let a = c.args.arriving.now in
+    let refused = subst (λ (octets : List ℕ). OctetsRefused (framing_of t a.port) s a.port octets c.args.now c.in-Err.fault) c.octets.ensures.whole c.in-Err.ensures.err in
+    fails t s a.port a.octets c.args.now c.in-Err.fault c.refused.result refused c.refused.ensures.err
+
+pub take_out-a-requires-clause-few : goal.take_out-a-requires-clause-few
+take_out-a-requires-clause-few g c κs within =
+    let s = node_state (g.R.Role.meaning c.args.node.now.role) c.args.node.now.core in
+    let o = c.in_default.ensures.ok in
+    arrived_few s c.args.arriving.now.port o.0 (time_at s c.args.now) c.in_default.field-0 (node_state (g.R.Role.meaning c.arrive.new.node.role) c.arrive.new.node.core) c.requires o.3

@@ -1,0 +1,63 @@
+-- A copy on its way into its receiver.
+use Rattle.std.specs.Prelude.{◌≡◌, ◌⊎◌, ℕ, true, false, List, Option, None, Some, slice_get}
+use Rattle.sr_forwarding.specs.declared.fault.ReadFault.{ReadFault}
+use Rattle.sr_forwarding.specs.Encoding.{IsWritten, write_fault}
+use Rattle.sr_forwarding.specs.Parcels.{ParcelImage}
+use Rattle.sr_frame.specs.declared.ports.Port.{Port}
+use Rattle.sr_node.specs.declared.event.Answer.{Answer}
+use Rattle.sr_node.specs.declared.fault.StepFault.{StepFault}
+use Rattle.sr_node.specs.Images.{State}
+use Rattle.sr_node.specs.Octets.{OctetsArrived, OctetsRefused}
+use Rattle.sr_plant.specs.declared.topology.Topology.{Topology}
+use Rattle.sr_plant.specs.declared.fault.PlantFault.{PlantFault}
+use Rattle.sr_plant.specs.declared.fault.PlantFault.TheVariants.{Node, NoMemory}
+use Rattle.sr_plant.specs.declared.arriving.Arriving.{Arriving}
+use Rattle.sr_plant.specs.declared.arriving.Landing.{Landing}
+use Rattle.sr_plant.specs.declared.arriving.Landing.TheVariants.{Lost, Taken}
+use Rattle.sr_plant.specs.Topologies.{framing_of}
+use Rattle.sr_plant.specs.Copies.{Copy}
+use Rattle.sr_plant.specs.Given.{GivesOut}
+use Rattle.sr_plant.specs.Steps.{is_loss}
+
+-- so a copy comes to its receiver: as octets at a port of a node
+pub record IsHeaded (t : Topology) (c : Copy) (a : Arriving) : Type 0 where
+  pub node : a.node ≡ c.hop.to.node
+  pub port : a.port ≡ c.hop.to.port
+  pub written : IsWritten (framing_of t c.outlet) c.parcel.form c.parcel a.octets
+
+-- or not at all, where its outlet has no octets for it
+abbrev pub ComesAs : Topology → Copy → Option Arriving → Type 0
+ComesAs t c None = (fault : ReadFault) × (write_fault (framing_of t c.outlet) c.parcel ≡ Some fault)
+ComesAs t c (Some a) = IsHeaded t c a
+
+-- so the copy at a place comes
+abbrev pub OneComesAs : Topology → List Copy → ℕ → Option Arriving → Type 0
+OneComesAs t cs place a = (c : Copy) × (slice_get cs place ≡ Some c) × ComesAs t c a
+
+-- a node takes octets and is emptied
+pub record TakesOut (t : Topology) (s : State) (port : Port) (octets : List ℕ) (now : ℕ) (at_a at_b : Option ParcelImage)
+    (before up_after : List ParcelImage) (u : State) : Type 0 where
+  pub answer : Answer
+  pub after : State
+  pub taken : OctetsArrived (framing_of t port) s port octets now answer after
+  pub gives : GivesOut after at_a at_b before up_after u
+
+-- a node refuses octets so that they are lost, and stays as it is
+pub record LosesThem (t : Topology) (s : State) (port : Port) (octets : List ℕ) (now : ℕ) (before up_after : List ParcelImage) (u : State) :
+    Type 0 where
+  pub fault : StepFault
+  pub refused : OctetsRefused (framing_of t port) s port octets now fault
+  pub loss : is_loss fault ≡ true
+  pub same : u ≡ s
+  pub up : up_after ≡ before
+
+-- so octets come to a node: they are lost, or it takes them
+abbrev pub Lands : Topology → State → Port → List ℕ → ℕ → Landing → List ParcelImage → List ParcelImage → State → Type 0
+Lands t s port octets now Lost before up_after u = LosesThem t s port octets now before up_after u
+Lands t s port octets now (Taken at_a at_b) before up_after u = TakesOut t s port octets now at_a at_b before up_after u
+
+-- why octets come to no node: a growth was refused, or the node refuses them and they are not lost
+abbrev pub FailsToLand : Topology → State → Port → List ℕ → ℕ → PlantFault → Type 0
+FailsToLand t s port octets now f =
+    (f ≡ NoMemory)
+    ⊎ ((fault : StepFault) × OctetsRefused (framing_of t port) s port octets now fault × (is_loss fault ≡ false) × (f ≡ Node fault))

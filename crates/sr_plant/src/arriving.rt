@@ -1,0 +1,123 @@
+//! Copies come to their receivers.
+
+ghost use Rattle.std.specs.Prelude.{◌≡◌, true, false, IfOk, IfErr, OnErr};
+ghost use Rattle.sr_node.specs.Images.{node_state};
+ghost use Rattle.sr_node.specs.Octets.{OctetsArrived, OctetsRefused};
+ghost use Rattle.sr_plant.specs.Topologies.{framing_of};
+ghost use Rattle.sr_plant.specs.Plants.{IsEmptied};
+ghost use Rattle.sr_plant.specs.Steps.{is_loss};
+ghost use Rattle.sr_plant.specs.Flights.{hop_of};
+ghost use Rattle.sr_plant.specs.Carrying.{ComesAs, Lands, FailsToLand};
+
+use crate::giving::take_out;
+use crate::hop::Hop;
+use crate::port_framing::PortFraming;
+use crate::{PlantFault, Topology};
+use sr_forwarding::{Framing, Parcel, ReadFault, Role};
+use sr_frame::{Frame, NoMemory, Port};
+use sr_node::{Answer, NodeOf, StepFault};
+use std::alloc::Global;
+
+/// A copy as it comes to its receiver.
+#[derive(Drop)]
+pub(crate) struct Arriving {
+    pub(crate) node: usize,
+    pub(crate) port: Port,
+    pub(crate) octets: Frame,
+}
+
+impl Arriving {
+    /// The copy of a parcel that leads there from an outlet. None where the outlet has no octets for it. NoMemory: a growth
+    /// was refused.
+    pub(crate) fn of(
+        alloc: Global,
+        topology: Topology,
+        hop: Hop,
+        outlet: Port,
+        parcel: &Parcel,
+    ) -> Result<Option<Arriving>, NoMemory>
+        ensures { IfOk result (λ a. ComesAs topology
+            (record { hop = hop_of hop; outlet = outlet; parcel = parcel.now }) a) }
+    {
+        let framing = PortFraming {
+            topology,
+            port: outlet,
+        };
+        match framing.encode(alloc, parcel) {
+            Ok(octets) => Ok(Some(Arriving {
+                node: hop.node,
+                port: hop.port,
+                octets,
+            })),
+            Err(ReadFault::NoMemory) => Err(NoMemory),
+            Err(_) => Ok(None),
+        }
+    }
+}
+
+/// What becomes of it there.
+#[derive(Drop)]
+pub(crate) enum Landing {
+    /// The receiver refuses it, and it is lost.
+    Lost,
+    /// The receiver takes it, and puts these out at A and at B.
+    Taken(Option<Parcel>, Option<Parcel>),
+}
+
+// What a refusal by the receiver comes to: the copy is lost, or the plant refuses it too.
+fn refused(fault: StepFault) -> Result<Landing, PlantFault>
+    ensures ok { IfOk result (λ l. (is_loss fault ≡ true) × (l ≡ Landing.Lost)) }
+    ensures err { IfErr result (λ f. (is_loss fault ≡ false) × (f ≡ PlantFault.Node fault)) }
+{
+    match fault {
+        StepFault::Reading(_) | StepFault::Untagged | StepFault::TableFull => Ok(Landing::Lost),
+        StepFault::OutboxFull(_) | StepFault::NoMemory => Err(PlantFault::Node(fault)),
+    }
+}
+
+// Octets come in at a port of a node of the plant.
+fn arrive<R: Role>(
+    topology: Topology,
+    node: &mut NodeOf<R>,
+    port: Port,
+    octets: &[u8],
+    now: u64,
+) -> Result<Answer, StepFault>
+    ensures ok { IfOk result (λ a. OctetsArrived (framing_of topology port)
+        (node_state (R.meaning node.old.role) node.old.core) port octets.now now a
+        (node_state (R.meaning node.new.role) node.new.core)) }
+    ensures err { IfErr result (λ f. OctetsRefused (framing_of topology port)
+        (node_state (R.meaning node.old.role) node.old.core) port octets.now now f) }
+    ensures same { OnErr result (node_state (R.meaning node.new.role) node.new.core
+        ≡ node_state (R.meaning node.old.role) node.old.core) }
+{
+    node.arrive(&PortFraming { topology, port }, port, octets, now)
+}
+
+/// A copy comes to its receiver, what that has for its host goes up, and what came out at A and at B is answered. The
+/// growth comes first.
+pub(crate) fn arrive_out<R: Role>(
+    topology: Topology,
+    node: &mut NodeOf<R>,
+    up: &mut Vec<Parcel>,
+    arriving: &Arriving,
+    now: u64,
+) -> Result<Landing, PlantFault>
+    requires { IsEmptied (node_state (R.meaning node.old.role) node.old.core) }
+    ensures ok { IfOk result (λ l. Lands topology (node_state (R.meaning node.old.role) node.old.core)
+        arriving.now.port arriving.now.octets now l up.old.items up.new.items
+        (node_state (R.meaning node.new.role) node.new.core)) }
+    ensures err { IfErr result (λ f. FailsToLand topology (node_state (R.meaning node.old.role) node.old.core)
+        arriving.now.port arriving.now.octets now f) }
+    ensures same { OnErr result ((node_state (R.meaning node.new.role) node.new.core
+        ≡ node_state (R.meaning node.old.role) node.old.core) × (up.new.items ≡ up.old.items)) }
+{
+    if up.reserve(1).is_err() {
+        return Err(PlantFault::NoMemory);
+    }
+    if let Err(fault) = arrive(topology, node, arriving.port, arriving.octets.octets(), now) {
+        return refused(fault);
+    }
+    let (a, b) = take_out(node, up);
+    Ok(Landing::Taken(a, b))
+}
