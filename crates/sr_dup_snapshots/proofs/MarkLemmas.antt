@@ -1,11 +1,11 @@
 -- Marks that are noted one after another, back from the greatest number.
-use Rattle.std.proofs.Common.{◌≡◌, ◌≢◌, ℕ, ◌+◌, ◌-◌, ◌%◌, ◌<◌, ◌≤◌, Bool, true, false, ltb, eqb, cond, ◌||◌, List, length, get_or, set, map, arith, refl, sym, ap, ◌∙◌, inl, inr}
+use Rattle.std.proofs.Common.{◌≡◌, ◌≢◌, ℕ, ◌+◌, ◌-◌, ◌%◌, ◌<◌, ltb, cond, ◌||◌, List, length, get_or, set, map, arith, sym, ap, ◌∙◌, inl, inr}
 use Rattle.std.specs.List.{range_with_len}
 use Rattle.std.proofs.lemmas.Bool.{cases_lt, cond-true, cond-false, lt-ltb, le-ltb}
 use Rattle.std.proofs.lemmas.List.{ext_get_or, length-set, get_or-set_same, get_or-set_other}
 use Rattle.std.proofs.lemmas.List.FromFn.{length-map-range_with_len, get_or-map-range_with_len}
 use Rattle.sr_sequence.specs.declared.Distance.TheVariants.{Behind, Ahead}
-use Rattle.sr_sequence.specs.Places.{steps, place_of}
+use Rattle.sr_sequence.specs.Places.{steps}
 use Rattle.sr_dup_window.specs.declared.lane_sets.Lanes.{Lanes}
 use Rattle.sr_dup_window.specs.LaneSets.{has, none, known, union}
 use Rattle.sr_dup_window.specs.LaneLemmas.{has-none, lanes_where-same, known-lanes_where}

@@ -1,13 +1,11 @@
-use Rattle.std.proofs.Common.{◌≡◌, ◌∙◌, ◌+◌, ◌-◌, ◌*◌, ◌<◌, ◌&&◌, ◌++◌, ◌∷◌, [], ℕ, List, true, Some, None, length, take, drop, inl, inr, sym, ap, subst, arith, append_assoc}
+use Rattle.std.proofs.Common.{◌≡◌, ◌∙◌, ◌+◌, ◌-◌, ◌<◌, ◌&&◌, ◌++◌, ◌∷◌, [], Some, None, length, take, drop, sym, ap, arith, append_assoc}
 use Rattle.std.specs.Map.{lookup}
 use Rattle.std.proofs.lemmas.Bool.{and_parts}
 use Rattle.std.proofs.lemmas.Result.{err_from_is_err_and}
 use Rattle.std.proofs.lemmas.List.{append-nil, length-append}
-use Rattle.sr_frame.specs.declared.fields.Mac.{Mac}
 use Rattle.sr_frame.specs.Addresses.{mac_eq}
-use Rattle.sr_dup_table.specs.Sources.{Heard, Sources}
 use Rattle.sr_dup_snapshots.specs.Reading.{source_in, sources_in, is_after, follows, are_in_order}
-use Rattle.sr_dup_snapshots.proofs.ReadLemmas.{AllBefore, before-more, one-more, none-left, order-more, order-none, passed-on}
+use Rattle.sr_dup_snapshots.proofs.ReadLemmas.{before-more, one-more, none-left, order-more, order-none, passed-on}
 use Rattle.sr_dup_snapshots.proofs.reading.read_sources.Goals as goal
 
 pub returns-in_err-add-clause-refused : goal.returns-in_err-add-clause-refused

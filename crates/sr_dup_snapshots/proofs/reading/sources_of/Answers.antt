@@ -1,4 +1,4 @@
-use Rattle.std.proofs.Common.{◌≡◌, ◌∙◌, ◌++◌, drop, length, sym, ap, arith}
+use Rattle.std.proofs.Common.{◌≡◌, ◌∙◌, drop, length, sym, ap, arith}
 use Rattle.sr_dup_snapshots.proofs.TextLemmas.{right-size}
 use Rattle.sr_dup_snapshots.proofs.reading.sources_of.Goals as goal
 use Rattle.sr_dup_snapshots.proofs.reading.sources_of.Goals.{else-count-le-MOST_SOURCES-via-then-count-le-MOST_SOURCES+else-sources-count, else-count-le-MOST_SOURCES-via-else-count-le-MOST_SOURCES}

@@ -1,8 +1,8 @@
-use Rattle.std.proofs.Common.{◌≡◌, ◌∙◌, ◌+◌, ℕ, List, get_or, set, sym, ap, arith}
+use Rattle.std.proofs.Common.{◌≡◌, ◌∙◌, get_or, set, sym, ap, arith}
 use Rattle.sr_dup_window.specs.LaneSets.{known, none}
 use Rattle.sr_dup_window.specs.LaneLemmas.{known-lanes_where}
-use Rattle.sr_dup_window.specs.Windows.{Window, window_of, window_begun}
-use Rattle.sr_dup_snapshots.specs.Reading.{is_set, window_in}
+use Rattle.sr_dup_window.specs.Windows.{Window, window_begun}
+use Rattle.sr_dup_snapshots.specs.Reading.{is_set}
 use Rattle.sr_dup_snapshots.proofs.MarkLemmas.{marks_to, marks-begun, not-yet, marks-more, marks-all}
 use Rattle.sr_dup_snapshots.proofs.record.read_record.Goals as goal
 
