@@ -1,1 +1,5 @@
 pub mod OrderLemmas
+pub mod MarkLemmas
+pub mod SpellLemmas
+pub mod ReadLemmas
+pub mod TextLemmas

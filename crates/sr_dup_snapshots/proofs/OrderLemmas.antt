@@ -30,7 +30,7 @@ use Rattle.sr_dup_snapshots.specs.Snapshots.{mac_order}
 use Rattle.sr_dup_snapshots.specs.Ordered.{source_at, sources_at}
 
 -- two addresses are one exactly where neither is before the other
-ties : (x y : Mac) → mac_eq x y ≡ eq_by_cmp mac_order x y
+pub ties : (x y : Mac) → mac_eq x y ≡ eq_by_cmp mac_order x y
 ties x y =
     one_answer (mac_eq x y) (bytes_eq x.0 y.0) (pointwise_decides Decides-eqb x.0 y.0) (bytes_eq-Decides x.0 y.0)
     ∙ sym (is_eq-slice_cmp x.0 y.0)
@@ -96,7 +96,7 @@ same-at s macs moved q =
     there None = refl
     there (Some h) = refl
 
-mac_total : IsTotalOrder mac_order
+pub mac_total : IsTotalOrder mac_order
 mac_total = on_total (λ (m : Mac). m.0) nat_list_cmp_total
 
 -- an address before all others is none of them

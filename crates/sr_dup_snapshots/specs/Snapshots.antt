@@ -1,6 +1,6 @@
 -- A snapshot, version 1: the octets `53 52 44 57` and 01, the number of sources, and the sources in ascending order of their addresses.
-use Rattle.std.specs.Prelude.{◌≡◌, ℕ, ◌+◌, ◌*◌, Bool, List, [], ◌∷◌, ◌++◌, length, map, slice_index_or}
-use Rattle.std.specs.List.{flat_map, range_with_len}
+use Rattle.std.specs.Prelude.{◌≡◌, ◌<◌, ◌≤◌, ◌^◌, ℕ, ◌+◌, ◌*◌, Bool, List, [], ◌∷◌, ◌++◌, length, map, slice_index_or}
+use Rattle.std.specs.List.{flat_map, range_with_len, AllByRecursion}
 use Rattle.std.specs.List.Sorted.{IsStrictlySortedBy}
 use Rattle.std.specs.Map.{keys_of}
 use Rattle.std.specs.Cmp.Lexicographic.{slice_cmp}
@@ -13,6 +13,8 @@ use Rattle.sr_dup_window.specs.declared.lane_sets.Lane.TheVariants.{H, A, B, C, 
 use Rattle.sr_dup_window.specs.declared.lane_sets.Lanes.{Lanes}
 use Rattle.sr_dup_window.specs.LaneSets.{flag, has, none}
 use Rattle.sr_dup_window.specs.Windows.{Window}
+use Rattle.sr_dup_window.specs.Records.{IsWhole}
+use Rattle.sr_dup_table.specs.Limits.{window, most_sources}
 use Rattle.sr_dup_table.specs.Sources.{Heard, Sources}
 use Rattle.sr_dup_table.specs.Same.{AreSame}
 
@@ -44,17 +46,29 @@ record_octets w =
 abbrev pub source_octets : Mac × Heard → List ℕ
 source_octets e = e.0.0 ++ to_be_bytes w64 e.1.time ++ record_octets e.1.seen
 
+-- `SRDW`, and the version
+abbrev pub head : List ℕ
+head = 0x53 ∷ 0x52 ∷ 0x44 ∷ 0x57 ∷ 1 ∷ []
+
 -- the octets of sources
 abbrev pub spelling : Sources → List ℕ
-spelling s = (0x53 ∷ 0x52 ∷ 0x44 ∷ 0x57 ∷ 1 ∷ []) ++ to_be_bytes w16 (length s) ++ flat_map source_octets s
+spelling s = head ++ to_be_bytes w16 (length s) ++ flat_map source_octets s
 
 -- addresses in the order of their octets, the first one greatest
 abbrev pub mac_order : Mac → Mac → Ordering
 mac_order x y = slice_cmp nat_cmp x.0 y.0
 
--- the octets are those of the same sources in strictly ascending order of address
+-- what stands in a table: an address of six octets, a time of 64 bits, and a record of 1024 numbers, the greatest noted on some lane
+pub record IsSource (e : Mac × Heard) : Type 0 where
+  pub address : length e.0.0 ≡ 6
+  pub time : e.1.time < 2 ^ 64
+  pub whole : IsWhole window e.1.seen
+
+-- the octets are those of the same sources in strictly ascending order of address, at most 1024 of them
 pub record IsSnapshot (octets : List ℕ) (s : Sources) : Type 0 where
   pub ordered : Sources
   pub same : AreSame s ordered
   pub ascending : IsStrictlySortedBy mac_order (keys_of ordered)
+  pub few : length ordered ≤ most_sources
+  pub each : AllByRecursion IsSource ordered
   pub spelled : octets ≡ spelling ordered

@@ -1,35 +1,27 @@
 //! Writing snapshots.
 ghost use Rattle.std.specs.Prelude.{◌≡◌, ◌++◌, IfOk, OnOk, IsPermutation};
-ghost use Rattle.std.specs.List.{flat_map};
+ghost use Rattle.std.specs.List.{flat_map, AllByRecursion};
 ghost use Rattle.std.specs.List.Sorted.{IsStrictlySortedBy};
 ghost use Rattle.std.specs.Map.{keys_of};
 ghost use Rattle.sr_dup_snapshots.specs.Ordered.{sources_at};
-ghost use Rattle.sr_dup_table.specs.Shown.{heard_of};
-ghost use Rattle.sr_dup_snapshots.specs.Snapshots.{source_octets, spelling, mac_order, IsSnapshot};
+ghost use Rattle.sr_dup_window.specs.Windows.{window_of};
+ghost use Rattle.sr_dup_snapshots.specs.Snapshots.{source_octets, spelling, mac_order, IsSource, IsSnapshot};
 
+use crate::fields::{HEAD, HEAD_LEN, SOURCE_LEN};
 use crate::record::put_record;
-use sr_aged_slots::Aged;
 use sr_dup_table::DupTable;
 use sr_dup_window::Record;
 use sr_frame::{Mac, NoMemory};
 use std::alloc::Global;
 
-// The octets before the number of sources: `SRDW`, and the version.
-const HEAD: [u8; 5] = [0x53, 0x52, 0x44, 0x57, 1];
-
-// How many octets stand before the sources.
-const HEAD_LEN: usize = 7;
-
-// How many octets a source has.
-const SOURCE_LEN: usize = 784;
-
 // Appends the octets of a source.
-fn put_source(out: &mut Vec<u8>, src: Mac, entry: &Aged<Record<16>>) -> Result<(), NoMemory>
-    ensures { OnOk result (out.new.items ≡ out.old.items ++ source_octets (src, heard_of entry.now)) }
+fn put_source(out: &mut Vec<u8>, src: Mac, time: u64, seen: &Record<16>) -> Result<(), NoMemory>
+    ensures spelled { OnOk result (out.new.items ≡ out.old.items ++ source_octets (src, record { seen = window_of seen.now; time = time })) }
+    ensures source { OnOk result (IsSource (src, record { seen = window_of seen.now; time = time })) }
 {
     out.extend_from_slice(&src.0)?;
-    out.extend_from_slice(&entry.time.to_be_bytes())?;
-    put_record(out, &entry.value)
+    out.extend_from_slice(&time.to_be_bytes())?;
+    put_record(out, seen)
 }
 
 // The addresses of a table, in ascending order.
@@ -47,11 +39,12 @@ fn sorted(alloc: Global, table: &DupTable) -> Result<Vec<Mac>, NoMemory>
 
 // Appends the sources that stand at these addresses.
 fn put_sources(out: &mut Vec<u8>, table: &DupTable, macs: &[Mac]) -> Result<(), NoMemory>
-    ensures { OnOk result (out.new.items ≡ out.old.items ++ flat_map source_octets (sources_at table.now.sources macs.now)) }
+    ensures spelled { OnOk result (out.new.items ≡ out.old.items ++ flat_map source_octets (sources_at table.now.sources macs.now)) }
+    ensures each { OnOk result (AllByRecursion IsSource (sources_at table.now.sources macs.now)) }
 {
     for src in macs {
         if let Some(entry) = table.entry(*src) {
-            put_source(out, *src, entry)?;
+            put_source(out, *src, entry.time, &entry.value)?;
         }
     }
     Ok(())

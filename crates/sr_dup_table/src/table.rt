@@ -306,8 +306,9 @@ impl DupTable {
         Ok(lanes)
     }
 
-    // Adds a source to a table that is not full. The forgotten ones of a crowded table go.
-    pub(crate) fn put_last(&mut self, src: Mac, first: Record<16>, now: u64) -> Result<(), NoMemory>
+    /// Adds a source to a table that is not full. It goes last; the forgotten ones of a crowded table go first. Where a place is held
+    /// for it, it uses that, and takes no memory. NoMemory: memory ran out, and nothing changes.
+    pub fn put_last(&mut self, src: Mac, first: Record<16>, now: u64) -> Result<(), NoMemory>
         requires absent { lookup (mac_eq src) self.old.sources ≡ None }
         requires room { nat_lt (length (with_room now self.old.sources)) most_sources ≡ true }
         ensures sources { OnOk result (self.new.sources ≡ with_room now self.old.sources ++ (src, record { seen = window_of first; time = now }) ∷ []) }

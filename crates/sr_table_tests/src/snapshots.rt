@@ -1,5 +1,7 @@
 use crate::steps::Merged::Joined;
-use crate::steps::Step::{Fill, Hear, Merge, SameText, Text};
+use crate::steps::Step::{
+    Damaged, Fill, Hear, Merge, NeverMisread, Reads, Resized, SameText, Text,
+};
 use crate::steps::Which::{One, Three, Two};
 use crate::steps::{Step, expect_steps};
 
@@ -111,4 +113,62 @@ fn any_order(rt: HostRuntime) {
 #[test]
 fn full_tables(rt: HostRuntime) {
     expect_steps(&rt, FULL_TABLES);
+}
+
+// Each octet that a reader has to look at.
+const DAMAGED: &[Step] = &[
+    Hear(One, 2, 5, 1000),
+    Reads(One),
+    Damaged(One, 0, 0x54, false),
+    Damaged(One, 4, 3, false),
+    Damaged(One, 6, 2, false),
+    Damaged(One, 5, 4, false),
+    Resized(One, 792, false),
+    Resized(One, 790, false),
+    Resized(One, 6, false),
+    Resized(One, 0, false),
+    Damaged(One, 23, 0, true),
+    Damaged(One, 535, 0, true),
+    Damaged(One, 23, 3, true),
+    Damaged(One, 12, 77, true),
+    Hear(One, 3, 5, 1000),
+    Reads(One),
+    Damaged(One, 796, 2, false),
+    Damaged(One, 12, 3, false),
+    Damaged(One, 12, 4, false),
+];
+
+#[test]
+fn damaged(rt: HostRuntime) {
+    expect_steps(&rt, DAMAGED);
+}
+
+const MISREAD: &[Step] = &[
+    NeverMisread(One, 1),
+    Hear(One, 2, 5, 1000),
+    Hear(One, 2, 6, 1001),
+    NeverMisread(One, 2),
+    Hear(One, 3, 5, 1000),
+    NeverMisread(One, 3),
+];
+
+#[test]
+fn misread(rt: HostRuntime) {
+    expect_steps(&rt, MISREAD);
+}
+
+const THERE_AND_BACK: &[Step] = &[
+    Reads(One),
+    Fill(One, 0, 1024, 1000),
+    Reads(One),
+    Hear(Two, 2, 64518, 1000),
+    Hear(Two, 2, 65533, 1000),
+    Hear(Two, 2, 4, 1000),
+    Hear(Two, 2, 5, 1000),
+    Reads(Two),
+];
+
+#[test]
+fn there_and_back(rt: HostRuntime) {
+    expect_steps(&rt, THERE_AND_BACK);
 }

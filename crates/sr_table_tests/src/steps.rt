@@ -2,7 +2,7 @@
 ghost use Rattle.std.specs.Prelude.{◌≡◌, false};
 ghost use Rattle.sr_dup_window.specs.LaneSets.{is_empty};
 
-use sr_dup_snapshots::snapshot;
+use sr_dup_snapshots::{read_snapshot, snapshot};
 use sr_dup_table::{DupFault, DupTable};
 use sr_dup_window::Lanes;
 use sr_frame::Mac;
@@ -48,6 +48,14 @@ pub enum Step {
     Equal(Which, Which, bool),
     /// The snapshot of a table has so many octets, and zeros but at these places.
     Text(Which, usize, &'static [(usize, u8)]),
+    /// The first table's snapshot is read as a table that is the same.
+    Reads(Which),
+    /// The snapshot of a table with another octet at this place is one, or none.
+    Damaged(Which, usize, u8, bool),
+    /// A snapshot of so many octets, cut or with zeros behind it, is one, or none.
+    Resized(Which, usize, bool),
+    /// No damage of a table's snapshot is read as a table with another snapshot: 64 octets one by one, by a seed.
+    NeverMisread(Which, u32),
     /// Whether two tables have one snapshot.
     SameText(Which, Which, bool),
 }
@@ -179,6 +187,61 @@ fn has_same_text(alloc: Global, one: &DupTable, other: &DupTable) -> bool {
     }
 }
 
+// Whether octets are read, asked for again where memory runs out.
+fn is_read(alloc: Global, text: &[u8]) -> bool {
+    match read_snapshot(alloc, text) {
+        Ok(_) => true,
+        Err(DupFault::BadSnapshot) => false,
+        Err(_) => read_snapshot(alloc, text).is_ok(),
+    }
+}
+
+fn reads_back(alloc: Global, table: &DupTable) -> bool {
+    let Some(text) = text_of(alloc, table) else {
+        return false;
+    };
+    match read_snapshot(alloc, text.as_slice()) {
+        Ok(own) => own.same(table),
+        Err(DupFault::NoMemory) => match read_snapshot(alloc, text.as_slice()) {
+            Ok(own) => own.same(table),
+            Err(_) => false,
+        },
+        Err(_) => false,
+    }
+}
+
+// Whether octets are no snapshot, or that of the table which is read.
+fn is_own_text(alloc: Global, text: &[u8]) -> bool {
+    match read_snapshot(alloc, text) {
+        Ok(own) => match text_of(alloc, &own) {
+            Some(again) => again.as_slice() == text,
+            None => false,
+        },
+        Err(_) => true,
+    }
+}
+
+fn is_never_misread(alloc: Global, table: &DupTable, seed: u32) -> bool {
+    let Some(mut text) = text_of(alloc, table) else {
+        return false;
+    };
+    let mut random = seed;
+    for _ in 0..64 {
+        random = random.wrapping_mul(1664525).wrapping_add(1013904223);
+        if text.is_empty() {
+            return false;
+        }
+        let place = (random >> 8) as usize % text.len();
+        let was = text[place];
+        text[place] = (random >> 24) as u8;
+        if !is_own_text(alloc, text.as_slice()) {
+            return false;
+        }
+        text[place] = was;
+    }
+    true
+}
+
 fn holds(alloc: Global, tables: &mut Tables, step: Step) -> bool {
     match step {
         Step::Hear(Which::One, src, seq, now) => hear(&mut tables.one, src, seq, now),
@@ -195,6 +258,24 @@ fn holds(alloc: Global, tables: &mut Tables, step: Step) -> bool {
         Step::Same(one, other, answer) => table(tables, one).same(table(tables, other)) == answer,
         Step::Equal(one, other, answer) => (table(tables, one) == table(tables, other)) == answer,
         Step::Text(which, len, places) => has_text(alloc, table(tables, which), len, places),
+        Step::Reads(which) => reads_back(alloc, table(tables, which)),
+        Step::Damaged(which, place, octet, answer) => {
+            let Some(mut text) = text_of(alloc, table(tables, which)) else {
+                return false;
+            };
+            if place >= text.len() {
+                return false;
+            }
+            text[place] = octet;
+            is_read(alloc, text.as_slice()) == answer
+        }
+        Step::Resized(which, len, answer) => {
+            let Some(mut text) = text_of(alloc, table(tables, which)) else {
+                return false;
+            };
+            text.resize(len, 0).is_ok() && is_read(alloc, text.as_slice()) == answer
+        }
+        Step::NeverMisread(which, seed) => is_never_misread(alloc, table(tables, which), seed),
         Step::SameText(one, other, answer) => {
             has_same_text(alloc, table(tables, one), table(tables, other)) == answer
         }

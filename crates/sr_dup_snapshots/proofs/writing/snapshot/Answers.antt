@@ -1,8 +1,8 @@
-use Rattle.std.proofs.Common.{◌≡◌, ℕ, ◌++◌, ◌∷◌, [], ◌∙◌, List, length, sym, ap, subst}
-use Rattle.std.specs.List.{flat_map}
+use Rattle.std.proofs.Common.{◌≡◌, ℕ, ◌++◌, ◌∷◌, [], ◌∙◌, List, length, sym, ap, subst, arith}
+use Rattle.std.specs.List.{flat_map, AllByRecursion}
 use Rattle.std.specs.List.Sorted.{IsStrictlySortedBy}
 use Rattle.std.specs.Int.{w16, to_be_bytes}
-use Rattle.sr_dup_snapshots.specs.Snapshots.{mac_order, source_octets}
+use Rattle.sr_dup_snapshots.specs.Snapshots.{mac_order, source_octets, IsSource}
 use Rattle.sr_dup_snapshots.specs.Ordered.{sources_at}
 use Rattle.sr_dup_snapshots.proofs.OrderLemmas.{keys-of-all, count-of-all, same-at}
 use Rattle.sr_dup_snapshots.proofs.writing.snapshot.Goals as goal
@@ -22,5 +22,7 @@ returns c =
       ordered = sources_at s macs;
       same = same-at s macs moved;
       ascending = subst (IsStrictlySortedBy mac_order) (sym (keys-of-all s macs moved)) c.in_ok-macs.ensures.ascending;
-      spelled = c.in_ok-put_sources.ensures ∙ (λ i. front i ++ flat_map source_octets (sources_at s (c.deref.ensures.value i)));
+      few = omega (arith, count-of-all s macs moved, c.source_count-count.ensures.table.few);
+      each = subst (λ l. AllByRecursion IsSource (sources_at s l)) c.deref.ensures.value c.in_ok-put_sources.ensures.each;
+      spelled = c.in_ok-put_sources.ensures.spelled ∙ (λ i. front i ++ flat_map source_octets (sources_at s (c.deref.ensures.value i)));
     }
