@@ -145,19 +145,31 @@ fn are_answers(written: &[u8], answers: &[&[u8]], count: usize) -> bool {
     rest.is_empty()
 }
 
-fn runs_again(alloc: Global, script: &[u8], answers: &[&[u8]], written: &mut Vec<u8>) -> bool {
+fn runs_again(
+    alloc: Global,
+    setup: &Setup,
+    script: &[u8],
+    answers: &[&[u8]],
+    written: &mut Vec<u8>,
+) -> bool {
     written.clear();
     let mut reader = script;
-    run(alloc, &SETUP, &mut reader, written).is_ok() && are_answers(written, answers, answers.len())
+    run(alloc, setup, &mut reader, written).is_ok() && are_answers(written, answers, answers.len())
 }
 
 /// Whether a run writes these answers, one to each line. Where memory is refused, it ends at the line at work with the lines
 /// before it answered, and the next run is whole. What the test itself needs comes first.
-pub fn is_taken_up(alloc: Global, script: &[u8], answers: &[&[u8]]) -> Option<bool> {
+pub fn is_taken_up(
+    alloc: Global,
+    role: RoleName,
+    script: &[u8],
+    answers: &[&[u8]],
+) -> Option<bool> {
+    let setup = Setup { role, ..SETUP };
     let mut written: Vec<u8> = Vec::new(alloc);
-    written.reserve(400).ok()?;
+    written.reserve(1000).ok()?;
     let mut reader = script;
-    match run(alloc, &SETUP, &mut reader, &mut written) {
+    match run(alloc, &setup, &mut reader, &mut written) {
         Ok(()) => Some(are_answers(&written, answers, answers.len())),
         Err(
             Fault {
@@ -165,10 +177,10 @@ pub fn is_taken_up(alloc: Global, script: &[u8], answers: &[&[u8]]) -> Option<bo
                 word: Word::Memory,
             },
         ) => {
-            let before = (line.clamp(1, 5) - 1) as usize;
+            let before = (line.clamp(1, 6) - 1) as usize;
             Some(
                 are_answers(&written, answers, before)
-                    && runs_again(alloc, script, answers, &mut written),
+                    && runs_again(alloc, &setup, script, answers, &mut written),
             )
         }
         Err(_) => Some(false),

@@ -5,7 +5,7 @@ use crate::runs::{
     is_taken_up, is_unflushed,
 };
 use crate::texts::{Part, Text};
-use sr_script::Word;
+use sr_script::{RoleName, Word};
 use std::alloc::Global;
 use std::io::ErrorKind;
 use std::process::Abort;
@@ -33,8 +33,8 @@ pub enum Step {
     Unflushed(&'static [u8], Ending),
     /// A script, and the calls of its writer.
     Recorded(&'static [u8], &'static [u8]),
-    /// A script, and the answers to each of its lines. Memory may be refused once.
-    TakenUp(&'static [u8], &'static [&'static [u8]]),
+    /// A script at a node of a role, and the answers to each of its lines. Memory may be refused once.
+    TakenUp(RoleName, &'static [u8], &'static [&'static [u8]]),
 }
 
 const TWO_LINES: Text = &[Part::These(b"#\n\n")];
@@ -66,7 +66,7 @@ fn comes(alloc: Global, step: Step) -> Option<bool> {
         Step::EmptyLines(left, ending) => are_empty_lines(alloc, left, ending),
         Step::Narrow(script, room, ending) => is_narrow(alloc, script, room, ending),
         Step::Unflushed(script, ending) => is_unflushed(alloc, script, ending),
-        Step::TakenUp(script, answers) => is_taken_up(alloc, script, answers),
+        Step::TakenUp(role, script, answers) => is_taken_up(alloc, role, script, answers),
     }
 }
 
