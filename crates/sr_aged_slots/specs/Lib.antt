@@ -1,2 +1,4 @@
 pub mod Ages
 pub mod AgeLemmas
+pub mod FullLemmas
+pub mod GatherLemmas

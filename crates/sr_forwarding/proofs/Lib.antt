@@ -3,3 +3,4 @@ pub mod RouteLemmas
 pub mod CarriageLemmas
 pub mod ReadingLemmas
 pub mod AgainLemmas
+pub mod OwnLemmas

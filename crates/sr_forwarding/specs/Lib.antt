@@ -4,6 +4,7 @@ pub mod Octets
 pub mod Parcels
 pub mod Headers
 pub mod RoleImages
+pub mod OwnRoles
 pub mod Routes
 pub mod Proxies
 pub mod Framings

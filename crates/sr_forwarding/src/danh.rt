@@ -4,95 +4,60 @@ ghost use Rattle.std.specs.Prelude.{◌≡◌};
 ghost use Rattle.sr_forwarding.specs.RoleImages.{role_of};
 ghost use Rattle.sr_forwarding.specs.Routes.{danh_from_ring};
 
-use crate::role_parts::{image_of, is_group};
-use crate::{Header, Outlets, Role, RoleImage, RoleKind};
+use crate::{Header, Outlets, OwnRole, RoleKind, Routing};
 use bitflags::Flags;
-use sr_frame::{Learnt, Mac, NoMemory, Port};
-use std::alloc::Global;
-use std::marker::Model;
+use sr_frame::{Mac, Port};
 
 /// A doubly attached node of an HSR ring: frames go round both ways (IEC 62439-3 clause 5).
-#[derive(Drop)]
-pub struct Danh {
-    mac: Mac,
-}
+pub type Danh = OwnRole<DanhRouting>;
 
-impl Model for Danh {
-    ghost use Rattle.sr_frame.specs.declared.fields.Mac.{Mac as Address};
+/// Where frames go at a doubly attached node of an HSR ring.
+#[derive(Clone, Copy, Debug, Drop)]
+pub struct DanhRouting;
 
-    ghost Value = { Address };
-
-    ghost view = { λ r. r.mac };
-}
-
-impl Danh {
+impl OwnRole<DanhRouting> {
     /// The role of the node with this address.
     pub fn new(mac: Mac) -> Danh
-        ensures { result ≡ mac }
+        ensures { result.mac ≡ mac }
     {
-        Danh { mac }
-    }
-
-    // Where a frame of the ring goes.
-    fn from_ring(&self, header: &Header, inlet: Port) -> Outlets
-        ensures { result ≡ danh_from_ring (role_of RoleKind.Danh self.now) header.now inlet }
-    {
-        let ring = Outlets::other_ring_port(inlet);
-        if header.src == self.mac {
-            Outlets::none()
-        } else if header.supervision {
-            ring
-        } else if header.dst == self.mac {
-            Outlets::H
-        } else if is_group(header.dst) {
-            Outlets::H.union(ring)
-        } else {
-            ring
-        }
+        OwnRole::of(mac, DanhRouting)
     }
 }
 
-impl Role for Danh {
-    ghost use Rattle.sr_forwarding.specs.RoleImages.{role_of};
+// Where a frame of the ring goes.
+fn from_ring(mac: Mac, header: &Header, inlet: Port) -> Outlets
+    ensures { result ≡ danh_from_ring (role_of RoleKind.Danh mac) header.now inlet }
+{
+    let ring = Outlets::other_ring_port(inlet);
+    if header.src == mac {
+        Outlets::none()
+    } else if header.supervision {
+        ring
+    } else if header.dst == mac {
+        Outlets::H
+    } else if header.dst.is_group() {
+        Outlets::H.union(ring)
+    } else {
+        ring
+    }
+}
+
+impl Routing for DanhRouting {
     ghost use Rattle.sr_forwarding.specs.declared.role_image.RoleKind.TheVariants as kind;
 
-    ghost meaning = { role_of kind.Danh };
+    ghost routed = { λ _. kind.Danh };
 
-    fn mac(&self) -> Mac {
-        self.mac
-    }
+    ghost alone = { λ _. tt };
 
     fn kind(&self) -> RoleKind {
         RoleKind::Danh
     }
 
-    fn owns(&self, mac: Mac, _now: u64) -> bool {
-        mac == self.mac
-    }
-
-    fn wants(&self, header: &Header, inlet: Port, _now: u64) -> Outlets {
+    fn outlets(&self, mac: Mac, header: &Header, inlet: Port) -> Outlets {
         match inlet {
             Port::H => Outlets::A.union(Outlets::B),
-            Port::A | Port::B => self.from_ring(header, inlet),
+            Port::A | Port::B => from_ring(mac, header, inlet),
             Port::C => Outlets::none(),
         }
-    }
-
-    fn learn(
-        &mut self,
-        _alloc: Global,
-        _header: &Header,
-        _inlet: Port,
-        _now: u64,
-    ) -> Result<Learnt, NoMemory> {
-        Ok(Learnt::Known)
-    }
-
-    fn prune(&mut self, _now: u64) -> usize {
-        0
-    }
-
-    fn image(&self, alloc: Global) -> Result<RoleImage, NoMemory> {
-        Ok(image_of(alloc, RoleKind::Danh, self.mac))
     }
 }

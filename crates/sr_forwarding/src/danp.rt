@@ -4,90 +4,55 @@ ghost use Rattle.std.specs.Prelude.{◌≡◌};
 ghost use Rattle.sr_forwarding.specs.RoleImages.{role_of};
 ghost use Rattle.sr_forwarding.specs.Routes.{danp_from_lan};
 
-use crate::role_parts::{image_of, is_group};
-use crate::{Header, Outlets, Role, RoleImage, RoleKind};
+use crate::{Header, Outlets, OwnRole, RoleKind, Routing};
 use bitflags::Flags;
-use sr_frame::{Learnt, Mac, NoMemory, Port};
-use std::alloc::Global;
-use std::marker::Model;
+use sr_frame::{Mac, Port};
 
 /// A doubly attached node of a PRP network: both LANs bring the host's frames (IEC 62439-3 clause 4).
-#[derive(Drop)]
-pub struct Danp {
-    mac: Mac,
-}
+pub type Danp = OwnRole<DanpRouting>;
 
-impl Model for Danp {
-    ghost use Rattle.sr_frame.specs.declared.fields.Mac.{Mac as Address};
+/// Where frames go at a doubly attached node of a PRP network.
+#[derive(Clone, Copy, Debug, Drop)]
+pub struct DanpRouting;
 
-    ghost Value = { Address };
-
-    ghost view = { λ r. r.mac };
-}
-
-impl Danp {
+impl OwnRole<DanpRouting> {
     /// The role of the node with this address.
     pub fn new(mac: Mac) -> Danp
-        ensures { result ≡ mac }
+        ensures { result.mac ≡ mac }
     {
-        Danp { mac }
-    }
-
-    // Where a frame of a LAN goes.
-    fn from_lan(&self, header: &Header) -> Outlets
-        ensures { result ≡ danp_from_lan (role_of RoleKind.Danp self.now) header.now }
-    {
-        if header.supervision {
-            Outlets::none()
-        } else if header.dst == self.mac || is_group(header.dst) {
-            Outlets::H
-        } else {
-            Outlets::none()
-        }
+        OwnRole::of(mac, DanpRouting)
     }
 }
 
-impl Role for Danp {
-    ghost use Rattle.sr_forwarding.specs.RoleImages.{role_of};
+// Where a frame of a LAN goes.
+fn from_lan(mac: Mac, header: &Header) -> Outlets
+    ensures { result ≡ danp_from_lan (role_of RoleKind.Danp mac) header.now }
+{
+    if header.supervision {
+        Outlets::none()
+    } else if header.dst == mac || header.dst.is_group() {
+        Outlets::H
+    } else {
+        Outlets::none()
+    }
+}
+
+impl Routing for DanpRouting {
     ghost use Rattle.sr_forwarding.specs.declared.role_image.RoleKind.TheVariants as kind;
 
-    ghost meaning = { role_of kind.Danp };
+    ghost routed = { λ _. kind.Danp };
 
-    fn mac(&self) -> Mac {
-        self.mac
-    }
+    ghost alone = { λ _. tt };
 
     fn kind(&self) -> RoleKind {
         RoleKind::Danp
     }
 
-    fn owns(&self, mac: Mac, _now: u64) -> bool {
-        mac == self.mac
-    }
-
-    fn wants(&self, header: &Header, inlet: Port, _now: u64) -> Outlets {
+    fn outlets(&self, mac: Mac, header: &Header, inlet: Port) -> Outlets {
         match inlet {
             Port::H => Outlets::A.union(Outlets::B),
-            Port::A | Port::B => self.from_lan(header),
+            Port::A | Port::B => from_lan(mac, header),
             Port::C => Outlets::none(),
         }
-    }
-
-    fn learn(
-        &mut self,
-        _alloc: Global,
-        _header: &Header,
-        _inlet: Port,
-        _now: u64,
-    ) -> Result<Learnt, NoMemory> {
-        Ok(Learnt::Known)
-    }
-
-    fn prune(&mut self, _now: u64) -> usize {
-        0
-    }
-
-    fn image(&self, alloc: Global) -> Result<RoleImage, NoMemory> {
-        Ok(image_of(alloc, RoleKind::Danp, self.mac))
     }
 }

@@ -10,16 +10,16 @@ mod header;
 mod hsr_framing;
 mod laws;
 mod outlets;
+mod own_role;
 mod parcel;
 mod parcel_view;
 mod plain_framing;
 mod prp_framing;
 mod role;
 mod role_image;
-mod role_parts;
 
-pub use danh::Danh;
-pub use danp::Danp;
+pub use danh::{Danh, DanhRouting};
+pub use danp::{Danp, DanpRouting};
 pub use fault::ReadFault;
 pub use form::Form;
 pub use framing::Framing;
@@ -30,6 +30,7 @@ pub use laws::{
     what_is_written_is_read_again,
 };
 pub use outlets::Outlets;
+pub use own_role::{OwnRole, Routing};
 pub use parcel::Parcel;
 pub use parcel_view::ParcelView;
 pub use plain_framing::{MAX_PLAIN_LEN, PlainFraming};

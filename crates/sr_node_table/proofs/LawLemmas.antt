@@ -1,7 +1,7 @@
 -- The status of an address is that of its hearings.
-use Rattle.std.proofs.Common.{◌≡◌, ℕ, suc, ◌+◌, ◌-◌, ◌<◌, ◌≤◌, max, Bool, true, false, cond, not, ◌&&◌, ◌||◌, nat_lt, List, [], ◌∷◌, ◌++◌, length, filter, Option, None, Some, is_some, refl, sym, ap, ◌∙◌, subst, arith}
-use Rattle.std.specs.List.{list_any, IsDistinct}
-use Rattle.std.specs.Map.{lookup, set_value, keys_of}
+use Rattle.std.proofs.Common.{◌≡◌, ℕ, ◌-◌, ◌<◌, ◌≤◌, max, Bool, true, false, cond, ◌&&◌, ◌||◌, nat_lt, List, [], ◌∷◌, length, Option, None, Some, is_some, refl, sym, ap, ◌∙◌, subst, arith}
+use Rattle.std.specs.List.{IsDistinct}
+use Rattle.std.specs.Map.{lookup, keys_of}
 use Rattle.std.proofs.lemmas.Bool.{ltb-true, lt-ltb}
 use Rattle.sr_frame.specs.declared.fields.Mac.{Mac}
 use Rattle.sr_frame.specs.declared.ports.Port.{Port}
@@ -13,10 +13,10 @@ use Rattle.sr_frame.specs.AddressLemmas.{mac_same}
 use Rattle.sr_slots.specs.Calls.{passing}
 use Rattle.sr_slots.specs.EntryLemmas.{lookup-set, distinct-set, lookup-push, distinct-push, lookup-passing, distinct-passing}
 use Rattle.sr_aged_slots.specs.Ages.{is_recent}
-use Rattle.sr_node_table.specs.Nodes.{Hearing, Entry, Entries, Table, is_live, live_at, with_room, node_after, entry_begun, entry_after, answer_of, answer_to, kept_by, after_answer, after_hearing, empty_table}
+use Rattle.sr_node_table.specs.Nodes.{Hearing, Entry, Table, is_live, live_at, with_room, node_after, entry_begun, entry_after, answer_to, kept_by, after_answer, after_hearing}
 use Rattle.sr_node_table.specs.Watching.{after_prune}
 use Rattle.sr_node_table.specs.Stating.{live_entry, status_if, status_of}
-use Rattle.sr_node_table.specs.Hearings.{is_heard, life_of, node_in, status_by, Event, Hears, Prunes, time_of, table_after, is_kept, hearings_of, AreUpTo, StatusIsOfHearings, HasIsOfHearings}
+use Rattle.sr_node_table.specs.Hearings.{is_heard, life_of, node_in, Event, Hears, Prunes, table_after, is_kept, hearings_of, AreUpTo, StatusIsOfHearings, HasIsOfHearings}
 
 -- what is live later was live before
 live_before : (now later : ℕ) (e : Entry) → now ≤ later → is_live later e ≡ true → is_live now e ≡ true

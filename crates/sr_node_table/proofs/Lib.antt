@@ -1,3 +1,3 @@
 pub mod WatchLemmas
-pub mod FullLemmas
 pub mod LawLemmas
+pub mod SameLemmas

@@ -1,5 +1,5 @@
 -- The alarms and the late ports so far, entry by entry.
-use Rattle.std.proofs.Common.{◌≡◌, ℕ, suc, ◌+◌, ◌-◌, ◌≤◌, ◌<◌, Bool, true, false, cond, List, [], ◌∷◌, ◌++◌, length, drop, Option, None, Some, refl, sym, ap, ◌∙◌, subst, append_assoc, append-nil, arith}
+use Rattle.std.proofs.Common.{◌≡◌, ℕ, suc, ◌+◌, ◌-◌, ◌≤◌, false, cond, List, [], ◌∷◌, ◌++◌, length, drop, Option, None, Some, refl, sym, ap, ◌∙◌, subst, append_assoc, append-nil, arith}
 use Rattle.std.specs.List.{filter_map, cons_option, IsDistinct, AllByRecursion}
 use Rattle.std.specs.Map.{lookup, keys_of}
 use Rattle.std.proofs.lemmas.List.{length-append, length-drop, drop-drop, drop-append-le}
@@ -7,8 +7,8 @@ use Rattle.circular_buffer.specs.Buffer.{Buffer, buffer, keep_last}
 use Rattle.sr_frame.specs.declared.fields.Mac.{Mac}
 use Rattle.sr_frame.specs.declared.ports.Port.{Port}
 use Rattle.sr_frame.specs.Addresses.{mac_eq}
-use Rattle.sr_frame.specs.AddressLemmas.{mac_symm}
 use Rattle.sr_slots.specs.EntryLemmas.{lookup-push}
+use Rattle.sr_aged_slots.specs.GatherLemmas.{cons_is}
 use Rattle.sr_node_table.specs.Watching.{found_late}
 
 module _ {X : Type 0} where
@@ -31,11 +31,6 @@ module _ {X : Type 0} where
   -- where nothing is raised, the last ones stay
   pub keep_last_none : (n : ℕ) (xs : List X) → length xs ≤ n → keep_last n (xs ++ []) ≡ xs
   keep_last_none n xs few = ap (keep_last n) (append-nil xs) ∙ keep_last_all n xs few
-
-  -- one or none, and then the rest
-  pub cons_is : (o : Option X) (ys : List X) → cons_option o ys ≡ cons_option o [] ++ ys
-  cons_is None ys = refl
-  cons_is (Some x) ys = refl
 
 -- what a loop over the entries `all` has raised, once the `rest` is left
 pub record Raises {E X : Type 0} (f : E → Option X) (cap : ℕ) (start : List X) (all : List E) (items : List X) (rest : List E) : Type 0 where
@@ -126,12 +121,10 @@ module _ {V : Type 0} (port_of : Mac × V → Option Port) (all : List (Mac × V
   pub finds_all : (ports : List (Mac × Port)) (room start : ℕ) → Finds ports room start [] → ports ≡ found all
   finds_all ports room start h = sym (append-nil ports) ∙ h.together
 
--- what a loop over the entries has gathered
-pub gathered : {E X : Type 0} (f : E → Option X) (all rest before : List E) (e : E) (items next : List X) → before ≡ e ∷ rest → next ≡ items ++ cons_option (f e) []
-    → items ++ filter_map f before ≡ filter_map f all → next ++ filter_map f rest ≡ filter_map f all
-gathered f all rest before e items next first more h =
-    ap (λ l. l ++ filter_map f rest) more
-    ∙ append_assoc items (cons_option (f e) []) (filter_map f rest)
-    ∙ ap (λ l. items ++ l) (sym (cons_is (f e) (filter_map f rest)))
-    ∙ ap (λ l. items ++ filter_map f l) (sym first)
-    ∙ h
+-- a loop that finds every port late copies them
+found_each : (ps : List (Mac × Port)) → filter_map (λ (p : Mac × Port). found_late p.0 (Some p.1)) ps ≡ ps
+found_each [] = refl
+found_each (p ∷ ps) = ap (λ l. p ∷ l) (found_each ps)
+
+pub finds_each : (all ports : List (Mac × Port)) (room start : ℕ) → Finds (λ p. Some p.1) all ports room start [] → ports ≡ all
+finds_each all ports room start h = finds_all (λ p. Some p.1) all ports room start h ∙ found_each all

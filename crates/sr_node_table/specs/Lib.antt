@@ -4,4 +4,6 @@ pub mod Watching
 pub mod Stating
 pub mod Late
 pub mod Shown
+pub mod Equality
+pub mod EqualityLemmas
 pub mod Hearings

@@ -1,5 +1,5 @@
 -- What a table of nodes has of each, and what a hearing makes of it.
-use Rattle.std.specs.Prelude.{ℕ, ◌≡◌, Bool, true, false, max, nat_lt, not, ◌&&◌, List, [], ◌∷◌, ◌++◌, length, filter, Option, None, Some, is_some, if◌then◌else◌}
+use Rattle.std.specs.Prelude.{ℕ, Bool, max, nat_lt, not, ◌&&◌, List, [], ◌∷◌, ◌++◌, length, filter, Option, None, Some, if◌then◌else◌}
 use Rattle.std.specs.List.{list_any, filter_map}
 use Rattle.std.specs.Map.{lookup, set_value}
 use Rattle.circular_buffer.specs.Buffer.{keep_last}

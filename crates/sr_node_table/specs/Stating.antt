@@ -1,5 +1,5 @@
 -- What is told of a node.
-use Rattle.std.specs.Prelude.{ℕ, ◌-◌, Bool, min, List, Option, None, Some, is_some, map, if◌then◌else◌}
+use Rattle.std.specs.Prelude.{ℕ, ◌-◌, Bool, min, List, Option, None, Some, is_some, if◌then◌else◌}
 use Rattle.std.specs.List.{filter_map}
 use Rattle.std.specs.Map.{lookup}
 use Rattle.sr_frame.specs.Addresses.{mac_eq}

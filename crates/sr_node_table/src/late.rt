@@ -2,6 +2,7 @@
 ghost use Rattle.std.specs.Prelude.{◌≡◌, ◌+◌, ◌<◌, ◌≤◌, ◌++◌, ◌∷◌, [], None, length, IfOk};
 ghost use Rattle.std.specs.Map.{lookup};
 ghost use Rattle.sr_frame.specs.Addresses.{mac_eq};
+ghost use Rattle.sr_node_table.specs.Equality.{same_late};
 
 use indexmap::IndexMap;
 use sr_frame::{Mac, NoMemory, Port};
@@ -33,6 +34,26 @@ impl LatePorts {
         Ok(LatePorts {
             map: IndexMap::with_capacity_and_hasher(alloc, room, keys)?,
         })
+    }
+
+    /// The same ports in the same order, in a map of its own under the same keys, and room for so many in all.
+    /// NoMemory: memory ran out.
+    pub fn try_clone(&self, alloc: Global, room: usize) -> Result<LatePorts, NoMemory>
+        ensures ports { IfOk result (λ own. own.ports ≡ self.now.ports) }
+        ensures room { IfOk result (λ own. room ≤ length own.ports + own.room) }
+    {
+        let mut own = LatePorts::with_room(alloc, *self.map.hasher(), room.max(self.map.len()))?;
+        for (mac, port) in self.map.iter() {
+            own.add(*mac, *port);
+        }
+        Ok(own)
+    }
+
+    /// Whether these are the same ports in the same order.
+    pub fn is_same(&self, other: &LatePorts) -> bool
+        ensures { result ≡ same_late self.now.ports other.now.ports }
+    {
+        self.map.as_slice() == other.map.as_slice()
     }
 
     /// The port of a node that was found late.

@@ -2,6 +2,7 @@
 #![tactic(auto)]
 
 mod alarm;
+mod equality;
 mod late;
 mod laws;
 mod node;
@@ -10,7 +11,7 @@ mod table;
 mod watching;
 
 pub use alarm::Alarm;
-pub use laws::status_is_of_hearings;
+pub use laws::{equal_where_the_tables_are, status_is_of_hearings};
 pub use node::{Announced, AtPort, Node, Told};
 pub use status::{GREATEST_AGE, Status};
 pub use table::{MAX_ALARMS, MAX_NODES, NODE_FORGET_TIME, NodeTable};

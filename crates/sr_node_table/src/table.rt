@@ -10,7 +10,7 @@ ghost use Rattle.sr_node_table.specs.Nodes.{hearing_of, entry_after, learnt_agai
 ghost use Rattle.sr_node_table.specs.Watching.{after_prune};
 ghost use Rattle.sr_node_table.specs.Stating.{live_entry, has_at, status_at, listed_at, live_mac};
 
-use crate::alarm::Alarm;
+use crate::alarm::{Alarm, copy_of};
 use crate::late::LatePorts;
 use crate::node::{Announced, Node, Told, begun, hear, is_live};
 use crate::status::{Status, status_of};
@@ -19,7 +19,7 @@ use circular_buffer::HeapCircularBuffer;
 use sr_aged_slots::{Aged, AgedSlots};
 use sr_frame::{Learnt, Mac, NoMemory, Port};
 use sr_sequence::Seq;
-use sr_slots::Keys;
+use sr_slots::{Iter, Keys};
 use sr_supervision::Supervision;
 use std::alloc::{AllocError, Global};
 use std::marker::Model;
@@ -95,6 +95,43 @@ impl NodeTable {
             alloc,
             keys,
         })
+    }
+
+    /// A table of its own with the same nodes in the same order, the same alarms, and the same ports found late, under the same
+    /// keys. It holds no place. NoMemory: memory ran out.
+    pub fn try_clone(&self) -> Result<NodeTable, NoMemory>
+        ensures table { IfOk result (λ own. own.table ≡ self.now.table) }
+        ensures held { IfOk result (λ own. own.held ≡ []) }
+    {
+        Ok(NodeTable {
+            nodes: self.nodes.try_clone(self.alloc)?,
+            alarms: copy_of(&self.alarms, self.alloc)?,
+            late: self.late.try_clone(self.alloc, MAX_NODES)?,
+            spare: LatePorts::with_room(self.alloc, self.keys, MAX_NODES)?,
+            alloc: self.alloc,
+            keys: self.keys,
+        })
+    }
+
+    // The entries in order.
+    pub(crate) fn entries(&self) -> Iter<'_, Aged<Node>>
+        ensures { result ≡ self.now.table.entries }
+    {
+        self.nodes.iter()
+    }
+
+    // The alarms that are kept.
+    pub(crate) fn kept_alarms(&self) -> &HeapCircularBuffer<Alarm>
+        ensures { result.now.items ≡ self.now.table.alarms }
+    {
+        &self.alarms
+    }
+
+    // What the previous prune found late.
+    pub(crate) fn late_ports(&self) -> &LatePorts
+        ensures { result.now.ports ≡ self.now.table.late }
+    {
+        &self.late
     }
 
     // What the table has of a node that is not forgotten.

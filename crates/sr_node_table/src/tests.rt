@@ -32,6 +32,8 @@ enum Step {
     Alarms(usize, Option<Alarm>, Option<Alarm>),
     Reserve(u16, Option<u16>),
     Release,
+    // A clone is equal; and after a prune at this time it is so still, or not.
+    Clones(u64, bool),
 }
 
 const fn mac(number: u16) -> Mac {
@@ -145,6 +147,24 @@ fn alarms_are(table: &NodeTable, count: usize, first: Option<Alarm>, last: Optio
     false
 }
 
+fn cloned(table: &NodeTable) -> Option<NodeTable> {
+    for _ in 0..8u8 {
+        if let Ok(own) = table.try_clone() {
+            return Some(own);
+        }
+    }
+    None
+}
+
+fn clones(table: &NodeTable, now: u64, want: bool) -> bool {
+    let Some(mut own) = cloned(table) else {
+        return false;
+    };
+    let was_equal = own == *table;
+    let _gone = own.prune(now);
+    was_equal && (own == *table) == want
+}
+
 fn holds(table: &mut NodeTable, step: Step) -> bool {
     match step {
         Step::Heard(node, at, seq, now, want) => heard(table, node, at, seq, now) == Some(want),
@@ -165,6 +185,7 @@ fn holds(table: &mut NodeTable, step: Step) -> bool {
             table.release();
             true
         }
+        Step::Clones(now, want) => clones(table, now, want),
     }
 }
 
@@ -373,6 +394,28 @@ fn places(rt: HostRuntime) {
         Step::Release,
         Step::Heard(5, At::A, 1, 0, Learnt::Learned),
         Step::Lists(0, &[7, 6, 5]),
+    ];
+    assert_eq!(rt; differs(rt.alloc(), &steps), None);
+}
+
+// A clone has the entries, the alarms and what was found late, and no held place. What a table holds doesn't count, and what it
+// found late does: at 5000 no port is late any more, and nothing else differs.
+#[test]
+fn clones_are_equal(rt: HostRuntime) {
+    let steps = [
+        Step::Clones(0, true),
+        Step::Heard(2, At::A, 5, 0, Learnt::Learned),
+        Step::Announce(3, Some(2), At::B, 0, Learnt::Learned),
+        Step::Reserve(9, None),
+        Step::Clones(0, false),
+        Step::Prune(0, 0),
+        Step::Alarms(2, ring_error(2, Port::B, 0), ring_error(3, Port::A, 0)),
+        Step::Clones(0, true),
+        Step::Clones(4499, true),
+        Step::Clones(4500, false),
+        Step::Prune(5000, 0),
+        Step::Clones(5000, true),
+        Step::Clones(60000, false),
     ];
     assert_eq!(rt; differs(rt.alloc(), &steps), None);
 }

@@ -1,5 +1,5 @@
 -- The addresses that a RedBox stands for, and when each was learned last.
-use Rattle.std.specs.Prelude.{ℕ, Bool, not, ◌&&◌, max, nat_lt, List, [], ◌∷◌, ◌++◌, length, filter, Option, None, Some, is_some, if◌then◌else◌}
+use Rattle.std.specs.Prelude.{ℕ, Bool, not, ◌&&◌, max, nat_lt, List, [], ◌∷◌, ◌++◌, length, filter, map, Option, None, Some, is_some, if◌then◌else◌}
 use Rattle.std.specs.List.{filter_map}
 use Rattle.std.specs.Map.{lookup, set_value}
 use Rattle.sr_frame.specs.Addresses.{mac_eq}
@@ -24,6 +24,10 @@ Entry = Aged Proxied
 
 abbrev pub Entries : Type 0
 Entries = List (Mac × Entry)
+
+-- each address with that time
+abbrev pub times_of : Entries → List (Mac × ℕ)
+times_of s = map (λ e. (e.0, e.1.time)) s
 
 abbrev pub learned_at : ℕ → Entry
 learned_at now = record { value = record {}; time = now }

@@ -3,7 +3,7 @@ ghost use Rattle.std.specs.Prelude.{◌≡◌, ◌↔◌, ◌≤◌, ◌+◌, []
 ghost use Rattle.std.specs.List.{cons_option};
 ghost use Rattle.std.specs.Map.{lookup};
 ghost use Rattle.sr_frame.specs.Addresses.{mac_eq};
-ghost use Rattle.sr_proxy_table.specs.Proxied.{most_proxied, is_live, live_at, live_others, has_at, learned_again, learnt_again, answer_to, after_learning, live_mac, listed_at};
+ghost use Rattle.sr_proxy_table.specs.Proxied.{most_proxied, is_live, live_at, live_others, has_at, learned_again, learnt_again, times_of, answer_to, after_learning, live_mac, listed_at};
 
 use sr_aged_slots::{Aged, AgedSlots};
 use sr_frame::{Learnt, Mac, NoMemory};
@@ -108,7 +108,8 @@ impl ProxyTable {
         ensures answer { IfOk result (λ learnt. learnt ≡ answer_to self.old mac now) }
         ensures after { OnOk result (self.new ≡ after_learning self.old mac now) }
 
-        // Full exactly where 256 others are live. An address that has an entry takes no memory.
+        // There are never more. Full exactly where 256 others are live. An address that has an entry takes no memory.
+        ensures few { length self.old ≤ most_proxied }
         ensures full { (result ≡ Ok Learnt.Full) ↔ (length (live_others mac now self.old) ≡ most_proxied) }
         ensures known { is_some (lookup (mac_eq mac) self.old) ≡ true → IsOk result }
         ensures err { OnErr result (self.new ≡ self.old) }
@@ -170,5 +171,18 @@ impl ProxyTable {
             push_live(&mut macs, mac, entry, now)?;
         }
         Ok(macs)
+    }
+
+    /// The addresses in the order of their first learning, the forgotten ones among them, each with the time of its last learning.
+    pub fn times(&self) -> Result<Vec<(Mac, u64)>, NoMemory>
+        ensures { IfOk result (λ times. times.items ≡ times_of self.now) }
+    {
+        let mut times = Vec::new(self.alloc);
+        for (mac, entry) in self.slots.iter() {
+            if let Err(e) = times.push((mac, entry.time)) {
+                return Err(AllocError::from(e).into());
+            }
+        }
+        Ok(times)
     }
 }

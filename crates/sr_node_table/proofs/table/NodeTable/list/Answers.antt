@@ -1,5 +1,5 @@
 use Rattle.sr_node_table.specs.Stating.{live_mac}
-use Rattle.sr_node_table.proofs.WatchLemmas.{gathered}
+use Rattle.sr_aged_slots.specs.GatherLemmas.{gathered}
 use Rattle.sr_node_table.proofs.table.NodeTable.list.Goals as goal
 
 pub loop-mac-preserved : goal.loop-mac-preserved

@@ -1,4 +1,4 @@
-use Rattle.std.proofs.Common.{◌≡◌, ◌∙◌, ◌≤◌, ◌<◌, sym, ap, subst, true, cond, nat_lt, length, [], arith}
+use Rattle.std.proofs.Common.{◌≡◌, ◌∙◌, ◌≤◌, sym, ap, subst, true, cond, nat_lt, length, [], arith}
 use Rattle.std.proofs.lemmas.Bool.{lt-ltb}
 use Rattle.sr_node_table.specs.Nodes.{Nodes, downs_of, downs_at, raised}
 use Rattle.sr_node_table.proofs.WatchLemmas.{keep_last_none}

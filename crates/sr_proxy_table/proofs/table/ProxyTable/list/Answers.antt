@@ -1,5 +1,5 @@
 use Rattle.sr_proxy_table.specs.Proxied.{live_mac}
-use Rattle.sr_proxy_table.proofs.FullLemmas.{gathered}
+use Rattle.sr_aged_slots.specs.GatherLemmas.{gathered}
 use Rattle.sr_proxy_table.proofs.table.ProxyTable.list.Goals as goal
 
 pub loop-mac-preserved : goal.loop-mac-preserved

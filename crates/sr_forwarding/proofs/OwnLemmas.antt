@@ -1,0 +1,25 @@
+-- A role that stands for its own address alone learns nothing.
+use Rattle.std.proofs.Common.{◌≡◌, ℕ, refl}
+use Rattle.sr_frame.specs.declared.fields.Mac.{Mac}
+use Rattle.sr_frame.specs.declared.ports.Port.{Port}
+use Rattle.sr_frame.specs.declared.learnt.Learnt.TheVariants.{Known}
+use Rattle.sr_forwarding.specs.declared.header.Header.{Header}
+use Rattle.sr_forwarding.specs.declared.role_image.RoleKind.{RoleKind}
+use Rattle.sr_forwarding.specs.declared.role_image.RoleKind.TheVariants.{Danp, Danh, San, Prp, Hsr}
+use Rattle.sr_forwarding.specs.RoleImages.{role_of}
+use Rattle.sr_forwarding.specs.Proxies.{learned, learnt}
+use Rattle.sr_forwarding.specs.OwnRoles.{StandsAlone}
+
+pub knows_all : (kind : RoleKind) (mac : Mac) (h : Header) (inlet : Port) (now : ℕ) → StandsAlone kind → Known ≡ learnt (role_of kind mac) h inlet now
+knows_all Danp mac h inlet now alone = refl
+knows_all Danh mac h inlet now alone = refl
+knows_all San mac h inlet now alone = absurd alone
+knows_all (Prp lan net) mac h inlet now alone = refl
+knows_all Hsr mac h inlet now alone = refl
+
+pub learns_none : (kind : RoleKind) (mac : Mac) (h : Header) (inlet : Port) (now : ℕ) → StandsAlone kind → role_of kind mac ≡ learned (role_of kind mac) h inlet now
+learns_none Danp mac h inlet now alone = refl
+learns_none Danh mac h inlet now alone = refl
+learns_none San mac h inlet now alone = absurd alone
+learns_none (Prp lan net) mac h inlet now alone = refl
+learns_none Hsr mac h inlet now alone = refl

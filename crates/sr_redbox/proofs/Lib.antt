@@ -1,0 +1,2 @@
+pub mod SanLemmas
+pub mod NetLemmas

@@ -1,0 +1,3 @@
+pub mod SanBoxes
+pub mod Interlinks
+pub mod Nets

@@ -1,0 +1,158 @@
+//! Nodes over boxes: octets in at the ports, octets out.
+
+use crate::node_steps::{Kind, Sent, Step, differs_after_exchange, first_wrong};
+use sr_forwarding::Port;
+use sr_frame::Mac;
+use sr_prp_trailer::Lan;
+
+const GROUP: Mac = Mac([0xff; 6]);
+
+const M2: Mac = Mac([2, 0, 0, 0, 0, 2]);
+
+const M3: Mac = Mac([2, 0, 0, 0, 0, 3]);
+
+const M4: Mac = Mac([2, 0, 0, 0, 0, 4]);
+
+const M5: Mac = Mac([2, 0, 0, 0, 0, 5]);
+
+const M8: Mac = Mac([2, 0, 0, 0, 0, 8]);
+
+const M9: Mac = Mac([2, 0, 0, 0, 0, 9]);
+
+// A plain frame at the interlink takes the node's next number, and goes out with it both ways; its copy that comes round goes
+// nowhere. What is for a proxied node goes to the interlink alone.
+const SAN: &[Step] = &[
+    Step::In(
+        Port::C,
+        Sent::Plain(GROUP, M9),
+        0,
+        &[Port::H, Port::A, Port::B],
+    ),
+    Step::Out(Port::H, Sent::Plain(GROUP, M9)),
+    Step::Out(Port::A, Sent::Tagged(GROUP, M9, 0, 0xfbff)),
+    Step::Out(Port::B, Sent::Tagged(GROUP, M9, 1, 0xfbff)),
+    Step::In(Port::B, Sent::Tagged(GROUP, M9, 0, 0xfbff), 1, &[]),
+    Step::In(Port::C, Sent::Plain(M9, M8), 2, &[]),
+    Step::In(Port::A, Sent::Tagged(M9, M2, 0, 5), 3, &[Port::C]),
+    Step::Out(Port::C, Sent::Plain(M9, M2)),
+];
+
+// A group frame of the ring goes on, up and to the interlink. Its source is proxied once it is heard there.
+const SAN_MOVES: &[Step] = &[
+    Step::In(
+        Port::A,
+        Sent::Tagged(GROUP, M9, 0, 1),
+        0,
+        &[Port::H, Port::B, Port::C],
+    ),
+    Step::Out(Port::H, Sent::Plain(GROUP, M9)),
+    Step::Out(Port::B, Sent::Tagged(GROUP, M9, 0, 1)),
+    Step::Out(Port::C, Sent::Plain(GROUP, M9)),
+    Step::In(Port::C, Sent::Plain(M8, M9), 2, &[Port::A, Port::B]),
+    Step::Out(Port::A, Sent::Tagged(M8, M9, 0, 0xfbff)),
+    Step::Out(Port::B, Sent::Tagged(M8, M9, 1, 0xfbff)),
+    Step::In(Port::B, Sent::Tagged(M9, M2, 1, 5), 3, &[Port::C]),
+    Step::Out(Port::C, Sent::Plain(M9, M2)),
+];
+
+// A node is proxied for 60000 ms.
+const SAN_FORGETS: &[Step] = &[
+    Step::In(Port::C, Sent::Plain(M8, M9), 0, &[Port::A, Port::B]),
+    Step::Tick(59999, 0),
+    Step::In(Port::A, Sent::Tagged(M9, M2, 0, 5), 59999, &[Port::C]),
+    Step::Tick(60000, 1),
+    Step::In(
+        Port::B,
+        Sent::Tagged(M2, M9, 0, 6),
+        60000,
+        &[Port::A, Port::C],
+    ),
+];
+
+// With 256 others proxied, the group frame of one more goes out all the same, and its copy that comes round goes nowhere.
+const SAN_FULL: &[Step] = &[
+    Step::Sans(256),
+    Step::In(
+        Port::C,
+        Sent::Plain(GROUP, M9),
+        0,
+        &[Port::H, Port::A, Port::B],
+    ),
+    Step::Out(Port::B, Sent::Tagged(GROUP, M9, 1, 0xfcff)),
+    Step::In(Port::B, Sent::Tagged(GROUP, M9, 0, 0xfcff), 0, &[]),
+    Step::Tick(60000, 256),
+];
+
+#[test]
+fn a_node_for_sans(rt: HostRuntime) {
+    assert_eq!(rt; first_wrong(rt.alloc(), Kind::San, SAN), None);
+    assert_eq!(rt; first_wrong(rt.alloc(), Kind::San, SAN_MOVES), None);
+    assert_eq!(rt; first_wrong(rt.alloc(), Kind::San, SAN_FORGETS), None);
+    assert_eq!(rt; first_wrong(rt.alloc(), Kind::San, SAN_FULL), None);
+}
+
+// A frame of the LAN keeps its number, and gets a path that names the network and the LAN. A frame of the same network stays
+// off the interlink, one of another network gets a trailer there. The other LAN's trailer is counted.
+const PRP: &[Step] = &[
+    Step::In(
+        Port::C,
+        Sent::Trailed(M3, M2, 5, 0xa0),
+        0,
+        &[Port::A, Port::B],
+    ),
+    Step::Out(Port::A, Sent::Tagged(M3, M2, 2, 5)),
+    Step::Out(Port::B, Sent::Tagged(M3, M2, 2, 5)),
+    Step::In(Port::A, Sent::Tagged(M3, M4, 3, 5), 0, &[Port::B]),
+    Step::Out(Port::B, Sent::Tagged(M3, M4, 3, 5)),
+    Step::In(Port::A, Sent::Tagged(M3, M4, 4, 6), 0, &[Port::B, Port::C]),
+    Step::Out(Port::B, Sent::Tagged(M3, M4, 4, 6)),
+    Step::Out(Port::C, Sent::Trailed(M3, M4, 6, 0xa0)),
+    Step::WrongLan(Port::C, 0),
+    Step::In(
+        Port::C,
+        Sent::Trailed(M3, M2, 6, 0xb0),
+        0,
+        &[Port::A, Port::B],
+    ),
+    Step::WrongLan(Port::C, 1),
+];
+
+#[test]
+fn a_node_for_a_lan(rt: HostRuntime) {
+    assert_eq!(rt; first_wrong(rt.alloc(), Kind::Prp(Lan::A), PRP), None);
+}
+
+// Frames go from ring to ring with their octets, and none comes back.
+const HSR: &[Step] = &[
+    Step::In(Port::C, Sent::Tagged(M3, M4, 0, 5), 0, &[Port::A, Port::B]),
+    Step::Out(Port::A, Sent::Tagged(M3, M4, 0, 5)),
+    Step::Out(Port::B, Sent::Tagged(M3, M4, 0, 5)),
+    Step::In(Port::A, Sent::Tagged(M3, M4, 0, 5), 1, &[]),
+    Step::In(Port::A, Sent::Tagged(M3, M5, 0, 6), 2, &[Port::B, Port::C]),
+    Step::Out(Port::B, Sent::Tagged(M3, M5, 0, 6)),
+    Step::Out(Port::C, Sent::Tagged(M3, M5, 0, 6)),
+];
+
+#[test]
+fn a_node_between_rings(rt: HostRuntime) {
+    assert_eq!(rt; first_wrong(rt.alloc(), Kind::Hsr, HSR), None);
+}
+
+// A node of a ring becomes a box for nodes without redundancy: copies of what it noted go nowhere where it went.
+const BEFORE: &[Step] = &[Step::In(
+    Port::A,
+    Sent::Tagged(GROUP, M2, 0, 7),
+    0,
+    &[Port::H, Port::B],
+)];
+
+const AFTER: &[Step] = &[
+    Step::In(Port::A, Sent::Tagged(GROUP, M2, 0, 7), 0, &[Port::C]),
+    Step::In(Port::B, Sent::Tagged(GROUP, M2, 1, 7), 0, &[Port::A]),
+    Step::In(Port::B, Sent::Tagged(GROUP, M2, 1, 7), 0, &[]),
+];
+
+#[test]
+fn a_node_becomes_a_box(rt: HostRuntime) {
+    assert_eq!(rt; differs_after_exchange(rt.alloc(), BEFORE, AFTER), None);
+}
