@@ -94,6 +94,19 @@ fn send<R: Role>(
     node.step(&Event::Send { frame, now: time })
 }
 
+/// Time passes.
+fn tick<R: Role>(node: &mut NodeOf<R>, now: u64) -> Result<Answer, StepFault>
+    ensures taken { IfOk result (λ a. Step (node_state (R.meaning node.old.role) node.old.core)
+        (event.Tick now) a (node_state (R.meaning node.new.role) node.new.core)) }
+    ensures ok { OnOk result (refusal_of (node_state (R.meaning node.old.role) node.old.core) (event.Tick now) ≡ None) }
+    ensures refused { IfErr result (λ f. f ≡ or_no_memory
+        (refusal_of (node_state (R.meaning node.old.role) node.old.core) (event.Tick now))) }
+    ensures same { OnErr result (node_state (R.meaning node.new.role) node.new.core
+        ≡ node_state (R.meaning node.old.role) node.old.core) }
+{
+    node.step(&Event::Tick { now })
+}
+
 /// Appends the line for an event that is refused for this reason.
 fn tell_refusal(text: &mut Vec<u8>, number: u64, fault: StepFault) -> Result<(), Word>
     requires { text.old.items ≡ [] }
@@ -131,7 +144,7 @@ fn obey<R: Role>(
             Ok(_) => Ok(()),
             Err(fault) => tell_refusal(text, number, fault),
         },
-        Command::Tick(now) => match node.step(&Event::Tick { now }) {
+        Command::Tick(now) => match tick(node, now) {
             Ok(_) => Ok(()),
             Err(fault) => tell_refusal(text, number, fault),
         },
@@ -154,12 +167,12 @@ pub(crate) fn answer<R: Role>(
     requires { text.old.items ≡ [] }
     ensures ok { OnOk result (Replied role (node_state (R.meaning node.old.role) node.old.core) number line.now
         text.new.items (node_state (R.meaning node.new.role) node.new.core)) }
-    ensures known { OnOk result (IsEventLine line.now) }
-    ensures bad { result ≡ Err Word.Line → IsEventLine line.now → ⊥ }
-    ensures memory { result ≡ Err Word.Memory → IsEventLine line.now }
+    ensures known { OnOk result (IsEventLine role line.now) }
+    ensures bad { result ≡ Err Word.Line → IsEventLine role line.now → ⊥ }
+    ensures memory { result ≡ Err Word.Memory → IsEventLine role line.now }
     ensures fault { IfErr result (λ word. IsOneOf word (Word.Line ∷ Word.Memory ∷ [])) }
 {
-    let command = command_of(line, octets)?;
+    let command = command_of(role, line, octets)?;
     obey(alloc, role, node, number, command, octets, text)?;
     append_outlets(role, node, octets, text)?;
     Ok(())

@@ -1,8 +1,8 @@
 //! Traffic and ticks.
 
+use crate::runs::At;
 use crate::steps::{Step, expect_steps};
 use crate::texts::Part::{These, Times};
-use sr_script::RoleName;
 
 /// The digits of a frame from 02:00:00:00:00:02 of type 0800 for the node, up to its payload.
 const HEAD: &[u8] = b"0200000000010200000000020800";
@@ -242,7 +242,7 @@ fn ticks_print_life_checks(rt: HostRuntime) {
 
 // With the Nth allocation refused, for any N.
 const TAKEN_UP: &[Step] = &[Step::TakenUp(
-    RoleName::Danp,
+    At::Danp,
     b"in A 0 00\nin A 0 02000000000102000000000208005c\ntick 0\nin B 0 00\n",
     &[
         b"refused 1 TooShort\n",

@@ -1,8 +1,8 @@
 //! A ring node, and frames of its host.
 
+use crate::runs::At;
 use crate::steps::{Step, expect_steps};
 use crate::texts::Part::{These, Times};
-use sr_script::RoleName;
 
 /// The digits of an octet 0, and of any other.
 const ZERO: &[u8] = b"00";
@@ -291,7 +291,7 @@ fn frames_go_round_the_ring_once(rt: HostRuntime) {
 
 // With the Nth allocation refused, for any N.
 const TAKEN_UP: &[Step] = &[Step::TakenUp(
-    RoleName::Danh,
+    At::Danh,
     b"in A 0 00\nsend 0 ffffffffffff0200000000010800\nin A 1 ffffffffffff020000000002892f003400070800000000000000000000000000000000000000000000000000\
         00000000000000000000000000000000000000000000\ntick 1\nin B 2 00\n",
     &[
