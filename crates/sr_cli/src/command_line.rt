@@ -45,18 +45,12 @@ impl From<AllocError> for Refused {
     }
 }
 
-/// The roles of a node, as words.
-const ROLES: [&str; 5] = ["danp", "danh", "san", "prp", "hsr"];
-
-/// The numbers of PRP networks at a ring.
-const NETS: [&str; 6] = ["1", "2", "3", "4", "5", "6"];
-
 /// What the parser knows of `seamless replay --role danp|danh|san|prp|hsr --mac M [--lan a|b] [--net 1..6]`, and of scripts.
 fn command<'a>(alloc: Global) -> Result<Command<'a>, AllocError> {
     let role = Arg::new(alloc, "role")
         .long("role")
         .required(true)
-        .value_parser(ROLES.as_slice())
+        .value_parser(["danp", "danh", "san", "prp", "hsr"].as_slice())
         .help("The role of the node");
     let mac = Arg::new(alloc, "mac")
         .long("mac")
@@ -70,7 +64,7 @@ fn command<'a>(alloc: Global) -> Result<Command<'a>, AllocError> {
     let net = Arg::new(alloc, "net")
         .long("net")
         .default_value("1")
-        .value_parser(NETS.as_slice())
+        .value_parser(["1", "2", "3", "4", "5", "6"].as_slice())
         .help("The number of the PRP network at the interlink, of role prp");
     let replay = Command::new(alloc, "replay")
         .about("Prints the frames that the node hands out")
@@ -108,7 +102,7 @@ fn net_of(word: &str) -> u8
 }
 
 /// The network at the interlink.
-fn network_of(replay: &ArgMatches) -> PrpRouting {
+fn network_of(replay: &ArgMatches<'_>) -> PrpRouting {
     let lan = match replay.get_str("lan") {
         Some("b") => Lan::B,
         _ => Lan::A,
@@ -118,7 +112,7 @@ fn network_of(replay: &ArgMatches) -> PrpRouting {
 }
 
 /// The role that the parser let through.
-fn role_of(replay: &ArgMatches) -> RoleName {
+fn role_of(replay: &ArgMatches<'_>) -> RoleName {
     match replay.get_str("role") {
         Some("danh") => RoleName::Danh,
         Some("san") => RoleName::San,

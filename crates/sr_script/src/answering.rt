@@ -94,19 +94,6 @@ fn send<R: Role>(
     node.step(&Event::Send { frame, now: time })
 }
 
-/// Time passes.
-fn tick<R: Role>(node: &mut NodeOf<R>, now: u64) -> Result<Answer, StepFault>
-    ensures taken { IfOk result (λ a. Step (node_state (R.meaning node.old.role) node.old.core)
-        (event.Tick now) a (node_state (R.meaning node.new.role) node.new.core)) }
-    ensures ok { OnOk result (refusal_of (node_state (R.meaning node.old.role) node.old.core) (event.Tick now) ≡ None) }
-    ensures refused { IfErr result (λ f. f ≡ or_no_memory
-        (refusal_of (node_state (R.meaning node.old.role) node.old.core) (event.Tick now))) }
-    ensures same { OnErr result (node_state (R.meaning node.new.role) node.new.core
-        ≡ node_state (R.meaning node.old.role) node.old.core) }
-{
-    node.step(&Event::Tick { now })
-}
-
 /// Appends the line for an event that is refused for this reason.
 fn tell_refusal(text: &mut Vec<u8>, number: u64, fault: StepFault) -> Result<(), Word>
     requires { text.old.items ≡ [] }
@@ -144,7 +131,7 @@ fn obey<R: Role>(
             Ok(_) => Ok(()),
             Err(fault) => tell_refusal(text, number, fault),
         },
-        Command::Tick(now) => match tick(node, now) {
+        Command::Tick(now) => match node.step(&Event::Tick { now }) {
             Ok(_) => Ok(()),
             Err(fault) => tell_refusal(text, number, fault),
         },
