@@ -1,10 +1,13 @@
 //! The command line.
 
+ghost use Rattle.std.specs.Prelude.{◌<◌, ◌≤◌};
+
 use crate::script_line::{ScriptTask, script_command, script_task};
-use clap::{Arg, Command, Error};
+use clap::{Arg, ArgMatches, Command, Error};
 use hex::FromHex;
 use sr_frame::Mac;
-use sr_script::{RoleName, Setup};
+use sr_prp_trailer::Lan;
+use sr_script::{PrpRouting, RoleName, Setup};
 use sr_slots::Keys;
 use std::alloc::{AllocError, Global};
 use std::fmt;
@@ -42,21 +45,33 @@ impl From<AllocError> for Refused {
     }
 }
 
-/// What the parser knows: `seamless replay --role danp|danh --mac M`.
+/// What the parser knows of `seamless replay --role danp|danh|san|prp|hsr --mac M [--lan a|b] [--net 1..6]`, and of scripts.
 fn command<'a>(alloc: Global) -> Result<Command<'a>, AllocError> {
     let role = Arg::new(alloc, "role")
         .long("role")
         .required(true)
-        .value_parser(["danp", "danh"].as_slice())
+        .value_parser(["danp", "danh", "san", "prp", "hsr"].as_slice())
         .help("The role of the node");
     let mac = Arg::new(alloc, "mac")
         .long("mac")
         .required(true)
         .help("The address of the node, 12 hexadecimal digits");
+    let lan = Arg::new(alloc, "lan")
+        .long("lan")
+        .default_value("a")
+        .value_parser(["a", "b"].as_slice())
+        .help("The LAN at the interlink, of role prp");
+    let net = Arg::new(alloc, "net")
+        .long("net")
+        .default_value("1")
+        .value_parser(["1", "2", "3", "4", "5", "6"].as_slice())
+        .help("The number of the PRP network at the interlink, of role prp");
     let replay = Command::new(alloc, "replay")
         .about("Prints the frames that the node hands out")
         .arg(role)?
-        .arg(mac)?;
+        .arg(mac)?
+        .arg(lan)?
+        .arg(net)?;
     Command::new(alloc, "seamless")
         .bin_name("seamless")?
         .about("Runs a script of events on a node of a redundant network")
@@ -71,10 +86,38 @@ fn mac_of(digits: &str) -> Option<Mac> {
     Some(Mac(octets))
 }
 
-/// The role of a word that the parser let through.
-fn role_of(word: &str) -> RoleName {
+/// The number of a network, of a word that the parser let through.
+fn net_of(word: &str) -> u8
+    ensures least { 0 < result }
+    ensures most { result ≤ 6 }
+{
     match word {
-        "danh" => RoleName::Danh,
+        "2" => 2,
+        "3" => 3,
+        "4" => 4,
+        "5" => 5,
+        "6" => 6,
+        _ => 1,
+    }
+}
+
+/// The network at the interlink.
+fn network_of(replay: &ArgMatches<'_>) -> PrpRouting {
+    let lan = match replay.get_str("lan") {
+        Some("b") => Lan::B,
+        _ => Lan::A,
+    };
+    let net = replay.get_str("net").map_or(1, net_of);
+    PrpRouting { lan, net }
+}
+
+/// The role that the parser let through.
+fn role_of(replay: &ArgMatches<'_>) -> RoleName {
+    match replay.get_str("role") {
+        Some("danh") => RoleName::Danh,
+        Some("san") => RoleName::San,
+        Some("prp") => RoleName::Prp(network_of(replay)),
+        Some("hsr") => RoleName::Hsr,
         _ => RoleName::Danp,
     }
 }
@@ -100,16 +143,12 @@ pub fn task_of<'a>(alloc: Global, words: &'a [String]) -> Result<Task<'a>, Refus
             Err(name) => Err(Refused::Option(name)),
         };
     }
-    let replay = matches.subcommand_matches("replay");
-    let role = replay
-        .and_then(|replay| replay.get_str("role"))
-        .map_or(RoleName::Danp, role_of);
-    let mac = replay
-        .and_then(|replay| replay.get_str("mac"))
-        .and_then(mac_of);
-    match mac {
+    let Some(replay) = matches.subcommand_matches("replay") else {
+        return Err(Refused::Mac);
+    };
+    match replay.get_str("mac").and_then(mac_of) {
         Some(mac) => Ok(Task::Replay(Setup {
-            role,
+            role: role_of(replay),
             mac,
             keys: Keys::FIXED,
         })),

@@ -82,7 +82,7 @@ whole_at_limit d start (Some xs) (Some ys) held now s n m e h k =
 
 -- the run ends at line n
 ends_here : {S : Type 0} (d : Dialogue S) (start : S) (xs ys : List ℕ) (rest held now later : Option (List ℕ)) (s : S) (f : Fault)
-    → Going d start (Some xs) (Some ys) held now s f.line → KeepsUnless f.word now later → HasFault d f.line f.word (lines_of ys) rest
+    → Going d start (Some xs) (Some ys) held now s f.line → KeepsUnless f.word now later → HasFault d s f.line f.word (lines_of ys) rest
     → EndsAt d start (lines_of xs) f rest held later
 ends_here d start xs ys rest held now later s f h kept reason = record {
   before = h.0;
@@ -90,39 +90,40 @@ ends_here d start xs ys rest held now later s f h kept reason = record {
   parted = h.2;
   number = h.3;
   then_held = now;
-  answered = (h.1, s, h.4, h.5);
+  reached = s;
+  answered = (h.1, h.4, h.5);
   kept = kept;
   reason = reason;
 }
 
-fault_of_line : {S : Type 0} (d : Dialogue S) (w : Word) (n : ℕ) (ys : List ℕ) (rest : Option (List ℕ)) → n ≤ 1000000 → HasFailed d w (Some ys) rest
-    → HasFault d n w (lines_of ys) rest
-fault_of_line d word.Line n ys None small h = absurd h.1
-fault_of_line d word.Line n ys (Some zs) small h =
-    subst (λ (l : List (List ℕ)). HasFault d n word.Line l (Some zs)) (sym h.1) (record { count = small; short = h.2 }, h.3)
-fault_of_line d word.Long n ys rest small h = subst (λ (l : List (List ℕ)). HasFault d n word.Long l rest) (sym h.2) (inr h.3)
-fault_of_line d word.Read n ys None small h = absurd h.1
-fault_of_line d word.Read n ys (Some zs) small h = (h.0, ap lines_of h.1, h.2, h.3)
-fault_of_line d word.Write n ys None small h = absurd h.1
-fault_of_line d word.Write n ys (Some zs) small h =
-    subst (λ (l : List (List ℕ)). HasFault d n word.Write l (Some zs)) (sym h.1) (record { count = small; short = h.2 }, h.3)
-fault_of_line d word.Memory n ys None small h = absurd h.1
-fault_of_line d word.Memory n ys (Some zs) small h =
-    subst (λ (l : List (List ℕ)). HasFault d n word.Memory l (Some zs)) (sym h.1) (record { count = small; short = h.2 }, h.3)
+fault_of_line : {S : Type 0} (d : Dialogue S) (s : S) (w : Word) (n : ℕ) (ys : List ℕ) (rest : Option (List ℕ)) → n ≤ 1000000 → HasFailed d s w (Some ys) rest
+    → HasFault d s n w (lines_of ys) rest
+fault_of_line d s word.Line n ys None small h = absurd h.1
+fault_of_line d s word.Line n ys (Some zs) small h =
+    subst (λ (l : List (List ℕ)). HasFault d s n word.Line l (Some zs)) (sym h.1) (record { count = small; short = h.2 }, h.3)
+fault_of_line d s word.Long n ys rest small h = subst (λ (l : List (List ℕ)). HasFault d s n word.Long l rest) (sym h.2) (inr h.3)
+fault_of_line d s word.Read n ys None small h = absurd h.1
+fault_of_line d s word.Read n ys (Some zs) small h = (h.0, ap lines_of h.1, h.2, h.3)
+fault_of_line d s word.Write n ys None small h = absurd h.1
+fault_of_line d s word.Write n ys (Some zs) small h =
+    subst (λ (l : List (List ℕ)). HasFault d s n word.Write l (Some zs)) (sym h.1) (record { count = small; short = h.2 }, h.3)
+fault_of_line d s word.Memory n ys None small h = absurd h.1
+fault_of_line d s word.Memory n ys (Some zs) small h =
+    subst (λ (l : List (List ℕ)). HasFault d s n word.Memory l (Some zs)) (sym h.1) (record { count = small; short = h.2 }, h.3)
 
 pub ends_failed : {S : Type 0} (d : Dialogue S) (start : S) (left mid rest held now later : Option (List ℕ)) (s : S) (f : Fault) → f.line ≤ 1000000
-    → Going d start left mid held now s f.line → Failed d f.word mid rest now later → IfSome left (λ input. EndsAt d start (lines_of input) f rest held later)
+    → Going d start left mid held now s f.line → Failed d s f.word mid rest now later → IfSome left (λ input. EndsAt d start (lines_of input) f rest held later)
 ends_failed d start None mid rest held now later s f small h k = tt
 ends_failed d start (Some xs) None rest held now later s f small h k = absurd h
 ends_failed d start (Some xs) (Some ys) rest held now later s f small h k =
-    ends_here d start xs ys rest held now later s f h k.1 (fault_of_line d f.word f.line ys rest small k.0)
+    ends_here d start xs ys rest held now later s f h k.1 (fault_of_line d s f.word f.line ys rest small k.0)
 
 -- there is a line more than a script may have
-some_line : {S : Type 0} (d : Dialogue S) (ys : List ℕ) (rest : Option (List ℕ)) → ys ≢ [] → (n : ℕ) → 1000000 < n → HasFault d n word.Long (lines_of ys) rest
-some_line d [] rest more n large = absurd (more refl)
-some_line d (b ∷ bs) rest more n large = by_octet (eqb b 10) (lines_of bs)
+some_line : {S : Type 0} (d : Dialogue S) (s : S) (ys : List ℕ) (rest : Option (List ℕ)) → ys ≢ [] → (n : ℕ) → 1000000 < n → HasFault d s n word.Long (lines_of ys) rest
+some_line d s [] rest more n large = absurd (more refl)
+some_line d s (b ∷ bs) rest more n large = by_octet (eqb b 10) (lines_of bs)
   where
-    by_octet : (is : Bool) (ls : List (List ℕ)) → HasFault d n word.Long (cond is ([] ∷ ls) (before_first_line b ls)) rest
+    by_octet : (is : Bool) (ls : List (List ℕ)) → HasFault d s n word.Long (cond is ([] ∷ ls) (before_first_line b ls)) rest
     by_octet true ls = inl large
     by_octet false [] = inl large
     by_octet false (l ∷ ls) = inl large
@@ -135,7 +136,7 @@ ends_too_many d start (Some xs) None rest held now s n f same large is h more = 
 ends_too_many d start (Some xs) (Some ys) rest held now s n f same large is h more =
     ends_here d start xs ys rest held now now s f (subst (λ (m : ℕ). Going d start (Some xs) (Some ys) held now s m) same h)
     (subst (λ (w : Word). KeepsUnless w now now) (sym is) (Keeps-refl now))
-    (subst (λ (w : Word). HasFault d f.line w (lines_of ys) rest) (sym is) (some_line d ys rest more f.line large))
+    (subst (λ (w : Word). HasFault d s f.line w (lines_of ys) rest) (sym is) (some_line d s ys rest more f.line large))
 
 -- the reader fails where no line more may be read
 pub ends_unread : {S : Type 0} (d : Dialogue S) (start : S) (left mid rest held now : Option (List ℕ)) (s : S) (n : ℕ) (f : Fault) → n ≡ f.line
@@ -146,11 +147,11 @@ ends_unread d start (Some xs) (Some ys) None held now s n f same is h k = absurd
 ends_unread d start (Some xs) (Some ys) (Some zs) held now s n f same is h k =
     ends_here d start xs ys (Some zs) held now now s f (subst (λ (m : ℕ). Going d start (Some xs) (Some ys) held now s m) same h)
     (subst (λ (w : Word). KeepsUnless w now now) (sym is) (Keeps-refl now))
-    (subst (λ (w : Word). HasFault d f.line w (lines_of ys) (Some zs)) (sym is) ([], ap lines_of (sym k), tt, omega arith))
+    (subst (λ (w : Word). HasFault d s f.line w (lines_of ys) (Some zs)) (sym is) ([], ap lines_of (sym k), tt, omega arith))
 
 -- the run ends behind its lines
 pub ends_behind : {S : Type 0} (d : Dialogue S) (start : S) (left rest held now later : Option (List ℕ)) (t : S) (f : Fault)
-    → IfSome left (λ input. AllAnswered d start (lines_of input) held now t f.line) → KeepsUnless f.word now later → HasFault d f.line f.word [] rest
+    → IfSome left (λ input. AllAnswered d start (lines_of input) held now t f.line) → KeepsUnless f.word now later → HasFault d t f.line f.word [] rest
     → IfSome left (λ input. EndsAt d start (lines_of input) f rest held later)
 ends_behind d start None rest held now later t f h kept reason = tt
 ends_behind d start (Some xs) rest held now later t f h kept reason = record {
@@ -159,13 +160,14 @@ ends_behind d start (Some xs) rest held now later t f h kept reason = record {
   parted = sym (append-nil (lines_of xs));
   number = h.2;
   then_held = now;
-  answered = (h.0, t, h.1, h.3);
+  reached = t;
+  answered = (h.0, h.1, h.3);
   kept = kept;
   reason = reason;
 }
 
 -- of a write or of memory
-pub behind_fault : {S : Type 0} (d : Dialogue S) (n : ℕ) (w : Word) (rest : Option (List ℕ)) → IsOneOf w (word.Write ∷ word.Memory ∷ []) → HasFault d n w [] rest
-behind_fault d n w rest (inl e) = subst (λ (v : Word). HasFault d n v [] rest) (sym e) tt
-behind_fault d n w rest (inr (inl e)) = subst (λ (v : Word). HasFault d n v [] rest) (sym e) tt
-behind_fault d n w rest (inr (inr none)) = absurd none
+pub behind_fault : {S : Type 0} (d : Dialogue S) (t : S) (n : ℕ) (w : Word) (rest : Option (List ℕ)) → IsOneOf w (word.Write ∷ word.Memory ∷ []) → HasFault d t n w [] rest
+behind_fault d t n w rest (inl e) = subst (λ (v : Word). HasFault d t n v [] rest) (sym e) tt
+behind_fault d t n w rest (inr (inl e)) = subst (λ (v : Word). HasFault d t n v [] rest) (sym e) tt
+behind_fault d t n w rest (inr (inr none)) = absurd none

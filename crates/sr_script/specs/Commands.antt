@@ -5,6 +5,8 @@ use Rattle.std.specs.Fmt.{decimal}
 use Rattle.hex.specs.Hex.{decode_of}
 use Rattle.sr_frame.specs.declared.ports.Port.{Port}
 use Rattle.sr_frame.specs.declared.ports.Port.TheVariants.{H, A, B, C}
+use Rattle.sr_script.specs.declared.setups.RoleName.{RoleName}
+use Rattle.sr_script.specs.declared.setups.RoleName.TheVariants as role
 use Rattle.sr_script.specs.declared.reading.Command.{Command}
 use Rattle.sr_script.specs.declared.reading.Command.TheVariants.{Skip, Arrive, Send, Tick}
 
@@ -19,12 +21,20 @@ letter_of A = codes "A"
 letter_of B = codes "B"
 letter_of C = codes "C"
 
--- frames come in there
-abbrev pub IsInlet : Port → Type 0
-IsInlet H = ⊥
-IsInlet A = Unit {0}
-IsInlet B = Unit {0}
-IsInlet C = ⊥
+-- a node of this role has an interlink: it is a RedBox
+abbrev pub HasInterlink : RoleName → Type 0
+HasInterlink role.Danp = ⊥
+HasInterlink role.Danh = ⊥
+HasInterlink role.San = Unit {0}
+HasInterlink (role.Prp routing) = Unit {0}
+HasInterlink role.Hsr = Unit {0}
+
+-- frames come in there, at a node of this role
+abbrev pub IsInlet : RoleName → Port → Type 0
+IsInlet r H = ⊥
+IsInlet r A = Unit {0}
+IsInlet r B = Unit {0}
+IsInlet r C = HasInterlink r
 
 -- hexadecimal digits of either case, two an octet, of at least one octet
 abbrev pub IsHex : List ℕ → List ℕ → Type 0
@@ -38,31 +48,31 @@ IsComment line = (slice_index line 0 ≡ 35) × All (λ octet. octet < 128) line
 abbrev pub IsTick : List ℕ → ℕ → Type 0
 IsTick line time = (line ≡ spaced (codes "tick" ∷ decimal time ∷ [])) × (time < 2 ^ 64)
 
--- the line asks for this, with these octets
-abbrev pub Says : List ℕ → Command → List ℕ → Type 0
-Says line Skip octets = ((line ≡ []) ⊎ IsComment line) × (octets ≡ [])
-Says line (Arrive port time) octets = (digits : List ℕ)
+-- at a node of this role the line asks for this, with these octets
+abbrev pub Says : RoleName → List ℕ → Command → List ℕ → Type 0
+Says r line Skip octets = ((line ≡ []) ⊎ IsComment line) × (octets ≡ [])
+Says r line (Arrive port time) octets = (digits : List ℕ)
     × (line ≡ spaced (codes "in" ∷ letter_of port ∷ decimal time ∷ digits ∷ []))
-    × IsInlet port × (time < 2 ^ 64) × IsHex digits octets
-Says line (Send time) octets = (digits : List ℕ) × (line ≡ spaced (codes "send" ∷ decimal time ∷ digits ∷ []))
+    × IsInlet r port × (time < 2 ^ 64) × IsHex digits octets
+Says r line (Send time) octets = (digits : List ℕ) × (line ≡ spaced (codes "send" ∷ decimal time ∷ digits ∷ []))
     × (time < 2 ^ 64) × IsHex digits octets
-Says line (Tick time) octets = IsTick line time × (octets ≡ [])
+Says r line (Tick time) octets = IsTick line time × (octets ≡ [])
 
--- the line is one of a script of events at a node
-abbrev pub IsEventLine : List ℕ → Type 0
-IsEventLine line = (command : Command) × (octets : List ℕ) × Says line command octets
+-- the line is one of a script of events at a node of this role
+abbrev pub IsEventLine : RoleName → List ℕ → Type 0
+IsEventLine r line = (command : Command) × (octets : List ℕ) × Says r line command octets
 
 -- a time, and then octets
 abbrev pub IsTimed : List ℕ → ℕ → List ℕ → Type 0
 IsTimed text time octets = (digits : List ℕ) × (text ≡ spaced (decimal time ∷ digits ∷ [])) × (time < 2 ^ 64) × IsHex digits octets
 
 -- the words behind `in`: a port where frames come in, a time, and then octets
-abbrev pub IsArrival : List ℕ → Command → List ℕ → Type 0
-IsArrival text Skip octets = ⊥
-IsArrival text (Arrive port time) octets = (digits : List ℕ) × (text ≡ spaced (letter_of port ∷ decimal time ∷ digits ∷ []))
-    × IsInlet port × (time < 2 ^ 64) × IsHex digits octets
-IsArrival text (Send time) octets = ⊥
-IsArrival text (Tick time) octets = ⊥
+abbrev pub IsArrival : RoleName → List ℕ → Command → List ℕ → Type 0
+IsArrival r text Skip octets = ⊥
+IsArrival r text (Arrive port time) octets = (digits : List ℕ) × (text ≡ spaced (letter_of port ∷ decimal time ∷ digits ∷ []))
+    × IsInlet r port × (time < 2 ^ 64) × IsHex digits octets
+IsArrival r text (Send time) octets = ⊥
+IsArrival r text (Tick time) octets = ⊥
 
 -- the words behind `send`
 abbrev pub IsSending : List ℕ → Command → List ℕ → Type 0

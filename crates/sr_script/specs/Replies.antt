@@ -63,14 +63,14 @@ Obeys role s number (Tick time) octets text t = StepsSo s number (event.Tick tim
 
 -- the line with this number is one of a script; the node obeys it, and then all that waits is taken and printed
 abbrev pub Replied : RoleName → State → ℕ → List ℕ → List ℕ → State → Type 0
-Replied role s number line text t = (command : Command) × (octets : List ℕ) × Says line command octets
+Replied role s number line text t = (command : Command) × (octets : List ℕ) × Says role line command octets
     × (told : List ℕ) × (u : State) × Obeys role s number command octets told u
     × (lines : List ℕ) × AllEmptied role u lines t × (text ≡ told ++ lines)
 
 -- a script of events at a node, each line answered by what goes out; nothing is said at the end
 abbrev pub replay_dialogue : Dialogue Station
 replay_dialogue = record {
-  Knows = IsEventLine;
+  Knows = λ s line. IsEventLine s.role line;
   Replied = λ s number line text t. (t.role ≡ s.role) × Replied s.role s.node number line text t.node;
   Ends = λ s text. text ≡ [];
 }

@@ -7,10 +7,10 @@ use Rattle.sr_script.specs.declared.fault.Word.TheVariants as word
 use Rattle.sr_script.specs.Lines.{lines_of}
 use Rattle.sr_script.specs.Octets.{Lacks}
 
--- What a session does, over its states: which lines it knows; from a state, a line with this number may be answered with
+-- What a session does, over its states: which lines it knows at a state; from a state, a line with this number may be answered with
 -- this text, and leave a state; at a state, this may be printed at the end of the script.
 pub record Dialogue (S : Type 0) : Type 1 where
-  pub Knows : List ℕ → Type 0
+  pub Knows : S → List ℕ → Type 0
   pub Replied : S → ℕ → List ℕ → List ℕ → S → Type 0
   pub Ends : S → List ℕ → Type 0
 
@@ -30,27 +30,27 @@ abbrev pub IsAnswered : {S : Type 0} → Dialogue S → S → List (List ℕ) �
 IsAnswered d start lines held now = (text : List ℕ) × (t : _) × (last : List ℕ) × Replies d start 1 lines text t × d.Ends t last
     × Appends held now (text ++ last)
 
--- all lines are answered, and what is held grew by the answers
-abbrev pub AreAnswered : {S : Type 0} → Dialogue S → S → List (List ℕ) → Option (List ℕ) → Option (List ℕ) → Type 0
-AreAnswered d start lines held now = (text : List ℕ) × (t : _) × Replies d start 1 lines text t × Appends held now text
+-- all lines are answered, which came to t, and what is held grew by the answers
+abbrev pub AreAnswered : {S : Type 0} → Dialogue S → S → List (List ℕ) → Option (List ℕ) → Option (List ℕ) → S → Type 0
+AreAnswered d start lines held now t = (text : List ℕ) × Replies d start 1 lines text t × Appends held now text
 
 -- of the first of the lines that are left, the reader gave no more than 8000 octets, and no end
 abbrev pub IsWithinLine : List (List ℕ) → Option (List ℕ) → Type 0
 IsWithinLine left None = ⊥
 IsWithinLine left (Some rest) = (part : List ℕ) × (left ≡ lines_of (part ++ rest)) × Lacks 10 part × (length part ≤ 8000)
 
--- the fault of the first of the lines that are left, the reader having this left: where it is `read`, the line was not read, and
+-- the fault of the first of the lines that are left, at the state t, the reader having this left: where it is `read`, the line was not read, and
 -- where it is `write` or `memory`, the line is none of those that are `line` or `long`
-abbrev pub HasFault : {S : Type 0} → Dialogue S → ℕ → Word → List (List ℕ) → Option (List ℕ) → Type 0
-HasFault d number word.Line [] rest = ⊥
-HasFault d number word.Line (line ∷ lines) rest = HasPlace number line × (d.Knows line → ⊥)
-HasFault d number word.Long [] rest = ⊥
-HasFault d number word.Long (line ∷ lines) rest = (1000000 < number) ⊎ (8000 < length line)
-HasFault d number word.Read left rest = IsWithinLine left rest
-HasFault d number word.Write [] rest = Unit {0}
-HasFault d number word.Write (line ∷ lines) rest = HasPlace number line × d.Knows line
-HasFault d number word.Memory [] rest = Unit {0}
-HasFault d number word.Memory (line ∷ lines) rest = HasPlace number line × d.Knows line
+abbrev pub HasFault : {S : Type 0} → Dialogue S → S → ℕ → Word → List (List ℕ) → Option (List ℕ) → Type 0
+HasFault d t number word.Line [] rest = ⊥
+HasFault d t number word.Line (line ∷ lines) rest = HasPlace number line × (d.Knows t line → ⊥)
+HasFault d t number word.Long [] rest = ⊥
+HasFault d t number word.Long (line ∷ lines) rest = (1000000 < number) ⊎ (8000 < length line)
+HasFault d t number word.Read left rest = IsWithinLine left rest
+HasFault d t number word.Write [] rest = Unit {0}
+HasFault d t number word.Write (line ∷ lines) rest = HasPlace number line × d.Knows t line
+HasFault d t number word.Memory [] rest = Unit {0}
+HasFault d t number word.Memory (line ∷ lines) rest = HasPlace number line × d.Knows t line
 
 -- what is held stays; where a write failed, nothing is known of it
 abbrev pub KeepsUnless : Word → Option (List ℕ) → Option (List ℕ) → Type 0
@@ -68,9 +68,10 @@ pub record EndsAt {S : Type 0} (d : Dialogue S) (start : S) (lines : List (List 
   pub parted : lines ≡ before ++ left
   pub number : fault.line ≡ length before + 1
   pub then_held : Option (List ℕ)
-  pub answered : AreAnswered d start before held then_held
+  pub reached : S
+  pub answered : AreAnswered d start before held then_held reached
   pub kept : KeepsUnless fault.word then_held now
-  pub reason : HasFault d fault.line fault.word left rest
+  pub reason : HasFault d reached fault.line fault.word left rest
 
 -- memory was refused before the first line was read
 pub record IsNotBegun (fault : Fault) (left rest held now : Option (List ℕ)) : Type 0 where

@@ -7,7 +7,7 @@ use Rattle.sr_forwarding.specs.declared.role_image.RoleKind.{RoleKind}
 use Rattle.sr_forwarding.specs.declared.role_image.RoleKind.TheVariants as kind
 use Rattle.sr_node.specs.Images.{State, begun}
 use Rattle.sr_script.specs.declared.setups.RoleName.{RoleName}
-use Rattle.sr_script.specs.declared.setups.RoleName.TheVariants.{Danp, Danh}
+use Rattle.sr_script.specs.declared.setups.RoleName.TheVariants.{Danp, Danh, San, Prp, Hsr}
 use Rattle.sr_script.specs.declared.setups.Setup.{Setup}
 
 -- a node, and the role by whose framings its ports are attached
@@ -18,6 +18,9 @@ pub record Station : Type 0 where
 abbrev pub kind_of : RoleName → RoleKind
 kind_of Danp = kind.Danp
 kind_of Danh = kind.Danh
+kind_of San = kind.San
+kind_of (Prp routing) = kind.Prp routing.lan routing.net
+kind_of Hsr = kind.Hsr
 
 -- How each port carries frames, by the table of the role's kind. Where the role has no such port nothing comes in and nothing
 -- goes out; it then counts as one of ordinary frames.

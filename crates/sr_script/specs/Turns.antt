@@ -13,21 +13,21 @@ Turned d true number s t left rest held now = (line : List ℕ) × (text : List 
     × d.Replied s number line text t × Appends held now text
 Turned d false number s t left rest held now = (line : List ℕ) × TakesLine false line left rest × Keeps held now × (t ≡ s)
 
--- a line was read, which the session knows
-abbrev pub IsKnown : {S : Type 0} → Dialogue S → Option (List ℕ) → Option (List ℕ) → Type 0
-IsKnown d left rest = (line : List ℕ) × TakesLine true line left rest × (length line ≤ 8000) × d.Knows line
+-- a line was read, which the session knows at the state s
+abbrev pub IsKnown : {S : Type 0} → Dialogue S → S → Option (List ℕ) → Option (List ℕ) → Type 0
+IsKnown d s left rest = (line : List ℕ) × TakesLine true line left rest × (length line ≤ 8000) × d.Knows s line
 
--- why the turn failed
-abbrev pub HasFailed : {S : Type 0} → Dialogue S → Word → Option (List ℕ) → Option (List ℕ) → Type 0
-HasFailed d word.Line left rest = (line : List ℕ) × TakesLine true line left rest × (length line ≤ 8000) × (d.Knows line → ⊥)
-HasFailed d word.Long left rest = IfSome left BeginsLong
-HasFailed d word.Read left rest = TakesPart left rest
-HasFailed d word.Write left rest = IsKnown d left rest
-HasFailed d word.Memory left rest = IsKnown d left rest
+-- why the turn failed, at the state s
+abbrev pub HasFailed : {S : Type 0} → Dialogue S → S → Word → Option (List ℕ) → Option (List ℕ) → Type 0
+HasFailed d s word.Line left rest = (line : List ℕ) × TakesLine true line left rest × (length line ≤ 8000) × (d.Knows s line → ⊥)
+HasFailed d s word.Long left rest = IfSome left BeginsLong
+HasFailed d s word.Read left rest = TakesPart left rest
+HasFailed d s word.Write left rest = IsKnown d s left rest
+HasFailed d s word.Memory left rest = IsKnown d s left rest
 
 -- the turn failed, and unless it was at the writer nothing was written
-abbrev pub Failed : {S : Type 0} → Dialogue S → Word → Option (List ℕ) → Option (List ℕ) → Option (List ℕ) → Option (List ℕ) → Type 0
-Failed d w left rest held now = HasFailed d w left rest × KeepsUnless w held now
+abbrev pub Failed : {S : Type 0} → Dialogue S → S → Word → Option (List ℕ) → Option (List ℕ) → Option (List ℕ) → Option (List ℕ) → Type 0
+Failed d s w left rest held now = HasFailed d s w left rest × KeepsUnless w held now
 
 -- all lines are answered, which came to t, and what is held grew by the answers; behind them the next number is n
 abbrev pub AllAnswered : {S : Type 0} → Dialogue S → S → List (List ℕ) → Option (List ℕ) → Option (List ℕ) → S → ℕ → Type 0

@@ -154,12 +154,12 @@ pub(crate) fn answer<R: Role>(
     requires { text.old.items ≡ [] }
     ensures ok { OnOk result (Replied role (node_state (R.meaning node.old.role) node.old.core) number line.now
         text.new.items (node_state (R.meaning node.new.role) node.new.core)) }
-    ensures known { OnOk result (IsEventLine line.now) }
-    ensures bad { result ≡ Err Word.Line → IsEventLine line.now → ⊥ }
-    ensures memory { result ≡ Err Word.Memory → IsEventLine line.now }
+    ensures known { OnOk result (IsEventLine role line.now) }
+    ensures bad { result ≡ Err Word.Line → IsEventLine role line.now → ⊥ }
+    ensures memory { result ≡ Err Word.Memory → IsEventLine role line.now }
     ensures fault { IfErr result (λ word. IsOneOf word (Word.Line ∷ Word.Memory ∷ [])) }
 {
-    let command = command_of(line, octets)?;
+    let command = command_of(role, line, octets)?;
     obey(alloc, role, node, number, command, octets, text)?;
     append_outlets(role, node, octets, text)?;
     Ok(())

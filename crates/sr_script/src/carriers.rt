@@ -1,6 +1,6 @@
 //! How the ports of a script's node carry frames.
 
-ghost use Rattle.std.specs.Prelude.{◌≡◌, ◌<◌};
+ghost use Rattle.std.specs.Prelude.{◌≡◌, ◌≤◌, ◌<◌};
 ghost use Rattle.sr_forwarding.specs.Framings.{Tagged, Trailed};
 ghost use Rattle.sr_script.specs.Carriers.{carried};
 ghost use Rattle.sr_script.specs.Stations.{framing_of};
@@ -51,11 +51,12 @@ fn ring(path: u8) -> Carrier
     Carrier::Ring(HsrFraming { path })
 }
 
-/// A port of a LAN, at a node of its network.
-fn network(lan: Lan) -> Carrier
-    ensures { carried result ≡ Trailed lan 0 }
+/// A port of a LAN of the network of this number, which is 0 at a node of the network.
+fn network(lan: Lan, net: u8) -> Carrier
+    requires { net ≤ 6 }
+    ensures { carried result ≡ Trailed lan net }
 {
-    Carrier::Network(PrpFraming { lan, net: 0 })
+    Carrier::Network(PrpFraming { lan, net })
 }
 
 /// The framing of a port of a node of this role.
@@ -63,10 +64,13 @@ pub(crate) fn carrier_of(role: RoleName, port: Port) -> Carrier
     ensures { carried result ≡ framing_of role port }
 {
     match (role, port) {
-        (_, Port::H | Port::C) => Carrier::Plain(PlainFraming),
-        (RoleName::Danp, Port::A) => network(Lan::A),
-        (RoleName::Danp, Port::B) => network(Lan::B),
-        (RoleName::Danh, Port::A) => ring(0),
-        (RoleName::Danh, Port::B) => ring(1),
+        (_, Port::H) => Carrier::Plain(PlainFraming),
+        (RoleName::Danp, Port::A) => network(Lan::A, 0),
+        (RoleName::Danp, Port::B) => network(Lan::B, 0),
+        (_, Port::A) => ring(0),
+        (_, Port::B) => ring(1),
+        (RoleName::Prp(routing), Port::C) => network(routing.lan, routing.net),
+        (RoleName::Hsr, Port::C) => ring(0),
+        (_, Port::C) => Carrier::Plain(PlainFraming),
     }
 }

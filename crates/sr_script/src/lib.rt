@@ -18,3 +18,4 @@ mod words;
 pub use fault::{Fault, Word};
 pub use replaying::run;
 pub use setups::{RoleName, Setup};
+pub use sr_redbox::PrpRouting;

@@ -3,11 +3,12 @@
 ghost use Rattle.std.specs.Prelude.{◌≡◌, ◌↔◌, ◌<◌, ◌^◌, ℕ, List, codes, IfOk, IfErr, OnOk, IfSome, IsSomeAnd, IsTrue, ◌++◌, MatchResult, Err, ◌∷◌, []};
 ghost use Rattle.std.specs.Fmt.{decimal};
 ghost use Rattle.sr_script.specs.Lines.{IsOneOf};
-ghost use Rattle.sr_script.specs.Commands.{Says, IsEventLine, spaced, IsComment, IsInlet, IsHex, letter_of, IsTimed, IsArrival, IsSending, IsTick};
+ghost use Rattle.sr_script.specs.Commands.{Says, IsEventLine, HasInterlink, spaced, IsComment, IsInlet, IsHex, letter_of, IsTimed, IsArrival, IsSending, IsTick};
 
 use crate::fault::Word;
 use crate::hexadecimal::read_hex;
 use crate::numbers::number_of;
+use crate::setups::RoleName;
 use crate::words::split_word;
 use sr_frame::Port;
 
@@ -53,15 +54,26 @@ fn behind_send(line: &[u8]) -> Option<&[u8]>
     }
 }
 
+/// Whether a node of this role has an interlink.
+fn has_interlink(role: RoleName) -> bool
+    ensures { IsTrue result ↔ HasInterlink role }
+{
+    match role {
+        RoleName::Danp | RoleName::Danh => false,
+        RoleName::San | RoleName::Prp(_) | RoleName::Hsr => true,
+    }
+}
+
 /// The port that a text begins with, where frames come in, and what stands behind it and a space.
-fn split_inlet(text: &[u8]) -> Option<(Port, &[u8])>
-    ensures found { IfSome result (λ parts. (text.now ≡ letter_of parts.0 ++ 32 ∷ parts.1.now) × IsInlet parts.0) }
-    ensures only { (port : Port) (rest : List ℕ) → IsInlet port → text.now ≡ letter_of port ++ 32 ∷ rest
+fn split_inlet(role: RoleName, text: &[u8]) -> Option<(Port, &[u8])>
+    ensures found { IfSome result (λ parts. (text.now ≡ letter_of parts.0 ++ 32 ∷ parts.1.now) × IsInlet role parts.0) }
+    ensures only { (port : Port) (rest : List ℕ) → IsInlet role port → text.now ≡ letter_of port ++ 32 ∷ rest
         → IsSomeAnd result (λ parts. (parts.0 ≡ port) × (parts.1.now ≡ rest)) }
 {
     match text {
         [b'A', b' ', rest @ ..] => Some((Port::A, rest)),
         [b'B', b' ', rest @ ..] => Some((Port::B, rest)),
+        [b'C', b' ', rest @ ..] if has_interlink(role) => Some((Port::C, rest)),
         _ => None,
     }
 }
@@ -87,14 +99,14 @@ fn timed(text: &[u8], octets: &mut Vec<u8>) -> Result<u64, Word>
 }
 
 /// Reads what stands behind the word `in`: the port, the time and the octets.
-fn arrival(text: &[u8], octets: &mut Vec<u8>) -> Result<Command, Word>
-    ensures found { IfOk result (λ command. IsArrival text.now command octets.new.items) }
-    ensures only { (port : Port) (time : ℕ) (os : List ℕ) → IsArrival text.now (Command.Arrive port time) os
+fn arrival(role: RoleName, text: &[u8], octets: &mut Vec<u8>) -> Result<Command, Word>
+    ensures found { IfOk result (λ command. IsArrival role text.now command octets.new.items) }
+    ensures only { (port : Port) (time : ℕ) (os : List ℕ) → IsArrival role text.now (Command.Arrive port time) os
         → MatchResult result (λ command. (command ≡ Command.Arrive port time) × (octets.new.items ≡ os)) (λ word. word ≡ Word.Memory) }
-    ensures memory { result ≡ Err Word.Memory → (port : Port) × (time : ℕ) × (os : List ℕ) × IsArrival text.now (Command.Arrive port time) os }
+    ensures memory { result ≡ Err Word.Memory → (port : Port) × (time : ℕ) × (os : List ℕ) × IsArrival role text.now (Command.Arrive port time) os }
     ensures fault { IfErr result (λ word. IsOneOf word (Word.Line ∷ Word.Memory ∷ [])) }
 {
-    let Some((port, rest)) = split_inlet(text) else {
+    let Some((port, rest)) = split_inlet(role, text) else {
         return Err(Word::Line);
     };
     match timed(rest, octets) {
@@ -125,15 +137,15 @@ fn tick_of(line: &[u8]) -> Option<u64>
     number_of(line.strip_prefix(b"tick ".as_slice())?)
 }
 
-/// What a line asks for. The octets that it names are then in `octets`, and nothing else is.
+/// What a line asks for at a node of this role. The octets that it names are then in `octets`, and nothing else is.
 ///
 /// # Errors
 /// `Line` where the line is none of a script, whatever memory there is; `Memory`.
-pub(crate) fn command_of(line: &[u8], octets: &mut Vec<u8>) -> Result<Command, Word>
-    ensures found { IfOk result (λ command. Says line.now command octets.new.items) }
-    ensures only { (command : Command) (os : List ℕ) → Says line.now command os
+pub(crate) fn command_of(role: RoleName, line: &[u8], octets: &mut Vec<u8>) -> Result<Command, Word>
+    ensures found { IfOk result (λ command. Says role line.now command octets.new.items) }
+    ensures only { (command : Command) (os : List ℕ) → Says role line.now command os
         → MatchResult result (λ found. (found ≡ command) × (octets.new.items ≡ os)) (λ word. word ≡ Word.Memory) }
-    ensures memory { result ≡ Err Word.Memory → IsEventLine line.now }
+    ensures memory { result ≡ Err Word.Memory → IsEventLine role line.now }
     ensures fault { IfErr result (λ word. IsOneOf word (Word.Line ∷ Word.Memory ∷ [])) }
 {
     if line.is_empty() || is_comment(line) {
@@ -141,7 +153,7 @@ pub(crate) fn command_of(line: &[u8], octets: &mut Vec<u8>) -> Result<Command, W
         return Ok(Command::Skip);
     }
     if let Some(rest) = behind_in(line) {
-        return arrival(rest, octets);
+        return arrival(role, rest, octets);
     }
     if let Some(rest) = behind_send(line) {
         return sending(rest, octets);

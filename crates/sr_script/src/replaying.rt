@@ -16,6 +16,7 @@ use crate::session::Session;
 use crate::setups::{RoleName, Setup};
 use sr_forwarding::{Danh, Danp, Role};
 use sr_node::Node;
+use sr_redbox::{HsrBox, HsrRouting, PrpBox, SanBox};
 use std::alloc::{AllocError, Global};
 use std::io::{BufRead, Write};
 
@@ -143,6 +144,27 @@ pub fn run<R: BufRead, W: Write>(
                 return Err(NOT_BEGUN);
             };
             let role: Box<dyn Role + Send> = danh;
+            replay(alloc, setup, role, reader, writer)
+        }
+        RoleName::San => {
+            let Ok(san) = Box::new(alloc, SanBox::with_keys(alloc, setup.mac, setup.keys)) else {
+                return Err(NOT_BEGUN);
+            };
+            let role: Box<dyn Role + Send> = san;
+            replay(alloc, setup, role, reader, writer)
+        }
+        RoleName::Prp(routing) => {
+            let Ok(prp) = Box::new(alloc, PrpBox::of(setup.mac, routing)) else {
+                return Err(NOT_BEGUN);
+            };
+            let role: Box<dyn Role + Send> = prp;
+            replay(alloc, setup, role, reader, writer)
+        }
+        RoleName::Hsr => {
+            let Ok(hsr) = Box::new(alloc, HsrBox::of(setup.mac, HsrRouting)) else {
+                return Err(NOT_BEGUN);
+            };
+            let role: Box<dyn Role + Send> = hsr;
             replay(alloc, setup, role, reader, writer)
         }
     }

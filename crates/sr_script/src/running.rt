@@ -40,7 +40,7 @@ fn turn<S: Session, R: BufRead, W: Write>(
     requires { 8001 ≤ vec_capacity line.old }
     ensures turned { IfOk result (λ more. Turned S.dialogue more number (S.state session.old) (S.state session.new)
         (R.remaining reader.old) (R.remaining reader.new) (W.contents writer.old) (W.contents writer.new)) }
-    ensures failed { IfErr result (λ word. Failed S.dialogue word (R.remaining reader.old) (R.remaining reader.new)
+    ensures failed { IfErr result (λ word. Failed S.dialogue (S.state session.old) word (R.remaining reader.old) (R.remaining reader.new)
         (W.contents writer.old) (W.contents writer.new)) }
     ensures room { vec_capacity line.old ≤ vec_capacity line.new }
 {

@@ -23,9 +23,9 @@ pub(crate) trait Session: Send + Drop {
     fn answer(&mut self, number: u64, line: &[u8], text: &mut Vec<u8>) -> Result<(), Word>
         requires { text.old.items ≡ [] }
         ensures ok { OnOk result (dialogue.Replied (state self.old) number line.now text.new.items (state self.new)) }
-        ensures known { OnOk result (dialogue.Knows line.now) }
-        ensures bad { result ≡ Err Word.Line → dialogue.Knows line.now → ⊥ }
-        ensures memory { result ≡ Err Word.Memory → dialogue.Knows line.now }
+        ensures known { OnOk result (dialogue.Knows (state self.old) line.now) }
+        ensures bad { result ≡ Err Word.Line → dialogue.Knows (state self.old) line.now → ⊥ }
+        ensures memory { result ≡ Err Word.Memory → dialogue.Knows (state self.old) line.now }
         ensures fault { IfErr result (λ word. IsOneOf word (Word.Line ∷ Word.Memory ∷ [])) };
 
     /// What is to be printed at the end of the script.

@@ -2,6 +2,10 @@
 #![tactic(auto)]
 
 #[cfg(test)]
+mod boxes;
+#[cfg(test)]
+mod edges;
+#[cfg(test)]
 mod failing;
 #[cfg(test)]
 mod lines;

@@ -24,16 +24,10 @@ const LINES: &[Step] = &[
     Step::Skipped(b"# \r"),
     Step::Refused(b"in A 0 00\r\n"),
     Step::Refused(b"\r\n"),
-    Step::Refused(b"in  A 0 00"),
-    Step::Refused(b"in A  0 00"),
-    Step::Refused(b"in A 0  00"),
-    Step::Refused(b"in A 0 00 "),
-    Step::Refused(b" in A 0 00"),
     Step::Refused(b"in A 05 00"),
     Step::Refused(b"in A 00 00"),
     Step::Refused(b"in A +5 00"),
     Step::Refused(b"in A -5 00"),
-    Step::Refused(b"in A  00"),
     Step::Refused(b"in A 18446744073709551616 00"),
     Step::Refused(b"in A 99999999999999999999 00"),
     Step::Refused(b"in a 0 00"),
@@ -42,35 +36,85 @@ const LINES: &[Step] = &[
     Step::Refused(b"in A 0 0"),
     Step::Refused(b"in A 0 000"),
     Step::Refused(b"in A 0 0g"),
-    Step::Refused(b"in A 0 "),
     Step::Refused(b"in A 0"),
+    Step::Refused(b"in A"),
+    Step::Refused(b"in"),
     Step::Refused(b"In A 0 00"),
     Step::Refused(b"#\x80"),
     Step::Refused(b"send 0 0"),
-    Step::Refused(b"send 0 "),
     Step::Refused(b"send 0"),
     Step::Refused(b"send"),
-    Step::Refused(b"send A 0 00"),
     Step::Refused(b"send 05 00"),
-    Step::Refused(b"send  0 00"),
-    Step::Refused(b"send 0 00 "),
     Step::Refused(b"send 18446744073709551616 00"),
     Step::Refused(b"Send 0 00"),
     Step::Refused(b"tick"),
-    Step::Refused(b"tick "),
     Step::Refused(b"tick 05"),
     Step::Refused(b"tick +5"),
-    Step::Refused(b"tick 0 "),
-    Step::Refused(b"tick  0"),
-    Step::Refused(b" tick 0"),
     Step::Refused(b"Tick 0"),
-    Step::Refused(b"tick 0 00"),
     Step::Refused(b"tick 18446744073709551616"),
 ];
 
 #[test]
 fn lines_and_endings(rt: HostRuntime) {
     expect_steps(&rt, LINES);
+}
+
+// No word may be empty, at whatever place it stands.
+const EMPTY_WORDS: &[Step] = &[
+    Step::Refused(b" "),
+    Step::Refused(b"  "),
+    Step::Refused(b" A 0 00"),
+    Step::Refused(b"in  0 00"),
+    Step::Refused(b"in A  00"),
+    Step::Refused(b"in A 0 "),
+    Step::Refused(b" in A 0 00"),
+    Step::Refused(b"in  A 0 00"),
+    Step::Refused(b"in A  0 00"),
+    Step::Refused(b"in A 0  00"),
+    Step::Refused(b"in A 0 00 "),
+    Step::Refused(b"in "),
+    Step::Refused(b"in A "),
+    Step::Refused(b" 0 00"),
+    Step::Refused(b"send  00"),
+    Step::Refused(b"send 0 "),
+    Step::Refused(b" send 0 00"),
+    Step::Refused(b"send  0 00"),
+    Step::Refused(b"send 0  00"),
+    Step::Refused(b"send 0 00 "),
+    Step::Refused(b"send "),
+    Step::Refused(b" 0"),
+    Step::Refused(b"tick "),
+    Step::Refused(b" tick 0"),
+    Step::Refused(b"tick  0"),
+    Step::Refused(b"tick 0 "),
+];
+
+#[test]
+fn no_word_is_empty(rt: HostRuntime) {
+    expect_steps(&rt, EMPTY_WORDS);
+}
+
+// A line has no word more than it needs, at whatever place it stands.
+const TOO_MANY_WORDS: &[Step] = &[
+    Step::Refused(b"in in A 0 00"),
+    Step::Refused(b"in A A 0 00"),
+    Step::Refused(b"in A 0 0 00"),
+    Step::Refused(b"in A 0 00 00"),
+    Step::Refused(b"in A 0 00 #"),
+    Step::Refused(b"send send 0 00"),
+    Step::Refused(b"send A 0 00"),
+    Step::Refused(b"send 0 0 00"),
+    Step::Refused(b"send 0 00 00"),
+    Step::Refused(b"send 0 00 #"),
+    Step::Refused(b"tick tick 0"),
+    Step::Refused(b"tick A 0"),
+    Step::Refused(b"tick 0 0"),
+    Step::Refused(b"tick 0 #"),
+];
+
+#[test]
+fn no_word_is_too_many(rt: HostRuntime) {
+    expect_steps(&rt, TOO_MANY_WORDS);
 }
 
 /// What is answered where the second line is long, and where it is not.
@@ -130,6 +174,66 @@ const LONG: &[Step] = &[
 #[test]
 fn long_lines(rt: HostRuntime) {
     expect_steps(&rt, LONG);
+}
+
+// Lines with octets, of 8000 and of 8001 octets.
+const LONG_FRAMES: &[Step] = &[
+    Step::Run(
+        &[
+            These(b"send 10 "),
+            Times(3996, b"5c"),
+            These(b"\nsend 0 00"),
+        ],
+        &[These(b"refused 1 TooLong\nrefused 2 TooShort\n")],
+        None,
+    ),
+    Step::Run(
+        &[These(b"send 0 00\nsend 100 "), Times(3996, b"5c")],
+        FIRST,
+        Some((2, Word::Long)),
+    ),
+    Step::Run(
+        &[
+            These(b"in A 10 "),
+            Times(3996, b"5c"),
+            These(b"\nsend 0 00"),
+        ],
+        &[These(b"refused 1 TooLong\nrefused 2 TooShort\n")],
+        None,
+    ),
+    Step::Run(
+        &[
+            These(b"send 0 00\nin A 100 "),
+            Times(3996, b"5c"),
+            These(b"\n"),
+        ],
+        FIRST,
+        Some((2, Word::Long)),
+    ),
+    // An odd number of digits: of 8000 octets the line is none of a script, of 8001 it is too long.
+    Step::Run(
+        &[
+            These(b"send 0 00\nsend 0 "),
+            Times(3996, b"5c"),
+            These(b"5"),
+        ],
+        FIRST,
+        Some((2, Word::Line)),
+    ),
+    Step::Run(
+        &[
+            These(b"send 0 00\nsend 10 "),
+            Times(3996, b"5c"),
+            These(b"5"),
+        ],
+        FIRST,
+        Some((2, Word::Long)),
+    ),
+];
+
+#[test]
+fn long_frames(rt: HostRuntime) {
+    expect_steps(&rt, LONG_FRAMES);
 }
 
 // A script has 1,000,000 lines at most. Each of the runs takes its time.

@@ -1,5 +1,6 @@
 //! Traffic and ticks.
 
+use crate::runs::At;
 use crate::steps::{Step, expect_steps};
 use crate::texts::Part::{These, Times};
 
@@ -241,6 +242,7 @@ fn ticks_print_life_checks(rt: HostRuntime) {
 
 // With the Nth allocation refused, for any N.
 const TAKEN_UP: &[Step] = &[Step::TakenUp(
+    At::Danp,
     b"in A 0 00\nin A 0 02000000000102000000000208005c\ntick 0\nin B 0 00\n",
     &[
         b"refused 1 TooShort\n",

@@ -4,24 +4,52 @@
 use crate::failing::{Broken, EmptyLines, Narrow, Recorder, Unflushed};
 use crate::texts::{Text, joined};
 use sr_frame::Mac;
-use sr_script::{Fault, RoleName, Setup, Word, run};
+use sr_prp_trailer::Lan;
+use sr_script::{Fault, PrpRouting, RoleName, Setup, Word, run};
 use sr_slots::Keys;
 use std::alloc::Global;
 use std::io::{BufReader, ErrorKind, Read};
 
-/// A node with the address 02:00:00:00:00:01.
-const SETUP: Setup = Setup {
-    role: RoleName::Danp,
-    mac: Mac([2, 0, 0, 0, 0, 1]),
-    keys: Keys::FIXED,
-};
+/// The node of a run.
+#[derive(Clone, Copy)]
+pub enum At {
+    Danp,
+    Danh,
+    San,
+    /// At a LAN of the network of this number.
+    Prp(Lan, u8),
+    Hsr,
+}
 
-/// A ring node with that address.
-const RING: Setup = Setup {
-    role: RoleName::Danh,
-    mac: Mac([2, 0, 0, 0, 0, 1]),
-    keys: Keys::FIXED,
-};
+/// The role of a node. None for a network that no path can name.
+fn role_of(at: At) -> Option<RoleName> {
+    Some(match at {
+        At::Danp => RoleName::Danp,
+        At::Danh => RoleName::Danh,
+        At::San => RoleName::San,
+        At::Prp(lan, net) => {
+            if net == 0 || net > 6 {
+                return None;
+            }
+            RoleName::Prp(PrpRouting { lan, net })
+        }
+        At::Hsr => RoleName::Hsr,
+    })
+}
+
+/// A node of this role with the address 02:00:00:00:00:01.
+fn node_of(role: RoleName) -> Setup {
+    Setup {
+        role,
+        mac: Mac([2, 0, 0, 0, 0, 1]),
+        keys: Keys::FIXED,
+    }
+}
+
+/// A doubly attached node of a PRP network with that address.
+fn danp() -> Setup {
+    node_of(RoleName::Danp)
+}
 
 /// How a run has to end: with the fault of a line, or well.
 pub type Ending = Option<(u64, Word)>;
@@ -53,20 +81,20 @@ fn writes(
     Some(is_ended(outcome, ending)? && written.as_slice() == wanted)
 }
 
-pub fn is_run(alloc: Global, script: Text, wanted: Text, ending: Ending) -> Option<bool> {
+/// Whether a run at a node, with that address, writes this and ends so.
+pub fn is_run_at(
+    alloc: Global,
+    at: At,
+    script: Text,
+    wanted: Text,
+    ending: Ending,
+) -> Option<bool> {
     let script = joined(alloc, script)?;
     let wanted = joined(alloc, wanted)?;
-    writes(alloc, &SETUP, &script, &wanted, ending)
+    writes(alloc, &node_of(role_of(at)?), &script, &wanted, ending)
 }
 
-/// The same at a ring node.
-pub fn is_ring_run(alloc: Global, script: Text, wanted: Text, ending: Ending) -> Option<bool> {
-    let script = joined(alloc, script)?;
-    let wanted = joined(alloc, wanted)?;
-    writes(alloc, &RING, &script, &wanted, ending)
-}
-
-/// The same of a script with a last line.
+/// Whether a run of a script with a last line writes this and ends so.
 pub fn is_run_to(
     alloc: Global,
     before: Text,
@@ -76,7 +104,7 @@ pub fn is_run_to(
 ) -> Option<bool> {
     let mut script = joined(alloc, before)?;
     script.extend_from_slice(line).ok()?;
-    writes(alloc, &SETUP, &script, wanted, ending)
+    writes(alloc, &danp(), &script, wanted, ending)
 }
 
 /// Whether a run over this reader, which fails or is long, writes this and ends so.
@@ -90,7 +118,7 @@ fn is_read<R: Read + Drop>(
         return None;
     };
     let mut written: Vec<u8> = Vec::new(alloc);
-    let outcome = run(alloc, &SETUP, &mut reader, &mut written);
+    let outcome = run(alloc, &danp(), &mut reader, &mut written);
     Some(is_ended(outcome, ending)? && written.as_slice() == wanted)
 }
 
@@ -116,21 +144,21 @@ pub fn are_empty_lines(alloc: Global, left: usize, ending: Ending) -> Option<boo
 pub fn is_narrow(alloc: Global, script: &[u8], room: usize, ending: Ending) -> Option<bool> {
     let mut reader = script;
     is_ended(
-        run(alloc, &SETUP, &mut reader, &mut Narrow { room }),
+        run(alloc, &danp(), &mut reader, &mut Narrow { room }),
         ending,
     )
 }
 
 pub fn is_unflushed(alloc: Global, script: &[u8], ending: Ending) -> Option<bool> {
     let mut reader = script;
-    is_ended(run(alloc, &SETUP, &mut reader, &mut Unflushed), ending)
+    is_ended(run(alloc, &danp(), &mut reader, &mut Unflushed), ending)
 }
 
 /// Whether a run makes these calls of its writer.
 pub fn is_recorded(alloc: Global, script: &[u8], calls: &[u8]) -> Option<bool> {
     let mut reader = script;
     let mut writer = Recorder::new();
-    Some(is_ended(run(alloc, &SETUP, &mut reader, &mut writer), None)? && writer.kept(calls))
+    Some(is_ended(run(alloc, &danp(), &mut reader, &mut writer), None)? && writer.kept(calls))
 }
 
 /// Whether these are the answers to the first lines, to so many.
@@ -145,19 +173,26 @@ fn are_answers(written: &[u8], answers: &[&[u8]], count: usize) -> bool {
     rest.is_empty()
 }
 
-fn runs_again(alloc: Global, script: &[u8], answers: &[&[u8]], written: &mut Vec<u8>) -> bool {
+fn runs_again(
+    alloc: Global,
+    setup: &Setup,
+    script: &[u8],
+    answers: &[&[u8]],
+    written: &mut Vec<u8>,
+) -> bool {
     written.clear();
     let mut reader = script;
-    run(alloc, &SETUP, &mut reader, written).is_ok() && are_answers(written, answers, answers.len())
+    run(alloc, setup, &mut reader, written).is_ok() && are_answers(written, answers, answers.len())
 }
 
 /// Whether a run writes these answers, one to each line. Where memory is refused, it ends at the line at work with the lines
 /// before it answered, and the next run is whole. What the test itself needs comes first.
-pub fn is_taken_up(alloc: Global, script: &[u8], answers: &[&[u8]]) -> Option<bool> {
+pub fn is_taken_up(alloc: Global, at: At, script: &[u8], answers: &[&[u8]]) -> Option<bool> {
+    let setup = node_of(role_of(at)?);
     let mut written: Vec<u8> = Vec::new(alloc);
-    written.reserve(400).ok()?;
+    written.reserve(1000).ok()?;
     let mut reader = script;
-    match run(alloc, &SETUP, &mut reader, &mut written) {
+    match run(alloc, &setup, &mut reader, &mut written) {
         Ok(()) => Some(are_answers(&written, answers, answers.len())),
         Err(
             Fault {
@@ -165,10 +200,10 @@ pub fn is_taken_up(alloc: Global, script: &[u8], answers: &[&[u8]]) -> Option<bo
                 word: Word::Memory,
             },
         ) => {
-            let before = (line.clamp(1, 5) - 1) as usize;
+            let before = (line.clamp(1, 6) - 1) as usize;
             Some(
                 are_answers(&written, answers, before)
-                    && runs_again(alloc, script, answers, &mut written),
+                    && runs_again(alloc, &setup, script, answers, &mut written),
             )
         }
         Err(_) => Some(false),

@@ -1,7 +1,7 @@
 //! One driver for all tests: it makes the runs of a table, and answers at which one it differs.
 
 use crate::runs::{
-    Ending, are_empty_lines, is_broken, is_narrow, is_recorded, is_ring_run, is_run, is_run_to,
+    At, Ending, are_empty_lines, is_broken, is_narrow, is_recorded, is_run_at, is_run_to,
     is_taken_up, is_unflushed,
 };
 use crate::texts::{Part, Text};
@@ -17,6 +17,8 @@ pub enum Step {
     Run(Text, Text, Ending),
     /// The same at a ring node.
     Ring(Text, Text, Ending),
+    /// The same at a node.
+    At(At, Text, Text, Ending),
     /// A line, at the end of a script, with what may stand behind it: its frame of one octet is refused.
     Obeyed(&'static [u8]),
     /// The end of a script, to which nothing is answered.
@@ -33,8 +35,8 @@ pub enum Step {
     Unflushed(&'static [u8], Ending),
     /// A script, and the calls of its writer.
     Recorded(&'static [u8], &'static [u8]),
-    /// A script, and the answers to each of its lines. Memory may be refused once.
-    TakenUp(&'static [u8], &'static [&'static [u8]]),
+    /// A script at a node, and the answers to each of its lines. Memory may be refused once.
+    TakenUp(At, &'static [u8], &'static [&'static [u8]]),
 }
 
 const TWO_LINES: Text = &[Part::These(b"#\n\n")];
@@ -44,8 +46,9 @@ const A_FRAME_AND_A_LINE: Text = &[Part::These(b"in A 0 00\n\n")];
 /// Whether a run comes to what it has to. None for want of memory.
 fn comes(alloc: Global, step: Step) -> Option<bool> {
     match step {
-        Step::Run(script, wanted, ending) => is_run(alloc, script, wanted, ending),
-        Step::Ring(script, wanted, ending) => is_ring_run(alloc, script, wanted, ending),
+        Step::Run(script, wanted, ending) => { is_run_at(alloc, At::Danp, script, wanted, ending) }
+        Step::Ring(script, wanted, ending) => { is_run_at(alloc, At::Danh, script, wanted, ending) }
+        Step::At(at, script, wanted, ending) => is_run_at(alloc, at, script, wanted, ending),
         Step::Recorded(script, calls) => is_recorded(alloc, script, calls),
         Step::Obeyed(line) => is_run_to(alloc, TWO_LINES, line, b"refused 3 TooShort\n", None),
         Step::Skipped(line) => is_run_to(
@@ -66,7 +69,7 @@ fn comes(alloc: Global, step: Step) -> Option<bool> {
         Step::EmptyLines(left, ending) => are_empty_lines(alloc, left, ending),
         Step::Narrow(script, room, ending) => is_narrow(alloc, script, room, ending),
         Step::Unflushed(script, ending) => is_unflushed(alloc, script, ending),
-        Step::TakenUp(script, answers) => is_taken_up(alloc, script, answers),
+        Step::TakenUp(at, script, answers) => is_taken_up(alloc, at, script, answers),
     }
 }
 
