@@ -18,6 +18,8 @@ use Rattle.sr_forwarding.specs.declared.role_image.RoleImage.{RoleImage}
 use Rattle.sr_forwarding.specs.declared.role_image.RoleKind.{RoleKind}
 use Rattle.sr_forwarding.specs.Parcels.{ParcelImage}
 use Rattle.sr_node.specs.contracts.image.NodeImagePartialEq.TheImpl as image
+use Rattle.sr_node_table.specs.Nodes.{Table}
+use Rattle.sr_node_table.specs.Equality.{same_table}
 use Rattle.sr_node.specs.declared.per_port.PerPort.{PerPort}
 use Rattle.sr_node.specs.Images.{State}
 use Rattle.sr_node.specs.declared.image.NodeImage.{NodeImage}
@@ -57,8 +59,8 @@ Decides-ports {T} eq each a b =
 Decides-parcels : (a b : List ParcelImage) → Decides (pointwise parcel.ghosts.eq a b) (a ≡ b)
 Decides-parcels a b = slice_eq-Decides (λ x y. search (rules, nat_tests)) a b (pointwise parcel.ghosts.eq a b) refl
 
-pub Decides-image : (a b : NodeImage) → Decides (image.ghosts.eq a b) (state_of a ≡ state_of b)
-Decides-image a b =
+pub Decides-image : ((s t : Table) → Decides (same_table s t) (s ≡ t)) → (a b : NodeImage) → Decides (image.ghosts.eq a b) (state_of a ≡ state_of b)
+Decides-image tables a b =
     Decides-like (image.ghosts.eq a b)
     (λ e. λ i. record {
       role = e.0 i;
@@ -68,8 +70,9 @@ Decides-image a b =
         next_life = e.1.1.1.0 i;
         life_at = e.1.1.1.1.0 i;
         sources = e.1.1.1.1.1.0 i;
-        out = e.1.1.1.1.1.1.0 i;
-        wrong_lan = e.1.1.1.1.1.1.1 i;
+        nodes = e.1.1.1.1.1.1.0 i;
+        out = e.1.1.1.1.1.1.1.0 i;
+        wrong_lan = e.1.1.1.1.1.1.1.1 i;
       };
     })
     (λ e. (
@@ -84,7 +87,10 @@ Decides-image a b =
               ap (λ (s : State). s.core.life_at) e,
               (
                 ap (λ (s : State). s.core.sources) e,
-                (ap (λ (s : State). s.core.out) e, ap (λ (s : State). s.core.wrong_lan) e),
+                (
+                  ap (λ (s : State). s.core.nodes) e,
+                  (ap (λ (s : State). s.core.out) e, ap (λ (s : State). s.core.wrong_lan) e),
+                ),
               ),
             ),
           ),
@@ -97,6 +103,7 @@ Decides-image a b =
     (Decides-and _ _ (Decides-number a.next_life b.next_life)
     (Decides-and _ _ (Decides-since a.life_at b.life_at)
     (Decides-and _ _ (Decides-same_sources a.sources.sources b.sources.sources)
+    (Decides-and _ _ (tables a.nodes.table b.nodes.table)
     (Decides-and _ _
     (Decides-ports (pointwise parcel.ghosts.eq) Decides-parcels (items_of a.outboxes) (items_of b.outboxes))
-    (Decides-ports nat_eq Decides-eqb a.wrong_lan b.wrong_lan))))))))
+    (Decides-ports nat_eq Decides-eqb a.wrong_lan b.wrong_lan)))))))))

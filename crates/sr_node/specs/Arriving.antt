@@ -18,6 +18,9 @@ use Rattle.sr_forwarding.specs.Parcels.{ParcelImage}
 use Rattle.sr_forwarding.specs.Headers.{header_of}
 use Rattle.sr_forwarding.specs.Routes.{routes}
 use Rattle.sr_forwarding.specs.Proxies.{learned}
+use Rattle.sr_supervision.specs.declared.message.Supervision.{Supervision}
+use Rattle.sr_node_table.specs.Stating.{has_at}
+use Rattle.sr_node.specs.Hearing.{SaysOf, nodes_after}
 use Rattle.sr_node.specs.declared.event.Answer.{Answer}
 use Rattle.sr_node.specs.declared.event.Answer.TheVariants as answer
 use Rattle.sr_node.specs.declared.fault.StepFault.{StepFault}
@@ -76,9 +79,9 @@ next_at next port p = if is_plain_at_interlink port p.form then after next else 
 abbrev pub going_on : State → Port → ParcelImage → ParcelImage
 going_on s port p = record p { seq = number_at s.core.next port p }
 
--- whether the node knows a node with this address at this time; it keeps no table of nodes yet
+-- whether the node knows a node with this address at this time
 abbrev pub dst_known : State → Mac → ℕ → Bool
-dst_known s mac now = false
+dst_known s mac now = has_at s.core.nodes mac now
 
 -- what routes read of a parcel
 abbrev pub header_at : State → ParcelImage → ℕ → Header
@@ -117,14 +120,15 @@ arrive_refusal s port p now =
 abbrev pub wrong_lan_after : PerPort ℕ → Port → ParcelImage → PerPort ℕ
 wrong_lan_after counts port p = if p.wrong_lan then with_at counts port (min (at counts port + 1) greatest_count) else counts
 
--- the state after a parcel from this port, as it goes on, went to these outlets
-abbrev pub passed : State → Port → ParcelImage → Seq → ℕ → Outlets → State
-passed s port p next now outlets = record {
+-- the state after a parcel from this port, as it goes on, went to these outlets, and what it said was heard
+abbrev pub passed : State → Port → ParcelImage → Seq → ℕ → Outlets → Option Supervision → State
+passed s port p next now outlets said = record {
   role = learned s.role (header_at s p now) port now;
   core = record s.core {
     time = now;
     next = next;
     sources = sources_after s.core.sources port (header_of p).src p.seq (wanted_at s port p now) now;
+    nodes = nodes_after s.core.nodes s.role port (header_of p).src p.seq said now;
     out = put_at s.core.out outlets p;
     wrong_lan = wrong_lan_after s.core.wrong_lan port p;
   };
@@ -134,7 +138,10 @@ passed s port p next now outlets = record {
 abbrev pub PassedTo : State → Port → ParcelImage → ℕ → Option Outlets → List Port → State → Type 0
 PassedTo s port p now None ports t = ⊥
 PassedTo s port p now (Some outlets) ports t =
-    (ports ≡ listed outlets) × (t ≡ passed s port (going_on s port p) (next_at s.core.next port p) now outlets)
+    (said : Option Supervision)
+    × SaysOf p said
+    × (ports ≡ listed outlets)
+    × (t ≡ passed s port (going_on s port p) (next_at s.core.next port p) now outlets said)
 
 -- from s, an arrival may be answered so, and leave t
 abbrev pub Arrived : State → Port → ParcelImage → ℕ → Answer → State → Type 0

@@ -4,6 +4,8 @@ use Rattle.sr_frame.specs.declared.fields.Mac.{Mac}
 use Rattle.sr_sequence.specs.declared.Seq.{Seq}
 use Rattle.sr_dup_table.specs.Sources.{Sources, Table, is_ready}
 use Rattle.sr_forwarding.specs.declared.role_image.RoleImage.{RoleImage}
+use Rattle.sr_node_table.specs.Nodes.{Nodes, empty_table}
+use Rattle.sr_node_table.specs.Nodes as nodes
 use Rattle.sr_node.specs.declared.per_port.PerPort.{PerPort}
 use Rattle.sr_node.specs.PerPort.{same_for_all}
 use Rattle.sr_node.specs.Outboxes.{Outboxes, boxes_empty}
@@ -16,17 +18,19 @@ pub record CoreValue : Type 0 where
   pub next_life : Seq
   pub life_at : Option ℕ
   pub table : Table
+  pub nodes : Nodes
   pub out : Outboxes
   pub wrong_lan : PerPort ℕ
 
 -- What shows of it: the greatest time that was handed in, the next number of a frame and of a life check, when the last life check
--- was sent, what is noted of each source, what waits, and of each port how many frames had the other LAN's trailer.
+-- was sent, what is noted of each source, what is heard of other nodes, what waits, and of each port how many frames had the other LAN's trailer.
 pub record Image : Type 0 where
   pub time : ℕ
   pub next : Seq
   pub next_life : Seq
   pub life_at : Option ℕ
   pub sources : Sources
+  pub nodes : nodes.Table
   pub out : Outboxes
   pub wrong_lan : PerPort ℕ
 
@@ -37,6 +41,7 @@ shown c = record {
   next_life = c.next_life;
   life_at = c.life_at;
   sources = c.table.sources;
+  nodes = c.nodes.table;
   out = c.out;
   wrong_lan = c.wrong_lan;
 }
@@ -49,6 +54,7 @@ start = record {
   next_life = record { 0 = first_life_number };
   life_at = None;
   sources = [];
+  nodes = empty_table;
   out = boxes_empty;
   wrong_lan = same_for_all 0;
 }
@@ -83,4 +89,4 @@ IsReady table src (Some seq) = is_ready table src ≡ true
 
 -- no place is held, as between events
 abbrev pub IsIdle : CoreValue → Type 0
-IsIdle c = c.table.held ≡ []
+IsIdle c = (c.table.held ≡ []) × (c.nodes.held ≡ [])

@@ -21,6 +21,7 @@ state_of i = record {
     next_life = i.next_life;
     life_at = i.life_at;
     sources = i.sources.sources;
+    nodes = i.nodes.table;
     out = items_of i.outboxes;
     wrong_lan = i.wrong_lan;
   };

@@ -29,15 +29,16 @@ IsAdmitted s port p now admission.Own = (is_own s p ≡ true) × (arrive_refusal
 IsAdmitted s port p now (admission.Other header wanted) = IsOther s port p now header wanted
 
 -- where an arrival is wanted and where it is new, with room there
-pub record IsPassing (s : State) (port : Port) (p : ParcelImage) (now : ℕ) (wanted outlets : Outlets) : Type 0 where
+pub record IsPassing (s : State) (port : Port) (p : ParcelImage) (now : ℕ) (header : Header) (wanted outlets : Outlets) : Type 0 where
   pub inlet : is_host port ≡ false
+  pub read : header ≡ header_at s (going_on s port p) now
   pub asked : wanted ≡ wanted_at s port (going_on s port p) now
   pub goes : goes s port p now ≡ Some outlets
   pub room : first_full s.core.out outlets ≡ None
 
 abbrev pub ArrivalIs : State → Port → ParcelImage → ℕ → Plan → Type 0
 ArrivalIs s port p now plan.Own = is_own s p ≡ true
-ArrivalIs s port p now (plan.Pass wanted outlets spot) = (is_own s p ≡ false) × IsPassing s port p now wanted outlets
+ArrivalIs s port p now (plan.Pass header wanted outlets spot) = (is_own s p ≡ false) × IsPassing s port p now header wanted outlets
 
 -- where a life check goes, if one is due
 abbrev pub LifeIs : State → ℕ → Option Outlets → Type 0

@@ -9,6 +9,7 @@ use Rattle.sr_forwarding.specs.declared.outlets.Outlets.{Outlets}
 use Rattle.sr_forwarding.specs.Routes.{routes}
 use Rattle.sr_forwarding.specs.Parcels.{ParcelImage}
 use Rattle.sr_forwarding.specs.Proxies.{pruned, pruned_count}
+use Rattle.sr_node_table.specs.Watching.{after_prune}
 use Rattle.sr_node.specs.declared.event.Answer.{Answer}
 use Rattle.sr_node.specs.declared.event.Answer.TheVariants as answer
 use Rattle.sr_node.specs.declared.fault.StepFault.{StepFault}
@@ -47,11 +48,11 @@ tick_refusal s now =
 abbrev pub life_checked : State → ℕ → Image
 life_checked s now = record (sent s (next_life_check s) (life_outlets s now) now) { next_life = after s.core.next_life; life_at = Some now }
 
--- the core without the forgotten sources
+-- the core without the forgotten sources and nodes, with the alarms that a prune raises
 abbrev pub aged : Image → ℕ → Image
-aged i now = record i { time = now; sources = live_at now i.sources }
+aged i now = record i { time = now; sources = live_at now i.sources; nodes = after_prune i.nodes now }
 
--- a life check is sent where it is due, and then the forgotten sources go
+-- a life check is sent where it is due, and then the forgotten sources and nodes go
 abbrev pub after_tick : State → ℕ → Image
 after_tick s now = if is_due s.core.life_at now then aged (life_checked s now) now else aged s.core now
 
@@ -59,14 +60,14 @@ after_tick s now = if is_due s.core.life_at now then aged (life_checked s now) n
 abbrev pub life_number : State → ℕ → Option Seq
 life_number s now = if is_due s.core.life_at now then Some s.core.next else None
 
--- from s, a tick may be answered so, and leave t; no nodes are kept yet
+-- from s, a tick may be answered so, and leave t
 abbrev pub TickedAs : State → ℕ → Answer → State → Type 0
 TickedAs s now answer.Own t = ⊥
 TickedAs s now (answer.Passed ports) t = ⊥
 TickedAs s now (answer.Sent number) t = ⊥
 TickedAs s now (answer.Ticked sources nodes proxies life) t =
     (sources + length (live_at now s.core.sources) ≡ length s.core.sources)
-    × (nodes ≡ 0)
+    × (nodes + length (after_prune s.core.nodes now).entries ≡ length s.core.nodes.entries)
     × (proxies ≡ pruned_count s.role now)
     × (life ≡ life_number s now)
     × (t ≡ record { role = pruned s.role now; core = after_tick s now })

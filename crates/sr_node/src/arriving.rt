@@ -5,6 +5,7 @@ ghost use Rattle.sr_node.specs.Faults.{or_no_memory};
 ghost use Rattle.sr_node.specs.Outboxes.{first_full};
 ghost use Rattle.sr_node.specs.Copies.{no_copies, copies_for, Room};
 ghost use Rattle.sr_node.specs.Images.{shown, node_state, IsReady, IsIdle};
+ghost use Rattle.sr_node.specs.Hearing.{IsHeldFor, IsHeldToo};
 ghost use Rattle.sr_node.specs.Lanes.{is_host};
 ghost use Rattle.sr_forwarding.specs.Proxies.{learned};
 ghost use Rattle.sr_node.specs.Arriving.{is_too_long, is_untagged, takes_unnumbered, dst_known, header_at, wanted_at, going_on, number_at, next_at, goes, outlets_fault, arrive_refusal, Arrived, passed};
@@ -12,12 +13,14 @@ ghost use Rattle.sr_node.specs.Octets.{OctetsArrived, OctetsRefused};
 ghost use Rattle.sr_node.specs.Plans.{ArrivalIs, IsAdmitted, IsPassing};
 
 use crate::copies::{Copies, no_copies};
+use crate::hearing::{Heard, said_by};
 use crate::state::is_plain_at_interlink;
 use crate::{Answer, NodeOf, StepFault};
 use sr_forwarding::{Form, Framing, Header, Outlets, ParcelView, ReadFault, Role, RoleKind};
 use sr_frame::{Mac, NoMemory, Port};
 use sr_sequence::Seq;
 use sr_slots::Spot;
+use sr_supervision::Supervision;
 
 /// The most octets of a plain frame, which leaves room for a tag or a trailer.
 pub(crate) const MAX_PLAIN_LEN: usize = 1518;
@@ -43,6 +46,8 @@ pub(crate) enum Plan {
     Own,
     /// It passes.
     Pass {
+        /// What routes read of it as it goes on.
+        header: Header,
         /// Where the role wants it.
         wanted: Outlets,
         /// Of these, where it is new, and where it goes.
@@ -93,10 +98,10 @@ fn numbered<'a>(port: Port, parcel: ParcelView<'a>, next: Seq) -> ParcelView<'a>
 
 impl<R: Role> NodeOf<R> {
     /// Whether the node knows a node with this address at this time.
-    pub(crate) fn is_dst_known(&self, _dst: Mac, _now: u64) -> bool
-        ensures { result ≡ dst_known (node_state (R.meaning self.now.role) self.now.core) _dst _now }
+    pub(crate) fn is_dst_known(&self, dst: Mac, now: u64) -> bool
+        ensures { result ≡ dst_known (node_state (R.meaning self.now.role) self.now.core) dst now }
     {
-        false
+        self.core.nodes().has(dst, now)
     }
 
     /// What routes read of a parcel.
@@ -187,6 +192,7 @@ impl<R: Role> NodeOf<R> {
                 };
                 self.core.room_for(outlets)?;
                 Ok(Plan::Pass {
+                    header,
                     wanted,
                     outlets,
                     spot,
@@ -202,6 +208,7 @@ impl<R: Role> NodeOf<R> {
         going: &ParcelView<'_>,
         header: &Header,
         spot: Option<Spot>,
+        heard: &Heard,
         now: u64,
         outlets: Outlets,
         copies: &mut Copies,
@@ -211,13 +218,15 @@ impl<R: Role> NodeOf<R> {
         ensures copies { OnOk result (copies.new ≡ copies_for outlets going.now) }
         ensures room { OnOk result (Room self.new.core.out copies.new) }
         ensures ready { OnOk result (IsReady self.new.core.table header.now.src header.now.seq) }
+        ensures number { OnOk result (IsHeldFor self.new.core.nodes header.now.src heard.now.number) }
+        ensures announced { OnOk result (IsHeldToo self.new.core.nodes heard.now.announced) }
         ensures role { OnOk result (R.meaning self.new.role ≡ learned (R.meaning self.old.role) header.now port now) }
         ensures shown { shown self.new.core ≡ shown self.old.core }
         ensures err { OnErr result (R.meaning self.new.role ≡ R.meaning self.old.role) }
         ensures idle { OnErr result (IsIdle self.old.core → IsIdle self.new.core) }
     {
         self.core.copies(outlets, going, copies)?;
-        self.core.hold(header, spot)?;
+        self.core.hold(header, spot, heard)?;
         // Its success shows, so it is the last.
         if let Err(fault) = self.role.learn(self.core.alloc(), header, port, now) {
             self.core.release();
@@ -231,26 +240,47 @@ impl<R: Role> NodeOf<R> {
         &mut self,
         port: Port,
         parcel: ParcelView<'_>,
+        header: &Header,
         now: u64,
         wanted: Outlets,
         outlets: Outlets,
         spot: Option<Spot>,
+        said: Option<Supervision>,
     ) -> Result<(), NoMemory>
-        requires { IsPassing (node_state (R.meaning self.old.role) self.old.core) port parcel now wanted outlets }
+        requires { IsPassing (node_state (R.meaning self.old.role) self.old.core) port parcel now header.now wanted outlets }
         ensures ok { OnOk result (node_state (R.meaning self.new.role) self.new.core
             ≡ passed (node_state (R.meaning self.old.role) self.old.core) port
             (going_on (node_state (R.meaning self.old.role) self.old.core) port parcel.entry)
-            (next_at self.old.core.next port parcel.entry) now outlets) }
+            (next_at self.old.core.next port parcel.entry) now outlets said) }
         ensures err { OnErr result (node_state (R.meaning self.new.role) self.new.core
             ≡ node_state (R.meaning self.old.role) self.old.core) }
         ensures idle { IsIdle self.old.core → IsIdle self.new.core }
     {
-        let header = self.header_on(port, &parcel, now);
         let next = self.core.next_at(port, &parcel);
         let going = numbered(port, parcel, self.core.next());
+        let heard = self.heard_in(port, header, said, now);
         let mut copies = no_copies();
-        self.grow(port, &going, &header, spot, now, outlets, &mut copies)?;
-        self.core.pass(port, &going, &header, spot, next, wanted, &mut copies, now);
+        self.grow(
+            port,
+            &going,
+            header,
+            spot,
+            &heard,
+            now,
+            outlets,
+            &mut copies,
+        )?;
+        self.core.pass(
+            port,
+            &going,
+            header,
+            spot,
+            &heard,
+            next,
+            wanted,
+            &mut copies,
+            now,
+        );
         Ok(())
     }
 
@@ -301,11 +331,13 @@ impl<R: Role> NodeOf<R> {
                 Ok(Answer::Own)
             }
             Plan::Pass {
+                header,
                 wanted,
                 outlets,
                 spot,
             } => {
-                self.pass(port, parcel, now, wanted, outlets, spot)?;
+                let said = said_by(&parcel);
+                self.pass(port, parcel, &header, now, wanted, outlets, spot, said)?;
                 Ok(Answer::Passed(outlets.ports(self.core.alloc())))
             }
         }

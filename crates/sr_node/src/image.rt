@@ -8,6 +8,7 @@ use crate::{NodeOf, PerPort};
 use sr_dup_table::DupTable;
 use sr_forwarding::{Parcel, Role, RoleImage};
 use sr_frame::NoMemory;
+use sr_node_table::NodeTable;
 use sr_sequence::Seq;
 
 /// A node's whole state as data.
@@ -25,6 +26,8 @@ pub struct NodeImage {
     pub life_at: Option<u64>,
     /// What is noted of each source.
     pub sources: DupTable,
+    /// The nodes that were heard, and the alarms.
+    pub nodes: NodeTable,
     /// What waits at each port, the first to go out first.
     pub outboxes: PerPort<Vec<Parcel>>,
     /// Of each port, how many frames came in with the other LAN's trailer.

@@ -1,9 +1,13 @@
 //! What a node keeps beside its role: what grows, and the changes, of which none can fail.
 
-ghost use Rattle.std.specs.Prelude.{◌≡◌, ◌+◌, IfOk, OnOk, IfErr, OnErr, None, Some, true, false, is_some, length, max, unwrap_or};
-ghost use Rattle.std.specs.Option.{option_map};
+ghost use Rattle.std.specs.Prelude.{◌≡◌, ◌+◌, IfOk, OnOk, IfErr, OnErr, IsSome, None, Some, true, false, is_some, length, max, unwrap_or};
+ghost use Rattle.std.specs.Option.{option_map, ForSome};
 ghost use Rattle.std.specs.Result.{result_ok};
 ghost use Rattle.sr_dup_table.specs.Sources.{live_at};
+ghost use Rattle.sr_frame.specs.declared.fields.Mac.{Mac as Address};
+ghost use Rattle.sr_node_table.specs.Nodes.{is_held};
+ghost use Rattle.sr_node_table.specs.Watching.{after_prune};
+ghost use Rattle.sr_node.specs.Hearing.{is_network, IsHeldFor, IsHeldToo, IsReadyFor, nodes_heard, nodes_told};
 ghost use Rattle.sr_node.specs.Lanes.{is_host, new_outlets, sources_after};
 ghost use Rattle.sr_node.specs.Outboxes.{box_at, boxes_left, first_full, first_of};
 ghost use Rattle.sr_node.specs.Copies.{Room, no_copies, copies_for, put_copies};
@@ -14,14 +18,17 @@ ghost use Rattle.sr_node.specs.Absorbing.{Absorbed, absorb_fault};
 ghost use Rattle.sr_node.specs.Arriving.{is_plain_at_interlink, number_at, next_at, wrong_lan_after, full_fault};
 
 use crate::copies::{Copies, copies_for, put_copies};
+use crate::hearing::Heard;
 use crate::lanes::{lanes_noted, outlets_on};
 use crate::life_checks::is_due;
 use crate::{NodeImage, Outbox, PerPort, StepFault};
 use sr_dup_table::{DupFault, DupTable, TableFull};
 use sr_forwarding::{Form, Header, Outlets, Parcel, ParcelView, RoleImage};
-use sr_frame::{NoMemory, Port};
+use sr_frame::{Mac, NoMemory, Port};
+use sr_node_table::NodeTable;
 use sr_sequence::Seq;
 use sr_slots::{Keys, Spot};
+use sr_supervision::Supervision;
 use std::alloc::Global;
 use std::marker::Model;
 
@@ -39,6 +46,7 @@ pub struct Core {
     next_life: Seq,
     life_at: Option<u64>,
     table: DupTable,
+    nodes: NodeTable,
     out: PerPort<Outbox>,
     wrong_lan: PerPort<u64>,
     alloc: Global,
@@ -55,6 +63,7 @@ impl Model for Core {
       next_life = c.next_life;
       life_at = c.life_at;
       table = c.table;
+      nodes = c.nodes;
       out = c.out;
       wrong_lan = c.wrong_lan;
     } };
@@ -93,6 +102,7 @@ impl Core {
             next_life: FIRST_LIFE_NUMBER,
             life_at: None,
             table: DupTable::with_keys(alloc, keys),
+            nodes: NodeTable::with_keys(alloc, keys)?,
             out: PerPort::empty(alloc)?,
             wrong_lan: PerPort {
                 h: 0,
@@ -155,6 +165,7 @@ impl Core {
             next_life: self.next_life,
             life_at: self.life_at,
             sources: self.table.try_clone(self.alloc)?,
+            nodes: self.nodes.try_clone()?,
             outboxes: self.out.to_lists(self.alloc)?,
             wrong_lan: self.wrong_lan,
         })
@@ -259,16 +270,49 @@ impl Core {
         Ok((outlets_on(look.fresh, wanted), look.spot))
     }
 
-    /// Makes room for the note of a frame. Nothing that shows changes. NoMemory: nothing at all.
-    pub(crate) fn hold(&mut self, header: &Header, spot: Option<Spot>) -> Result<(), NoMemory>
+    /// The nodes that were heard, and the alarms.
+    pub(crate) fn nodes(&self) -> &NodeTable
+        ensures { result.now ≡ self.now.nodes }
+    {
+        &self.nodes
+    }
+
+    /// Makes room for the note of a frame and for what it makes known. Nothing that shows changes.
+    pub(crate) fn hold(
+        &mut self,
+        header: &Header,
+        spot: Option<Spot>,
+        heard: &Heard,
+    ) -> Result<(), NoMemory>
         ensures same { shown self.new ≡ shown self.old }
         ensures ready { OnOk result (IsReady self.new.table header.now.src header.now.seq) }
-        ensures err { OnErr result (self.new ≡ self.old) }
+        ensures number { OnOk result (IsHeldFor self.new.nodes header.now.src heard.now.number) }
+        ensures announced { OnOk result (IsHeldToo self.new.nodes heard.now.announced) }
+        ensures err { OnErr result (IsIdle self.old → IsIdle self.new) }
     {
         if header.seq.is_some() {
             self.table.reserve_at(spot, header.src)?;
         }
+        if let Err(fault) = self.hold_nodes(header.src, heard) {
+            self.release();
+            return Err(fault);
+        }
         Ok(())
+    }
+
+    // Makes room for what a frame makes known. Nothing that shows changes.
+    fn hold_nodes(&mut self, src: Mac, heard: &Heard) -> Result<(), NoMemory>
+        ensures same { shown self.new ≡ shown self.old }
+        ensures table { self.new.table ≡ self.old.table }
+        ensures number { OnOk result (IsHeldFor self.new.nodes src heard.now.number) }
+        ensures announced { OnOk result (IsHeldToo self.new.nodes heard.now.announced) }
+    {
+        match (heard.number, heard.announced) {
+            (None, None) => Ok(()),
+            (Some(_), None) => self.nodes.reserve(src, None),
+            (None, Some(said)) => self.nodes.reserve(said.mac, None),
+            (Some(_), Some(said)) => self.nodes.reserve(src, Some(said.mac)),
+        }
     }
 
     /// Gives up the room. Nothing that shows changes.
@@ -277,6 +321,7 @@ impl Core {
         ensures idle { IsIdle self.new }
     {
         self.table.release();
+        self.nodes.release();
     }
 
     // Notes a frame for which there is room.
@@ -284,15 +329,55 @@ impl Core {
         requires port { is_host port ≡ false }
         requires ready { IsReady self.old.table header.now.src header.now.seq }
         requires answered { is_some (new_outlets self.old.table.sources port header.now.src header.now.seq wanted now) ≡ true }
-        ensures { shown self.new ≡ record (shown self.old) {
+        ensures shown { shown self.new ≡ record (shown self.old) {
           sources = sources_after self.old.table.sources port header.now.src header.now.seq wanted now;
         } }
+        ensures nodes { self.new.nodes ≡ self.old.nodes }
     {
         if let Some(seq) = header.seq {
             self.table
                 .arrive_at(spot, header.src, seq, lanes_noted(port, wanted), now)
                 .unwrap();
         }
+    }
+
+    // Hears the source of a frame under a number, if it is heard.
+    fn hear(&mut self, port: Port, src: Mac, number: Option<Seq>, now: u64)
+        requires port { IsSome number → is_network port ≡ true }
+        requires held { IsHeldFor self.old.nodes src number }
+        ensures nodes { shown self.new ≡ record (shown self.old) { nodes = nodes_heard self.old.nodes.table port src number now } }
+        ensures table { self.new.table ≡ self.old.table }
+        ensures ready { (mac : Address) → is_held self.old.nodes mac ≡ true → IsReadyFor self.new.nodes mac now }
+    {
+        if let Some(seq) = number {
+            self.nodes.heard(src, port, seq, now).unwrap();
+        }
+    }
+
+    // Takes up what a frame announces, if it announces anything.
+    fn take_up(&mut self, port: Port, announced: Option<Supervision>, now: u64)
+        requires port { IsSome announced → is_network port ≡ true }
+        requires ready { ForSome announced (λ said. IsReadyFor self.old.nodes said.mac now) }
+        ensures nodes { shown self.new ≡ record (shown self.old) { nodes = nodes_told self.old.nodes.table port announced now } }
+        ensures table { self.new.table ≡ self.old.table }
+    {
+        if let Some(said) = announced {
+            self.nodes.announce(&said, port, now).unwrap();
+        }
+    }
+
+    // Hears what a frame makes known, for which there is room.
+    fn hear_all(&mut self, port: Port, src: Mac, heard: &Heard, now: u64)
+        requires port { (IsSome heard.now.number → is_network port ≡ true) × (IsSome heard.now.announced → is_network port ≡ true) }
+        requires number { IsHeldFor self.old.nodes src heard.now.number }
+        requires announced { IsHeldToo self.old.nodes heard.now.announced }
+        ensures nodes { shown self.new ≡ record (shown self.old) {
+          nodes = nodes_told (nodes_heard self.old.nodes.table port src heard.now.number now) port heard.now.announced now;
+        } }
+        ensures table { self.new.table ≡ self.old.table }
+    {
+        self.hear(port, src, heard.number, now);
+        self.take_up(port, heard.announced, now);
     }
 
     /// The changes of an arrival that passes and goes on as this parcel, of which none can fail.
@@ -302,6 +387,7 @@ impl Core {
         parcel: &ParcelView<'_>,
         header: &Header,
         spot: Option<Spot>,
+        heard: &Heard,
         next: Seq,
         wanted: Outlets,
         copies: &mut Copies,
@@ -311,16 +397,21 @@ impl Core {
         requires ready { IsReady self.old.table header.now.src header.now.seq }
         requires answered { is_some (new_outlets self.old.table.sources port header.now.src header.now.seq wanted now) ≡ true }
         requires room { Room self.old.out copies.old }
+        requires network { (IsSome heard.now.number → is_network port ≡ true) × (IsSome heard.now.announced → is_network port ≡ true) }
+        requires number { IsHeldFor self.old.nodes header.now.src heard.now.number }
+        requires announced { IsHeldToo self.old.nodes heard.now.announced }
         ensures shown { shown self.new ≡ record (shown self.old) {
           time = now;
           next = next;
           sources = sources_after self.old.table.sources port header.now.src header.now.seq wanted now;
+          nodes = nodes_told (nodes_heard self.old.nodes.table port header.now.src heard.now.number now) port heard.now.announced now;
           out = put_copies self.old.out copies.old;
           wrong_lan = wrong_lan_after self.old.wrong_lan port parcel.now;
         } }
         ensures idle { IsIdle self.new }
     {
         self.note(port, header, spot, wanted, now);
+        self.hear_all(port, header.src, heard, now);
         count_wrong_lan(&mut self.wrong_lan, port, parcel);
         put_copies(&mut self.out, copies);
         self.next = next;
@@ -358,6 +449,7 @@ impl Core {
           out = put_copies self.old.out copies.old;
         } }
         ensures held { self.new.table ≡ self.old.table }
+        ensures nodes { self.new.nodes ≡ self.old.nodes }
     {
         put_copies(&mut self.out, copies);
         self.next = self.next.next();
@@ -368,24 +460,31 @@ impl Core {
     pub(crate) fn set_life(&mut self, now: u64)
         ensures shown { shown self.new ≡ record (shown self.old) { next_life = after self.old.next_life; life_at = Some now } }
         ensures held { self.new.table ≡ self.old.table }
+        ensures nodes { self.new.nodes ≡ self.old.nodes }
     {
         self.next_life = self.next_life.next();
         self.life_at = Some(now);
     }
 
-    /// Time passes: the forgotten sources go. Answers how many.
-    pub(crate) fn age(&mut self, now: u64) -> usize
-        ensures shown { shown self.new ≡ record (shown self.old) { time = now; sources = live_at now self.old.table.sources } }
-        ensures count { result + length (live_at now self.old.table.sources) ≡ length self.old.table.sources }
-        ensures held { self.new.table.held ≡ self.old.table.held }
+    /// Time passes: the forgotten sources and nodes go, and alarms are raised. Answers how many of either went.
+    pub(crate) fn age(&mut self, now: u64) -> (usize, usize)
+        ensures shown { shown self.new ≡ record (shown self.old) {
+          time = now;
+          sources = live_at now self.old.table.sources;
+          nodes = after_prune self.old.nodes.table now;
+        } }
+        ensures sources { result.0 + length (live_at now self.old.table.sources) ≡ length self.old.table.sources }
+        ensures nodes { result.1 + length (after_prune self.old.nodes.table now).entries ≡ length self.old.nodes.table.entries }
+        ensures idle { IsIdle self.old → IsIdle self.new }
     {
         self.time = now;
-        self.table.age(now)
+        (self.table.age(now), self.nodes.prune(now))
     }
 
     pub(crate) fn set_time(&mut self, now: u64)
         ensures shown { shown self.new ≡ with_time (shown self.old) now }
         ensures held { self.new.table ≡ self.old.table }
+        ensures nodes { self.new.nodes ≡ self.old.nodes }
     {
         self.time = now;
     }
@@ -395,6 +494,7 @@ impl Core {
         ensures result { result ≡ first_of (box_at self.old.out port) }
         ensures shown { shown self.new ≡ record (shown self.old) { out = boxes_left self.old.out port } }
         ensures held { self.new.table ≡ self.old.table }
+        ensures nodes { self.new.nodes ≡ self.old.nodes }
     {
         self.out.take(port)
     }

@@ -73,9 +73,10 @@ impl<R: Role> NodeOf<R> {
         ensures idle { IsIdle self.old.core → IsIdle self.new.core }
     {
         let Some(outlets) = self.plan_tick(now)? else {
+            let (sources, nodes) = self.core.age(now);
             return Ok(Answer::Ticked {
-                sources: self.core.age(now),
-                nodes: 0,
+                sources,
+                nodes,
                 proxies: self.role.prune(now),
                 life: None,
             });
@@ -85,9 +86,10 @@ impl<R: Role> NodeOf<R> {
         let number = self.core.next();
         self.core.send(&mut copies, now);
         self.core.set_life(now);
+        let (sources, nodes) = self.core.age(now);
         Ok(Answer::Ticked {
-            sources: self.core.age(now),
-            nodes: 0,
+            sources,
+            nodes,
             proxies: self.role.prune(now),
             life: Some(number),
         })

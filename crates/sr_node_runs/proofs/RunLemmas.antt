@@ -18,6 +18,7 @@ use Rattle.sr_forwarding.specs.declared.form.Form.{Form}
 use Rattle.sr_forwarding.specs.Parcels.{ParcelImage}
 use Rattle.sr_forwarding.specs.Headers.{header_of}
 use Rattle.sr_forwarding.specs.Proxies.{learned_at, learned}
+use Rattle.sr_supervision.specs.declared.message.Supervision.{Supervision}
 use Rattle.sr_node.specs.declared.event.Event.{Event}
 use Rattle.sr_node.specs.declared.event.Event.TheVariants as event
 use Rattle.sr_node.specs.declared.event.Answer.{Answer}
@@ -53,14 +54,15 @@ pub record PassedBy (s : State) (port : Port) (p : ParcelImage) (now : ℕ) (t :
   pub other : is_own s p ≡ false
   pub outlets : Outlets
   pub goes : goes s port p now ≡ Some outlets
-  pub after : t ≡ passed s port (going_on s port p) (next_at s.core.next port p) now outlets
+  pub said : Option Supervision
+  pub after : t ≡ passed s port (going_on s port p) (next_at s.core.next port p) now outlets said
 
 pub passed_by : (s : State) (port : Port) (p : ParcelImage) (now : ℕ) (ports : List Port) (t : State) → is_own s p ≡ false → PassedTo s port p now (goes s port p now) ports t → PassedBy s port p now t
 passed_by s port p now ports t other to = by (goes s port p now) refl to
   where
     by : (o : Option Outlets) → goes s port p now ≡ o → PassedTo s port p now o ports t → PassedBy s port p now t
     by None e to = absurd to
-    by (Some outlets) e to = record { other = other; outlets = outlets; goes = e; after = to.1 }
+    by (Some outlets) e to = record { other = other; outlets = outlets; goes = e; said = to.0; after = to.3 }
 
 -- the address stays, and the next number counts those that were given
 pub record IsKept (address : Mac) (count : ℕ) (t : State) : Type 0 where

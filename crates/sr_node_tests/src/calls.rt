@@ -1,10 +1,11 @@
 //! The calls of a node that the steps make. Where a growth is refused, nothing may have changed, and the call is made again.
 
 use crate::frames::{Sent, life_check, octets_of, plain_form, untagged_form};
-use crate::steps::{Outcome, Taken};
+use crate::steps::{Outcome, Taken, Told};
 use sr_forwarding::{Framing, HsrFraming, Parcel, PlainFraming, PrpFraming, RoleKind};
 use sr_frame::{Frame, Mac, Port};
 use sr_node::{Answer, Event, Node, NodeImage, StepFault};
+use sr_node_table::{Alarm, Status};
 use sr_prp_trailer::Lan;
 use sr_sequence::Seq;
 use std::alloc::Global;
@@ -44,6 +45,7 @@ fn outcome_of(answer: &Answer) -> Outcome {
             proxies: 0,
             life,
         } => Outcome::Ticked(*sources, *life),
+        Answer::Ticked { nodes, .. } => Outcome::Forgot(*nodes),
         _ => Outcome::Other,
     }
 }
@@ -266,6 +268,39 @@ pub fn takes(alloc: Global, node: &mut Node, port: Port, wanted: Taken) -> bool 
         None => !seen && matches!(&wanted, Taken::Nothing),
         Some(parcel) => seen && is_as_wanted(alloc, kind, port, &parcel, wanted),
     }
+}
+
+/// Whether these nodes are known, in this order. Want of memory is met by another try.
+pub fn knows(node: &Node, wanted: &[Mac]) -> bool {
+    for _ in 0..2 {
+        if let Ok(nodes) = node.nodes() {
+            return nodes.as_slice() == wanted;
+        }
+    }
+    false
+}
+
+/// Whether these alarms are kept, in this order. Want of memory is met by another try.
+pub fn alarmed(node: &Node, wanted: &[Alarm]) -> bool {
+    for _ in 0..2 {
+        if let Ok(alarms) = node.alarms() {
+            return alarms.as_slice() == wanted;
+        }
+    }
+    false
+}
+
+/// What is told of a node: the ages and the numbers at A and B, and the RedBox.
+pub fn told_of(node: &Node, mac: Mac) -> Option<Told> {
+    let Status {
+        if1_age,
+        if2_age,
+        if1_seq,
+        if2_seq,
+        redbox,
+        ..
+    } = node.status(mac)?;
+    Some(Told(if1_age, if2_age, if1_seq, if2_seq, redbox))
 }
 
 /// Whether a take that is handed over as an event gives what is seen.

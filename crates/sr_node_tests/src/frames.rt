@@ -8,6 +8,9 @@ pub const OWN: Mac = Mac([2, 0, 0, 0, 0, 1]);
 /// Another node.
 pub const OTHER: Mac = Mac([2, 0, 0, 0, 0, 2]);
 
+/// A third node.
+pub const THIRD: Mac = Mac([2, 0, 0, 0, 0, 3]);
+
 /// All nodes.
 pub const EVERYONE: Mac = Mac([0xff; 6]);
 
@@ -47,8 +50,8 @@ pub enum Sent {
     TaggedAround([u8; 2]),
     /// The other node's supervision frame in a ring, with this number.
     Supervision(u16),
-    /// A supervision frame in a ring that speaks of a third node, for which the other node stands; with this size.
-    Announcing(u8),
+    /// A supervision frame in a ring that speaks of this node, for which the other node stands; with this size.
+    Announcing(Mac, u8),
 }
 
 /// 46 zeros behind the addresses and the type, and a trailer with this number, LAN id and size.
@@ -79,12 +82,13 @@ fn supervision(seq: u16) -> [u8; 66] {
     octets
 }
 
-/// Supervision of a third node whose RedBox is the other node.
-fn announcing(size: u8) -> [u8; 66] {
+/// Supervision of a node whose RedBox is the other node.
+fn announcing(mac: Mac, size: u8) -> [u8; 66] {
+    let Mac(m) = mac;
     let mut octets = supervision(64511);
     octets[15] = size;
     octets[20..40].copy_from_slice(&[
-        0, 1, 0x7d, 0xff, 0x17, 6, 2, 0, 0, 0, 0, 3, 0x1e, 6, 2, 0, 0, 0, 0, 2,
+        0, 1, 0x7d, 0xff, 0x17, 6, m[0], m[1], m[2], m[3], m[4], m[5], 0x1e, 6, 2, 0, 0, 0, 0, 2,
     ]);
     octets
 }
@@ -111,7 +115,7 @@ pub fn octets_of(sent: Sent) -> [u8; 66] {
             octets
         }
         Sent::Supervision(seq) => supervision(seq),
-        Sent::Announcing(size) => announcing(size),
+        Sent::Announcing(mac, size) => announcing(mac, size),
     }
 }
 

@@ -8,6 +8,8 @@ mod calls;
 #[cfg(test)]
 mod frames;
 #[cfg(test)]
+mod nodes;
+#[cfg(test)]
 mod noted;
 #[cfg(test)]
 mod rings;

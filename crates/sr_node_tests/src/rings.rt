@@ -1,14 +1,11 @@
 //! Nodes of a ring, frames of the host, and a role that is exchanged.
 
-use crate::frames::{EVERYONE, IP, OTHER, OWN, Sent, VLAN};
+use crate::frames::{EVERYONE, IP, OTHER, OWN, Sent, THIRD, VLAN};
 use crate::steps::{Outcome, Step, Taken, expect_ring_steps, expect_steps};
 use sr_forwarding::{ReadFault, RoleKind};
-use sr_frame::{Mac, Port};
+use sr_frame::Port;
 use sr_node::StepFault;
 use sr_sequence::Seq;
-
-/// A third node.
-const THIRD: Mac = Mac([2, 0, 0, 0, 0, 3]);
 
 // The host's frame goes both ways round under the next number, with the path of each port. Another's group frame goes up
 // and on with its octets, its copy from the other side goes nowhere but back against its way; one for another node goes on.
@@ -72,12 +69,22 @@ fn frames_go_round_a_ring(rt: HostRuntime) {
 
 // Supervision goes on and not up, with its octets, whatever size its tag names.
 const SUPERVISED: &[Step] = &[
-    Step::In(Port::A, Sent::Announcing(0x34), 0, Outcome::To(Port::B)),
-    Step::Take(Port::B, Taken::As(Sent::Announcing(0x34))),
+    Step::In(
+        Port::A,
+        Sent::Announcing(THIRD, 0x34),
+        0,
+        Outcome::To(Port::B),
+    ),
+    Step::Take(Port::B, Taken::As(Sent::Announcing(THIRD, 0x34))),
     Step::Take(Port::H, Taken::Nothing),
-    Step::In(Port::B, Sent::Announcing(0x2e), 0, Outcome::To(Port::A)),
-    Step::Take(Port::A, Taken::As(Sent::Announcing(0x2e))),
-    Step::In(Port::A, Sent::Announcing(0x34), 0, Outcome::Nowhere),
+    Step::In(
+        Port::B,
+        Sent::Announcing(THIRD, 0x2e),
+        0,
+        Outcome::To(Port::A),
+    ),
+    Step::Take(Port::A, Taken::As(Sent::Announcing(THIRD, 0x2e))),
+    Step::In(Port::A, Sent::Announcing(THIRD, 0x34), 0, Outcome::Nowhere),
 ];
 
 #[test]

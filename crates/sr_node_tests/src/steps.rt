@@ -1,12 +1,16 @@
 //! One driver for all tests: it makes a node, takes it through a table of steps, and answers at which step it differs.
 //! No test holds a node, an answer or a parcel itself, which would make its proof long.
 
-use crate::calls::{arrive, arrive_of_many, arrive_zeros, hand, send, takes, takes_by_event, tick};
+use crate::calls::{
+    alarmed, arrive, arrive_of_many, arrive_zeros, hand, knows, send, takes, takes_by_event, tick,
+    told_of,
+};
 use crate::frames::{OTHER, OWN, Sent, octets_of};
 use sr_dup_table::DupFault;
 use sr_forwarding::{Danh, Danp, Role, RoleKind};
 use sr_frame::{Mac, Port};
 use sr_node::{Node, StepFault};
+use sr_node_table::Alarm;
 use sr_sequence::Seq;
 use std::alloc::Global;
 use std::process::Abort;
@@ -22,6 +26,8 @@ pub enum Outcome {
     Own,
     /// A tick that forgot so many sources, and the number of its life check.
     Ticked(usize, Option<Seq>),
+    /// A tick that forgot so many nodes.
+    Forgot(usize),
     /// The host's frame went out under this number.
     Sent(u16),
     /// The frame went to the host and to port B.
@@ -56,6 +62,10 @@ pub enum Taken {
     Life(u16, u16),
 }
 
+/// What is told of another node: the ages and the last numbers at A and B, and its RedBox.
+#[derive(Clone, Copy, PartialEq, Eq)]
+pub struct Told(pub u32, pub u32, pub u16, pub u16, pub Option<Mac>);
+
 /// A step of a node's life, and what it has to come to.
 #[derive(Clone, Copy)]
 pub enum Step {
@@ -79,6 +89,12 @@ pub enum Step {
     Waiting(Port, usize),
     /// How many frames came in at a port with the other LAN's trailer.
     WrongLan(Port, u64),
+    /// Which nodes are known, in the order of first hearing.
+    Knows(&'static [Mac]),
+    /// What is told of a node.
+    Status(Mac, Option<Told>),
+    /// Which alarms are kept, the oldest first.
+    Alarms(&'static [Alarm]),
     /// The node's time.
     Time(u64),
     /// The node gets another role of its address, of this kind.
@@ -199,6 +215,9 @@ fn goes(alloc: Global, node: &mut Node, step: Step) -> bool {
         ) == wanted,
         Step::WrongLan(port, wanted) => node.wrong_lan(port) == wanted,
         Step::Become(kind) => becomes(alloc, node, kind),
+        Step::Knows(wanted) => knows(node, wanted),
+        Step::Status(mac, wanted) => told_of(node, mac) == wanted,
+        Step::Alarms(wanted) => alarmed(node, wanted),
         Step::TakeEvent(port) => takes_by_event(node, port),
         Step::Zeros(port, len, first, now, wanted) => arrive_zeros(node, port, len, first, now)
             == wanted,

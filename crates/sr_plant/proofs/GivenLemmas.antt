@@ -61,7 +61,7 @@ arrived_few s port p now (answer.Passed ports) t empty came = by_outlets (goes s
   where
     by_outlets : (o : Option Set) → PassedTo s port p now o ports.items t → IsAtMostOneEach t.core.out
     by_outlets None came = absurd came
-    by_outlets (Some o) came = rw (came.1, empty) (put_few o (going_on s port p))
+    by_outlets (Some o) came = rw (came.3, empty) (put_few o (going_on s port p))
 arrived_few s port p now (answer.Sent number) t empty came = absurd came
 arrived_few s port p now (answer.Ticked sources nodes proxies life) t empty came = absurd came
 arrived_few s port p now (answer.Taken given) t empty came = absurd came

@@ -121,7 +121,7 @@ arrived_kind s port p now (answer.Passed ports) t came = by_outlets (goes s port
   where
     by_outlets : (o : Option Set) → PassedTo s port p now o ports.items t → t.role.kind ≡ s.role.kind
     by_outlets None came = absurd came
-    by_outlets (Some o) came = rw came.1 (learned_kind s.role.kind port s.role (header_at s (going_on s port p) now) now)
+    by_outlets (Some o) came = rw came.3 (learned_kind s.role.kind port s.role (header_at s (going_on s port p) now) now)
 arrived_kind s port p now (answer.Sent number) t came = absurd came
 arrived_kind s port p now (answer.Ticked sources nodes proxies life) t came = absurd came
 arrived_kind s port p now (answer.Taken given) t came = absurd came

@@ -55,7 +55,7 @@ const SAN_MOVES: &[Step] = &[
     Step::Out(Port::C, Sent::Plain(M9, M2)),
 ];
 
-// A node is proxied for 60000 ms.
+// A node is proxied for 60000 ms. What is for a node that was heard in the ring stays off the interlink.
 const SAN_FORGETS: &[Step] = &[
     Step::In(Port::C, Sent::Plain(M8, M9), 0, &[Port::A, Port::B]),
     Step::Tick(59999, 0),
@@ -63,10 +63,11 @@ const SAN_FORGETS: &[Step] = &[
     Step::Tick(60000, 1),
     Step::In(
         Port::B,
-        Sent::Tagged(M2, M9, 0, 6),
+        Sent::Tagged(M8, M9, 0, 6),
         60000,
         &[Port::A, Port::C],
     ),
+    Step::In(Port::B, Sent::Tagged(M2, M9, 0, 7), 60000, &[Port::A]),
 ];
 
 // With 256 others proxied, the group frame of one more goes out all the same, and its copy that comes round goes nowhere.
