@@ -28,6 +28,7 @@ use Rattle.sr_node.specs.declared.fault.StepFault.TheVariants as fault
 use Rattle.sr_node.specs.Limits.{first_number}
 use Rattle.sr_node.specs.Images.{State, begun, time_at, after}
 use Rattle.sr_node.specs.Lanes.{lanes_noted, new_outlets, sources_after}
+use Rattle.sr_node.specs.Hearing.{SaysOf}
 use Rattle.sr_node.specs.LifeChecks.{is_due}
 use Rattle.sr_node.specs.Arriving.{is_own, is_plain_at_interlink, is_too_long, is_untagged, going_on, number_at, next_at, wanted_at, header_at, goes, passed, PassedTo, arrive_refusal, outlets_fault}
 use Rattle.sr_node.specs.Ticking.{after_tick}
@@ -55,6 +56,7 @@ pub record PassedBy (s : State) (port : Port) (p : ParcelImage) (now : ℕ) (t :
   pub outlets : Outlets
   pub goes : goes s port p now ≡ Some outlets
   pub said : Option Supervision
+  pub says : SaysOf p said
   pub after : t ≡ passed s port (going_on s port p) (next_at s.core.next port p) now outlets said
 
 pub passed_by : (s : State) (port : Port) (p : ParcelImage) (now : ℕ) (ports : List Port) (t : State) → is_own s p ≡ false → PassedTo s port p now (goes s port p now) ports t → PassedBy s port p now t
@@ -62,7 +64,7 @@ passed_by s port p now ports t other to = by (goes s port p now) refl to
   where
     by : (o : Option Outlets) → goes s port p now ≡ o → PassedTo s port p now o ports t → PassedBy s port p now t
     by None e to = absurd to
-    by (Some outlets) e to = record { other = other; outlets = outlets; goes = e; said = to.0; after = to.3 }
+    by (Some outlets) e to = record { other = other; outlets = outlets; goes = e; said = to.0; says = to.1; after = to.3 }
 
 -- the address stays, and the next number counts those that were given
 pub record IsKept (address : Mac) (count : ℕ) (t : State) : Type 0 where

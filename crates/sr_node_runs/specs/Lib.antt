@@ -5,3 +5,4 @@ pub mod NodeLaws
 pub mod AnyRuns
 pub mod SteadyExamples
 pub mod Written
+pub mod Heard
