@@ -14,7 +14,7 @@ use Rattle.sr_dup_table.specs.Limits.{window, most_sources}
 use Rattle.sr_dup_table.specs.Sources.{Heard, Sources, is_live, live_at, with_room, begun_at, heard_next, after_of}
 use Rattle.sr_dup_table.specs.Joins.{joined}
 use Rattle.sr_dup_runs.specs.TableRuns.{Noting}
-use Rattle.sr_dup_joins.specs.Growths.{Growth, empty, arrived, aged, merged, Grew, arrivals_of, remembered, epoch, numbers, latest, IsSteady}
+use Rattle.sr_dup_joins.specs.Growths.{Growth, empty, arrived, aged, merged, Grew, arrivals_of, remembered, epoch, numbers, latest, AreInOrder, AreSteady, IsSteady}
 use Rattle.sr_dup_joins.specs.GrowthLaws.{Tells, KeepsAll, TablesAgree}
 use Rattle.sr_dup_joins.proofs.ListLemmas.{Among, among-from, contains-from, among-left, among-right, among-either, among-remembered, number-of, same-numbers-among, no-newer}
 use Rattle.sr_dup_joins.proofs.GrowthLemmas.{kept, live-is}
@@ -89,28 +89,28 @@ after-there x old src (Some was) at keys h =
     by true p new g = inl (mac_symm src x.arrival.src ∙ p)
     by false p new g = inr g
 
-arrival-of : (t : Growth) (s : Sources) (src : Mac) → Grew t s → IsSteady t → is_some (lookup (mac_eq src) s) ≡ true → HasArrival t src
-arrival-of empty s src grew steady h = let bad : true ≡ false = sym h ∙ ap (λ z. is_some (lookup (mac_eq src) z)) grew in cc
-arrival-of (arrived t x) s src grew steady h =
+arrival-of : (t : Growth) (s : Sources) (src : Mac) → Grew t s → AreInOrder t → AreSteady t → is_some (lookup (mac_eq src) s) ≡ true → HasArrival t src
+arrival-of empty s src grew order steady h = let bad : true ≡ false = sym h ∙ ap (λ z. is_some (lookup (mac_eq src) z)) grew in cc
+arrival-of (arrived t x) s src grew order steady h =
     let old = grew.0 in
-    let keys = (kept t old grew.2 steady.0).keys in
+    let keys = (kept t old grew.2 order.0 steady.0).keys in
     elim (after-there x old src (lookup (mac_eq x.arrival.src) old) refl keys (ap (λ z. is_some (lookup (mac_eq src) z)) (sym grew.3.2) ∙ h)) [
       | inl own ↦ (x, inl refl, own)
-      | inr there ↦ let r = arrival-of t old src grew.2 steady.0 there in (r.0, inr r.1, r.2)
+      | inr there ↦ let r = arrival-of t old src grew.2 order.0 steady.0 there in (r.0, inr r.1, r.2)
     ]
-arrival-of (aged t now) s src grew steady h =
+arrival-of (aged t now) s src grew order steady h =
     let old = grew.0 in
-    let keys = (kept t old grew.1 steady.0).keys in
-    arrival-of t old src grew.1 steady.0 (live-there now old src keys (ap (λ z. is_some (lookup (mac_eq src) z)) (sym grew.2) ∙ h))
-arrival-of (merged t u now) s src grew steady h =
+    let keys = (kept t old grew.1 order.0 steady).keys in
+    arrival-of t old src grew.1 order.0 steady (live-there now old src keys (ap (λ z. is_some (lookup (mac_eq src) z)) (sym grew.2) ∙ h))
+arrival-of (merged t u now) s src grew order steady h =
     let one = grew.0 in
     let other = grew.1 in
     elim (joined-there (lookup (mac_eq src) (live_at now one)) (lookup (mac_eq src) (live_at now other)) (ap is_some (sym (grew.4.each src)) ∙ h)) [
       | inl there ↦
-          let r = arrival-of t one src grew.2 steady.0 (live-there now one src (kept t one grew.2 steady.0).keys there) in
+          let r = arrival-of t one src grew.2 order.0 steady.0 (live-there now one src (kept t one grew.2 order.0 steady.0).keys there) in
           (r.0, among-left (arrivals_of t) (arrivals_of u) r.0 r.1, r.2)
       | inr there ↦
-          let r = arrival-of u other src grew.3 steady.1 (live-there now other src (kept u other grew.3 steady.1).keys there) in
+          let r = arrival-of u other src grew.3 order.1 steady.1 (live-there now other src (kept u other grew.3 order.1 steady.1).keys there) in
           (r.0, among-right (arrivals_of t) (arrivals_of u) r.0 r.1, r.2)
     ]
 
@@ -126,12 +126,12 @@ all-live : (t : Growth) (s : Sources) (src : Mac) (now : ℕ) → Grew t s → I
 all-live t s src now grew steady le all = by (lookup (mac_eq src) s) refl
   where
     told : Tells src (epoch src now t) (passing (is_live now) (lookup (mac_eq src) s))
-    told = (kept t s grew steady).tells src now le
+    told = (kept t s grew steady.0 steady.1).tells src now le
 
     at : (h : Heard) → lookup (mac_eq src) s ≡ Some h → (b : Bool) → is_live now h ≡ b → cond b (Some h) None ≡ Some h
     at h is true p = refl
     at h is false p =
-        let r = arrival-of t s src grew steady (ap is_some is) in
+        let r = arrival-of t s src grew steady.0 steady.1 (ap is_some is) in
         let among : Among (epoch src now t) r.0 = epoch-of t src now r.0 all r.2 r.1 in
         let gone : passing (is_live now) (lookup (mac_eq src) s) ≡ None = ap (passing (is_live now)) is ∙ ap (λ b. cond b (Some h) None) p in
         let none : epoch src now t ≡ [] = subst (λ o. Tells src (epoch src now t) o) gone told in
@@ -172,5 +172,5 @@ tables_agree t u one other now grew_t grew_u steady_t steady_u le_t le_u all_t a
     sym (all-live t one src now grew_t steady_t le_t all_t)
     ∙ same-told src (epoch src now t) (epoch src now u) (passing (is_live now) (lookup (mac_eq src) one)) (passing (is_live now) (lookup (mac_eq src) other))
     (carried-over t u src now all_u (λ x. (same x).0)) (carried-over u t src now all_t (λ x. (same x).1))
-    ((kept t one grew_t steady_t).tells src now le_t) ((kept u other grew_u steady_u).tells src now le_u)
+    ((kept t one grew_t steady_t.0 steady_t.1).tells src now le_t) ((kept u other grew_u steady_u.0 steady_u.1).tells src now le_u)
     ∙ all-live u other src now grew_u steady_u le_u all_u

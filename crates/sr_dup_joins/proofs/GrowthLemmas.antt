@@ -20,7 +20,7 @@ use Rattle.sr_dup_table.specs.Limits.{window, most_sources}
 use Rattle.sr_dup_table.specs.Sources.{Heard, Sources, is_recent, is_live, live_at, with_room, begun_at, heard_next, answer_of, after_of}
 use Rattle.sr_dup_table.specs.Joins.{joined, joined_heard, IsJoin, lacking_in}
 use Rattle.sr_dup_runs.specs.TableRuns.{Noting}
-use Rattle.sr_dup_joins.specs.Growths.{Growth, empty, arrived, aged, merged, Grew, newest, remembered, epoch, numbers, latest, IsNearAll, AreClose, IsSteady}
+use Rattle.sr_dup_joins.specs.Growths.{Growth, empty, arrived, aged, merged, Grew, newest, remembered, epoch, numbers, latest, IsNearAll, AreClose, AreInOrder, AreSteady}
 use Rattle.sr_dup_joins.specs.GrowthLaws.{Tells, TablesStand, AnswersByTheUnion}
 use Rattle.sr_dup_joins.proofs.ListLemmas.{stands-like, one-number, more-numbers, both-numbers, newest-both}
 
@@ -252,44 +252,48 @@ module _ (t : Growth) (x : Noting) (old : Sources) (kept : Kept t old) (le : lat
 pub live-is : (now : ℕ) (s : Sources) (src : Mac) → IsDistinct mac_eq (keys_of s) → lookup (mac_eq src) (live_at now s) ≡ passing (is_live now) (lookup (mac_eq src) s)
 live-is now s src keys = lookup-passing (is_live now) src s keys
 
-pub kept : (t : Growth) (s : Sources) → Grew t s → IsSteady t → Kept t s
-kept empty s grew steady =
+pub kept : (t : Growth) (s : Sources) → Grew t s → AreInOrder t → AreSteady t → Kept t s
+kept empty s grew order steady =
     let P : Sources → Type 0 = λ z. Kept empty z in subst P (sym grew) (record { keys = none-twice; tells = λ src now le. refl })
-kept (arrived t x) s grew steady =
+kept (arrived t x) s grew order steady =
     let P : Sources → Type 0 = λ z. Kept (arrived t x) z in
     let old = grew.0 in
-    subst P (sym grew.3.2) (arrived-kept t x old (kept t old grew.2 steady.0) steady.1 (lookup (mac_eq x.arrival.src) old) refl grew.3.0 steady.2)
-kept (aged t now) s grew steady =
+    subst P (sym grew.3.2)
+    (arrived-kept t x old (kept t old grew.2 order.0 steady.0) order.1 (lookup (mac_eq x.arrival.src) old) refl grew.3.0 steady.1)
+kept (aged t now) s grew order steady =
     let P : Sources → Type 0 = λ z. Kept (aged t now) z in
     let old = grew.0 in
-    let k = kept t old grew.1 steady.0 in
+    let k = kept t old grew.1 order.0 steady in
     subst P (sym grew.2) (record {
       keys = distinct-passing (is_live now) old k.keys;
       tells = λ src u le.
           let Q : Option Heard → Type 0 = λ o. Tells src (epoch src u t) o in
           subst Q (sym (ap (passing (is_live u)) (live-is now old src k.keys) ∙ passing-again now u (lookup (mac_eq src) old) le))
-          (k.tells src u (omega (arith, steady.1)));
+          (k.tells src u (omega (arith, order.1)));
     })
-kept (merged t u now) s grew steady =
+kept (merged t u now) s grew order steady =
     let one = grew.0 in
     let other = grew.1 in
-    let a = kept t one grew.2 steady.0 in
-    let b = kept u other grew.3 steady.1 in
+    let a = kept t one grew.2 order.0 steady.0 in
+    let b = kept u other grew.3 order.1 steady.1 in
     record {
-      keys = join-distinct (live_at now one) (live_at now other) s grew.4 (distinct-passing (is_live now) one a.keys) (distinct-passing (is_live now) other b.keys);
+      keys = join-distinct (live_at now one) (live_at now other) s grew.4 (distinct-passing (is_live now) one a.keys)
+          (distinct-passing (is_live now) other b.keys);
       tells = λ src v le.
-          let Q : Option Heard → Type 0 = λ o. Tells src (epoch src v (merged t u now)) (passing (is_live v) o) in
-          let first : Tells src (epoch src now t) (lookup (mac_eq src) (live_at now one)) = rw (live-is now one src a.keys) (a.tells src now steady.2) in
-          let second : Tells src (epoch src now u) (lookup (mac_eq src) (live_at now other)) = rw (live-is now other src b.keys) (b.tells src now steady.3) in
+          let xs = epoch src now t in
+          let ys = epoch src now u in
+          let o = lookup (mac_eq src) (live_at now one) in
+          let p = lookup (mac_eq src) (live_at now other) in
+          let Q : Option Heard → Type 0 = λ r. Tells src (epoch src v (merged t u now)) (passing (is_live v) r) in
+          let first : Tells src xs o = rw (live-is now one src a.keys) (a.tells src now order.2) in
+          let second : Tells src ys p = rw (live-is now other src b.keys) (b.tells src now order.3) in
           subst Q (sym (grew.4.each src))
-          (remembered-tells src v (epoch src now t ++ epoch src now u) (joined (lookup (mac_eq src) (live_at now one)) (lookup (mac_eq src) (live_at now other)))
-          (both-tell src (epoch src now t) (epoch src now u) (lookup (mac_eq src) (live_at now one)) (lookup (mac_eq src) (live_at now other))
-          (steady.4 src) first second));
+          (remembered-tells src v (xs ++ ys) (joined o p) (both-tell src xs ys o p (steady.2 src) first second));
     }
 
 pub tables_stand : TablesStand
 tables_stand t s src now grew steady le =
-    let k = kept t s grew steady in
+    let k = kept t s grew steady.0 steady.1 in
     let Q : Option Heard → Type 0 = λ o. Tells src (epoch src now t) o in
     subst Q (sym (live-is now s src k.keys)) (k.tells src now le)
 
@@ -328,5 +332,6 @@ module _ (x : Noting) (fresh : Lanes) (lane : Lane) where
 
 pub answers_by_the_union : AnswersByTheUnion
 answers_by_the_union t s x fresh lane grew steady is =
-    let k = kept t s grew steady.0 in
-    new-by-union x fresh lane (epoch x.arrival.src x.arrival.time t) s (lookup (mac_eq x.arrival.src) s) (k.tells x.arrival.src x.arrival.time steady.1) steady.2 is
+    let k = kept t s grew steady.0.0 steady.1.0 in
+    new-by-union x fresh lane (epoch x.arrival.src x.arrival.time t) s (lookup (mac_eq x.arrival.src) s)
+    (k.tells x.arrival.src x.arrival.time steady.0.1) steady.1.1 is

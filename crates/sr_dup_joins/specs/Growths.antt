@@ -67,14 +67,22 @@ IsNearAll f n = (m : ℤ) → IsGreatest f m → IsNear window m n
 abbrev pub AreClose : Family → Family → Type 0
 AreClose f g = (m n : ℤ) → IsGreatest f m → IsGreatest g n → IsClose m n
 
--- Along the tree no time goes back, each number is near those of its source's epoch, and of each source that two parts tell of, the
--- greatest numbers are close.
+-- along each branch no time goes back
+abbrev pub AreInOrder : Growth → Type 0
+AreInOrder empty = Unit {0}
+AreInOrder (arrived t x) = AreInOrder t × (latest t ≤ x.arrival.time)
+AreInOrder (aged t now) = AreInOrder t × (latest t ≤ now)
+AreInOrder (merged t u now) = AreInOrder t × AreInOrder u × (latest t ≤ now) × (latest u ≤ now)
+
+-- each number is near those of its source's epoch, and of each source that both parts of a merge tell of, the greatest numbers are close
+abbrev pub AreSteady : Growth → Type 0
+AreSteady empty = Unit {0}
+AreSteady (arrived t x) =
+    AreSteady t × IsNearAll (numbers x.arrival.src (epoch x.arrival.src x.arrival.time t)) x.arrival.number
+AreSteady (aged t now) = AreSteady t
+AreSteady (merged t u now) =
+    AreSteady t × AreSteady u × ((src : Mac) → AreClose (numbers src (epoch src now t)) (numbers src (epoch src now u)))
+
+-- a steady tree
 abbrev pub IsSteady : Growth → Type 0
-IsSteady empty = Unit {0}
-IsSteady (arrived t x) =
-    IsSteady t × (latest t ≤ x.arrival.time)
-    × IsNearAll (numbers x.arrival.src (epoch x.arrival.src x.arrival.time t)) x.arrival.number
-IsSteady (aged t now) = IsSteady t × (latest t ≤ now)
-IsSteady (merged t u now) =
-    IsSteady t × IsSteady u × (latest t ≤ now) × (latest u ≤ now)
-    × ((src : Mac) → AreClose (numbers src (epoch src now t)) (numbers src (epoch src now u)))
+IsSteady t = AreInOrder t × AreSteady t

@@ -7,3 +7,4 @@ mod PairLemmas
 mod SteadyLemmas
 mod NumberLemmas
 mod WrittenLemmas
+pub mod HistoryLemmas

@@ -5,3 +5,5 @@ pub mod NodeLaws
 pub mod AnyRuns
 pub mod SteadyExamples
 pub mod Written
+pub mod Histories
+pub mod HistoryLaws
