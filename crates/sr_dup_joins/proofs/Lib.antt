@@ -1,0 +1,3 @@
+pub mod ListLemmas
+pub mod GrowthLemmas
+pub mod AgreeLemmas

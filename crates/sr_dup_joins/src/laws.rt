@@ -1,0 +1,24 @@
+//! Laws over trees of arrivals, ageings and merges.
+
+ghost use Rattle.sr_dup_joins.specs.GrowthLaws.{TablesStand, AnswersByTheUnion, TablesAgree};
+
+/// Along any steady tree of arrivals, ageings and merges, the record of a live source stands for the cut of the union of all
+/// that its parts took in the source's epoch, and was heard with the last of it; a source without one has no epoch.
+///
+/// Steady means: along each branch no time goes back, each number is one of the 65536 that may follow those of its source's
+/// epoch, and of a source that both parts of a merge know, the greatest numbers are at most 32767 apart.
+pub fn tables_stand()
+    ensures { TablesStand }
+{}
+
+/// Along a steady tree an arrival is new on exactly the asked lanes on which the union of all that came before in its source's
+/// epoch, never cut, lacks it.
+pub fn answers_by_the_union()
+    ensures { AnswersByTheUnion }
+{}
+
+/// Tables that took the same arrivals, times included, in any orders and steady trees, know the same of each source, where
+/// nothing is forgotten.
+pub fn tables_agree()
+    ensures { TablesAgree }
+{}
