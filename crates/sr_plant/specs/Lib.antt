@@ -4,6 +4,7 @@ pub mod Copies
 pub mod Flights
 pub mod Puts
 pub mod Plants
+pub mod Images
 pub mod Steps
 pub mod Given
 pub mod Carrying

@@ -1,10 +1,10 @@
 //! Nodes take events, and what they put out is put in flight.
 
-ghost use Rattle.std.specs.Prelude.{◌≡◌, ◌<◌, ◌⊎◌, IfOk, IfErr, OnOk, OnErr, map, length};
+ghost use Rattle.std.specs.Prelude.{◌≡◌, ◌<◌, ◌⊎◌, IfOk, IfErr, OnOk, OnErr, length};
 ghost use Rattle.sr_node.specs.Faults.{or_no_memory};
-ghost use Rattle.sr_node.specs.Images.{node_state};
 ghost use Rattle.sr_node.specs.Steps.{refusal_of};
-ghost use Rattle.sr_plant.specs.Plants.{plant_of, IsEmptied, IsInOrder};
+ghost use Rattle.sr_plant.specs.Images.{plant_state, state_of};
+ghost use Rattle.sr_plant.specs.Plants.{IsEmptied, IsInOrder};
 ghost use Rattle.sr_plant.specs.Given.{StepsOut};
 ghost use Rattle.sr_plant.specs.Steps.{Acts, NodeRefuses};
 
@@ -20,13 +20,13 @@ fn step_out<R: Role>(
     up: &mut Vec<Parcel>,
     event: &Event,
 ) -> Result<(Option<Parcel>, Option<Parcel>), PlantFault>
-    requires { IsEmptied (node_state (R.meaning node.old.role) node.old.core) }
-    ensures ok { IfOk result (λ g. StepsOut (node_state (R.meaning node.old.role) node.old.core) event.now g.0 g.1
-        up.old.items up.new.items (node_state (R.meaning node.new.role) node.new.core)) }
+    requires { IsEmptied (state_of R.meaning node.old) }
+    ensures ok { IfOk result (λ g. StepsOut (state_of R.meaning node.old) event.now g.0 g.1
+        up.old.items up.new.items (state_of R.meaning node.new)) }
     ensures err { IfErr result (λ f. (f ≡ PlantFault.NoMemory)
-        ⊎ (f ≡ PlantFault.Node (or_no_memory (refusal_of (node_state (R.meaning node.old.role) node.old.core) event.now)))) }
-    ensures same { OnErr result ((node_state (R.meaning node.new.role) node.new.core
-        ≡ node_state (R.meaning node.old.role) node.old.core) × (up.new.items ≡ up.old.items)) }
+        ⊎ (f ≡ PlantFault.Node (or_no_memory (refusal_of (state_of R.meaning node.old) event.now)))) }
+    ensures same { OnErr result ((state_of R.meaning node.new
+        ≡ state_of R.meaning node.old) × (up.new.items ≡ up.old.items)) }
 {
     if up.reserve(1).is_err() {
         return Err(PlantFault::NoMemory);
@@ -38,21 +38,15 @@ fn step_out<R: Role>(
 impl<R: Role> PlantOf<R> {
     /// A node takes an event, all growths first, and the plant's clock goes to this time.
     pub(crate) fn act(&mut self, node: usize, event: &Event, now: u64) -> Result<(), PlantFault>
-        requires in_order { IsInOrder
-            (plant_of self.old.topology (map (λ n. node_state (R.meaning n.role) n.core) self.old.nodes.items) self.old.traffic (map (λ h. h.items) self.old.handed.items)) }
+        requires in_order { IsInOrder (plant_state R.meaning self.old) }
         requires there { node < length self.old.nodes.items }
         ensures ok { OnOk result (Acts
-            (plant_of self.old.topology (map (λ n. node_state (R.meaning n.role) n.core) self.old.nodes.items) self.old.traffic (map (λ h. h.items) self.old.handed.items))
-            node event.now now
-            (plant_of self.new.topology (map (λ n. node_state (R.meaning n.role) n.core) self.new.nodes.items) self.new.traffic (map (λ h. h.items) self.new.handed.items))) }
-        ensures in_order { OnOk result (IsInOrder
-            (plant_of self.new.topology (map (λ n. node_state (R.meaning n.role) n.core) self.new.nodes.items) self.new.traffic (map (λ h. h.items) self.new.handed.items))) }
+            (plant_state R.meaning self.old) node event.now now
+            (plant_state R.meaning self.new)) }
+        ensures in_order { OnOk result (IsInOrder (plant_state R.meaning self.new)) }
         ensures err { IfErr result (λ f. (f ≡ PlantFault.NoMemory) ⊎ NodeRefuses
-            (plant_of self.old.topology (map (λ n. node_state (R.meaning n.role) n.core) self.old.nodes.items) self.old.traffic (map (λ h. h.items) self.old.handed.items))
-            node event.now f) }
-        ensures same { OnErr result (
-            plant_of self.new.topology (map (λ n. node_state (R.meaning n.role) n.core) self.new.nodes.items) self.new.traffic (map (λ h. h.items) self.new.handed.items)
-            ≡ plant_of self.old.topology (map (λ n. node_state (R.meaning n.role) n.core) self.old.nodes.items) self.old.traffic (map (λ h. h.items) self.old.handed.items)) }
+            (plant_state R.meaning self.old) node event.now f) }
+        ensures same { OnErr result (plant_state R.meaning self.new ≡ plant_state R.meaning self.old) }
     {
         let nodes = self.nodes.len();
         self.traffic.reserve(nodes)?;

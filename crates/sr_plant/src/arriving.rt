@@ -1,8 +1,8 @@
 //! Copies come to their receivers.
 
 ghost use Rattle.std.specs.Prelude.{◌≡◌, true, false, IfOk, IfErr, OnErr};
-ghost use Rattle.sr_node.specs.Images.{node_state};
 ghost use Rattle.sr_node.specs.Octets.{OctetsArrived, OctetsRefused};
+ghost use Rattle.sr_plant.specs.Images.{state_of};
 ghost use Rattle.sr_plant.specs.Topologies.{framing_of};
 ghost use Rattle.sr_plant.specs.Plants.{IsEmptied};
 ghost use Rattle.sr_plant.specs.Steps.{is_loss};
@@ -84,12 +84,12 @@ fn arrive<R: Role>(
     now: u64,
 ) -> Result<Answer, StepFault>
     ensures ok { IfOk result (λ a. OctetsArrived (framing_of topology port)
-        (node_state (R.meaning node.old.role) node.old.core) port octets.now now a
-        (node_state (R.meaning node.new.role) node.new.core)) }
+        (state_of R.meaning node.old) port octets.now now a
+        (state_of R.meaning node.new)) }
     ensures err { IfErr result (λ f. OctetsRefused (framing_of topology port)
-        (node_state (R.meaning node.old.role) node.old.core) port octets.now now f) }
-    ensures same { OnErr result (node_state (R.meaning node.new.role) node.new.core
-        ≡ node_state (R.meaning node.old.role) node.old.core) }
+        (state_of R.meaning node.old) port octets.now now f) }
+    ensures same { OnErr result (state_of R.meaning node.new
+        ≡ state_of R.meaning node.old) }
 {
     node.arrive(&PortFraming { topology, port }, port, octets, now)
 }
@@ -103,14 +103,14 @@ pub(crate) fn arrive_out<R: Role>(
     arriving: &Arriving,
     now: u64,
 ) -> Result<Landing, PlantFault>
-    requires { IsEmptied (node_state (R.meaning node.old.role) node.old.core) }
-    ensures ok { IfOk result (λ l. Lands topology (node_state (R.meaning node.old.role) node.old.core)
+    requires { IsEmptied (state_of R.meaning node.old) }
+    ensures ok { IfOk result (λ l. Lands topology (state_of R.meaning node.old)
         arriving.now.port arriving.now.octets now l up.old.items up.new.items
-        (node_state (R.meaning node.new.role) node.new.core)) }
-    ensures err { IfErr result (λ f. FailsToLand topology (node_state (R.meaning node.old.role) node.old.core)
+        (state_of R.meaning node.new)) }
+    ensures err { IfErr result (λ f. FailsToLand topology (state_of R.meaning node.old)
         arriving.now.port arriving.now.octets now f) }
-    ensures same { OnErr result ((node_state (R.meaning node.new.role) node.new.core
-        ≡ node_state (R.meaning node.old.role) node.old.core) × (up.new.items ≡ up.old.items)) }
+    ensures same { OnErr result ((state_of R.meaning node.new
+        ≡ state_of R.meaning node.old) × (up.new.items ≡ up.old.items)) }
 {
     if up.reserve(1).is_err() {
         return Err(PlantFault::NoMemory);

@@ -1,8 +1,8 @@
 //! How a plant is made.
 
 ghost use Rattle.std.specs.Prelude.{◌≡◌, map, replicate, [], true, IfOk, OnOk, IfErr};
-ghost use Rattle.sr_node.specs.Images.{node_state};
-ghost use Rattle.sr_plant.specs.Plants.{plant_of, IsInOrder};
+ghost use Rattle.sr_plant.specs.Images.{plant_state, states_of};
+ghost use Rattle.sr_plant.specs.Plants.{IsInOrder};
 ghost use Rattle.sr_plant.specs.Building.{is_plant, opening, plant_fault};
 
 use crate::fitness::is_plant;
@@ -32,13 +32,12 @@ impl<R: Role> PlantOf<R> {
         nodes: Vec<NodeOf<R>>,
     ) -> Result<PlantOf<R>, PlantFault>
         ensures begun { IfOk result (λ p.
-            plant_of p.topology (map (λ n. node_state (R.meaning n.role) n.core) p.nodes.items) p.traffic (map (λ h. h.items) p.handed.items)
-            ≡ opening topology (map (λ n. node_state (R.meaning n.role) n.core) nodes.items)) }
-        ensures in_order { IfOk result (λ p. IsInOrder
-            (plant_of p.topology (map (λ n. node_state (R.meaning n.role) n.core) p.nodes.items) p.traffic (map (λ h. h.items) p.handed.items))) }
-        ensures ok { OnOk result (is_plant topology (map (λ n. node_state (R.meaning n.role) n.core) nodes.items) ≡ true) }
+            plant_state R.meaning p
+            ≡ opening topology (states_of R.meaning nodes.items)) }
+        ensures in_order { IfOk result (λ p. IsInOrder (plant_state R.meaning p)) }
+        ensures ok { OnOk result (is_plant topology (states_of R.meaning nodes.items) ≡ true) }
         ensures err { IfErr result (λ f. f ≡ plant_fault
-            (is_plant topology (map (λ n. node_state (R.meaning n.role) n.core) nodes.items))) }
+            (is_plant topology (states_of R.meaning nodes.items))) }
     {
         if !is_plant(topology, &nodes) {
             return Err(PlantFault::BadPlant);

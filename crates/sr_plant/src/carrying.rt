@@ -1,8 +1,8 @@
 //! Copies are carried.
 
-ghost use Rattle.std.specs.Prelude.{◌≡◌, IfErr, OnOk, OnErr, None, Some, map};
-ghost use Rattle.sr_node.specs.Images.{node_state};
-ghost use Rattle.sr_plant.specs.Plants.{plant_of, IsInOrder};
+ghost use Rattle.std.specs.Prelude.{◌≡◌, IfErr, OnOk, OnErr, None, Some};
+ghost use Rattle.sr_plant.specs.Images.{plant_state};
+ghost use Rattle.sr_plant.specs.Plants.{IsInOrder};
 ghost use Rattle.sr_plant.specs.Carrying.{OneComesAs};
 ghost use Rattle.sr_plant.specs.Steps.{PlantStep, PlantRefuses, Carried, Fails, plant_refusal};
 
@@ -14,21 +14,15 @@ use sr_forwarding::Role;
 impl<R: Role> PlantOf<R> {
     // The copy at a place comes to its receiver, all growths first.
     fn bring(&mut self, place: usize, arriving: &Arriving) -> Result<(), PlantFault>
-        requires in_order { IsInOrder
-            (plant_of self.old.topology (map (λ n. node_state (R.meaning n.role) n.core) self.old.nodes.items) self.old.traffic (map (λ h. h.items) self.old.handed.items)) }
+        requires in_order { IsInOrder (plant_state R.meaning self.old) }
         requires there { OneComesAs self.old.topology self.old.traffic.flight.copies place (Some arriving.now) }
         ensures ok { OnOk result (Carried
-            (plant_of self.old.topology (map (λ n. node_state (R.meaning n.role) n.core) self.old.nodes.items) self.old.traffic (map (λ h. h.items) self.old.handed.items))
-            place
-            (plant_of self.new.topology (map (λ n. node_state (R.meaning n.role) n.core) self.new.nodes.items) self.new.traffic (map (λ h. h.items) self.new.handed.items))) }
-        ensures in_order { OnOk result (IsInOrder
-            (plant_of self.new.topology (map (λ n. node_state (R.meaning n.role) n.core) self.new.nodes.items) self.new.traffic (map (λ h. h.items) self.new.handed.items))) }
+            (plant_state R.meaning self.old) place
+            (plant_state R.meaning self.new)) }
+        ensures in_order { OnOk result (IsInOrder (plant_state R.meaning self.new)) }
         ensures err { IfErr result (λ f. Fails
-            (plant_of self.old.topology (map (λ n. node_state (R.meaning n.role) n.core) self.old.nodes.items) self.old.traffic (map (λ h. h.items) self.old.handed.items))
-            (PlantEvent.Carry place) f) }
-        ensures same { OnErr result (
-            plant_of self.new.topology (map (λ n. node_state (R.meaning n.role) n.core) self.new.nodes.items) self.new.traffic (map (λ h. h.items) self.new.handed.items)
-            ≡ plant_of self.old.topology (map (λ n. node_state (R.meaning n.role) n.core) self.old.nodes.items) self.old.traffic (map (λ h. h.items) self.old.handed.items)) }
+            (plant_state R.meaning self.old) (PlantEvent.Carry place) f) }
+        ensures same { OnErr result (plant_state R.meaning self.new ≡ plant_state R.meaning self.old) }
     {
         let nodes = self.nodes.len();
         self.traffic.reserve(nodes)?;
@@ -54,22 +48,15 @@ impl<R: Role> PlantOf<R> {
     /// `NoSuchCopy`, then `NoMemory` of the plant's own, then `Node` where an outbox of the receiver is full or memory ran
     /// out there.
     pub fn carry(&mut self, place: usize) -> Result<(), PlantFault>
-        requires { IsInOrder
-            (plant_of self.old.topology (map (λ n. node_state (R.meaning n.role) n.core) self.old.nodes.items) self.old.traffic (map (λ h. h.items) self.old.handed.items)) }
+        requires { IsInOrder (plant_state R.meaning self.old) }
         ensures step { OnOk result (PlantStep
-            (plant_of self.old.topology (map (λ n. node_state (R.meaning n.role) n.core) self.old.nodes.items) self.old.traffic (map (λ h. h.items) self.old.handed.items))
-            (PlantEvent.Carry place)
-            (plant_of self.new.topology (map (λ n. node_state (R.meaning n.role) n.core) self.new.nodes.items) self.new.traffic (map (λ h. h.items) self.new.handed.items))) }
-        ensures ok { OnOk result (plant_refusal
-            (plant_of self.old.topology (map (λ n. node_state (R.meaning n.role) n.core) self.old.nodes.items) self.old.traffic (map (λ h. h.items) self.old.handed.items))
-            (PlantEvent.Carry place) ≡ None) }
+            (plant_state R.meaning self.old) (PlantEvent.Carry place)
+            (plant_state R.meaning self.new)) }
+        ensures ok { OnOk result (plant_refusal (plant_state R.meaning self.old) (PlantEvent.Carry place) ≡ None) }
         ensures err { IfErr result (λ f. PlantRefuses
-            (plant_of self.old.topology (map (λ n. node_state (R.meaning n.role) n.core) self.old.nodes.items) self.old.traffic (map (λ h. h.items) self.old.handed.items))
-            (PlantEvent.Carry place) f) }
-        ensures same { OnErr result (plant_of self.new.topology (map (λ n. node_state (R.meaning n.role) n.core) self.new.nodes.items) self.new.traffic (map (λ h. h.items) self.new.handed.items)
-            ≡ plant_of self.old.topology (map (λ n. node_state (R.meaning n.role) n.core) self.old.nodes.items) self.old.traffic (map (λ h. h.items) self.old.handed.items)) }
-        ensures in_order { IsInOrder
-            (plant_of self.new.topology (map (λ n. node_state (R.meaning n.role) n.core) self.new.nodes.items) self.new.traffic (map (λ h. h.items) self.new.handed.items)) }
+            (plant_state R.meaning self.old) (PlantEvent.Carry place) f) }
+        ensures same { OnErr result (plant_state R.meaning self.new ≡ plant_state R.meaning self.old) }
+        ensures in_order { IsInOrder (plant_state R.meaning self.new) }
     {
         has(place, self.traffic.len(), PlantFault::NoSuchCopy)?;
         let Some(arriving) = self.traffic.arriving(self.topology, place)? else {

@@ -1,7 +1,7 @@
 //! Whether nodes make a plant.
 
-ghost use Rattle.std.specs.Prelude.{◌≡◌, ◌≤◌, map, length};
-ghost use Rattle.sr_node.specs.Images.{node_state};
+ghost use Rattle.std.specs.Prelude.{◌≡◌, ◌≤◌, length};
+ghost use Rattle.sr_plant.specs.Images.{state_of, states_of};
 ghost use Rattle.sr_plant.specs.Building.{is_fit, are_fit, has_address, are_apart, is_plant};
 
 use crate::Topology;
@@ -17,7 +17,7 @@ const MOST_NODES: usize = 16;
 
 // Whether a node is of the kind of the topology, and no frame waits in it.
 fn is_fit<R: Role>(topology: Topology, node: &NodeOf<R>) -> bool
-    ensures { result ≡ is_fit topology (node_state (R.meaning node.now.role) node.now.core) }
+    ensures { result ≡ is_fit topology (state_of R.meaning node.now) }
 {
     topology.is_kind(node.kind())
         && node.waiting(Port::H) == 0
@@ -28,7 +28,7 @@ fn is_fit<R: Role>(topology: Topology, node: &NodeOf<R>) -> bool
 
 // Whether all are.
 fn are_fit<R: Role>(topology: Topology, nodes: &[NodeOf<R>]) -> bool
-    ensures { result ≡ are_fit topology (map (λ n. node_state (R.meaning n.role) n.core) nodes.now) }
+    ensures { result ≡ are_fit topology (states_of R.meaning nodes.now) }
 {
     for node in nodes {
         if !is_fit(topology, node) {
@@ -40,7 +40,7 @@ fn are_fit<R: Role>(topology: Topology, nodes: &[NodeOf<R>]) -> bool
 
 // Whether a node has this address.
 fn has_address<R: Role>(mac: Mac, nodes: &[NodeOf<R>]) -> bool
-    ensures { result ≡ has_address mac (map (λ n. node_state (R.meaning n.role) n.core) nodes.now) }
+    ensures { result ≡ has_address mac (states_of R.meaning nodes.now) }
 {
     for node in nodes {
         if node.mac() == mac {
@@ -52,7 +52,7 @@ fn has_address<R: Role>(mac: Mac, nodes: &[NodeOf<R>]) -> bool
 
 // Whether no two nodes have one address.
 fn are_apart<R: Role>(nodes: &[NodeOf<R>]) -> bool
-    ensures { result ≡ are_apart (map (λ n. node_state (R.meaning n.role) n.core) nodes.now) }
+    ensures { result ≡ are_apart (states_of R.meaning nodes.now) }
 {
     let mut rest = nodes;
     while let [first, others @ ..] = rest {
@@ -66,7 +66,7 @@ fn are_apart<R: Role>(nodes: &[NodeOf<R>]) -> bool
 
 /// Whether a plant of this topology is made of these nodes.
 pub(crate) fn is_plant<R: Role>(topology: Topology, nodes: &[NodeOf<R>]) -> bool
-    ensures { result ≡ is_plant topology (map (λ n. node_state (R.meaning n.role) n.core) nodes.now) }
+    ensures { result ≡ is_plant topology (states_of R.meaning nodes.now) }
 {
     FEWEST_NODES <= nodes.len()
         && nodes.len() <= MOST_NODES

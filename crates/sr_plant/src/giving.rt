@@ -2,7 +2,7 @@
 
 ghost use Rattle.std.specs.Prelude.{◌≡◌, ◌<◌, ◌++◌, option_to_list};
 ghost use Rattle.std.specs.Vec.{vec_len, vec_capacity};
-ghost use Rattle.sr_node.specs.Images.{node_state};
+ghost use Rattle.sr_plant.specs.Images.{state_of};
 ghost use Rattle.sr_plant.specs.Given.{IsAtMostOneEach, GivesOut};
 
 use sr_forwarding::{Parcel, Role};
@@ -25,10 +25,10 @@ pub(crate) fn take_out<R: Role>(
     node: &mut NodeOf<R>,
     up: &mut Vec<Parcel>,
 ) -> (Option<Parcel>, Option<Parcel>)
-    requires few { IsAtMostOneEach (node_state (R.meaning node.old.role) node.old.core).core.out }
+    requires few { IsAtMostOneEach (state_of R.meaning node.old).core.out }
     requires room { vec_len up.old < vec_capacity up.old }
-    ensures { GivesOut (node_state (R.meaning node.old.role) node.old.core) result.0 result.1
-        up.old.items up.new.items (node_state (R.meaning node.new.role) node.new.core) }
+    ensures { GivesOut (state_of R.meaning node.old) result.0 result.1
+        up.old.items up.new.items (state_of R.meaning node.new) }
 {
     append(up, node.take(Port::H));
     let a = node.take(Port::A);

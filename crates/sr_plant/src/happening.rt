@@ -1,9 +1,9 @@
 //! What happens to a plant.
 
-ghost use Rattle.std.specs.Prelude.{◌≡◌, IfErr, OnOk, OnErr, None, Some, map, length};
-ghost use Rattle.sr_node.specs.Images.{node_state};
+ghost use Rattle.std.specs.Prelude.{◌≡◌, IfErr, OnOk, OnErr, None, Some, length};
+ghost use Rattle.sr_plant.specs.Images.{plant_state};
 ghost use Rattle.sr_plant.specs.declared.fault.PlantFault.TheVariants.{NoSuchNode, NoSuchCopy};
-ghost use Rattle.sr_plant.specs.Plants.{plant_of, IsInOrder};
+ghost use Rattle.sr_plant.specs.Plants.{IsInOrder};
 ghost use Rattle.sr_plant.specs.Steps.{PlantStep, PlantRefuses, plant_refusal, lacks};
 
 use crate::{PlantEvent, PlantFault, PlantOf};
@@ -24,22 +24,15 @@ impl<R: Role> PlantOf<R> {
     ///
     /// `NoSuchNode`, then `NoMemory` of the plant's own, then `Node` where the node refuses it.
     pub fn send(&mut self, node: usize, frame: &Frame) -> Result<(), PlantFault>
-        requires { IsInOrder
-            (plant_of self.old.topology (map (λ n. node_state (R.meaning n.role) n.core) self.old.nodes.items) self.old.traffic (map (λ h. h.items) self.old.handed.items)) }
+        requires { IsInOrder (plant_state R.meaning self.old) }
         ensures step { OnOk result (PlantStep
-            (plant_of self.old.topology (map (λ n. node_state (R.meaning n.role) n.core) self.old.nodes.items) self.old.traffic (map (λ h. h.items) self.old.handed.items))
-            (PlantEvent.Send node frame.now)
-            (plant_of self.new.topology (map (λ n. node_state (R.meaning n.role) n.core) self.new.nodes.items) self.new.traffic (map (λ h. h.items) self.new.handed.items))) }
-        ensures ok { OnOk result (plant_refusal
-            (plant_of self.old.topology (map (λ n. node_state (R.meaning n.role) n.core) self.old.nodes.items) self.old.traffic (map (λ h. h.items) self.old.handed.items))
-            (PlantEvent.Send node frame.now) ≡ None) }
+            (plant_state R.meaning self.old) (PlantEvent.Send node frame.now)
+            (plant_state R.meaning self.new)) }
+        ensures ok { OnOk result (plant_refusal (plant_state R.meaning self.old) (PlantEvent.Send node frame.now) ≡ None) }
         ensures err { IfErr result (λ f. PlantRefuses
-            (plant_of self.old.topology (map (λ n. node_state (R.meaning n.role) n.core) self.old.nodes.items) self.old.traffic (map (λ h. h.items) self.old.handed.items))
-            (PlantEvent.Send node frame.now) f) }
-        ensures same { OnErr result (plant_of self.new.topology (map (λ n. node_state (R.meaning n.role) n.core) self.new.nodes.items) self.new.traffic (map (λ h. h.items) self.new.handed.items)
-            ≡ plant_of self.old.topology (map (λ n. node_state (R.meaning n.role) n.core) self.old.nodes.items) self.old.traffic (map (λ h. h.items) self.old.handed.items)) }
-        ensures in_order { IsInOrder
-            (plant_of self.new.topology (map (λ n. node_state (R.meaning n.role) n.core) self.new.nodes.items) self.new.traffic (map (λ h. h.items) self.new.handed.items)) }
+            (plant_state R.meaning self.old) (PlantEvent.Send node frame.now) f) }
+        ensures same { OnErr result (plant_state R.meaning self.new ≡ plant_state R.meaning self.old) }
+        ensures in_order { IsInOrder (plant_state R.meaning self.new) }
     {
         has(node, self.nodes.len(), PlantFault::NoSuchNode)?;
         let now = self.traffic.clock();
@@ -52,22 +45,15 @@ impl<R: Role> PlantOf<R> {
     /// `NoSuchNode`, then `ClockBack` where the time is before the plant's, then `NoMemory` of the plant's own, then `Node`
     /// where the node refuses it.
     pub fn tick(&mut self, node: usize, now: u64) -> Result<(), PlantFault>
-        requires { IsInOrder
-            (plant_of self.old.topology (map (λ n. node_state (R.meaning n.role) n.core) self.old.nodes.items) self.old.traffic (map (λ h. h.items) self.old.handed.items)) }
+        requires { IsInOrder (plant_state R.meaning self.old) }
         ensures step { OnOk result (PlantStep
-            (plant_of self.old.topology (map (λ n. node_state (R.meaning n.role) n.core) self.old.nodes.items) self.old.traffic (map (λ h. h.items) self.old.handed.items))
-            (PlantEvent.Tick node now)
-            (plant_of self.new.topology (map (λ n. node_state (R.meaning n.role) n.core) self.new.nodes.items) self.new.traffic (map (λ h. h.items) self.new.handed.items))) }
-        ensures ok { OnOk result (plant_refusal
-            (plant_of self.old.topology (map (λ n. node_state (R.meaning n.role) n.core) self.old.nodes.items) self.old.traffic (map (λ h. h.items) self.old.handed.items))
-            (PlantEvent.Tick node now) ≡ None) }
+            (plant_state R.meaning self.old) (PlantEvent.Tick node now)
+            (plant_state R.meaning self.new)) }
+        ensures ok { OnOk result (plant_refusal (plant_state R.meaning self.old) (PlantEvent.Tick node now) ≡ None) }
         ensures err { IfErr result (λ f. PlantRefuses
-            (plant_of self.old.topology (map (λ n. node_state (R.meaning n.role) n.core) self.old.nodes.items) self.old.traffic (map (λ h. h.items) self.old.handed.items))
-            (PlantEvent.Tick node now) f) }
-        ensures same { OnErr result (plant_of self.new.topology (map (λ n. node_state (R.meaning n.role) n.core) self.new.nodes.items) self.new.traffic (map (λ h. h.items) self.new.handed.items)
-            ≡ plant_of self.old.topology (map (λ n. node_state (R.meaning n.role) n.core) self.old.nodes.items) self.old.traffic (map (λ h. h.items) self.old.handed.items)) }
-        ensures in_order { IsInOrder
-            (plant_of self.new.topology (map (λ n. node_state (R.meaning n.role) n.core) self.new.nodes.items) self.new.traffic (map (λ h. h.items) self.new.handed.items)) }
+            (plant_state R.meaning self.old) (PlantEvent.Tick node now) f) }
+        ensures same { OnErr result (plant_state R.meaning self.new ≡ plant_state R.meaning self.old) }
+        ensures in_order { IsInOrder (plant_state R.meaning self.new) }
     {
         has(node, self.nodes.len(), PlantFault::NoSuchNode)?;
         if now < self.traffic.clock() {
@@ -78,22 +64,15 @@ impl<R: Role> PlantOf<R> {
 
     /// The copy at a place is lost. `NoSuchCopy` where there is none.
     pub fn lose(&mut self, place: usize) -> Result<(), PlantFault>
-        requires { IsInOrder
-            (plant_of self.old.topology (map (λ n. node_state (R.meaning n.role) n.core) self.old.nodes.items) self.old.traffic (map (λ h. h.items) self.old.handed.items)) }
+        requires { IsInOrder (plant_state R.meaning self.old) }
         ensures step { OnOk result (PlantStep
-            (plant_of self.old.topology (map (λ n. node_state (R.meaning n.role) n.core) self.old.nodes.items) self.old.traffic (map (λ h. h.items) self.old.handed.items))
-            (PlantEvent.Drop place)
-            (plant_of self.new.topology (map (λ n. node_state (R.meaning n.role) n.core) self.new.nodes.items) self.new.traffic (map (λ h. h.items) self.new.handed.items))) }
-        ensures ok { OnOk result (plant_refusal
-            (plant_of self.old.topology (map (λ n. node_state (R.meaning n.role) n.core) self.old.nodes.items) self.old.traffic (map (λ h. h.items) self.old.handed.items))
-            (PlantEvent.Drop place) ≡ None) }
+            (plant_state R.meaning self.old) (PlantEvent.Drop place)
+            (plant_state R.meaning self.new)) }
+        ensures ok { OnOk result (plant_refusal (plant_state R.meaning self.old) (PlantEvent.Drop place) ≡ None) }
         ensures err { IfErr result (λ f. PlantRefuses
-            (plant_of self.old.topology (map (λ n. node_state (R.meaning n.role) n.core) self.old.nodes.items) self.old.traffic (map (λ h. h.items) self.old.handed.items))
-            (PlantEvent.Drop place) f) }
-        ensures same { OnErr result (plant_of self.new.topology (map (λ n. node_state (R.meaning n.role) n.core) self.new.nodes.items) self.new.traffic (map (λ h. h.items) self.new.handed.items)
-            ≡ plant_of self.old.topology (map (λ n. node_state (R.meaning n.role) n.core) self.old.nodes.items) self.old.traffic (map (λ h. h.items) self.old.handed.items)) }
-        ensures in_order { IsInOrder
-            (plant_of self.new.topology (map (λ n. node_state (R.meaning n.role) n.core) self.new.nodes.items) self.new.traffic (map (λ h. h.items) self.new.handed.items)) }
+            (plant_state R.meaning self.old) (PlantEvent.Drop place) f) }
+        ensures same { OnErr result (plant_state R.meaning self.new ≡ plant_state R.meaning self.old) }
+        ensures in_order { IsInOrder (plant_state R.meaning self.new) }
     {
         has(place, self.traffic.len(), PlantFault::NoSuchCopy)?;
         self.traffic.remove(place);
@@ -102,22 +81,15 @@ impl<R: Role> PlantOf<R> {
 
     /// The copy at a place is doubled, and the double goes last. `NoSuchCopy` where there is none, then `NoMemory`.
     pub fn repeat(&mut self, place: usize) -> Result<(), PlantFault>
-        requires { IsInOrder
-            (plant_of self.old.topology (map (λ n. node_state (R.meaning n.role) n.core) self.old.nodes.items) self.old.traffic (map (λ h. h.items) self.old.handed.items)) }
+        requires { IsInOrder (plant_state R.meaning self.old) }
         ensures step { OnOk result (PlantStep
-            (plant_of self.old.topology (map (λ n. node_state (R.meaning n.role) n.core) self.old.nodes.items) self.old.traffic (map (λ h. h.items) self.old.handed.items))
-            (PlantEvent.Repeat place)
-            (plant_of self.new.topology (map (λ n. node_state (R.meaning n.role) n.core) self.new.nodes.items) self.new.traffic (map (λ h. h.items) self.new.handed.items))) }
-        ensures ok { OnOk result (plant_refusal
-            (plant_of self.old.topology (map (λ n. node_state (R.meaning n.role) n.core) self.old.nodes.items) self.old.traffic (map (λ h. h.items) self.old.handed.items))
-            (PlantEvent.Repeat place) ≡ None) }
+            (plant_state R.meaning self.old) (PlantEvent.Repeat place)
+            (plant_state R.meaning self.new)) }
+        ensures ok { OnOk result (plant_refusal (plant_state R.meaning self.old) (PlantEvent.Repeat place) ≡ None) }
         ensures err { IfErr result (λ f. PlantRefuses
-            (plant_of self.old.topology (map (λ n. node_state (R.meaning n.role) n.core) self.old.nodes.items) self.old.traffic (map (λ h. h.items) self.old.handed.items))
-            (PlantEvent.Repeat place) f) }
-        ensures same { OnErr result (plant_of self.new.topology (map (λ n. node_state (R.meaning n.role) n.core) self.new.nodes.items) self.new.traffic (map (λ h. h.items) self.new.handed.items)
-            ≡ plant_of self.old.topology (map (λ n. node_state (R.meaning n.role) n.core) self.old.nodes.items) self.old.traffic (map (λ h. h.items) self.old.handed.items)) }
-        ensures in_order { IsInOrder
-            (plant_of self.new.topology (map (λ n. node_state (R.meaning n.role) n.core) self.new.nodes.items) self.new.traffic (map (λ h. h.items) self.new.handed.items)) }
+            (plant_state R.meaning self.old) (PlantEvent.Repeat place) f) }
+        ensures same { OnErr result (plant_state R.meaning self.new ≡ plant_state R.meaning self.old) }
+        ensures in_order { IsInOrder (plant_state R.meaning self.new) }
     {
         has(place, self.traffic.len(), PlantFault::NoSuchCopy)?;
         self.traffic.repeat(place)?;
@@ -127,22 +99,15 @@ impl<R: Role> PlantOf<R> {
     /// A link is cut: what is on it is lost, and so is what is put on it until it is mended. `NoSuchNode` where there is no
     /// such link. That it is cut already changes nothing more.
     pub fn cut(&mut self, link: usize) -> Result<(), PlantFault>
-        requires { IsInOrder
-            (plant_of self.old.topology (map (λ n. node_state (R.meaning n.role) n.core) self.old.nodes.items) self.old.traffic (map (λ h. h.items) self.old.handed.items)) }
+        requires { IsInOrder (plant_state R.meaning self.old) }
         ensures step { OnOk result (PlantStep
-            (plant_of self.old.topology (map (λ n. node_state (R.meaning n.role) n.core) self.old.nodes.items) self.old.traffic (map (λ h. h.items) self.old.handed.items))
-            (PlantEvent.Cut link)
-            (plant_of self.new.topology (map (λ n. node_state (R.meaning n.role) n.core) self.new.nodes.items) self.new.traffic (map (λ h. h.items) self.new.handed.items))) }
-        ensures ok { OnOk result (plant_refusal
-            (plant_of self.old.topology (map (λ n. node_state (R.meaning n.role) n.core) self.old.nodes.items) self.old.traffic (map (λ h. h.items) self.old.handed.items))
-            (PlantEvent.Cut link) ≡ None) }
+            (plant_state R.meaning self.old) (PlantEvent.Cut link)
+            (plant_state R.meaning self.new)) }
+        ensures ok { OnOk result (plant_refusal (plant_state R.meaning self.old) (PlantEvent.Cut link) ≡ None) }
         ensures err { IfErr result (λ f. PlantRefuses
-            (plant_of self.old.topology (map (λ n. node_state (R.meaning n.role) n.core) self.old.nodes.items) self.old.traffic (map (λ h. h.items) self.old.handed.items))
-            (PlantEvent.Cut link) f) }
-        ensures same { OnErr result (plant_of self.new.topology (map (λ n. node_state (R.meaning n.role) n.core) self.new.nodes.items) self.new.traffic (map (λ h. h.items) self.new.handed.items)
-            ≡ plant_of self.old.topology (map (λ n. node_state (R.meaning n.role) n.core) self.old.nodes.items) self.old.traffic (map (λ h. h.items) self.old.handed.items)) }
-        ensures in_order { IsInOrder
-            (plant_of self.new.topology (map (λ n. node_state (R.meaning n.role) n.core) self.new.nodes.items) self.new.traffic (map (λ h. h.items) self.new.handed.items)) }
+            (plant_state R.meaning self.old) (PlantEvent.Cut link) f) }
+        ensures same { OnErr result (plant_state R.meaning self.new ≡ plant_state R.meaning self.old) }
+        ensures in_order { IsInOrder (plant_state R.meaning self.new) }
     {
         has(link, self.traffic.links(), PlantFault::NoSuchNode)?;
         self.traffic.cut(link);
@@ -151,22 +116,15 @@ impl<R: Role> PlantOf<R> {
 
     /// A link is mended. `NoSuchNode` where there is no such link. That it is whole already changes nothing.
     pub fn mend(&mut self, link: usize) -> Result<(), PlantFault>
-        requires { IsInOrder
-            (plant_of self.old.topology (map (λ n. node_state (R.meaning n.role) n.core) self.old.nodes.items) self.old.traffic (map (λ h. h.items) self.old.handed.items)) }
+        requires { IsInOrder (plant_state R.meaning self.old) }
         ensures step { OnOk result (PlantStep
-            (plant_of self.old.topology (map (λ n. node_state (R.meaning n.role) n.core) self.old.nodes.items) self.old.traffic (map (λ h. h.items) self.old.handed.items))
-            (PlantEvent.Mend link)
-            (plant_of self.new.topology (map (λ n. node_state (R.meaning n.role) n.core) self.new.nodes.items) self.new.traffic (map (λ h. h.items) self.new.handed.items))) }
-        ensures ok { OnOk result (plant_refusal
-            (plant_of self.old.topology (map (λ n. node_state (R.meaning n.role) n.core) self.old.nodes.items) self.old.traffic (map (λ h. h.items) self.old.handed.items))
-            (PlantEvent.Mend link) ≡ None) }
+            (plant_state R.meaning self.old) (PlantEvent.Mend link)
+            (plant_state R.meaning self.new)) }
+        ensures ok { OnOk result (plant_refusal (plant_state R.meaning self.old) (PlantEvent.Mend link) ≡ None) }
         ensures err { IfErr result (λ f. PlantRefuses
-            (plant_of self.old.topology (map (λ n. node_state (R.meaning n.role) n.core) self.old.nodes.items) self.old.traffic (map (λ h. h.items) self.old.handed.items))
-            (PlantEvent.Mend link) f) }
-        ensures same { OnErr result (plant_of self.new.topology (map (λ n. node_state (R.meaning n.role) n.core) self.new.nodes.items) self.new.traffic (map (λ h. h.items) self.new.handed.items)
-            ≡ plant_of self.old.topology (map (λ n. node_state (R.meaning n.role) n.core) self.old.nodes.items) self.old.traffic (map (λ h. h.items) self.old.handed.items)) }
-        ensures in_order { IsInOrder
-            (plant_of self.new.topology (map (λ n. node_state (R.meaning n.role) n.core) self.new.nodes.items) self.new.traffic (map (λ h. h.items) self.new.handed.items)) }
+            (plant_state R.meaning self.old) (PlantEvent.Mend link) f) }
+        ensures same { OnErr result (plant_state R.meaning self.new ≡ plant_state R.meaning self.old) }
+        ensures in_order { IsInOrder (plant_state R.meaning self.new) }
     {
         has(link, self.traffic.links(), PlantFault::NoSuchNode)?;
         self.traffic.mend(link);

@@ -18,11 +18,15 @@ mod outlet;
 mod plant;
 mod port_framing;
 mod putting;
+mod ring;
 mod topology;
 mod traffic;
+mod twin_lan;
 
 pub use event::PlantEvent;
 pub use fault::PlantFault;
 pub use plant::{Plant, PlantOf};
+pub use ring::{Ring, RingOf};
 pub use topology::Topology;
 pub use traffic::Traffic;
+pub use twin_lan::{TwinLan, TwinLanOf};

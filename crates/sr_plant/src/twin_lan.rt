@@ -1,0 +1,37 @@
+//! Two LANs.
+
+ghost use Rattle.std.specs.Prelude.{◌≡◌, true, IfOk, OnOk, IfErr};
+ghost use Rattle.sr_plant.specs.Images.{plant_state, states_of};
+ghost use Rattle.sr_plant.specs.Plants.{IsInOrder};
+ghost use Rattle.sr_plant.specs.Building.{is_plant, opening, plant_fault};
+
+use crate::{PlantFault, PlantOf, Topology};
+use sr_forwarding::Role;
+use sr_node::NodeOf;
+use std::alloc::Global;
+
+/// Two LANs, A and B, of doubly attached nodes over this role (IEC 62439-3 clause 4).
+#[derive(Drop)]
+pub struct TwinLanOf<R: Drop> {
+    /// The nodes, and what is between them.
+    pub plant: PlantOf<R>,
+}
+
+/// Two LANs of doubly attached nodes over any role.
+pub type TwinLan = TwinLanOf<Box<dyn Role + Send>>;
+
+impl<R: Role> TwinLanOf<R> {
+    /// New LANs of these nodes: 2 to 16 of the kind `Danp`, each with an address of its own, and with no frame waiting.
+    /// `BadPlant` exactly where they are not so. `NoMemory`: a growth was refused.
+    pub fn new(alloc: Global, nodes: Vec<NodeOf<R>>) -> Result<TwinLanOf<R>, PlantFault>
+        ensures begun { IfOk result (λ r. plant_state R.meaning r.plant
+            ≡ opening Topology.TwinLan (states_of R.meaning nodes.items)) }
+        ensures in_order { IfOk result (λ r. IsInOrder (plant_state R.meaning r.plant)) }
+        ensures ok { OnOk result (is_plant Topology.TwinLan (states_of R.meaning nodes.items) ≡ true) }
+        ensures err { IfErr result (λ f. f ≡ plant_fault
+            (is_plant Topology.TwinLan (states_of R.meaning nodes.items))) }
+    {
+        let plant = PlantOf::new(alloc, Topology::TwinLan, nodes)?;
+        Ok(TwinLanOf { plant })
+    }
+}
