@@ -1,6 +1,9 @@
-//! Octets as hexadecimal digits, written without a branch for a digit.
+//! Octets as hexadecimal digits, read and written sixteen octets at a time.
 #![tactic(auto)]
 
+mod lanes;
+mod reading;
 mod writing;
 
+pub use reading::{are_digits, read_hex};
 pub use writing::append_hex;

@@ -1,12 +1,44 @@
-//! Octets written as hexadecimal digits. The loop has no branch for a digit, so that it runs on many digits at a time.
+//! Octets written as hexadecimal digits, sixteen octets at a time.
 
-ghost use Rattle.std.specs.Prelude.{◌≡◌, ◌*◌, ◌<◌, ◌++◌, length, OnOk, slice_index, ◌^◌};
+ghost use Rattle.std.specs.Prelude.{◌≡◌, ◌+◌, ◌*◌, ◌≤◌, ◌<◌, ◌++◌, length, OnOk, slice_index, ◌^◌};
 ghost use Rattle.hex.specs.Hex.{encode_lower, lower_digits};
+ghost use Rattle.sr_hex.specs.Values.{AreWritten, AreKept};
 
+use crate::lanes::{digits_of, in_turn_first, in_turn_last, load, lower, store, upper};
 use std::alloc::AllocError;
 
-/// The digit of a number, in lower case.
+/// Writes the digits of sixteen octets from a place on.
 #[inline(always)]
+fn write_block(octets: &[u8], at: usize, digits: &mut [u8])
+    requires pairs { length digits.old ≡ 2 * length octets.now }
+    requires within { at + 16 ≤ length octets.now }
+    ensures long { length digits.new ≡ length digits.old }
+    ensures written { AreWritten octets.now digits.new at (at + 16) }
+    ensures kept { AreKept digits.old digits.new (2 * at) }
+{
+    let block = load(octets, at);
+    let high = digits_of(upper(block));
+    let low = digits_of(lower(block));
+    store(in_turn_first(high, low), digits, 2 * at);
+    store(in_turn_last(high, low), digits, 2 * at + 16);
+}
+
+/// Writes the digits of sixteen octets or more, of sixteen at a time. Those of the last sixteen may be written twice.
+fn write_blocks(octets: &[u8], digits: &mut [u8])
+    requires pairs { length digits.old ≡ 2 * length octets.now }
+    requires enough { 16 ≤ length octets.now }
+    ensures { digits.new ≡ encode_lower octets.now }
+{
+    let last = octets.len() - 16;
+    let mut at = 0;
+    while at < last {
+        write_block(octets, at, digits);
+        at += 16;
+    }
+    write_block(octets, last, digits);
+}
+
+/// The digit of a number, in lower case.
 fn digit_of(number: u8) -> u8
     requires { number < 16 }
     ensures { result ≡ slice_index lower_digits number }
@@ -18,8 +50,8 @@ fn digit_of(number: u8) -> u8
     }
 }
 
-/// Writes the digits of octets, two each.
-fn write_pairs(octets: &[u8], digits: &mut [u8])
+/// Writes the digits of octets, two each, one octet after the other.
+fn write_few(octets: &[u8], digits: &mut [u8])
     requires { length digits.old ≡ 2 * length octets.now }
     ensures { digits.new ≡ encode_lower octets.now }
 {
@@ -29,6 +61,18 @@ fn write_pairs(octets: &[u8], digits: &mut [u8])
         let low = digit_of(octet & 15);
         digits[2 * i] = high;
         digits[2 * i + 1] = low;
+    }
+}
+
+/// Writes the digits of octets, two each.
+fn write_pairs(octets: &[u8], digits: &mut [u8])
+    requires { length digits.old ≡ 2 * length octets.now }
+    ensures { digits.new ≡ encode_lower octets.now }
+{
+    if octets.len() < 16 {
+        write_few(octets, digits);
+    } else {
+        write_blocks(octets, digits);
     }
 }
 

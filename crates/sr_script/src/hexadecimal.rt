@@ -1,57 +1,13 @@
-//! Octets as hexadecimal digits. The loops have no branch for a digit, so that they run on many
-//! digits at a time.
+//! Octets from the hexadecimal digits of a line.
 
-ghost use Rattle.std.specs.Prelude.{◌≡◌, ◌*◌, ◌+◌, ◌-◌, ◌<◌, ◌++◌, ◌∷◌, [], ℕ, List, length, unwrap_or, take, MatchBool, MatchResult, IfOk, IfErr, OnOk, IsErr, Err, IsTrue, ◌↔◌, slice_index, ◌^◌};
+ghost use Rattle.std.specs.Prelude.{◌≡◌, ◌∷◌, [], ℕ, List, length, IfErr, OnOk, Err};
 ghost use Rattle.sr_script.specs.Lines.{IsOneOf};
 ghost use Rattle.sr_script.specs.Commands.{IsHex};
 ghost use Rattle.std.specs.List.{AllPass};
-ghost use Rattle.hex.specs.Hex.{decode_of, decode_pairs, encode_lower, lower_digits, hex_digit_value, is_hex_digit};
+ghost use Rattle.hex.specs.Hex.{is_hex_digit};
 
 use crate::fault::Word;
-
-/// The value of a digit of either case; 255 where it is none.
-#[inline(always)]
-fn digit_value(digit: u8) -> u8
-    ensures { result ≡ unwrap_or (hex_digit_value digit) 255 }
-{
-    let number = digit.wrapping_sub(b'0');
-    let letter = (digit | 0x20).wrapping_sub(b'a');
-    if number < 10 {
-        number
-    } else if letter < 6 {
-        letter + 10
-    } else {
-        255
-    }
-}
-
-/// Writes the octets that the digits spell, two digits each. False where one is no digit: what is
-/// written then says nothing.
-fn read_pairs(digits: &[u8], octets: &mut [u8]) -> bool
-    requires { length digits.now ≡ 2 * length octets.old }
-    ensures { MatchBool result (decode_of digits.now ≡ Ok octets.new) (IsErr (decode_of digits.now)) }
-{
-    let mut worst = 0u8;
-    for i in 0..octets.len() {
-        let high = digit_value(digits[2 * i]);
-        let low = digit_value(digits[2 * i + 1]);
-        worst = worst.max(high).max(low);
-        octets[i] = high.wrapping_mul(16).wrapping_add(low);
-    }
-    worst < 16
-}
-
-/// Whether all octets are digits.
-fn are_digits(digits: &[u8]) -> bool
-    ensures { IsTrue result ↔ AllPass is_hex_digit digits.now }
-{
-    for digit in digits {
-        if digit_value(*digit) > 15 {
-            return false;
-        }
-    }
-    true
-}
+use sr_hex::are_digits;
 
 /// Gives a list so many octets. Where it has to grow, the digits are looked at first.
 fn make_room(digits: &[u8], octets: &mut Vec<u8>, count: usize) -> Result<(), Word>
@@ -91,7 +47,7 @@ pub(crate) fn read_hex(digits: &[u8], octets: &mut Vec<u8>) -> Result<(), Word>
     if let Err(word) = make_room(digits, octets, count) {
         return Err(word);
     }
-    if read_pairs(digits, octets.as_mut_slice()) {
+    if sr_hex::read_hex(digits, octets.as_mut_slice()) {
         Ok(())
     } else {
         Err(Word::Line)

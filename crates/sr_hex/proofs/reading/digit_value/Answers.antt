@@ -1,5 +1,5 @@
-use Rattle.sr_script.proofs.Digits.{letter_value, no_value}
-use Rattle.sr_script.proofs.hexadecimal.digit_value.Goals as goal
+use Rattle.sr_hex.proofs.Digits.{letter_value, no_value}
+use Rattle.sr_hex.proofs.reading.digit_value.Goals as goal
 
 pub returns-then-letter-lt6 : goal.returns-then-letter-lt6
 returns-then-letter-lt6 c = letter_value c.args.digit c.ranges.digit.fits c.if-number-lt10.false c.if-letter-lt6.true

@@ -1,6 +1,6 @@
 use Rattle.std.proofs.Common.{◌+◌, ◌*◌, ◌<◌, arith, length}
-use Rattle.sr_script.proofs.Digits.{pair_small, octet_more, octets_done}
-use Rattle.sr_script.proofs.hexadecimal.read_pairs.Goals as goal
+use Rattle.sr_hex.proofs.Digits.{pair_small, octet_more, octets_done}
+use Rattle.sr_hex.proofs.reading.read_few.Goals as goal
 
 pub loop-i-preserved : goal.loop-i-preserved
 loop-i-preserved c =

@@ -2,7 +2,7 @@ use Rattle.std.proofs.Common.{◌≡◌, ◌*◌, ◌<◌, take, drop}
 use Rattle.std.specs.List.{AllPass}
 use Rattle.hex.specs.Hex.{decode_pairs, is_hex_digit}
 use Rattle.hex.proofs.Pairs.{prepend}
-use Rattle.sr_script.proofs.hexadecimal.read_pairs.Given as goal
+use Rattle.sr_hex.proofs.reading.read_few.Given as goal
 
 abbrev pub invariant-loop-i : goal.invariant-loop-i
 invariant-loop-i l = record {

@@ -1,0 +1,4 @@
+pub mod LaneLemmas
+pub mod Blocks
+pub mod Digits
+pub mod Digested

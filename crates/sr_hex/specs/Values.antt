@@ -1,0 +1,51 @@
+-- The values of hexadecimal digits, by their distances from `0` and from `a`, and the digits of numbers.
+use Rattle.std.specs.Prelude.{◌≡◌, ◌+◌, ◌*◌, ◌/◌, ◌%◌, ◌<◌, ◌≤◌, ℕ, List, slice_index, bit_or, min, nat_lt, if◌then◌else◌}
+
+-- how far a code stands above that of `0`, modulo 256
+abbrev pub above_zero : ℕ → ℕ
+above_zero c = (c + 208) % 256
+
+-- ten more than a code in lower case stands above that of `a`, modulo 256, but no more than 255
+abbrev pub above_a : ℕ → ℕ
+above_a c = min ((bit_or c 32 + 159) % 256 + 10) 255
+
+-- the value, where the code is one of a digit
+abbrev pub value_of : ℕ → ℕ
+value_of c = min (above_zero c) (above_a c)
+
+-- less than 16 where the code is one of a digit, and there alone
+abbrev pub mark_of : ℕ → ℕ
+mark_of c = min (min (above_zero c + 6) 255) (above_a c)
+
+-- the octet of two values
+abbrev pub octet_of : ℕ → ℕ → ℕ
+octet_of high low = (high * 16 % 256 + low) % 256
+
+-- the octet that the digits at two neighbouring places spell
+abbrev pub octet_at : List ℕ → ℕ → ℕ
+octet_at digits i = octet_of (value_of (slice_index digits (2 * i))) (value_of (slice_index digits (2 * i + 1)))
+
+-- the octets between two places are those that the digits spell
+abbrev pub AreSpelled : List ℕ → List ℕ → ℕ → ℕ → Type 0
+AreSpelled digits octets from to = (i : ℕ) → from ≤ i → i < to → slice_index octets i ≡ octet_at digits i
+
+-- the codes between two places are digits
+abbrev pub AreDigits : List ℕ → ℕ → ℕ → Type 0
+AreDigits digits from to = (k : ℕ) → from ≤ k → k < to → mark_of (slice_index digits k) < 16
+
+-- the octets before a place are the same
+abbrev pub AreKept : List ℕ → List ℕ → ℕ → Type 0
+AreKept old new before = (k : ℕ) → k < before → slice_index new k ≡ slice_index old k
+
+-- all sixteen lanes are less than 16
+abbrev pub AreSmall : List ℕ → Type 0
+AreSmall v = (i : ℕ) → i < 16 → slice_index v i < 16
+
+-- the digit of a number below 16, in lower case
+abbrev pub digit_of : ℕ → ℕ
+digit_of n = ((n + 48) % 256 + (if nat_lt 9 n then 39 else 0)) % 256
+
+-- the digits of the octets between two places are written
+abbrev pub AreWritten : List ℕ → List ℕ → ℕ → ℕ → Type 0
+AreWritten octets digits from to = (i : ℕ) → from ≤ i → i < to
+    → (slice_index digits (2 * i) ≡ digit_of (slice_index octets i / 16)) × (slice_index digits (2 * i + 1) ≡ digit_of (slice_index octets i % 16))

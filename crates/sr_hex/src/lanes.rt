@@ -1,0 +1,140 @@
+//! Vectors of sixteen octets.
+
+ghost use Rattle.std.specs.Prelude.{◌≡◌, ◌↔◌, ◌+◌, ◌-◌, ◌*◌, ◌/◌, ◌%◌, ◌≤◌, ◌<◌, ◌++◌, ℕ, IsTrue, length, slice_index, min, max};
+ghost use Rattle.sr_hex.specs.Lanes.{HasLanes};
+ghost use Rattle.sr_hex.specs.Values.{AreSmall, AreKept, above_zero, above_a, digit_of, octet_of};
+
+use std::simd::prelude::*;
+
+/// The sixteen octets from a place on.
+#[inline(always)]
+pub(crate) fn load(octets: &[u8], at: usize) -> u8x16
+    requires { at + 16 ≤ length octets.now }
+    ensures { HasLanes result (λ i. slice_index octets.now (at + i)) }
+{
+    u8x16::from_slice(&octets[at..])
+}
+
+/// Writes sixteen octets from a place on.
+#[inline(always)]
+pub(crate) fn store(v: u8x16, octets: &mut [u8], at: usize)
+    requires { at + 16 ≤ length octets.old }
+    ensures long { length octets.new ≡ length octets.old }
+    ensures stored { (i : ℕ) → i < 16 → slice_index octets.new (at + i) ≡ slice_index v i }
+    ensures kept { AreKept octets.old octets.new at }
+{
+    v.copy_to_slice(&mut octets[at..]);
+}
+
+/// The smaller of each two lanes.
+#[inline(always)]
+pub(crate) fn smaller(a: u8x16, b: u8x16) -> u8x16
+    ensures { HasLanes result (λ i. min (slice_index a i) (slice_index b i)) }
+{
+    a.simd_min(b)
+}
+
+/// The larger of each two lanes.
+#[inline(always)]
+pub(crate) fn larger(a: u8x16, b: u8x16) -> u8x16
+    ensures { HasLanes result (λ i. max (slice_index a i) (slice_index b i)) }
+{
+    a.simd_max(b)
+}
+
+/// So much more in each lane, but no more than 255.
+#[inline(always)]
+pub(crate) fn raised(a: u8x16, by: u8) -> u8x16
+    ensures { HasLanes result (λ i. min (slice_index a i + by) 255) }
+{
+    a.simd_min(u8x16::splat(255 - by)) + u8x16::splat(by)
+}
+
+/// How far codes stand above that of `0`.
+#[inline(always)]
+pub(crate) fn numbers(codes: u8x16) -> u8x16
+    ensures { HasLanes result (λ i. above_zero (slice_index codes i)) }
+{
+    codes - u8x16::splat(b'0')
+}
+
+/// How far codes in lower case stand above that of `a`, and ten more.
+#[inline(always)]
+pub(crate) fn letters(codes: u8x16) -> u8x16
+    ensures { HasLanes result (λ i. above_a (slice_index codes i)) }
+{
+    raised((codes | u8x16::splat(0x20)) - u8x16::splat(b'a'), 10)
+}
+
+/// The octets of values, two neighbouring ones each.
+#[inline(always)]
+pub(crate) fn octets_of(first: u8x16, second: u8x16) -> u8x16
+    ensures { HasLanes result (λ i. octet_of (slice_index (first ++ second) (2 * i)) (slice_index (first ++ second) (2 * i + 1))) }
+{
+    let high: u8x16 = first.shuffle(
+        second,
+        [0, 2, 4, 6, 8, 10, 12, 14, 16, 18, 20, 22, 24, 26, 28, 30],
+    );
+    let low: u8x16 = first.shuffle(
+        second,
+        [1, 3, 5, 7, 9, 11, 13, 15, 17, 19, 21, 23, 25, 27, 29, 31],
+    );
+    high * u8x16::splat(16) + low
+}
+
+/// Whether each lane is less than 16.
+#[inline(always)]
+pub(crate) fn are_small(v: u8x16) -> bool
+    ensures { IsTrue result ↔ AreSmall v }
+{
+    v.simd_ge(u8x16::splat(16)).to_bitmask() == 0
+}
+
+/// The upper four bits of octets.
+#[inline(always)]
+pub(crate) fn upper(octets: u8x16) -> u8x16
+    ensures { HasLanes result (λ i. slice_index octets i / 16) }
+{
+    octets >> u8x16::splat(4)
+}
+
+/// The lower four bits of octets.
+#[inline(always)]
+pub(crate) fn lower(octets: u8x16) -> u8x16
+    ensures { HasLanes result (λ i. slice_index octets i % 16) }
+{
+    octets & u8x16::splat(15)
+}
+
+/// The digits of numbers.
+#[inline(always)]
+pub(crate) fn digits_of(numbers: u8x16) -> u8x16
+    ensures { HasLanes result (λ i. digit_of (slice_index numbers i)) }
+{
+    let letters = numbers
+        .simd_gt(u8x16::splat(9))
+        .select(u8x16::splat(39), u8x16::splat(0));
+    numbers + u8x16::splat(b'0') + letters
+}
+
+/// Lanes of one and of the other in turn, of the first eight of each.
+#[inline(always)]
+pub(crate) fn in_turn_first(high: u8x16, low: u8x16) -> u8x16
+    ensures { HasLanes result (λ i. slice_index (high ++ low) (i / 2 + 16 * (i % 2))) }
+{
+    high.shuffle(
+        low,
+        [0, 16, 1, 17, 2, 18, 3, 19, 4, 20, 5, 21, 6, 22, 7, 23],
+    )
+}
+
+/// Lanes of one and of the other in turn, of the last eight of each.
+#[inline(always)]
+pub(crate) fn in_turn_last(high: u8x16, low: u8x16) -> u8x16
+    ensures { HasLanes result (λ i. slice_index (high ++ low) (8 + i / 2 + 16 * (i % 2))) }
+{
+    high.shuffle(
+        low,
+        [8, 24, 9, 25, 10, 26, 11, 27, 12, 28, 13, 29, 14, 30, 15, 31],
+    )
+}
