@@ -25,7 +25,7 @@ use std::alloc::Global;
 use std::io::Write;
 
 /// What a refusal is called. None for want of memory.
-fn name_of(fault: StepFault) -> Option<&'static str>
+pub fn name_of(fault: StepFault) -> Option<&'static str>
     ensures { option_copied result ≡ name_of fault }
 {
     match fault {
@@ -41,7 +41,10 @@ fn name_of(fault: StepFault) -> Option<&'static str>
 }
 
 /// Appends the line for an event that is refused.
-fn append_refusal(text: &mut Vec<u8>, number: u64, name: &str) -> Result<(), Word>
+///
+/// # Errors
+/// `Memory`.
+pub fn append_refusal(text: &mut Vec<u8>, number: u64, name: &str) -> Result<(), Word>
     ensures ok { OnOk result (text.new.items ≡ text.old.items ++ refusal_line number name.now) }
     ensures err { IfErr result (λ word. word ≡ Word.Memory) }
 {

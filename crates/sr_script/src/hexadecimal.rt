@@ -34,7 +34,7 @@ fn make_room(digits: &[u8], octets: &mut Vec<u8>, count: usize) -> Result<(), Wo
 /// # Errors
 /// `Line` where the digits are none, not even in number, or not all digits, whatever memory there is; `Memory`. What
 /// `octets` then holds says nothing.
-pub(crate) fn read_hex(digits: &[u8], octets: &mut Vec<u8>) -> Result<(), Word>
+pub fn read_hex(digits: &[u8], octets: &mut Vec<u8>) -> Result<(), Word>
     ensures found { OnOk result (IsHex digits.now octets.new.items) }
     ensures only { (os : List ℕ) → IsHex digits.now os → IfErr result (λ word. word ≡ Word.Memory) }
     ensures memory { result ≡ Err Word.Memory → (os : List ℕ) × IsHex digits.now os }

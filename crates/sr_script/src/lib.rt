@@ -15,7 +15,15 @@ mod session;
 mod setups;
 mod words;
 
+pub use answering::{append_refusal, name_of};
 pub use fault::{Fault, Word};
-pub use replaying::run;
+pub use hexadecimal::read_hex;
+pub use numbers::number_of;
+pub use printing::write_plain;
+pub use reading::is_comment;
+pub use replaying::{NOT_BEGUN, line_list, run};
+pub use running::run_session;
+pub use session::Session;
 pub use setups::{RoleName, Setup};
 pub use sr_redbox::PrpRouting;
+pub use words::split_word;

@@ -30,7 +30,7 @@ fn has_leading_zero(word: &[u8]) -> bool
 
 /// The number that a word spells: decimal digits without a sign and without leading zeros.
 /// None where it spells none, or one above 18446744073709551615.
-pub(crate) fn number_of(word: &[u8]) -> Option<u64>
+pub fn number_of(word: &[u8]) -> Option<u64>
     ensures found { IfSome result (λ n. word.now ≡ decimal n) }
     ensures only { (n : ℕ) → n < 2 ^ 64 → word.now ≡ decimal n → result ≡ Some n }
 {

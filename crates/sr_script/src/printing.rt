@@ -44,7 +44,10 @@ fn append_frame(text: &mut Vec<u8>, port: Port, frame: &[u8]) -> Result<(), Allo
 }
 
 /// Writes the plain form of a parcel into an empty list.
-fn write_plain(parcel: &Parcel, frame: &mut Vec<u8>) -> Result<(), Word>
+///
+/// # Errors
+/// `Memory`.
+pub fn write_plain(parcel: &Parcel, frame: &mut Vec<u8>) -> Result<(), Word>
     requires { frame.old.items ≡ [] }
     ensures ok { OnOk result (frame.new.items ≡ plain_of parcel.now) }
     ensures size { OnOk result (length frame.new.items ≤ 1524) }

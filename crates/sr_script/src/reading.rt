@@ -26,7 +26,7 @@ pub(crate) enum Command {
 }
 
 /// Whether a line begins with `#`, and is ASCII.
-fn is_comment(line: &[u8]) -> bool
+pub fn is_comment(line: &[u8]) -> bool
     ensures { IsTrue result ↔ IsComment line.now }
 {
     !line.is_empty() && line[0] == b'#' && line.iter().all(|octet| *octet < 128)

@@ -59,13 +59,13 @@ impl Session for NodeSession {
 }
 
 /// Memory was refused before the first line was read.
-const NOT_BEGUN: Fault = Fault {
+pub const NOT_BEGUN: Fault = Fault {
     line: 1,
     word: Word::Memory,
 };
 
-/// A list with room for the longest line.
-fn line_list(alloc: Global) -> Result<Vec<u8>, AllocError>
+/// A list with room for the longest line. An error where its growth was refused.
+pub fn line_list(alloc: Global) -> Result<Vec<u8>, AllocError>
     ensures { IfOk result (λ line. 8001 ≤ vec_capacity line) }
 {
     let mut line = Vec::new(alloc);

@@ -104,7 +104,7 @@ fn end<S: Session, W: Write>(
 /// Has the session obey the script that the reader has left, and writes what is to be printed for each line, and then at the
 /// end. Lines are counted from 1; what is printed for a line is written, and flushed, before the next line is read. The two
 /// lists are used again for each line; `line` has room for the longest.
-pub(crate) fn run_session<S: Session, R: BufRead, W: Write>(
+pub fn run_session<S: Session, R: BufRead, W: Write>(
     session: &mut S,
     line: &mut Vec<u8>,
     text: &mut Vec<u8>,

@@ -6,7 +6,7 @@ ghost use Rattle.sr_script.specs.Lines.{IsOneOf};
 use crate::fault::Word;
 
 /// What obeys the lines of a script, and says what is printed for each and at the end. It knows no reader and no writer.
-pub(crate) trait Session: Send + Drop {
+pub trait Session: Send + Drop {
     ghost use Rattle.sr_script.specs.Runs.{Dialogue};
 
     // What clauses see of it.

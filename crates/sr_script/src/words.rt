@@ -13,7 +13,7 @@ pub(crate) fn place_of(octet: u8, octets: &[u8]) -> Option<usize>
 }
 
 /// The word before the first space, and what stands behind that space. None where there is no space.
-pub(crate) fn split_word(text: &[u8]) -> Option<(&[u8], &[u8])>
+pub fn split_word(text: &[u8]) -> Option<(&[u8], &[u8])>
     ensures found { IfSome result (λ parts. text.now ≡ parts.0.now ++ 32 ∷ parts.1.now) }
     ensures only { (word rest : List ℕ) → Lacks 32 word → text.now ≡ word ++ 32 ∷ rest
         → IsSomeAnd result (λ parts. (parts.0.now ≡ word) × (parts.1.now ≡ rest)) }
