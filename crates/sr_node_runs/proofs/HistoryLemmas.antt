@@ -187,7 +187,7 @@ went-to s port p now ports t to = by (goes s port p now) refl to
   where
     by : (o : Option Outlets) → goes s port p now ≡ o → PassedTo s port p now o ports t → WentTo s port p now ports
     by None e to = absurd to
-    by (Some outlets) e to = record { outlets = outlets; goes = e; ports_are = to.0 }
+    by (Some outlets) e to = record { outlets = outlets; goes = e; ports_are = to.2 }
 
 wanted-and-new : (w c k : Bool) → (w && ((w || c) && not k)) ≡ (w && not k)
 wanted-and-new true c k = refl
