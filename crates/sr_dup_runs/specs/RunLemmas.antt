@@ -365,7 +365,8 @@ pushed_keeps x xs last s kept le some lacks =
             rw stays (keeps_past q x xs x.arrival.time (lookup (mac_eq q) r) other (keeps_with_room q xs last x.arrival.time s kept le))
       ];
       keys = rw (keys_pushed r x.arrival.src h)
-          (IsDistinct-push mac_laws (keys_of r) x.arrival.src (keys_with_room s x.arrival.time kept.keys) (absent_key x.arrival.src r absent));
+          (IsDistinct-push mac_laws (keys_of r) x.arrival.src (keys_with_room s x.arrival.time kept.keys)
+            (absent_key x.arrival.src r absent));
     }
 
 -- a source that is there

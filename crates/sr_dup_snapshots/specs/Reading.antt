@@ -1,5 +1,6 @@
 -- What octets spell, read part by part.
-use Rattle.std.specs.Prelude.{ℕ, zero, suc, ◌+◌, ◌*◌, ◌/◌, ◌%◌, ◌==◌, Bool, true, ◌&&◌, not, List, [], ◌∷◌, map, take, drop, slice_index_or, Option, None, Some}
+use Rattle.std.specs.Prelude.{ℕ, zero, suc, ◌+◌, ◌*◌, ◌/◌, ◌%◌, ◌==◌, Bool, true, ◌&&◌, not, Option, None, Some}
+use Rattle.std.specs.Prelude.{List, [], ◌∷◌, map, take, drop, slice_index_or}
 use Rattle.std.specs.List.{range_with_len}
 use Rattle.std.specs.Int.{w16, w64, from_be_bytes, bit_at}
 use Rattle.std.specs.Ordering.{is_lt}

@@ -16,6 +16,7 @@ pub fn is_viewed(alloc: Global, text: Text, fault: Option<FrameFault>) -> Option
     Some(view(&octets).err() == fault)
 }
 
+/// Whether a view of octets has these addresses, VLAN and EtherType, this payload, and these lengths of header and all.
 pub fn has_fields(
     alloc: Global,
     text: Text,
@@ -47,6 +48,7 @@ fn is_put_in_a_list(alloc: Global, frame: &Frame) -> Option<bool> {
     }
 }
 
+/// Whether octets are copied into a frame of their own, which can be cloned and put into a list.
 pub fn is_copied(alloc: Global, text: Text, kind: u16) -> Option<bool> {
     let octets = joined(alloc, &[text])?;
     match Frame::copy(alloc, &octets) {
@@ -60,6 +62,7 @@ pub fn is_copied(alloc: Global, text: Text, kind: u16) -> Option<bool> {
     }
 }
 
+/// Whether an address is shown so, and is one of a group or not.
 pub fn is_shown(alloc: Global, mac: Mac, wanted: &str, is_group: bool) -> Option<bool> {
     let text = mac.to_string(alloc).ok()?;
     Some(text.as_str() == wanted && mac.is_group() == is_group)
@@ -77,6 +80,7 @@ fn is_stripped(alloc: Global, octets: &[u8], plain: Text, is_there: bool) -> Opt
     }
 }
 
+/// Whether octets have this trailer or none, and are the plain ones without it.
 pub fn has_trailer(
     alloc: Global,
     plain: Text,
@@ -94,6 +98,7 @@ pub fn has_trailer(
     is_stripped(alloc, &octets, plain, trailer.is_some())
 }
 
+/// Whether a frame gets a trailer so, or is too long for one.
 pub fn is_appended(
     alloc: Global,
     given: Text,
@@ -141,6 +146,7 @@ fn tag_of(octets: &[u8]) -> Option<Result<Tagging, TagFault>> {
     Some(sr_hsr_tag::read(&frame).map(|tag| (tag.path, tag.size, tag.seq.0, tag.inner)))
 }
 
+/// Whether a ring frame without its tag is the plain one.
 pub fn is_untagged(
     alloc: Global,
     before: Text,
@@ -155,6 +161,7 @@ pub fn is_untagged(
     takes_tag_out(alloc, &octets, Ok((before, behind)))
 }
 
+/// Whether octets are refused as a ring frame so.
 pub fn is_not_untagged(
     alloc: Global,
     text: Text,
@@ -186,6 +193,7 @@ fn cut_of(alloc: Global, octets: &[u8]) -> Option<Option<Cut>> {
     }
 }
 
+/// Whether each beginning of octets, of these lengths, is refused or read so.
 pub fn are_cut(alloc: Global, text: Text, from: usize, to: usize, cut: Cut) -> Option<bool> {
     let octets = joined(alloc, &[text])?;
     for len in from..to {
@@ -196,6 +204,7 @@ pub fn are_cut(alloc: Global, text: Text, from: usize, to: usize, cut: Cut) -> O
     Some(true)
 }
 
+/// Whether the view of a ring frame without its tag has these fields.
 pub fn has_untagged_view(
     alloc: Global,
     text: Text,
@@ -214,6 +223,7 @@ pub fn has_untagged_view(
     }
 }
 
+/// Whether a plain frame gets this tag, or is refused.
 pub fn is_tagged(
     alloc: Global,
     before: Text,
@@ -239,6 +249,7 @@ pub fn is_tagged(
     }
 }
 
+/// Whether octets are read as supervision that says this, or are none.
 pub fn is_said(
     alloc: Global,
     head: Text,
@@ -269,11 +280,13 @@ fn supervision_of(saying: Saying) -> Supervision {
     }
 }
 
+/// Whether supervision is written so.
 pub fn is_written(alloc: Global, saying: Saying, head: Text, payload: Text) -> Option<bool> {
     let own = write(alloc, &supervision_of(saying)).ok()?;
     is_text(alloc, own.octets(), &[head, payload])
 }
 
+/// Whether supervision goes out so on a LAN, with its trailer.
 pub fn is_sent(alloc: Global, saying: Saying, seq: u16, lan: Lan, text: Text) -> Option<bool> {
     let own = write(alloc, &supervision_of(saying)).ok()?;
     match appended(alloc, &own.view(), Seq(seq), lan) {

@@ -48,4 +48,5 @@ digit_of n = ((n + 48) % 256 + (if nat_lt 9 n then 39 else 0)) % 256
 -- the digits of the octets between two places are written
 abbrev pub AreWritten : List ℕ → List ℕ → ℕ → ℕ → Type 0
 AreWritten octets digits from to = (i : ℕ) → from ≤ i → i < to
-    → (slice_index digits (2 * i) ≡ digit_of (slice_index octets i / 16)) × (slice_index digits (2 * i + 1) ≡ digit_of (slice_index octets i % 16))
+    → (slice_index digits (2 * i) ≡ digit_of (slice_index octets i / 16))
+    × (slice_index digits (2 * i + 1) ≡ digit_of (slice_index octets i % 16))

@@ -23,7 +23,8 @@ pub record CoreValue : Type 0 where
   pub wrong_lan : PerPort ℕ
 
 -- What shows of it: the greatest time that was handed in, the next number of a frame and of a life check, when the last life check
--- was sent, what is noted of each source, what is heard of other nodes, what waits, and of each port how many frames had the other LAN's trailer.
+-- was sent, what is noted of each source, what is heard of other nodes, what waits, and of each port how many frames had the other
+-- LAN's trailer.
 pub record Image : Type 0 where
   pub time : ℕ
   pub next : Seq

@@ -134,6 +134,7 @@ fn happens(node: &mut Node, event: &Event) -> Outcome {
     }
 }
 
+/// What comes of time that passes.
 pub fn tick(node: &mut Node, now: u64) -> Outcome {
     happens(node, &Event::Tick { now })
 }
@@ -191,6 +192,7 @@ pub fn send(alloc: Global, node: &mut Node, dst: Mac, src: Mac, len: usize, now:
     Outcome::Other
 }
 
+/// What comes of a frame of zeros of this length.
 pub fn arrive_zeros(
     node: &mut Node,
     port: Port,

@@ -39,8 +39,8 @@ abbrev pub IsWithinLine : List (List ℕ) → Option (List ℕ) → Type 0
 IsWithinLine left None = ⊥
 IsWithinLine left (Some rest) = (part : List ℕ) × (left ≡ lines_of (part ++ rest)) × Lacks 10 part × (length part ≤ 8000)
 
--- the fault of the first of the lines that are left, at the state t, the reader having this left: where it is `read`, the line was not read, and
--- where it is `write` or `memory`, the line is none of those that are `line` or `long`
+-- the fault of the first of the lines that are left, at the state t, the reader having this left: where it is `read`, the line was
+-- not read, and where it is `write` or `memory`, the line is none of those that are `line` or `long`
 abbrev pub HasFault : {S : Type 0} → Dialogue S → S → ℕ → Word → List (List ℕ) → Option (List ℕ) → Type 0
 HasFault d t number word.Line [] rest = ⊥
 HasFault d t number word.Line (line ∷ lines) rest = HasPlace number line × (d.Knows t line → ⊥)

@@ -122,6 +122,7 @@ fn is_read<R: Read + Drop>(
     Some(is_ended(outcome, ending)? && written.as_slice() == wanted)
 }
 
+/// Whether a run over a reader that fails behind these octets writes so much, and ends at this line.
 pub fn is_broken(
     alloc: Global,
     octets: &[u8],
@@ -137,10 +138,12 @@ pub fn is_broken(
     )
 }
 
+/// Whether a run over so many empty lines ends so.
 pub fn are_empty_lines(alloc: Global, left: usize, ending: Ending) -> Option<bool> {
     is_read(alloc, EmptyLines { left }, &[], ending)
 }
 
+/// Whether a run with a writer that takes so many octets ends so.
 pub fn is_narrow(alloc: Global, script: &[u8], room: usize, ending: Ending) -> Option<bool> {
     let mut reader = script;
     is_ended(
@@ -149,6 +152,7 @@ pub fn is_narrow(alloc: Global, script: &[u8], room: usize, ending: Ending) -> O
     )
 }
 
+/// Whether a run with a writer that can not be flushed ends so.
 pub fn is_unflushed(alloc: Global, script: &[u8], ending: Ending) -> Option<bool> {
     let mut reader = script;
     is_ended(run(alloc, &danp(), &mut reader, &mut Unflushed), ending)

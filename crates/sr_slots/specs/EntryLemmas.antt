@@ -1,5 +1,6 @@
 -- Entries by address: a look-up through a write, a new entry and a test of the values.
-use Rattle.std.proofs.Common.{◌≡◌, ℕ, ◌+◌, ◌≤◌, Bool, true, false, cond, List, [], ◌∷◌, ◌++◌, length, filter, Option, None, Some, is_some, refl, sym, ap, ◌∙◌, subst, arith}
+use Rattle.std.proofs.Common.{◌≡◌, ℕ, ◌+◌, ◌≤◌, Bool, true, false, cond, List, [], ◌∷◌, ◌++◌, length, filter}
+use Rattle.std.proofs.Common.{Option, None, Some, is_some, refl, sym, ap, ◌∙◌, subst, arith}
 use Rattle.std.specs.List.{IsDistinct, AllByRecursion}
 use Rattle.std.specs.Map.{lookup, set_value, keys_of}
 use Rattle.std.proofs.lemmas.Map.{lookup-set_value, keys-set_value}
@@ -24,14 +25,17 @@ module _ {X : Type 0} where
   least_rank_le order (e ∷ es) = omega (arith, least_rank_le order es)
 
   -- a write at an address
-  pub lookup-set : (m q : Mac) (w : X) (es : List (Mac × X)) → is_some (lookup (mac_eq m) es) ≡ true → lookup (mac_eq q) (set_value (mac_eq m) es w) ≡ cond (mac_eq m q) (Some w) (lookup (mac_eq q) es)
+  pub lookup-set : (m q : Mac) (w : X) (es : List (Mac × X)) → is_some (lookup (mac_eq m) es) ≡ true
+      → lookup (mac_eq q) (set_value (mac_eq m) es w) ≡ cond (mac_eq m q) (Some w) (lookup (mac_eq q) es)
   lookup-set m q w es there = lookup-set_value mac_laws (mac_eq m) (mac_laws.congr m) q w es there
 
-  pub distinct-set : (m : Mac) (w : X) (es : List (Mac × X)) → IsDistinct mac_eq (keys_of es) → IsDistinct mac_eq (keys_of (set_value (mac_eq m) es w))
+  pub distinct-set : (m : Mac) (w : X) (es : List (Mac × X)) → IsDistinct mac_eq (keys_of es)
+      → IsDistinct mac_eq (keys_of (set_value (mac_eq m) es w))
   distinct-set m w es unique = subst (IsDistinct mac_eq) (sym (keys-set_value (mac_eq m) es w)) unique
 
   -- a new entry, which goes last
-  pub lookup-push : (m q : Mac) (w : X) (es : List (Mac × X)) → lookup (mac_eq m) es ≡ None → lookup (mac_eq q) (es ++ (m, w) ∷ []) ≡ cond (mac_eq m q) (Some w) (lookup (mac_eq q) es)
+  pub lookup-push : (m q : Mac) (w : X) (es : List (Mac × X)) → lookup (mac_eq m) es ≡ None
+      → lookup (mac_eq q) (es ++ (m, w) ∷ []) ≡ cond (mac_eq m q) (Some w) (lookup (mac_eq q) es)
   lookup-push m q w [] none = ap (λ b. cond b (Some w) None) (mac_symm q m)
   lookup-push m q w (e ∷ es) none = by (mac_eq q e.0) refl (lookup-push m q w es d.1)
     where
@@ -39,15 +43,18 @@ module _ {X : Type 0} where
       d = head_differs (mac_eq m e.0) e.1 (lookup (mac_eq m) es) none
 
       by : (t : Bool) → mac_eq q e.0 ≡ t → lookup (mac_eq q) (es ++ (m, w) ∷ []) ≡ cond (mac_eq m q) (Some w) (lookup (mac_eq q) es)
-          → cond t (Some e.1) (lookup (mac_eq q) (es ++ (m, w) ∷ [])) ≡ cond (mac_eq m q) (Some w) (cond t (Some e.1) (lookup (mac_eq q) es))
+          → cond t (Some e.1) (lookup (mac_eq q) (es ++ (m, w) ∷ []))
+            ≡ cond (mac_eq m q) (Some w) (cond t (Some e.1) (lookup (mac_eq q) es))
       by true t ih = sym (ap (λ b. cond b (Some w) (Some e.1)) (ap (mac_eq m) (mac_same q e.0 t) ∙ d.0))
       by false t ih = ih
 
-  apart_push : (k m : Mac) (w : X) (es : List (Mac × X)) → mac_eq k m ≡ false → AllByRecursion (λ y. mac_eq k y ≡ false) (keys_of es) → AllByRecursion (λ y. mac_eq k y ≡ false) (keys_of (es ++ (m, w) ∷ []))
+  apart_push : (k m : Mac) (w : X) (es : List (Mac × X)) → mac_eq k m ≡ false → AllByRecursion (λ y. mac_eq k y ≡ false) (keys_of es)
+      → AllByRecursion (λ y. mac_eq k y ≡ false) (keys_of (es ++ (m, w) ∷ []))
   apart_push k m w [] other h = (other, tt)
   apart_push k m w (e ∷ es) other h = (h.0, apart_push k m w es other h.1)
 
-  pub distinct-push : (m : Mac) (w : X) (es : List (Mac × X)) → IsDistinct mac_eq (keys_of es) → lookup (mac_eq m) es ≡ None → IsDistinct mac_eq (keys_of (es ++ (m, w) ∷ []))
+  pub distinct-push : (m : Mac) (w : X) (es : List (Mac × X)) → IsDistinct mac_eq (keys_of es) → lookup (mac_eq m) es ≡ None
+      → IsDistinct mac_eq (keys_of (es ++ (m, w) ∷ []))
   unfolding IsDistinct
   distinct-push m w [] unique none = (tt, tt)
   distinct-push m w (e ∷ es) unique none =
@@ -59,33 +66,40 @@ module _ {X : Type 0} where
     passes e = test e.1
 
     -- the entries whose value passes
-    absent_after : (m : Mac) (es : List (Mac × X)) → AllByRecursion (λ y. mac_eq m y ≡ false) (keys_of es) → lookup (mac_eq m) (filter passes es) ≡ None
+    absent_after : (m : Mac) (es : List (Mac × X)) → AllByRecursion (λ y. mac_eq m y ≡ false) (keys_of es)
+        → lookup (mac_eq m) (filter passes es) ≡ None
     absent_after m [] h = refl
     absent_after m (e ∷ es) h = by (test e.1) (absent_after m es h.1)
       where
-        by : (b : Bool) → lookup (mac_eq m) (filter passes es) ≡ None → lookup (mac_eq m) (cond b (e ∷ filter passes es) (filter passes es)) ≡ None
+        by : (b : Bool) → lookup (mac_eq m) (filter passes es) ≡ None
+            → lookup (mac_eq m) (cond b (e ∷ filter passes es) (filter passes es)) ≡ None
         by true ih = ap (λ t. cond t (Some e.1) (lookup (mac_eq m) (filter passes es))) h.0 ∙ ih
         by false ih = ih
 
-    pub lookup-passing : (q : Mac) (es : List (Mac × X)) → IsDistinct mac_eq (keys_of es) → lookup (mac_eq q) (filter passes es) ≡ passing test (lookup (mac_eq q) es)
+    pub lookup-passing : (q : Mac) (es : List (Mac × X)) → IsDistinct mac_eq (keys_of es)
+        → lookup (mac_eq q) (filter passes es) ≡ passing test (lookup (mac_eq q) es)
     unfolding IsDistinct
     lookup-passing q [] unique = refl
     lookup-passing q (e ∷ es) unique = by (mac_eq q e.0) refl (test e.1) refl (lookup-passing q es unique.1)
       where
-        by : (t : Bool) → mac_eq q e.0 ≡ t → (b : Bool) → test e.1 ≡ b → lookup (mac_eq q) (filter passes es) ≡ passing test (lookup (mac_eq q) es)
+        by : (t : Bool) → mac_eq q e.0 ≡ t → (b : Bool) → test e.1 ≡ b
+            → lookup (mac_eq q) (filter passes es) ≡ passing test (lookup (mac_eq q) es)
             → lookup (mac_eq q) (cond b (e ∷ filter passes es) (filter passes es)) ≡ passing test (cond t (Some e.1) (lookup (mac_eq q) es))
-        by true t true p ih = ap (λ c. cond c (Some e.1) (lookup (mac_eq q) (filter passes es))) t ∙ sym (ap (λ c. cond c (Some e.1) None) p)
+        by true t true p ih = ap (λ c. cond c (Some e.1) (lookup (mac_eq q) (filter passes es))) t
+            ∙ sym (ap (λ c. cond c (Some e.1) None) p)
         by true t false p ih =
             absent_after q es (subst (λ k. AllByRecursion (λ y. mac_eq k y ≡ false) (keys_of es)) (sym (mac_same q e.0 t)) unique.0)
             ∙ sym (ap (λ c. cond c (Some e.1) None) p)
         by false t true p ih = ap (λ c. cond c (Some e.1) (lookup (mac_eq q) (filter passes es))) t ∙ ih
         by false t false p ih = ih
 
-    apart_passing : (m : Mac) (es : List (Mac × X)) → AllByRecursion (λ y. mac_eq m y ≡ false) (keys_of es) → AllByRecursion (λ y. mac_eq m y ≡ false) (keys_of (filter passes es))
+    apart_passing : (m : Mac) (es : List (Mac × X)) → AllByRecursion (λ y. mac_eq m y ≡ false) (keys_of es)
+        → AllByRecursion (λ y. mac_eq m y ≡ false) (keys_of (filter passes es))
     apart_passing m [] h = tt
     apart_passing m (e ∷ es) h = by (test e.1) (apart_passing m es h.1)
       where
-        by : (b : Bool) → AllByRecursion (λ y. mac_eq m y ≡ false) (keys_of (filter passes es)) → AllByRecursion (λ y. mac_eq m y ≡ false) (keys_of (cond b (e ∷ filter passes es) (filter passes es)))
+        by : (b : Bool) → AllByRecursion (λ y. mac_eq m y ≡ false) (keys_of (filter passes es))
+            → AllByRecursion (λ y. mac_eq m y ≡ false) (keys_of (cond b (e ∷ filter passes es) (filter passes es)))
         by true ih = (h.0, ih)
         by false ih = ih
 
@@ -94,7 +108,8 @@ module _ {X : Type 0} where
     distinct-passing [] unique = tt
     distinct-passing (e ∷ es) unique = by (test e.1) (distinct-passing es unique.1)
       where
-        by : (b : Bool) → IsDistinct mac_eq (keys_of (filter passes es)) → IsDistinct mac_eq (keys_of (cond b (e ∷ filter passes es) (filter passes es)))
+        by : (b : Bool) → IsDistinct mac_eq (keys_of (filter passes es))
+            → IsDistinct mac_eq (keys_of (cond b (e ∷ filter passes es) (filter passes es)))
         by true ih = (apart_passing e.0 es unique.0, ih)
         by false ih = ih
 
@@ -109,15 +124,19 @@ module _ {X : Type 0} where
         head false x xs = omega arith
 
         by : (t : Bool) → cond t (Some e.1) (lookup (mac_eq m) es) ≡ Some was
-            → (lookup (mac_eq m) es ≡ Some was → length (filter passes (set_value (mac_eq m) es w)) + one_if (test was) ≡ length (filter passes es) + one_if (test w))
-            → length (filter passes (cond t ((e.0, w) ∷ es) (e ∷ set_value (mac_eq m) es w))) + one_if (test was) ≡ length (cond (test e.1) (e ∷ filter passes es) (filter passes es)) + one_if (test w)
+            → (lookup (mac_eq m) es ≡ Some was
+                → length (filter passes (set_value (mac_eq m) es w)) + one_if (test was) ≡ length (filter passes es) + one_if (test w))
+            → length (filter passes (cond t ((e.0, w) ∷ es) (e ∷ set_value (mac_eq m) es w))) + one_if (test was)
+              ≡ length (cond (test e.1) (e ∷ filter passes es) (filter passes es)) + one_if (test w)
         by true h ih =
             let v : e.1 ≡ was = cc in
             let s : one_if (test e.1) ≡ one_if (test was) = ap (λ x. one_if (test x)) v in
             omega (arith, s, head (test w) (e.0, w) (filter passes es), head (test e.1) e (filter passes es))
-        by false h ih = omega (arith, ih h, head (test e.1) e (filter passes (set_value (mac_eq m) es w)), head (test e.1) e (filter passes es))
+        by false h ih = omega (arith, ih h, head (test e.1) e (filter passes (set_value (mac_eq m) es w)),
+            head (test e.1) e (filter passes es))
 
-    pub length-passing-push : (m : Mac) (w : X) (es : List (Mac × X)) → length (filter passes (es ++ (m, w) ∷ [])) ≡ length (filter passes es) + one_if (test w)
+    pub length-passing-push : (m : Mac) (w : X) (es : List (Mac × X))
+        → length (filter passes (es ++ (m, w) ∷ [])) ≡ length (filter passes es) + one_if (test w)
     length-passing-push m w [] = by (test w)
       where
         by : (b : Bool) → length {A = Mac × X} (cond b ((m, w) ∷ []) []) ≡ 0 + one_if b
@@ -126,6 +145,7 @@ module _ {X : Type 0} where
     length-passing-push m w (e ∷ es) = by (test e.1) (length-passing-push m w es)
       where
         by : (b : Bool) → length (filter passes (es ++ (m, w) ∷ [])) ≡ length (filter passes es) + one_if (test w)
-            → length (cond b (e ∷ filter passes (es ++ (m, w) ∷ [])) (filter passes (es ++ (m, w) ∷ []))) ≡ length (cond b (e ∷ filter passes es) (filter passes es)) + one_if (test w)
+            → length (cond b (e ∷ filter passes (es ++ (m, w) ∷ [])) (filter passes (es ++ (m, w) ∷ [])))
+              ≡ length (cond b (e ∷ filter passes es) (filter passes es)) + one_if (test w)
         by true ih = omega arith
         by false ih = ih

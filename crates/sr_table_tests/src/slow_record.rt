@@ -7,6 +7,7 @@ use std::test::Fail;
 /// The first numbers lie this far from 0, so that none before them is below it.
 const START: u64 = 1 << 40;
 
+/// A record that forgets no number and answers of a window.
 #[derive(Drop)]
 pub struct Slow {
     window: u64,
@@ -15,6 +16,7 @@ pub struct Slow {
 }
 
 impl Slow {
+    /// A record of one number, on these lanes.
     pub fn begin(alloc: Global, window: u64, seq: Seq, lanes: Lanes) -> Result<Slow, Fail> {
         let greatest = START.wrapping_add(u64::from(seq.0));
         let mut slow = Slow {
@@ -67,6 +69,7 @@ impl Slow {
         }
     }
 
+    /// Notes a number on lanes, and answers those on which it was new.
     pub fn note(&mut self, seq: Seq, lanes: Lanes) -> Result<Lanes, Fail> {
         let number = self.number(seq);
         self.greatest = self.greatest.max(number);
