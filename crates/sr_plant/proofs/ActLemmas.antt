@@ -1,6 +1,5 @@
 -- A plant after one of its nodes acted.
 use Rattle.std.proofs.Common.{◌≡◌, ℕ, zero, suc, ◌<◌, Bool, not, List, [], ◌∷◌, ◌++◌, length, map, get_or, slice_get, slice_set, slice_index_or, Option, Some, refl, sym, ap, ◌∙◌, append_assoc, arith}
-use Rattle.std.specs.List.{filter}
 use Rattle.std.specs.Option.{option_to_list}
 use Rattle.std.proofs.lemmas.List.{append-nil}
 use Rattle.std.proofs.lemmas.List.Elements.{filter-append}

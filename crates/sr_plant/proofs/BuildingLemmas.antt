@@ -8,13 +8,13 @@ use Rattle.sr_forwarding.specs.Parcels.{ParcelImage}
 use Rattle.sr_forwarding.specs.declared.role_image.RoleKind.{RoleKind}
 use Rattle.sr_forwarding.specs.declared.role_image.RoleKind.TheVariants.{Danp, Danh, San, Prp, Hsr}
 use Rattle.sr_node.specs.Images.{State}
-use Rattle.sr_node.specs.Outboxes.{Outboxes, boxes_empty}
+use Rattle.sr_node.specs.Outboxes.{boxes_empty}
 use Rattle.sr_plant_laws.specs.Lists.{Each}
 use Rattle.sr_plant.specs.declared.topology.Topology.{Topology}
 use Rattle.sr_plant.specs.declared.topology.Topology.TheVariants.{Ring, TwinLan}
 use Rattle.sr_plant.specs.Topologies.{kind_of, link_count}
 use Rattle.sr_plant.specs.Plants.{IsEmptied, IsInOrder}
-use Rattle.sr_plant.specs.Building.{is_kind_of, is_empty, has_nothing_waiting, is_fit, are_fit, has_address, are_apart, is_plant, opening}
+use Rattle.sr_plant.specs.Building.{is_kind_of, has_nothing_waiting, is_fit, are_fit, has_address, are_apart, is_plant, opening}
 use Rattle.sr_plant.specs.Limits.{fewest_nodes, most_nodes}
 use Rattle.sr_plant.proofs.ListLemmas.{drop_at}
 

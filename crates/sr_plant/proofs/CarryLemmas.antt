@@ -7,7 +7,7 @@ use Rattle.sr_plant.specs.declared.fault.PlantFault.{PlantFault}
 use Rattle.sr_plant.specs.declared.arriving.Arriving.{Arriving}
 use Rattle.sr_plant.specs.Copies.{Copy}
 use Rattle.sr_plant.specs.Plants.{Plant, IsInOrder}
-use Rattle.sr_plant.specs.Steps.{Comes, Carried, Fails, acted, without}
+use Rattle.sr_plant.specs.Steps.{Carried, Fails, acted, without}
 use Rattle.sr_plant.specs.Carrying.{OneComesAs, TakesOut, LosesThem, FailsToLand}
 use Rattle.sr_plant.proofs.OrderLemmas.{each_got, arrived_kind, acted_in_order, without_in_order}
 

@@ -1,5 +1,5 @@
 -- Counts of copies, as copies come and go.
-use Rattle.std.proofs.Common.{◌≡◌, ◌≢◌, ℕ, zero, suc, ◌+◌, ◌<◌, ◌≤◌, ◌==◌, Bool, true, false, List, [], ◌∷◌, ◌++◌, length, map, take, drop, get_or, slice_get, Option, None, Some, IsSome, not, refl, sym, subst, ap, ◌∙◌, inl, inr, arith, rules}
+use Rattle.std.proofs.Common.{◌≡◌, ◌≢◌, ℕ, zero, suc, ◌+◌, ◌<◌, ◌≤◌, ◌==◌, Bool, true, false, List, [], ◌∷◌, ◌++◌, length, take, drop, get_or, slice_get, Option, None, Some, IsSome, not, refl, sym, subst, ap, ◌∙◌, inl, inr, arith, rules}
 use Rattle.std.proofs.lemmas.Bool.{cases_Bool, cases_eq}
 use Rattle.std.proofs.lemmas.Bool.Decides.{nat_tests}
 use Rattle.std.proofs.lemmas.List.{length-map, map-append, append-nil, take-map, drop-map}
@@ -10,7 +10,7 @@ use Rattle.sr_plant_laws.specs.ListLemmas.{count_append}
 use Rattle.sr_plant.specs.declared.keeping.Kept.{Kept}
 use Rattle.sr_plant.specs.declared.flight.Flying.{Flying}
 use Rattle.sr_plant.specs.Copies.{Copy, is_on}
-use Rattle.sr_plant.specs.Flights.{copies_of, parcel_of, is_of, AreCounted, copy_in, copies_in}
+use Rattle.sr_plant.specs.Flights.{copies_of, parcel_of, is_of, AreCounted, AreUsed, AreUsedBut, copy_in, copies_in}
 use Rattle.sr_plant.proofs.ListLemmas.{split_at}
 
 -- a key is that of the copy, or another
@@ -178,4 +178,27 @@ kept_anew old new key entry fs counted none vacant updates = unused old new fs c
     parcel k some = elim (cases_eq k key) [
       | inl at ↦ let e : copies_of (get new k) ≡ 0 = rw (at, updates.changed) none in absurd (omega (arith, e, some))
       | inr other ↦ ap parcel_of (updates.others k other)
+    ]
+
+-- the parcel at a place has a copy, and each other as before
+pub used_again : (old new : Slab Kept) (place : ℕ) → AreUsedBut place old →
+    ((other : ℕ) → other ≢ place → get new other ≡ get old other) → 0 < copies_of (get new place) → AreUsed new
+used_again old new place used others some key there = elim (cases_eq key place) [
+  | inl at ↦ rw at some
+  | inr other ↦ rw (others key other) (used key other (rw (others key other) at there))
+]
+
+-- the parcel at a place has a copy, or is gone
+pub used_after : (old new : Slab Kept) (place : ℕ) → AreUsed old →
+    ((other : ℕ) → other ≢ place → get new other ≡ get old other) → (copies_of (get new place) ≡ 0 → get new place ≡ None) → AreUsed new
+used_after old new place used others gone key there = elim (cases_eq key place) [
+  | inl at ↦ rw at (some (get new place) gone (rw at at there))
+  | inr other ↦ rw (others key other) (used key (rw (others key other) at there))
+]
+  where
+    some : (o : Option Kept) → (copies_of o ≡ 0 → o ≡ None) → IsSome o → 0 < copies_of o
+    some None gone there = absurd (search rules)
+    some (Some k) gone there = elim (cases_eq k.copies 0) [
+      | inl none ↦ let e : Some k ≡ None = gone none in absurd (cc)
+      | inr not ↦ omega (arith, not)
     ]

@@ -1,7 +1,6 @@
 -- What a node gives out after one event.
-use Rattle.std.proofs.Common.{◌≡◌, ℕ, ◌≤◌, ◌⊎◌, Bool, true, false, if◌then◌else◌, List, [], ◌∷◌, length, drop, Option, Some, None, refl, sym, ap, ◌∙◌, inl, inr, arith}
+use Rattle.std.proofs.Common.{◌≡◌, ℕ, ◌≤◌, Bool, true, false, List, [], ◌∷◌, length, drop, Option, Some, None, refl, ◌∙◌, arith}
 use Rattle.std.specs.Option.{option_to_list}
-use Rattle.std.proofs.lemmas.Bool.{cases_Bool}
 use Rattle.sr_frame.specs.declared.ports.Port.{Port}
 use Rattle.sr_frame.specs.declared.ports.Port.TheVariants.{H, A, B, C}
 use Rattle.sr_forwarding.specs.declared.outlets.Outlets.{Outlets as Set}
@@ -11,13 +10,13 @@ use Rattle.sr_node.specs.declared.event.Answer.{Answer}
 use Rattle.sr_node.specs.declared.event.Answer.TheVariants as answer
 use Rattle.sr_node.specs.declared.event.Event.{Event}
 use Rattle.sr_node.specs.declared.event.Event.TheVariants as event
-use Rattle.sr_node.specs.Outboxes.{Outboxes, boxes_empty, boxes_left, first_of}
-use Rattle.sr_node.specs.Copies.{copy_if, copies_for, put_at, with_copy}
+use Rattle.sr_node.specs.Outboxes.{boxes_empty, boxes_left, first_of}
+use Rattle.sr_node.specs.Copies.{copy_if, put_at, with_copy}
 use Rattle.sr_node.specs.LifeChecks.{is_due}
 use Rattle.sr_node.specs.Images.{State, time_at}
-use Rattle.sr_node.specs.Arriving.{Arrived, PassedTo, goes, going_on, next_at, passed}
-use Rattle.sr_node.specs.Sending.{SentAs, send_outlets, sent_parcel}
-use Rattle.sr_node.specs.Ticking.{TickedAs, after_tick, next_life_check, life_outlets}
+use Rattle.sr_node.specs.Arriving.{Arrived, PassedTo, goes, going_on}
+use Rattle.sr_node.specs.Sending.{send_outlets, sent_parcel}
+use Rattle.sr_node.specs.Ticking.{after_tick, next_life_check, life_outlets}
 use Rattle.sr_node.specs.Taking.{Took}
 use Rattle.sr_node.specs.Steps.{Step}
 use Rattle.sr_plant.specs.Plants.{IsEmptied}

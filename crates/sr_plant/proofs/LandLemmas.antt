@@ -1,5 +1,5 @@
 -- What becomes of a copy at its receiver.
-use Rattle.std.proofs.Common.{◌≡◌, ℕ, ◌⊎◌, false, List, Result, Ok, Err, IfErr, inl, inr}
+use Rattle.std.proofs.Common.{◌≡◌, ℕ, false, List, Result, Ok, Err, IfErr, inr}
 use Rattle.sr_frame.specs.declared.ports.Port.{Port}
 use Rattle.sr_node.specs.declared.fault.StepFault.{StepFault}
 use Rattle.sr_node.specs.Images.{State}

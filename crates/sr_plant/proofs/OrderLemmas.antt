@@ -1,6 +1,6 @@
 -- A plant stays in order.
-use Rattle.std.proofs.Common.{◌≡◌, ℕ, zero, suc, ◌+◌, ◌<◌, ◌==◌, Bool, true, false, List, [], ◌∷◌, ◌++◌, length, map, not, slice_get, slice_set, Option, Some, None, refl, sym, ap, ◌∙◌, subst, inl, inr, take, drop, arith}
-use Rattle.std.specs.List.{filter, remove}
+use Rattle.std.proofs.Common.{◌≡◌, ℕ, zero, suc, ◌+◌, ◌<◌, ◌==◌, Bool, true, List, [], ◌∷◌, length, map, not, slice_get, slice_set, Option, Some, None, refl, sym, ◌∙◌, subst, inl, inr, take, drop, arith}
+use Rattle.std.specs.List.{filter}
 use Rattle.std.proofs.lemmas.Bool.{cases_Bool}
 use Rattle.std.proofs.lemmas.Bool.Decides.{nat_tests}
 use Rattle.std.proofs.lemmas.List.{length-set}
@@ -12,7 +12,7 @@ use Rattle.sr_forwarding.specs.declared.outlets.Outlets.{Outlets as Set}
 use Rattle.sr_forwarding.specs.declared.role_image.RoleImage.{RoleImage}
 use Rattle.sr_forwarding.specs.declared.role_image.RoleKind.{RoleKind}
 use Rattle.sr_forwarding.specs.declared.role_image.RoleKind.TheVariants.{Danp, Danh, San, Prp, Hsr}
-use Rattle.sr_forwarding.specs.Proxies.{learned, learned_at}
+use Rattle.sr_forwarding.specs.Proxies.{learned_at}
 use Rattle.sr_node.specs.declared.event.Answer.{Answer}
 use Rattle.sr_node.specs.declared.event.Answer.TheVariants as answer
 use Rattle.sr_node.specs.declared.event.Event.{Event}

@@ -1,6 +1,5 @@
 -- Hops, one after the other, and the copies over them.
 use Rattle.std.proofs.Common.{◌≡◌, ℕ, zero, suc, ◌+◌, ◌<◌, ◌==◌, nat_lt, Bool, true, false, if◌then◌else◌, not, List, [], ◌∷◌, ◌++◌, map, Option, Some, None, refl, sym, ap, ◌∙◌, inl, inr, append_assoc, arith}
-use Rattle.std.specs.List.{filter}
 use Rattle.std.specs.Option.{option_to_list}
 use Rattle.std.proofs.lemmas.Bool.{cases_Bool}
 use Rattle.std.proofs.lemmas.Bool.Decides.{nat_tests}
@@ -17,7 +16,7 @@ use Rattle.sr_plant.specs.declared.topology.Topology.{Topology}
 use Rattle.sr_plant.specs.declared.topology.Topology.TheVariants.{Ring, TwinLan}
 use Rattle.sr_plant.specs.Topologies.{net_of}
 use Rattle.sr_plant.specs.Copies.{Copy, is_stopped}
-use Rattle.sr_plant.specs.Puts.{copy_over, copies_put, all_put, those_passing, hop_to, hops_below}
+use Rattle.sr_plant.specs.Puts.{copy_over, copies_put, those_passing, hop_to, hops_below}
 
 -- no hop
 none_below : (m : ℕ) → hops_below (λ j. None) m ≡ []

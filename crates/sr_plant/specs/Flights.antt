@@ -1,5 +1,5 @@
 -- The copies in flight as they are kept: each parcel once, and the copies as places among the parcels.
-use Rattle.std.specs.Prelude.{◌≡◌, ℕ, ◌==◌, Bool, List, [], ◌∷◌, map, Option, None, Some, option_to_list}
+use Rattle.std.specs.Prelude.{◌≡◌, ◌≢◌, ℕ, ◌<◌, ◌==◌, Bool, List, [], ◌∷◌, map, Option, None, Some, IsSome, option_to_list}
 use Rattle.slab.specs.Slab.{Slab, get}
 use Rattle.sr_forwarding.specs.Parcels.{ParcelImage, plain_parcel}
 use Rattle.sr_plant_laws.specs.Ledger.{Hop as Step}
@@ -25,6 +25,14 @@ is_of key f = f.key == key
 -- the count that is kept with each parcel is that of its copies
 abbrev pub AreCounted : Slab Kept → List Flying → Type 0
 AreCounted kept fs = (key : ℕ) → how_many (is_of key) fs ≡ copies_of (get kept key)
+
+-- each parcel that is kept has a copy in flight, but for the one at this place
+abbrev pub AreUsedBut : ℕ → Slab Kept → Type 0
+AreUsedBut place kept = (key : ℕ) → key ≢ place → IsSome (get kept key) → 0 < copies_of (get kept key)
+
+-- each parcel that is kept has a copy in flight: none is kept longer than its last copy
+abbrev pub AreUsed : Slab Kept → Type 0
+AreUsed kept = (key : ℕ) → IsSome (get kept key) → 0 < copies_of (get kept key)
 
 -- where it leads, and its links
 abbrev pub hop_of : Hop → Step

@@ -1,10 +1,8 @@
 -- What happens to a plant with an event: from one plant to the next, by cases of the event.
-use Rattle.std.specs.Prelude.{◌≡◌, ℕ, ◌⊎◌, Bool, true, false, not, nat_lt, List, [], ◌∷◌, ◌++◌, length, Option, None, Some, if◌then◌else◌}
+use Rattle.std.specs.Prelude.{◌≡◌, ℕ, ◌⊎◌, Bool, true, false, not, nat_lt, List, [], ◌++◌, length, Option, None, Some, if◌then◌else◌}
 use Rattle.std.specs.Prelude.{slice_get, slice_set, slice_index_or}
 use Rattle.std.specs.List.{filter, remove}
 use Rattle.sr_forwarding.specs.declared.fault.ReadFault.{ReadFault}
-use Rattle.sr_forwarding.specs.Parcels.{ParcelImage}
-use Rattle.sr_forwarding.specs.Framings.{FramingImage}
 use Rattle.sr_forwarding.specs.Encoding.{IsWritten, write_fault}
 use Rattle.sr_node.specs.declared.event.Answer.{Answer}
 use Rattle.sr_node.specs.declared.event.Event.{Event}
@@ -19,7 +17,7 @@ use Rattle.sr_node.specs.Octets.{OctetsArrived, OctetsRefused}
 use Rattle.sr_plant.specs.declared.event.PlantEvent.{PlantEvent}
 use Rattle.sr_plant.specs.declared.event.PlantEvent.TheVariants.{Send, Carry, Drop, Repeat, Cut, Mend, Tick}
 use Rattle.sr_plant.specs.declared.fault.PlantFault.{PlantFault}
-use Rattle.sr_plant.specs.declared.fault.PlantFault.TheVariants.{NoSuchNode, NoSuchCopy, ClockBack, Node, BadPlant, NoMemory}
+use Rattle.sr_plant.specs.declared.fault.PlantFault.TheVariants.{NoSuchNode, NoSuchCopy, ClockBack, Node, NoMemory}
 use Rattle.sr_plant.specs.Topologies.{framing_of}
 use Rattle.sr_plant.specs.Copies.{Copy, is_on, Doubles}
 use Rattle.sr_plant.specs.Puts.{put_out, those_passing}

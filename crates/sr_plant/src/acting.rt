@@ -28,9 +28,7 @@ fn step_out<R: Role>(
     ensures same { OnErr result ((state_of R.meaning node.new
         ≡ state_of R.meaning node.old) × (up.new.items ≡ up.old.items)) }
 {
-    if up.reserve(1).is_err() {
-        return Err(PlantFault::NoMemory);
-    }
+    up.reserve(1)?;
     let _answer = node.step(event)?;
     Ok(take_out(node, up))
 }

@@ -112,9 +112,7 @@ pub(crate) fn arrive_out<R: Role>(
     ensures same { OnErr result ((state_of R.meaning node.new
         ≡ state_of R.meaning node.old) × (up.new.items ≡ up.old.items)) }
 {
-    if up.reserve(1).is_err() {
-        return Err(PlantFault::NoMemory);
-    }
+    up.reserve(1)?;
     if let Err(fault) = arrive(topology, node, arriving.port, arriving.octets.octets(), now) {
         return refused(fault);
     }

@@ -4,6 +4,7 @@ ghost use Rattle.std.specs.Prelude.{◌≡◌};
 
 use sr_frame::NoMemory;
 use sr_node::StepFault;
+use std::alloc::AllocError;
 use thiserror::Error;
 
 /// Why a plant is not made, or refuses an event. Where several reasons hold, the first in this order is answered, but
@@ -36,6 +37,16 @@ impl From<NoMemory> for PlantFault {
     ghost from_gives = { λ e f. f ≡ fault.NoMemory };
 
     fn from(_e: NoMemory) -> PlantFault {
+        PlantFault::NoMemory
+    }
+}
+
+impl From<AllocError> for PlantFault {
+    ghost use Rattle.sr_plant.specs.declared.fault.PlantFault.TheVariants as fault;
+
+    ghost from_gives = { λ e f. f ≡ fault.NoMemory };
+
+    fn from(_e: AllocError) -> PlantFault {
         PlantFault::NoMemory
     }
 }

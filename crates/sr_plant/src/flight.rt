@@ -6,7 +6,7 @@ ghost use Rattle.slab.specs.Slab.{get, slab_len};
 ghost use Rattle.sr_plant.specs.Copies.{is_on, Doubles};
 ghost use Rattle.sr_plant.specs.Limits.{most_nodes};
 ghost use Rattle.sr_plant.specs.Puts.{all_put, those_passing};
-ghost use Rattle.sr_plant.specs.Flights.{AreCounted, copy_in, copies_in, parcel_of};
+ghost use Rattle.sr_plant.specs.Flights.{AreCounted, AreUsed, AreUsedBut, copy_in, copies_in, parcel_of};
 ghost use Rattle.sr_plant.specs.Carrying.{OneComesAs};
 
 use crate::Topology;
@@ -44,7 +44,7 @@ impl Model for Flight {
     ghost use Rattle.sr_plant.specs.Plants.{FlightValue};
     ghost use Rattle.sr_plant.specs.Limits.{most_nodes};
     ghost use Rattle.sr_plant.specs.Puts.{all_put, those_passing};
-    ghost use Rattle.sr_plant.specs.Flights.{AreCounted, copies_in};
+    ghost use Rattle.sr_plant.specs.Flights.{AreCounted, AreUsed, copies_in};
 
     ghost Value = { FlightValue };
 
@@ -54,15 +54,17 @@ impl Model for Flight {
       places = deque_capacity f.places - deque_len f.places;
     } };
 
-    ghost invariant = { λ f. AreCounted f.kept f.places.items };
+    ghost invariant = { λ f. AreCounted f.kept f.places.items × AreUsed f.kept };
 }
 
 /// One copy more of a parcel that is kept.
 pub(crate) fn attach(kept: &mut Slab<Kept>, places: &mut VecDeque<Flying>, flying: Flying)
     requires room { deque_len places.old < deque_capacity places.old }
     requires counted { AreCounted kept.old places.old.items }
+    requires used { AreUsedBut flying.key kept.old }
     requires there { IsSome (get kept.old flying.key) }
     ensures counted { AreCounted kept.new places.new.items }
+    ensures used { AreUsed kept.new }
     ensures copies { copies_in kept.new places.new.items
         ≡ copies_in kept.old places.old.items ++ copy_in kept.old flying ∷ [] }
     ensures there { IsSome (get kept.new flying.key) }
@@ -80,7 +82,9 @@ pub(crate) fn attach(kept: &mut Slab<Kept>, places: &mut VecDeque<Flying>, flyin
 fn look_at(kept: &mut Slab<Kept>, places: &mut VecDeque<Flying>, seen: Flying, link: usize)
     requires room { deque_len places.old < deque_capacity places.old }
     requires counted { AreCounted kept.old (seen ∷ places.old.items) }
+    requires used { AreUsed kept.old }
     ensures counted { AreCounted kept.new places.new.items }
+    ensures used { AreUsed kept.new }
     ensures copies { copies_in kept.new places.new.items
         ≡ copies_in kept.old places.old.items ++ filter (λ c. not (is_on link c)) (copy_in kept.old seen ∷ []) }
     ensures len { deque_len places.new ≤ deque_len places.old + 1 }
@@ -96,7 +100,9 @@ fn look_at(kept: &mut Slab<Kept>, places: &mut VecDeque<Flying>, seen: Flying, l
 // The copies that are not on a link stay.
 fn keep_off(kept: &mut Slab<Kept>, places: &mut VecDeque<Flying>, link: usize)
     requires counted { AreCounted kept.old places.old.items }
+    requires used { AreUsed kept.old }
     ensures counted { AreCounted kept.new places.new.items }
+    ensures used { AreUsed kept.new }
     ensures copies { copies_in kept.new places.new.items
         ≡ filter (λ c. not (is_on link c)) (copies_in kept.old places.old.items) }
 {

@@ -2,7 +2,7 @@
 
 ghost use Rattle.std.specs.Prelude.{◌≡◌, ◌≢◌, ◌+◌, ◌<◌, ◌≤◌, ℕ, IsSome, None};
 ghost use Rattle.slab.specs.Slab.{get, slab_len};
-ghost use Rattle.sr_plant.specs.Flights.{copies_of, parcel_of};
+ghost use Rattle.sr_plant.specs.Flights.{copies_of, parcel_of, AreUsed, AreUsedBut};
 
 use slab::Slab;
 use sr_forwarding::Parcel;
@@ -52,9 +52,10 @@ pub(crate) fn drop_copy(kept: &mut Slab<Kept>, key: usize)
 
 /// Lets a parcel go that has no copy.
 pub(crate) fn drop_unused(kept: &mut Slab<Kept>, key: usize)
+    requires { AreUsedBut key kept.old }
+    ensures used { AreUsed kept.new }
     ensures copies { (k : ℕ) → copies_of (get kept.new k) ≡ copies_of (get kept.old k) }
     ensures parcel { (k : ℕ) → 0 < copies_of (get kept.new k) → get kept.new k ≡ get kept.old k }
-    ensures gone { copies_of (get kept.new key) ≡ 0 → get kept.new key ≡ None }
     ensures len { slab_len kept.new ≤ slab_len kept.old }
     ensures capacity { kept.new.capacity ≡ kept.old.capacity }
 {

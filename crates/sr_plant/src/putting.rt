@@ -4,7 +4,7 @@ ghost use Rattle.std.specs.Prelude.{◌≡◌, ◌≤◌, ◌<◌, ◌+◌, ◌+
 ghost use Rattle.std.specs.VecDeque.{deque_len, deque_capacity};
 ghost use Rattle.slab.specs.Slab.{get, slab_len};
 ghost use Rattle.sr_plant.specs.Limits.{most_nodes};
-ghost use Rattle.sr_plant.specs.Flights.{AreCounted, copies_in, parcel_of};
+ghost use Rattle.sr_plant.specs.Flights.{AreCounted, AreUsedBut, copies_in, parcel_of};
 ghost use Rattle.sr_plant.specs.Puts.{copy_over, copies_put, those_passing, hop_to};
 
 use crate::flight::{Flying, attach};
@@ -27,8 +27,10 @@ fn put_copy(
     requires to { to < outlet.nodes }
     requires room { deque_len places.old < deque_capacity places.old }
     requires counted { AreCounted kept.old places.old.items }
+    requires used { AreUsedBut key kept.old }
     requires there { IsSome (get kept.old key) }
     ensures counted { AreCounted kept.new places.new.items }
+    ensures used { AreUsedBut key kept.new }
     ensures copies { copies_in kept.new places.new.items ≡ copies_in kept.old places.old.items
         ++ those_passing cut.now (map (copy_over outlet.port (parcel_of (get kept.old key)))
         (option_to_list (hop_to outlet.topology outlet.nodes outlet.node outlet.port to))) }
@@ -61,8 +63,10 @@ pub(crate) fn put_copies(
     requires node { outlet.node < outlet.nodes }
     requires room { deque_len places.old + outlet.nodes ≤ deque_capacity places.old }
     requires counted { AreCounted kept.old places.old.items }
+    requires used { AreUsedBut key kept.old }
     requires there { IsSome (get kept.old key) }
     ensures counted { AreCounted kept.new places.new.items }
+    ensures used { AreUsedBut key kept.new }
     ensures copies { copies_in kept.new places.new.items ≡ copies_in kept.old places.old.items
         ++ those_passing cut.now
         (copies_put outlet.topology outlet.nodes outlet.node outlet.port (parcel_of (get kept.old key))) }

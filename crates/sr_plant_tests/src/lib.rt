@@ -2,6 +2,12 @@
 #![tactic(auto)]
 
 #[cfg(test)]
+mod frames;
+#[cfg(test)]
+mod makers;
+#[cfg(test)]
 mod plants;
+#[cfg(test)]
+mod refusals;
 #[cfg(test)]
 mod steps;

@@ -1,26 +1,43 @@
 //! One driver for all tests: it makes a plant, takes it through a table of steps, and answers at which step it differs.
 
-ghost use Rattle.std.specs.Prelude.{◌≡◌, map};
-ghost use Rattle.sr_node.specs.Images.{node_state};
-ghost use Rattle.sr_plant.specs.Plants.{plant_of, IsInOrder};
+ghost use Rattle.std.specs.Prelude.{IfOk};
+ghost use Rattle.sr_plant.specs.Images.{plant_state};
+ghost use Rattle.sr_plant.specs.Plants.{IsInOrder};
 
-use sr_forwarding::{Danh, Danp, Role};
-use sr_frame::{Frame, Mac};
-use sr_node::NodeOf;
-use sr_plant::{PlantFault, PlantOf, Topology};
-use std::alloc::{AllocError, Global};
+use crate::frames::{KIND, To, destination, mac_of, octets_of};
+use crate::makers::{danhs, danhs_of_which_one_is_crowded, danps, new_lans, new_ring};
+use sr_forwarding::{Parcel, Role};
+use sr_frame::{Frame, FrameFault};
+use sr_plant::{PlantEvent, PlantFault, PlantOf};
+use std::alloc::Global;
 use std::process::Abort;
 
 /// What happens to a plant.
 #[derive(Clone, Copy)]
 pub enum Act {
-    /// The host of a node sends a frame of one octet to all.
-    Send(usize),
-    Tick(usize, u64),
+    /// The host of a node sends a frame of its own.
+    Send(u8, To),
+    /// The host of a node sends the frame of another to all.
+    SendOf(usize, u8),
+    /// The host of a node sends so many zeros.
+    SendZeros(usize, usize),
+    Carry(usize),
     Lose(usize),
     Repeat(usize),
     Cut(usize),
     Mend(usize),
+    Tick(usize, u64),
+}
+
+/// What the steps are taken by.
+#[derive(Clone, Copy)]
+pub enum Network {
+    /// A ring of so many nodes.
+    Ring(u8),
+    /// The same, whose node 1 has no room for another source.
+    CrowdedRing(u8),
+    /// Two LANs of so many nodes.
+    TwinLan(u8),
 }
 
 /// A step of a plant's life, and what it has to come to.
@@ -32,83 +49,143 @@ pub enum Step {
     Refuses(Act, PlantFault),
     /// So many copies are in flight.
     InFlight(usize),
-    /// A node handed up so many frames.
-    Up(usize, usize),
+    /// The first copy is carried again and again, so many times, and then none is in flight.
+    Flow(usize),
+    /// A node handed up these frames and no others, oldest first.
+    Up(usize, &'static [(u8, To)]),
 }
 
-// The address of a node.
-fn mac_of(node: usize) -> Mac {
-    Mac([2, 0, 0, 0, 0, node.min(255) as u8])
+// A frame of the host of a node, of 15 octets.
+fn frame_of(alloc: Global, from: u8, to: To) -> Result<Frame, FrameFault> {
+    Frame::copy(alloc, &octets_of(from, to)[..15])
 }
 
-// A frame of a node to all, of one octet.
-fn frame_of(alloc: Global, node: usize) -> Option<Frame> {
-    let mut octets = [0u8; 15];
-    octets[..6].copy_from_slice(&[0xff; 6]);
-    octets[6..12].copy_from_slice(&mac_of(node).0);
-    octets[12] = 0x88;
-    octets[13] = 0xb5;
-    octets[14] = 0x01;
-    Frame::copy(alloc, &octets).ok()
+// So many zeros.
+fn zeros(alloc: Global, count: usize) -> Result<Frame, FrameFault> {
+    let octets = Vec::from_elem(alloc, 0u8, count)?;
+    Frame::copy(alloc, &octets)
 }
 
+// The event. None for want of memory.
+fn event_of(alloc: Global, act: Act) -> Option<PlantEvent> {
+    Some(match act {
+        Act::Send(node, to) => PlantEvent::Send {
+            node: usize::from(node),
+            frame: frame_of(alloc, node, to).ok()?,
+        },
+        Act::SendOf(node, other) => PlantEvent::Send {
+            node,
+            frame: frame_of(alloc, other, To::All).ok()?,
+        },
+        Act::SendZeros(node, count) => PlantEvent::Send {
+            node,
+            frame: zeros(alloc, count).ok()?,
+        },
+        Act::Carry(place) => PlantEvent::Carry(place),
+        Act::Lose(place) => PlantEvent::Drop(place),
+        Act::Repeat(place) => PlantEvent::Repeat(place),
+        Act::Cut(link) => PlantEvent::Cut(link),
+        Act::Mend(link) => PlantEvent::Mend(link),
+        Act::Tick(node, now) => PlantEvent::Tick { node, now },
+    })
+}
+
+// It happens, or why not.
 fn happens<R: Role>(alloc: Global, plant: &mut PlantOf<R>, act: Act) -> Result<(), PlantFault>
-    requires { IsInOrder (plant_of plant.old.topology (map (λ n. node_state (R.meaning n.role) n.core) plant.old.nodes.items)
-        plant.old.traffic (map (λ h. h.items) plant.old.handed.items)) }
-    ensures { IsInOrder (plant_of plant.new.topology (map (λ n. node_state (R.meaning n.role) n.core) plant.new.nodes.items)
-        plant.new.traffic (map (λ h. h.items) plant.new.handed.items)) }
+    requires { IsInOrder (plant_state R.meaning plant.old) }
+    ensures { IsInOrder (plant_state R.meaning plant.new) }
 {
-    match act {
-        Act::Send(node) => {
-            let Some(frame) = frame_of(alloc, node) else {
-                return Err(PlantFault::NoMemory);
-            };
-            plant.send(node, &frame)
+    match event_of(alloc, act) {
+        Some(event) => plant.apply(&event),
+        None => Err(PlantFault::NoMemory),
+    }
+}
+
+// How many copies are in flight, and how many frames were handed up.
+fn counts<R: Role>(plant: &PlantOf<R>) -> (usize, usize) {
+    let mut up = 0usize;
+    for list in &plant.handed {
+        up = up.saturating_add(list.len());
+    }
+    (plant.in_flight(), up)
+}
+
+// Whether it comes to this. Where a growth is refused nothing may have changed, and it comes again.
+fn comes_to<R: Role>(
+    alloc: Global,
+    plant: &mut PlantOf<R>,
+    act: Act,
+    wanted: Result<(), PlantFault>,
+) -> bool
+    requires { IsInOrder (plant_state R.meaning plant.old) }
+    ensures { IsInOrder (plant_state R.meaning plant.new) }
+{
+    let before = counts(plant);
+    let first = happens(alloc, plant, act);
+    if first.is_ok() || first == wanted {
+        return first == wanted && (first.is_ok() || counts(plant) == before);
+    }
+    counts(plant) == before && happens(alloc, plant, act) == wanted
+}
+
+// Whether so many carries of the first copy leave none in flight.
+fn flows<R: Role>(alloc: Global, plant: &mut PlantOf<R>, count: usize) -> bool
+    requires { IsInOrder (plant_state R.meaning plant.old) }
+    ensures { IsInOrder (plant_state R.meaning plant.new) }
+{
+    for _ in 0..count {
+        if !comes_to(alloc, plant, Act::Carry(0), Ok(())) {
+            return false;
         }
-        Act::Tick(node, now) => plant.tick(node, now),
-        Act::Lose(place) => plant.lose(place),
-        Act::Repeat(place) => plant.repeat(place),
-        Act::Cut(link) => plant.cut(link),
-        Act::Mend(link) => plant.mend(link),
     }
+    plant.in_flight() == 0
 }
 
-// How many frames a node handed up.
-fn up<R: Role>(plant: &PlantOf<R>, node: usize) -> Option<usize> {
-    if node < plant.handed.len() {
-        Some(plant.handed(node).len())
-    } else {
-        None
-    }
+// Whether the plain form of a parcel is this node's frame.
+fn is_plain(parcel: &Parcel, from: u8, to: To) -> bool {
+    let plain = parcel.plain();
+    plain.dst == destination(to)
+        && plain.src == mac_of(from)
+        && plain.vlan.is_none()
+        && plain.kind == KIND
+        && plain.payload == &octets_of(from, to)[14..]
 }
 
-// Whether a step comes to what it has to. Where a growth is refused, nothing changes, and the act comes again.
+// Whether a node handed up these frames.
+fn handed_up<R: Role>(plant: &PlantOf<R>, node: usize, frames: &[(u8, To)]) -> bool {
+    if node >= plant.handed.len() {
+        return false;
+    }
+    let up = plant.handed(node);
+    if up.len() != frames.len() {
+        return false;
+    }
+    for index in 0..frames.len() {
+        let (from, to) = frames[index];
+        if !is_plain(&up[index], from, to) {
+            return false;
+        }
+    }
+    true
+}
+
+// Whether a step comes to what it has to.
 fn holds<R: Role>(alloc: Global, plant: &mut PlantOf<R>, step: Step) -> bool
-    requires { IsInOrder (plant_of plant.old.topology (map (λ n. node_state (R.meaning n.role) n.core) plant.old.nodes.items)
-        plant.old.traffic (map (λ h. h.items) plant.old.handed.items)) }
-    ensures { IsInOrder (plant_of plant.new.topology (map (λ n. node_state (R.meaning n.role) n.core) plant.new.nodes.items)
-        plant.new.traffic (map (λ h. h.items) plant.new.handed.items)) }
+    requires { IsInOrder (plant_state R.meaning plant.old) }
+    ensures { IsInOrder (plant_state R.meaning plant.new) }
 {
-    let before = plant.in_flight();
     match step {
-        Step::Does(what) => {
-            if happens(alloc, plant, what).is_ok() {
-                return true;
-            }
-            plant.in_flight() == before && happens(alloc, plant, what).is_ok()
-        }
-        Step::Refuses(what, fault) => {
-            happens(alloc, plant, what) == Err(fault) && plant.in_flight() == before
-        }
-        Step::InFlight(count) => before == count,
-        Step::Up(node, count) => up(plant, node) == Some(count),
+        Step::Does(act) => comes_to(alloc, plant, act, Ok(())),
+        Step::Refuses(act, fault) => comes_to(alloc, plant, act, Err(fault)),
+        Step::InFlight(count) => plant.in_flight() == count,
+        Step::Flow(count) => flows(alloc, plant, count),
+        Step::Up(node, frames) => handed_up(plant, node, frames),
     }
 }
 
 // The number of the first step that differs.
 fn play<R: Role>(alloc: Global, plant: &mut PlantOf<R>, steps: &[Step]) -> Option<usize>
-    requires { IsInOrder (plant_of plant.old.topology (map (λ n. node_state (R.meaning n.role) n.core) plant.old.nodes.items)
-        plant.old.traffic (map (λ h. h.items) plant.old.handed.items)) }
+    requires { IsInOrder (plant_state R.meaning plant.old) }
 {
     for index in 0..steps.len() {
         if !holds(alloc, plant, steps[index]) {
@@ -118,42 +195,39 @@ fn play<R: Role>(alloc: Global, plant: &mut PlantOf<R>, steps: &[Step]) -> Optio
     None
 }
 
-// So many nodes of a ring.
-fn danhs(alloc: Global, count: usize) -> Result<Vec<NodeOf<Danh>>, AllocError> {
-    let mut nodes = Vec::new(alloc);
-    for node in 0..count {
-        let Ok(made) = NodeOf::new(alloc, Danh::new(mac_of(node))) else {
-            return Err(AllocError);
-        };
-        nodes.push(made)?;
+// The place of the first step at which this plant differs. A plant that was not made differs behind the last.
+fn first_wrong<R: Role>(
+    alloc: Global,
+    made: Result<PlantOf<R>, PlantFault>,
+    steps: &[Step],
+) -> Option<usize>
+    requires { IfOk made (λ p. IsInOrder (plant_state R.meaning p)) }
+{
+    match made {
+        Ok(mut plant) => play(alloc, &mut plant, steps),
+        Err(_) => Some(steps.len()),
     }
-    Ok(nodes)
 }
 
-// So many nodes of two LANs.
-fn danps(alloc: Global, count: usize) -> Result<Vec<NodeOf<Danp>>, AllocError> {
-    let mut nodes = Vec::new(alloc);
-    for node in 0..count {
-        let Ok(made) = NodeOf::new(alloc, Danp::new(mac_of(node))) else {
-            return Err(AllocError);
-        };
-        nodes.push(made)?;
+// The place of the first step at which a new network differs.
+fn first_wrong_of(alloc: Global, network: Network, steps: &[Step]) -> Option<usize> {
+    match network {
+        Network::Ring(count) => first_wrong(alloc, new_ring(alloc, danhs(alloc, count)), steps),
+        Network::CrowdedRing(count) => first_wrong(
+            alloc,
+            new_ring(alloc, danhs_of_which_one_is_crowded(alloc, count)),
+            steps,
+        ),
+        Network::TwinLan(count) => first_wrong(alloc, new_lans(alloc, danps(alloc, count)), steps),
     }
-    Ok(nodes)
 }
 
-/// Takes a ring of so many nodes through the steps.
-pub fn expect_ring(rt: &impl Abort, alloc: Global, count: usize, steps: &[Step]) {
-    let nodes = danhs(alloc, count).expect(rt, "memory for the nodes");
-    let mut ring = PlantOf::new(alloc, Topology::Ring, nodes).expect(rt, "a ring");
-    let differs = play(alloc, &mut ring, steps);
-    assert_eq!(rt; differs, None);
-}
-
-/// Takes two LANs of so many nodes through the steps.
-pub fn expect_lans(rt: &impl Abort, alloc: Global, count: usize, steps: &[Step]) {
-    let nodes = danps(alloc, count).expect(rt, "memory for the nodes");
-    let mut lans = PlantOf::new(alloc, Topology::TwinLan, nodes).expect(rt, "two LANs");
-    let differs = play(alloc, &mut lans, steps);
-    assert_eq!(rt; differs, None);
+/// Fails the test at the place of the first step at which a new network differs. Where a growth is refused as it is made,
+/// it is made again.
+pub fn expect_steps(rt: &impl Abort, alloc: Global, network: Network, steps: &[Step]) {
+    let mut wrong = first_wrong_of(alloc, network, steps);
+    if wrong == Some(steps.len()) {
+        wrong = first_wrong_of(alloc, network, steps);
+    }
+    assert_eq!(rt; wrong, None);
 }

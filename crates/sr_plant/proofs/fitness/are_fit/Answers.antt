@@ -1,4 +1,4 @@
-use Rattle.std.proofs.Common.{◌≡◌, ◌∙◌, sym, true, false, refl, arith, rules}
+use Rattle.std.proofs.Common.{◌≡◌, ◌∙◌, sym, true, false, arith, rules}
 use Rattle.sr_node.specs.Images.{node_state}
 use Rattle.sr_plant.specs.Building.{is_fit}
 use Rattle.sr_plant.proofs.BuildingLemmas.{unfit_here, fit_further}

@@ -1,4 +1,4 @@
-use Rattle.std.proofs.Common.{◌≡◌, ◌∙◌, sym, true, false, refl, arith, rules}
+use Rattle.std.proofs.Common.{◌≡◌, ◌∙◌, sym, true, false, arith, rules}
 use Rattle.sr_frame.specs.Addresses.{mac_eq}
 use Rattle.sr_node.specs.Images.{node_state}
 use Rattle.sr_plant.proofs.BuildingLemmas.{has_here, has_further}

@@ -1,8 +1,7 @@
-use Rattle.std.proofs.Common.{◌≡◌, ◌++◌, ◌∷◌, [], List, arith, sym, subst, rules}
+use Rattle.std.proofs.Common.{◌≡◌, ◌++◌, ◌∷◌, [], List, arith, sym, subst}
 use Rattle.sr_plant.specs.declared.flight.Flying.{Flying}
-use Rattle.sr_plant.specs.Copies.{Copy}
 use Rattle.sr_plant.specs.Flights.{AreCounted, copies_in, copy_in}
-use Rattle.sr_plant.proofs.FlightLemmas.{attached, few_copies}
+use Rattle.sr_plant.proofs.FlightLemmas.{attached, used_again, few_copies}
 use Rattle.sr_plant.proofs.flight.attach.Goals as goal
 
 pub add_copy-requires-clause-fits : goal.add_copy-requires-clause-fits
@@ -14,6 +13,11 @@ returns-clause-counted c =
     let e = c.add_copy.ensures in
     let a = attached c.args.kept.now c.add_copy.new.kept c.args.places.now.items c.args.flying c.requires.counted e.more e.parcel e.others in
     subst (λ (fs : List Flying). AreCounted c.add_copy.new.kept fs) (sym c.push_back_reserved.ensures.items) a.0
+
+pub returns-clause-used : goal.returns-clause-used
+returns-clause-used c =
+    let e = c.add_copy.ensures in
+    used_again c.args.kept.now c.add_copy.new.kept c.args.flying.key c.requires.used e.others (omega (arith, e.more))
 
 pub returns-clause-copies : goal.returns-clause-copies
 returns-clause-copies c =

@@ -1,9 +1,7 @@
-use Rattle.std.proofs.Common.{◌≡◌, ◌++◌, ◌∷◌, [], true, false, not, List, sym, subst, ap, ◌∙◌, rules}
-use Rattle.std.specs.List.{filter}
+use Rattle.std.proofs.Common.{List, sym, subst, ap, ◌∙◌}
 use Rattle.sr_plant.specs.declared.flight.Flying.{Flying}
-use Rattle.sr_plant.specs.Copies.{is_on}
-use Rattle.sr_plant.specs.Flights.{AreCounted, copy_in, copies_in}
-use Rattle.sr_plant.proofs.FlightLemmas.{looked_lost, looked_kept}
+use Rattle.sr_plant.specs.Flights.{AreCounted, copies_in}
+use Rattle.sr_plant.proofs.FlightLemmas.{used_after, looked_lost, looked_kept}
 use Rattle.sr_plant.proofs.flight.look_at.Goals as goal
 
 pub returns-then-is_on-clause-copies : goal.returns-then-is_on-clause-copies
@@ -15,6 +13,10 @@ pub returns-then-is_on-clause-counted : goal.returns-then-is_on-clause-counted
 returns-then-is_on-clause-counted c =
     let e = c.drop_copy.ensures in
     (looked_lost c.args.kept.now c.drop_copy.new.kept c.args.places.now.items c.args.seen c.args.link c.requires.counted e.fewer e.parcel e.others (sym c.is_on.ensures ∙ c.if-is_on.true)).0
+
+pub returns-then-is_on-clause-used : goal.returns-then-is_on-clause-used
+returns-then-is_on-clause-used c =
+    used_after c.args.kept.now c.drop_copy.new.kept c.args.seen.key c.requires.used c.drop_copy.ensures.others c.drop_copy.ensures.gone
 
 pub returns-clause-counted : goal.returns-clause-counted
 returns-clause-counted c =

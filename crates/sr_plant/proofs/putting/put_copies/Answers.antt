@@ -1,4 +1,4 @@
-use Rattle.std.proofs.Common.{◌≡◌, ◌+◌, ◌++◌, map, ap, ◌∙◌, List, arith}
+use Rattle.std.proofs.Common.{◌+◌, ◌++◌, map, ap, ◌∙◌, arith}
 use Rattle.std.specs.Option.{option_to_list}
 use Rattle.slab.specs.Slab.{get}
 use Rattle.sr_forwarding.specs.Parcels.{ParcelImage}
@@ -17,6 +17,7 @@ loop-to-preserved c =
     ∙ ap (λ (p : ParcelImage). copies_in c.loop-to.kept c.loop-to.places.items ++ those_passing c.args.cut.now (map (copy_over o.port p) (option_to_list (to c.loop-to.to)))) l.parcel in
     record {
       counted = e.counted;
+      used = e.used;
       copies = put_more c.args.cut.now o.port (parcel_of (get c.args.kept.now c.args.key)) to c.loop-to.to (c.loop-to.to + 1) (copies_in c.args.kept.now c.args.places.now.items) (copies_in c.loop-to.kept c.loop-to.places.items) (copies_in c.put_copy.new.kept c.put_copy.new.places.items) (omega arith) l.copies one;
       there = e.there;
       parcel = e.parcel ∙ l.parcel;

@@ -1,10 +1,9 @@
-use Rattle.std.proofs.Common.{◌≡◌, ◌++◌, List, Some, refl, sym, ap, ◌∙◌}
+use Rattle.std.proofs.Common.{◌≡◌, ◌++◌, List, refl, sym, ap, ◌∙◌}
 use Rattle.std.proofs.lemmas.List.{append-nil}
 use Rattle.slab.specs.Slab.{get}
-use Rattle.sr_forwarding.specs.Parcels.{ParcelImage}
 use Rattle.std.specs.Option.{option_to_list}
 use Rattle.sr_plant.specs.Copies.{Copy}
-use Rattle.sr_plant.specs.Flights.{AreCounted, copies_in, parcel_of}
+use Rattle.sr_plant.specs.Flights.{copies_in, parcel_of}
 use Rattle.sr_plant.specs.Puts.{copies_put, all_put, those_passing}
 use Rattle.sr_plant.proofs.FlightLemmas.{kept_anew, unused}
 use Rattle.sr_plant.proofs.flight.Flight.put.Goals as goal
@@ -13,7 +12,7 @@ pub returns-clause-copies : goal.returns-clause-copies
 returns-clause-copies c =
     let o = c.args.outlet in
     let i = c.insert_reserved-key.ensures in
-    let anew = kept_anew c.self.inside.kept c.insert_reserved-key.new.self c.insert_reserved-key.result _ c.self.inside.places.items c.self.invariant refl i.was_vacant i.updates in
+    let anew = kept_anew c.self.inside.kept c.insert_reserved-key.new.self c.insert_reserved-key.result _ c.self.inside.places.items c.self.invariant.0 refl i.was_vacant i.updates in
     let e = c.put_copies.ensures in
     let d = c.drop_unused.ensures in
     let gone = unused c.put_copies.new.kept c.drop_unused.new.kept c.put_copies.new.places.items e.counted d.copies (λ k some. ap parcel_of (d.parcel k some)) in

@@ -1,4 +1,4 @@
-use Rattle.std.proofs.Common.{◌≡◌, ◌<◌, ◌⊎◌, ◌++◌, List, [], length, map, slice_set, slice_index_or, Some, refl, sym, ap, subst, ◌∙◌, inl, inr, arith, rules}
+use Rattle.std.proofs.Common.{◌≡◌, ◌<◌, ◌⊎◌, ◌++◌, List, [], length, map, slice_set, refl, sym, ap, ◌∙◌, inl, inr, arith, rules}
 use Rattle.std.proofs.Math.Seq.{map-set_same}
 use Rattle.std.proofs.lemmas.List.{map-set, length-map}
 use Rattle.sr_forwarding.specs.Parcels.{ParcelImage}

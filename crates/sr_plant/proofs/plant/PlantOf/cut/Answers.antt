@@ -1,4 +1,4 @@
-use Rattle.std.proofs.Common.{◌≡◌, map, not, true, slice_set, refl, sym, subst, rules}
+use Rattle.std.proofs.Common.{◌≡◌, map, not, true, slice_set, sym, subst, rules}
 use Rattle.std.specs.List.{filter}
 use Rattle.sr_node.specs.Images.{node_state}
 use Rattle.sr_plant.specs.Copies.{is_on}
