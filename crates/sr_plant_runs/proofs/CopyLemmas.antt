@@ -1,0 +1,114 @@
+-- The copies that a node puts out, and places of lists.
+use Rattle.std.proofs.Common.{◌≡◌, ◌⊎◌, inl, inr, ℕ, zero, suc, ◌+◌, ◌&&◌, Bool, true, false, List, [], ◌∷◌, map, Some, slice_get, slice_set, slice_index_or, refl, sym, ap}
+use Rattle.sr_frame.specs.declared.ports.Port.{Port}
+use Rattle.sr_frame.specs.declared.ports.Port.TheVariants.{H, A, B, C}
+use Rattle.sr_dup_window.specs.declared.lane_sets.Lanes.{Lanes}
+use Rattle.sr_dup_window.specs.LaneSets as lanes
+use Rattle.sr_forwarding.specs.declared.outlets.Outlets.{Outlets}
+use Rattle.sr_forwarding.specs.Outlets.{has, bit_if, outlets_where}
+use Rattle.sr_forwarding.specs.Parcels.{ParcelImage}
+use Rattle.sr_node.specs.Outboxes.{boxes_empty}
+use Rattle.sr_node.specs.Copies.{copy_if, put_at, with_copy}
+use Rattle.sr_node.specs.Lanes.{lane_at, outlets_on}
+use Rattle.sr_plant_laws.specs.Lists.{Each}
+use Rattle.sr_plant_laws.specs.ListLemmas.{each_append}
+use Rattle.sr_plant_laws.specs.Ledger.{Hop}
+use Rattle.sr_plant_laws.specs.Ports.{is_side}
+use Rattle.sr_plant_laws.specs.TwinLans.{lan_hops, other_members}
+use Rattle.sr_plant.specs.declared.topology.Topology.{Topology}
+use Rattle.sr_plant.specs.declared.topology.Topology.TheVariants.{Ring, TwinLan}
+use Rattle.sr_plant.specs.Topologies.{net_of}
+use Rattle.sr_plant.specs.Copies.{Copy}
+use Rattle.sr_plant.specs.Puts.{copy_over, copies_put, all_put, put_out}
+
+-- the four tests are the four lowest bits
+abbrev HasBits : Bool → Bool → Bool → Bool → Outlets → Type 0
+HasBits a b c d o = (has o H ≡ a) × (has o A ≡ b) × (has o B ≡ c) × (has o C ≡ d)
+
+bits : (a b c d : Bool) → HasBits a b c d (record { 0 = bit_if a 1 + bit_if b 2 + bit_if c 4 + bit_if d 8 })
+bits true true true true = (refl, refl, refl, refl)
+bits true true true false = (refl, refl, refl, refl)
+bits true true false true = (refl, refl, refl, refl)
+bits true true false false = (refl, refl, refl, refl)
+bits true false true true = (refl, refl, refl, refl)
+bits true false true false = (refl, refl, refl, refl)
+bits true false false true = (refl, refl, refl, refl)
+bits true false false false = (refl, refl, refl, refl)
+bits false true true true = (refl, refl, refl, refl)
+bits false true true false = (refl, refl, refl, refl)
+bits false true false true = (refl, refl, refl, refl)
+bits false true false false = (refl, refl, refl, refl)
+bits false false true true = (refl, refl, refl, refl)
+bits false false true false = (refl, refl, refl, refl)
+bits false false false true = (refl, refl, refl, refl)
+bits false false false false = (refl, refl, refl, refl)
+
+has_where : (test : Port → Bool) (o : Port) → has (outlets_where test) o ≡ test o
+has_where test H = (bits (test H) (test A) (test B) (test C)).0
+has_where test A = (bits (test H) (test A) (test B) (test C)).1
+has_where test B = (bits (test H) (test A) (test B) (test C)).2
+has_where test C = (bits (test H) (test A) (test B) (test C)).3
+
+-- at each outlet, a frame goes where it is wanted and new
+pub has_on : (fresh : Lanes) (wanted : Outlets) (o : Port) → has (outlets_on fresh wanted) o ≡ (has wanted o && lanes.has fresh (lane_at o))
+has_on fresh wanted o = has_where (λ q. has wanted q && lanes.has fresh (lane_at q)) o
+
+-- hops end at sides
+lan_aside : (p : Port) (first k : ℕ) (js : List ℕ) → is_side p ≡ true → Each (λ h. is_side h.to.port ≡ true) (lan_hops p first k js)
+lan_aside p first k [] side = tt
+lan_aside p first k (j ∷ js) side = (side, lan_aside p first k js side)
+
+hops_aside : (t : Topology) (n k : ℕ) (o : Port) → Each (λ h. is_side h.to.port ≡ true) (net_of t n k o)
+hops_aside Ring n k H = tt
+hops_aside Ring n k A = (refl, tt)
+hops_aside Ring n k B = (refl, tt)
+hops_aside Ring n k C = tt
+hops_aside TwinLan n k H = tt
+hops_aside TwinLan n k A = lan_aside A 0 k (other_members n k) refl
+hops_aside TwinLan n k B = lan_aside B n k (other_members n k) refl
+hops_aside TwinLan n k C = tt
+
+-- what holds of a parcel at a side, over whatever hop, holds of each copy of it
+module _ (Q : Copy → Type 0) (p : ParcelImage) (each : (o : Port) (h : Hop) → is_side o ≡ true → is_side h.to.port ≡ true → Q (copy_over o p h)) where
+  over_hops : (o : Port) (hs : List Hop) → is_side o ≡ true → Each (λ h. is_side h.to.port ≡ true) hs → Each Q (map (copy_over o p) hs)
+  over_hops o [] side aside = tt
+  over_hops o (h ∷ hs) side aside = (each o h side aside.0, over_hops o hs side aside.1)
+
+  at_side : (t : Topology) (n k : ℕ) (o : Port) (b : Bool) → is_side o ≡ true → Each Q (all_put t n k o (with_copy [] (copy_if b p)))
+  at_side t n k o true side = each_append Q (copies_put t n k o p) [] (over_hops o (net_of t n k o) side (hops_aside t n k o)) tt
+  at_side t n k o false side = tt
+
+  at_interlink : (t : Topology) (n k : ℕ) (b : Bool) → Each Q (all_put t n k C (with_copy [] (copy_if b p)))
+  at_interlink Ring n k true = tt
+  at_interlink TwinLan n k true = tt
+  at_interlink t n k false = tt
+
+  pub put_each : (t : Topology) (n k : ℕ) (outlets : Outlets) → Each Q (put_out t n k (put_at boxes_empty outlets p))
+  put_each t n k outlets =
+      each_append Q (all_put t n k A (with_copy [] (copy_if (has outlets A) p))) _ (at_side t n k A (has outlets A) refl)
+      (each_append Q (all_put t n k B (with_copy [] (copy_if (has outlets B) p))) _ (at_side t n k B (has outlets B) refl) (at_interlink t n k (has outlets C)))
+
+-- one place of a list was set
+pub record IsSetThere {X : Type 0} (xs : List X) (i k : ℕ) (x y : X) : Type 0 where
+  pub place : k ≡ i
+  pub same : x ≡ y
+  pub old : X
+  pub was : slice_get xs i ≡ Some old
+
+pub got_set : {X : Type 0} (xs : List X) (i k : ℕ) (y x : X) → slice_get (slice_set xs i y) k ≡ Some x → IsSetThere xs i k x y ⊎ (slice_get xs k ≡ Some x)
+got_set [] i k y x at = inr at
+got_set (z ∷ zs) zero zero y x at = let e : y ≡ x = cc in inl (record { place = refl; same = sym e; old = z; was = refl })
+got_set (z ∷ zs) zero (suc k) y x at = inr at
+got_set (z ∷ zs) (suc i) zero y x at = inr at
+got_set (z ∷ zs) (suc i) (suc k) y x at = elim (got_set zs i k y x at) [
+  | inl s ↦ inl (record { place = ap suc s.place; same = s.same; old = s.old; was = s.was })
+  | inr was ↦ inr was
+]
+
+pub or_got : {X : Type 0} (xs : List X) (i : ℕ) (x d : X) → slice_get xs i ≡ Some x → slice_index_or xs i d ≡ x
+or_got [] i x d at = absurd cc
+or_got (y ∷ ys) zero x d at = cc
+or_got (y ∷ ys) (suc i) x d at = or_got ys i x d at
+
+pub got_once : {X : Type 0} (xs : List X) (i : ℕ) (x y : X) → slice_get xs i ≡ Some x → slice_get xs i ≡ Some y → x ≡ y
+got_once xs i x y a b = cc

@@ -1,0 +1,6 @@
+mod ReadingLemmas
+mod PaddingLemmas
+mod RouteLemmas
+mod NodeLemmas
+mod CopyLemmas
+mod SentLemmas

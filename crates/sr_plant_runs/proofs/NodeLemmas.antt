@@ -1,0 +1,218 @@
+-- What a node of a plant does with one event, where nothing waited in it.
+use Rattle.std.proofs.Common.{◌≡◌, ◌⊎◌, inl, inr, ℕ, Bool, true, false, nat_lt, List, length, Option, None, Some, refl, sym, ap, ◌∙◌, subst}
+use Rattle.std.specs.Option.{option_map}
+use Rattle.sr_frame.specs.Addresses.{mac_eq}
+use Rattle.sr_frame.specs.Frame.{least_len}
+use Rattle.sr_frame.specs.declared.fields.Mac.{Mac}
+use Rattle.sr_frame.specs.declared.ports.Port.{Port}
+use Rattle.sr_frame.specs.declared.ports.Port.TheVariants.{H, A, B, C}
+use Rattle.sr_sequence.specs.declared.Seq.{Seq}
+use Rattle.sr_dup_window.specs.declared.lane_sets.Lanes.{Lanes}
+use Rattle.sr_dup_table.specs.Sources.{Sources, live_at, arrive_answer, after_arrive}
+use Rattle.sr_forwarding.specs.declared.outlets.Outlets.{Outlets}
+use Rattle.sr_forwarding.specs.declared.header.Header.{Header}
+use Rattle.sr_forwarding.specs.declared.role_image.RoleImage.{RoleImage}
+use Rattle.sr_forwarding.specs.declared.role_image.RoleKind.{RoleKind}
+use Rattle.sr_forwarding.specs.declared.role_image.RoleKind.TheVariants as kind
+use Rattle.sr_forwarding.specs.Outlets.{has}
+use Rattle.sr_forwarding.specs.Octets.{src_in}
+use Rattle.sr_forwarding.specs.Parcels.{ParcelImage, plain_parcel}
+use Rattle.sr_forwarding.specs.Headers.{header_of}
+use Rattle.sr_forwarding.specs.Proxies.{learned_at}
+use Rattle.sr_node.specs.declared.event.Answer.{Answer}
+use Rattle.sr_node.specs.declared.event.Answer.TheVariants as answer
+use Rattle.sr_node.specs.Outboxes.{boxes_empty}
+use Rattle.sr_node.specs.Copies.{put_at}
+use Rattle.sr_node.specs.Lanes.{lanes_noted, outlets_on, new_outlets, sources_after}
+use Rattle.sr_node.specs.LifeChecks.{is_due, life_says}
+use Rattle.sr_node.specs.Images.{State, after}
+use Rattle.sr_node.specs.Arriving.{Arrived, PassedTo, goes, going_on, header_at, wanted_at, next_at, new_at, passed}
+use Rattle.sr_node.specs.Sending.{SentAs, send_refusal, send_outlets, sent_parcel}
+use Rattle.sr_node.specs.Ticking.{TickedAs, after_tick, aged, life_checked, next_life_check, life_header, life_outlets}
+use Rattle.sr_supervision.specs.Written.{written}
+use Rattle.sr_plant_laws.specs.Ports.{is_side}
+use Rattle.sr_plant.specs.declared.topology.Topology.{Topology}
+use Rattle.sr_plant.specs.Topologies.{kind_of}
+use Rattle.sr_plant.specs.Plants.{IsEmptied}
+use Rattle.sr_plant_runs.proofs.RouteLemmas.{host_routes}
+
+-- the node is as it was, but for time, table, numbers and what waits
+pub record IsSame (s : State) (now : ℕ) (u : State) : Type 0 where
+  pub kind : u.role.kind ≡ s.role.kind
+  pub mac : u.role.mac ≡ s.role.mac
+  pub time : u.core.time ≡ now
+
+-- a frame of the node goes out at both sides under its next number
+pub record PutsOut (s : State) (frame : List ℕ) (u : State) : Type 0 where
+  pub outlets : Outlets
+  pub sides : (o : Port) → has outlets o ≡ is_side o
+  pub out : u.core.out ≡ put_at boxes_empty outlets (plain_parcel frame (Some s.core.next))
+  pub next : u.core.next ≡ after s.core.next
+
+-- nothing goes out
+pub record IsIdle (s u : State) : Type 0 where
+  pub out : u.core.out ≡ boxes_empty
+  pub next : u.core.next ≡ s.core.next
+
+-- what a host sends
+pub record HostSends (s : State) (frame : List ℕ) (now : ℕ) (u : State) : Type 0 where
+  pub same : IsSame s now u
+  pub puts : PutsOut s frame u
+  pub sources : u.core.sources ≡ s.core.sources
+
+pub host_sends : (t : Topology) (s : State) (frame : List ℕ) (now : ℕ) (a : Answer) (u : State) → s.role.kind ≡ kind_of t → IsEmptied s → SentAs s frame now a u → HostSends s frame now u
+host_sends t s frame now (answer.Sent number) u kind empty step = record {
+  same = record { kind = ap (λ x. x.role.kind) step.1; mac = ap (λ x. x.role.mac) step.1; time = ap (λ x. x.core.time) step.1 };
+  puts = record {
+    outlets = send_outlets s frame now;
+    sides = host_routes t s.role _ now kind;
+    out = ap (λ x. x.core.out) step.1 ∙ ap (λ o. put_at o (send_outlets s frame now) (sent_parcel s frame)) empty;
+    next = ap (λ x. x.core.next) step.1;
+  };
+  sources = ap (λ x. x.core.sources) step.1;
+}
+host_sends t s frame now answer.Own u kind empty step = absurd step
+host_sends t s frame now (answer.Passed ports) u kind empty step = absurd step
+host_sends t s frame now (answer.Ticked sources nodes proxies life) u kind empty step = absurd step
+host_sends t s frame now (answer.Taken given) u kind empty step = absurd step
+
+-- what is sent is long enough, and the node's own
+pub record IsFit (s : State) (frame : List ℕ) : Type 0 where
+  pub least : nat_lt (length frame) (least_len frame) ≡ false
+  pub own : mac_eq (src_in frame) s.role.mac ≡ true
+
+pub sent_is_fit : (s : State) (frame : List ℕ) (now : ℕ) → send_refusal s frame now ≡ None → IsFit s frame
+sent_is_fit s frame now none = by (nat_lt (length frame) (least_len frame)) (nat_lt 1518 (length frame)) (mac_eq (src_in frame) s.role.mac) refl refl refl
+  where
+    by : (short long own : Bool) → nat_lt (length frame) (least_len frame) ≡ short → nat_lt 1518 (length frame) ≡ long → mac_eq (src_in frame) s.role.mac ≡ own → IsFit s frame
+    by true long own e f g = let no = rw e at none in absurd cc
+    by false true own e f g = let no = rw (e, f) at none in absurd cc
+    by false false false e f g = let no = rw (e, f, g) at none in absurd cc
+    by false false true e f g = record { least = e; own = g }
+
+-- what a tick does
+abbrev pub life_frame : State → List ℕ
+life_frame s = written (life_says s.role.kind s.role.mac s.core.next_life)
+
+pub record Ticks (s : State) (now : ℕ) (u : State) : Type 0 where
+  pub same : IsSame s now u
+  pub puts : PutsOut s (life_frame s) u ⊎ IsIdle s u
+  pub sources : u.core.sources ≡ live_at now s.core.sources
+
+pub node_ticks : (t : Topology) (s : State) (now : ℕ) (a : Answer) (u : State) → s.role.kind ≡ kind_of t → IsEmptied s → TickedAs s now a u → Ticks s now u
+node_ticks t s now (answer.Ticked sources nodes proxies life) u kind empty step = by (is_due s.core.life_at now) refl
+  where
+    core : u.core ≡ after_tick s now
+    core = ap (λ x. x.core) step.4
+
+    by : (due : Bool) → is_due s.core.life_at now ≡ due → Ticks s now u
+    by true e =
+        let c : u.core ≡ aged (life_checked s now) now = core ∙ rw e refl in
+        record {
+          same = record { kind = ap (λ x. x.role.kind) step.4; mac = ap (λ x. x.role.mac) step.4; time = ap (λ x. x.time) c };
+          puts = inl (record {
+            outlets = life_outlets s now;
+            sides = host_routes t s.role (life_header s now) now kind;
+            out = ap (λ x. x.out) c ∙ ap (λ o. put_at o (life_outlets s now) (next_life_check s)) empty;
+            next = ap (λ x. x.next) c;
+          });
+          sources = ap (λ x. x.sources) c;
+        }
+    by false e =
+        let c : u.core ≡ aged s.core now = core ∙ rw e refl in
+        record {
+          same = record { kind = ap (λ x. x.role.kind) step.4; mac = ap (λ x. x.role.mac) step.4; time = ap (λ x. x.time) c };
+          puts = inr (record { out = ap (λ x. x.out) c ∙ empty; next = ap (λ x. x.next) c });
+          sources = ap (λ x. x.sources) c;
+        }
+node_ticks t s now answer.Own u kind empty step = absurd step
+node_ticks t s now (answer.Passed ports) u kind empty step = absurd step
+node_ticks t s now (answer.Sent number) u kind empty step = absurd step
+node_ticks t s now (answer.Taken given) u kind empty step = absurd step
+
+-- a node's own frame comes back
+pub record IsBack (s : State) (p : ParcelImage) (now : ℕ) (u : State) : Type 0 where
+  pub own : mac_eq (header_of p).src s.role.mac ≡ true
+  pub same : IsSame s now u
+  pub idle : IsIdle s u
+  pub sources : u.core.sources ≡ s.core.sources
+
+-- a frame of another is noted where it is wanted, and goes to where it is new
+pub record TakesIn (s : State) (port : Port) (p : ParcelImage) (seq : Seq) (now : ℕ) (u : State) : Type 0 where
+  pub other : mac_eq (header_of p).src s.role.mac ≡ false
+  pub fresh : Lanes
+  pub answer : arrive_answer s.core.sources (header_of p).src seq.0 (lanes_noted port (wanted_at s port p now)) now ≡ Some fresh
+  pub out : u.core.out ≡ put_at boxes_empty (outlets_on fresh (wanted_at s port p now)) p
+  pub sources : u.core.sources ≡ after_arrive s.core.sources (header_of p).src seq.0 (lanes_noted port (wanted_at s port p now)) now
+  pub next : u.core.next ≡ s.core.next
+  pub same : IsSame s now u
+
+-- a role keeps its kind and its address
+learned_keeps : (k : RoleKind) (port : Port) (r : RoleImage) (h : Header) (now : ℕ) → ((learned_at k port r h now).kind ≡ r.kind) × ((learned_at k port r h now).mac ≡ r.mac)
+learned_keeps kind.Danp port r h now = (refl, refl)
+learned_keeps kind.Danh port r h now = (refl, refl)
+learned_keeps kind.San H r h now = (refl, refl)
+learned_keeps kind.San A r h now = (refl, refl)
+learned_keeps kind.San B r h now = (refl, refl)
+learned_keeps kind.San C r h now = (refl, refl)
+learned_keeps (kind.Prp lan net) port r h now = (refl, refl)
+learned_keeps kind.Hsr port r h now = (refl, refl)
+
+-- where a frame with a number goes, the table answered
+record IsAnswered (s : Sources) (port : Port) (src : Mac) (seq : Seq) (wanted : Outlets) (now : ℕ) (o : Outlets) : Type 0 where
+  fresh : Lanes
+  answer : arrive_answer s src seq.0 (lanes_noted port wanted) now ≡ Some fresh
+  outlets : o ≡ outlets_on fresh wanted
+
+answered : (s : Sources) (port : Port) (src : Mac) (number : Option Seq) (seq : Seq) (wanted : Outlets) (now : ℕ) (o : Outlets) → number ≡ Some seq → new_outlets s port src number wanted now ≡ Some o → IsAnswered s port src seq wanted now o
+answered s port src number seq wanted now o is h =
+    by (arrive_answer s src seq.0 (lanes_noted port wanted) now) refl (subst (λ n. new_outlets s port src n wanted now ≡ Some o) is h)
+  where
+    by : (x : Option Lanes) → arrive_answer s src seq.0 (lanes_noted port wanted) now ≡ x → option_map (λ fresh. outlets_on fresh wanted) x ≡ Some o → IsAnswered s port src seq wanted now o
+    by None e h = absurd cc
+    by (Some fresh) e h =
+        let same : outlets_on fresh wanted ≡ o = cc in
+        record { fresh = fresh; answer = e; outlets = sym same }
+
+noted_after : (s : Sources) (port : Port) (src : Mac) (number : Option Seq) (seq : Seq) (wanted : Outlets) (now : ℕ) → number ≡ Some seq → sources_after s port src number wanted now ≡ after_arrive s src seq.0 (lanes_noted port wanted) now
+noted_after s port src number seq wanted now is = ap (λ n. sources_after s port src n wanted now) is
+
+-- at a side a parcel goes on as it came
+on_as_it_came : (s : State) (port : Port) (p : ParcelImage) → is_side port ≡ true → (going_on s port p ≡ p) × (next_at s.core.next port p ≡ s.core.next)
+on_as_it_came s A p side = (refl, refl)
+on_as_it_came s B p side = (refl, refl)
+on_as_it_came s H p side = absurd cc
+on_as_it_came s C p side = absurd cc
+
+-- what comes in at a side
+pub node_takes : (s : State) (port : Port) (p : ParcelImage) (seq : Seq) (now : ℕ) (a : Answer) (u : State) → IsEmptied s → is_side port ≡ true → p.seq ≡ Some seq → Arrived s port p now a u → IsBack s p now u ⊎ TakesIn s port p seq now u
+node_takes s port p seq now answer.Own u empty side number came = inl (record {
+  own = came.0;
+  same = record { kind = ap (λ x. x.role.kind) came.1; mac = ap (λ x. x.role.mac) came.1; time = ap (λ x. x.core.time) came.1 };
+  idle = record { out = ap (λ x. x.core.out) came.1 ∙ empty; next = ap (λ x. x.core.next) came.1 };
+  sources = ap (λ x. x.core.sources) came.1;
+})
+node_takes s port p seq now (answer.Passed ports) u empty side number came = by (goes s port p now) refl came.1
+  where
+    on : (going_on s port p ≡ p) × (next_at s.core.next port p ≡ s.core.next)
+    on = on_as_it_came s port p side
+
+    by : (o : Option Outlets) → goes s port p now ≡ o → PassedTo s port p now o ports.items u → IsBack s p now u ⊎ TakesIn s port p seq now u
+    by None e to = absurd to
+    by (Some o) e to =
+        let at : new_at s port p now ≡ Some o = sym (ap (λ q. new_at s port q now) on.0) ∙ e in
+        let got = answered s.core.sources port (header_of p).src p.seq seq (wanted_at s port p now) now o number at in
+        let whole : u ≡ passed s port p s.core.next now o = to.1 ∙ ap (λ q. passed s port q (next_at s.core.next port p) now o) on.0 ∙ ap (λ n. passed s port p n now o) on.1 in
+        let kept = learned_keeps s.role.kind port s.role (header_at s p now) now in
+        inr (record {
+          other = came.0;
+          fresh = got.fresh;
+          answer = got.answer;
+          out = ap (λ x. x.core.out) whole ∙ ap (λ b. put_at b o p) empty ∙ ap (λ y. put_at boxes_empty y p) got.outlets;
+          sources = ap (λ x. x.core.sources) whole ∙ noted_after s.core.sources port (header_of p).src p.seq seq (wanted_at s port p now) now number;
+          next = ap (λ x. x.core.next) whole;
+          same = record { kind = ap (λ x. x.role.kind) whole ∙ kept.0; mac = ap (λ x. x.role.mac) whole ∙ kept.1; time = ap (λ x. x.core.time) whole };
+        })
+node_takes s port p seq now (answer.Sent number) u empty side n came = absurd came
+node_takes s port p seq now (answer.Ticked sources nodes proxies life) u empty side n came = absurd came
+node_takes s port p seq now (answer.Taken given) u empty side n came = absurd came

@@ -1,0 +1,2 @@
+pub mod PlantRuns
+pub mod Sent
