@@ -1,6 +1,6 @@
 #!/usr/bin/env python3
 """Looks for what no proof refuses: lines that are too wide, what is public without a comment, documents that name what is
-not there. Prints a line for each finding, and exits with 1 where there is one.
+not there or show what is not compiled. Prints a line for each finding, and exits with 1 where there is one.
 
 lint.py [ROOT]: of the repository at ROOT, this one where none is given."""
 import re
@@ -82,7 +82,21 @@ def crate_tables(root):
             yield readme, 1, f"does not speak of `{name}`"
 
 
-RULES = [wide_definitions, silent_items, missing_files, crate_tables]
+def stripped(text):
+    return "\n".join(line.strip() for line in text.strip().split("\n"))
+
+
+def untested_examples(root):
+    """The Rust that a document shows stands in a crate of tests, so that it is compiled."""
+    tests = [stripped(path.read_text()) for path in sorted(root.glob("crates/*_tests/src/**/*.rt"))]
+    for path in documents(root):
+        text = path.read_text()
+        for shown in re.finditer(r"^```rust\n(.*?)^```", text, re.MULTILINE | re.DOTALL):
+            if not any(stripped(shown[1]) in test for test in tests):
+                yield path, text.count("\n", 0, shown.start()) + 1, "shows Rust that no crate of tests has"
+
+
+RULES = [wide_definitions, silent_items, missing_files, crate_tables, untested_examples]
 
 
 def findings(root):

@@ -69,6 +69,14 @@ class Lint(unittest.TestCase):
             ["README.md:1: does not speak of `sr_one`"],
         )
 
+    def test_untested_examples(self):
+        shown = {"README.md": IN_ORDER["README.md"] + "```rust\nlet one = 1;\nlet two = one;\n```\n"}
+        test = "crates/sr_one_tests/src/lib.rt"
+        self.assertEqual(self.findings({**shown, test: "    let one = 1;\n    let two = one;\n"}), [])
+        self.assertEqual(
+            self.findings({**shown, test: "    let two = 1;\n"}), ["README.md:2: shows Rust that no crate of tests has"]
+        )
+
     def test_each_rule_has_a_test(self):
         for rule in lint.RULES:
             self.assertTrue(hasattr(self, f"test_{rule.__name__}"), rule.__name__)

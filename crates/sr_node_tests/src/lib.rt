@@ -6,6 +6,8 @@ mod arrivals;
 #[cfg(test)]
 mod calls;
 #[cfg(test)]
+mod example;
+#[cfg(test)]
 mod frames;
 #[cfg(test)]
 mod nodes;
