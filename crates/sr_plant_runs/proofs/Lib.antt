@@ -4,3 +4,10 @@ mod RouteLemmas
 mod NodeLemmas
 mod CopyLemmas
 mod SentLemmas
+mod ZipLemmas
+mod FrameLemmas
+mod TableLemmas
+mod LikeLemmas
+mod HistoryLemmas
+mod HistoryRunLemmas
+mod RunLawLemmas

@@ -1,2 +1,4 @@
 pub mod PlantRuns
 pub mod Sent
+pub mod Histories
+pub mod RunLaws
