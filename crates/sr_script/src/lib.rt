@@ -20,7 +20,7 @@ pub use fault::{Fault, Word};
 pub use hexadecimal::read_hex;
 pub use numbers::number_of;
 pub use printing::write_plain;
-pub use reading::is_comment;
+pub use reading::{behind_send, is_comment};
 pub use replaying::{NOT_BEGUN, line_list, run};
 pub use running::run_session;
 pub use session::Session;
