@@ -1,5 +1,5 @@
 -- Each event of a plant, told by its history.
-use Rattle.std.proofs.Common.{◌≡◌, ◌⊎◌, inl, inr, ℕ, zero, suc, ◌+◌, ◌%◌, ◌<◌, ◌≤◌, ◌==◌, ◌&&◌, not, nat_lt, max, Bool, true, false, List, [], ◌∷◌, ◌++◌, length, None, Some, slice_get, slice_set, pos, refl, sym, ap, ◌∙◌, subst, arith}
+use Rattle.std.proofs.Common.{Option, ◌≡◌, ◌⊎◌, inl, inr, ℕ, zero, suc, ◌+◌, ◌%◌, ◌<◌, ◌≤◌, ◌==◌, ◌&&◌, not, nat_lt, max, Bool, true, false, List, [], ◌∷◌, ◌++◌, length, None, Some, slice_get, slice_set, pos, refl, sym, ap, ◌∙◌, subst, arith}
 use Rattle.std.specs.List.{filter, remove, list_any}
 use Rattle.std.specs.Option.{option_to_list}
 use Rattle.std.proofs.lemmas.Bool.{and_parts, eq-eqb, true≢false}
@@ -51,6 +51,7 @@ use Rattle.sr_plant.specs.Plants.{Plant}
 use Rattle.sr_plant.specs.Puts.{put_out}
 use Rattle.sr_plant.specs.Steps.{emptied, acted, without, Comes, PlantStep, plant_refusal, lacks}
 use Rattle.sr_plant.specs.Topologies.{framing_of, net_of}
+use Rattle.sr_plant_runs.specs.Traffic.{is_due_in}
 use Rattle.sr_plant_runs.specs.Histories.{mac_at, Shows, ParcelShows, Zip, oldest_first, event_of, IsTold}
 use Rattle.sr_plant_runs.proofs.ReadingLemmas.{Says, SaysThere, new_says, read_says}
 use Rattle.sr_plant_runs.proofs.PaddingLemmas.{padded_src, life_shows}
@@ -75,6 +76,17 @@ pub record IsGood (t : Topology) (roles : List RoleImage) (d : Handling) : Type 
   pub sound : IsSound d
   pub out : GoesOut d
 
+-- a tick numbers a life check where one is due
+abbrev pub IsDueTold : Plant → PlantEvent → Option Handling → Type 0
+IsDueTold s (Tick i now) (Some d) = is_due_in (slice_get s.nodes i) now ≡ true
+IsDueTold s (Tick i now) None = is_due_in (slice_get s.nodes i) now ≡ false
+IsDueTold s (Send i frame) did = Unit {0}
+IsDueTold s (Carry place) did = Unit {0}
+IsDueTold s (Drop place) did = Unit {0}
+IsDueTold s (Repeat place) did = Unit {0}
+IsDueTold s (Cut link) did = Unit {0}
+IsDueTold s (Mend link) did = Unit {0}
+
 -- an event of the plant, told
 pub record StepTold (t : Topology) (roles : List RoleImage) (ds : List Handling) (s : Plant) (p : law.Plant) (e : PlantEvent) (v : Plant) : Type 0 where
   pub turn : PlantTurn
@@ -82,6 +94,7 @@ pub record StepTold (t : Topology) (roles : List RoleImage) (ds : List Handling)
   pub moves : Moves (net_of t (length roles)) ds p (event_of e) turn after
   pub like : Like t roles v after (option_to_list turn.did ++ ds)
   pub told : IsTold roles e turn.did
+  pub due : IsDueTold s e turn.did
   pub good : Each (IsGood t roles) (option_to_list turn.did)
   pub tables : (k : ℕ) → TableStep (mac_at roles) lanes_of k after.clock turn.did (table_at s.nodes k) (table_at v.nodes k)
 
@@ -99,14 +112,15 @@ puts_told : (t : Topology) (roles : List RoleImage) → Addresses roles → (ds 
     (u.core.sources ≡ before.core.sources) ⊎ (u.core.sources ≡ live_at clock before.core.sources) →
     ((d : Handling) (turn : PlantTurn) (after : law.Plant) → d.node ≡ i → d.frame.supervision ≡ is_supervision (padded frame) → Sends (net_of t (length roles)) ds p clock d turn after → Moves (net_of t (length roles)) ds p (event_of e) turn after) →
     ((d : Handling) → d.node ≡ i → Shows roles (padded frame) before.core.next d.frame → IsTold roles e (Some d)) →
-    StepTold t roles ds s p e v
-puts_told t roles own ds s v p i clock before u frame e like there same puts later source plant how as_move as_told = record {
+    ((d : Handling) → IsDueTold s e (Some d)) → StepTold t roles ds s p e v
+puts_told t roles own ds s v p i clock before u frame e like there same puts later source plant how as_move as_told as_due = record {
   turn = record { did = Some d; doubled = []; lost = law.those_stopped p.cuts (spread net d); came = [] };
   after = record { flight = p.flight ++ law.those_passing p.cuts (spread net d); cuts = p.cuts; clock = clock };
   moves = as_move d _ _ refl refl (record { inlet = refl; sending = record { own = refl; number = refl; time = refl }; time = refl; says = refl; after = refl });
   like = subst (λ x. Like t roles x (record { flight = p.flight ++ law.those_passing p.cuts (spread net d); cuts = p.cuts; clock = clock }) (d ∷ ds)) (sym plant)
       (like_acted t roles s p i clock before u ds (d ∷ ds) (spread net d) like did clock refl);
   told = as_told d refl shows;
+  due = as_due d;
   good = (record { member = was.within; routed = λ o. puts.sides o ∙ host_agrees t i f o; sound = λ o went. went; out = λ sends o. refl }, tt);
   tables = subst (λ (x : Plant). (k : ℕ) → TableStep (mac_at roles) lanes_of k clock (Some d) (table_at s.nodes k) (table_at x.nodes k)) (sym plant)
       (by_table s.nodes i before (emptied u) (λ k a b. TableStep (mac_at roles) lanes_of k clock (Some d) a b) there (table_of how) (λ k other. inl ((refl, tt), refl)));
@@ -187,7 +201,7 @@ send_told t roles own ds s v p i frame like acts =
     puts_told t roles own ds s v p i p.clock acts.before acts.after frame (Send i frame) like acts.there
     (subst (λ c. IsSame acts.before c acts.after) now sends.same) sends.puts (let e = like.clock in omega (arith, e)) source
     (acts.plant ∙ ap (λ c. acted s i acts.after c) like.clock) (inl sends.sources)
-    (λ d turn after node sup sending. (d, node, sending)) (λ d node shows. (node, (acts.before.core.next, shows)))
+    (λ d turn after node sup sending. (d, node, sending)) (λ d node shows. (node, (acts.before.core.next, shows))) (λ d. tt)
 
 -- time passes at a node
 not_back : (s : Plant) (i at : ℕ) → plant_refusal s (Tick i at) ≡ None → s.clock ≤ at
@@ -200,14 +214,15 @@ not_back s i at none = by (nat_lt i (length s.nodes)) (nat_lt at s.clock) refl r
 
 pub tick_told : (t : Topology) (roles : List RoleImage) → Addresses roles → (ds : List Handling) (s v : Plant) (p : law.Plant) (i at : ℕ) → Like t roles s p ds → plant_refusal s (Tick i at) ≡ None → PlantStep s (Tick i at) v → StepTold t roles ds s p (Tick i at) v
 tick_told t roles own ds s v p i at like none acts = elim ticks.puts [
-  | inl puts ↦ puts_told t roles own ds s v p i at acts.before acts.after (life_frame acts.before) (Tick i at) like acts.there ticks.same puts later (life.1 ∙ was.mac) acts.plant (inr ticks.sources)
-      (λ d turn after node sup sending. (went_on, inr (d, node, sup ∙ life.0, sending))) (λ d node shows. tt)
+  | inl puts ↦ puts_told t roles own ds s v p i at acts.before acts.after (life_frame acts.before) (Tick i at) like acts.there ticks.same puts.1 later (life.1 ∙ was.mac) acts.plant (inr ticks.sources)
+      (λ d turn after node sup sending. (went_on, inr (d, node, sup ∙ life.0, sending))) (λ d node shows. tt) (λ d. ap (λ x. is_due_in x at) acts.there ∙ puts.0)
   | inr idle ↦ record {
     turn = idle_turn;
     after = record { flight = p.flight; cuts = p.cuts; clock = at };
     moves = (went_on, inl (refl, refl));
-    like = subst (λ x. Like t roles x (record { flight = p.flight; cuts = p.cuts; clock = at }) ds) (sym acts.plant) (idle_like t roles ds s p i at acts.before acts.after like acts.there ticks.same idle later at refl);
+    like = subst (λ x. Like t roles x (record { flight = p.flight; cuts = p.cuts; clock = at }) ds) (sym acts.plant) (idle_like t roles ds s p i at acts.before acts.after like acts.there ticks.same idle.1 later at refl);
     told = tt;
+    due = ap (λ x. is_due_in x at) acts.there ∙ idle.0;
     good = tt;
     tables = subst (λ (x : Plant). (k : ℕ) → TableStep (mac_at roles) lanes_of k at None (table_at s.nodes k) (table_at x.nodes k)) (sym acts.plant)
         (by_table s.nodes i acts.before (emptied acts.after) (λ k a b. TableStep (mac_at roles) lanes_of k at None a b) acts.there (inr (inl (tt, ticks.sources))) (λ k other. inl (tt, refl)));
@@ -234,15 +249,16 @@ tick_told t roles own ds s v p i at like none acts = elim ticks.puts [
 
 -- the nodes are as they were
 still_told : (t : Topology) (roles : List RoleImage) (ds : List Handling) (s v : Plant) (p : law.Plant) (e : PlantEvent) (turn : PlantTurn) (flight : List Copy) (cut : List Bool) (ghosts : List ledger.Copy) (cuts : List ℕ) →
-    Like t roles s p ds → v ≡ record s { flight = flight; cut = cut } → Zip (FliesAs t roles) flight ghosts → SameCuts cut cuts → turn.did ≡ None → IsTold roles e None →
+    Like t roles s p ds → v ≡ record s { flight = flight; cut = cut } → Zip (FliesAs t roles) flight ghosts → SameCuts cut cuts → turn.did ≡ None → IsTold roles e None → IsDueTold s e None →
     Moves (net_of t (length roles)) ds p (event_of e) turn (record { flight = ghosts; cuts = cuts; clock = p.clock }) → StepTold t roles ds s p e v
-still_told t roles ds s v p e turn flight cut ghosts cuts like plant zip same idle told moves = record {
+still_told t roles ds s v p e turn flight cut ghosts cuts like plant zip same idle told due moves = record {
   turn = turn;
   after = record { flight = ghosts; cuts = cuts; clock = p.clock };
   moves = moves;
   like = subst (λ did. Like t roles v (record { flight = ghosts; cuts = cuts; clock = p.clock }) (option_to_list did ++ ds)) (sym idle)
       (subst (λ x. Like t roles x (record { flight = ghosts; cuts = cuts; clock = p.clock }) ds) (sym plant) (like_flying t roles s p ds flight cut ghosts cuts like zip same));
   told = subst (λ did. IsTold roles e did) (sym idle) told;
+  due = subst (λ did. IsDueTold s e did) (sym idle) due;
   good = subst (λ did. Each (IsGood t roles) (option_to_list did)) (sym idle) tt;
   tables = λ k. subst (λ did. TableStep (mac_at roles) lanes_of k p.clock did (table_at s.nodes k) (table_at v.nodes k)) (sym idle) (inl (tt, ap (λ (x : Plant). table_at x.nodes k) plant));
 }
@@ -252,11 +268,11 @@ taken_out : (t : Topology) (roles : List RoleImage) (s : Plant) (p : law.Plant) 
 taken_out t roles s p ds place c like b = record { before = b.before; behind = b.behind; index = b.index; whole = b.whole; left = refl }
 
 -- a copy is lost
-gone_told : (t : Topology) (roles : List RoleImage) (ds : List Handling) (s v : Plant) (p : law.Plant) (place : ℕ) (c : Copy) (e : PlantEvent) → Like t roles s p ds → slice_get s.flight place ≡ Some c → v ≡ without s place → IsTold roles e None →
+gone_told : (t : Topology) (roles : List RoleImage) (ds : List Handling) (s v : Plant) (p : law.Plant) (place : ℕ) (c : Copy) (e : PlantEvent) → Like t roles s p ds → slice_get s.flight place ≡ Some c → v ≡ without s place → IsTold roles e None → IsDueTold s e None →
     ((g : ledger.Copy) (rest : List ledger.Copy) (turn : PlantTurn) (after : law.Plant) → law.IsTakenOut p.flight place g rest → law.Refuses p g rest turn after → Moves (net_of t (length roles)) ds p (event_of e) turn after) → StepTold t roles ds s p e v
-gone_told t roles ds s v p place c e like at plant told moves =
+gone_told t roles ds s v p place c e like at plant told due moves =
     let b = zip_at (FliesAs t roles) s.flight place c p.flight like.flight at in
-    still_told t roles ds s v p e (record idle_turn { lost = b.here ∷ [] }) (remove s.flight place) s.cut (b.before ++ b.behind) p.cuts like plant b.rest like.cuts refl told
+    still_told t roles ds s v p e (record idle_turn { lost = b.here ∷ [] }) (remove s.flight place) s.cut (b.before ++ b.behind) p.cuts like plant b.rest like.cuts refl told due
     (moves b.here (b.before ++ b.behind) _ _ (taken_out t roles s p ds place c like b) (record { says = refl; after = refl }))
 
 -- a copy is taken by its receiver
@@ -316,6 +332,7 @@ module _ (t : Topology) (roles : List RoleImage) (own : Addresses roles) (ds : L
     like = subst (λ x. Like t roles x (record { flight = here.before ++ here.behind; cuts = p.cuts; clock = p.clock }) ds) (sym comes.plant)
         (idle_like t roles ds left (record { flight = here.before ++ here.behind; cuts = p.cuts; clock = p.clock }) k s.clock comes.before comes.after left_like comes.there back.same back.idle (omega arith) p.clock like.clock);
     told = tt;
+    due = tt;
     good = tt;
     tables = subst (λ (x : Plant). (j : ℕ) → TableStep (mac_at roles) lanes_of j p.clock None (table_at s.nodes j) (table_at x.nodes j)) (sym comes.plant)
         (by_table s.nodes k comes.before (emptied comes.after) (λ j a b. TableStep (mac_at roles) lanes_of j p.clock None a b) comes.there (inl (tt, back.sources)) (λ j other. inl (tt, refl)));
@@ -435,6 +452,7 @@ module _ (t : Topology) (roles : List RoleImage) (own : Addresses roles) (ds : L
       like = subst (λ x. Like t roles x (record { flight = (here.before ++ here.behind) ++ law.those_passing p.cuts (spread (net_of t (length roles)) d); cuts = p.cuts; clock = p.clock }) (d ∷ ds)) (sym comes.plant)
           (like_acted t roles left (record { flight = here.before ++ here.behind; cuts = p.cuts; clock = p.clock }) k s.clock comes.before comes.after ds (d ∷ ds) (spread (net_of t (length roles)) d) left_like did p.clock like.clock);
       told = tt;
+      due = tt;
       good = (record { member = was.within; routed = routed; sound = sound; out = λ sends. absurd (true≢false (sym sends ∙ outside)) }, tt);
       tables = subst (λ (x : Plant). (j : ℕ) → TableStep (mac_at roles) lanes_of j p.clock (Some d) (table_at s.nodes j) (table_at x.nodes j)) (sym comes.plant)
           (by_table s.nodes k comes.before (emptied comes.after) (λ j a b. TableStep (mac_at roles) lanes_of j p.clock (Some d) a b) comes.there (inr (inr notes)) (λ j other. inl ((away j other, tt), refl)));
@@ -463,21 +481,21 @@ step_told t roles own ds s v p (Send i frame) like none step = send_told t roles
 step_told t roles own ds s v p (Tick i at) like none step = tick_told t roles own ds s v p i at like none step
 step_told t roles own ds s v p (Carry place) like none step = elim step.2 [
   | inl comes ↦ comes_told t roles own ds s v p place step.0 like step.1 comes
-  | inr lost ↦ gone_told t roles ds s v p place step.0 (Carry place) like step.1 lost.1 tt (λ g rest turn after out refuses. (g, rest, out, inl refuses))
+  | inr lost ↦ gone_told t roles ds s v p place step.0 (Carry place) like step.1 lost.1 tt tt (λ g rest turn after out refuses. (g, rest, out, inl refuses))
 ]
 step_told t roles own ds s v p (Drop place) like none step =
     let one = got_within s.flight place (is_there place (length s.flight) NoSuchCopy none) in
-    gone_told t roles ds s v p place one.0 (Drop place) like one.1 step tt (λ g rest turn after out refuses. (g, rest, out, refuses))
+    gone_told t roles ds s v p place one.0 (Drop place) like one.1 step tt tt (λ g rest turn after out refuses. (g, rest, out, refuses))
 step_told t roles own ds s v p (Repeat place) like none step =
     let c = step.1.0 in
     let b = zip_at (FliesAs t roles) s.flight place c p.flight like.flight step.1.1 in
     let zip = zip_append (FliesAs t roles) s.flight p.flight (c ∷ []) (b.here ∷ []) like.flight (b.related, tt) in
     still_told t roles ds s v p (Repeat place) (record idle_turn { doubled = b.here ∷ [] }) step.0 s.cut (p.flight ++ b.here ∷ []) p.cuts like step.2
-    (subst (λ x. Zip (FliesAs t roles) x (p.flight ++ b.here ∷ [])) (sym step.1.2) zip) like.cuts refl tt (b.here, b.before ++ b.behind, taken_out t roles s p ds place c like b, refl, refl)
+    (subst (λ x. Zip (FliesAs t roles) x (p.flight ++ b.here ∷ [])) (sym step.1.2) zip) like.cuts refl tt tt (b.here, b.before ++ b.behind, taken_out t roles s p ds place c like b, refl, refl)
 step_told t roles own ds s v p (Cut link) like none step =
     still_told t roles ds s v p (Cut link) (record idle_turn { lost = filter (law.is_on link) p.flight }) (filter (λ c. not (is_on link c)) s.flight) (slice_set s.cut link true) (filter (λ g. not (law.is_on link g)) p.flight) (link ∷ p.cuts) like step
     (zip_filter (FliesAs t roles) (λ c. not (is_on link c)) (λ g. not (law.is_on link g)) (λ c g f. ap (λ (h : Hop). not (list_any (λ l. l == link) h.links)) f.hop) s.flight p.flight like.flight)
-    (cut_same s.cut p.cuts link like.cuts (is_there link (length s.cut) NoSuchNode none)) refl tt (refl, refl)
+    (cut_same s.cut p.cuts link like.cuts (is_there link (length s.cut) NoSuchNode none)) refl tt tt (refl, refl)
 step_told t roles own ds s v p (Mend link) like none step =
     still_told t roles ds s v p (Mend link) idle_turn s.flight (slice_set s.cut link false) p.flight (filter (λ l. not (l == link)) p.cuts) like step like.flight
-    (mend_same s.cut p.cuts link like.cuts (is_there link (length s.cut) NoSuchNode none)) refl tt (refl, refl)
+    (mend_same s.cut p.cuts link like.cuts (is_there link (length s.cut) NoSuchNode none)) refl tt tt (refl, refl)

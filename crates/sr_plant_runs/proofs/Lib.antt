@@ -9,5 +9,6 @@ mod FrameLemmas
 mod TableLemmas
 mod LikeLemmas
 mod HistoryLemmas
+mod MarkLemmas
 mod HistoryRunLemmas
 mod RunLawLemmas

@@ -1,12 +1,12 @@
 -- The laws of rings and of two LANs, over their runs.
 use Rattle.std.proofs.Common.{length}
-use Rattle.sr_plant_laws.specs.LanLaws.{LanRun, LansAreSteady, LansHandUpOnce, LansHandUpTheIdeal, LansLoseNothing}
+use Rattle.sr_plant_laws.specs.LanLaws.{LanRun, HasWholeCopy, LansAreSteady, LansHandUpOnce, LansHandUpTheIdeal, LansLoseNothing}
 use Rattle.sr_plant_laws.specs.PlantEvents.{done_in}
-use Rattle.sr_plant_laws.specs.RingLaws.{RingRun, RingIsSteady, RingHandsUpOnce, RingHandsUpTheIdeal, RingLosesNothing}
+use Rattle.sr_plant_laws.specs.RingLaws.{RingRun, HasWholeArc, RingIsSteady, RingHandsUpOnce, RingHandsUpTheIdeal, RingLosesNothing}
 use Rattle.sr_plant.specs.declared.topology.Topology.TheVariants.{Ring, TwinLan}
 use Rattle.sr_plant_runs.specs.Histories.{mac_at}
 use Rattle.sr_plant_runs.specs.RunLaws.{RingsAreTold, TwinLansAreTold}
-use Rattle.sr_plant_runs.proofs.HistoryRunLemmas.{run_told, made, have_tables, members_of, routed_of, sound_of, history_of}
+use Rattle.sr_plant_runs.proofs.HistoryRunLemmas.{run_told, made, have_tables, members_of, routed_of, sound_of, history_of, ideal_up, whole_up}
 use Rattle.sr_plant_runs.proofs.TableLemmas.{lanes_of}
 
 pub rings_told : RingHandsUpTheIdeal → RingIsSteady → RingHandsUpOnce → RingLosesNothing → RingsAreTold
@@ -26,12 +26,13 @@ rings_told ideal steady once whole roles turns s run own =
       plant = r.plant;
       run = happened;
       told = told;
-      ideal = ideal n r.history r.plant happened;
+      ideal = ideal_up roles turns s r.history r.plant told (ideal n r.history r.plant happened);
       within = λ limits. record {
-        steady = steady n (mac_at roles) r.history r.plant happened tables.addressed limits;
-        once = once n (mac_at roles) lanes_of r.history r.plant (record { happened = happened; tables = tables; limits = limits });
+        steady = steady n (mac_at roles) r.history r.plant happened tables.addressed (r.limits limits);
+        once = once n (mac_at roles) lanes_of r.history r.plant (record { happened = happened; tables = tables; limits = r.limits limits });
       };
-      whole = λ limits none. whole n (mac_at roles) lanes_of r.history r.plant (record { happened = happened; tables = tables; limits = limits }) (told.quiet none);
+      whole = λ limits none. (let all = whole n (mac_at roles) lanes_of r.history r.plant (record { happened = happened; tables = tables; limits = r.limits limits }) (told.quiet none) in
+          record { up = whole_up (HasWholeArc (length roles) r.history) roles turns s r.history r.plant told all.1; all = all.2; arcs = all.0 });
     }
 
 pub lans_told : LansHandUpTheIdeal → LansAreSteady → LansHandUpOnce → LansLoseNothing → TwinLansAreTold
@@ -51,10 +52,11 @@ lans_told ideal steady once whole roles turns s run own =
       plant = r.plant;
       run = happened;
       told = told;
-      ideal = ideal n r.history r.plant happened;
+      ideal = ideal_up roles turns s r.history r.plant told (ideal n r.history r.plant happened);
       within = λ limits. record {
-        steady = steady n (mac_at roles) r.history r.plant happened tables.addressed limits;
-        once = once n (mac_at roles) lanes_of r.history r.plant (record { happened = happened; tables = tables; limits = limits });
+        steady = steady n (mac_at roles) r.history r.plant happened tables.addressed (r.limits limits);
+        once = once n (mac_at roles) lanes_of r.history r.plant (record { happened = happened; tables = tables; limits = r.limits limits });
       };
-      whole = λ limits none. whole n (mac_at roles) lanes_of r.history r.plant (record { happened = happened; tables = tables; limits = limits }) (told.quiet none);
+      whole = λ limits none. (let all = whole n (mac_at roles) lanes_of r.history r.plant (record { happened = happened; tables = tables; limits = r.limits limits }) (told.quiet none) in
+          record { up = whole_up (HasWholeCopy (length roles) r.history) roles turns s r.history r.plant told all.1; all = all.2; copies = all.0 });
     }

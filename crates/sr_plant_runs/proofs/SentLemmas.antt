@@ -232,8 +232,8 @@ tick_going t roles turns s v i at six g acts =
 
     put : Each (Flies t roles (turn ∷ turns)) (put_out s.topology (length s.nodes) i acts.after.core.out) × (acts.after.core.out.h ≡ [])
     put = elim ticks.puts [
-      | inl puts ↦ put_flies t roles (turn ∷ turns) s i acts.before acts.after (life_frame acts.before) puts was.role was.there (life.1 ∙ was.mac) (inr life.0)
-      | inr idle ↦ none_flies t roles (turn ∷ turns) s i acts.before acts.after idle
+      | inl puts ↦ put_flies t roles (turn ∷ turns) s i acts.before acts.after (life_frame acts.before) puts.1 was.role was.there (life.1 ∙ was.mac) (inr life.0)
+      | inr idle ↦ none_flies t roles (turn ∷ turns) s i acts.before acts.after idle.1
     ]
 
 -- what goes up was wanted there
