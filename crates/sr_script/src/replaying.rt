@@ -14,6 +14,7 @@ use crate::lines::MAX_LINE;
 use crate::running::run_session;
 use crate::session::Session;
 use crate::setups::{RoleName, Setup};
+use crate::waiting::Waiting;
 use sr_forwarding::{Danh, Danp, Role};
 use sr_node::Node;
 use sr_redbox::{HsrBox, HsrRouting, PrpBox, SanBox};
@@ -102,7 +103,15 @@ fn replay<R: BufRead, W: Write>(
         octets: Vec::new(alloc),
     };
     let mut text = Vec::new(alloc);
-    run_session(&mut session, &mut line, &mut text, reader, writer)
+    let mut waiting = Waiting::new(alloc);
+    run_session(
+        &mut session,
+        &mut line,
+        &mut text,
+        &mut waiting,
+        reader,
+        writer,
+    )
 }
 
 /// Runs the script that the reader has left on a new node, and writes what the node answers.
