@@ -194,7 +194,10 @@ fn obey_lines<S: Session, R: BufRead, W: Write>(
     ensures ended { IfErr result (λ fault. IfSome (R.remaining reader.old) (λ input.
         EndsAt S.dialogue (S.state session.old) (lines_of input) fault (R.remaining reader.new) (W.contents writer.old) (W.contents writer.new))) }
 {
-    let mut number = 1;
+    let mut number = match obey_at_hand(session, 1, text, waiting, reader, writer) {
+        Ok(next) => next,
+        Err(fault) => return Err(fault),
+    };
     while number <= MAX_LINES {
         match obey_next(session, number, line, text, waiting, reader, writer) {
             Ok(true) => {}
