@@ -5,3 +5,4 @@ pub mod Numerals
 pub mod Spellings
 pub mod Going
 pub mod PrintedLines
+pub mod WaitingTexts

@@ -13,6 +13,7 @@ mod replaying;
 mod running;
 mod session;
 mod setups;
+mod waiting;
 mod words;
 
 pub use answering::{append_refusal, name_of};

@@ -14,6 +14,7 @@ use crate::lines::MAX_LINE;
 use crate::running::run_session;
 use crate::session::Session;
 use crate::setups::{RoleName, Setup};
+use crate::waiting::Waiting;
 use sr_forwarding::{Danh, Danp, Role};
 use sr_node::Node;
 use sr_redbox::{HsrBox, HsrRouting, PrpBox, SanBox};
@@ -102,19 +103,27 @@ fn replay<R: BufRead, W: Write>(
         octets: Vec::new(alloc),
     };
     let mut text = Vec::new(alloc);
-    run_session(&mut session, &mut line, &mut text, reader, writer)
+    let mut waiting = Waiting::new(alloc);
+    run_session(
+        &mut session,
+        &mut line,
+        &mut text,
+        &mut waiting,
+        reader,
+        writer,
+    )
 }
 
 /// Runs the script that the reader has left on a new node, and writes what the node answers.
 ///
-/// Lines are counted from 1. Each line is obeyed and what is to be printed for it is written, and flushed, before the
-/// next line is read: a line `refused N Name` where the event is refused, then a line for each frame that waits at
-/// an outlet, outlet by outlet in the order H, A, B, C, first in first out.
+/// Lines are counted from 1. For each line is printed a line `refused N Name` where the event is refused, then a line for
+/// each frame that waits at an outlet, outlet by outlet in the order H, A, B, C, first in first out. What is printed for the
+/// lines that the reader has at hand is written together, and flushed, before more is read, and before a fault.
 ///
 /// # Errors
 /// `Line` and `Long` come at the first line that is none of a script, whatever memory there is. `Read`, `Write` and
 /// `Memory` come where the reader, the writer or the allocator fails, and at no such line. What stands before the line of
-/// the fault is answered, and unless the writer failed nothing else is written.
+/// the fault is answered, and nothing else is written; where the writer failed, a part of the text of that line may be.
 pub fn run<R: BufRead, W: Write>(
     alloc: Global,
     setup: &Setup,
