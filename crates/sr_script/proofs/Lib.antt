@@ -5,3 +5,5 @@ pub mod Numerals
 pub mod Spellings
 pub mod Going
 pub mod PrintedLines
+pub mod StatusLines
+pub mod BegunRuns

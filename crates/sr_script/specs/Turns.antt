@@ -1,9 +1,9 @@
 -- One turn of a run: a line is read, answered and written.
-use Rattle.std.specs.Prelude.{◌≡◌, ℕ, ◌+◌, ◌≤◌, Bool, true, false, List, ◌∷◌, length, Option, None, Some, IfSome}
+use Rattle.std.specs.Prelude.{◌≡◌, ℕ, ◌+◌, ◌≤◌, Bool, true, false, List, length, Option, IfSome}
 use Rattle.std.specs.Io.KnownBytes.{Appends, Keeps}
 use Rattle.sr_script.specs.declared.fault.Word.{Word}
 use Rattle.sr_script.specs.declared.fault.Word.TheVariants as word
-use Rattle.sr_script.specs.Lines.{lines_of, TakesLine, TakesPart, BeginsLong}
+use Rattle.sr_script.specs.Lines.{TakesLine, TakesPart, BeginsLong}
 use Rattle.sr_script.specs.Runs.{Dialogue, Replies, KeepsUnless}
 
 -- a line was read and answered, or none was left

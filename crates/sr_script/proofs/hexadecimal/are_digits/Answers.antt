@@ -1,7 +1,7 @@
 use Rattle.std.proofs.Common.{take_all, subst, refl, arith}
 use Rattle.std.specs.List.{AllPass}
 use Rattle.hex.specs.Hex.{is_hex_digit}
-use Rattle.sr_script.proofs.Digits.{digits_more, no_digit_at}
+use Rattle.sr_script.proofs.Digits.{digits_more}
 use Rattle.sr_script.proofs.hexadecimal.are_digits.Goals as goal
 
 pub loop-digit-preserved : goal.loop-digit-preserved

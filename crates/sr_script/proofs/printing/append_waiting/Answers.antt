@@ -3,7 +3,7 @@ use Rattle.sr_forwarding.specs.Parcels.{ParcelImage}
 use Rattle.sr_node.specs.Images.{State, node_state}
 use Rattle.sr_node.specs.Outboxes.{box_at}
 use Rattle.sr_script.specs.Replies.{emptied}
-use Rattle.sr_script.proofs.PrintedLines.{Printed, printed_more, printed_all, left_at, box_left, emptied_left, left_is_emptied}
+use Rattle.sr_script.proofs.PrintedLines.{Printed, printed_more, printed_all, box_left, emptied_left, left_is_emptied}
 use Rattle.sr_script.proofs.printing.append_waiting.Goals as goal
 
 pub loop-parcel-preserved : goal.loop-parcel-preserved

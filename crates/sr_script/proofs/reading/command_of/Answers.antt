@@ -1,4 +1,4 @@
-use Rattle.std.proofs.Common.{rules, ◌≡◌, ◌++◌, ◌∷◌, ℕ, List, ap, ◌∙◌}
+use Rattle.std.proofs.Common.{◌++◌, ℕ, List, ap, ◌∙◌}
 use Rattle.std.specs.Prelude.{codes}
 use Rattle.sr_script.specs.declared.reading.Command.TheVariants.{Arrive, Send}
 use Rattle.sr_script.proofs.reading.command_of.Goals as goal
