@@ -88,5 +88,5 @@ pub fn run_plant<R: BufRead, W: Write>(
         octets: Vec::new(alloc),
     };
     let mut text = Vec::new(alloc);
-    run_session(&mut session, &mut line, &mut text, reader, writer)
+    run_session(alloc, &mut session, &mut line, &mut text, reader, writer)
 }

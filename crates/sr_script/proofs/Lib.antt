@@ -6,3 +6,5 @@ pub mod Spellings
 pub mod Going
 pub mod PrintedLines
 pub mod WaitingTexts
+pub mod StatusLines
+pub mod BegunRuns

@@ -11,6 +11,7 @@ use crate::lines::{MAX_LINE, is_at_end, next_line};
 use crate::session::Session;
 use crate::waiting::{Waiting, write_out};
 use crate::words::place_of;
+use std::alloc::Global;
 use std::io::{BufRead, Write};
 
 /// The most lines of a script.
@@ -245,19 +246,16 @@ fn end<S: Session, W: Write>(
 
 /// Has the session obey the script that the reader has left, and writes what is to be printed for each line, and then at the
 /// end. Lines are counted from 1. What is printed for lines that the reader has at hand is written together, and flushed,
-/// before more is read, and before a fault. The lists are used again for each line; `line` has room for the longest, and
-/// nothing waits yet.
+/// before more is read, and before a fault. The two lists are used again for each line; `line` has room for the longest.
 pub fn run_session<S: Session, R: BufRead, W: Write>(
+    alloc: Global,
     session: &mut S,
     line: &mut Vec<u8>,
     text: &mut Vec<u8>,
-    waiting: &mut Waiting,
     reader: &mut R,
     writer: &mut W,
 ) -> Result<(), Fault>
     requires room { 8001 ≤ vec_capacity line.old }
-    requires text { waiting.old.text.items ≡ [] }
-    requires marks { waiting.old.marks.items ≡ [] }
 
     // All lines are lines of a script, and what is written is the answers to them, and then the end.
     ensures done { OnOk result (IfSome (R.remaining reader.old) (λ input.
@@ -267,7 +265,8 @@ pub fn run_session<S: Session, R: BufRead, W: Write>(
     ensures ended { IfErr result (λ fault. IfSome (R.remaining reader.old) (λ input.
         EndsAt S.dialogue (S.state session.old) (lines_of input) fault (R.remaining reader.new) (W.contents writer.old) (W.contents writer.new))) }
 {
-    let number = obey_lines(session, line, text, waiting, reader, writer)?;
+    let mut waiting = Waiting::new(alloc);
+    let number = obey_lines(session, line, text, &mut waiting, reader, writer)?;
     match end(session, text, writer) {
         Ok(()) => Ok(()),
         Err(word) => Err(Fault { line: number, word }),
