@@ -24,8 +24,10 @@ use Rattle.sr_plant.proofs.BuildingLemmas.{opening_in_order}
 use Rattle.sr_plant_runs.specs.PlantRuns.{Turn, PlantRun}
 use Rattle.sr_plant_runs.specs.Histories.{mac_at, HaveOwnAddresses, ParcelShows, Zip, oldest_first, event_of, AreTold, IsHistoryOf}
 use Rattle.sr_plant_runs.specs.RunLaws.{HandsUpIdeal, HandsUpWhole}
+use Rattle.sr_plant_runs.proofs.CopyLemmas.{got_replicate}
 use Rattle.sr_plant_runs.proofs.FrameLemmas.{addressed, no_groups, law_routes}
-use Rattle.sr_plant_runs.proofs.HistoryLemmas.{Addresses, IsGood, step_told}
+use Rattle.sr_plant_runs.proofs.HistoryLemmas.{Addresses, IsGood}
+use Rattle.sr_plant_runs.proofs.CarriedLemmas.{step_told}
 use Rattle.sr_plant_runs.proofs.LikeLemmas.{IsNode, FliesAs, Like}
 use Rattle.sr_plant_runs.proofs.TableLemmas.{table_at, lanes_of, are_lanes}
 use Rattle.sr_plant_runs.specs.Traffic.{numberings, marks, IsWithinLimits}
@@ -70,11 +72,6 @@ begun_node t (r ∷ roles) zero m kinds at =
 begun_node t (r ∷ roles) (suc k) m kinds at =
     let n = begun_node t roles k m kinds.1 at in
     record { within = (let w = n.within in omega (arith, w)); kind = n.kind; mac = n.mac; empty = n.empty; time = n.time; next = n.next }
-
-got_replicate : {X : Type 0} (n j : ℕ) (x y : X) → slice_get (replicate n x) j ≡ Some y → y ≡ x
-got_replicate zero j x y at = absurd cc
-got_replicate (suc n) zero x y at = cc
-got_replicate (suc n) (suc j) x y at = got_replicate n j x y at
 
 or_replicate : (n link : ℕ) → slice_index_or (replicate n false) link false ≡ false
 or_replicate zero link = refl

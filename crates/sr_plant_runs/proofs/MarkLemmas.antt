@@ -1,5 +1,5 @@
 -- The frame of each copy in flight, counted in the run as in its history.
-use Rattle.std.proofs.Common.{◌≡◌, ◌⊎◌, inl, inr, ℕ, zero, suc, ◌+◌, ◌-◌, ◌<◌, ◌≤◌, ◌==◌, ◌&&◌, not, nat_lt, Bool, true, false, List, [], ◌∷◌, ◌++◌, map, length, replicate, Option, None, Some, slice_get, refl, sym, ap, ◌∙◌, subst, arith, if◌then◌else◌}
+use Rattle.std.proofs.Common.{◌≡◌, inl, inr, ℕ, zero, suc, ◌+◌, ◌-◌, ◌<◌, ◌≤◌, ◌==◌, ◌&&◌, not, nat_lt, Bool, true, false, List, [], ◌∷◌, ◌++◌, map, length, replicate, Option, None, Some, slice_get, refl, sym, ap, ◌∙◌, subst, arith}
 use Rattle.std.specs.List.{filter, remove, list_any}
 use Rattle.std.specs.Option.{option_to_list}
 use Rattle.std.proofs.lemmas.Bool.{cases_Bool}
@@ -171,12 +171,11 @@ takes_marked nums ms s v p net ds place g rest d turn after zip c clock out take
       (zip_append Marks (remove ms place) rest (replicate (suc (length v.flight) - length s.flight) beside.here) (law.those_passing p.cuts (spread net d)) beside.others
       (put_marked net d p.cuts beside.here (suc (length v.flight) - length s.flight) (beside.related.0 ∙ ap (λ (f : Frame). f.src) (sym takes.frame)) (beside.related.1 ∙ ap (λ (f : Frame). f.number) (sym takes.frame)) (beside.related.2 ∙ ap (λ (f : Frame). f.time) (sym takes.frame)) new)));
   counted = counted_same nums ds d c takes.inlet;
-  limits = λ lim timely few. (let now = timely beside.here beside.there in
-      (
-        lim,
-        subst (λ b. premises.IsTimely b ds d) (sym takes.inlet) (subst (λ f. premises.IsEarly ds f) (sym takes.frame) (early_frame nums ds beside.here g c beside.related now.0), young now.1),
-        λ k. subst (λ x. recent_count k x (d ∷ ds) ≤ most_sent) (sym moment) (subst (λ n. n ≤ most_sent) ((counted_same nums ds d c takes.inlet).recent k s.clock) (few k)),
-      ));
+  limits = λ lim timely few. (let now = timely beside.here beside.there in (
+    lim,
+    subst (λ b. premises.IsTimely b ds d) (sym takes.inlet) (subst (λ f. premises.IsEarly ds f) (sym takes.frame) (early_frame nums ds beside.here g c beside.related now.0), young now.1),
+    λ k. subst (λ x. recent_count k x (d ∷ ds) ≤ most_sent) (sym moment) (subst (λ n. n ≤ most_sent) ((counted_same nums ds d c takes.inlet).recent k s.clock) (few k)),
+  ));
 }
   where
     beside : StandsBeside Marks ms place g rest

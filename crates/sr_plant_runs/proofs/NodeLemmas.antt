@@ -110,12 +110,15 @@ node_ticks t s now (answer.Ticked sources nodes proxies life) u kind empty step 
         let c : u.core ≡ aged (life_checked s now) now = core ∙ rw e refl in
         record {
           same = record { kind = ap (λ x. x.role.kind) step.4; mac = ap (λ x. x.role.mac) step.4; time = ap (λ x. x.time) c };
-          puts = inl (e, record {
-            outlets = life_outlets s now;
-            sides = host_routes t s.role (life_header s now) now kind;
-            out = ap (λ x. x.out) c ∙ ap (λ o. put_at o (life_outlets s now) (next_life_check s)) empty;
-            next = ap (λ x. x.next) c;
-          });
+          puts = inl (
+            e,
+            record {
+              outlets = life_outlets s now;
+              sides = host_routes t s.role (life_header s now) now kind;
+              out = ap (λ x. x.out) c ∙ ap (λ o. put_at o (life_outlets s now) (next_life_check s)) empty;
+              next = ap (λ x. x.next) c;
+            },
+          );
           sources = ap (λ x. x.sources) c;
         }
     by false e =

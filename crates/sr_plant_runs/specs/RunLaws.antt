@@ -53,7 +53,9 @@ pub record RingIsTold (roles : List RoleImage) (turns : List Turn) (s : Plant) :
 
 -- so has every run of a ring whose nodes have addresses of their own
 abbrev pub RingsAreTold : Type 0
-RingsAreTold = (roles : List RoleImage) (turns : List Turn) (s : Plant) → PlantRun Ring roles turns s → HaveOwnAddresses roles → RingIsTold roles turns s
+RingsAreTold =
+    (roles : List RoleImage) (turns : List Turn) (s : Plant) → PlantRun Ring roles turns s → HaveOwnAddresses roles →
+    RingIsTold roles turns s
 
 -- In two LANs a frame is whole for a node where not all copies for it were lost in both LANs together.
 pub record LosesNothingInLans (roles : List RoleImage) (s : Plant) (es : History) : Type 0 where
@@ -61,6 +63,7 @@ pub record LosesNothingInLans (roles : List RoleImage) (s : Plant) (es : History
   pub all : IsIdealAcross (length roles) es
   pub copies : CopiesBring (length roles) es
 
+-- and so the run of two LANs
 pub record LansAreTold (roles : List RoleImage) (turns : List Turn) (s : Plant) : Type 0 where
   pub history : History
   pub plant : law.Plant
@@ -72,4 +75,5 @@ pub record LansAreTold (roles : List RoleImage) (turns : List Turn) (s : Plant) 
 
 abbrev pub TwinLansAreTold : Type 0
 TwinLansAreTold =
-    (roles : List RoleImage) (turns : List Turn) (s : Plant) → PlantRun TwinLan roles turns s → HaveOwnAddresses roles → LansAreTold roles turns s
+    (roles : List RoleImage) (turns : List Turn) (s : Plant) → PlantRun TwinLan roles turns s → HaveOwnAddresses roles →
+    LansAreTold roles turns s
