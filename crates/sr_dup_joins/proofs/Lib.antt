@@ -1,3 +1,4 @@
 pub mod ListLemmas
 pub mod GrowthLemmas
 pub mod AgreeLemmas
+pub mod ExampleLemmas

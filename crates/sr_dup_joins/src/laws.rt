@@ -1,5 +1,6 @@
 //! Laws over trees of arrivals, ageings and merges.
 
+ghost use Rattle.sr_dup_joins.specs.Examples.{TakenOverIsSteady};
 ghost use Rattle.sr_dup_joins.specs.GrowthLaws.{TablesStand, AnswersByTheUnion, TablesAgree};
 
 /// Along any steady tree of arrivals, ageings and merges, the record of a live source stands for the cut of the union of all
@@ -21,4 +22,9 @@ pub fn answers_by_the_union()
 /// nothing is forgotten.
 pub fn tables_agree()
     ensures { TablesAgree }
+{}
+
+/// No premise is empty: a table that noted 1 and 2 and takes over from one that noted 3 and 2 grew steadily, and forgot nothing.
+pub fn a_standby_is_steady()
+    ensures { TakenOverIsSteady }
 {}

@@ -3,4 +3,4 @@
 
 mod laws;
 
-pub use laws::{answers_by_the_union, tables_agree, tables_stand};
+pub use laws::{a_standby_is_steady, answers_by_the_union, tables_agree, tables_stand};

@@ -12,7 +12,7 @@ use Rattle.sr_frame.specs.Addresses.{mac_eq}
 use Rattle.sr_frame.specs.AddressLemmas.{mac_same, mac_symm}
 use Rattle.sr_slots.specs.EntryLemmas.{lookup-set, lookup-push, lookup-passing, distinct-passing}
 use Rattle.sr_slots.specs.Calls.{passing}
-use Rattle.std.proofs.lemmas.Bool.{ltb-false}
+use Rattle.std.proofs.lemmas.Bool.{ltb-false, le-ltb}
 use Rattle.sr_dup_table.specs.declared.fault.DupFault.TheVariants.{TableFull, Apart}
 use Rattle.sr_dup_table.specs.Sources.{Heard, Sources, is_live, live_at}
 use Rattle.sr_dup_table.specs.Joins.{joined, joined_heard, lacking_in, IsJoin, join_count, is_apart, first_apart, join_fault, new_source, apart_source, or_else, put_with, with_source, with_sources}
@@ -98,39 +98,62 @@ apart-live now m (e ∷ t) h = by (is_live now e.1) (apart-live now m t h.1)
     by true ih = (h.0, ih)
     by false ih = ih
 
--- one more source is joined
-length-put : (s : Sources) (e : Mac × Heard) (o : Option Heard) → length s ≤ length (put_with o s e)
-length-put s e None = omega (arith, length-append s (e ∷ []))
-length-put s e (Some h) = omega (arith, length-set_value (mac_eq e.0) s (joined_heard h e.1))
+pub not-true : (b : Bool) → not b ≡ true → b ≡ false
+not-true true h = sym h
+not-true false h = refl
 
-length-with : (s t : Sources) → length s ≤ length (with_sources s t)
-length-with s [] = omega arith
-length-with s (e ∷ t) = omega (arith, length-put s e (lookup (mac_eq e.0) s), length-with (with_source s e) t)
+put-more : (s : Sources) (e : Mac × Heard) (o : Option Heard) → length (put_with o s e) ≡ length s + length (new_source o e)
+put-more s e None = length-append s (e ∷ [])
+put-more s e (Some h) = omega (arith, length-set_value (mac_eq e.0) s (joined_heard h e.1))
 
-pub record Takes (now : ℕ) (s : Sources) (e : Mac × Heard) (r all : Sources) : Type 0 where
+pub length-known : (s : Sources) (e : Mac × Heard) → is_some (lookup (mac_eq e.0) s) ≡ true → length (with_source s e) ≡ length s
+length-known s e there = omega (arith, put-more s e (lookup (mac_eq e.0) s), ap (λ b. length (cond b [] (e ∷ []))) there)
+
+-- one live source that is close is joined, and what is left makes the same of it
+pub record Takes (now : ℕ) (s : Sources) (e : Mac × Heard) (r es : Sources) : Type 0 where
+  pub rest : with_sources (with_source s e) (live_at now r) ≡ with_sources s (live_at now es)
+  pub close : first_apart (with_source s e) (live_at now r) ≡ first_apart s (live_at now es)
+  pub count : length (with_source s e) + length (lacking_in (with_source s e) (live_at now r)) ≡ join_count s (live_at now es)
+
+pub takes : (now : ℕ) (s : Sources) (e : Mac × Heard) (r es : Sources) → es ≡ e ∷ r → is_live now e.1 ≡ true → IsDistinct mac_eq (keys_of es)
+    → is_apart (lookup (mac_eq e.0) s) e.1 ≡ false → Takes now s e r es
+unfolding IsDistinct
+takes now s e r es parts live unique near =
+    let here : live_at now es ≡ e ∷ live_at now r = live-first now e r es parts live in
+    let apart : AllByRecursion (λ y. mac_eq e.0 y ≡ false) (keys_of (live_at now r)) =
+    apart-live now e.0 r (subst (λ x. IsDistinct mac_eq (keys_of x)) parts unique).0 in
+    let others : lacking_in (with_source s e) (live_at now r) ≡ lacking_in s (live_at now r) =
+    lacking-same e.0 s (with_source s e) (live_at now r) apart (λ q other. lookup-other s e q other) in
+    record {
+      rest = sym (ap (with_sources s) here);
+      close =
+          apart-same e.0 s (with_source s e) (live_at now r) apart (λ q other. lookup-other s e q other)
+          ∙ sym (ap (λ b. option_map (λ f. f.0) (cond b (Some e) (find (λ f. is_apart (lookup (mac_eq f.0) s) f.1) (live_at now r)))) near)
+          ∙ sym (ap (first_apart s) here);
+      count = omega (arith, ap length others, put-more s e (lookup (mac_eq e.0) s), count-first s (live_at now r) e, ap (λ l. length (lacking_in s l)) here);
+    }
+
+-- of what has a join, each live source is close and finds room
+pub record Fits (s : Sources) (e : Mac × Heard) : Type 0 where
   pub room : length (with_source s e) ≤ 1024
   pub close : is_apart (lookup (mac_eq e.0) s) e.1 ≡ false
-  pub later : first_apart (with_source s e) (live_at now r) ≡ None
-  pub rest : with_sources (with_source s e) (live_at now r) ≡ all
 
-pub takes : (now : ℕ) (s : Sources) (e : Mac × Heard) (r es all : Sources) → es ≡ e ∷ r → is_live now e.1 ≡ true → IsDistinct mac_eq (keys_of es)
-    → length all ≤ 1024 → first_apart s (live_at now es) ≡ None → with_sources s (live_at now es) ≡ all → Takes now s e r all
-unfolding IsDistinct
-takes now s e r es all parts live unique few none joins =
+pub fits : (now : ℕ) (s : Sources) (e : Mac × Heard) (r es : Sources) → es ≡ e ∷ r → is_live now e.1 ≡ true → first_apart s (live_at now es) ≡ None
+    → join_count s (live_at now es) ≤ 1024 → Fits s e
+fits now s e r es parts live none few =
     let here : live_at now es ≡ e ∷ live_at now r = live-first now e r es parts live in
-    let left : with_sources (with_source s e) (live_at now r) ≡ all = sym (ap (with_sources s) here) ∙ joins in
-    let apart : AllByRecursion (λ y. mac_eq e.0 y ≡ false) (keys_of r) = (subst (λ x. IsDistinct mac_eq (keys_of x)) parts unique).0 in
-    let both = first_close (is_apart (lookup (mac_eq e.0) s) e.1) (sym (ap (first_apart s) here) ∙ none) in
     record {
-      room = omega (arith, length-with (with_source s e) (live_at now r), ap length left);
-      close = both.0;
-      later = apart-same e.0 s (with_source s e) (live_at now r) (apart-live now e.0 r apart) (λ q other. lookup-other s e q other) ∙ both.1;
-      rest = left;
+      room = omega (arith, put-more s e (lookup (mac_eq e.0) s), count-first s (live_at now r) e, ap (λ l. length (lacking_in s l)) here);
+      close = first_close (is_apart (lookup (mac_eq e.0) s) e.1) (sym (ap (first_apart s) here) ∙ none);
     }
   where
-    first_close : (b : Bool) → option_map (λ e. e.0) (cond b (Some e) (find (λ e. is_apart (lookup (mac_eq e.0) s) e.1) (live_at now r))) ≡ None → (b ≡ false) × (first_apart s (live_at now r) ≡ None)
+    first_close : (b : Bool) → option_map (λ f. f.0) (cond b (Some e) (find (λ f. is_apart (lookup (mac_eq f.0) s) f.1) (live_at now r))) ≡ None → b ≡ false
     first_close true h = cc
-    first_close false h = (refl, h)
+    first_close false h = refl
+
+-- nothing is in the way where there is room and no records are apart
+pub joinable : (s t : Sources) → join_count s t ≤ 1024 → first_apart s t ≡ None → join_fault s t ≡ None
+joinable s t few none = rw (le-ltb 1024 (join_count s t) few, none) refl
 
 -- the keys that are left
 pub distinct-rest : (e : Mac × Heard) (r es : Sources) → es ≡ e ∷ r → IsDistinct mac_eq (keys_of es) → IsDistinct mac_eq (keys_of r)

@@ -1,5 +1,5 @@
 //! What the table has of one source: the numbers of this epoch, and when it was last heard.
-ghost use Rattle.std.specs.Prelude.{◌≡◌, ◌≤◌, Some, false};
+ghost use Rattle.std.specs.Prelude.{◌≡◌, ◌≤◌, Some, false, not};
 ghost use Rattle.sr_dup_window.specs.LaneSets.{is_empty};
 ghost use Rattle.sr_dup_table.specs.Sources.{is_live, heard_next, fresh_at};
 ghost use Rattle.sr_dup_table.specs.Joins.{is_apart, joined_heard};
@@ -46,6 +46,7 @@ pub fn hear(entry: &mut Aged<Record<16>>, seq: Seq, lanes: Lanes, now: u64) -> L
 
 /// Joins what another table has of the source, unless the two records are apart. Answers whether it did.
 pub fn join(entry: &mut Aged<Record<16>>, other: &Aged<Record<16>>) -> bool
+    ensures answer { result ≡ not (is_apart (Some (heard_of entry.old)) (heard_of other.now)) }
     ensures later { entry.old.time ≤ entry.new.time }
     ensures joined { is_apart (Some (heard_of entry.old)) (heard_of other.now) ≡ false
         → heard_of entry.new ≡ joined_heard (heard_of entry.old) (heard_of other.now) }

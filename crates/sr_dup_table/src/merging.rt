@@ -1,5 +1,5 @@
 //! The join of two tables, source by source.
-ghost use Rattle.std.specs.Prelude.{◌≡◌, ◌≤◌, ◌+◌, [], false, None, length, nat_eq, unwrap_or, IfErr, OnOk, OnErr};
+ghost use Rattle.std.specs.Prelude.{◌≡◌, ◌≤◌, ◌+◌, [], false, None, length, nat_eq, unwrap_or, ◌++◌, ◌∷◌, IfOk, IfErr, OnOk, OnErr};
 ghost use Rattle.std.specs.List.{IsDistinct};
 ghost use Rattle.std.specs.Map.{lookup, keys_of};
 ghost use Rattle.std.specs.Option.{option_map, option_copied};
@@ -17,7 +17,7 @@ use crate::fault::DupFault;
 use crate::table::{DupTable, MOST_SOURCES};
 use sr_aged_slots::Aged;
 use sr_dup_window::Record;
-use sr_frame::{Mac, NoMemory};
+use sr_frame::Mac;
 use std::alloc::Global;
 
 // How many sources are live.
@@ -103,24 +103,43 @@ fn join_fault(table: &DupTable, other: &DupTable, now: u64) -> Option<DupFault>
     }
 }
 
-// Joins a source to a table that has room for it.
-fn take(table: &mut DupTable, src: Mac, entry: &Aged<Record<16>>) -> Result<(), NoMemory>
-    requires room { length (with_source table.old.sources (src, heard_of entry.now)) ≤ most_sources }
-    requires close { is_apart (lookup (mac_eq src) table.old.sources) (heard_of entry.now) ≡ false }
-    ensures { OnOk result (table.new.sources ≡ with_source table.old.sources (src, heard_of entry.now)) }
+// Adds a source to a table that lacks it. TableFull: 1024 others stand there. NoMemory: memory ran out.
+fn add(table: &mut DupTable, src: Mac, entry: &Aged<Record<16>>) -> Result<(), DupFault>
+    requires { lookup (mac_eq src) table.old.sources ≡ None }
+    ensures added { OnOk result (table.new.sources ≡ table.old.sources ++ (src, heard_of entry.now) ∷ []) }
+    ensures room { OnOk result (length table.new.sources ≤ most_sources) }
+    ensures refused { IfErr result (λ e. length table.old.sources + 1 ≤ most_sources → e ≡ DupFault.NoMemory) }
 {
-    if table.join(src, entry) {
-        return Ok(());
+    if table.source_count() >= MOST_SOURCES {
+        return Err(DupFault::TableFull);
     }
-    table.put_last(src, entry.value, entry.time)
+    table.put_last(src, entry.value, entry.time)?;
+    Ok(())
 }
 
-// Joins the live sources of another table.
-fn take_all(table: &mut DupTable, other: &DupTable, now: u64) -> Result<(), NoMemory>
+// Joins a source to a table. TableFull: it is new, and 1024 others stand there. Apart: the two records are. NoMemory: memory ran out.
+fn take(table: &mut DupTable, src: Mac, entry: &Aged<Record<16>>) -> Result<(), DupFault>
+    requires { length table.old.sources ≤ most_sources }
+    ensures joined { OnOk result (table.new.sources ≡ with_source table.old.sources (src, heard_of entry.now)) }
+    ensures close { OnOk result (is_apart (lookup (mac_eq src) table.old.sources) (heard_of entry.now) ≡ false) }
+    ensures room { OnOk result (length table.new.sources ≤ most_sources) }
+    ensures refused { IfErr result (λ e. length (with_source table.old.sources (src, heard_of entry.now)) ≤ most_sources
+        → is_apart (lookup (mac_eq src) table.old.sources) (heard_of entry.now) ≡ false → e ≡ DupFault.NoMemory) }
+{
+    match table.join(src, entry) {
+        Some(true) => Ok(()),
+        Some(false) => Err(DupFault::Apart(src)),
+        None => add(table, src, entry),
+    }
+}
+
+// Joins the live sources of another table, each by one look-up, unless there is no join. What was joined before a fault stays.
+fn take_all(table: &mut DupTable, other: &DupTable, now: u64) -> Result<(), DupFault>
+    requires few { length table.old.sources ≤ most_sources }
     requires unique { IsDistinct mac_eq (keys_of other.now.sources) }
-    requires room { length (with_sources table.old.sources (live_at now other.now.sources)) ≤ most_sources }
-    requires close { first_apart table.old.sources (live_at now other.now.sources) ≡ None }
-    ensures { OnOk result (table.new.sources ≡ with_sources table.old.sources (live_at now other.now.sources)) }
+    ensures joined { OnOk result (table.new.sources ≡ with_sources table.old.sources (live_at now other.now.sources)) }
+    ensures joinable { OnOk result (join_fault table.old.sources (live_at now other.now.sources) ≡ None) }
+    ensures refused { IfErr result (λ e. join_fault table.old.sources (live_at now other.now.sources) ≡ None → e ≡ DupFault.NoMemory) }
 {
     for (src, entry) in other.entries() {
         if is_live(entry, now) {
@@ -128,6 +147,28 @@ fn take_all(table: &mut DupTable, other: &DupTable, now: u64) -> Result<(), NoMe
         }
     }
     Ok(())
+}
+
+// The join of two tables at a time, as a table of its own, which holds no place. An error: they have none, or memory ran out.
+fn join_of(
+    table: &DupTable,
+    alloc: Global,
+    other: &DupTable,
+    now: u64,
+) -> Result<DupTable, DupFault>
+    requires few { length table.now.sources ≤ most_sources }
+    requires unique { IsDistinct mac_eq (keys_of other.now.sources) }
+    ensures joins { IfOk result (λ both. IsJoin (live_at now table.now.sources) (live_at now other.now.sources) both.sources) }
+    ensures held { IfOk result (λ both. both.held ≡ []) }
+    ensures joinable { OnOk result (join_fault (live_at now table.now.sources) (live_at now other.now.sources) ≡ None) }
+    ensures refused { IfErr result (λ e. join_fault (live_at now table.now.sources) (live_at now other.now.sources) ≡ None
+        → e ≡ DupFault.NoMemory) }
+{
+    let mut both = table.try_clone(alloc)?;
+    let _forgotten = both.age(now);
+    take_all(&mut both, other, now)?;
+    both.release();
+    Ok(both)
 }
 
 impl DupTable {
@@ -146,14 +187,13 @@ impl DupTable {
         ensures err { OnErr result (self.new ≡ self.old) }
     {
         let _few = (self.source_count(), other.source_count());
-        if let Some(fault) = join_fault(self, other, now) {
-            return Err(fault);
+        match join_of(self, alloc, other, now) {
+            Ok(both) => {
+                *self = both;
+                Ok(())
+            }
+            // Which fault comes first is looked for only where there is one.
+            Err(fault) => Err(join_fault(self, other, now).unwrap_or(fault)),
         }
-        let mut both = self.try_clone(alloc)?;
-        let _forgotten = both.age(now);
-        take_all(&mut both, other, now)?;
-        both.release();
-        *self = both;
-        Ok(())
     }
 }

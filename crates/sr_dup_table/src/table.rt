@@ -321,26 +321,24 @@ impl DupTable {
         Ok(())
     }
 
-    // Joins a record to that of its source, and answers whether there is one.
-    pub(crate) fn join(&mut self, src: Mac, other: &Aged<Record<16>>) -> bool
-        requires { is_apart (lookup (mac_eq src) self.old.sources) (heard_of other.now) ≡ false }
-        ensures found { result ≡ is_some (lookup (mac_eq src) self.old.sources) }
-        ensures joined { OnTrue result (self.new.sources ≡ with_source self.old.sources (src, heard_of other.now)) }
-        ensures none { OnFalse result (self.new ≡ self.old) }
+    // Joins a record to that of its source, unless the two are apart. Answers whether it did; None: there is no such source.
+    pub(crate) fn join(&mut self, src: Mac, other: &Aged<Record<16>>) -> Option<bool>
+        ensures found { is_some result ≡ is_some (lookup (mac_eq src) self.old.sources) }
+        ensures close { IfSome result (λ joined. joined ≡ not (is_apart (lookup (mac_eq src) self.old.sources) (heard_of other.now))) }
+        ensures joined { IfSome result (λ joined. joined ≡ true → self.new.sources ≡ with_source self.old.sources (src, heard_of other.now)) }
+        ensures none { IfNone result (self.new ≡ self.old) }
     {
-        let Some(_joined) = self.slots.update_at(
+        let joined = self.slots.update_at(
             None,
             src,
             |entry: &mut Aged<Record<16>>| -> bool
+                ensures answer { result ≡ not (is_apart (Some (heard_of entry.old)) (heard_of other.entry.now)) }
                 ensures later { entry.old.time ≤ entry.new.time }
                 ensures joined { is_apart (Some (heard_of entry.old)) (heard_of other.entry.now) ≡ false
                     → heard_of entry.new ≡ joined_heard (heard_of entry.old) (heard_of other.entry.now) }
             { join(entry, other) },
-        )
-        else {
-            return false;
-        };
-        true
+        )?;
+        Some(joined)
     }
 
     // Whether a new source has no room.

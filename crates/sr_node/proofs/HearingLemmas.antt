@@ -1,17 +1,23 @@
 -- A hearing leaves what the next one needs: a held place, or the address has an entry now, or there is no room for it.
 use Rattle.std.proofs.Common.{◌≡◌, Bool, true, false, [], ◌∷◌, ◌++◌, length, Option, None, Some, is_some, refl, sym, ap, ◌∙◌, subst, inl, inr, if◌then◌else◌}
 use Rattle.std.specs.Prelude.{◌⊎◌}
+use Rattle.std.specs.declared.result.Result.{Result}
+use Rattle.std.specs.declared.result.Result.TheVariants.{Ok}
 use Rattle.std.specs.Map.{lookup}
 use Rattle.sr_frame.specs.declared.fields.Mac.{Mac}
 use Rattle.sr_frame.specs.Addresses.{mac_eq}
 use Rattle.sr_frame.specs.AddressLemmas.{mac_same, mac_laws}
+use Rattle.sr_sequence.specs.declared.Seq.{Seq}
+use Rattle.sr_frame.specs.declared.fault.NoMemory.{NoMemory}
 use Rattle.sr_frame.specs.declared.learnt.Learnt.{Learnt}
 use Rattle.sr_frame.specs.declared.learnt.Learnt.TheVariants.{Learned, Known, Full}
 use Rattle.sr_slots.specs.EntryLemmas.{lookup-set}
 use Rattle.sr_slots.specs.Places.{KeepsHeld}
 use Rattle.sr_node_table.specs.Limits.{most_nodes}
 use Rattle.sr_node_table.specs.Nodes.{Nodes, Table, Entry, Entries, Hearing, is_held, live_others, entry_after, entry_begun, with_room, kept_by, after_answer, after_hearing, answer_to}
-use Rattle.sr_node.specs.Hearing.{IsReadyFor}
+use Rattle.sr_node_table.specs.declared.table.Ready.{Ready}
+use Rattle.sr_node_table.specs.declared.table.Ready.TheVariants as ready
+use Rattle.sr_node.specs.Hearing.{HasRoomFor, KeepsRoom, IsReadyFor}
 
 there : (m : Mac) (w : Entry) (es : Entries) → is_some (lookup (mac_eq m) (es ++ (m, w) ∷ [])) ≡ true
 there m w [] = ap (λ b. is_some (if b then Some w else None)) (mac_laws.refl m)
@@ -29,26 +35,67 @@ kept_there t h (Some e) at =
     ∙ ap (λ b. is_some (if b then Some w else lookup (mac_eq h.mac) t.entries)) (mac_laws.refl h.mac)
 kept_there t h None at = there h.mac (entry_begun h.port h.told h.time) (with_room h.time t.entries)
 
--- an address whose place was held is ready for a hearing at that time
-pub ready_still : (old new : Nodes) (h : Hearing) (a : Learnt) (mac : Mac) → a ≡ answer_to old.table h → new.table ≡ after_hearing old.table h
+-- where the source has an entry, no other entry goes
+entry_still : (t : Table) (h : Hearing) (mac : Mac) (o : Option Entry) → lookup (mac_eq h.mac) t.entries ≡ o → is_some (lookup (mac_eq h.mac) t.entries) ≡ true
+    → is_some (lookup (mac_eq mac) t.entries) ≡ true → is_some (lookup (mac_eq mac) (kept_by o t h).entries) ≡ true
+entry_still t h mac None at src there = let bad : false ≡ true = sym (ap is_some at) ∙ src in cc
+entry_still t h mac (Some e) at src there =
+    let w : Entry = entry_after e h.port h.told h.time in
+    ap is_some (lookup-set h.mac mac w t.entries src) ∙ by (mac_eq h.mac mac) there
+  where
+    by : (b : Bool) → is_some (lookup (mac_eq mac) t.entries) ≡ true
+        → is_some (if b then Some (entry_after e h.port h.told h.time) else lookup (mac_eq mac) t.entries) ≡ true
+    by true there = refl
+    by false there = there
+
+-- an address that keeps its room is ready for a hearing at the time of one of the source
+pub ready_still : (old new : Nodes) (h : Hearing) (seq : Seq) (a : Learnt) (mac : Mac) → a ≡ answer_to old.table h → new.table ≡ after_hearing old.table h
     → (a ≡ Full → length (live_others h.mac h.time old.table.entries) ≡ most_nodes)
-    → KeepsHeld old.held new.held h.mac → is_held old mac ≡ true → IsReadyFor new mac h.time
-ready_still old new h a mac answer table full keeps held = by (mac_eq mac h.mac) refl
+    → KeepsHeld old.held new.held h.mac → KeepsRoom old h.mac (Some seq) mac → IsReadyFor new mac h.time
+ready_still old new h seq a mac answer table full keeps room = elim room [
+  | inl held ↦ by_place (mac_eq mac h.mac) refl held
+  | inr both ↦ inl (inr (by_entry a refl both.0 both.1))
+]
   where
     after : (x : Learnt) → a ≡ x → new.table ≡ after_answer x old.table h
     after x e = table ∙ ap (λ y. after_answer y old.table h) (sym answer ∙ e)
 
-    Ready : Mac → Type 0
-    Ready m = (is_some (lookup (mac_eq m) new.table.entries) ≡ true) ⊎ (length (live_others m h.time new.table.entries) ≡ most_nodes)
+    kept : new.table ≡ kept_by (lookup (mac_eq h.mac) old.table.entries) old.table h → IsReadyFor new h.mac h.time
+    kept e = inl (inr (ap (λ (t : Table). is_some (lookup (mac_eq h.mac) t.entries)) e ∙ kept_there old.table h (lookup (mac_eq h.mac) old.table.entries) refl))
 
-    kept : (x : Learnt) → new.table ≡ kept_by (lookup (mac_eq h.mac) old.table.entries) old.table h → Ready h.mac
-    kept x e = inl (ap (λ (t : Table). is_some (lookup (mac_eq h.mac) t.entries)) e ∙ kept_there old.table h (lookup (mac_eq h.mac) old.table.entries) refl)
-
-    here : (x : Learnt) → a ≡ x → Ready h.mac
+    here : (x : Learnt) → a ≡ x → IsReadyFor new h.mac h.time
     here Full e = inr (ap (λ (t : Table). length (live_others h.mac h.time t.entries)) (after Full e) ∙ full e)
-    here Learned e = kept Learned (after Learned e)
-    here Known e = kept Known (after Known e)
+    here Learned e = kept (after Learned e)
+    here Known e = kept (after Known e)
 
-    by : (b : Bool) → mac_eq mac h.mac ≡ b → IsReadyFor new mac h.time
-    by false e = inl (keeps mac e ∙ held)
-    by true e = inr (subst Ready (sym (mac_same mac h.mac e)) (here a refl))
+    by_place : (b : Bool) → mac_eq mac h.mac ≡ b → is_held old mac ≡ true → IsReadyFor new mac h.time
+    by_place false e held = inl (inl (keeps mac e ∙ held))
+    by_place true e held = subst (λ m. IsReadyFor new m h.time) (sym (mac_same mac h.mac e)) (here a refl)
+
+    still : new.table ≡ kept_by (lookup (mac_eq h.mac) old.table.entries) old.table h → is_some (lookup (mac_eq mac) old.table.entries) ≡ true
+        → is_some (lookup (mac_eq h.mac) old.table.entries) ≡ true → is_some (lookup (mac_eq mac) new.table.entries) ≡ true
+    still e there src = ap (λ (t : Table). is_some (lookup (mac_eq mac) t.entries)) e ∙ entry_still old.table h mac (lookup (mac_eq h.mac) old.table.entries) refl src there
+
+    by_entry : (x : Learnt) → a ≡ x → is_some (lookup (mac_eq mac) old.table.entries) ≡ true → is_some (lookup (mac_eq h.mac) old.table.entries) ≡ true
+        → is_some (lookup (mac_eq mac) new.table.entries) ≡ true
+    by_entry Full e there src = ap (λ (t : Table). is_some (lookup (mac_eq mac) t.entries)) (after Full e) ∙ there
+    by_entry Learned e there src = still (after Learned e) there src
+    by_entry Known e there src = still (after Known e) there src
+
+-- no held place is lost where one more is held
+pub held_still : (old new : Nodes) (mac other : Mac) → KeepsHeld old.held new.held mac → is_held new mac ≡ true → is_held old other ≡ true → is_held new other ≡ true
+held_still old new mac other keeps now before = by (mac_eq other mac) refl
+  where
+    by : (b : Bool) → mac_eq other mac ≡ b → is_held new other ≡ true
+    by false e = keeps other e ∙ before
+    by true e = subst (λ m. is_held new m ≡ true) (sym (mac_same other mac e)) now
+
+-- what has room keeps it where one more address is made ready
+pub room_still : (old new : Nodes) (mac : Mac) (answer : Result Ready NoMemory) (r : Ready) → answer ≡ Ok r → (answer ≡ Ok ready.Known → new ≡ old) → (answer ≡ Ok ready.Held → is_held new mac ≡ true)
+    → KeepsHeld old.held new.held mac → new.table ≡ old.table → (src : Mac) (number : Option Seq) → HasRoomFor old src number → HasRoomFor new src number
+room_still old new mac answer ready.Known is same held keeps table src number room = subst (λ n. HasRoomFor n src number) (sym (same is)) room
+room_still old new mac answer ready.Held is same held keeps table src None room = tt
+room_still old new mac answer ready.Held is same held keeps table src (Some seq) room = elim room [
+  | inl before ↦ inl (held_still old new mac src keeps (held is) before)
+  | inr there ↦ inr (ap (λ (t : Table). is_some (lookup (mac_eq src) t.entries)) table ∙ there)
+]

@@ -44,21 +44,33 @@ is_of_other r (Some said) = not (mac_eq said.mac r.mac)
 abbrev pub announced : RoleImage → Port → Option Seq → Option Supervision → Option Supervision
 announced r port seq said = announced_if (is_network port && is_of_other r said) seq said
 
--- the places that a frame needs are held: of its source, where that is heard, and of the node of which it speaks
-abbrev pub IsHeldFor : Nodes → Mac → Option Seq → Type 0
-IsHeldFor n src None = Unit {0}
-IsHeldFor n src (Some seq) = is_held n src ≡ true
+-- the next hearing of an address takes no memory: its place is held, or it has an entry
+abbrev pub HasRoom : Nodes → Mac → Type 0
+HasRoom n mac = (is_held n mac ≡ true) ⊎ (is_some (lookup (mac_eq mac) n.table.entries) ≡ true)
 
-abbrev pub IsHeldToo : Nodes → Option Supervision → Type 0
-IsHeldToo n None = Unit {0}
-IsHeldToo n (Some said) = is_held n said.mac ≡ true
+-- of the source of a frame, where that is heard
+abbrev pub HasRoomFor : Nodes → Mac → Option Seq → Type 0
+HasRoomFor n src None = Unit {0}
+HasRoomFor n src (Some seq) = HasRoom n src
 
--- the next hearing of this address takes no memory: its place is held, it has an entry, or there is no room for it
+-- the source has an entry, where it is heard: so it takes no other's place in a full table
+abbrev pub IsKnownIf : Nodes → Mac → Option Seq → Type 0
+IsKnownIf n src None = Unit {0}
+IsKnownIf n src (Some seq) = is_some (lookup (mac_eq src) n.table.entries) ≡ true
+
+-- an address has room still after the source was heard: its place is held, or it has an entry, and so does the source
+abbrev pub KeepsRoom : Nodes → Mac → Option Seq → Mac → Type 0
+KeepsRoom n src number mac =
+    (is_held n mac ≡ true) ⊎ ((is_some (lookup (mac_eq mac) n.table.entries) ≡ true) × IsKnownIf n src number)
+
+-- of the node of which a frame speaks, where that is taken up
+abbrev pub HasRoomToo : Nodes → Mac → Option Seq → Option Supervision → Type 0
+HasRoomToo n src number None = Unit {0}
+HasRoomToo n src number (Some said) = KeepsRoom n src number said.mac
+
+-- the next hearing of this address takes no memory, or there is no room for it in a full table
 abbrev pub IsReadyFor : Nodes → Mac → ℕ → Type 0
-IsReadyFor n mac now =
-    (is_held n mac ≡ true)
-    ⊎ (is_some (lookup (mac_eq mac) n.table.entries) ≡ true)
-    ⊎ (length (live_others mac now n.table.entries) ≡ most_nodes)
+IsReadyFor n mac now = HasRoom n mac ⊎ (length (live_others mac now n.table.entries) ≡ most_nodes)
 
 -- the nodes after the source was heard under a number, if it was
 abbrev pub nodes_heard : Table → Port → Mac → Option Seq → ℕ → Table

@@ -5,7 +5,7 @@ ghost use Rattle.sr_node.specs.Faults.{or_no_memory};
 ghost use Rattle.sr_node.specs.Outboxes.{first_full};
 ghost use Rattle.sr_node.specs.Copies.{no_copies, copies_for, Room};
 ghost use Rattle.sr_node.specs.Images.{shown, node_state, IsReady, IsIdle};
-ghost use Rattle.sr_node.specs.Hearing.{IsHeldFor, IsHeldToo};
+ghost use Rattle.sr_node.specs.Hearing.{HasRoomFor, HasRoomToo};
 ghost use Rattle.sr_node.specs.Lanes.{is_host};
 ghost use Rattle.sr_forwarding.specs.Proxies.{learned};
 ghost use Rattle.sr_node.specs.Arriving.{is_too_long, is_untagged, takes_unnumbered, dst_known, header_at, wanted_at, going_on, number_at, next_at, goes, outlets_fault, arrive_refusal, Arrived, passed};
@@ -218,8 +218,8 @@ impl<R: Role> NodeOf<R> {
         ensures copies { OnOk result (copies.new ≡ copies_for outlets going.now) }
         ensures room { OnOk result (Room self.new.core.out copies.new) }
         ensures ready { OnOk result (IsReady self.new.core.table header.now.src header.now.seq) }
-        ensures number { OnOk result (IsHeldFor self.new.core.nodes header.now.src heard.now.number) }
-        ensures announced { OnOk result (IsHeldToo self.new.core.nodes heard.now.announced) }
+        ensures number { OnOk result (HasRoomFor self.new.core.nodes header.now.src heard.now.number) }
+        ensures announced { OnOk result (HasRoomToo self.new.core.nodes header.now.src heard.now.number heard.now.announced) }
         ensures role { OnOk result (R.meaning self.new.role ≡ learned (R.meaning self.old.role) header.now port now) }
         ensures shown { shown self.new.core ≡ shown self.old.core }
         ensures err { OnErr result (R.meaning self.new.role ≡ R.meaning self.old.role) }

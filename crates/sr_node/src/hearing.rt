@@ -7,6 +7,7 @@ use crate::NodeOf;
 use sr_forwarding::{Header, ParcelView, Role};
 use sr_frame::Port;
 use sr_sequence::Seq;
+use sr_slots::Spot;
 use sr_supervision::{Supervision, read};
 
 /// What a frame that comes in makes known.
@@ -14,8 +15,12 @@ use sr_supervision::{Supervision, read};
 pub(crate) struct Heard {
     /// The number under which its source is heard, if it is.
     pub(crate) number: Option<Seq>,
+    /// Where the entry of its source was found.
+    pub(crate) source: Option<Spot>,
     /// What it announces, if anything.
     pub(crate) announced: Option<Supervision>,
+    /// Where the entry of the node of which it speaks was found.
+    pub(crate) told: Option<Spot>,
 }
 
 /// What a frame says, if it is supervision that can be read.
@@ -39,6 +44,34 @@ fn is_network(port: Port) -> bool
 }
 
 impl<R: Role> NodeOf<R> {
+    // The number under which the source of a frame is heard, if it is.
+    fn number_heard(&self, port: Port, header: &Header, now: u64) -> Option<Seq>
+        ensures { result ≡ number_heard (R.meaning self.now.role) port header.now.src header.now.seq now }
+    {
+        if is_network(port) && !self.role.owns(header.src, now) {
+            header.seq
+        } else {
+            None
+        }
+    }
+
+    // What a frame announces that says this.
+    fn announced(
+        &self,
+        port: Port,
+        header: &Header,
+        said: Option<Supervision>,
+    ) -> Option<Supervision>
+        ensures { result ≡ announced (R.meaning self.now.role) port header.now.seq said }
+    {
+        let said = said?;
+        if is_network(port) && header.seq.is_some() && said.mac != self.role.mac() {
+            Some(said)
+        } else {
+            None
+        }
+    }
+
     /// What a frame from this port makes known that says this.
     pub(crate) fn heard_in(
         &self,
@@ -50,14 +83,20 @@ impl<R: Role> NodeOf<R> {
         ensures number { result.number ≡ number_heard (R.meaning self.now.role) port header.now.src header.now.seq now }
         ensures announced { result.announced ≡ announced (R.meaning self.now.role) port header.now.seq said }
     {
-        let is_heard = is_network(port) && !self.role.owns(header.src, now);
-        let is_told = is_network(port) && said.is_some_and(|said| said.mac != self.role.mac());
+        let number = self.number_heard(port, header, now);
+        let announced = self.announced(port, header, said);
+        let source = match number {
+            Some(_) => self.core.nodes().find(header.src),
+            None => None,
+        };
         Heard {
-            number: if is_heard { header.seq } else { None },
-            announced: if is_told && header.seq.is_some() {
-                said
-            } else {
-                None
+            number,
+            source,
+            announced,
+            told: match announced {
+                Some(said) if said.mac == header.src && number.is_some() => source,
+                Some(said) => self.core.nodes().find(said.mac),
+                None => None,
             },
         }
     }

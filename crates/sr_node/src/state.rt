@@ -7,7 +7,7 @@ ghost use Rattle.sr_dup_table.specs.Sources.{live_at};
 ghost use Rattle.sr_frame.specs.declared.fields.Mac.{Mac as Address};
 ghost use Rattle.sr_node_table.specs.Nodes.{is_held};
 ghost use Rattle.sr_node_table.specs.Watching.{after_prune};
-ghost use Rattle.sr_node.specs.Hearing.{is_network, IsHeldFor, IsHeldToo, IsReadyFor, nodes_heard, nodes_told};
+ghost use Rattle.sr_node.specs.Hearing.{is_network, HasRoomFor, HasRoomToo, IsKnownIf, KeepsRoom, IsReadyFor, nodes_heard, nodes_told};
 ghost use Rattle.sr_node.specs.Lanes.{is_host, new_outlets, sources_after};
 ghost use Rattle.sr_node.specs.Outboxes.{box_at, boxes_left, first_full, first_of};
 ghost use Rattle.sr_node.specs.Copies.{Room, no_copies, copies_for, put_copies};
@@ -25,7 +25,7 @@ use crate::{NodeImage, Outbox, PerPort, StepFault};
 use sr_dup_table::{DupFault, DupTable, TableFull};
 use sr_forwarding::{Form, Header, Outlets, Parcel, ParcelView, RoleImage};
 use sr_frame::{Mac, NoMemory, Port};
-use sr_node_table::NodeTable;
+use sr_node_table::{NodeTable, Ready};
 use sr_sequence::Seq;
 use sr_slots::{Keys, Spot};
 use sr_supervision::Supervision;
@@ -286,8 +286,8 @@ impl Core {
     ) -> Result<(), NoMemory>
         ensures same { shown self.new ≡ shown self.old }
         ensures ready { OnOk result (IsReady self.new.table header.now.src header.now.seq) }
-        ensures number { OnOk result (IsHeldFor self.new.nodes header.now.src heard.now.number) }
-        ensures announced { OnOk result (IsHeldToo self.new.nodes heard.now.announced) }
+        ensures number { OnOk result (HasRoomFor self.new.nodes header.now.src heard.now.number) }
+        ensures announced { OnOk result (HasRoomToo self.new.nodes header.now.src heard.now.number heard.now.announced) }
         ensures err { OnErr result (IsIdle self.old → IsIdle self.new) }
     {
         if header.seq.is_some() {
@@ -300,19 +300,49 @@ impl Core {
         Ok(())
     }
 
+    // Makes room for the source of a frame, where it is heard. Held: it may be a new node.
+    fn hold_source(&mut self, src: Mac, heard: &Heard) -> Result<Ready, NoMemory>
+        ensures same { shown self.new ≡ shown self.old }
+        ensures table { self.new.table ≡ self.old.table }
+        ensures number { OnOk result (HasRoomFor self.new.nodes src heard.now.number) }
+        ensures known { result ≡ Ok Ready.Known → IsKnownIf self.new.nodes src heard.now.number }
+    {
+        match heard.number {
+            Some(_) => self.nodes.reserve_at(heard.source, src),
+            None => Ok(Ready::Known),
+        }
+    }
+
+    // Makes room for the node of which a frame speaks, beside that for its source.
+    fn hold_told(&mut self, src: Mac, source: Ready, heard: &Heard) -> Result<(), NoMemory>
+        requires number { HasRoomFor self.old.nodes src heard.now.number }
+        requires known { source ≡ Ready.Known → IsKnownIf self.old.nodes src heard.now.number }
+        ensures same { shown self.new ≡ shown self.old }
+        ensures table { self.new.table ≡ self.old.table }
+        ensures number { OnOk result (HasRoomFor self.new.nodes src heard.now.number) }
+        ensures announced { OnOk result (HasRoomToo self.new.nodes src heard.now.number heard.now.announced) }
+    {
+        let Some(said) = heard.announced else {
+            return Ok(());
+        };
+        // A new node may push a forgotten one out of a full table: then an entry alone would not do.
+        let spot = match source {
+            Ready::Known => heard.told,
+            Ready::Held => None,
+        };
+        let _ready = self.nodes.reserve_at(spot, said.mac)?;
+        Ok(())
+    }
+
     // Makes room for what a frame makes known. Nothing that shows changes.
     fn hold_nodes(&mut self, src: Mac, heard: &Heard) -> Result<(), NoMemory>
         ensures same { shown self.new ≡ shown self.old }
         ensures table { self.new.table ≡ self.old.table }
-        ensures number { OnOk result (IsHeldFor self.new.nodes src heard.now.number) }
-        ensures announced { OnOk result (IsHeldToo self.new.nodes heard.now.announced) }
+        ensures number { OnOk result (HasRoomFor self.new.nodes src heard.now.number) }
+        ensures announced { OnOk result (HasRoomToo self.new.nodes src heard.now.number heard.now.announced) }
     {
-        match (heard.number, heard.announced) {
-            (None, None) => Ok(()),
-            (Some(_), None) => self.nodes.reserve(src, None),
-            (None, Some(said)) => self.nodes.reserve(said.mac, None),
-            (Some(_), Some(said)) => self.nodes.reserve(src, Some(said.mac)),
-        }
+        let source = self.hold_source(src, heard)?;
+        self.hold_told(src, source, heard)
     }
 
     /// Gives up the room. Nothing that shows changes.
@@ -342,42 +372,42 @@ impl Core {
     }
 
     // Hears the source of a frame under a number, if it is heard.
-    fn hear(&mut self, port: Port, src: Mac, number: Option<Seq>, now: u64)
+    fn hear(&mut self, port: Port, src: Mac, number: Option<Seq>, spot: Option<Spot>, now: u64)
         requires port { IsSome number → is_network port ≡ true }
-        requires held { IsHeldFor self.old.nodes src number }
+        requires held { HasRoomFor self.old.nodes src number }
         ensures nodes { shown self.new ≡ record (shown self.old) { nodes = nodes_heard self.old.nodes.table port src number now } }
         ensures table { self.new.table ≡ self.old.table }
-        ensures ready { (mac : Address) → is_held self.old.nodes mac ≡ true → IsReadyFor self.new.nodes mac now }
+        ensures ready { (mac : Address) → KeepsRoom self.old.nodes src number mac → IsReadyFor self.new.nodes mac now }
     {
         if let Some(seq) = number {
-            self.nodes.heard(src, port, seq, now).unwrap();
+            self.nodes.heard_at(spot, src, port, seq, now).unwrap();
         }
     }
 
     // Takes up what a frame announces, if it announces anything.
-    fn take_up(&mut self, port: Port, announced: Option<Supervision>, now: u64)
+    fn take_up(&mut self, port: Port, announced: Option<Supervision>, spot: Option<Spot>, now: u64)
         requires port { IsSome announced → is_network port ≡ true }
         requires ready { ForSome announced (λ said. IsReadyFor self.old.nodes said.mac now) }
         ensures nodes { shown self.new ≡ record (shown self.old) { nodes = nodes_told self.old.nodes.table port announced now } }
         ensures table { self.new.table ≡ self.old.table }
     {
         if let Some(said) = announced {
-            self.nodes.announce(&said, port, now).unwrap();
+            self.nodes.announce_at(spot, &said, port, now).unwrap();
         }
     }
 
     // Hears what a frame makes known, for which there is room.
     fn hear_all(&mut self, port: Port, src: Mac, heard: &Heard, now: u64)
         requires port { (IsSome heard.now.number → is_network port ≡ true) × (IsSome heard.now.announced → is_network port ≡ true) }
-        requires number { IsHeldFor self.old.nodes src heard.now.number }
-        requires announced { IsHeldToo self.old.nodes heard.now.announced }
+        requires number { HasRoomFor self.old.nodes src heard.now.number }
+        requires announced { HasRoomToo self.old.nodes src heard.now.number heard.now.announced }
         ensures nodes { shown self.new ≡ record (shown self.old) {
           nodes = nodes_told (nodes_heard self.old.nodes.table port src heard.now.number now) port heard.now.announced now;
         } }
         ensures table { self.new.table ≡ self.old.table }
     {
-        self.hear(port, src, heard.number, now);
-        self.take_up(port, heard.announced, now);
+        self.hear(port, src, heard.number, heard.source, now);
+        self.take_up(port, heard.announced, heard.told, now);
     }
 
     /// The changes of an arrival that passes and goes on as this parcel, of which none can fail.
@@ -398,8 +428,8 @@ impl Core {
         requires answered { is_some (new_outlets self.old.table.sources port header.now.src header.now.seq wanted now) ≡ true }
         requires room { Room self.old.out copies.old }
         requires network { (IsSome heard.now.number → is_network port ≡ true) × (IsSome heard.now.announced → is_network port ≡ true) }
-        requires number { IsHeldFor self.old.nodes header.now.src heard.now.number }
-        requires announced { IsHeldToo self.old.nodes heard.now.announced }
+        requires number { HasRoomFor self.old.nodes header.now.src heard.now.number }
+        requires announced { HasRoomToo self.old.nodes header.now.src heard.now.number heard.now.announced }
         ensures shown { shown self.new ≡ record (shown self.old) {
           time = now;
           next = next;

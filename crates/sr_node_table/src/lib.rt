@@ -14,5 +14,5 @@ pub use alarm::Alarm;
 pub use laws::{equal_where_the_tables_are, status_is_of_hearings};
 pub use node::{Announced, AtPort, Node, Told};
 pub use status::{GREATEST_AGE, Status};
-pub use table::{MAX_ALARMS, MAX_NODES, NODE_FORGET_TIME, NodeTable};
+pub use table::{MAX_ALARMS, MAX_NODES, NODE_FORGET_TIME, NodeTable, Ready};
 pub use watching::{HEARD_LATELY, MAX_BEHIND};

@@ -1,5 +1,5 @@
 //! The table.
-ghost use Rattle.std.specs.Prelude.{◌≡◌, ◌↔◌, ◌+◌, ◌≤◌, ◌⊎◌, [], ◌++◌, ◌∷◌, true, false, Some, None, length, is_some, IsOk, OnOk, OnErr, IfOk, IfSome, IfNone, unwrap_or};
+ghost use Rattle.std.specs.Prelude.{◌≡◌, ◌↔◌, ◌&&◌, ◌+◌, ◌≤◌, ◌⊎◌, [], ◌++◌, ◌∷◌, true, false, Some, None, length, is_some, IsOk, OnOk, OnErr, IfOk, IfSome, IfNone, unwrap_or};
 ghost use Rattle.std.specs.Option.{option_copied};
 ghost use Rattle.std.specs.List.{cons_option};
 ghost use Rattle.std.specs.Map.{lookup};
@@ -19,7 +19,7 @@ use circular_buffer::HeapCircularBuffer;
 use sr_aged_slots::{Aged, AgedSlots};
 use sr_frame::{Learnt, Mac, NoMemory, Port};
 use sr_sequence::Seq;
-use sr_slots::{Iter, Keys};
+use sr_slots::{Iter, Keys, Spot};
 use sr_supervision::Supervision;
 use std::alloc::{AllocError, Global};
 use std::marker::Model;
@@ -33,6 +33,15 @@ pub const MAX_NODES: usize = 1024;
 
 /// How many alarms are kept: the next one overwrites the oldest (choice of this project).
 pub const MAX_ALARMS: usize = 64;
+
+/// Why the next hearing of an address takes no memory.
+#[derive(Clone, Copy, Debug, PartialEq, Eq)]
+pub enum Ready {
+    /// It has an entry, forgotten or not.
+    Known,
+    /// A place is held for it.
+    Held,
+}
 
 /// The nodes that were heard, in the order of first hearing, and the latest alarms. Times are in milliseconds. A node that was
 /// silent for `NODE_FORGET_TIME` is forgotten: it counts as absent, and stands in the table until it is heard again, until
@@ -194,6 +203,38 @@ impl NodeTable {
         }
     }
 
+    /// Where the entry of a node is, forgotten or not, for the calls that look there first.
+    pub fn find(&self, mac: Mac) -> Option<Spot>
+        ensures { is_some result ≡ is_some (lookup (mac_eq mac) self.now.table.entries) }
+    {
+        let (spot, _entry) = self.nodes.find(mac)?;
+        Some(spot)
+    }
+
+    // Whether there is a spot, and the node has an entry, forgotten or not.
+    fn is_at(&self, spot: Option<Spot>, mac: Mac) -> bool
+        ensures { result ≡ (is_some spot && is_some (lookup (mac_eq mac) self.now.table.entries)) }
+    {
+        spot.is_some() && self.nodes.get_at(spot, mac).is_some()
+    }
+
+    /// Sees to it that the next hearing of an address takes no memory: one that has an entry needs none, where a spot tells of
+    /// it; for any other a place is held. NoMemory: memory ran out, and nothing changes.
+    pub fn reserve_at(&mut self, spot: Option<Spot>, mac: Mac) -> Result<Ready, NoMemory>
+        ensures table { self.new.table ≡ self.old.table }
+        ensures known { (result ≡ Ok Ready.Known) ↔ ((is_some spot && is_some (lookup (mac_eq mac) self.old.table.entries)) ≡ true) }
+        ensures same { result ≡ Ok Ready.Known → self.new ≡ self.old }
+        ensures held { result ≡ Ok Ready.Held → is_held self.new mac ≡ true }
+        ensures others { OnOk result (KeepsHeld self.old.held self.new.held mac) }
+        ensures err { OnErr result (self.new ≡ self.old) }
+    {
+        if self.is_at(spot, mac) {
+            return Ok(Ready::Known);
+        }
+        self.nodes.hold(mac)?;
+        Ok(Ready::Held)
+    }
+
     /// Gives up all held places.
     pub fn release(&mut self)
         ensures table { self.new.table ≡ self.old.table }
@@ -219,7 +260,34 @@ impl NodeTable {
         ensures used { IfOk result (λ learnt. ¬ (learnt ≡ Learnt.Full) → is_held self.new mac ≡ false) }
         ensures err { OnErr result (self.new ≡ self.old) }
     {
-        self.hear(mac, port, Told::Numbered(seq), now)
+        self.heard_at(None, mac, port, seq, now)
+    }
+
+    /// What `heard` does, where the entry of the node is looked for at a spot first. It hears a numbered frame of a node at a
+    /// ring port, A or B. Full and NoMemory: as `heard`.
+    pub fn heard_at(
+        &mut self,
+        spot: Option<Spot>,
+        mac: Mac,
+        port: Port,
+        seq: Seq,
+        now: u64,
+    ) -> Result<Learnt, NoMemory>
+        requires ring { (port ≡ Port.A) ⊎ (port ≡ Port.B) }
+        ensures answer { IfOk result (λ learnt. learnt ≡ answer_to self.old.table (hearing_of mac port (Told.Numbered seq) now)) }
+        ensures after { OnOk result (self.new.table ≡ after_hearing self.old.table (hearing_of mac port (Told.Numbered seq) now)) }
+
+        // Full exactly where 1024 others are live. An address that has an entry, or a held place, takes no memory.
+        ensures full { (result ≡ Ok Learnt.Full) ↔ (length (live_others mac now self.old.table.entries) ≡ most_nodes) }
+        ensures known { is_some (lookup (mac_eq mac) self.old.table.entries) ≡ true → IsOk result }
+        ensures reserved { is_held self.old mac ≡ true → IsOk result }
+
+        // A held place is used up, and no other.
+        ensures held { OnOk result (KeepsHeld self.old.held self.new.held mac) }
+        ensures used { IfOk result (λ learnt. ¬ (learnt ≡ Learnt.Full) → is_held self.new mac ≡ false) }
+        ensures err { OnErr result (self.new ≡ self.old) }
+    {
+        self.hear(spot, mac, port, Told::Numbered(seq), now)
     }
 
     /// Takes up what a supervision frame that came in at a ring port, A or B, says of a node.
@@ -244,15 +312,48 @@ impl NodeTable {
         ensures used { IfOk result (λ learnt. ¬ (learnt ≡ Learnt.Full) → is_held self.new supervision.now.mac ≡ false) }
         ensures err { OnErr result (self.new ≡ self.old) }
     {
+        self.announce_at(None, supervision, port, now)
+    }
+
+    /// What `announce` does, where the entry of the node is looked for at a spot first. It takes up what a supervision frame
+    /// that came in at a ring port, A or B, says of a node. Full and NoMemory: as `heard`.
+    pub fn announce_at(
+        &mut self,
+        spot: Option<Spot>,
+        supervision: &Supervision,
+        port: Port,
+        now: u64,
+    ) -> Result<Learnt, NoMemory>
+        requires ring { (port ≡ Port.A) ⊎ (port ≡ Port.B) }
+        ensures answer { IfOk result (λ learnt. learnt ≡ answer_to self.old.table (announcement supervision.now port now)) }
+        ensures after { OnOk result (self.new.table ≡ after_hearing self.old.table (announcement supervision.now port now)) }
+
+        // Full exactly where 1024 others are live. An address that has an entry, or a held place, takes no memory.
+        ensures full { (result ≡ Ok Learnt.Full) ↔ (length (live_others supervision.now.mac now self.old.table.entries) ≡ most_nodes) }
+        ensures known { is_some (lookup (mac_eq supervision.now.mac) self.old.table.entries) ≡ true → IsOk result }
+        ensures reserved { is_held self.old supervision.now.mac ≡ true → IsOk result }
+
+        // A held place is used up, and no other.
+        ensures held { OnOk result (KeepsHeld self.old.held self.new.held supervision.now.mac) }
+        ensures used { IfOk result (λ learnt. ¬ (learnt ≡ Learnt.Full) → is_held self.new supervision.now.mac ≡ false) }
+        ensures err { OnErr result (self.new ≡ self.old) }
+    {
         let announced = Announced {
             life: supervision.life,
             redbox: supervision.redbox,
         };
-        self.hear(supervision.mac, port, Told::Announces(announced), now)
+        self.hear(spot, supervision.mac, port, Told::Announces(announced), now)
     }
 
     // A hearing of a node at a ring port.
-    fn hear(&mut self, mac: Mac, port: Port, told: Told, now: u64) -> Result<Learnt, NoMemory>
+    fn hear(
+        &mut self,
+        spot: Option<Spot>,
+        mac: Mac,
+        port: Port,
+        told: Told,
+        now: u64,
+    ) -> Result<Learnt, NoMemory>
         ensures answer { IfOk result (λ learnt. learnt ≡ answer_to self.old.table (hearing_of mac port told now)) }
         ensures after { OnOk result (self.new.table ≡ after_hearing self.old.table (hearing_of mac port told now)) }
         ensures full { (result ≡ Ok Learnt.Full) ↔ (length (live_others mac now self.old.table.entries) ≡ most_nodes) }
@@ -262,14 +363,21 @@ impl NodeTable {
         ensures used { IfOk result (λ learnt. ¬ (learnt ≡ Learnt.Full) → is_held self.new mac ≡ false) }
         ensures err { OnErr result (self.new ≡ self.old) }
     {
-        match self.hear_again(mac, port, told, now) {
+        match self.hear_again(spot, mac, port, told, now) {
             Some(answer) => Ok(answer),
             None => self.begin(mac, port, told, now),
         }
     }
 
     // A hearing of a node that has an entry, forgotten or not.
-    fn hear_again(&mut self, mac: Mac, port: Port, told: Told, now: u64) -> Option<Learnt>
+    fn hear_again(
+        &mut self,
+        spot: Option<Spot>,
+        mac: Mac,
+        port: Port,
+        told: Told,
+        now: u64,
+    ) -> Option<Learnt>
         ensures few { length self.old.table.entries ≤ most_nodes }
         ensures found { is_some result ≡ is_some (lookup (mac_eq mac) self.old.table.entries) }
         ensures answer { IfSome result (λ learnt. learnt ≡ answer_to self.old.table (hearing_of mac port told now)) }
@@ -279,7 +387,7 @@ impl NodeTable {
         ensures none { IfNone result (self.new ≡ self.old) }
     {
         let answer = self.nodes.update_at(
-            None,
+            spot,
             mac,
             |entry: &mut Aged<Node>| -> Learnt
                 ensures after { entry.new ≡ entry_after entry.old port told now }

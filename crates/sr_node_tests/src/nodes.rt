@@ -2,7 +2,7 @@
 
 use crate::frames::{OTHER, OWN, Sent, THIRD};
 use crate::steps::{Outcome, Step, Told, expect_ring_steps, expect_steps};
-use sr_frame::Port;
+use sr_frame::{Mac, Port};
 use sr_node_table::{Alarm, GREATEST_AGE};
 use sr_sequence::Seq;
 
@@ -74,4 +74,22 @@ const ANNOUNCED: &[Step] = &[
 #[test]
 fn supervision_tells_of_nodes(rt: HostRuntime) {
     expect_ring_steps(&rt, ANNOUNCED);
+}
+
+// Of 1024 live nodes none makes room: the next one goes up unheard, and is heard once they are forgotten.
+const MANY: &[Step] = &[
+    Step::Sources(1024),
+    Step::In(Port::A, Sent::OfSource(1024), 400, Outcome::Up),
+    Step::Status(Mac([6, 0, 0, 0, 4, 0]), None),
+    Step::In(Port::A, Sent::OfSource(1024), 60_000, Outcome::Up),
+    Step::Knows(&[Mac([6, 0, 0, 0, 4, 0])]),
+    Step::Status(
+        Mac([6, 0, 0, 0, 4, 0]),
+        Some(Told(0, GREATEST_AGE, 5, 0, None)),
+    ),
+];
+
+#[test]
+fn a_full_table_hears_no_new_node(rt: HostRuntime) {
+    expect_steps(&rt, MANY);
 }

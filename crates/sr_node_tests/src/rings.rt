@@ -158,8 +158,16 @@ fn frames_handed_over_as_events(rt: HostRuntime) {
     expect_ring_steps(&rt, HANDED);
 }
 
-// For a run in which one allocation fails: a frame with two copies, one of the host, and a life check.
+// For a run in which one allocation fails: supervision of a new node that speaks of another new one, a frame with two copies,
+// one of the host, and a life check.
 const GROWTHS: &[Step] = &[
+    Step::In(
+        Port::A,
+        Sent::Announcing(THIRD, 0x34),
+        0,
+        Outcome::To(Port::B),
+    ),
+    Step::Knows(&[OTHER, THIRD]),
     Step::Handed(
         Port::A,
         Sent::Tagged(EVERYONE, OTHER, 0, 7),
@@ -182,7 +190,8 @@ const GROWTHS: &[Step] = &[
     Step::Take(Port::A, Taken::As(Sent::Tagged(EVERYONE, OWN, 0, 64511))),
     Step::Waiting(Port::H, 1),
     Step::Waiting(Port::A, 3),
-    Step::Waiting(Port::B, 4),
+    Step::Waiting(Port::B, 5),
+    Step::Knows(&[OTHER, THIRD]),
 ];
 
 #[test]

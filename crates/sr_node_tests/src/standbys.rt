@@ -1,15 +1,18 @@
 //! Nodes that take over what others have noted.
 
 use crate::frames::{OTHER, Sent};
-use crate::steps::{Outcome, Step, expect_steps};
+use crate::steps::{Outcome, Step, Told, expect_steps};
 use sr_dup_table::DupFault;
 use sr_frame::Port;
+use sr_node_table::GREATEST_AGE;
 
-// What the other node handed up goes up no more; what it did not hear does. The later time counts for both.
+// What the other node handed up goes up no more; what it did not hear does. The later time counts for both. Of what nodes
+// it heard, nothing is taken over.
 const TAKEN_OVER: &[Step] = &[
     Step::In(Port::A, Sent::InA(4), 100, Outcome::Up),
     Step::Absorb(Sent::InA(5), 200, None),
     Step::Time(200),
+    Step::Status(OTHER, Some(Told(100, GREATEST_AGE, 4, 0, None))),
     Step::In(Port::A, Sent::InA(5), 200, Outcome::Nowhere),
     Step::In(Port::B, Sent::InB(5), 200, Outcome::Nowhere),
     Step::In(Port::B, Sent::InB(4), 200, Outcome::Nowhere),

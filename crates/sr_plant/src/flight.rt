@@ -57,6 +57,16 @@ impl Model for Flight {
     ghost invariant = { λ f. AreCounted f.kept f.places.items × AreUsed f.kept };
 }
 
+// The copy goes behind all others.
+fn put_last(places: &mut VecDeque<Flying>, flying: Flying)
+    requires { deque_len places.old < deque_capacity places.old }
+    ensures items { places.new.items ≡ places.old.items ++ flying ∷ [] }
+    ensures len { deque_len places.new ≡ deque_len places.old + 1 }
+    ensures capacity { deque_capacity places.new ≡ deque_capacity places.old }
+{
+    places.push_back_reserved(flying);
+}
+
 /// One copy more of a parcel that is kept.
 pub(crate) fn attach(kept: &mut Slab<Kept>, places: &mut VecDeque<Flying>, flying: Flying)
     requires room { deque_len places.old < deque_capacity places.old }
@@ -75,7 +85,7 @@ pub(crate) fn attach(kept: &mut Slab<Kept>, places: &mut VecDeque<Flying>, flyin
     ensures capacity { deque_capacity places.new ≡ deque_capacity places.old }
 {
     add_copy(kept, flying.key);
-    places.push_back_reserved(flying);
+    put_last(places, flying);
 }
 
 // A copy that was taken out goes last, if it is not on this link.
@@ -94,7 +104,7 @@ fn look_at(kept: &mut Slab<Kept>, places: &mut VecDeque<Flying>, seen: Flying, l
         drop_copy(kept, seen.key);
         return;
     }
-    places.push_back_reserved(seen);
+    put_last(places, seen);
 }
 
 // The copies that are not on a link stay.

@@ -1,5 +1,7 @@
 -- The copies that a node puts out, and places of lists.
-use Rattle.std.proofs.Common.{◌≡◌, ◌⊎◌, inl, inr, ℕ, zero, suc, ◌+◌, ◌&&◌, Bool, true, false, List, [], ◌∷◌, map, Some, slice_get, slice_set, slice_index_or, refl, sym, ap}
+use Rattle.std.proofs.Common.{replicate, ◌≡◌, ◌⊎◌, inl, inr, ℕ, zero, suc, ◌+◌, ◌&&◌, Bool, true, false, List, [], ◌∷◌, map, Some, slice_get, slice_set, slice_index_or, refl, sym, ap}
+use Rattle.std.proofs.Common.{◌==◌, ◌∙◌, arith}
+use Rattle.std.proofs.lemmas.Bool.{ne_eqb, eq-eqb, true≢false}
 use Rattle.sr_frame.specs.declared.ports.Port.{Port}
 use Rattle.sr_frame.specs.declared.ports.Port.TheVariants.{H, A, B, C}
 use Rattle.sr_dup_window.specs.declared.lane_sets.Lanes.{Lanes}
@@ -58,7 +60,7 @@ lan_aside : (p : Port) (first k : ℕ) (js : List ℕ) → is_side p ≡ true �
 lan_aside p first k [] side = tt
 lan_aside p first k (j ∷ js) side = (side, lan_aside p first k js side)
 
-hops_aside : (t : Topology) (n k : ℕ) (o : Port) → Each (λ h. is_side h.to.port ≡ true) (net_of t n k o)
+pub hops_aside : (t : Topology) (n k : ℕ) (o : Port) → Each (λ h. is_side h.to.port ≡ true) (net_of t n k o)
 hops_aside Ring n k H = tt
 hops_aside Ring n k A = (refl, tt)
 hops_aside Ring n k B = (refl, tt)
@@ -95,16 +97,6 @@ pub record IsSetThere {X : Type 0} (xs : List X) (i k : ℕ) (x y : X) : Type 0 
   pub old : X
   pub was : slice_get xs i ≡ Some old
 
-pub got_set : {X : Type 0} (xs : List X) (i k : ℕ) (y x : X) → slice_get (slice_set xs i y) k ≡ Some x → IsSetThere xs i k x y ⊎ (slice_get xs k ≡ Some x)
-got_set [] i k y x at = inr at
-got_set (z ∷ zs) zero zero y x at = let e : y ≡ x = cc in inl (record { place = refl; same = sym e; old = z; was = refl })
-got_set (z ∷ zs) zero (suc k) y x at = inr at
-got_set (z ∷ zs) (suc i) zero y x at = inr at
-got_set (z ∷ zs) (suc i) (suc k) y x at = elim (got_set zs i k y x at) [
-  | inl s ↦ inl (record { place = ap suc s.place; same = s.same; old = s.old; was = s.was })
-  | inr was ↦ inr was
-]
-
 pub or_got : {X : Type 0} (xs : List X) (i : ℕ) (x d : X) → slice_get xs i ≡ Some x → slice_index_or xs i d ≡ x
 or_got [] i x d at = absurd cc
 or_got (y ∷ ys) zero x d at = cc
@@ -112,3 +104,25 @@ or_got (y ∷ ys) (suc i) x d at = or_got ys i x d at
 
 pub got_once : {X : Type 0} (xs : List X) (i : ℕ) (x y : X) → slice_get xs i ≡ Some x → slice_get xs i ≡ Some y → x ≡ y
 got_once xs i x y a b = cc
+
+-- it is the place that was set, or another
+abbrev pub IsOther : {X : Type 0} → List X → ℕ → ℕ → X → Type 0
+IsOther xs i k x = ((k == i) ≡ false) × (slice_get xs k ≡ Some x)
+
+pub where_set : {X : Type 0} (xs : List X) (i k : ℕ) (y x : X) → slice_get (slice_set xs i y) k ≡ Some x → IsSetThere xs i k x y ⊎ IsOther xs i k x
+where_set [] i k y x at = absurd cc
+where_set (z ∷ zs) zero zero y x at = let e : y ≡ x = cc in inl (record { place = refl; same = sym e; old = z; was = refl })
+where_set (z ∷ zs) zero (suc k) y x at = inr (ne_eqb (suc k) zero (λ e. absurd (omega (arith, e))), at)
+where_set (z ∷ zs) (suc i) zero y x at = inr (ne_eqb zero (suc i) (λ e. absurd (omega (arith, e))), at)
+where_set (z ∷ zs) (suc i) (suc k) y x at = elim (where_set zs i k y x at) [
+  | inl s ↦ inl (record { place = ap suc s.place; same = s.same; old = s.old; was = s.was })
+  | inr o ↦ inr (next_ne o.0, o.1)
+]
+  where
+    next_ne : (k == i) ≡ false → (suc k == suc i) ≡ false
+    next_ne e = ne_eqb (suc k) (suc i) (λ f. true≢false (sym (eq-eqb k i (omega (arith, f))) ∙ e))
+
+pub got_replicate : {X : Type 0} (n j : ℕ) (x y : X) → slice_get (replicate n x) j ≡ Some y → y ≡ x
+got_replicate zero j x y at = absurd cc
+got_replicate (suc n) zero x y at = cc
+got_replicate (suc n) (suc j) x y at = got_replicate n j x y at

@@ -96,7 +96,7 @@ life_frame s = written (life_says s.role.kind s.role.mac s.core.next_life)
 
 pub record Ticks (s : State) (now : ℕ) (u : State) : Type 0 where
   pub same : IsSame s now u
-  pub puts : PutsOut s (life_frame s) u ⊎ IsIdle s u
+  pub puts : ((is_due s.core.life_at now ≡ true) × PutsOut s (life_frame s) u) ⊎ ((is_due s.core.life_at now ≡ false) × IsIdle s u)
   pub sources : u.core.sources ≡ live_at now s.core.sources
 
 pub node_ticks : (t : Topology) (s : State) (now : ℕ) (a : Answer) (u : State) → s.role.kind ≡ kind_of t → IsEmptied s → TickedAs s now a u → Ticks s now u
@@ -110,19 +110,22 @@ node_ticks t s now (answer.Ticked sources nodes proxies life) u kind empty step 
         let c : u.core ≡ aged (life_checked s now) now = core ∙ rw e refl in
         record {
           same = record { kind = ap (λ x. x.role.kind) step.4; mac = ap (λ x. x.role.mac) step.4; time = ap (λ x. x.time) c };
-          puts = inl (record {
-            outlets = life_outlets s now;
-            sides = host_routes t s.role (life_header s now) now kind;
-            out = ap (λ x. x.out) c ∙ ap (λ o. put_at o (life_outlets s now) (next_life_check s)) empty;
-            next = ap (λ x. x.next) c;
-          });
+          puts = inl (
+            e,
+            record {
+              outlets = life_outlets s now;
+              sides = host_routes t s.role (life_header s now) now kind;
+              out = ap (λ x. x.out) c ∙ ap (λ o. put_at o (life_outlets s now) (next_life_check s)) empty;
+              next = ap (λ x. x.next) c;
+            },
+          );
           sources = ap (λ x. x.sources) c;
         }
     by false e =
         let c : u.core ≡ aged s.core now = core ∙ rw e refl in
         record {
           same = record { kind = ap (λ x. x.role.kind) step.4; mac = ap (λ x. x.role.mac) step.4; time = ap (λ x. x.time) c };
-          puts = inr (record { out = ap (λ x. x.out) c ∙ empty; next = ap (λ x. x.next) c });
+          puts = inr (e, record { out = ap (λ x. x.out) c ∙ empty; next = ap (λ x. x.next) c });
           sources = ap (λ x. x.sources) c;
         }
 node_ticks t s now answer.Own u kind empty step = absurd step

@@ -1,5 +1,5 @@
 -- What is in flight and what was handed up is what nodes sent.
-use Rattle.std.proofs.Common.{◌≡◌, ◌⊎◌, inl, inr, ℕ, zero, suc, ◌≤◌, ◌&&◌, ◌||◌, not, Bool, true, false, List, [], ◌∷◌, ◌++◌, map, length, take, drop, replicate, Some, slice_get, slice_set, slice_index_or, refl, sym, ap, ◌∙◌, subst, arith}
+use Rattle.std.proofs.Common.{◌≡◌, ◌⊎◌, inl, inr, ℕ, zero, suc, ◌≤◌, ◌&&◌, ◌||◌, not, Bool, true, false, List, [], ◌∷◌, ◌++◌, map, length, take, drop, Some, slice_get, slice_set, slice_index_or, refl, sym, ap, ◌∙◌, subst, arith}
 use Rattle.std.specs.List.{filter, remove}
 use Rattle.std.proofs.lemmas.Bool.{and_parts}
 use Rattle.std.proofs.lemmas.Bool.Decides.{nat_tests}
@@ -44,7 +44,7 @@ use Rattle.sr_plant_runs.proofs.ReadingLemmas.{Says, SaysThere, new_says, read_s
 use Rattle.sr_plant_runs.proofs.PaddingLemmas.{padded_dst, padded_src, padded_supervision, life_shows}
 use Rattle.sr_plant_runs.proofs.RouteLemmas.{from_side, side_routes}
 use Rattle.sr_plant_runs.proofs.NodeLemmas.{IsSame, PutsOut, IsIdle, Ticks, TakesIn, life_frame, host_sends, sent_is_fit, node_ticks, node_takes}
-use Rattle.sr_plant_runs.proofs.CopyLemmas.{has_on, put_each, IsSetThere, got_set, or_got, got_once}
+use Rattle.sr_plant_runs.proofs.CopyLemmas.{has_on, put_each, IsSetThere, IsOther, where_set, or_got, got_once, got_replicate}
 
 -- node k as it is between events: as its role was, and emptied
 pub record IsMember (t : Topology) (roles : List RoleImage) (k : ℕ) (n : State) : Type 0 where
@@ -135,10 +135,10 @@ acted_going : (t : Topology) (roles : List RoleImage) (turns : List Turn) (s : P
     (clock : ℕ) → IsGoing t roles turns (acted s i u clock)
 acted_going t roles turns s i now before u g there same put up clock = record {
   topology = g.topology;
-  nodes = λ k n at. node k n (got_set s.nodes i k (emptied u) n at);
+  nodes = λ k n at. node k n (where_set s.nodes i k (emptied u) n at);
   flight = each_append (Flies t roles turns) s.flight (those_passing s.cut (put_out s.topology (length s.nodes) i u.core.out)) g.flight
       (each_filter (Flies t roles turns) (λ c. not (is_stopped s.cut c)) (put_out s.topology (length s.nodes) i u.core.out) put);
-  handed = λ j role ps at to. host j role ps at (got_set s.handed i j (slice_index_or s.handed i [] ++ u.core.out.h) ps to);
+  handed = λ j role ps at to. host j role ps at (where_set s.handed i j (slice_index_or s.handed i [] ++ u.core.out.h) ps to);
 }
   where
     was : IsMember t roles i before
@@ -147,18 +147,18 @@ acted_going t roles turns s i now before u g there same put up clock = record {
     now_is : IsMember t roles i (emptied u)
     now_is = record { role = was.role; there = was.there; kind = same.kind ∙ was.kind; mac = same.mac ∙ was.mac; empty = refl }
 
-    node : (k : ℕ) (n : State) → IsSetThere s.nodes i k n (emptied u) ⊎ (slice_get s.nodes k ≡ Some n) → IsMember t roles k n
+    node : (k : ℕ) (n : State) → IsSetThere s.nodes i k n (emptied u) ⊎ IsOther s.nodes i k n → IsMember t roles k n
     node k n (inl set) = subst (λ m. IsMember t roles k m) (sym set.same) (subst (λ m. IsMember t roles m (emptied u)) (sym set.place) now_is)
-    node k n (inr old) = g.nodes k n old
+    node k n (inr old) = g.nodes k n old.1
 
     host : (j : ℕ) (role : RoleImage) (ps : List ParcelImage) → slice_get roles j ≡ Some role →
-        IsSetThere s.handed i j ps (slice_index_or s.handed i [] ++ u.core.out.h) ⊎ (slice_get s.handed j ≡ Some ps) → Each (IsSentByOther j role.mac turns) ps
+        IsSetThere s.handed i j ps (slice_index_or s.handed i [] ++ u.core.out.h) ⊎ IsOther s.handed i j ps → Each (IsSentByOther j role.mac turns) ps
     host j role ps at (inl set) =
         let at_i : slice_get roles i ≡ Some role = subst (λ m. slice_get roles m ≡ Some role) set.place at in
         let is : ps ≡ set.old ++ u.core.out.h = set.same ∙ ap (λ x. x ++ u.core.out.h) (or_got s.handed i set.old [] set.was) in
         subst (λ m. Each (IsSentByOther m role.mac turns) ps) (sym set.place)
         (subst (λ x. Each (IsSentByOther i role.mac turns) x) (sym is) (each_append (IsSentByOther i role.mac turns) set.old u.core.out.h (g.handed i role set.old at_i set.was) (up role at_i)))
-    host j role ps at (inr old) = g.handed j role ps at old
+    host j role ps at (inr old) = g.handed j role ps at old.1
 
 -- what goes out at both sides
 put_flies : (t : Topology) (roles : List RoleImage) (turns : List Turn) (s : Plant) (i : ℕ) (before u : State) (frame : List ℕ) → PutsOut before frame u →
@@ -232,8 +232,8 @@ tick_going t roles turns s v i at six g acts =
 
     put : Each (Flies t roles (turn ∷ turns)) (put_out s.topology (length s.nodes) i acts.after.core.out) × (acts.after.core.out.h ≡ [])
     put = elim ticks.puts [
-      | inl puts ↦ put_flies t roles (turn ∷ turns) s i acts.before acts.after (life_frame acts.before) puts was.role was.there (life.1 ∙ was.mac) (inr life.0)
-      | inr idle ↦ none_flies t roles (turn ∷ turns) s i acts.before acts.after idle
+      | inl puts ↦ put_flies t roles (turn ∷ turns) s i acts.before acts.after (life_frame acts.before) puts.1 was.role was.there (life.1 ∙ was.mac) (inr life.0)
+      | inr idle ↦ none_flies t roles (turn ∷ turns) s i acts.before acts.after idle.1
     ]
 
 -- what goes up was wanted there
@@ -377,11 +377,6 @@ begun_member t (r ∷ rs) zero n kinds at =
 begun_member t (r ∷ rs) (suc k) n kinds at =
     let m = begun_member t rs k n kinds.1 at in
     record { role = m.role; there = m.there; kind = m.kind; mac = m.mac; empty = m.empty }
-
-got_replicate : {X : Type 0} (n j : ℕ) (x y : X) → slice_get (replicate n x) j ≡ Some y → y ≡ x
-got_replicate zero j x y at = absurd cc
-got_replicate (suc n) zero x y at = cc
-got_replicate (suc n) (suc j) x y at = got_replicate n j x y at
 
 opening_going : (t : Topology) (roles : List RoleImage) → is_plant t (map begun roles) ≡ true → IsGoing t roles [] (opening t (map begun roles))
 opening_going t roles is = record {

@@ -37,7 +37,8 @@ const SAN: &[Step] = &[
     Step::Out(Port::C, Sent::Plain(M9, M2)),
 ];
 
-// A group frame of the ring goes on, up and to the interlink. Its source is proxied once it is heard there.
+// A group frame of the ring goes on, up and to the interlink. What is for its source stays in the ring, until that is heard
+// at the interlink and proxied: then the other copy goes there.
 const SAN_MOVES: &[Step] = &[
     Step::In(
         Port::A,
@@ -48,6 +49,8 @@ const SAN_MOVES: &[Step] = &[
     Step::Out(Port::H, Sent::Plain(GROUP, M9)),
     Step::Out(Port::B, Sent::Tagged(GROUP, M9, 0, 1)),
     Step::Out(Port::C, Sent::Plain(GROUP, M9)),
+    Step::In(Port::A, Sent::Tagged(M9, M2, 0, 5), 1, &[Port::B]),
+    Step::Out(Port::B, Sent::Tagged(M9, M2, 0, 5)),
     Step::In(Port::C, Sent::Plain(M8, M9), 2, &[Port::A, Port::B]),
     Step::Out(Port::A, Sent::Tagged(M8, M9, 0, 0xfbff)),
     Step::Out(Port::B, Sent::Tagged(M8, M9, 1, 0xfbff)),
@@ -70,6 +73,19 @@ const SAN_FORGETS: &[Step] = &[
     Step::In(Port::B, Sent::Tagged(M2, M9, 0, 7), 60000, &[Port::A]),
 ];
 
+// Whether a frame is for a node of the ring is asked before it is heard itself, and a node is of the ring for 60000 ms.
+const SAN_KNOWS: &[Step] = &[
+    Step::In(Port::A, Sent::Tagged(M9, M9, 0, 1), 0, &[Port::B, Port::C]),
+    Step::In(Port::A, Sent::Tagged(M9, M9, 0, 2), 1, &[Port::B]),
+    Step::In(Port::A, Sent::Tagged(M9, M2, 0, 5), 60000, &[Port::B]),
+    Step::In(
+        Port::A,
+        Sent::Tagged(M9, M2, 0, 6),
+        60001,
+        &[Port::B, Port::C],
+    ),
+];
+
 // With 256 others proxied, the group frame of one more goes out all the same, and its copy that comes round goes nowhere.
 const SAN_FULL: &[Step] = &[
     Step::Sans(256),
@@ -89,6 +105,7 @@ fn a_node_for_sans(rt: HostRuntime) {
     assert_eq!(rt; first_wrong(rt.alloc(), Kind::San, SAN), None);
     assert_eq!(rt; first_wrong(rt.alloc(), Kind::San, SAN_MOVES), None);
     assert_eq!(rt; first_wrong(rt.alloc(), Kind::San, SAN_FORGETS), None);
+    assert_eq!(rt; first_wrong(rt.alloc(), Kind::San, SAN_KNOWS), None);
     assert_eq!(rt; first_wrong(rt.alloc(), Kind::San, SAN_FULL), None);
 }
 

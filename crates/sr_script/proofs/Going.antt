@@ -8,8 +8,8 @@ use Rattle.sr_script.specs.declared.fault.Fault.{Fault}
 use Rattle.sr_script.specs.declared.fault.Word.{Word}
 use Rattle.sr_script.specs.declared.fault.Word.TheVariants as word
 use Rattle.sr_script.specs.Lines.{lines_of, before_first_line, IsOneOf}
-use Rattle.sr_script.specs.Runs.{Dialogue, HasPlace, Replies, HasFault, KeepsUnless, EndsAt}
-use Rattle.sr_script.specs.Turns.{Turned, HasFailed, Failed, AllAnswered}
+use Rattle.sr_script.specs.Runs.{Dialogue, HasPlace, Replies, HasFault, HeldSince, EndsAt, EndsFrom}
+use Rattle.sr_script.specs.Turns.{Turned, AreObeyed, AllAnswered}
 
 -- the lines that were read are answered, and line n is next
 abbrev pub Going : {S : Type 0} → Dialogue S → S → Option (List ℕ) → Option (List ℕ) → Option (List ℕ) → Option (List ℕ) → S → ℕ → Type 0
@@ -22,38 +22,35 @@ pub going_from : {S : Type 0} (d : Dialogue S) (start : S) (left held : Option (
 going_from d start None held = tt
 going_from d start (Some xs) held = ([], [], refl, omega arith, (refl, refl), Appends-nil held)
 
--- one line more is answered
-replies_more : {S : Type 0} (d : Dialogue S) (s : S) (k : ℕ) (lines : List (List ℕ)) (text : List ℕ) (t : S) (line more : List ℕ) (u : S) (m : ℕ)
-    → Replies d s k lines text t → m ≡ k + length lines → HasPlace m line → d.Replied t m line more u → Replies d s k (lines ++ line ∷ []) (text ++ more) u
-replies_more {S} d s k [] text t line more u m h e place replied =
-    let here : m ≡ k = omega arith in (
-      more,
-      u,
-      [],
-      subst (λ n. HasPlace n line) here place,
-      subst (λ (v : S). d.Replied v k line more u) h.1 (subst (λ n. d.Replied t n line more u) here replied),
-      (refl, refl),
-      ap (λ (l : List ℕ). l ++ more) h.0 ∙ sym (append-nil more),
-    )
-replies_more d s k (l ∷ ls) text t line more u m h e place replied =
-    let rest = replies_more d h.1 (k + 1) ls h.2 t line more u m h.5 (omega arith) place replied in
+-- answers to some lines, and then to others
+replies_append : {S : Type 0} (d : Dialogue S) (s : S) (k : ℕ) (lines : List (List ℕ)) (text : List ℕ) (u : S) (others : List (List ℕ)) (more : List ℕ) (t : S)
+    → Replies d s k lines text u → Replies d u (k + length lines) others more t → Replies d s k (lines ++ others) (text ++ more) t
+replies_append {S} d s k [] text u others more t h r =
+    let e : text ≡ [] = h.0 in
+    let here : k + length {A = List ℕ} [] ≡ k = omega arith in
+    let first : Replies d s k others more t = subst (λ n. Replies d s n others more t) here (subst (λ (v : S). Replies d v (k + length {A = List ℕ} []) others more t) h.1 r) in
+    rw e first
+replies_append d s k (l ∷ ls) text u others more t h r =
+    let e : k + length (l ∷ ls) ≡ k + 1 + length ls = omega arith in
+    let rest = replies_append d h.1 (k + 1) ls h.2 u others more t h.5 (subst (λ n. Replies d u n others more t) e r) in
     (h.0, h.1, h.2 ++ more, h.3, h.4, rest, ap (λ (x : List ℕ). x ++ more) h.6 ∙ append_assoc h.0 h.2 more)
 
-pub going_on : {S : Type 0} (d : Dialogue S) (start : S) (left mid rest held now later : Option (List ℕ)) (s t : S) (n : ℕ) → n ≤ 1000000
-    → Going d start left mid held now s n → Turned d true n s t mid rest now later → Going d start left rest held later t (n + 1)
-going_on d start None mid rest held now later s t n small h k = tt
-going_on d start (Some xs) None rest held now later s t n small h k = absurd h
-going_on d start (Some xs) (Some ys) None held now later s t n small h k = absurd k.2
-going_on d start (Some xs) (Some ys) (Some zs) held now later s t n small h k =
-    let line = k.0 in
-    let lines : lines_of xs ≡ (h.0 ++ line ∷ []) ++ lines_of zs =
-    h.2 ∙ ap (λ (l : List (List ℕ)). h.0 ++ l) k.2 ∙ sym (append_assoc h.0 (line ∷ []) (lines_of zs)) in
-    let place : HasPlace n line = record { count = small; short = k.3 } in (
-      h.0 ++ line ∷ [],
+-- lines more are answered
+pub going_more : {S : Type 0} (d : Dialogue S) (start : S) (left mid rest held now later : Option (List ℕ)) (s t : S) (n m : ℕ)
+    → Going d start left mid held now s n → AreObeyed d s n m mid rest now later t → Going d start left rest held later t m
+going_more d start None mid rest held now later s t n m h k = tt
+going_more d start (Some xs) None rest held now later s t n m h k = absurd h
+going_more d start (Some xs) (Some ys) None held now later s t n m h k = absurd k.2
+going_more d start (Some xs) (Some ys) (Some zs) held now later s t n m h k =
+    let lines = k.0 in
+    let whole : lines_of xs ≡ (h.0 ++ lines) ++ lines_of zs =
+    h.2 ∙ ap (λ (l : List (List ℕ)). h.0 ++ l) k.2 ∙ sym (append_assoc h.0 lines (lines_of zs)) in
+    let here : n ≡ 1 + length h.0 = omega (arith, h.3) in (
+      h.0 ++ lines,
       h.1 ++ k.1,
-      lines,
-      omega (arith, h.3, length-append h.0 (line ∷ [])),
-      replies_more d start 1 h.0 h.1 s line k.1 t n h.4 (omega (arith, h.3)) place k.4,
+      whole,
+      omega (arith, h.3, k.4, length-append h.0 lines),
+      replies_append d start 1 h.0 h.1 s lines k.1 t h.4 (subst (λ i. Replies d s i lines k.1 t) here k.3),
       Appends-trans held now later h.1 k.1 h.5 k.5,
     )
 
@@ -65,7 +62,7 @@ answered_whole d start xs ys held now s n h none =
     (h.1, subst (λ (l : List (List ℕ)). Replies d start 1 l h.1 s) (sym whole) h.4, h.3 ∙ ap (λ (l : List (List ℕ)). length l + 1) (sym whole), h.5)
 
 pub whole_at_end : {S : Type 0} (d : Dialogue S) (start : S) (left mid rest held now later : Option (List ℕ)) (s t : S) (n : ℕ)
-    → Going d start left mid held now s n → Turned d false n s t mid rest now later → IfSome left (λ input. AllAnswered d start (lines_of input) held later t n)
+    → Going d start left mid held now s n → Turned d false n mid rest now later s t → IfSome left (λ input. AllAnswered d start (lines_of input) held later t n)
 whole_at_end d start None mid rest held now later s t n h k = tt
 whole_at_end d start (Some xs) None rest held now later s t n h k = absurd h
 whole_at_end d start (Some xs) (Some ys) None held now later s t n h k = absurd k.1
@@ -82,13 +79,13 @@ whole_at_limit d start (Some xs) (Some ys) held now s n m e h k =
 
 -- the run ends at line n
 ends_here : {S : Type 0} (d : Dialogue S) (start : S) (xs ys : List ℕ) (rest held now later : Option (List ℕ)) (s : S) (f : Fault)
-    → Going d start (Some xs) (Some ys) held now s f.line → KeepsUnless f.word now later → HasFault d s f.line f.word (lines_of ys) rest
+    → Going d start (Some xs) (Some ys) held now s f.line → HeldSince d s f.line f.word (lines_of ys) now later → HasFault d s f.line f.word (lines_of ys) rest
     → EndsAt d start (lines_of xs) f rest held later
 ends_here d start xs ys rest held now later s f h kept reason = record {
   before = h.0;
   left = lines_of ys;
   parted = h.2;
-  number = h.3;
+  number = omega (arith, h.3);
   then_held = now;
   reached = s;
   answered = (h.1, h.4, h.5);
@@ -96,27 +93,30 @@ ends_here d start xs ys rest held now later s f h kept reason = record {
   reason = reason;
 }
 
-fault_of_line : {S : Type 0} (d : Dialogue S) (s : S) (w : Word) (n : ℕ) (ys : List ℕ) (rest : Option (List ℕ)) → n ≤ 1000000 → HasFailed d s w (Some ys) rest
-    → HasFault d s n w (lines_of ys) rest
-fault_of_line d s word.Line n ys None small h = absurd h.1
-fault_of_line d s word.Line n ys (Some zs) small h =
-    subst (λ (l : List (List ℕ)). HasFault d s n word.Line l (Some zs)) (sym h.1) (record { count = small; short = h.2 }, h.3)
-fault_of_line d s word.Long n ys rest small h = subst (λ (l : List (List ℕ)). HasFault d s n word.Long l rest) (sym h.2) (inr h.3)
-fault_of_line d s word.Read n ys None small h = absurd h.1
-fault_of_line d s word.Read n ys (Some zs) small h = (h.0, ap lines_of h.1, h.2, h.3)
-fault_of_line d s word.Write n ys None small h = absurd h.1
-fault_of_line d s word.Write n ys (Some zs) small h =
-    subst (λ (l : List (List ℕ)). HasFault d s n word.Write l (Some zs)) (sym h.1) (record { count = small; short = h.2 }, h.3)
-fault_of_line d s word.Memory n ys None small h = absurd h.1
-fault_of_line d s word.Memory n ys (Some zs) small h =
-    subst (λ (l : List (List ℕ)). HasFault d s n word.Memory l (Some zs)) (sym h.1) (record { count = small; short = h.2 }, h.3)
-
-pub ends_failed : {S : Type 0} (d : Dialogue S) (start : S) (left mid rest held now later : Option (List ℕ)) (s : S) (f : Fault) → f.line ≤ 1000000
-    → Going d start left mid held now s f.line → Failed d s f.word mid rest now later → IfSome left (λ input. EndsAt d start (lines_of input) f rest held later)
-ends_failed d start None mid rest held now later s f small h k = tt
-ends_failed d start (Some xs) None rest held now later s f small h k = absurd h
-ends_failed d start (Some xs) (Some ys) rest held now later s f small h k =
-    ends_here d start xs ys rest held now later s f h k.1 (fault_of_line d s f.word f.line ys rest small k.0)
+-- the run ends among the lines that are left
+pub ends_later : {S : Type 0} (d : Dialogue S) (start : S) (left mid rest held now later : Option (List ℕ)) (s : S) (n : ℕ) (f : Fault)
+    → Going d start left mid held now s n → IfSome mid (λ input. EndsFrom d s n (lines_of input) f rest now later)
+    → IfSome left (λ input. EndsAt d start (lines_of input) f rest held later)
+ends_later d start None mid rest held now later s n f h k = tt
+ends_later d start (Some xs) None rest held now later s n f h k = absurd h
+ends_later d start (Some xs) (Some ys) rest held now later s n f h k =
+    let here : n ≡ 1 + length h.0 = omega (arith, h.3) in
+    let all = k.answered in
+    record {
+      before = h.0 ++ k.before;
+      left = k.left;
+      parted = h.2 ∙ ap (λ (l : List (List ℕ)). h.0 ++ l) k.parted ∙ sym (append_assoc h.0 k.before k.left);
+      number = omega (arith, h.3, k.number, length-append h.0 k.before);
+      then_held = k.then_held;
+      reached = k.reached;
+      answered = (
+        h.1 ++ all.0,
+        replies_append d start 1 h.0 h.1 s k.before all.0 k.reached h.4 (subst (λ i. Replies d s i k.before all.0 k.reached) here all.1),
+        Appends-trans held now k.then_held h.1 all.0 h.5 all.2,
+      );
+      kept = k.kept;
+      reason = k.reason;
+    }
 
 -- there is a line more than a script may have
 some_line : {S : Type 0} (d : Dialogue S) (s : S) (ys : List ℕ) (rest : Option (List ℕ)) → ys ≢ [] → (n : ℕ) → 1000000 < n → HasFault d s n word.Long (lines_of ys) rest
@@ -135,7 +135,7 @@ ends_too_many d start None mid rest held now s n f same large is h more = tt
 ends_too_many d start (Some xs) None rest held now s n f same large is h more = absurd h
 ends_too_many d start (Some xs) (Some ys) rest held now s n f same large is h more =
     ends_here d start xs ys rest held now now s f (subst (λ (m : ℕ). Going d start (Some xs) (Some ys) held now s m) same h)
-    (subst (λ (w : Word). KeepsUnless w now now) (sym is) (Keeps-refl now))
+    (subst (λ (w : Word). HeldSince d s f.line w (lines_of ys) now now) (sym is) (Keeps-refl now))
     (subst (λ (w : Word). HasFault d s f.line w (lines_of ys) rest) (sym is) (some_line d s ys rest more f.line large))
 
 -- the reader fails where no line more may be read
@@ -146,19 +146,19 @@ ends_unread d start (Some xs) None rest held now s n f same is h k = absurd h
 ends_unread d start (Some xs) (Some ys) None held now s n f same is h k = absurd k
 ends_unread d start (Some xs) (Some ys) (Some zs) held now s n f same is h k =
     ends_here d start xs ys (Some zs) held now now s f (subst (λ (m : ℕ). Going d start (Some xs) (Some ys) held now s m) same h)
-    (subst (λ (w : Word). KeepsUnless w now now) (sym is) (Keeps-refl now))
+    (subst (λ (w : Word). HeldSince d s f.line w (lines_of ys) now now) (sym is) (Keeps-refl now))
     (subst (λ (w : Word). HasFault d s f.line w (lines_of ys) (Some zs)) (sym is) ([], ap lines_of (sym k), tt, omega arith))
 
 -- the run ends behind its lines
 pub ends_behind : {S : Type 0} (d : Dialogue S) (start : S) (left rest held now later : Option (List ℕ)) (t : S) (f : Fault)
-    → IfSome left (λ input. AllAnswered d start (lines_of input) held now t f.line) → KeepsUnless f.word now later → HasFault d t f.line f.word [] rest
+    → IfSome left (λ input. AllAnswered d start (lines_of input) held now t f.line) → HeldSince d t f.line f.word [] now later → HasFault d t f.line f.word [] rest
     → IfSome left (λ input. EndsAt d start (lines_of input) f rest held later)
 ends_behind d start None rest held now later t f h kept reason = tt
 ends_behind d start (Some xs) rest held now later t f h kept reason = record {
   before = lines_of xs;
   left = [];
   parted = sym (append-nil (lines_of xs));
-  number = h.2;
+  number = omega (arith, h.2);
   then_held = now;
   reached = t;
   answered = (h.0, h.1, h.3);

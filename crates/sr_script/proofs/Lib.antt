@@ -5,3 +5,6 @@ pub mod Numerals
 pub mod Spellings
 pub mod Going
 pub mod PrintedLines
+pub mod WaitingTexts
+pub mod StatusLines
+pub mod BegunRuns

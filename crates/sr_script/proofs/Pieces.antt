@@ -32,7 +32,7 @@ Took-more line bs (Some xs) None new t c = absurd t
 Took-more line bs (Some xs) (Some ys) None t c = absurd c
 Took-more line bs (Some xs) (Some ys) (Some zs) t c = t ∙ ap (λ (l : List ℕ). line ++ l) c ∙ sym (append_assoc line bs zs)
 
-lines_line : (line ys : List ℕ) → Lacks 10 line → lines_of (line ++ 10 ∷ ys) ≡ line ∷ lines_of ys
+pub lines_line : (line ys : List ℕ) → Lacks 10 line → lines_of (line ++ 10 ∷ ys) ≡ line ∷ lines_of ys
 lines_line [] ys h = refl
 lines_line (b ∷ bs) ys h =
     let no : eqb b 10 ≡ false = ne_eqb b 10 h.0 in

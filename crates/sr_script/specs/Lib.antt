@@ -8,3 +8,6 @@ pub mod Texts
 pub mod Runs
 pub mod Turns
 pub mod Replies
+pub mod StatusTexts
+pub mod Statuses
+pub mod Reports

@@ -30,9 +30,9 @@ abbrev pub IsAnswered : {S : Type 0} → Dialogue S → S → List (List ℕ) �
 IsAnswered d start lines held now = (text : List ℕ) × (t : _) × (last : List ℕ) × Replies d start 1 lines text t × d.Ends t last
     × Appends held now (text ++ last)
 
--- all lines are answered, which came to t, and what is held grew by the answers
-abbrev pub AreAnswered : {S : Type 0} → Dialogue S → S → List (List ℕ) → Option (List ℕ) → Option (List ℕ) → S → Type 0
-AreAnswered d start lines held now t = (text : List ℕ) × Replies d start 1 lines text t × Appends held now text
+-- the lines, of which the first has this number, are answered, which came to t, and what is held grew by the answers
+abbrev pub AreAnswered : {S : Type 0} → Dialogue S → S → ℕ → List (List ℕ) → Option (List ℕ) → Option (List ℕ) → S → Type 0
+AreAnswered d start first lines held now t = (text : List ℕ) × Replies d start first lines text t × Appends held now text
 
 -- of the first of the lines that are left, the reader gave no more than 8000 octets, and no end
 abbrev pub IsWithinLine : List (List ℕ) → Option (List ℕ) → Type 0
@@ -52,26 +52,36 @@ HasFault d t number word.Write (line ∷ lines) rest = HasPlace number line × d
 HasFault d t number word.Memory [] rest = Unit {0}
 HasFault d t number word.Memory (line ∷ lines) rest = HasPlace number line × d.Knows t line
 
--- what is held stays; where a write failed, nothing is known of it
-abbrev pub KeepsUnless : Word → Option (List ℕ) → Option (List ℕ) → Type 0
-KeepsUnless word.Line held now = Keeps held now
-KeepsUnless word.Long held now = Keeps held now
-KeepsUnless word.Read held now = Keeps held now
-KeepsUnless word.Write held now = Unit {0}
-KeepsUnless word.Memory held now = Keeps held now
+-- an answer to the first of the lines that are left, or where none is left what is said at the end
+abbrev pub IsNextText : {S : Type 0} → Dialogue S → S → ℕ → List (List ℕ) → List ℕ → Type 0
+IsNextText d t number [] text = d.Ends t text
+IsNextText d t number (line ∷ lines) text = (u : _) × d.Replied t number line text u
 
--- the run came to the line of the fault: those before it are answered, and then nothing more is written
-pub record EndsAt {S : Type 0} (d : Dialogue S) (start : S) (lines : List (List ℕ)) (fault : Fault)
+-- what is held stays; where a write failed it grew by the front of what was to be written next
+abbrev pub HeldSince : {S : Type 0} → Dialogue S → S → ℕ → Word → List (List ℕ) → Option (List ℕ) → Option (List ℕ) → Type 0
+HeldSince d t number word.Line left held now = Keeps held now
+HeldSince d t number word.Long left held now = Keeps held now
+HeldSince d t number word.Read left held now = Keeps held now
+HeldSince d t number word.Write left held now = (part rest : List ℕ) × Appends held now part × IsNextText d t number left (part ++ rest)
+HeldSince d t number word.Memory left held now = Keeps held now
+
+-- A run over lines, of which the first has this number, came to the line of the fault: those before it are answered, and then nothing more is
+-- written, but for a part of the text of that line where a write failed.
+pub record EndsFrom {S : Type 0} (d : Dialogue S) (start : S) (first : ℕ) (lines : List (List ℕ)) (fault : Fault)
     (rest held now : Option (List ℕ)) : Type 0 where
   pub before : List (List ℕ)
   pub left : List (List ℕ)
   pub parted : lines ≡ before ++ left
-  pub number : fault.line ≡ length before + 1
+  pub number : fault.line ≡ first + length before
   pub then_held : Option (List ℕ)
   pub reached : S
-  pub answered : AreAnswered d start before held then_held reached
-  pub kept : KeepsUnless fault.word then_held now
+  pub answered : AreAnswered d start first before held then_held reached
+  pub kept : HeldSince d reached fault.line fault.word left then_held now
   pub reason : HasFault d reached fault.line fault.word left rest
+
+-- the same of a whole run, whose first line is line 1
+abbrev pub EndsAt : {S : Type 0} → Dialogue S → S → List (List ℕ) → Fault → Option (List ℕ) → Option (List ℕ) → Option (List ℕ) → Type 0
+EndsAt d start lines fault rest held now = EndsFrom d start 1 lines fault rest held now
 
 -- memory was refused before the first line was read
 pub record IsNotBegun (fault : Fault) (left rest held now : Option (List ℕ)) : Type 0 where

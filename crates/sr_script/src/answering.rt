@@ -110,7 +110,7 @@ fn tell_refusal(text: &mut Vec<u8>, number: u64, fault: StepFault) -> Result<(),
 }
 
 /// Has the node obey a command of the line with this number, and appends a line where it refuses.
-fn obey<R: Role>(
+pub(crate) fn obey<R: Role>(
     alloc: Global,
     role: RoleName,
     node: &mut NodeOf<R>,

@@ -20,7 +20,7 @@ use sr_node::NodeOf;
 use std::alloc::AllocError;
 
 /// The letter of a port.
-fn letter_of(port: Port) -> u8
+pub(crate) fn letter_of(port: Port) -> u8
     ensures { letter_of port ≡ result ∷ [] }
 {
     match port {

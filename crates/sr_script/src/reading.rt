@@ -44,7 +44,7 @@ fn behind_in(line: &[u8]) -> Option<&[u8]>
 }
 
 /// What stands behind the word `send` and a space.
-fn behind_send(line: &[u8]) -> Option<&[u8]>
+pub fn behind_send(line: &[u8]) -> Option<&[u8]>
     ensures found { IfSome result (λ rest. line.now ≡ codes "send " ++ rest.now) }
     ensures only { (rest : List ℕ) → line.now ≡ codes "send " ++ rest → IsSomeAnd result (λ r. r.now ≡ rest) }
 {

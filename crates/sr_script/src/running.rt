@@ -1,55 +1,180 @@
 //! A run of a script. It knows no node: what the lines are for is the session's.
 
-ghost use Rattle.std.specs.Prelude.{◌≡◌, ◌≤◌, ◌∷◌, [], ℕ, List, IfOk, IfErr, OnOk, IfSome, vec_capacity};
+ghost use Rattle.std.specs.Prelude.{◌≡◌, ◌≤◌, ◌<◌, ◌++◌, ◌∷◌, [], ℕ, List, IfOk, IfErr, OnOk, OnErr, Err, IfSome, length, vec_capacity};
 ghost use Rattle.std.specs.Io.KnownBytes.{Appends};
 ghost use Rattle.sr_script.specs.Lines.{lines_of, IsOneOf};
-ghost use Rattle.sr_script.specs.Runs.{IsAnswered, EndsAt, KeepsUnless};
-ghost use Rattle.sr_script.specs.Turns.{Turned, Failed, AllAnswered};
+ghost use Rattle.sr_script.specs.Runs.{IsAnswered, EndsAt, EndsFrom, HeldSince, HasFault};
+ghost use Rattle.sr_script.specs.Turns.{IsLineAt, AddsAnswer, IsFront, AreObeyed, Turned, AllAnswered};
 
 use crate::fault::{Fault, Word};
-use crate::lines::{is_at_end, next_line};
+use crate::lines::{MAX_LINE, is_at_end, next_line};
 use crate::session::Session;
+use crate::waiting::{Waiting, write_out};
+use crate::words::place_of;
+use std::alloc::Global;
 use std::io::{BufRead, Write};
 
 /// The most lines of a script.
 const MAX_LINES: u64 = 1_000_000;
 
-/// Writes a text, and sees that it has gone out.
-fn write_out<W: Write>(writer: &mut W, text: &[u8]) -> Result<(), Word>
-    ensures ok { OnOk result (Appends (W.contents writer.old) (W.contents writer.new) text.now) }
-    ensures err { IfErr result (λ word. word ≡ Word.Write) }
+/// So many octets that wait are written before another line is obeyed.
+const MOST_WAITING: usize = 65536;
+
+/// How far the lines at hand are obeyed.
+#[derive(Clone, Copy, Debug)]
+struct Front {
+    // The octets of the lines that are.
+    used: usize,
+    // The number of the line behind them.
+    next: u64,
+    // What is wrong with that line.
+    fault: Option<Word>,
+}
+
+/// The whole line, of no more than 8000 octets, that begins at a place. None where there is none.
+fn line_at(octets: &[u8], from: usize) -> Option<&[u8]>
+    requires { from ≤ length octets.now }
+    ensures whole { IfSome result (λ line. IsLineAt octets.now from line.now) }
 {
-    if text.is_empty() {
-        return Ok(());
-    }
-    if writer.write_all(text).is_err() || writer.flush().is_err() {
-        return Err(Word::Write);
-    }
+    let rest = &octets[from..];
+    let near = &rest[..rest.len().min(MAX_LINE + 1)];
+    let at = place_of(b'\n', near)?;
+    Some(&near[..at])
+}
+
+/// Has the session obey a line. What is to be printed for it waits then, behind what waited.
+fn obey_line<S: Session>(
+    session: &mut S,
+    number: u64,
+    line: &[u8],
+    text: &mut Vec<u8>,
+    waiting: &mut Waiting,
+) -> Result<(), Word>
+    ensures ok { OnOk result (AddsAnswer S.dialogue (S.state session.old) number line.now waiting.old.text.items waiting.old.marks.items
+        waiting.new.text.items waiting.new.marks.items (S.state session.new)) }
+    ensures bad { result ≡ Err Word.Line → S.dialogue.Knows (S.state session.old) line.now → ⊥ }
+    ensures memory { result ≡ Err Word.Memory → S.dialogue.Knows (S.state session.old) line.now }
+    ensures fault { IfErr result (λ word. IsOneOf word (Word.Line ∷ Word.Memory ∷ [])) }
+    ensures same { OnErr result ((waiting.new.text.items ≡ waiting.old.text.items) × (waiting.new.marks.items ≡ waiting.old.marks.items)) }
+{
+    text.clear();
+    session.answer(number, line, text)?;
+    waiting.add(number, text)?;
     Ok(())
 }
 
-/// Reads a line, has the session obey it, and writes what is to be printed for it. False at the end.
-fn turn<S: Session, R: BufRead, W: Write>(
+/// Has the session obey the whole lines at the front of octets, until enough waits to be written. `first` is the number of
+/// the first.
+fn obey_front<S: Session>(
     session: &mut S,
-    line: &mut Vec<u8>,
+    first: u64,
+    octets: &[u8],
     text: &mut Vec<u8>,
-    number: u64,
+    waiting: &mut Waiting,
+) -> Front
+    requires number { first ≤ 1000001 }
+    requires text { waiting.old.text.items ≡ [] }
+    requires marks { waiting.old.marks.items ≡ [] }
+    ensures { IsFront S.dialogue (S.state session.old) first octets.now waiting.new.text.items waiting.new.marks.items result (S.state session.new) }
+{
+    let mut used = 0;
+    let mut next = first;
+    while next <= MAX_LINES && waiting.text.len() < MOST_WAITING {
+        let Some(line) = line_at(octets, used) else {
+            break;
+        };
+        if let Err(word) = obey_line(session, next, line, text, waiting) {
+            return Front {
+                used,
+                next,
+                fault: Some(word),
+            };
+        }
+        used += line.len() + 1;
+        next += 1;
+    }
+    Front {
+        used,
+        next,
+        fault: None,
+    }
+}
+
+/// Has the session obey the whole lines that the reader has at hand, and writes what is to be printed for them. `first` is
+/// the number of the first; the answer is the number behind them.
+fn obey_at_hand<S: Session, R: BufRead, W: Write>(
+    session: &mut S,
+    first: u64,
+    text: &mut Vec<u8>,
+    waiting: &mut Waiting,
     reader: &mut R,
     writer: &mut W,
-) -> Result<bool, Word>
-    requires { 8001 ≤ vec_capacity line.old }
-    ensures turned { IfOk result (λ more. Turned S.dialogue more number (S.state session.old) (S.state session.new)
-        (R.remaining reader.old) (R.remaining reader.new) (W.contents writer.old) (W.contents writer.new)) }
-    ensures failed { IfErr result (λ word. Failed S.dialogue (S.state session.old) word (R.remaining reader.old) (R.remaining reader.new)
-        (W.contents writer.old) (W.contents writer.new)) }
-    ensures room { vec_capacity line.old ≤ vec_capacity line.new }
+) -> Result<u64, Fault>
+    requires number { first ≤ 1000001 }
+    requires text { waiting.old.text.items ≡ [] }
+    requires marks { waiting.old.marks.items ≡ [] }
+    ensures obeyed { IfOk result (λ n. AreObeyed S.dialogue (S.state session.old) first n (R.remaining reader.old) (R.remaining reader.new)
+        (W.contents writer.old) (W.contents writer.new) (S.state session.new)) }
+    ensures count { IfOk result (λ n. n ≤ 1000001) }
+    ensures ahead { IfOk result (λ n. first ≤ n) }
+    ensures text { OnOk result (waiting.new.text.items ≡ []) }
+    ensures marks { OnOk result (waiting.new.marks.items ≡ []) }
+    ensures ended { IfErr result (λ fault. IfSome (R.remaining reader.old) (λ input.
+        EndsFrom S.dialogue (S.state session.old) first (lines_of input) fault (R.remaining reader.new) (W.contents writer.old) (W.contents writer.new))) }
 {
-    if !next_line(reader, line)? {
-        return Ok(false);
+    let Ok(available) = reader.fill_buf() else {
+        return Err(Fault {
+            line: first,
+            word: Word::Read,
+        });
+    };
+    let front = obey_front(session, first, available, text, waiting);
+    reader.consume(front.used);
+    if let Err(fault) = waiting.send(writer) {
+        return Err(fault);
     }
-    text.clear();
-    session.answer(number, line, text)?;
-    write_out(writer, text)?;
+    match front.fault {
+        Some(word) => Err(Fault {
+            line: front.next,
+            word,
+        }),
+        None => Ok(front.next),
+    }
+}
+
+/// Reads the next line, however it comes, has the session obey it, and writes what is to be printed for it. False at the end.
+fn obey_next<S: Session, R: BufRead, W: Write>(
+    session: &mut S,
+    number: u64,
+    line: &mut Vec<u8>,
+    text: &mut Vec<u8>,
+    waiting: &mut Waiting,
+    reader: &mut R,
+    writer: &mut W,
+) -> Result<bool, Fault>
+    requires number { number ≤ 1000000 }
+    requires room { 8001 ≤ vec_capacity line.old }
+    requires text { waiting.old.text.items ≡ [] }
+    requires marks { waiting.old.marks.items ≡ [] }
+    ensures turned { IfOk result (λ more. Turned S.dialogue more number (R.remaining reader.old) (R.remaining reader.new)
+        (W.contents writer.old) (W.contents writer.new) (S.state session.old) (S.state session.new)) }
+    ensures room { vec_capacity line.old ≤ vec_capacity line.new }
+    ensures text { OnOk result (waiting.new.text.items ≡ []) }
+    ensures marks { OnOk result (waiting.new.marks.items ≡ []) }
+    ensures ended { IfErr result (λ fault. IfSome (R.remaining reader.old) (λ input.
+        EndsFrom S.dialogue (S.state session.old) number (lines_of input) fault (R.remaining reader.new) (W.contents writer.old) (W.contents writer.new))) }
+{
+    match next_line(reader, line) {
+        Ok(true) => {}
+        Ok(false) => return Ok(false),
+        Err(word) => return Err(Fault { line: number, word }),
+    }
+    if let Err(word) = obey_line(session, number, line, text, waiting) {
+        return Err(Fault { line: number, word });
+    }
+    if let Err(fault) = waiting.send(writer) {
+        return Err(fault);
+    }
     Ok(true)
 }
 
@@ -58,20 +183,31 @@ fn obey_lines<S: Session, R: BufRead, W: Write>(
     session: &mut S,
     line: &mut Vec<u8>,
     text: &mut Vec<u8>,
+    waiting: &mut Waiting,
     reader: &mut R,
     writer: &mut W,
 ) -> Result<u64, Fault>
-    requires { 8001 ≤ vec_capacity line.old }
+    requires room { 8001 ≤ vec_capacity line.old }
+    requires text { waiting.old.text.items ≡ [] }
+    requires marks { waiting.old.marks.items ≡ [] }
     ensures done { IfOk result (λ n. IfSome (R.remaining reader.old) (λ input.
         AllAnswered S.dialogue (S.state session.old) (lines_of input) (W.contents writer.old) (W.contents writer.new) (S.state session.new) n)) }
     ensures ended { IfErr result (λ fault. IfSome (R.remaining reader.old) (λ input.
         EndsAt S.dialogue (S.state session.old) (lines_of input) fault (R.remaining reader.new) (W.contents writer.old) (W.contents writer.new))) }
 {
-    for number in 1..=MAX_LINES {
-        match turn(session, line, text, number, reader, writer) {
+    let mut number = match obey_at_hand(session, 1, text, waiting, reader, writer) {
+        Ok(next) => next,
+        Err(fault) => return Err(fault),
+    };
+    while number <= MAX_LINES {
+        match obey_next(session, number, line, text, waiting, reader, writer) {
             Ok(true) => {}
             Ok(false) => return Ok(number),
-            Err(word) => return Err(Fault { line: number, word }),
+            Err(fault) => return Err(fault),
+        }
+        match obey_at_hand(session, number + 1, text, waiting, reader, writer) {
+            Ok(next) => number = next,
+            Err(fault) => return Err(fault),
         }
     }
     let line = MAX_LINES + 1;
@@ -94,24 +230,32 @@ fn end<S: Session, W: Write>(
     ensures ended { OnOk result ((last : List ℕ) × S.dialogue.Ends (S.state session.old) last
         × Appends (W.contents writer.old) (W.contents writer.new) last) }
     ensures failed { IfErr result (λ word. IsOneOf word (Word.Write ∷ Word.Memory ∷ [])) }
-    ensures kept { IfErr result (λ word. KeepsUnless word (W.contents writer.old) (W.contents writer.new)) }
+    ensures kept { IfErr result (λ word. (number : ℕ)
+        → HeldSince S.dialogue (S.state session.old) number word [] (W.contents writer.old) (W.contents writer.new)) }
 {
     text.clear();
     session.finish(text)?;
-    write_out(writer, text)
+    if text.is_empty() {
+        return Ok(());
+    }
+    if write_out(writer, text) < text.len() || writer.flush().is_err() {
+        return Err(Word::Write);
+    }
+    Ok(())
 }
 
 /// Has the session obey the script that the reader has left, and writes what is to be printed for each line, and then at the
-/// end. Lines are counted from 1; what is printed for a line is written, and flushed, before the next line is read. The two
-/// lists are used again for each line; `line` has room for the longest.
+/// end. Lines are counted from 1. What is printed for lines that the reader has at hand is written together, and flushed,
+/// before more is read, and before a fault. The two lists are used again for each line; `line` has room for the longest.
 pub fn run_session<S: Session, R: BufRead, W: Write>(
+    alloc: Global,
     session: &mut S,
     line: &mut Vec<u8>,
     text: &mut Vec<u8>,
     reader: &mut R,
     writer: &mut W,
 ) -> Result<(), Fault>
-    requires { 8001 ≤ vec_capacity line.old }
+    requires room { 8001 ≤ vec_capacity line.old }
 
     // All lines are lines of a script, and what is written is the answers to them, and then the end.
     ensures done { OnOk result (IfSome (R.remaining reader.old) (λ input.
@@ -121,7 +265,8 @@ pub fn run_session<S: Session, R: BufRead, W: Write>(
     ensures ended { IfErr result (λ fault. IfSome (R.remaining reader.old) (λ input.
         EndsAt S.dialogue (S.state session.old) (lines_of input) fault (R.remaining reader.new) (W.contents writer.old) (W.contents writer.new))) }
 {
-    let number = obey_lines(session, line, text, reader, writer)?;
+    let mut waiting = Waiting::new(alloc);
+    let number = obey_lines(session, line, text, &mut waiting, reader, writer)?;
     match end(session, text, writer) {
         Ok(()) => Ok(()),
         Err(word) => Err(Fault { line: number, word }),

@@ -29,3 +29,12 @@ pub struct Setup {
     /// The keys of its tables. Nothing that is printed depends on them.
     pub keys: Keys,
 }
+
+/// What is printed of the node that a script is run on.
+#[derive(Clone, Copy, Debug)]
+pub(crate) enum Report {
+    /// The frames that it puts out.
+    Frames,
+    /// What it knows of other nodes at the end.
+    Status,
+}

@@ -43,11 +43,12 @@ pub struct Narrow {
 
 impl Write for Narrow {
     fn write(&mut self, buf: &[u8]) -> io::Result<usize> {
-        if buf.len() > self.room {
+        let count = self.room.min(buf.len());
+        if count == 0 {
             return Err(io::Error::from(ErrorKind::Other));
         }
-        self.room -= buf.len();
-        Ok(buf.len())
+        self.room -= count;
+        Ok(count)
     }
 
     fn flush(&mut self) -> io::Result<()> {

@@ -292,14 +292,31 @@ fn reader_fails(rt: HostRuntime) {
     expect_steps(&rt, READERS);
 }
 
+/// The same with empty lines.
+const FRAMES_APART: &[u8] = b"\nin A 0 00\n\n\nin A 0 00\n\n";
+
+/// The same with a line that is none of a script.
+const A_FAULT_BEHIND: &[u8] = b"in A 0 00\nin A 0 00\nno line\nin A 0 00\n";
+
 /// Each line prints 19 octets.
 const TWO_FRAMES: &[u8] = b"in A 0 00\nin A 0 00\n";
 
 const WRITERS: &[Step] = &[
     Step::Narrow(TWO_FRAMES, 0, Some((1, Word::Write))),
+    Step::Narrow(TWO_FRAMES, 18, Some((1, Word::Write))),
     Step::Narrow(TWO_FRAMES, 19, Some((2, Word::Write))),
+    Step::Narrow(TWO_FRAMES, 37, Some((2, Word::Write))),
     Step::Narrow(TWO_FRAMES, 38, None),
-    Step::Unflushed(TWO_FRAMES, Some((1, Word::Write))),
+    Step::Unflushed(TWO_FRAMES, Some((2, Word::Write))),
+    // Lines that print nothing stand between and behind those that do.
+    Step::Narrow(FRAMES_APART, 18, Some((2, Word::Write))),
+    Step::Narrow(FRAMES_APART, 19, Some((5, Word::Write))),
+    Step::Unflushed(FRAMES_APART, Some((5, Word::Write))),
+    // What waits is written before a fault is told, and its own fault goes before that.
+    Step::Narrow(A_FAULT_BEHIND, 38, Some((3, Word::Line))),
+    Step::Narrow(A_FAULT_BEHIND, 37, Some((2, Word::Write))),
+    Step::Narrow(A_FAULT_BEHIND, 18, Some((1, Word::Write))),
+    Step::Unflushed(A_FAULT_BEHIND, Some((2, Word::Write))),
 ];
 
 #[test]
@@ -307,13 +324,16 @@ fn writer_fails(rt: HostRuntime) {
     expect_steps(&rt, WRITERS);
 }
 
-// What is printed for a line is written, and then passed on, before the next line; where nothing is, nothing is called.
+// What is printed for the whole lines at hand is written at once, and then passed on; a last line without LF is read for
+// itself, and what is printed for it goes out too. Where nothing is printed, nothing is called.
 const CALLS: &[Step] = &[
-    Step::Recorded(b"in A 0 00\n\nin A 0 00\n#", b"wfwf"),
+    Step::Recorded(b"in A 0 00\n\nin A 0 00\n#", b"wf"),
+    Step::Recorded(b"in A 0 00\nin A 0 00\nin A 0 00", b"wfwf"),
+    Step::Recorded(b"in A 0 00", b"wf"),
     Step::Recorded(b"\n#\n", b""),
 ];
 
 #[test]
-fn each_answer_is_passed_on(rt: HostRuntime) {
+fn answers_are_passed_on_together(rt: HostRuntime) {
     expect_steps(&rt, CALLS);
 }

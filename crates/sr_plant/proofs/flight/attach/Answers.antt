@@ -12,7 +12,7 @@ pub returns-clause-counted : goal.returns-clause-counted
 returns-clause-counted c =
     let e = c.add_copy.ensures in
     let a = attached c.args.kept.now c.add_copy.new.kept c.args.places.now.items c.args.flying c.requires.counted e.more e.parcel e.others in
-    subst (λ (fs : List Flying). AreCounted c.add_copy.new.kept fs) (sym c.push_back_reserved.ensures.items) a.0
+    subst (λ (fs : List Flying). AreCounted c.add_copy.new.kept fs) (sym c.put_last.ensures.items) a.0
 
 pub returns-clause-used : goal.returns-clause-used
 returns-clause-used c =
@@ -23,4 +23,4 @@ pub returns-clause-copies : goal.returns-clause-copies
 returns-clause-copies c =
     let e = c.add_copy.ensures in
     let a = attached c.args.kept.now c.add_copy.new.kept c.args.places.now.items c.args.flying c.requires.counted e.more e.parcel e.others in
-    subst (λ (fs : List Flying). copies_in c.add_copy.new.kept fs ≡ copies_in c.args.kept.now c.args.places.now.items ++ copy_in c.args.kept.now c.args.flying ∷ []) (sym c.push_back_reserved.ensures.items) a.1
+    subst (λ (fs : List Flying). copies_in c.add_copy.new.kept fs ≡ copies_in c.args.kept.now c.args.places.now.items ++ copy_in c.args.kept.now c.args.flying ∷ []) (sym c.put_last.ensures.items) a.1

@@ -21,9 +21,9 @@ returns-then-is_on-clause-used c =
 pub returns-clause-counted : goal.returns-clause-counted
 returns-clause-counted c =
     let k = looked_kept c.args.kept.now c.args.places.now.items c.args.seen c.args.link c.requires.counted (sym c.is_on.ensures ∙ c.if-is_on.false) in
-    subst (λ (fs : List Flying). AreCounted c.args.kept.now fs) (sym c.push_back_reserved.ensures.items) k.0
+    subst (λ (fs : List Flying). AreCounted c.args.kept.now fs) (sym c.put_last.ensures.items) k.0
 
 pub returns-clause-copies : goal.returns-clause-copies
 returns-clause-copies c =
     let k = looked_kept c.args.kept.now c.args.places.now.items c.args.seen c.args.link c.requires.counted (sym c.is_on.ensures ∙ c.if-is_on.false) in
-    ap (copies_in c.args.kept.now) c.push_back_reserved.ensures.items ∙ k.1
+    ap (copies_in c.args.kept.now) c.put_last.ensures.items ∙ k.1

@@ -1,28 +1,41 @@
-use Rattle.std.proofs.Common.{rules, ◌≡◌, ◌∙◌, sym, ap, Some, false, is_some}
+use Rattle.std.proofs.Common.{rules, ◌≡◌, ◌∙◌, sym, ap, Some, false, not, is_some}
 use Rattle.std.specs.Map.{lookup, set_value}
 use Rattle.std.specs.Option.{option_map}
 use Rattle.sr_frame.specs.Addresses.{mac_eq}
 use Rattle.sr_dup_table.specs.Joins.{is_apart, joined_heard, put_with}
 use Rattle.sr_dup_table.specs.Shown.{heard_of, sources_of}
 use Rattle.sr_dup_table.proofs.SourceLemmas.{found-shown, lookup-shown, set-shown}
+use Rattle.sr_dup_table.proofs.JoinLemmas.{not-true}
 use Rattle.sr_dup_table.proofs.table.DupTable.join.Goals as goal
 
-pub returns-in_default-clause-found : goal.returns-in_default-clause-found
-returns-in_default-clause-found c =
-    c.in_default.ensures.found ∙ found-shown (mac_eq c.args.src) c.self.inside.slots.entries ∙ ap (λ t. is_some (lookup (mac_eq c.args.src) t.sources)) c.self.view_is
+pub returns-in_err-joined-clause-found : goal.returns-in_err-joined-clause-found
+returns-in_err-joined-clause-found c =
+    ap is_some c.from_residual.ensures
+    ∙ c.in_err-joined.ensures.found
+    ∙ found-shown (mac_eq c.args.src) c.self.inside.slots.entries
+    ∙ ap (λ t. is_some (lookup (mac_eq c.args.src) t.sources)) c.self.view_is
 
 pub returns-clause-found : goal.returns-clause-found
 returns-clause-found c =
-    c.in-Some.ensures.found ∙ found-shown (mac_eq c.args.src) c.self.inside.slots.entries ∙ ap (λ t. is_some (lookup (mac_eq c.args.src) t.sources)) c.self.view_is
+    c.in_ok-joined.ensures.found ∙ found-shown (mac_eq c.args.src) c.self.inside.slots.entries ∙ ap (λ t. is_some (lookup (mac_eq c.args.src) t.sources)) c.self.view_is
+
+pub returns-clause-close : goal.returns-clause-close
+returns-clause-close c =
+    let other = heard_of c.args.other.now in
+    let h = c.in_ok-joined.ensures.changed in
+    let answer : c.in_ok-joined.joined ≡ not (is_apart (Some (heard_of h.was)) other) = search rules in
+    let look = sym (ap (λ t. lookup (mac_eq c.args.src) t.sources) c.self.view_is) ∙ lookup-shown (mac_eq c.args.src) c.self.inside.slots.entries ∙ ap (option_map heard_of) h.found in
+    answer ∙ sym (ap (λ o. not (is_apart o other)) look)
 
 pub returns-clause-joined : goal.returns-clause-joined
-returns-clause-joined c =
+returns-clause-joined c did =
     let other = heard_of c.args.other.now in
-    let h = c.in-Some.ensures.changed in
+    let h = c.in_ok-joined.ensures.changed in
     let after : is_apart (Some (heard_of h.was)) other ≡ false → heard_of h.is ≡ joined_heard (heard_of h.was) other = search rules in
+    let answer : c.in_ok-joined.joined ≡ not (is_apart (Some (heard_of h.was)) other) = search rules in
     let look = sym (ap (λ t. lookup (mac_eq c.args.src) t.sources) c.self.view_is) ∙ lookup-shown (mac_eq c.args.src) c.self.inside.slots.entries ∙ ap (option_map heard_of) h.found in
     ap sources_of h.written
     ∙ set-shown (mac_eq c.args.src) c.self.inside.slots.entries h.is
-    ∙ ap (set_value (mac_eq c.args.src) (sources_of c.self.inside.slots.entries)) (after (sym (ap (λ o. is_apart o other) look) ∙ c.requires))
+    ∙ ap (set_value (mac_eq c.args.src) (sources_of c.self.inside.slots.entries)) (after (not-true (is_apart (Some (heard_of h.was)) other) (sym answer ∙ did)))
     ∙ ap (λ t. set_value (mac_eq c.args.src) t.sources (joined_heard (heard_of h.was) other)) c.self.view_is
     ∙ sym (ap (λ o. put_with o c.args.self.now.sources (c.args.src, other)) look)

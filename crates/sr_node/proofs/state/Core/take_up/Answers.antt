@@ -9,11 +9,11 @@ unwrap-requires c =
     let ready : IsReadyFor c.self.inside.nodes c.in-Some.said.mac c.args.now =
     subst (λ v. IsReadyFor v.nodes c.in-Some.said.mac c.args.now) (sym c.self.view_is) (c.requires.ready c.in-Some.said c.in-Some.is) in
     elim ready [
-      | inl held ↦ c.announce.ensures.reserved held
-      | inr other ↦ elim other [
-        | inl known ↦ c.announce.ensures.known known
-        | inr full ↦
-            let answer : c.announce.result ≡ Ok Full = c.announce.ensures.full.1 full in
-            subst (λ r. IsOk r) (sym answer) refl
+      | inl room ↦ elim room [
+        | inl held ↦ c.announce_at.ensures.reserved held
+        | inr known ↦ c.announce_at.ensures.known known
       ]
+      | inr full ↦
+          let answer : c.announce_at.result ≡ Ok Full = c.announce_at.ensures.full.1 full in
+          subst (λ r. IsOk r) (sym answer) refl
     ]

@@ -1,0 +1,5 @@
+pub mod Words
+pub mod NewPlants
+pub mod UpLines
+pub mod SentFrames
+pub mod FlowLemmas

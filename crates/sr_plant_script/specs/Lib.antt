@@ -1,0 +1,6 @@
+pub mod Members
+pub mod Commands
+pub mod Sendings
+pub mod Texts
+pub mod Happenings
+pub mod Replies

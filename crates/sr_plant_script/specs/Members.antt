@@ -1,0 +1,30 @@
+-- The nodes of a script's plant.
+use Rattle.std.specs.Prelude.{ℕ, zero, suc, List, [], ◌∷◌, ◌++◌}
+use Rattle.sr_frame.specs.declared.fields.Mac.{Mac}
+use Rattle.sr_forwarding.specs.RoleImages.{role_of}
+use Rattle.sr_node.specs.Images.{State, begun}
+use Rattle.sr_plant.specs.declared.topology.Topology.{Topology}
+use Rattle.sr_plant.specs.Topologies.{kind_of}
+use Rattle.sr_plant.specs.Plants.{Plant}
+use Rattle.sr_plant.specs.Building.{opening}
+use Rattle.sr_plant_script.specs.declared.setup.PlantSetup.{PlantSetup}
+
+-- the address of node i is 02:00:00:00:00:XX, XX being i (locally administered; choice of this project)
+abbrev pub octets_of : ℕ → List ℕ
+octets_of node = 2 ∷ 0 ∷ 0 ∷ 0 ∷ 0 ∷ node ∷ []
+
+abbrev pub mac_of : ℕ → Mac
+mac_of node = record { 0 = octets_of node }
+
+-- a new node of a plant of this topology
+abbrev pub new_node : Topology → ℕ → State
+new_node t node = begun (role_of (kind_of t) (mac_of node))
+
+-- the first nodes, so many
+abbrev pub new_nodes : Topology → ℕ → List State
+new_nodes t zero = []
+new_nodes t (suc n) = new_nodes t n ++ new_node t n ∷ []
+
+-- the plant with which a script begins
+abbrev pub start_of : PlantSetup → Plant
+start_of setup = opening setup.topology (new_nodes setup.topology setup.nodes)

@@ -1,0 +1,18 @@
+//! Scripts of rings and twin networks: what happens to a plant, line by line, and what its hosts are handed.
+#![tactic(auto)]
+
+mod answering;
+mod command;
+mod happening;
+mod members;
+mod network;
+mod printing;
+mod reading;
+mod refusing;
+mod running;
+mod sending;
+mod setup;
+
+pub use running::run_plant;
+pub use setup::PlantSetup;
+pub use sr_plant::Topology;

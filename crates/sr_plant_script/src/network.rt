@@ -1,0 +1,133 @@
+//! The plant of a script.
+
+ghost use Rattle.std.specs.Prelude.{◌≡◌, ◌≤◌, ◌<◌, ℕ, map, length, replicate, [], None, IfOk, IfErr, OnOk, OnErr};
+ghost use Rattle.sr_node.specs.Images.{node_state};
+ghost use Rattle.sr_forwarding.specs.RoleImages.{role_of};
+ghost use Rattle.sr_plant.specs.Limits.{most_nodes};
+ghost use Rattle.sr_plant.specs.Topologies.{kind_of};
+ghost use Rattle.sr_plant.specs.Plants.{Plant};
+ghost use Rattle.sr_plant.specs.Steps.{PlantStep, PlantRefuses, plant_refusal};
+ghost use Rattle.sr_plant_script.specs.Members.{new_nodes, start_of};
+ghost use Rattle.sr_plant_script.specs.Happenings.{taken_up};
+
+use crate::members::{Member, MemberRouting, mac_of};
+use crate::setup::PlantSetup;
+use sr_forwarding::{OwnRole, Parcel};
+use sr_frame::NoMemory;
+use sr_node::NodeOf;
+use sr_plant::{PlantEvent, PlantFault, PlantOf, Topology};
+use std::alloc::Global;
+use std::marker::Model;
+
+/// A plant of doubly attached nodes, as it is between its events. Clauses see it as data.
+#[derive(Drop)]
+pub(crate) struct Network {
+    plant: PlantOf<Member>,
+}
+
+impl Model for Network {
+    ghost use Rattle.std.specs.Prelude.{map};
+    ghost use Rattle.sr_node.specs.Images.{node_state};
+    ghost use Rattle.sr_forwarding.specs.RoleImages.{role_of};
+    ghost use Rattle.sr_plant.specs.Topologies.{kind_of};
+    ghost use Rattle.sr_plant.specs.Plants.{Plant, plant_of, IsInOrder};
+
+    ghost Value = { Plant };
+
+    ghost view = { λ n. plant_of n.plant.topology
+        (map (λ m. node_state (role_of (kind_of m.role.routing.topology) m.role.mac) m.core) n.plant.nodes.items)
+        n.plant.traffic (map (λ h. h.items) n.plant.handed.items) };
+
+    ghost invariant = { λ n. IsInOrder (plant_of n.plant.topology
+        (map (λ m. node_state (role_of (kind_of m.role.routing.topology) m.role.mac) m.core) n.plant.nodes.items)
+        n.plant.traffic (map (λ h. h.items) n.plant.handed.items)) };
+}
+
+// The first nodes of a plant, so many.
+fn new_nodes(
+    alloc: Global,
+    topology: Topology,
+    count: usize,
+) -> Result<Vec<NodeOf<Member>>, NoMemory>
+    requires { count ≤ most_nodes }
+    ensures { IfOk result (λ ns. map (λ m. node_state (role_of (kind_of m.role.routing.topology) m.role.mac) m.core) ns.items
+        ≡ new_nodes topology count) }
+{
+    let mut nodes = Vec::with_capacity(alloc, count)?;
+    for number in 0..count {
+        let role = OwnRole::of(mac_of(number), MemberRouting { topology });
+        nodes.push_reserved(NodeOf::new(alloc, role)?);
+    }
+    Ok(nodes)
+}
+
+// Empties each list.
+fn empty_all(lists: &mut Vec<Vec<Parcel>>)
+    ensures { map (λ l. l.items) lists.new.items ≡ replicate (length lists.old.items) [] }
+{
+    for list in lists.iter_mut() {
+        list.clear();
+    }
+}
+
+// Why a plant is not made of nodes that make one: memory was refused.
+fn lack_of(fault: PlantFault) -> NoMemory
+    requires { fault ≡ PlantFault.NoMemory }
+{
+    match fault {
+        PlantFault::NoMemory => NoMemory,
+        _ => unreachable!(),
+    }
+}
+
+impl Network {
+    /// A new one. NoMemory: a growth was refused.
+    pub(crate) fn new(alloc: Global, setup: &PlantSetup) -> Result<Network, NoMemory>
+        ensures { IfOk result (λ n. n ≡ start_of setup.now) }
+    {
+        let nodes = new_nodes(alloc, setup.topology, setup.nodes)?;
+        match PlantOf::new(alloc, setup.topology, nodes) {
+            Ok(plant) => Ok(Network { plant }),
+            Err(fault) => Err(lack_of(fault)),
+        }
+    }
+
+    /// How many nodes it has.
+    pub(crate) fn node_count(&self) -> usize
+        ensures count { result ≡ length self.now.nodes }
+        ensures few { result ≤ most_nodes }
+    {
+        self.plant.nodes.len()
+    }
+
+    /// How many copies are in flight.
+    pub(crate) fn in_flight(&self) -> usize
+        ensures { result ≡ length self.now.flight }
+    {
+        self.plant.in_flight()
+    }
+
+    /// What each node handed up to its host.
+    pub(crate) fn handed(&self) -> &[Vec<Parcel>]
+        ensures { map (λ l. l.items) result.now ≡ self.now.handed }
+    {
+        self.plant.handed.as_slice()
+    }
+
+    /// An event happens whole, or is refused and changes nothing.
+    pub(crate) fn apply(&mut self, event: &PlantEvent) -> Result<(), PlantFault>
+        ensures step { OnOk result (PlantStep self.old event.now self.new) }
+        ensures ok { OnOk result (plant_refusal self.old event.now ≡ None) }
+        ensures err { IfErr result (λ f. PlantRefuses self.old event.now f) }
+        ensures same { OnErr result (self.new ≡ self.old) }
+    {
+        self.plant.apply(event)
+    }
+
+    /// All that was handed up is let go.
+    pub(crate) fn let_go(&mut self)
+        ensures { self.new ≡ taken_up self.old }
+    {
+        empty_all(&mut self.plant.handed);
+    }
+}

@@ -1,0 +1,93 @@
+//! What is printed of a plant.
+
+ghost use Rattle.std.specs.Prelude.{◌≡◌, ◌++◌, ◌≤◌, ℕ, List, length, map, OnOk, IfErr};
+ghost use Rattle.sr_forwarding.specs.Parcels.{plain_of};
+ghost use Rattle.sr_plant_script.specs.Texts.{up_line, up_lines, all_up_lines, flow_line, flight_line};
+
+use sr_forwarding::Parcel;
+use sr_hex::append_hex;
+use sr_script::{Word, write_plain};
+use std::alloc::AllocError;
+use std::io::Write;
+
+/// Appends the line for a frame that a node hands up.
+fn append_up(text: &mut Vec<u8>, node: usize, frame: &[u8]) -> Result<(), AllocError>
+    requires { length frame.now ≤ 1524 }
+    ensures { OnOk result (text.new.items ≡ text.old.items ++ up_line node frame.now) }
+{
+    if write!(text, "up {node} ").is_err() {
+        return Err(AllocError);
+    }
+    append_hex(text, frame)?;
+    text.push(b'\n')?;
+    Ok(())
+}
+
+/// Appends the line for a parcel that a node hands up. The list for its frame is used again.
+fn append_parcel(
+    text: &mut Vec<u8>,
+    node: usize,
+    parcel: &Parcel,
+    frame: &mut Vec<u8>,
+) -> Result<(), Word>
+    ensures ok { OnOk result (text.new.items ≡ text.old.items ++ up_line node (plain_of parcel.now)) }
+    ensures err { IfErr result (λ word. word ≡ Word.Memory) }
+{
+    frame.clear();
+    write_plain(parcel, frame)?;
+    append_up(text, node, frame)?;
+    Ok(())
+}
+
+/// Appends the lines for what a node hands up.
+fn append_ups(
+    text: &mut Vec<u8>,
+    node: usize,
+    parcels: &[Parcel],
+    frame: &mut Vec<u8>,
+) -> Result<(), Word>
+    ensures ok { OnOk result (text.new.items ≡ text.old.items ++ up_lines node parcels.now) }
+    ensures err { IfErr result (λ word. word ≡ Word.Memory) }
+{
+    for parcel in parcels {
+        append_parcel(text, node, parcel, frame)?;
+    }
+    Ok(())
+}
+
+/// Appends the lines for what all nodes hand up, node by node.
+pub(crate) fn append_all_ups(
+    text: &mut Vec<u8>,
+    handed: &[Vec<Parcel>],
+    frame: &mut Vec<u8>,
+) -> Result<(), Word>
+    ensures ok { OnOk result (text.new.items ≡ text.old.items ++ all_up_lines 0 (map (λ l. l.items) handed.now)) }
+    ensures err { IfErr result (λ word. word ≡ Word.Memory) }
+{
+    for node in 0..handed.len() {
+        append_ups(text, node, &handed[node], frame)?;
+    }
+    Ok(())
+}
+
+/// Appends the line behind a flow of so many carries.
+pub(crate) fn append_flow(text: &mut Vec<u8>, carries: usize) -> Result<(), Word>
+    ensures ok { OnOk result (text.new.items ≡ text.old.items ++ flow_line carries) }
+    ensures err { IfErr result (λ word. word ≡ Word.Memory) }
+{
+    match writeln!(text, "flow {carries}") {
+        Ok(()) => Ok(()),
+        Err(_) => Err(Word::Memory),
+    }
+}
+
+/// Appends the line at the end: so many copies are in flight.
+pub(crate) fn append_flight(text: &mut Vec<u8>, copies: usize) -> Result<(), Word>
+    ensures ok { OnOk result (text.new.items ≡ text.old.items ++ flight_line copies) }
+    ensures err { IfErr result (λ word. word ≡ Word.Memory) }
+{
+    match writeln!(text, "flight {copies}") {
+        Ok(()) => Ok(()),
+        Err(_) => Err(Word::Memory),
+    }
+}

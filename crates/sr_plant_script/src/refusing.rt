@@ -1,0 +1,35 @@
+//! How refusals of a plant are told.
+
+ghost use Rattle.std.specs.Prelude.{◌≡◌, ◌++◌, ℕ, List, Some, OnOk, IfErr};
+ghost use Rattle.std.specs.Option.{option_copied};
+ghost use Rattle.sr_script.specs.Texts.{refusal_line};
+ghost use Rattle.sr_plant_script.specs.Texts.{fault_name};
+
+use sr_plant::PlantFault;
+use sr_script::{Word, append_refusal, name_of};
+
+// What a refusal is called. None for want of memory.
+fn fault_name(fault: PlantFault) -> Option<&'static str>
+    ensures { option_copied result ≡ fault_name fault }
+{
+    match fault {
+        PlantFault::NoSuchNode => Some("NoSuchNode"),
+        PlantFault::NoSuchCopy => Some("NoSuchCopy"),
+        PlantFault::ClockBack => Some("ClockBack"),
+        PlantFault::Node(fault) => name_of(fault),
+        PlantFault::BadPlant => Some("BadPlant"),
+        PlantFault::NoMemory => None,
+    }
+}
+
+/// Appends the line for an event that is refused for this reason.
+pub(crate) fn tell_refusal(text: &mut Vec<u8>, number: u64, fault: PlantFault) -> Result<(), Word>
+    ensures ok { OnOk result ((name : List ℕ) × (fault_name fault ≡ Some name)
+        × (text.new.items ≡ text.old.items ++ refusal_line number name)) }
+    ensures err { IfErr result (λ word. word ≡ Word.Memory) }
+{
+    match fault_name(fault) {
+        Some(name) => append_refusal(text, number, name),
+        None => Err(Word::Memory),
+    }
+}

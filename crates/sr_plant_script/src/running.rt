@@ -1,0 +1,92 @@
+//! A script of what happens to a plant: what is handed up is printed.
+
+ghost use Rattle.std.specs.Prelude.{◌≡◌, ◌⊎◌, IfErr, OnOk, IfSome};
+ghost use Rattle.sr_script.specs.Lines.{lines_of};
+ghost use Rattle.sr_script.specs.Runs.{IsAnswered, EndsAt, IsNotBegun};
+ghost use Rattle.sr_plant_script.specs.Members.{start_of};
+ghost use Rattle.sr_plant_script.specs.Replies.{plant_dialogue};
+
+use crate::answering::answer;
+use crate::network::Network;
+use crate::printing::append_flight;
+use crate::setup::PlantSetup;
+use sr_script::{Fault, NOT_BEGUN, Session, Word, line_list, run_session};
+use std::alloc::Global;
+use std::io::{BufRead, Write};
+
+/// A plant at work on a script.
+#[derive(Drop)]
+struct PlantSession {
+    alloc: Global,
+    network: Network,
+    // The octets of a line, and then of frames that are handed up, in a list that is used again.
+    octets: Vec<u8>,
+}
+
+impl Session for PlantSession {
+    ghost use Rattle.sr_plant.specs.Plants.{Plant};
+    ghost use Rattle.sr_plant_script.specs.Replies.{plant_dialogue};
+
+    ghost State = { Plant };
+
+    ghost state = { λ s. s.network };
+
+    ghost dialogue = { plant_dialogue };
+
+    fn answer(&mut self, number: u64, line: &[u8], text: &mut Vec<u8>) -> Result<(), Word> {
+        answer(
+            self.alloc,
+            &mut self.network,
+            number,
+            line,
+            &mut self.octets,
+            text,
+        )
+    }
+
+    fn finish(&mut self, text: &mut Vec<u8>) -> Result<(), Word> {
+        append_flight(text, self.network.in_flight())
+    }
+}
+
+/// Runs the script that the reader has left on a new plant, and writes what comes of it.
+///
+/// Lines are counted from 1. What is to be printed for a line is written, and flushed, before the next line is read: a
+/// line `up I HEX` for each frame that node I hands up to its host, in plain form; a line `flow C` behind a flow of C
+/// carries; a line `refused N Name` where the event of line N is refused. At the end a line `flight K` tells how many
+/// copies are in flight.
+///
+/// # Errors
+/// `Line` and `Long` come at the first line that is none of a script, whatever memory there is. `Read`, `Write` and
+/// `Memory` come where the reader, the writer or the allocator fails, and at no such line. What stands before the line of
+/// the fault is answered, and unless the writer failed nothing else is written.
+pub fn run_plant<R: BufRead, W: Write>(
+    alloc: Global,
+    setup: &PlantSetup,
+    reader: &mut R,
+    writer: &mut W,
+) -> Result<(), Fault>
+    // All lines are lines of a script, and what is written is what comes of them, and how many copies are then in flight.
+    ensures done { OnOk result (IfSome (R.remaining reader.old) (λ input. IsAnswered plant_dialogue
+        (start_of setup.now) (lines_of input) (W.contents writer.old) (W.contents writer.new))) }
+
+    // Memory was refused before anything was read. Or the lines before that of the fault are answered, and that line has this fault.
+    ensures ended { IfErr result (λ fault.
+        IsNotBegun fault (R.remaining reader.old) (R.remaining reader.new) (W.contents writer.old) (W.contents writer.new)
+        ⊎ IfSome (R.remaining reader.old) (λ input. EndsAt plant_dialogue (start_of setup.now) (lines_of input) fault
+        (R.remaining reader.new) (W.contents writer.old) (W.contents writer.new))) }
+{
+    let Ok(mut line) = line_list(alloc) else {
+        return Err(NOT_BEGUN);
+    };
+    let Ok(network) = Network::new(alloc, setup) else {
+        return Err(NOT_BEGUN);
+    };
+    let mut session = PlantSession {
+        alloc,
+        network,
+        octets: Vec::new(alloc),
+    };
+    let mut text = Vec::new(alloc);
+    run_session(alloc, &mut session, &mut line, &mut text, reader, writer)
+}

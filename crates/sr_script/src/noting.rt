@@ -1,0 +1,61 @@
+//! What a node does with a line where nothing that goes out is printed.
+
+ghost use Rattle.std.specs.Prelude.{◌≡◌, ◌∷◌, [], IfErr, OnOk, Err};
+ghost use Rattle.sr_node.specs.Images.{node_state};
+ghost use Rattle.sr_script.specs.Commands.{IsEventLine};
+ghost use Rattle.sr_script.specs.Lines.{IsOneOf};
+ghost use Rattle.sr_script.specs.Replies.{emptied};
+ghost use Rattle.sr_script.specs.Statuses.{Noted, all_taken};
+
+use crate::answering::obey;
+use crate::fault::Word;
+use crate::reading::command_of;
+use crate::setups::RoleName;
+use sr_forwarding::Role;
+use sr_frame::Port;
+use sr_node::NodeOf;
+use std::alloc::Global;
+
+/// Takes all that waits at a port, and keeps none of it.
+fn drop_waiting<R: Role>(node: &mut NodeOf<R>, port: Port)
+    ensures { node_state (R.meaning node.new.role) node.new.core ≡ emptied (node_state (R.meaning node.old.role) node.old.core) port }
+{
+    while let Some(_parcel) = node.take(port) {}
+}
+
+/// Takes all that waits, and keeps none of it.
+fn drop_all_waiting<R: Role>(node: &mut NodeOf<R>)
+    ensures { node_state (R.meaning node.new.role) node.new.core ≡ all_taken (node_state (R.meaning node.old.role) node.old.core) }
+{
+    drop_waiting(node, Port::H);
+    drop_waiting(node, Port::A);
+    drop_waiting(node, Port::B);
+    drop_waiting(node, Port::C);
+}
+
+/// Has the node obey a line, then takes all that waits, of which nothing is printed.
+///
+/// # Errors
+/// As those of `answer`.
+pub(crate) fn note<R: Role>(
+    alloc: Global,
+    role: RoleName,
+    node: &mut NodeOf<R>,
+    number: u64,
+    line: &[u8],
+    octets: &mut Vec<u8>,
+    text: &mut Vec<u8>,
+) -> Result<(), Word>
+    requires { text.old.items ≡ [] }
+    ensures ok { OnOk result (Noted role (node_state (R.meaning node.old.role) node.old.core) number line.now
+        text.new.items (node_state (R.meaning node.new.role) node.new.core)) }
+    ensures known { OnOk result (IsEventLine role line.now) }
+    ensures bad { result ≡ Err Word.Line → IsEventLine role line.now → ⊥ }
+    ensures memory { result ≡ Err Word.Memory → IsEventLine role line.now }
+    ensures fault { IfErr result (λ word. IsOneOf word (Word.Line ∷ Word.Memory ∷ [])) }
+{
+    let command = command_of(role, line, octets)?;
+    obey(alloc, role, node, number, command, octets, text)?;
+    drop_all_waiting(node);
+    Ok(())
+}

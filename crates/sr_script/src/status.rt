@@ -1,0 +1,43 @@
+//! A script of events at a node: at the end it is told what the node knows of other nodes.
+
+use crate::fault::Word;
+use crate::noting::note;
+use crate::replaying::NodeSession;
+use crate::session::Session;
+use crate::status_lines::tell_status;
+
+/// A node at work on a script, whose frames are not printed.
+#[derive(Drop)]
+pub(crate) struct StatusSession(pub(crate) NodeSession);
+
+impl Session for StatusSession {
+    ghost use Rattle.sr_node.specs.Images.{node_state};
+    ghost use Rattle.sr_script.specs.Stations.{Station};
+    ghost use Rattle.sr_script.specs.Statuses.{status_dialogue};
+
+    ghost State = { Station };
+
+    ghost state = { λ s. record {
+      role = s.0.role;
+      node = node_state ((Role-box s.0.node.role).meaning s.0.node.role.value) s.0.node.core;
+    } };
+
+    ghost dialogue = { status_dialogue };
+
+    fn answer(&mut self, number: u64, line: &[u8], text: &mut Vec<u8>) -> Result<(), Word> {
+        let at_work = &mut self.0;
+        note(
+            at_work.alloc,
+            at_work.role,
+            &mut at_work.node,
+            number,
+            line,
+            &mut at_work.octets,
+            text,
+        )
+    }
+
+    fn finish(&mut self, text: &mut Vec<u8>) -> Result<(), Word> {
+        tell_status(&self.0.node, text)
+    }
+}
