@@ -2,10 +2,12 @@
 
 ghost use Rattle.std.specs.Prelude.{◌<◌, ◌≤◌};
 
+use crate::plant_line::{plant_command, plant_of};
 use crate::script_line::{ScriptTask, script_command, script_task};
 use clap::{Arg, ArgMatches, Command, Error};
 use hex::FromHex;
 use sr_frame::Mac;
+use sr_plant_script::{PlantSetup, Topology};
 use sr_prp_trailer::Lan;
 use sr_script::{PrpRouting, RoleName, Setup};
 use sr_slots::Keys;
@@ -77,7 +79,17 @@ fn command<'a>(alloc: Global) -> Result<Command<'a>, AllocError> {
         .about("Runs a script of events on a node of a redundant network")
         .subcommand_required(true)
         .subcommand(replay)?
-        .subcommand(script_command(alloc)?)
+        .subcommand(script_command(alloc)?)?
+        .subcommand(plant_command(
+            alloc,
+            "ring",
+            "Runs a script on a ring of doubly attached nodes",
+        )?)?
+        .subcommand(plant_command(
+            alloc,
+            "lan",
+            "Runs a script on doubly attached nodes of two LANs",
+        )?)
 }
 
 /// The address that 12 hexadecimal digits of either case spell.
@@ -129,6 +141,8 @@ pub enum Task<'a> {
     Replay(Setup),
     /// Print a script of captures.
     Script(ScriptTask<'a>),
+    /// Run a script on a plant.
+    Plant(PlantSetup),
 }
 
 /// What the words of the command line ask for, a node's setup under fixed keys.
@@ -142,6 +156,12 @@ pub fn task_of<'a>(alloc: Global, words: &'a [String]) -> Result<Task<'a>, Refus
             Ok(task) => Ok(Task::Script(task)),
             Err(name) => Err(Refused::Option(name)),
         };
+    }
+    if let Some(ring) = matches.subcommand_matches("ring") {
+        return Ok(Task::Plant(plant_of(Topology::Ring, ring)));
+    }
+    if let Some(lan) = matches.subcommand_matches("lan") {
+        return Ok(Task::Plant(plant_of(Topology::TwinLan, lan)));
     }
     let Some(replay) = matches.subcommand_matches("replay") else {
         return Err(Refused::Mac);

@@ -2,6 +2,7 @@
 #![tactic(auto)]
 
 mod command_line;
+mod plant_line;
 mod progress;
 mod script;
 mod script_line;
@@ -9,7 +10,8 @@ mod script_line;
 use command_line::{Task, task_of};
 use progress::Progress;
 use script::run_script;
-use sr_script::{Fault, Setup, Word, run};
+use sr_plant_script::{PlantSetup, run_plant};
+use sr_script::{Fault, NOT_BEGUN, Setup, Word, run};
 use sr_slots::Keys;
 use std::io::{self, BufReader, IsTerminal};
 use std::process::ExitCode;
@@ -51,6 +53,10 @@ fn start<R: AllocGlobal + Print + Eprint + Input + Env + Files + RandomSource>(
             let _ = eprintln!(rt; "{fault}");
             RUN_FAILED
         }),
+        Ok(Task::Plant(setup)) => play(rt, &setup).map_err(|fault| {
+            let _ = eprintln!(rt; "{fault}");
+            RUN_FAILED
+        }),
         Err(refused) => {
             let _ = rt.eprint(refused);
             Err(NOT_STARTED)
@@ -71,10 +77,7 @@ fn replay<R: AllocGlobal + Print + Input + RandomSource>(
         });
     };
     let Ok(mut reader) = BufReader::new(rt.alloc(), rt.reader()) else {
-        return Err(Fault {
-            line: 1,
-            word: Word::Memory,
-        });
+        return Err(NOT_BEGUN);
     };
     run(
         rt.alloc(),
@@ -82,4 +85,12 @@ fn replay<R: AllocGlobal + Print + Input + RandomSource>(
         &mut reader,
         &mut io::writer(rt),
     )
+}
+
+/// Runs the script on standard input on a new plant, and writes what comes of it to standard output.
+fn play<R: AllocGlobal + Print + Input>(rt: &R, setup: &PlantSetup) -> Result<(), Fault> {
+    let Ok(mut reader) = BufReader::new(rt.alloc(), rt.reader()) else {
+        return Err(NOT_BEGUN);
+    };
+    run_plant(rt.alloc(), setup, &mut reader, &mut io::writer(rt))
 }

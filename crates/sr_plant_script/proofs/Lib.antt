@@ -1,5 +1,4 @@
 pub mod Words
 pub mod NewPlants
 pub mod UpLines
-pub mod SentFrames
 pub mod FlowLemmas

@@ -1,0 +1,42 @@
+//! The words behind `seamless ring` and `seamless lan`.
+
+ghost use Rattle.std.specs.Prelude.{◌≤◌};
+ghost use Rattle.sr_plant.specs.Limits.{fewest_nodes, most_nodes};
+
+use clap::{Arg, ArgMatches, Command};
+use sr_plant_script::{PlantSetup, Topology};
+use std::alloc::{AllocError, Global};
+
+/// What the parser knows of a subcommand for a plant: `--nodes 2..16`.
+pub fn plant_command<'a>(
+    alloc: Global,
+    name: &'a str,
+    about: &'a str,
+) -> Result<Command<'a>, AllocError> {
+    let nodes = Arg::new(alloc, "nodes")
+        .long("nodes")
+        .required(true)
+        .value_parser([
+            "2", "3", "4", "5", "6", "7", "8", "9", "10", "11", "12", "13", "14", "15", "16",
+        ]
+        .as_slice())
+        .help("How many nodes there are");
+    Command::new(alloc, name).about(about).arg(nodes)
+}
+
+/// How many nodes there are, by a word that the parser let through.
+fn count_of(word: &str) -> usize
+    ensures least { fewest_nodes ≤ result }
+    ensures most { result ≤ most_nodes }
+{
+    match word.parse::<usize>() {
+        Ok(count) => count.clamp(2, 16),
+        Err(_) => 2,
+    }
+}
+
+/// The plant that the subcommand asks for.
+pub fn plant_of(topology: Topology, matches: &ArgMatches<'_>) -> PlantSetup {
+    let nodes = matches.get_str("nodes").map_or(2, count_of);
+    PlantSetup { topology, nodes }
+}
