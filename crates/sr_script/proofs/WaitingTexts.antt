@@ -1,5 +1,5 @@
 -- Lines whose text waits, and what a writer took of it.
-use Rattle.std.proofs.Common.{◌≡◌, ℕ, zero, suc, Bor, Result, Ok, ◌+◌, ◌-◌, ◌<◌, ◌≤◌, Bool, true, false, cond, eqb, List, [], ◌∷◌, ◌++◌, length, take, drop, get_or, take-add, Option, Some, None, sym, ap, refl, subst, ◌∙◌, arith, append_assoc, inl, inr}
+use Rattle.std.proofs.Common.{◌≡◌, ℕ, zero, suc, Bor, Result, Ok, ◌+◌, ◌-◌, ◌<◌, ◌≤◌, true, false, List, [], ◌∷◌, ◌++◌, length, take, drop, get_or, take-add, Option, Some, None, sym, ap, refl, subst, ◌∙◌, arith, append_assoc, inl, inr}
 use Rattle.std.specs.Prelude.{IfSome, IfOk, nat_lt}
 use Rattle.std.specs.Io.KnownBytes.{Appends, Keeps}
 use Rattle.std.proofs.KnownBytes.{Appends-nil, Appends-trans, Keeps-refl}
@@ -29,8 +29,7 @@ waits_more : {S : Type 0} (d : Dialogue S) (s : S) (k place : ℕ) (lines : List
     → Waits d s k place (lines ++ line ∷ []) (text ++ more) (marks ++ marked m (place + length (text ++ more)) more []) u
 waits_more {S} d s k place [] text marks t line more u m h e has knows replied =
     let here : m ≡ k = omega arith in
-    let whole : text ++ more ≡ more = ap (λ (l : List ℕ). l ++ more) h.0 in
-    (
+    let whole : text ++ more ≡ more = ap (λ (l : List ℕ). l ++ more) h.0 in (
       more,
       u,
       [],
@@ -41,14 +40,13 @@ waits_more {S} d s k place [] text marks t line more u m h e has knows replied =
       (refl, refl, refl),
       whole ∙ sym (append-nil more),
       ap (λ (l : List Mark). l ++ marked m (place + length (text ++ more)) more []) h.1
-      ∙ ap (λ n. marked n (place + length (text ++ more)) more []) here ∙ ap (λ (l : List ℕ). marked k (place + length l) more []) whole,
+          ∙ ap (λ n. marked n (place + length (text ++ more)) more []) here ∙ ap (λ (l : List ℕ). marked k (place + length l) more []) whole,
     )
 waits_more {S} d s k place (l ∷ ls) text marks t line more u m h e has knows replied =
     let first = h.0 in
     let rest = waits_more d h.1 (k + 1) (place + length first) ls h.2 h.3 t line more u m h.7 (omega arith) has knows replied in
     let whole : text ++ more ≡ first ++ (h.2 ++ more) = ap (λ (x : List ℕ). x ++ more) h.8 ∙ append_assoc first h.2 more in
-    let end : place + length first + length (h.2 ++ more) ≡ place + length (text ++ more) = omega (arith, ap length whole, length-append first (h.2 ++ more)) in
-    (
+    let end : place + length first + length (h.2 ++ more) ≡ place + length (text ++ more) = omega (arith, ap length whole, length-append first (h.2 ++ more)) in (
       first,
       h.1,
       h.2 ++ more,
@@ -231,8 +229,11 @@ ends_cut {S} d s k lines more text marks t f rest old now waits cut =
         take count h.here,
         drop count h.here,
         grown_more old now h.front (take count h.here) (take taken text) whole cut.2,
-        (h.next, subst (λ (l : List ℕ). d.Replied h.reached f.line h.line l h.next) (sym (take-append-drop count h.here))
-            (subst (λ n. d.Replied h.reached n h.line h.here h.next) (sym line_is) h.replied)),
+        (
+          h.next,
+          subst (λ (l : List ℕ). d.Replied h.reached f.line h.line l h.next) (sym (take-append-drop count h.here))
+              (subst (λ n. d.Replied h.reached n h.line h.here h.next) (sym line_is) h.replied),
+        ),
       );
       reason = subst (λ (w : Word). HasFault d h.reached f.line w left rest) (sym cut.7) (subst (λ n. HasPlace n h.line) (sym line_is) h.has, h.knows);
     }
@@ -329,8 +330,7 @@ pub front_stops : {S : Type 0} (d : Dialogue S) (u t : S) (octets line : List �
     → IsOneOf w (word.Line ∷ word.Memory ∷ []) → (w ≡ word.Line → d.Knows u line → ⊥) → (w ≡ word.Memory → d.Knows u line)
     → StopsSo d u n (drop from octets) (Some w) t
 front_stops d u t octets line from n w count at one bad memory =
-    let behind = drop (from + (length line + 1)) octets in
-    (
+    let behind = drop (from + (length line + 1)) octets in (
       one,
       line,
       record { count = count; short = at.short },
