@@ -1,5 +1,5 @@
 -- A run that is part of the way through its script.
-use Rattle.std.proofs.Common.{◌≡◌, ◌≢◌, ℕ, ◌+◌, ◌<◌, ◌≤◌, Bool, true, false, cond, eqb, List, [], ◌∷◌, ◌++◌, length, Option, Some, None, sym, ap, refl, subst, ◌∙◌, arith, append_assoc, inl, inr}
+use Rattle.std.proofs.Common.{◌≡◌, ◌≢◌, ℕ, ◌+◌, ◌<◌, Bool, true, false, cond, eqb, List, [], ◌∷◌, ◌++◌, length, Option, Some, None, sym, ap, refl, subst, ◌∙◌, arith, append_assoc, inl, inr}
 use Rattle.std.specs.Prelude.{IfSome}
 use Rattle.std.specs.Io.KnownBytes.{Appends, IsAtEnd, Keeps}
 use Rattle.std.proofs.KnownBytes.{Appends-nil, Appends-trans, Appends-kept, Keeps-refl}
@@ -8,7 +8,7 @@ use Rattle.sr_script.specs.declared.fault.Fault.{Fault}
 use Rattle.sr_script.specs.declared.fault.Word.{Word}
 use Rattle.sr_script.specs.declared.fault.Word.TheVariants as word
 use Rattle.sr_script.specs.Lines.{lines_of, before_first_line, IsOneOf}
-use Rattle.sr_script.specs.Runs.{Dialogue, HasPlace, Replies, HasFault, HeldSince, EndsAt, EndsFrom}
+use Rattle.sr_script.specs.Runs.{Dialogue, Replies, HasFault, HeldSince, EndsAt, EndsFrom}
 use Rattle.sr_script.specs.Turns.{Turned, AreObeyed, AllAnswered}
 
 -- the lines that were read are answered, and line n is next

@@ -1,5 +1,5 @@
 -- Where an octet stands first, and what stands around it.
-use Rattle.std.proofs.Common.{◌≡◌, ℕ, zero, suc, ◌+◌, List, [], ◌∷◌, ◌++◌, length, take, drop, Option, Some, None, sym, ap, refl, ◌∙◌, arith, append_assoc, eq-eqb, get_or}
+use Rattle.std.proofs.Common.{◌≡◌, ℕ, zero, suc, ◌+◌, List, [], ◌∷◌, ◌++◌, length, take, drop, Option, Some, None, sym, ap, refl, subst, ◌<◌, ◌∙◌, arith, append_assoc, eq-eqb, get_or}
 use Rattle.std.proofs.lemmas.Bool.{eqb-true}
 use Rattle.std.proofs.lemmas.List.{take_more, take-append-drop}
 use Rattle.memchr.specs.Find.{Nowhere, Passes, is_byte, IsFirstByte}
@@ -32,6 +32,12 @@ IsPlaceOf-found octet xs None h = Lacks-from_nowhere octet xs h
 IsPlaceOf-found octet xs (Some at) h =
     let first = h.0 in
     (Lacks-before octet xs at first.before, take_more xs at 0 first.high ∙ ap (λ b. take at xs ++ b ∷ []) (eqb-true (get_or xs at 0) octet h.1), first.high)
+
+-- a search one by one, from the front
+pub Lacks-more : (octet : ℕ) (xs : List ℕ) (i : ℕ) → i < length xs → (get_or xs i 0 ≡ octet → ⊥) → Lacks octet (take i xs) → Lacks octet (take (i + 1) xs)
+Lacks-more octet xs i lt other h =
+    let one : Lacks octet (get_or xs i 0 ∷ []) = (other, tt) in
+    subst (Lacks octet) (sym (take_more xs i 0 lt)) (Lacks-append octet (take i xs) (get_or xs i 0 ∷ []) h one)
 
 -- the text around its first place
 pub around_place : (octet : ℕ) (xs : List ℕ) (at : ℕ) → take (at + 1) xs ≡ take at xs ++ octet ∷ [] → xs ≡ take at xs ++ octet ∷ drop (at + 1) xs

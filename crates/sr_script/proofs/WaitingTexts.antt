@@ -1,5 +1,5 @@
 -- Lines whose text waits, and what a writer took of it.
-use Rattle.std.proofs.Common.{◌≡◌, ℕ, zero, suc, Bor, Result, Ok, ◌+◌, ◌-◌, ◌<◌, ◌≤◌, Bool, true, false, cond, eqb, List, [], ◌∷◌, ◌++◌, length, take, drop, get_or, take-add, Option, Some, None, sym, ap, refl, subst, ◌∙◌, arith, append_assoc, inl, inr}
+use Rattle.std.proofs.Common.{◌≡◌, ℕ, zero, suc, Bor, Result, Ok, ◌+◌, ◌-◌, ◌<◌, ◌≤◌, true, false, List, [], ◌∷◌, ◌++◌, length, take, drop, get_or, take-add, Option, Some, None, sym, ap, refl, subst, ◌∙◌, arith, append_assoc, inl, inr}
 use Rattle.std.specs.Prelude.{IfSome, IfOk, nat_lt}
 use Rattle.std.specs.Io.KnownBytes.{Appends, Keeps}
 use Rattle.std.proofs.KnownBytes.{Appends-nil, Appends-trans, Keeps-refl}

@@ -1,5 +1,4 @@
 use Rattle.std.proofs.Common.{ℕ, List, take, drop, sym, subst, ◌∙◌}
-use Rattle.std.specs.Io.KnownBytes.{Appends}
 use Rattle.std.proofs.KnownBytes.{Appends-kept}
 use Rattle.std.proofs.lemmas.List.{take-append-drop}
 use Rattle.sr_script.proofs.running.end.Goals.{then-write_out-len-via-then-write_out-len, then-write_out-len-via-else-write_out-len+then-is_err}

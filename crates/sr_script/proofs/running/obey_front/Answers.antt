@@ -1,4 +1,4 @@
-use Rattle.std.proofs.Common.{◌≡◌, ◌+◌, ◌++◌, ◌∷◌, [], ap, Err, arith, length, length-append, List, ℕ}
+use Rattle.std.proofs.Common.{◌++◌, ◌∷◌, [], ap, Err, arith, length-append}
 use Rattle.sr_script.specs.Runs.{HasPlace}
 use Rattle.sr_script.proofs.WaitingTexts.{begins_more, waits_added, waits_kept, front_stops}
 use Rattle.sr_script.proofs.running.obey_front.Goals as goal
