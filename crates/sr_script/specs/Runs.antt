@@ -65,8 +65,8 @@ HeldSince d t number word.Read left held now = Keeps held now
 HeldSince d t number word.Write left held now = (part rest : List ℕ) × Appends held now part × IsNextText d t number left (part ++ rest)
 HeldSince d t number word.Memory left held now = Keeps held now
 
--- A run over lines, of which the first has this number, came to the line of the fault: those before it are answered, and then nothing more is
--- written, but for a part of the text of that line where a write failed.
+-- A run over lines, of which the first has this number, came to the line of the fault: those before it are answered, and then nothing more
+-- is written, but for a part of the text of that line where a write failed.
 pub record EndsFrom {S : Type 0} (d : Dialogue S) (start : S) (first : ℕ) (lines : List (List ℕ)) (fault : Fault)
     (rest held now : Option (List ℕ)) : Type 0 where
   pub before : List (List ℕ)

@@ -1,5 +1,6 @@
 -- Lines that are obeyed, and what is printed for them while it waits to be written.
-use Rattle.std.specs.Prelude.{◌≡◌, ℕ, ◌+◌, ◌≤◌, ◌<◌, List, [], ◌∷◌, ◌++◌, length, take, drop, nat_lt, if◌then◌else◌, Option, None, Some, Bool, true, false}
+use Rattle.std.specs.Prelude.{◌≡◌, ℕ, ◌+◌, ◌≤◌, ◌<◌, nat_lt, if◌then◌else◌, Option, None, Some, Bool, true, false}
+use Rattle.std.specs.Prelude.{List, [], ◌∷◌, ◌++◌, length, take, drop}
 use Rattle.std.specs.Io.KnownBytes.{Appends, Keeps}
 use Rattle.sr_script.specs.declared.fault.Fault.{Fault}
 use Rattle.sr_script.specs.declared.fault.Word.{Word}
@@ -20,11 +21,13 @@ abbrev pub line_of : List Mark → ℕ → ℕ
 line_of [] place = 0
 line_of (m ∷ ms) place = if nat_lt place m.end then m.line else line_of ms place
 
--- The lines, of which the first has this number, are known and answered from s on, which came to t. Their text waits from this place on, with its marks.
+-- The lines, of which the first has this number, are known and answered from s on, which came to t. Their text waits from this place on,
+-- with its marks.
 abbrev pub Waits : {S : Type 0} → Dialogue S → S → ℕ → ℕ → List (List ℕ) → List ℕ → List Mark → S → Type 0
 Waits d s number place [] text marks t = (text ≡ []) × (marks ≡ []) × (t ≡ s)
 Waits d s number place (line ∷ lines) text marks t = (first : List ℕ) × (u : _) × (rest : List ℕ) × (others : List Mark)
-    × HasPlace number line × d.Knows s line × d.Replied s number line first u × Waits d u (number + 1) (place + length first) lines rest others t
+    × HasPlace number line × d.Knows s line × d.Replied s number line first u
+    × Waits d u (number + 1) (place + length first) lines rest others t
     × (text ≡ first ++ rest) × (marks ≡ marked number (place + length first) first others)
 
 -- the line with this number is known and answered, and its text waits behind what waited
@@ -32,7 +35,8 @@ abbrev pub AddsAnswer : {S : Type 0} → Dialogue S → S → ℕ → List ℕ �
 AddsAnswer d s number line text marks later more t = (first : List ℕ) × d.Knows s line × d.Replied s number line first t
     × (later ≡ text ++ first) × (more ≡ marks ++ marked number (length later) first [])
 
--- Of what waited the writer took so many octets. The fault is at the line of the first that it did not take, or where it took all, of the last.
+-- Of what waited the writer took so many octets. The fault is at the line of the first that it did not take, or where it took all, of
+-- the last.
 abbrev pub IsCut : List ℕ → List Mark → Fault → Option (List ℕ) → Option (List ℕ) → Type 0
 IsCut text marks fault held now = (taken place : ℕ) × Appends held now (take taken text) × (place ≤ taken) × (taken ≤ place + 1)
     × (place < length text) × (fault.line ≡ line_of marks place) × (fault.word ≡ word.Write)
@@ -62,7 +66,8 @@ StopsSo d u number octets (Some w) t = IsOneOf w (word.Line ∷ word.Memory ∷ 
     × (w ≡ word.Line → d.Knows u line → ⊥) × (w ≡ word.Memory → d.Knows u line)
 
 -- the front of the octets was obeyed, and its text waits
-pub record IsFront {S : Type 0} (d : Dialogue S) (s : S) (first : ℕ) (octets text : List ℕ) (marks : List Mark) (front : Front) (t : S) : Type 0 where
+pub record IsFront {S : Type 0} (d : Dialogue S) (s : S) (first : ℕ) (octets text : List ℕ) (marks : List Mark) (front : Front) (t : S) :
+    Type 0 where
   pub lines : List (List ℕ)
   pub reached : S
   pub whole : BeginsWith octets front.used lines
@@ -73,12 +78,15 @@ pub record IsFront {S : Type 0} (d : Dialogue S) (s : S) (first : ℕ) (octets t
   pub stops : StopsSo d reached front.next (drop front.used octets) front.fault t
 
 -- lines, of which the first has this number, were taken and answered, and n is the number behind them
-abbrev pub AreObeyed : {S : Type 0} → Dialogue S → S → ℕ → ℕ → Option (List ℕ) → Option (List ℕ) → Option (List ℕ) → Option (List ℕ) → S → Type 0
-AreObeyed d s first n left rest held now t = (lines : List (List ℕ)) × (text : List ℕ) × TakesLines lines left rest × Replies d s first lines text t
+abbrev pub AreObeyed : {S : Type 0} → Dialogue S → S → ℕ → ℕ → Option (List ℕ) → Option (List ℕ) → Option (List ℕ) → Option (List ℕ) → S →
+    Type 0
+AreObeyed d s first n left rest held now t = (lines : List (List ℕ)) × (text : List ℕ) × TakesLines lines left rest
+    × Replies d s first lines text t
     × (n ≡ first + length lines) × Appends held now text
 
 -- a line was read and answered, or none was left
-abbrev pub Turned : {S : Type 0} → Dialogue S → Bool → ℕ → Option (List ℕ) → Option (List ℕ) → Option (List ℕ) → Option (List ℕ) → S → S → Type 0
+abbrev pub Turned : {S : Type 0} → Dialogue S → Bool → ℕ → Option (List ℕ) → Option (List ℕ) → Option (List ℕ) → Option (List ℕ) → S → S →
+    Type 0
 Turned d true number left rest held now s t = AreObeyed d s number (number + 1) left rest held now t
 Turned d false number left rest held now s t = (line : List ℕ) × TakesLine false line left rest × Keeps held now × (t ≡ s)
 

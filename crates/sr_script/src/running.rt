@@ -244,6 +244,30 @@ fn end<S: Session, W: Write>(
     Ok(())
 }
 
+/// Has the session obey the script that the reader has left, where nothing waits yet.
+fn obey_script<S: Session, R: BufRead, W: Write>(
+    session: &mut S,
+    line: &mut Vec<u8>,
+    text: &mut Vec<u8>,
+    waiting: &mut Waiting,
+    reader: &mut R,
+    writer: &mut W,
+) -> Result<(), Fault>
+    requires room { 8001 ≤ vec_capacity line.old }
+    requires text { waiting.old.text.items ≡ [] }
+    requires marks { waiting.old.marks.items ≡ [] }
+    ensures done { OnOk result (IfSome (R.remaining reader.old) (λ input.
+        IsAnswered S.dialogue (S.state session.old) (lines_of input) (W.contents writer.old) (W.contents writer.new))) }
+    ensures ended { IfErr result (λ fault. IfSome (R.remaining reader.old) (λ input.
+        EndsAt S.dialogue (S.state session.old) (lines_of input) fault (R.remaining reader.new) (W.contents writer.old) (W.contents writer.new))) }
+{
+    let number = obey_lines(session, line, text, waiting, reader, writer)?;
+    match end(session, text, writer) {
+        Ok(()) => Ok(()),
+        Err(word) => Err(Fault { line: number, word }),
+    }
+}
+
 /// Has the session obey the script that the reader has left, and writes what is to be printed for each line, and then at the
 /// end. Lines are counted from 1. What is printed for lines that the reader has at hand is written together, and flushed,
 /// before more is read, and before a fault. The two lists are used again for each line; `line` has room for the longest.
@@ -266,9 +290,5 @@ pub fn run_session<S: Session, R: BufRead, W: Write>(
         EndsAt S.dialogue (S.state session.old) (lines_of input) fault (R.remaining reader.new) (W.contents writer.old) (W.contents writer.new))) }
 {
     let mut waiting = Waiting::new(alloc);
-    let number = obey_lines(session, line, text, &mut waiting, reader, writer)?;
-    match end(session, text, writer) {
-        Ok(()) => Ok(()),
-        Err(word) => Err(Fault { line: number, word }),
-    }
+    obey_script(session, line, text, &mut waiting, reader, writer)
 }

@@ -1,6 +1,6 @@
 use Rattle.sr_script.specs.declared.fault.Fault.{Fault}
 use Rattle.sr_script.proofs.Going.{ends_behind, behind_fault}
-use Rattle.sr_script.proofs.running.run_session.Goals as goal
+use Rattle.sr_script.proofs.running.obey_script.Goals as goal
 
 pub returns-in-Err-clause-ended : goal.returns-in-Err-clause-ended
 returns-in-Err-clause-ended g c =
