@@ -74,9 +74,7 @@ IsRefused octets reason.Short = (order : ByteOrder) × (unit : TimeUnit) × HasM
 IsRefused octets reason.Version = (order : ByteOrder) × HasLength octets order × (HasVersion octets order → ⊥)
 IsRefused octets (reason.Link link) = (order : ByteOrder) × HasLength octets order × HasVersion octets order
     × (link ≡ word_at order octets 20 % 2 ^ 16) × (link ≢ 1)
-IsRefused octets reason.Read = ⊥
-IsRefused octets reason.NoMemory = ⊥
-IsRefused octets reason.Unfinished = ⊥
+IsRefused octets other = ⊥
 
 -- the offset of the field that is wrong
 abbrev pub place_of : Reason → ℕ

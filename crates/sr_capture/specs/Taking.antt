@@ -17,6 +17,19 @@ LeavesNone None new = Unit {0}
 LeavesNone (Some xs) None = ⊥
 LeavesNone (Some xs) (Some ys) = ys ≡ []
 
+-- octets were taken behind those that were held
+abbrev pub Gathers : List ℕ → List ℕ → Option (List ℕ) → Option (List ℕ) → Type 0
+Gathers held kept old new = (more : List ℕ) × (kept ≡ held ++ more) × Loses more old new
+
+-- octets were taken behind those that were held, till they were so many; or fewer, and then none is left
+abbrev pub Fills : Bool → ℕ → List ℕ → List ℕ → Option (List ℕ) → Option (List ℕ) → Type 0
+Fills true count held kept old new = Gathers held kept old new × (length kept ≡ count)
+Fills false count held kept old new = Gathers held kept old new × (length kept < count) × LeavesNone old new
+
+-- octets were taken behind those that were held, and are fewer
+abbrev pub FillsBelow : ℕ → List ℕ → List ℕ → Option (List ℕ) → Option (List ℕ) → Type 0
+FillsBelow count held kept old new = Gathers held kept old new × (length kept < count)
+
 -- at least one octet and at most so many; or none, and then none is left
 abbrev pub HasSome : Bool → ℕ → ℕ → Option (List ℕ) → Option (List ℕ) → Type 0
 HasSome true room taken old new = (0 < taken) × (taken ≤ room)

@@ -11,6 +11,8 @@ use Rattle.std.proofs.Common.{
   Option,
   Some,
   None,
+  Bool,
+  true,
   false,
   sym,
   ap,
@@ -23,7 +25,7 @@ use Rattle.std.proofs.Common.{
 use Rattle.std.specs.Prelude.{IfSome}
 use Rattle.std.specs.Io.KnownBytes.{Keeps}
 use Rattle.std.proofs.lemmas.List.{length-append, append-nil}
-use Rattle.sr_capture.specs.Taking.{Loses, LeavesNone, TakesAll}
+use Rattle.sr_capture.specs.Taking.{Loses, LosesBelow, LeavesNone, TakesAll, Gathers, Fills, FillsBelow}
 
 pub loses_nothing : (a : Option (List ℕ)) → Loses [] a a
 loses_nothing None = tt
@@ -54,16 +56,38 @@ none_left first (Some x) None c l n = absurd l
 none_left first (Some x) (Some y) None l n = absurd n
 none_left first (Some x) (Some y) (Some z) l n = n
 
--- all is kept that was asked for, or the input ends
-pub keeps_on : (kept more : List ℕ) (a b c : Option (List ℕ)) → Loses kept a b
-    → (bs : List ℕ) → more ≡ kept ++ bs → Loses bs b c → Loses more a c
-keeps_on kept more a b c l bs e m = rw e (loses_more kept bs a b c l m)
+-- nothing was taken yet
+pub gathers_none : (held : List ℕ) (a : Option (List ℕ)) → Gathers held held a a
+gathers_none held a = ([], sym (append-nil held), loses_nothing a)
 
-pub keeps_end : (count : ℕ) (kept more : List ℕ) (a b c : Option (List ℕ)) → Loses kept a b → length kept < count
-    → (bs : List ℕ) → more ≡ kept ++ bs → Loses bs b c → length bs ≡ 0 → LeavesNone b c → TakesAll false count more a c
-keeps_end count kept more a b c l short bs e m none left =
+-- more was taken
+pub gathers_on : (held kept more : List ℕ) (a b c : Option (List ℕ)) → Gathers held kept a b
+    → (bs : List ℕ) → more ≡ kept ++ bs → Loses bs b c → Gathers held more a c
+gathers_on held kept more a b c g bs e m =
+    (g.0 ++ bs, e ∙ ap (λ (l : List ℕ). l ++ bs) g.1 ∙ append_assoc held g.0 bs, loses_more g.0 bs a b c g.2 m)
+
+-- the input ends
+pub gathers_end : (count : ℕ) (held kept more : List ℕ) (a b c : Option (List ℕ)) → Gathers held kept a b → length kept < count
+    → (bs : List ℕ) → more ≡ kept ++ bs → Loses bs b c → length bs ≡ 0 → LeavesNone b c → Fills false count held more a c
+gathers_end count held kept more a b c g short bs e m none left =
     let same : length more ≡ length kept + length bs = ap length e ∙ length-append kept bs in
-    (keeps_on kept more a b c l bs e m, omega arith, none_left kept a b c l left)
+    (gathers_on held kept more a b c g bs e m, omega arith, none_left g.0 a b c g.2 left)
+
+-- none was held
+pub taken_is : (whole : Bool) (count : ℕ) (held kept : List ℕ) (a b : Option (List ℕ)) → held ≡ [] → Fills whole count held kept a b
+    → TakesAll whole count kept a b
+taken_is true count held kept a b none f =
+    let same : kept ≡ f.0.0 = f.0.1 ∙ ap (λ (l : List ℕ). l ++ f.0.0) none in
+    (subst (λ (l : List ℕ). Loses l a b) (sym same) f.0.2, f.1)
+taken_is false count held kept a b none f =
+    let same : kept ≡ f.0.0 = f.0.1 ∙ ap (λ (l : List ℕ). l ++ f.0.0) none in
+    (subst (λ (l : List ℕ). Loses l a b) (sym same) f.0.2, f.1, f.2)
+
+pub below_is : (count : ℕ) (held kept : List ℕ) (a b : Option (List ℕ)) → held ≡ [] → FillsBelow count held kept a b
+    → LosesBelow count kept a b
+below_is count held kept a b none f =
+    let same : kept ≡ f.0.0 = f.0.1 ∙ ap (λ (l : List ℕ). l ++ f.0.0) none in
+    (subst (λ (l : List ℕ). Loses l a b) (sym same) f.0.2, f.1)
 
 -- octets of this length were lost
 abbrev pub LosesSome : ℕ → Option (List ℕ) → Option (List ℕ) → Type 0

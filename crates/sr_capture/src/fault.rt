@@ -23,8 +23,8 @@ pub enum Reason {
     /// The file ends within its header.
     #[error("the file ends within its header")]
     Short,
-    /// The version is not 2.4.
-    #[error("the version of the format is not 2.4")]
+    /// The version is not 2.4, or that of a section of a pcapng file not 1.
+    #[error("the version of the format is not known")]
     Version,
     /// The link type is not Ethernet.
     #[error("link type {0} is not Ethernet")]
@@ -32,6 +32,24 @@ pub enum Reason {
     /// The file ends within a packet.
     #[error("the file ends within a packet")]
     Unfinished,
+    /// The lengths of a block of a pcapng file do not fit what it is, or one another.
+    #[error("the lengths of a block do not fit")]
+    Length,
+    /// A block of a pcapng file is longer than 16 MiB.
+    #[error("a block is longer than 16 MiB")]
+    Long,
+    /// The options of an interface are none.
+    #[error("the options of an interface can not be read")]
+    Options,
+    /// These two interfaces of a section are Ethernet, and none was named.
+    #[error("interfaces {0} and {1} are Ethernet: name one, as FILE:{0}")]
+    Several(u32, u32),
+    /// A packet stands before any interface that is Ethernet, and no interface was named.
+    #[error("a packet of an interface that is not Ethernet, and none before it is")]
+    NoEthernet,
+    /// There are more blocks than 64 bits count.
+    #[error("there are more blocks than 64 bits count")]
+    Endless,
 }
 
 impl From<AllocError> for Reason {

@@ -13,7 +13,7 @@ pub enum ByteOrder {
 }
 
 /// The number of 16 bits from a place on.
-pub(crate) fn half_at(order: ByteOrder, octets: &[u8], at: usize) -> u16
+pub fn half_at(order: ByteOrder, octets: &[u8], at: usize) -> u16
     requires { at + 2 ≤ length octets.now }
     ensures { result ≡ half_at order octets.now at }
 {
@@ -25,7 +25,7 @@ pub(crate) fn half_at(order: ByteOrder, octets: &[u8], at: usize) -> u16
 }
 
 /// The number of 32 bits from a place on.
-pub(crate) fn word_at(order: ByteOrder, octets: &[u8], at: usize) -> u32
+pub fn word_at(order: ByteOrder, octets: &[u8], at: usize) -> u32
     requires { at + 4 ≤ length octets.now }
     ensures { result ≡ word_at order octets.now at }
 {

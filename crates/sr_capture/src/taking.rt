@@ -1,7 +1,7 @@
 //! Octets taken from a reader.
 
 ghost use Rattle.std.specs.Prelude.{◌≡◌, ◌≢◌, ◌≤◌, ◌<◌, ◌+◌, [], ◌++◌, ◌^◌, ℕ, List, length, IfOk, IfErr, IfSome, IfNone, vec_len, ◌⊎◌};
-ghost use Rattle.sr_capture.specs.Taking.{Loses, LosesBelow, HasSome, SkipsSome, Skips, TakesAll};
+ghost use Rattle.sr_capture.specs.Taking.{Loses, LosesBelow, HasSome, SkipsSome, Skips, TakesAll, Fills, FillsBelow};
 
 use crate::fault::Reason;
 use std::io::BufRead;
@@ -28,27 +28,37 @@ fn keep_some<R: BufRead>(reader: &mut R, room: usize, kept: &mut Vec<u8>) -> Res
     Ok(true)
 }
 
-/// Takes so many octets into `kept`, in place of what it held. False where the input ends before.
+/// Takes octets behind those that `kept` holds, till it has so many. False where the input ends before.
 ///
 /// # Errors
 /// `Read` where the reader fails, `NoMemory`. What was taken till then is in `kept`.
-pub(crate) fn keep<R: BufRead>(
-    reader: &mut R,
-    count: usize,
-    kept: &mut Vec<u8>,
-) -> Result<bool, Reason>
-    ensures taken { IfOk result (λ whole. TakesAll whole count kept.new.items (R.remaining reader.old) (R.remaining reader.new)) }
+pub fn fill<R: BufRead>(reader: &mut R, count: usize, kept: &mut Vec<u8>) -> Result<bool, Reason>
+    requires { vec_len kept.old ≤ count }
+    ensures taken { IfOk result (λ whole. Fills whole count kept.old.items kept.new.items (R.remaining reader.old) (R.remaining reader.new)) }
     ensures fault { IfErr result (λ reason. (reason ≡ Reason.Read) ⊎ (reason ≡ Reason.NoMemory)) }
     ensures few { vec_len kept.new ≤ count }
-    ensures err { IfErr result (λ _. LosesBelow count kept.new.items (R.remaining reader.old) (R.remaining reader.new)) }
+    ensures err { IfErr result (λ _. FillsBelow count kept.old.items kept.new.items (R.remaining reader.old) (R.remaining reader.new)) }
 {
-    kept.clear();
     while kept.len() < count {
         if !keep_some(reader, count - kept.len(), kept)? {
             return Ok(false);
         }
     }
     Ok(true)
+}
+
+/// Takes so many octets into `kept`, in place of what it held. False where the input ends before.
+///
+/// # Errors
+/// `Read` where the reader fails, `NoMemory`. What was taken till then is in `kept`.
+pub fn keep<R: BufRead>(reader: &mut R, count: usize, kept: &mut Vec<u8>) -> Result<bool, Reason>
+    ensures taken { IfOk result (λ whole. TakesAll whole count kept.new.items (R.remaining reader.old) (R.remaining reader.new)) }
+    ensures fault { IfErr result (λ reason. (reason ≡ Reason.Read) ⊎ (reason ≡ Reason.NoMemory)) }
+    ensures few { vec_len kept.new ≤ count }
+    ensures err { IfErr result (λ _. LosesBelow count kept.new.items (R.remaining reader.old) (R.remaining reader.new)) }
+{
+    kept.clear();
+    fill(reader, count, kept)
 }
 
 /// Passes over what the reader has at hand, at most so many octets. None where the reader fails; 0 where nothing is left.

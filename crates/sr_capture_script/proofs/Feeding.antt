@@ -4,10 +4,12 @@ use Rattle.std.specs.Prelude.{min, cond}
 use Rattle.std.proofs.lemmas.List.{length-append, append-nil}
 use Rattle.std.proofs.lemmas.List.Sums.{sum_by-append}
 use Rattle.sr_capture.specs.declared.fault.CaptureFault.{CaptureFault}
-use Rattle.sr_capture.specs.declared.header.Form.{Form}
+use Rattle.sr_capture_script.specs.declared.format.Format.{Format}
 use Rattle.sr_capture.specs.Taking.{Loses}
 use Rattle.sr_capture.specs.TakingLemmas.{loses_more, none_left, loses_nothing}
-use Rattle.sr_capture.specs.Records.{Captured, IsRecord, AreRecords, Shows}
+use Rattle.sr_capture.specs.Records.{Captured, Shows}
+use Rattle.sr_capture_script.specs.Formats.{front_len, AreTaken}
+use Rattle.sr_capture_script.proofs.Taken.{taken_none, taken_on, front_few}
 use Rattle.sr_capture_script.specs.declared.choice.Inlet.{Inlet}
 use Rattle.sr_capture_script.specs.declared.flaws.Flaw.{Flaw}
 use Rattle.sr_capture_script.specs.declared.flaws.Flaw.TheVariants as flaw
@@ -16,14 +18,6 @@ use Rattle.sr_capture_script.specs.Flaws.{flaw_of, is_flaw, tally, tallied, coun
 use Rattle.sr_capture_script.specs.Items.{Item, moment_of, items_from, items_of}
 use Rattle.sr_capture_script.specs.Sources.{Progress, last_moment, IsDue, Feeds, GoesOn, IsUntaken, IsStuck, IsFaulty}
 use Rattle.sr_capture_script.specs.Picking.{NotBefore}
-
--- one record more
-records_more : (form : Form) (octets more : List ℕ) (packets : List Captured) (packet : Captured) → AreRecords form octets packets
-    → IsRecord form more packet → AreRecords form (octets ++ more) (packets ++ packet ∷ [])
-records_more form octets more [] packet h r =
-    (more, [], ap (λ (l : List ℕ). l ++ more) h ∙ sym (append-nil more), r, refl)
-records_more form octets more (p ∷ ps) packet h r =
-    (h.0, h.1 ++ more, ap (λ (l : List ℕ). l ++ more) h.2 ∙ append_assoc h.0 h.1 more, h.3, records_more form h.1 more ps packet h.4 r)
 
 last_moment_more : (delay last : ℕ) (packets : List Captured) (packet : Captured)
     → last_moment delay last (packets ++ packet ∷ []) ≡ moment_of delay (last_moment delay last packets) packet
@@ -71,7 +65,7 @@ tallied_more : (packets : List Captured) (packet : Captured) → counted (tallie
 tallied_more packets packet = counted_by (flaw_of packet) packets (packets ++ packet ∷ []) (λ why. tally_more why packets packet)
 
 -- an item went, and the next one is due
-pub record Served (inlet : Inlet) (form : Form) (delay : ℕ) (start now : Option (List ℕ)) (p q : Progress) (m : ℕ) (gone : List Item) : Type 0 where
+pub record Served (inlet : Inlet) (form : Format) (delay : ℕ) (start now : Option (List ℕ)) (p q : Progress) (m : ℕ) (gone : List Item) : Type 0 where
   pub item : Item
   pub at : item.inlet ≡ inlet
   pub when : item.moment ≡ m
@@ -81,10 +75,10 @@ pub record Served (inlet : Inlet) (form : Form) (delay : ℕ) (start now : Optio
   pub feeds : Feeds inlet form delay start now q (gone ++ item ∷ [])
 
 -- the next packet is due
-feeds_next : (inlet : Inlet) (form : Form) (delay : ℕ) (start mid now : Option (List ℕ)) (p q : Progress) (gone : List Item) (m : ℕ)
-    (packets : List Captured) (octets : List ℕ) → Loses octets start mid → AreRecords form octets packets → p.place ≡ min (24 + length octets) (2 ^ 64 - 1)
+feeds_next : (inlet : Inlet) (form : Format) (delay : ℕ) (start mid now : Option (List ℕ)) (p q : Progress) (gone : List Item) (m : ℕ)
+    (packets : List Captured) (octets : List ℕ) → Loses octets start mid → AreTaken form octets packets p.state → p.place ≡ min (front_len form + length octets) (2 ^ 64 - 1)
     → p.flaws ≡ tallied packets → p.number ≡ min (length packets) (2 ^ 64 - 1)
-    → p.moment ≡ last_moment delay 0 packets → items_of inlet delay packets ≡ gone → q.due ≡ Some m → GoesOn form delay (Some m) mid now p q
+    → p.moment ≡ last_moment delay 0 packets → items_of inlet delay packets ≡ gone → q.due ≡ Some m → GoesOn p.state delay (Some m) mid now p q
     → Feeds inlet form delay start now q gone
 feeds_next inlet form delay start mid now p q gone m packets octets lost records place flaws number moment items due goes =
     let packet = goes.1 in
@@ -99,7 +93,7 @@ feeds_next inlet form delay start mid now p q gone m packets octets lost records
       packets = packets ++ packet ∷ [];
       octets = octets ++ goes.0;
       lost = loses_more octets goes.0 start mid now lost goes.2;
-      records = records_more form octets goes.0 packets packet records goes.3;
+      records = taken_on form p.state q.state octets goes.0 packets (packet ∷ []) records goes.3;
       place = omega (arith, goes.8, place, length-append octets goes.0);
       flaws = goes.9 ∙ ap (λ (n : FlawCounts). counted n (flaw_of packet)) flaws ∙ tallied_more packets packet;
       number = omega (arith, goes.7, number, count);
@@ -108,46 +102,48 @@ feeds_next inlet form delay start mid now p q gone m packets octets lost records
     }
 
 -- the file is at its end
-feeds_end : (inlet : Inlet) (form : Form) (delay : ℕ) (start mid now : Option (List ℕ)) (p q : Progress) (gone : List Item)
-    (packets : List Captured) (octets : List ℕ) → Loses octets start mid → AreRecords form octets packets → p.place ≡ min (24 + length octets) (2 ^ 64 - 1)
+feeds_end : (inlet : Inlet) (form : Format) (delay : ℕ) (start mid now : Option (List ℕ)) (p q : Progress) (gone : List Item)
+    (packets : List Captured) (octets : List ℕ) → Loses octets start mid → AreTaken form octets packets p.state → p.place ≡ min (front_len form + length octets) (2 ^ 64 - 1)
     → p.flaws ≡ tallied packets → p.number ≡ min (length packets) (2 ^ 64 - 1)
-    → p.moment ≡ last_moment delay 0 packets → items_of inlet delay packets ≡ gone → q.due ≡ None → GoesOn form delay None mid now p q
+    → p.moment ≡ last_moment delay 0 packets → items_of inlet delay packets ≡ gone → q.due ≡ None → GoesOn p.state delay None mid now p q
     → Feeds inlet form delay start now q gone
 feeds_end inlet form delay start mid now p q gone packets octets lost records place flaws number moment items due goes =
-    let is_due : IsDue inlet q None (items_of inlet delay packets) gone start now = (items, none_left octets start mid now lost goes.1) in
+    let is_due : IsDue inlet q None (items_of inlet delay packets) gone start now = (items, none_left octets start mid now lost goes.3) in
     record {
       packets = packets;
-      octets = octets;
-      lost = subst (λ (l : List ℕ). Loses l start now) (append-nil octets) (loses_more octets [] start mid now lost goes.0);
-      records = records;
-      place = goes.4 ∙ place;
-      flaws = goes.5 ∙ flaws;
-      number = goes.3 ∙ number;
-      moment = goes.2 ∙ moment;
+      octets = octets ++ goes.0;
+      lost = loses_more octets goes.0 start mid now lost goes.1;
+      records = subst (λ (l : List Captured). AreTaken form (octets ++ goes.0) l q.state) (append-nil packets)
+          (taken_on form p.state q.state octets goes.0 packets [] records goes.2);
+      place = omega (arith, goes.6, place, length-append octets goes.0);
+      flaws = goes.7 ∙ flaws;
+      number = goes.5 ∙ number;
+      moment = goes.4 ∙ moment;
       due = subst (λ (o : Option ℕ). IsDue inlet q o (items_of inlet delay packets) gone start now) (sym due) is_due;
     }
 
-feeds_on : (d : Option ℕ) (inlet : Inlet) (form : Form) (delay : ℕ) (start mid now : Option (List ℕ)) (p q : Progress) (gone : List Item)
-    (packets : List Captured) (octets : List ℕ) → Loses octets start mid → AreRecords form octets packets → p.place ≡ min (24 + length octets) (2 ^ 64 - 1)
+feeds_on : (d : Option ℕ) (inlet : Inlet) (form : Format) (delay : ℕ) (start mid now : Option (List ℕ)) (p q : Progress) (gone : List Item)
+    (packets : List Captured) (octets : List ℕ) → Loses octets start mid → AreTaken form octets packets p.state → p.place ≡ min (front_len form + length octets) (2 ^ 64 - 1)
     → p.flaws ≡ tallied packets → p.number ≡ min (length packets) (2 ^ 64 - 1)
-    → p.moment ≡ last_moment delay 0 packets → items_of inlet delay packets ≡ gone → q.due ≡ d → GoesOn form delay d mid now p q
+    → p.moment ≡ last_moment delay 0 packets → items_of inlet delay packets ≡ gone → q.due ≡ d → GoesOn p.state delay d mid now p q
     → Feeds inlet form delay start now q gone
 feeds_on None inlet form delay start mid now p q gone packets octets l r pl fl n m i due goes = feeds_end inlet form delay start mid now p q gone packets octets l r pl fl n m i due goes
 feeds_on (Some x) inlet form delay start mid now p q gone packets octets l r pl fl n m i due goes = feeds_next inlet form delay start mid now p q gone x packets octets l r pl fl n m i due goes
 
-later_than : (d : Option ℕ) (form : Form) (delay : ℕ) (mid now : Option (List ℕ)) (p q : Progress) → GoesOn form delay d mid now p q → NotBefore d p.moment
+later_than : (d : Option ℕ) (form : Format) (delay : ℕ) (mid now : Option (List ℕ)) (p q : Progress) → GoesOn form delay d mid now p q → NotBefore d p.moment
 later_than None form delay mid now p q goes = tt
 later_than (Some x) form delay mid now p q goes = omega (arith, goes.5)
 
 -- a file of which nothing was taken
-pub feeds_first : (inlet : Inlet) (form : Form) (delay : ℕ) (start now : Option (List ℕ)) (p q : Progress) → IsUntaken p
-    → GoesOn form delay q.due start now p q → Feeds inlet form delay start now q []
+pub feeds_first : (inlet : Inlet) (form : Format) (delay : ℕ) (start now : Option (List ℕ)) (p q : Progress) → IsUntaken form p
+    → GoesOn p.state delay q.due start now p q → Feeds inlet form delay start now q []
 feeds_first inlet form delay start now p q none goes =
-    feeds_on q.due inlet form delay start start now p q [] [] [] (loses_nothing start) refl (omega (arith, none.place)) none.flaws (omega (arith, none.number))
+    feeds_on q.due inlet form delay start start now p q [] [] [] (loses_nothing start)
+    (subst (AreTaken form [] []) (sym none.state) (taken_none form)) (omega (arith, none.place, front_few form)) none.flaws (omega (arith, none.number))
     none.moment refl refl goes
 
-pub serves : (inlet : Inlet) (form : Form) (delay : ℕ) (start mid now : Option (List ℕ)) (p q : Progress) (m : ℕ) (gone : List Item) → p.due ≡ Some m
-    → Feeds inlet form delay start mid p gone → GoesOn form delay q.due mid now p q → Served inlet form delay start now p q m gone
+pub serves : (inlet : Inlet) (form : Format) (delay : ℕ) (start mid now : Option (List ℕ)) (p q : Progress) (m : ℕ) (gone : List Item) → p.due ≡ Some m
+    → Feeds inlet form delay start mid p gone → GoesOn p.state delay q.due mid now p q → Served inlet form delay start now p q m gone
 serves inlet form delay start mid now p q m gone due feeds goes =
     let is_due : IsDue inlet p (Some m) (items_of inlet delay feeds.packets) gone start mid =
     subst (λ (o : Option ℕ). IsDue inlet p o (items_of inlet delay feeds.packets) gone start mid) due feeds.due in
@@ -157,12 +153,12 @@ serves inlet form delay start mid now p q m gone due feeds goes =
       when = is_due.3;
       number = is_due.5;
       shown = is_due.6;
-      later = subst (NotBefore q.due) is_due.4 (later_than q.due form delay mid now p q goes);
+      later = subst (NotBefore q.due) is_due.4 (later_than q.due p.state delay mid now p q goes);
       feeds = feeds_on q.due inlet form delay start mid now p q (gone ++ is_due.0 ∷ []) feeds.packets feeds.octets feeds.lost feeds.records feeds.place feeds.flaws feeds.number feeds.moment is_due.1 refl goes;
     }
 
 -- an item went, and the file has a fault behind it
-pub record Stuck (inlet : Inlet) (form : Form) (delay : ℕ) (fault : CaptureFault) (start : Option (List ℕ)) (p : Progress) (m : ℕ) (gone : List Item) : Type 0 where
+pub record Stuck (inlet : Inlet) (form : Format) (delay : ℕ) (fault : CaptureFault) (start : Option (List ℕ)) (p : Progress) (m : ℕ) (gone : List Item) : Type 0 where
   pub item : Item
   pub at : item.inlet ≡ inlet
   pub when : item.moment ≡ m
@@ -171,13 +167,12 @@ pub record Stuck (inlet : Inlet) (form : Form) (delay : ℕ) (fault : CaptureFau
   pub faulty : IsFaulty inlet form delay fault start (gone ++ item ∷ [])
 
 -- an offset of 64 bits is that of the octets
-pub stuck_at : (form : Form) (place n : ℕ) (fault : CaptureFault) (old new : Option (List ℕ)) → place ≡ min n (2 ^ 64 - 1) → IsStuck form place fault old new
-    → IsStuck form n fault old new
-stuck_at form place n fault old new e (inl s) = inl (s.0, (s.1.0, s.1.1, s.1.2, omega (arith, s.1.3)))
-stuck_at form place n fault old new e (inr s) = inr (s.0, omega (arith, s.1), s.2)
+pub stuck_at : (state : Format) (place n : ℕ) (fault : CaptureFault) (old new : Option (List ℕ)) → place ≡ min n (2 ^ 64 - 1) → IsStuck state place fault old new
+    → IsStuck state n fault old new
+stuck_at state place n fault old new e s = (s.0, s.1, s.2, omega (arith, s.3, e))
 
-pub sticks : (inlet : Inlet) (form : Form) (delay : ℕ) (fault : CaptureFault) (start mid now : Option (List ℕ)) (p : Progress) (m : ℕ) (gone : List Item)
-    → p.due ≡ Some m → Feeds inlet form delay start mid p gone → IsStuck form p.place fault mid now → Stuck inlet form delay fault start p m gone
+pub sticks : (inlet : Inlet) (form : Format) (delay : ℕ) (fault : CaptureFault) (start mid now : Option (List ℕ)) (p : Progress) (m : ℕ) (gone : List Item)
+    → p.due ≡ Some m → Feeds inlet form delay start mid p gone → IsStuck p.state p.place fault mid now → Stuck inlet form delay fault start p m gone
 sticks inlet form delay fault start mid now p m gone due feeds stuck =
     let is_due : IsDue inlet p (Some m) (items_of inlet delay feeds.packets) gone start mid =
     subst (λ (o : Option ℕ). IsDue inlet p o (items_of inlet delay feeds.packets) gone start mid) due feeds.due in
@@ -193,8 +188,9 @@ sticks inlet form delay fault start mid now p m gone due feeds stuck =
         left = mid;
         after = now;
         lost = feeds.lost;
+        last = p.state;
         records = feeds.records;
         items = is_due.1;
-        stuck = stuck_at form p.place (24 + length feeds.octets) fault mid now feeds.place stuck;
+        stuck = stuck_at p.state p.place (front_len form + length feeds.octets) fault mid now feeds.place stuck;
       };
     }

@@ -1,3 +1,4 @@
+pub mod Taken
 pub mod Feeding
 pub mod Ordering
 pub mod Writing

@@ -4,9 +4,10 @@ use Rattle.std.specs.Prelude.{unwrap_or, is_some, min}
 use Rattle.std.specs.Io.KnownBytes.{Appends}
 use Rattle.std.proofs.KnownBytes.{Appends-trans}
 use Rattle.std.proofs.lemmas.List.{append-nil}
-use Rattle.sr_capture.specs.declared.header.Form.{Form}
+use Rattle.sr_capture_script.specs.declared.format.Format.{Format}
 use Rattle.sr_capture.specs.Taking.{Loses, LeavesNone}
-use Rattle.sr_capture.specs.Records.{Captured, AreRecords}
+use Rattle.sr_capture.specs.Records.{Captured}
+use Rattle.sr_capture_script.specs.Formats.{AreTaken, HasPackets}
 use Rattle.sr_capture_script.specs.declared.choice.Choice.{Choice}
 use Rattle.sr_capture_script.specs.declared.choice.Inlet.{Inlet}
 use Rattle.sr_capture_script.specs.declared.choice.Inlet.TheVariants.{A, B, C}
@@ -25,12 +26,12 @@ use Rattle.sr_capture_script.specs.Going.{Going}
 use Rattle.sr_capture_script.proofs.Ordering.{order_more, came_here, came_apart}
 use Rattle.sr_capture_script.proofs.Going.{key_is, more_lines, behind_a, behind_b, behind_c}
 
-has_records : (start now : Option (List ℕ)) (form : Form) (delay : ℕ) (octets : List ℕ) (packets : List Captured) → Loses octets start now
-    → LeavesNone start now → AreRecords form octets packets → HasRecords (record { form = form; delay = delay; start = start }) packets
-has_records None now form delay octets packets lost none records = tt
-has_records (Some xs) None form delay octets packets lost none records = absurd lost
-has_records (Some xs) (Some ys) form delay octets packets lost none records =
-    subst (λ (l : List ℕ). AreRecords form l packets) (sym (lost ∙ ap (λ (l : List ℕ). octets ++ l) none ∙ append-nil octets)) records
+has_records : (start now : Option (List ℕ)) (form : Format) (delay : ℕ) (octets : List ℕ) (packets : List Captured) (last : Format) → Loses octets start now
+    → LeavesNone start now → AreTaken form octets packets last → HasRecords (record { form = form; delay = delay; start = start }) packets
+has_records None now form delay octets packets last lost none records = tt
+has_records (Some xs) None form delay octets packets last lost none records = absurd lost
+has_records (Some xs) (Some ys) form delay octets packets last lost none records =
+    subst (λ (l : List ℕ). HasPackets form l packets) (sym (lost ∙ ap (λ (l : List ℕ). octets ++ l) none ∙ append-nil octets)) (last, records)
 
 -- a file at its end has given all
 record Whole {R : Type 0} (inlet : Inlet) (s : Source R) (start : Option (List ℕ)) (gone : List Item) : Type 0 where
@@ -46,7 +47,7 @@ whole remaining inlet start s gone none fed =
     let due = subst (λ (o : Option ℕ). IsDue inlet (progress_of s) o (items_of inlet s.delay fed.packets) gone start left) none fed.due in
     record {
       packets = fed.packets;
-      has = has_records start left s.form s.delay fed.octets fed.packets fed.lost due.1 fed.records;
+      has = has_records start left s.form s.delay fed.octets fed.packets s.state fed.lost due.1 fed.records;
       counted = record { number = fed.number; flaws = fed.flaws };
       items = sym due.0;
     }
@@ -75,16 +76,16 @@ merges remaining choice sa sb sc a b c clock held now g none =
     }
 
 -- how far a file came whose next item, if there is one, comes behind what is printed
-come_by : (d : Option ℕ) (inlet : Inlet) (form : Form) (delay : ℕ) (start now : Option (List ℕ)) (p : Progress) (printed : List Item) → p.due ≡ d
+come_by : (d : Option ℕ) (inlet : Inlet) (form : Format) (delay : ℕ) (start now : Option (List ℕ)) (p : Progress) (printed : List Item) → p.due ≡ d
     → Feeds inlet form delay start now p (came_at inlet printed) → AllToDue inlet d printed
     → HasCome inlet (record { form = form; delay = delay; start = start }) printed
 come_by None inlet form delay start now p printed due fed to =
     let is_due = subst (λ (o : Option ℕ). IsDue inlet p o (items_of inlet delay fed.packets) (came_at inlet printed) start now) due fed.due in
-    (fed.packets, inl (has_records start now form delay fed.octets fed.packets fed.lost is_due.1 fed.records, sym is_due.0))
+    (fed.packets, inl (has_records start now form delay fed.octets fed.packets p.state fed.lost is_due.1 fed.records, sym is_due.0))
 come_by (Some m) inlet form delay start now p printed due fed to =
     let is_due = subst (λ (o : Option ℕ). IsDue inlet p o (items_of inlet delay fed.packets) (came_at inlet printed) start now) due fed.due in
     let next : IsNext inlet delay fed.packets printed = (is_due.0, is_due.1, subst (λ n. AllTo (key_of inlet n) printed) (sym is_due.3) to) in
-    (fed.packets, inr (record { octets = fed.octets; left = now; lost = fed.lost; records = fed.records; next = next }))
+    (fed.packets, inr (record { octets = fed.octets; left = now; lost = fed.lost; last = p.state; records = fed.records; next = next }))
 
 pub has_come : {R : Type 0} (remaining : R → Option (List ℕ)) (inlet : Inlet) (start : Option (List ℕ)) (s : Source R) (printed : List Item)
     → IsFed remaining inlet start s (came_at inlet printed) → AllToDue inlet s.due printed → HasCome inlet (feed_of s start) printed
@@ -217,7 +218,7 @@ halts_c remaining choice sa sb sc a b c c' clock held mid now m (File C fault) o
       wrote = more_lines choice clock m g.out s.item held mid now s.when g.base g.last g.wrote s.wrote;
     }
 
-feed_of_fields : (f g : Form) (d e : ℕ) (start : Option (List ℕ)) → f ≡ g → d ≡ e
+feed_of_fields : (f g : Format) (d e : ℕ) (start : Option (List ℕ)) → f ≡ g → d ≡ e
     → (let x : Feed = record { form = f; delay = d; start = start } in x) ≡ record { form = g; delay = e; start = start }
 feed_of_fields f g d e start p q = cc
 

@@ -3,6 +3,7 @@ pub mod Picking
 pub mod Items
 pub mod Flaws
 pub mod Texts
+pub mod Formats
 pub mod Sources
 pub mod SourceViews
 pub mod Going

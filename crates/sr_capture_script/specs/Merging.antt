@@ -2,9 +2,9 @@
 use Rattle.std.specs.Prelude.{◌≡◌, ℕ, ◌-◌, ◌^◌, min, List, [], ◌∷◌, ◌++◌, length, Option, Some, None, Bool, true, false, IfSome, ◌⊎◌}
 use Rattle.std.specs.Io.KnownBytes.{Appends}
 use Rattle.sr_capture.specs.declared.fault.CaptureFault.{CaptureFault}
-use Rattle.sr_capture.specs.declared.header.Form.{Form}
+use Rattle.sr_capture_script.specs.declared.format.Format.{Format}
 use Rattle.sr_capture.specs.Taking.{Loses}
-use Rattle.sr_capture.specs.Records.{Captured, AreRecords}
+use Rattle.sr_capture.specs.Records.{Captured}
 use Rattle.sr_capture_script.specs.declared.choice.Choice.{Choice}
 use Rattle.sr_capture_script.specs.declared.choice.Inlet.{Inlet}
 use Rattle.sr_capture_script.specs.declared.choice.Inlet.TheVariants.{A, B, C}
@@ -12,23 +12,24 @@ use Rattle.sr_capture_script.specs.declared.fault.ScriptFault.{ScriptFault}
 use Rattle.sr_capture_script.specs.declared.fault.ScriptFault.TheVariants.{File}
 use Rattle.sr_capture_script.specs.declared.flaws.FlawCounts.{FlawCounts}
 use Rattle.sr_capture_script.specs.declared.source.Source.{Source}
+use Rattle.sr_capture_script.specs.Formats.{AreTaken, HasPackets}
 use Rattle.sr_capture_script.specs.Flaws.{tallied}
 use Rattle.sr_capture_script.specs.Items.{Item, items_of, came_at, key_of, AllTo, IsInOrder, IsMerge}
 use Rattle.sr_capture_script.specs.Sources.{IsFaulty}
 use Rattle.sr_capture_script.specs.Texts.{numbers_line, lines_of, last_line, last_ticks}
 
--- a file behind its header: what the header says, how far its times are put off, and its octets, where they are known
+-- a file behind its front: what the front says, how far its times are put off, and its octets, where they are known
 pub record Feed : Type 0 where
-  pub form : Form
+  pub form : Format
   pub delay : ℕ
   pub start : Option (List ℕ)
 
 abbrev pub feed_of : {R : Type 0} → Source R → Option (List ℕ) → Feed
 feed_of s start = record { form = s.form; delay = s.delay; start = start }
 
--- where the octets are known, they are the records of these packets
+-- where the octets are known, they have these packets
 abbrev pub HasRecords : Feed → List Captured → Type 0
-HasRecords feed packets = IfSome feed.start (λ octets. AreRecords feed.form octets packets)
+HasRecords feed packets = IfSome feed.start (λ octets. HasPackets feed.form octets packets)
 
 -- the counts of a file, if there is one
 abbrev pub numbers_of : Bool → Inlet → ℕ → FlawCounts → List ℕ
@@ -94,7 +95,8 @@ pub record Waits (inlet : Inlet) (feed : Feed) (packets : List Captured) (printe
   pub octets : List ℕ
   pub left : Option (List ℕ)
   pub lost : Loses octets feed.start left
-  pub records : AreRecords feed.form octets packets
+  pub last : Format
+  pub records : AreTaken feed.form octets packets last
   pub next : IsNext inlet feed.delay packets printed
 
 -- how far a file came that has no fault: all of its packets are printed, or all up to one

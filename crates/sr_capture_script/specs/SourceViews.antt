@@ -7,14 +7,14 @@ use Rattle.sr_capture_script.specs.declared.source.Source.{Source}
 use Rattle.sr_capture_script.specs.declared.fault.ScriptFault.{ScriptFault}
 use Rattle.sr_capture_script.specs.declared.fault.ScriptFault.TheVariants.{File, Write, NoMemory, Endless}
 use Rattle.sr_capture.specs.declared.fault.CaptureFault.{CaptureFault}
-use Rattle.sr_capture.specs.declared.header.Form.{Form}
+use Rattle.sr_capture_script.specs.declared.format.Format.{Format}
 use Rattle.sr_capture_script.specs.Items.{Item}
 use Rattle.sr_capture_script.specs.Picking.{NotBefore}
 use Rattle.sr_capture_script.specs.Sources.{Progress, left_of, Feeds, IsFaulty}
 use Rattle.sr_capture_script.specs.Texts.{piece_of}
 
 abbrev pub progress_of : {R : Type 0} → Source R → Progress
-progress_of s = record { place = s.place; moment = s.moment; number = s.number; flaws = s.flaws; due = s.due; shown = s.packet }
+progress_of s = record { state = s.state; place = s.place; moment = s.moment; number = s.number; flaws = s.flaws; due = s.due; shown = s.packet }
 
 -- form, delay and whether there is a file stay
 pub record IsSame {R : Type 0} (old new : Source R) : Type 0 where
@@ -38,7 +38,7 @@ pub record Serves {R : Type 0} (remaining : R → Option (List ℕ)) (inlet : In
   pub wrote : Appends held now (piece_of choice base last item)
 
 -- the item that was due is gone and printed, and behind it the file has a fault
-pub record Sticks (inlet : Inlet) (choice : Choice) (form : Form) (delay base m : ℕ) (last : Option ℕ) (fault : CaptureFault)
+pub record Sticks (inlet : Inlet) (choice : Choice) (form : Format) (delay base m : ℕ) (last : Option ℕ) (fault : CaptureFault)
     (start : Option (List ℕ))
     (gone : List Item) (held now : Option (List ℕ)) : Type 0 where
   pub item : Item

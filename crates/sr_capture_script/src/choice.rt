@@ -2,6 +2,8 @@
 
 ghost use Rattle.std.specs.Prelude.{◌≤◌, ◌^◌};
 
+use sr_pcapng::Wanted;
+
 /// A port where the packets of a file came in.
 #[derive(Clone, Copy, Debug, PartialEq, Eq)]
 pub enum Inlet {
@@ -41,13 +43,35 @@ pub struct Delays {
     pub ghost small_c: { c ≤ 2 ^ 62 },
 }
 
+/// Which interface of each file is wanted.
+#[derive(Clone, Copy, Debug)]
+pub struct Interfaces {
+    /// That of the file of inlet A.
+    pub a: Wanted,
+    /// That of the file of inlet B.
+    pub b: Wanted,
+    /// That of the file of inlet C.
+    pub c: Wanted,
+}
+
+/// How a file is read.
+#[derive(Clone, Copy, Debug)]
+pub(crate) struct Reading {
+    /// Which interface is wanted.
+    pub wanted: Wanted,
+    /// How many octets of check sequence stand behind each packet where the file tells none.
+    pub check_len: u8,
+}
+
 /// How a script is made.
 #[derive(Clone, Copy, Debug)]
 pub struct Options {
     /// Which lines are wanted.
     pub choice: Choice,
-    /// How many octets of check sequence stand behind each packet of a file whose header tells none.
+    /// How many octets of check sequence stand behind each packet of a file that tells none.
     pub check_len: u8,
     /// How far the times of each file are put off.
     pub delays: Delays,
+    /// Which interface of each file is wanted.
+    pub interfaces: Interfaces,
 }

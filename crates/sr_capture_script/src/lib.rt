@@ -5,6 +5,8 @@ mod advancing;
 mod choice;
 mod fault;
 mod flaws;
+mod format;
+mod front;
 mod lines;
 mod merging;
 mod opening;
@@ -15,7 +17,7 @@ mod serving;
 mod shifts;
 mod source;
 
-pub use choice::{Choice, Delays, Inlet, MAX_DELAY, Options};
+pub use choice::{Choice, Delays, Inlet, Interfaces, MAX_DELAY, Options};
 pub use fault::ScriptFault;
 pub use scripting::script;
 pub use shifts::delays_of;

@@ -3,23 +3,25 @@
 ghost use Rattle.std.specs.Prelude.{None, ◌≡◌, ◌≤◌, ◌^◌, IfOk, IfErr};
 ghost use Rattle.sr_capture_script.specs.Sources.{IsUntaken};
 ghost use Rattle.sr_capture_script.specs.SourceViews.{progress_of};
-ghost use Rattle.sr_capture_script.specs.Opening.{given, IsOpened, FailsAtFront};
+ghost use Rattle.sr_capture_script.specs.Opening.{IsOpened, FailsAtFront};
 
 use crate::advancing::advance;
-use crate::choice::Inlet;
+use crate::choice::{Inlet, Reading};
 use crate::fault::ScriptFault;
 use crate::flaws::FlawCounts;
+use crate::format::{Format, front_len};
+use crate::front::take_front;
 use crate::source::Source;
-use sr_capture::{ByteOrder, Form, HEADER_LEN, Packet, TimeUnit, read_header};
+use sr_capture::{ByteOrder, Form, Packet, TimeUnit};
 use std::alloc::Global;
 use std::io::BufRead;
 
 /// What is said of a file that is not there.
-const NO_FORM: Form = Form {
+const NO_FORM: Format = Format::Pcap(Form {
     order: ByteOrder::Little,
     unit: TimeUnit::Micro,
     check_len: 0,
-};
+});
 
 /// The counts of no packets.
 const NO_FLAWS: FlawCounts = FlawCounts {
@@ -28,42 +30,30 @@ const NO_FLAWS: FlawCounts = FlawCounts {
     empty: 0,
 };
 
-/// A form with a check sequence of this length where it has none.
-fn given(check: u8, form: Form) -> Form
-    ensures { result ≡ given check form }
-{
-    Form {
-        check_len: if form.check_len == 0 {
-            check
-        } else {
-            form.check_len
-        },
-        ..form
-    }
-}
-
-/// A file behind its header, of which no packet was taken.
-fn untaken<R>(alloc: Global, reader: Option<R>, form: Form, delay: u64) -> Source<R>
+/// A file behind its front, of which no packet was taken.
+fn untaken<R>(alloc: Global, reader: Option<R>, form: Format, delay: u64) -> Source<R>
     requires { delay ≤ 2 ^ 62 }
     ensures reader { result.reader ≡ reader }
     ensures form { result.form ≡ form }
     ensures delay { result.delay ≡ delay }
-    ensures none { IsUntaken (progress_of result) }
+    ensures none { IsUntaken form (progress_of result) }
 {
     Source {
         reader,
         form,
+        state: form,
         delay,
-        place: HEADER_LEN as u64,
+        place: front_len(form),
         number: 0,
         flaws: NO_FLAWS,
         moment: 0,
         due: None,
         packet: Packet::new(alloc),
+        block: Vec::new(alloc),
     }
 }
 
-/// Reads a file's header and its first packet.
+/// Reads a file's front and its first packet.
 ///
 /// # Errors
 /// The fault of the file, or `NoMemory`.
@@ -72,20 +62,20 @@ pub(crate) fn open<R: BufRead + Drop>(
     inlet: Inlet,
     file: Option<R>,
     delay: u64,
-    check: u8,
+    how: Reading,
 ) -> Result<Source<R>, ScriptFault>
     requires { delay ≤ 2 ^ 62 }
-    ensures opened { IfOk result (λ source. IsOpened R.remaining inlet check file source) }
+    ensures opened { IfOk result (λ source. IsOpened R.remaining inlet how file source) }
     ensures delay { IfOk result (λ source. source.delay ≡ delay) }
-    ensures fault { IfErr result (λ fault. FailsAtFront R.remaining inlet check file fault) }
+    ensures fault { IfErr result (λ fault. FailsAtFront R.remaining inlet how file fault) }
 {
     let mut reader = match file {
         Some(reader) => reader,
         None => return Ok(untaken(alloc, None, NO_FORM, delay)),
     };
     let mut octets = Vec::new(alloc);
-    let form = match read_header(&mut reader, &mut octets) {
-        Ok(form) => given(check, form),
+    let form = match take_front(&mut reader, how, &mut octets) {
+        Ok(form) => form,
         Err(fault) => return Err(ScriptFault::File(inlet, fault)),
     };
     let mut source = untaken(alloc, Some(reader), form, delay);

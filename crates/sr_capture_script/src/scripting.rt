@@ -5,9 +5,9 @@ ghost use Rattle.std.specs.Io.KnownBytes.{Appends};
 ghost use Rattle.sr_capture_script.specs.declared.choice.Inlet.TheVariants.{A as AtA, B as AtB, C as AtC};
 ghost use Rattle.sr_capture_script.specs.SourceViews.{IsFed};
 ghost use Rattle.sr_capture_script.specs.Merging.{numbers_of, end_of, feed_of, Scripts, Halts};
-ghost use Rattle.sr_capture_script.specs.Opening.{IsScript, IsScriptUpTo};
+ghost use Rattle.sr_capture_script.specs.Opening.{reading_of, IsScript, IsScriptUpTo};
 
-use crate::choice::{Choice, Inlet, Options};
+use crate::choice::{Choice, Inlet, Options, Reading};
 use crate::fault::ScriptFault;
 use crate::lines::append_numbers;
 use crate::merging::merge;
@@ -17,6 +17,22 @@ use crate::serving::write_text;
 use crate::source::Source;
 use std::alloc::Global;
 use std::io::{BufRead, Write};
+
+/// How the file of an inlet is read.
+fn reading_of(options: &Options, inlet: Inlet) -> Reading
+    ensures { result ≡ reading_of options.now inlet }
+{
+    let interfaces = options.interfaces;
+    let wanted = match inlet {
+        Inlet::A => interfaces.a,
+        Inlet::B => interfaces.b,
+        Inlet::C => interfaces.c,
+    };
+    Reading {
+        wanted,
+        check_len: options.check_len,
+    }
+}
 
 /// Appends how many packets a file had, if there is one.
 fn append_counts<R>(text: &mut Vec<u8>, inlet: Inlet, source: &Source<R>) -> Result<(), ScriptFault>
@@ -80,7 +96,7 @@ fn print<R: BufRead, W: Write>(
     }
 }
 
-/// Writes the script of up to three captures: their packets, merged by time, a line `in P T HEX` for each.
+/// Writes the script of up to three captures, pcap or pcapng: their packets, merged by time, a line `in P T HEX` for each.
 ///
 /// Times are in milliseconds from the earliest packet on. A packet that is cut, longer than 1524 octets or empty is told
 /// by a comment line with its number. Behind the last packet a comment line counts those of each file.
@@ -100,24 +116,38 @@ pub fn script<R: BufRead + Drop, W: Write>(
     // What is written is the lines of the packets of all files, each once, in order of time and each file's in its own
     // order, with ticks between them; and then the counts of each file.
     ensures scripts { OnOk result ((text : List ℕ)
-        × IsScript R.remaining options.now.choice options.now.check_len file_a file_b file_c
+        × IsScript R.remaining options.now.choice (reading_of options.now) file_a file_b file_c
         options.now.delays.a options.now.delays.b options.now.delays.c text
         × Appends (W.contents writer.old) (W.contents writer.new) text) }
 
     // What is written is the lines of the packets that come before the fault, and the fault is where it says.
     ensures ended { IfErr result (λ fault. fault ≢ ScriptFault.Write → (text : List ℕ)
-        × IsScriptUpTo R.remaining options.now.choice options.now.check_len file_a file_b file_c
+        × IsScriptUpTo R.remaining options.now.choice (reading_of options.now) file_a file_b file_c
         options.now.delays.a options.now.delays.b options.now.delays.c fault text
         × Appends (W.contents writer.old) (W.contents writer.new) text) }
 {
-    let Options {
-        delays,
-        check_len,
-        ..
-    } = *options;
-    let mut a = open(alloc, Inlet::A, file_a, delays.a, check_len)?;
-    let mut b = open(alloc, Inlet::B, file_b, delays.b, check_len)?;
-    let mut c = open(alloc, Inlet::C, file_c, delays.c, check_len)?;
+    let delays = options.delays;
+    let mut a = open(
+        alloc,
+        Inlet::A,
+        file_a,
+        delays.a,
+        reading_of(options, Inlet::A),
+    )?;
+    let mut b = open(
+        alloc,
+        Inlet::B,
+        file_b,
+        delays.b,
+        reading_of(options, Inlet::B),
+    )?;
+    let mut c = open(
+        alloc,
+        Inlet::C,
+        file_c,
+        delays.c,
+        reading_of(options, Inlet::C),
+    )?;
     let mut text = Vec::new(alloc);
     print(&mut a, &mut b, &mut c, options, &mut text, writer)
 }

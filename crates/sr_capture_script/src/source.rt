@@ -3,15 +3,18 @@
 ghost use Rattle.std.specs.Prelude.{◌≤◌, ◌^◌};
 
 use crate::flaws::FlawCounts;
-use sr_capture::{Form, Packet};
+use crate::format::Format;
+use sr_capture::Packet;
 
 /// A file whose packets are taken one by one, and the packet that is due.
 #[derive(Drop)]
 pub(crate) struct Source<R> {
-    /// The reader behind the header. None: there is no file.
+    /// The reader behind the front. None: there is no file.
     pub reader: Option<R>,
-    /// What its header says.
-    pub form: Form,
+    /// What its front says.
+    pub form: Format,
+    /// What is known of it behind what was taken.
+    pub state: Format,
     /// How far its times are put off, in nanoseconds.
     pub delay: u64,
     /// How many octets of it were taken.
@@ -26,5 +29,7 @@ pub(crate) struct Source<R> {
     pub due: Option<u64>,
     /// The packet that is due.
     pub packet: Packet,
+    /// The octets of a block, while it is read.
+    pub block: Vec<u8>,
     pub ghost bounded: { delay ≤ 2 ^ 62 },
 }

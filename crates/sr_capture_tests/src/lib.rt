@@ -1,4 +1,4 @@
-//! Tests of `sr_capture` and `sr_capture_script`, above them, so that their own functions are proved once: captures in
+//! Tests of `sr_capture`, `sr_pcapng` and `sr_capture_script`, above them, so that their own functions are proved once: captures in
 //! memory, and the scripts that they give.
 #![tactic(auto)]
 
@@ -10,6 +10,8 @@ mod failing;
 mod headers;
 #[cfg(test)]
 mod merging;
+#[cfg(test)]
+mod pcapng;
 #[cfg(test)]
 mod runs;
 #[cfg(test)]

@@ -4,9 +4,19 @@
 use crate::failing::{Broken, Narrow};
 use crate::texts::{Text, joined};
 use sr_capture::{CaptureFault, Reason};
-use sr_capture_script::{Choice, Delays, Inlet, Options, ScriptFault, delays_of, script};
+use sr_capture_script::{
+    Choice, Delays, Inlet, Interfaces, Options, ScriptFault, delays_of, script,
+};
+use sr_pcapng::Wanted;
 use std::alloc::Global;
 use std::io::BufReader;
+
+/// No interface is named.
+const ANY: Interfaces = Interfaces {
+    a: Wanted::Only,
+    b: Wanted::Only,
+    c: Wanted::Only,
+};
 
 /// What that is.
 const ALL: Options = Options {
@@ -17,14 +27,17 @@ const ALL: Options = Options {
     },
     check_len: 0,
     delays: Delays { a: 0, b: 0, c: 0 },
+    interfaces: ANY,
 };
 
-/// How a script is made: what of it is wanted, the octets of check sequence, and the shifts of A, B and C in milliseconds.
+/// How a script is made: what of it is wanted, the octets of check sequence, the shifts of A, B and C in milliseconds, and
+/// their interfaces.
 #[derive(Clone, Copy)]
 pub struct Manner {
     pub choice: Choice,
     pub check_len: u8,
     pub shifts: [i64; 3],
+    pub interfaces: Interfaces,
 }
 
 /// Everything, with no ticks.
@@ -36,6 +49,7 @@ pub const PLAIN: Manner = Manner {
     },
     check_len: 0,
     shifts: [0, 0, 0],
+    interfaces: ANY,
 };
 
 fn options_of(manner: Manner) -> Option<Options> {
@@ -44,6 +58,7 @@ fn options_of(manner: Manner) -> Option<Options> {
         choice: manner.choice,
         check_len: manner.check_len,
         delays: delays_of(a, b, c)?,
+        interfaces: manner.interfaces,
     })
 }
 
@@ -184,6 +199,32 @@ pub fn are_prefixes(alloc: Global, file: Text, ends: Ends) -> Option<bool> {
     let octets = joined(alloc, file)?;
     for len in 1..octets.len() {
         if !is_prefix(alloc, &octets[..len], ends, fault_of(ends, len))? {
+            return Some(false);
+        }
+    }
+    Some(true)
+}
+
+/// The fault of the first octets of a file of blocks that end there: so many.
+fn block_fault_of(blocks: &[usize], len: usize) -> Ending {
+    let mut begin = 0;
+    for end in blocks {
+        if *end <= len {
+            begin = *end;
+        }
+    }
+    if begin == len {
+        None
+    } else {
+        Some((Inlet::A, begin as u64, Reason::Unfinished))
+    }
+}
+
+/// Whether each front of a file of blocks gives the lines of the packets that it has, and ends within the next block.
+pub fn are_fronts(alloc: Global, file: Text, blocks: &'static [usize], ends: Ends) -> Option<bool> {
+    let octets = joined(alloc, file)?;
+    for len in 1..octets.len() {
+        if !is_prefix(alloc, &octets[..len], ends, block_fault_of(blocks, len))? {
             return Some(false);
         }
     }

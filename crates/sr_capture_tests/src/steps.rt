@@ -1,8 +1,8 @@
 //! One driver for all tests: it makes the runs of a table, and answers at which one it differs.
 
 use crate::runs::{
-    Ending, Ends, Files, Manner, PLAIN, are_broken, are_endured, are_prefixes, is_narrow,
-    is_script, is_taken_up,
+    Ending, Ends, Files, Manner, PLAIN, are_broken, are_endured, are_fronts, are_prefixes,
+    is_narrow, is_script, is_taken_up,
 };
 use crate::texts::Text;
 use std::alloc::Global;
@@ -17,6 +17,8 @@ pub enum Step {
     Files(Files, Manner, Text, Ending),
     /// Each front of a file, with these packets.
     Prefixes(Text, Ends),
+    /// Each front of a file of blocks that end there, with these packets.
+    Fronts(Text, &'static [usize], Ends),
     /// A file that can be read up to each of its octets.
     Broken(Text, Ends),
     /// The writer takes so many octets, and whether it then fails.
@@ -45,6 +47,7 @@ fn comes(alloc: Global, step: Step) -> Option<bool> {
             is_script(alloc, files, manner, wanted, ending)
         }
         Step::Prefixes(file, ends) => are_prefixes(alloc, file, ends),
+        Step::Fronts(file, blocks, ends) => are_fronts(alloc, file, blocks, ends),
         Step::Broken(file, ends) => are_broken(alloc, file, ends),
         Step::Narrow(file, room, fails) => is_narrow(alloc, file, room, fails),
         Step::Endured(file, count) => are_endured(alloc, file, count),

@@ -1,7 +1,8 @@
 //! The words behind `seamless script`.
 
 use clap::{Arg, ArgMatches, Command};
-use sr_capture_script::{Choice, Options, delays_of};
+use sr_capture_script::{Choice, Interfaces, Options, delays_of};
+use sr_pcapng::Wanted;
 use std::alloc::{AllocError, Global};
 
 /// What `seamless script` is to do: a path for each inlet that has a file, and how.
@@ -25,7 +26,11 @@ fn option<'a>(alloc: Global, name: &'a str, help: &'a str) -> Arg<'a> {
 pub fn script_command<'a>(alloc: Global) -> Result<Command<'a>, AllocError> {
     Command::new(alloc, "script")
         .about("Prints a script of the packets of up to three captures")
-        .arg(option(alloc, "a", "The capture of LAN A"))?
+        .arg(option(
+            alloc,
+            "a",
+            "The capture of LAN A: FILE, or FILE:INTERFACE of a pcapng file",
+        ))?
         .arg(option(alloc, "b", "The capture of LAN B"))?
         .arg(option(alloc, "c", "The capture of the interlink"))?
         .arg(option(
@@ -56,6 +61,45 @@ pub fn script_command<'a>(alloc: Global) -> Result<Command<'a>, AllocError> {
             "tick",
             "Adds ticks at most so many milliseconds apart",
         ))
+}
+
+/// A file, and which of its interfaces is wanted.
+#[derive(Clone, Copy)]
+struct Capture<'a> {
+    path: Option<&'a str>,
+    wanted: Wanted,
+}
+
+/// The file and the interface that a word names: a colon and digits at its end are an interface's number.
+fn capture_named(word: &str) -> Capture<'_> {
+    let whole = Capture {
+        path: Some(word),
+        wanted: Wanted::Only,
+    };
+    let Some((path, digits)) = word.rsplit_once(':') else {
+        return whole;
+    };
+    if !digits.bytes().all(|octet| octet.is_ascii_digit()) {
+        return whole;
+    }
+    match digits.parse::<u32>() {
+        Ok(number) => Capture {
+            path: Some(path),
+            wanted: Wanted::Number(number),
+        },
+        Err(_) => whole,
+    }
+}
+
+/// The file of an option that may be left out.
+fn capture_of<'a>(matches: &ArgMatches<'a>, name: &'static str) -> Capture<'a> {
+    match matches.get_str(name) {
+        Some(word) => capture_named(word),
+        None => Capture {
+            path: None,
+            wanted: Wanted::Only,
+        },
+    }
 }
 
 /// The number of an option that may be left out; else the option is the fault.
@@ -90,10 +134,10 @@ fn tick_of(matches: &ArgMatches<'_>) -> Result<Option<u64>, &'static str> {
 
 /// What the subcommand is to do; else the name of the option that is wrong.
 pub fn script_task<'a>(matches: &ArgMatches<'a>) -> Result<ScriptTask<'a>, &'static str> {
-    let a = matches.get_str("a");
-    let b = matches.get_str("b");
-    let c = matches.get_str("c");
-    if a.is_none() && b.is_none() && c.is_none() {
+    let a = capture_of(matches, "a");
+    let b = capture_of(matches, "b");
+    let c = capture_of(matches, "c");
+    if a.path.is_none() && b.path.is_none() && c.path.is_none() {
         return Err("files");
     }
     let shift_a = shift_of(matches, "shift-a")?;
@@ -109,13 +153,18 @@ pub fn script_task<'a>(matches: &ArgMatches<'a>) -> Result<ScriptTask<'a>, &'sta
     };
     let check_len = if matches.contains_id("fcs") { 4 } else { 0 };
     Ok(ScriptTask {
-        a,
-        b,
-        c,
+        a: a.path,
+        b: b.path,
+        c: c.path,
         options: Options {
             choice,
             check_len,
             delays,
+            interfaces: Interfaces {
+                a: a.wanted,
+                b: b.wanted,
+                c: c.wanted,
+            },
         },
     })
 }

@@ -1,6 +1,6 @@
 use Rattle.std.proofs.Common.{ℕ, ◌++◌, [], ◌∷◌, sym, subst, refl}
 use Rattle.std.specs.Io.KnownBytes.{Appends}
-use Rattle.sr_capture.specs.declared.header.Form.{Form}
+use Rattle.sr_capture_script.specs.declared.format.Format.{Format}
 use Rattle.sr_capture_script.specs.Texts.{piece_of}
 use Rattle.sr_capture_script.specs.Sources.{left_of, Feeds}
 use Rattle.sr_capture_script.specs.SourceViews.{progress_of}
@@ -18,7 +18,7 @@ returns-in-Ok-clause-served g c start gone fed =
     let s = serves c.args.inlet old.form old.delay start _ now (progress_of old) (progress_of new) c.args.moment gone c.requires fed c.in-Ok.ensures.goes in
     let same = c.in-Ok.ensures.same in
     let piece = c.in_ok-append_piece.ensures.ok s.item s.at s.when s.number s.shown in
-    let by_form = subst (λ (f : Form). Feeds c.args.inlet f old.delay start now (progress_of new) (gone ++ s.item ∷ [])) (sym same.form) s.feeds in
+    let by_form = subst (λ (f : Format). Feeds c.args.inlet f old.delay start now (progress_of new) (gone ++ s.item ∷ [])) (sym same.form) s.feeds in
     record {
       item = s.item;
       at = s.at;

@@ -1,11 +1,11 @@
 use Rattle.std.proofs.Common.{◌≤◌, ◌-◌, length, vec_len}
-use Rattle.sr_capture.specs.Taking.{Loses}
-use Rattle.sr_capture.proofs.taking.keep.Given as goal
+use Rattle.sr_capture.specs.Taking.{Gathers}
+use Rattle.sr_capture.proofs.taking.fill.Given as goal
 
 abbrev pub invariant-loop-reader : goal.invariant-loop-reader
 invariant-loop-reader g l = record {
   short : length l.kept.items ≤ l.count;
-  lost : Loses l.kept.items (g.R.Read.remaining l.fn.reader) (g.R.Read.remaining l.reader);
+  lost : Gathers l.fn.kept.items l.kept.items (g.R.Read.remaining l.fn.reader) (g.R.Read.remaining l.reader);
 }
 
 abbrev pub decreases-loop-reader : goal.decreases-loop-reader

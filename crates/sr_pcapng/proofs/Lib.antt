@@ -1,0 +1,5 @@
+pub mod Blocks
+pub mod OptionLists
+pub mod Steps
+pub mod PacketLemmas
+pub mod Unique

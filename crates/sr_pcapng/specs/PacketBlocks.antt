@@ -1,0 +1,102 @@
+-- Blocks that are packets.
+use Rattle.std.specs.Prelude.{◌≡◌, ℕ, ◌+◌, ◌-◌, ◌*◌, ◌^◌, ◌<◌, ◌≤◌, ◌==◌, ◌⊎◌, min, nat_lt, if◌then◌else◌, List, [], ◌∷◌, length, take, drop, Option, Some, None, Bool, true, false}
+use Rattle.sr_capture.specs.declared.fault.Reason.{Reason}
+use Rattle.sr_capture.specs.declared.fault.Reason.TheVariants as reason
+use Rattle.sr_capture.specs.declared.numbers.ByteOrder.{ByteOrder}
+use Rattle.sr_capture.specs.declared.packet.Extent.{Extent}
+use Rattle.sr_capture.specs.declared.packet.Extent.TheVariants.{Whole, Cut}
+use Rattle.sr_capture.specs.declared.packet.Packet.{Packet}
+use Rattle.sr_capture.specs.Numbers.{word_at}
+use Rattle.sr_capture.specs.Records.{Captured, Shows}
+use Rattle.sr_pcapng.specs.declared.track.Interface.{Interface}
+use Rattle.sr_pcapng.specs.declared.track.Section.{Section}
+use Rattle.sr_pcapng.specs.declared.track.Wanted.{Wanted}
+use Rattle.sr_pcapng.specs.declared.track.Wanted.TheVariants.{Only, Number}
+use Rattle.sr_pcapng.specs.Options.{padded}
+use Rattle.sr_pcapng.specs.Times.{IsTime}
+
+-- whether all of a packet's octets are held
+abbrev pub extent_of : ℕ → ℕ → Extent
+extent_of held len = if nat_lt held len then Cut else Whole
+
+-- the octets of a packet that stand from a place on, without check sequence
+abbrev pub body_at : ℕ → ℕ → ℕ → List ℕ → List ℕ
+body_at at held check octets = take (held - check) (drop at octets)
+
+-- so many octets, those that fill up four and the length at the end fit behind this place
+abbrev pub Holds : ℕ → ℕ → List ℕ → Type 0
+Holds at held octets = at + padded held + 4 ≤ length octets
+
+-- how many octets a simple packet holds: all, up to the snap length, if there is one
+abbrev pub held_of : ℕ → ℕ → ℕ
+held_of snap len = if snap == 0 then len else min len snap
+
+-- an enhanced packet: the number of the interface, the time in two words, how many octets are held, how many there were, and the octets
+pub record IsEnhanced (interface : Interface) (order : ByteOrder) (octets : List ℕ) (packet : Captured) : Type 0 where
+  pub holds : Holds 28 (word_at order octets 20) octets
+  pub time : IsTime interface (word_at order octets 12 * 2 ^ 32 + word_at order octets 16) packet.time
+  pub extent : packet.extent ≡ extent_of (word_at order octets 20) (word_at order octets 24)
+  pub body : packet.octets ≡ body_at 28 (word_at order octets 20) interface.check_len octets
+
+-- a simple packet: how many octets there were, and the octets; it has no time, and it is of interface 0
+pub record IsSimple (interface : Interface) (order : ByteOrder) (octets : List ℕ) (packet : Captured) : Type 0 where
+  pub holds : Holds 12 (held_of interface.snap (word_at order octets 8)) octets
+  pub time : packet.time ≡ 0
+  pub extent : packet.extent ≡ extent_of (held_of interface.snap (word_at order octets 8)) (word_at order octets 8)
+  pub body : packet.octets ≡ body_at 12 (held_of interface.snap (word_at order octets 8)) interface.check_len octets
+
+-- the interface that was taken, if it has this number
+abbrev pub of_number : Option Interface → ℕ → Option Interface
+of_number None number = None
+of_number (Some interface) number = if interface.number == number then Some interface else None
+
+-- it can be told whether a packet is wanted: a number was said, or an interface was found
+abbrev pub IsTold : Wanted → Option Interface → Type 0
+IsTold Only None = ⊥
+IsTold Only (Some interface) = Unit {0}
+IsTold (Number number) taken = Unit {0}
+
+-- the packet of a block, if the interface is wanted
+abbrev pub ShowsEnhanced : Option Interface → ByteOrder → List ℕ → List Captured → Type 0
+ShowsEnhanced None order octets shown = shown ≡ []
+ShowsEnhanced (Some interface) order octets shown = (packet : Captured) × (shown ≡ packet ∷ []) × IsEnhanced interface order octets packet
+
+abbrev pub ShowsSimple : Option Interface → ByteOrder → List ℕ → List Captured → Type 0
+ShowsSimple None order octets shown = shown ≡ []
+ShowsSimple (Some interface) order octets shown = (packet : Captured) × (shown ≡ packet ∷ []) × IsSimple interface order octets packet
+
+-- the octets are a packet in this section
+abbrev pub InEnhanced : Wanted → Section → List ℕ → List Captured → Type 0
+InEnhanced wanted section octets shown = (32 ≤ length octets) × IsTold wanted section.taken
+    × ShowsEnhanced (of_number section.taken (word_at section.order octets 8)) section.order octets shown
+
+abbrev pub InSimple : Wanted → Section → List ℕ → List Captured → Type 0
+InSimple wanted section octets shown = (16 ≤ length octets) × IsTold wanted section.taken
+    × ShowsSimple (of_number section.taken 0) section.order octets shown
+
+-- a packet whose octets do not fit into its block
+abbrev pub OverflowsEnhanced : Section → List ℕ → Type 0
+OverflowsEnhanced section octets = (interface : Interface) × (of_number section.taken (word_at section.order octets 8) ≡ Some interface)
+    × (Holds 28 (word_at section.order octets 20) octets → ⊥)
+
+abbrev pub OverflowsSimple : Section → List ℕ → Type 0
+OverflowsSimple section octets = (interface : Interface) × (of_number section.taken 0 ≡ Some interface)
+    × (Holds 12 (held_of interface.snap (word_at section.order octets 8)) octets → ⊥)
+
+-- why a packet is refused: its block is too short for it, or no interface is known and none was said; or memory was
+abbrev pub IsWrongEnhanced : Wanted → Section → List ℕ → Reason → Type 0
+IsWrongEnhanced wanted section octets reason.Length = (length octets < 32) ⊎ OverflowsEnhanced section octets
+IsWrongEnhanced wanted section octets reason.NoEthernet = (32 ≤ length octets) × (wanted ≡ Only) × (section.taken ≡ None)
+IsWrongEnhanced wanted section octets reason.NoMemory = Unit {0}
+IsWrongEnhanced wanted section octets other = ⊥
+
+abbrev pub IsWrongSimple : Wanted → Section → List ℕ → Reason → Type 0
+IsWrongSimple wanted section octets reason.Length = (length octets < 16) ⊎ OverflowsSimple section octets
+IsWrongSimple wanted section octets reason.NoEthernet = (16 ≤ length octets) × (wanted ≡ Only) × (section.taken ≡ None)
+IsWrongSimple wanted section octets reason.NoMemory = Unit {0}
+IsWrongSimple wanted section octets other = ⊥
+
+-- a packet is shown, or there is none
+abbrev pub Gives : Bool → List Captured → Packet → Type 0
+Gives true shown packet = (captured : Captured) × (shown ≡ captured ∷ []) × Shows packet captured
+Gives false shown packet = shown ≡ []

@@ -1,0 +1,55 @@
+//! Enhanced packets, which have an interface and a time.
+
+ghost use Rattle.std.specs.Prelude.{◌≡◌, ◌≤◌, ℕ, List, length, IfOk, IfErr};
+ghost use Rattle.sr_capture.specs.Records.{Captured};
+ghost use Rattle.sr_pcapng.specs.PacketBlocks.{InEnhanced, IsWrongEnhanced, Gives};
+
+use crate::body::{Body, holds, interface_of, show};
+use crate::times::time_of;
+use crate::track::{Section, Wanted};
+use sr_capture::{Packet, Reason, word_at};
+
+/// The length of an enhanced packet without octets.
+const MIN_LEN: usize = 32;
+
+/// Where its octets begin.
+const BODY_AT: usize = 28;
+
+/// Reads an enhanced packet. False where its interface is not wanted.
+///
+/// # Errors
+/// `Length` where its octets do not fit into its block, `NoEthernet` where no interface is known, `NoMemory`.
+pub(crate) fn read_enhanced(
+    wanted: Wanted,
+    section: &Section,
+    octets: &[u8],
+    packet: &mut Packet,
+) -> Result<bool, Reason>
+    ensures read { IfOk result (λ more. (shown : List Captured) × InEnhanced wanted section.now octets.now shown × Gives more shown packet.new) }
+    ensures refused { IfErr result (λ reason. IsWrongEnhanced wanted section.now octets.now reason) }
+{
+    if octets.len() < MIN_LEN {
+        return Err(Reason::Length);
+    }
+    let order = section.order;
+    let interface = match interface_of(wanted, section.taken, word_at(order, octets, 8)) {
+        Ok(Some(interface)) => interface,
+        Ok(None) => return Ok(false),
+        Err(reason) => return Err(reason),
+    };
+    let body = Body {
+        at: BODY_AT,
+        held: word_at(order, octets, 20),
+        len: word_at(order, octets, 24),
+        check_len: interface.check_len,
+    };
+    if !holds(body.at, body.held, octets) {
+        return Err(Reason::Length);
+    }
+    let high = u64::from(word_at(order, octets, 12));
+    let ticks = high * 0x1_0000_0000 + u64::from(word_at(order, octets, 16));
+    match show(body, time_of(&interface, ticks), octets, packet) {
+        Ok(()) => Ok(true),
+        Err(_) => Err(Reason::NoMemory),
+    }
+}
