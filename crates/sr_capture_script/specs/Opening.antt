@@ -1,5 +1,6 @@
 -- Files from their first octet on, and their script.
-use Rattle.std.specs.Prelude.{◌≡◌, ℕ, ◌+◌, ◌<◌, slice_index, ◌==◌, if◌then◌else◌, List, [], ◌++◌, length, Option, Some, None, is_some, IfSome, ◌⊎◌}
+use Rattle.std.specs.Prelude.{◌≡◌, ℕ, ◌+◌, ◌<◌, slice_index, ◌==◌, if◌then◌else◌, List, [], ◌++◌, length, Option, Some, None, is_some}
+use Rattle.std.specs.Prelude.{IfSome, ◌⊎◌}
 use Rattle.sr_capture.specs.declared.fault.CaptureFault.{CaptureFault}
 use Rattle.sr_capture.specs.declared.fault.Reason.TheVariants.{Read}
 use Rattle.sr_capture.specs.declared.header.Form.{Form}
@@ -111,7 +112,8 @@ FailsAtFront {R = R} remaining inlet how file fault = (own : CaptureFault) × (r
     × IfSome (remaining reader) (λ octets. HasFaultAtFront how octets own)
 
 -- the text is the script of up to three files, each file's times put off by a delay
-pub record IsScript {R : Type 0} (remaining : R → Option (List ℕ)) (choice : Choice) (hows : Inlet → Reading) (file_a file_b file_c : Option R)
+pub record IsScript {R : Type 0} (remaining : R → Option (List ℕ)) (choice : Choice) (hows : Inlet → Reading)
+    (file_a file_b file_c : Option R)
     (delay_a delay_b delay_c : ℕ) (text : List ℕ) : Type 0 where
   pub packets_a : List Captured
   pub packets_b : List Captured
@@ -147,7 +149,8 @@ FileStands remaining fault inlet how delay (Some reader) printed = IfSome (remai
     (λ octets. StandsIn fault inlet how delay octets printed)
 
 -- the text is the lines of the packets that come before a fault
-pub record IsScriptTo {R : Type 0} (remaining : R → Option (List ℕ)) (choice : Choice) (hows : Inlet → Reading) (file_a file_b file_c : Option R)
+pub record IsScriptTo {R : Type 0} (remaining : R → Option (List ℕ)) (choice : Choice) (hows : Inlet → Reading)
+    (file_a file_b file_c : Option R)
     (delay_a delay_b delay_c : ℕ) (fault : ScriptFault) (text : List ℕ) : Type 0 where
   pub printed : List Item
   pub at_a : FileStands remaining (fault_at A fault) A (hows A) delay_a file_a printed
@@ -163,7 +166,8 @@ FailsToOpen remaining hows file_a file_b file_c fault =
     ⊎ (FailsAtFront remaining B (hows B) file_b fault ⊎ FailsAtFront remaining C (hows C) file_c fault)
 
 -- what is printed where there is a fault
-abbrev pub IsScriptUpTo : {R : Type 0} → (R → Option (List ℕ)) → Choice → (Inlet → Reading) → Option R → Option R → Option R → ℕ → ℕ → ℕ → ScriptFault →
+abbrev pub IsScriptUpTo : {R : Type 0} → (R → Option (List ℕ)) → Choice → (Inlet → Reading) → Option R → Option R → Option R → ℕ → ℕ → ℕ →
+    ScriptFault →
     List ℕ → Type 0
 IsScriptUpTo remaining choice hows file_a file_b file_c delay_a delay_b delay_c fault text =
     ((text ≡ []) × FailsToOpen remaining hows file_a file_b file_c fault)

@@ -14,7 +14,8 @@ use Rattle.sr_capture_script.specs.Sources.{Progress, left_of, Feeds, IsFaulty}
 use Rattle.sr_capture_script.specs.Texts.{piece_of}
 
 abbrev pub progress_of : {R : Type 0} → Source R → Progress
-progress_of s = record { state = s.state; place = s.place; moment = s.moment; number = s.number; flaws = s.flaws; due = s.due; shown = s.packet }
+progress_of s =
+    record { state = s.state; place = s.place; moment = s.moment; number = s.number; flaws = s.flaws; due = s.due; shown = s.packet }
 
 -- form, delay and whether there is a file stay
 pub record IsSame {R : Type 0} (old new : Source R) : Type 0 where

@@ -1,5 +1,6 @@
 -- Blocks that are packets.
-use Rattle.std.specs.Prelude.{◌≡◌, ℕ, ◌+◌, ◌-◌, ◌*◌, ◌^◌, ◌<◌, ◌≤◌, ◌==◌, ◌⊎◌, min, nat_lt, if◌then◌else◌, List, [], ◌∷◌, length, take, drop, Option, Some, None, Bool, true, false}
+use Rattle.std.specs.Prelude.{◌≡◌, ℕ, ◌+◌, ◌-◌, ◌*◌, ◌^◌, ◌<◌, ◌≤◌, ◌==◌, ◌⊎◌, min, nat_lt, if◌then◌else◌, List, [], ◌∷◌, length, take}
+use Rattle.std.specs.Prelude.{drop, Option, Some, None, Bool, true, false}
 use Rattle.sr_capture.specs.declared.fault.Reason.{Reason}
 use Rattle.sr_capture.specs.declared.fault.Reason.TheVariants as reason
 use Rattle.sr_capture.specs.declared.numbers.ByteOrder.{ByteOrder}

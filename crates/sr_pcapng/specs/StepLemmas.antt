@@ -10,7 +10,8 @@ pub blocks_none : (track : Track) → AreBlocks track [] [] track
 blocks_none track = ([], (refl, refl, refl))
 
 -- one block
-pub blocks_one : (track : Track) (octets : List ℕ) (shown : List Captured) (next : Track) → IsStep track octets shown next → AreBlocks track octets shown next
+pub blocks_one : (track : Track) (octets : List ℕ) (shown : List Captured) (next : Track) → IsStep track octets shown next
+    → AreBlocks track octets shown next
 blocks_one track octets shown next is =
     (octets ∷ [], ([], shown, [], next, sym (append-nil octets), sym (append-nil shown), is, (refl, refl, refl)))
 
@@ -36,7 +37,8 @@ follow_on (c ∷ bs) cs s t u a b xs ys h k =
       ),
     )
 
-pub blocks_on : (s t u : Track) (a b : List ℕ) (xs ys : List Captured) → AreBlocks s a xs t → AreBlocks t b ys u → AreBlocks s (a ++ b) (xs ++ ys) u
+pub blocks_on : (s t u : Track) (a b : List ℕ) (xs ys : List Captured) → AreBlocks s a xs t → AreBlocks t b ys u
+    → AreBlocks s (a ++ b) (xs ++ ys) u
 blocks_on s t u a b xs ys h k = follow_on h.0 k.0 s t u a b xs ys h.1 k.1
 
 -- of no octets there are no packets

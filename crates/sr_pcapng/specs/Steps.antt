@@ -128,7 +128,8 @@ TakesStep step.Packet track next octets packet old new = Loses octets old new
 
 -- the blocks up to the next packet were taken, or all that were left, and none of them shows one
 abbrev pub TakesNext : Bool → Track → Track → List ℕ → Packet → Option (List ℕ) → Option (List ℕ) → Type 0
-TakesNext true track next octets packet old new = (captured : Captured) × AreBlocks track octets (captured ∷ []) next × Shows packet captured
+TakesNext true track next octets packet old new = (captured : Captured) × AreBlocks track octets (captured ∷ []) next
+    × Shows packet captured
 TakesNext false track next octets packet old new = AreBlocks track octets [] next × LeavesNone old new
 
 -- what was taken, of so many octets
