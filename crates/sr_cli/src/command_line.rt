@@ -45,8 +45,12 @@ impl From<AllocError> for Refused {
     }
 }
 
-/// What the parser knows of `seamless replay --role danp|danh|san|prp|hsr --mac M [--lan a|b] [--net 1..6]`, and of scripts.
-fn command<'a>(alloc: Global) -> Result<Command<'a>, AllocError> {
+/// A subcommand that runs a script on a node: `--role danp|danh|san|prp|hsr --mac M [--lan a|b] [--net 1..6]`.
+fn node_command<'a>(
+    alloc: Global,
+    name: &'a str,
+    about: &'a str,
+) -> Result<Command<'a>, AllocError> {
     let role = Arg::new(alloc, "role")
         .long("role")
         .required(true)
@@ -66,17 +70,28 @@ fn command<'a>(alloc: Global) -> Result<Command<'a>, AllocError> {
         .default_value("1")
         .value_parser(["1", "2", "3", "4", "5", "6"].as_slice())
         .help("The number of the PRP network at the interlink, of role prp");
-    let replay = Command::new(alloc, "replay")
-        .about("Prints the frames that the node hands out")
+    Command::new(alloc, name)
+        .about(about)
         .arg(role)?
         .arg(mac)?
         .arg(lan)?
-        .arg(net)?;
+        .arg(net)
+}
+
+/// What the parser knows.
+fn command<'a>(alloc: Global) -> Result<Command<'a>, AllocError> {
+    let replay = node_command(alloc, "replay", "Prints the frames that the node hands out")?;
+    let status = node_command(
+        alloc,
+        "status",
+        "Prints what the node knows of other nodes at the end, and its alarms",
+    )?;
     Command::new(alloc, "seamless")
         .bin_name("seamless")?
         .about("Runs a script of events on a node of a redundant network")
         .subcommand_required(true)
         .subcommand(replay)?
+        .subcommand(status)?
         .subcommand(script_command(alloc)?)
 }
 
@@ -102,36 +117,57 @@ fn net_of(word: &str) -> u8
 }
 
 /// The network at the interlink.
-fn network_of(replay: &ArgMatches<'_>) -> PrpRouting {
-    let lan = match replay.get_str("lan") {
+fn network_of(node: &ArgMatches<'_>) -> PrpRouting {
+    let lan = match node.get_str("lan") {
         Some("b") => Lan::B,
         _ => Lan::A,
     };
-    let net = replay.get_str("net").map_or(1, net_of);
+    let net = node.get_str("net").map_or(1, net_of);
     PrpRouting { lan, net }
 }
 
 /// The role that the parser let through.
-fn role_of(replay: &ArgMatches<'_>) -> RoleName {
-    match replay.get_str("role") {
+fn role_of(node: &ArgMatches<'_>) -> RoleName {
+    match node.get_str("role") {
         Some("danh") => RoleName::Danh,
         Some("san") => RoleName::San,
-        Some("prp") => RoleName::Prp(network_of(replay)),
+        Some("prp") => RoleName::Prp(network_of(node)),
         Some("hsr") => RoleName::Hsr,
         _ => RoleName::Danp,
     }
 }
 
+/// The node that a subcommand's options name, under fixed keys.
+fn setup_of(node: &ArgMatches<'_>) -> Result<Setup, Refused> {
+    match node.get_str("mac").and_then(mac_of) {
+        Some(mac) => Ok(Setup {
+            role: role_of(node),
+            mac,
+            keys: Keys::FIXED,
+        }),
+        None => Err(Refused::Mac),
+    }
+}
+
+/// What is printed of a node that a script is run on.
+#[derive(Clone, Copy, Debug)]
+pub enum Report {
+    /// The frames that it hands out.
+    Frames,
+    /// What it knows of other nodes at the end.
+    Status,
+}
+
 /// What the program is to do.
 #[derive(Clone, Copy, Debug)]
 pub enum Task<'a> {
-    /// Replay a script at a node.
-    Replay(Setup),
+    /// Run a script on a node.
+    Run(Report, Setup),
     /// Print a script of captures.
     Script(ScriptTask<'a>),
 }
 
-/// What the words of the command line ask for, a node's setup under fixed keys.
+/// What the words of the command line ask for.
 ///
 /// # Errors
 /// `Mac` where the address alone is wrong, else `Parser`.
@@ -143,15 +179,11 @@ pub fn task_of<'a>(alloc: Global, words: &'a [String]) -> Result<Task<'a>, Refus
             Err(name) => Err(Refused::Option(name)),
         };
     }
-    let Some(replay) = matches.subcommand_matches("replay") else {
-        return Err(Refused::Mac);
-    };
-    match replay.get_str("mac").and_then(mac_of) {
-        Some(mac) => Ok(Task::Replay(Setup {
-            role: role_of(replay),
-            mac,
-            keys: Keys::FIXED,
-        })),
+    if let Some(replay) = matches.subcommand_matches("replay") {
+        return Ok(Task::Run(Report::Frames, setup_of(replay)?));
+    }
+    match matches.subcommand_matches("status") {
+        Some(status) => Ok(Task::Run(Report::Status, setup_of(status)?)),
         None => Err(Refused::Mac),
     }
 }

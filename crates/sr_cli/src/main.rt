@@ -6,10 +6,10 @@ mod progress;
 mod script;
 mod script_line;
 
-use command_line::{Task, task_of};
+use command_line::{Report, Task, task_of};
 use progress::Progress;
 use script::run_script;
-use sr_script::{Fault, Setup, Word, run};
+use sr_script::{Fault, Setup, Word, run, run_status};
 use sr_slots::Keys;
 use std::io::{self, BufReader, IsTerminal};
 use std::process::ExitCode;
@@ -47,7 +47,7 @@ fn start<R: AllocGlobal + Print + Eprint + Input + Env + Files + RandomSource>(
     };
     match task_of(rt.alloc(), words.as_slice()) {
         Ok(Task::Script(task)) => run_script(rt, &task, progress).map_err(|()| RUN_FAILED),
-        Ok(Task::Replay(setup)) => replay(rt, &setup).map_err(|fault| {
+        Ok(Task::Run(report, setup)) => run_node(rt, report, &setup).map_err(|fault| {
             let _ = eprintln!(rt; "{fault}");
             RUN_FAILED
         }),
@@ -58,10 +58,11 @@ fn start<R: AllocGlobal + Print + Eprint + Input + Env + Files + RandomSource>(
     }
 }
 
-/// Runs the script on standard input, and writes what the node answers to standard output. The keys of the node's tables are
-/// drawn anew.
-fn replay<R: AllocGlobal + Print + Input + RandomSource>(
+/// Runs the script on standard input on a node, and writes what is reported of it to standard output. The keys of the node's
+/// tables are drawn anew.
+fn run_node<R: AllocGlobal + Print + Input + RandomSource>(
     rt: &R,
+    report: Report,
     setup: &Setup,
 ) -> Result<(), Fault> {
     let Ok(keys) = Keys::new(rt) else {
@@ -76,10 +77,10 @@ fn replay<R: AllocGlobal + Print + Input + RandomSource>(
             word: Word::Memory,
         });
     };
-    run(
-        rt.alloc(),
-        &Setup { keys, ..*setup },
-        &mut reader,
-        &mut io::writer(rt),
-    )
+    let setup = Setup { keys, ..*setup };
+    let mut writer = io::writer(rt);
+    match report {
+        Report::Frames => run(rt.alloc(), &setup, &mut reader, &mut writer),
+        Report::Status => run_status(rt.alloc(), &setup, &mut reader, &mut writer),
+    }
 }
