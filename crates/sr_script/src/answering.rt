@@ -18,11 +18,11 @@ use crate::fault::Word;
 use crate::printing::append_outlets;
 use crate::reading::{Command, command_of};
 use crate::setups::RoleName;
+use itoa::Buffer;
 use sr_forwarding::{ReadFault, Role};
 use sr_frame::{Frame, FrameFault, Port, view};
 use sr_node::{Answer, Event, NodeOf, StepFault};
 use std::alloc::Global;
-use std::io::Write;
 
 /// What a refusal is called. None for want of memory.
 pub fn name_of(fault: StepFault) -> Option<&'static str>
@@ -48,10 +48,13 @@ pub fn append_refusal(text: &mut Vec<u8>, number: u64, name: &str) -> Result<(),
     ensures ok { OnOk result (text.new.items ≡ text.old.items ++ refusal_line number name.now) }
     ensures err { IfErr result (λ word. word ≡ Word.Memory) }
 {
-    match writeln!(text, "refused {number} {name}") {
-        Ok(()) => Ok(()),
-        Err(_) => Err(Word::Memory),
-    }
+    let mut digits = Buffer::new();
+    text.extend_from_slice(b"refused ")?;
+    text.extend_from_slice(digits.format(number).as_bytes())?;
+    text.extend_from_slice(b" ")?;
+    text.extend_from_slice(name.as_bytes())?;
+    text.extend_from_slice(b"\n")?;
+    Ok(())
 }
 
 /// Octets come in at a port.
