@@ -205,7 +205,7 @@ node_takes s port p seq now (answer.Passed ports) u empty side number came = by 
     by (Some o) e to =
         let at : new_at s port p now ≡ Some o = sym (ap (λ q. new_at s port q now) on.0) ∙ e in
         let got = answered s.core.sources port (header_of p).src p.seq seq (wanted_at s port p now) now o number at in
-        let whole : u ≡ passed s port p s.core.next now o = to.1 ∙ ap (λ q. passed s port q (next_at s.core.next port p) now o) on.0 ∙ ap (λ n. passed s port p n now o) on.1 in
+        let whole : u ≡ passed s port p s.core.next now o to.0 = to.3 ∙ ap (λ q. passed s port q (next_at s.core.next port p) now o to.0) on.0 ∙ ap (λ n. passed s port p n now o to.0) on.1 in
         let kept = learned_keeps s.role.kind port s.role (header_at s p now) now in
         inr (record {
           other = came.0;
