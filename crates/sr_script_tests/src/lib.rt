@@ -16,6 +16,8 @@ mod ring;
 #[cfg(test)]
 mod runs;
 #[cfg(test)]
+mod statuses;
+#[cfg(test)]
 mod steps;
 #[cfg(test)]
 mod texts;

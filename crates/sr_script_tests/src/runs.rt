@@ -5,10 +5,10 @@ use crate::failing::{Broken, EmptyLines, Narrow, Recorder, Unflushed};
 use crate::texts::{Text, joined};
 use sr_frame::Mac;
 use sr_prp_trailer::Lan;
-use sr_script::{Fault, PrpRouting, RoleName, Setup, Word, run};
+use sr_script::{Fault, PrpRouting, RoleName, Setup, Word, run, run_status};
 use sr_slots::Keys;
 use std::alloc::Global;
-use std::io::{BufReader, ErrorKind, Read};
+use std::io::{BufRead, BufReader, ErrorKind, Read, Write};
 
 /// The node of a run.
 #[derive(Clone, Copy)]
@@ -19,6 +19,27 @@ pub enum At {
     /// At a LAN of the network of this number.
     Prp(Lan, u8),
     Hsr,
+}
+
+/// What a run tells of its node.
+#[derive(Clone, Copy)]
+pub enum Told {
+    Frames,
+    Status,
+}
+
+/// The run that tells this.
+fn run_as<R: BufRead, W: Write>(
+    told: Told,
+    alloc: Global,
+    setup: &Setup,
+    reader: &mut R,
+    writer: &mut W,
+) -> Result<(), Fault> {
+    match told {
+        Told::Frames => run(alloc, setup, reader, writer),
+        Told::Status => run_status(alloc, setup, reader, writer),
+    }
 }
 
 /// The role of a node. None for a network that no path can name.
@@ -69,6 +90,7 @@ fn is_ended(outcome: Result<(), Fault>, ending: Ending) -> Option<bool> {
 
 /// Whether a run writes this and ends so.
 fn writes(
+    told: Told,
     alloc: Global,
     setup: &Setup,
     script: &[u8],
@@ -77,12 +99,13 @@ fn writes(
 ) -> Option<bool> {
     let mut written: Vec<u8> = Vec::new(alloc);
     let mut reader = script;
-    let outcome = run(alloc, setup, &mut reader, &mut written);
+    let outcome = run_as(told, alloc, setup, &mut reader, &mut written);
     Some(is_ended(outcome, ending)? && written.as_slice() == wanted)
 }
 
 /// Whether a run at a node, with that address, writes this and ends so.
 pub fn is_run_at(
+    told: Told,
     alloc: Global,
     at: At,
     script: Text,
@@ -91,7 +114,14 @@ pub fn is_run_at(
 ) -> Option<bool> {
     let script = joined(alloc, script)?;
     let wanted = joined(alloc, wanted)?;
-    writes(alloc, &node_of(role_of(at)?), &script, &wanted, ending)
+    writes(
+        told,
+        alloc,
+        &node_of(role_of(at)?),
+        &script,
+        &wanted,
+        ending,
+    )
 }
 
 /// Whether a run of a script with a last line writes this and ends so.
@@ -104,7 +134,7 @@ pub fn is_run_to(
 ) -> Option<bool> {
     let mut script = joined(alloc, before)?;
     script.extend_from_slice(line).ok()?;
-    writes(alloc, &danp(), &script, wanted, ending)
+    writes(Told::Frames, alloc, &danp(), &script, wanted, ending)
 }
 
 /// Whether a run over this reader, which fails or is long, writes this and ends so.
@@ -178,6 +208,7 @@ fn are_answers(written: &[u8], answers: &[&[u8]], count: usize) -> bool {
 }
 
 fn runs_again(
+    told: Told,
     alloc: Global,
     setup: &Setup,
     script: &[u8],
@@ -186,17 +217,24 @@ fn runs_again(
 ) -> bool {
     written.clear();
     let mut reader = script;
-    run(alloc, setup, &mut reader, written).is_ok() && are_answers(written, answers, answers.len())
+    run_as(told, alloc, setup, &mut reader, written).is_ok()
+        && are_answers(written, answers, answers.len())
 }
 
-/// Whether a run writes these answers, one to each line. Where memory is refused, it ends at the line at work with the lines
-/// before it answered, and the next run is whole. What the test itself needs comes first.
-pub fn is_taken_up(alloc: Global, at: At, script: &[u8], answers: &[&[u8]]) -> Option<bool> {
+/// Whether a run writes these answers, one to each line, and behind them what is told at the end. Where memory is refused, it
+/// ends at the line at work with the lines before it answered, and the next run is whole. What the test itself needs comes first.
+pub fn is_taken_up(
+    told: Told,
+    alloc: Global,
+    at: At,
+    script: &[u8],
+    answers: &[&[u8]],
+) -> Option<bool> {
     let setup = node_of(role_of(at)?);
     let mut written: Vec<u8> = Vec::new(alloc);
     written.reserve(1000).ok()?;
     let mut reader = script;
-    match run(alloc, &setup, &mut reader, &mut written) {
+    match run_as(told, alloc, &setup, &mut reader, &mut written) {
         Ok(()) => Some(are_answers(&written, answers, answers.len())),
         Err(
             Fault {
@@ -207,7 +245,7 @@ pub fn is_taken_up(alloc: Global, at: At, script: &[u8], answers: &[&[u8]]) -> O
             let before = (line.clamp(1, 6) - 1) as usize;
             Some(
                 are_answers(&written, answers, before)
-                    && runs_again(alloc, &setup, script, answers, &mut written),
+                    && runs_again(told, alloc, &setup, script, answers, &mut written),
             )
         }
         Err(_) => Some(false),

@@ -1,7 +1,7 @@
 //! One driver for all tests: it makes the runs of a table, and answers at which one it differs.
 
 use crate::runs::{
-    At, Ending, are_empty_lines, is_broken, is_narrow, is_recorded, is_run_at, is_run_to,
+    At, Ending, Told, are_empty_lines, is_broken, is_narrow, is_recorded, is_run_at, is_run_to,
     is_taken_up, is_unflushed,
 };
 use crate::texts::{Part, Text};
@@ -19,6 +19,8 @@ pub enum Step {
     Ring(Text, Text, Ending),
     /// The same at a node.
     At(At, Text, Text, Ending),
+    /// The same at a node whose status is told at the end.
+    Status(At, Text, Text, Ending),
     /// A line, at the end of a script, with what may stand behind it: its frame of one octet is refused.
     Obeyed(&'static [u8]),
     /// The end of a script, to which nothing is answered.
@@ -37,6 +39,8 @@ pub enum Step {
     Recorded(&'static [u8], &'static [u8]),
     /// A script at a node, and the answers to each of its lines. Memory may be refused once.
     TakenUp(At, &'static [u8], &'static [&'static [u8]]),
+    /// The same, and the status behind them.
+    StatusTakenUp(At, &'static [u8], &'static [&'static [u8]]),
 }
 
 const TWO_LINES: Text = &[Part::These(b"#\n\n")];
@@ -46,9 +50,18 @@ const A_FRAME_AND_A_LINE: Text = &[Part::These(b"in A 0 00\n\n")];
 /// Whether a run comes to what it has to. None for want of memory.
 fn comes(alloc: Global, step: Step) -> Option<bool> {
     match step {
-        Step::Run(script, wanted, ending) => { is_run_at(alloc, At::Danp, script, wanted, ending) }
-        Step::Ring(script, wanted, ending) => { is_run_at(alloc, At::Danh, script, wanted, ending) }
-        Step::At(at, script, wanted, ending) => is_run_at(alloc, at, script, wanted, ending),
+        Step::Run(script, wanted, ending) => {
+            is_run_at(Told::Frames, alloc, At::Danp, script, wanted, ending)
+        }
+        Step::Ring(script, wanted, ending) => {
+            is_run_at(Told::Frames, alloc, At::Danh, script, wanted, ending)
+        }
+        Step::At(at, script, wanted, ending) => {
+            is_run_at(Told::Frames, alloc, at, script, wanted, ending)
+        }
+        Step::Status(at, script, wanted, ending) => {
+            is_run_at(Told::Status, alloc, at, script, wanted, ending)
+        }
         Step::Recorded(script, calls) => is_recorded(alloc, script, calls),
         Step::Obeyed(line) => is_run_to(alloc, TWO_LINES, line, b"refused 3 TooShort\n", None),
         Step::Skipped(line) => is_run_to(
@@ -69,7 +82,12 @@ fn comes(alloc: Global, step: Step) -> Option<bool> {
         Step::EmptyLines(left, ending) => are_empty_lines(alloc, left, ending),
         Step::Narrow(script, room, ending) => is_narrow(alloc, script, room, ending),
         Step::Unflushed(script, ending) => is_unflushed(alloc, script, ending),
-        Step::TakenUp(at, script, answers) => is_taken_up(alloc, at, script, answers),
+        Step::TakenUp(at, script, answers) => {
+            is_taken_up(Told::Frames, alloc, at, script, answers)
+        }
+        Step::StatusTakenUp(at, script, answers) => {
+            is_taken_up(Told::Status, alloc, at, script, answers)
+        }
     }
 }
 
