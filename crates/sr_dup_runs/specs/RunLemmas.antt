@@ -366,7 +366,7 @@ pushed_keeps x xs last s kept le some lacks =
       ];
       keys = rw (keys_pushed r x.arrival.src h)
           (IsDistinct-push mac_laws (keys_of r) x.arrival.src (keys_with_room s x.arrival.time kept.keys)
-            (absent_key x.arrival.src r absent));
+          (absent_key x.arrival.src r absent));
     }
 
 -- a source that is there

@@ -28,5 +28,5 @@ pub loses : (t : Topology) (s : State) (port : Port) (octets : List ℕ) (now : 
     IfOk r (λ l. (is_loss fault ≡ true) × (l ≡ Lost)) → IfOk r (λ l. Lands t s port octets now l before up_after u)
 loses t s port octets now fault (Ok l) before up_after u refused same up told =
     subst (λ x. Lands t s port octets now x before up_after u) (sym told.1)
-        (record { fault = fault; refused = refused; loss = told.0; same = same; up = up })
+    (record { fault = fault; refused = refused; loss = told.0; same = same; up = up })
 loses t s port octets now fault (Err f) before up_after u refused same up told = told

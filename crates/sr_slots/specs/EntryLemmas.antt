@@ -44,7 +44,7 @@ module _ {X : Type 0} where
 
       by : (t : Bool) → mac_eq q e.0 ≡ t → lookup (mac_eq q) (es ++ (m, w) ∷ []) ≡ cond (mac_eq m q) (Some w) (lookup (mac_eq q) es)
           → cond t (Some e.1) (lookup (mac_eq q) (es ++ (m, w) ∷ []))
-            ≡ cond (mac_eq m q) (Some w) (cond t (Some e.1) (lookup (mac_eq q) es))
+          ≡ cond (mac_eq m q) (Some w) (cond t (Some e.1) (lookup (mac_eq q) es))
       by true t ih = sym (ap (λ b. cond b (Some w) (Some e.1)) (ap (mac_eq m) (mac_same q e.0 t) ∙ d.0))
       by false t ih = ih
 
@@ -125,15 +125,19 @@ module _ {X : Type 0} where
 
         by : (t : Bool) → cond t (Some e.1) (lookup (mac_eq m) es) ≡ Some was
             → (lookup (mac_eq m) es ≡ Some was
-                → length (filter passes (set_value (mac_eq m) es w)) + one_if (test was) ≡ length (filter passes es) + one_if (test w))
+            → length (filter passes (set_value (mac_eq m) es w)) + one_if (test was) ≡ length (filter passes es) + one_if (test w))
             → length (filter passes (cond t ((e.0, w) ∷ es) (e ∷ set_value (mac_eq m) es w))) + one_if (test was)
-              ≡ length (cond (test e.1) (e ∷ filter passes es) (filter passes es)) + one_if (test w)
+            ≡ length (cond (test e.1) (e ∷ filter passes es) (filter passes es)) + one_if (test w)
         by true h ih =
             let v : e.1 ≡ was = cc in
             let s : one_if (test e.1) ≡ one_if (test was) = ap (λ x. one_if (test x)) v in
             omega (arith, s, head (test w) (e.0, w) (filter passes es), head (test e.1) e (filter passes es))
-        by false h ih = omega (arith, ih h, head (test e.1) e (filter passes (set_value (mac_eq m) es w)),
-            head (test e.1) e (filter passes es))
+        by false h ih = omega (
+          arith,
+          ih h,
+          head (test e.1) e (filter passes (set_value (mac_eq m) es w)),
+          head (test e.1) e (filter passes es),
+        )
 
     pub length-passing-push : (m : Mac) (w : X) (es : List (Mac × X))
         → length (filter passes (es ++ (m, w) ∷ [])) ≡ length (filter passes es) + one_if (test w)
@@ -146,6 +150,6 @@ module _ {X : Type 0} where
       where
         by : (b : Bool) → length (filter passes (es ++ (m, w) ∷ [])) ≡ length (filter passes es) + one_if (test w)
             → length (cond b (e ∷ filter passes (es ++ (m, w) ∷ [])) (filter passes (es ++ (m, w) ∷ [])))
-              ≡ length (cond b (e ∷ filter passes es) (filter passes es)) + one_if (test w)
+            ≡ length (cond b (e ∷ filter passes es) (filter passes es)) + one_if (test w)
         by true ih = omega arith
         by false ih = ih
