@@ -8,7 +8,7 @@ import sys
 from pathlib import Path
 
 WIDEST_DEFINITION = 140
-DOCUMENTS = ["README.md", "CONTRIBUTING.md", "docs/*.md"]
+DOCUMENTS = ["README.md", "CONTRIBUTING.md", "docs/*.md", "bench/*.md", "crates/*/README.md"]
 FILE_ENDINGS = ("rt", "antt", "md", "script", "expected", "status", "pcap", "pcapng", "edit", "txt")
 
 
@@ -65,7 +65,7 @@ def missing_files(root):
 
 
 def crate_tables(root):
-    """README speaks of each crate that is no crate of tests, the map of all, and each that the map lists is there."""
+    """Each crate that is no crate of tests has a README under its name, the map lists all, and each that it lists is there."""
     wanted = crates(root)
     folders = sorted(path.name for path in root.glob("crates/*") if (path / "src").is_dir())
     for name in sorted(set(folders) ^ set(wanted)):
@@ -75,11 +75,12 @@ def crate_tables(root):
     listed = re.findall(r"^\| `(\w+)` \|", here, re.MULTILINE)
     for name in sorted(set(wanted) ^ set(listed)):
         yield architecture, 1, f"`{name}` stands in crates.txt or in the table of crates, and not in both"
-    readme = root / "README.md"
-    text = readme.read_text()
     for name in wanted:
-        if not name.endswith("_tests") and f"`{name}`" not in text:
-            yield readme, 1, f"does not speak of `{name}`"
+        readme = root / "crates" / name / "README.md"
+        if name.endswith("_tests"):
+            continue
+        if not readme.exists() or not readme.read_text().startswith(f"# {name}\n"):
+            yield readme, 1, f"is no README of `{name}`"
 
 
 def stripped(text):

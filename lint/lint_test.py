@@ -8,8 +8,9 @@ import lint
 
 IN_ORDER = {
     "crates.txt": "# Each crate.\nsr_one:\nsr_one_tests: sr_one\n",
-    "README.md": "`sr_one` is all. See [the map](docs/ARCHITECTURE.md).\n",
+    "README.md": "See [the map](docs/ARCHITECTURE.md).\n",
     "docs/ARCHITECTURE.md": "| `sr_one` | `lib.rt` |\n| `sr_one_tests` | tests |\n## What is planned\n| `sr_two` |\n",
+    "crates/sr_one/README.md": "# sr_one\n",
     "crates/sr_one/src/lib.rt": "/// What it does.\n#[inline]\npub fn one() {}\nfn own() {}\n",
     "crates/sr_one/specs/Ones.antt": "one = 1\n",
     "crates/sr_one_tests/src/lib.rt": "",
@@ -64,10 +65,11 @@ class Lint(unittest.TestCase):
                 for name in ["sr_one_tests", "sr_two"]
             ],
         )
-        self.assertEqual(
-            self.findings({"README.md": "[the map](docs/ARCHITECTURE.md)"}),
-            ["README.md:1: does not speak of `sr_one`"],
-        )
+        for text in [None, "# sr_two\n"]:
+            self.assertEqual(
+                self.findings({"crates/sr_one/README.md": text}),
+                ["crates/sr_one/README.md:1: is no README of `sr_one`"],
+            )
 
     def test_untested_examples(self):
         shown = {"README.md": IN_ORDER["README.md"] + "```rust\nlet one = 1;\nlet two = one;\n```\n"}
