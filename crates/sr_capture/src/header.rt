@@ -44,7 +44,8 @@ fn is_compressed(octets: &[u8]) -> bool
 /// The order and the unit that the magic number tells.
 fn magic(octets: &[u8]) -> Option<(ByteOrder, TimeUnit)>
     ensures found { IfSome result (λ m. HasMagic octets.now m.0 m.1) }
-    ensures none { IfNone result ((order : ByteOrder) (unit : TimeUnit) → HasMagic octets.now order unit → ⊥) }
+    ensures none { IfNone result ((order : ByteOrder) (unit : TimeUnit)
+        → HasMagic octets.now order unit → ⊥) }
 {
     if octets.len() < 4 {
         return None;
@@ -125,8 +126,10 @@ fn place_of(reason: Reason) -> u64
 /// them that fits, at the field that is wrong; `Read` where the reader fails and `NoMemory`, at the octet that could not be
 /// taken.
 pub fn read_header<R: BufRead>(reader: &mut R, octets: &mut Vec<u8>) -> Result<Form, CaptureFault>
-    ensures found { IfOk result (λ form. LosesHeader form (R.remaining reader.old) (R.remaining reader.new)) }
-    ensures refused { IfErr result (λ fault. IsNoHeader fault (R.remaining reader.old) (R.remaining reader.new)) }
+    ensures found { IfOk result (λ form.
+        LosesHeader form (R.remaining reader.old) (R.remaining reader.new)) }
+    ensures refused { IfErr result (λ fault.
+        IsNoHeader fault (R.remaining reader.old) (R.remaining reader.new)) }
 {
     match keep(reader, HEADER_LEN, octets) {
         Ok(_) => {}

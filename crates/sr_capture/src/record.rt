@@ -52,9 +52,12 @@ fn take_head<R: BufRead>(
     form: Form,
     octets: &mut Vec<u8>,
 ) -> Result<Option<Head>, CaptureFault>
-    ensures taken { IfOk result (λ head. MatchOption head (WasAtEnd (R.remaining reader.old) (R.remaining reader.new))
-        (λ head. (front : List ℕ) × Loses front (R.remaining reader.old) (R.remaining reader.new) × IsHead form front head)) }
-    ensures fault { IfErr result (λ fault. IsNoRecord form fault (R.remaining reader.old) (R.remaining reader.new)) }
+    ensures taken { IfOk result (λ head.
+        MatchOption head (WasAtEnd (R.remaining reader.old) (R.remaining reader.new))
+        (λ head. (front : List ℕ) × Loses front (R.remaining reader.old) (R.remaining reader.new)
+        × IsHead form front head)) }
+    ensures fault { IfErr result (λ fault.
+        IsNoRecord form fault (R.remaining reader.old) (R.remaining reader.new)) }
 {
     match keep(reader, HEAD_LEN, octets) {
         Ok(true) => Ok(Some(head_of(form, octets))),
@@ -94,8 +97,10 @@ fn take_body<R: BufRead>(
     kept: &mut Vec<u8>,
 ) -> Result<bool, CaptureFault>
     requires { wanted ≤ held }
-    ensures taken { IfOk result (λ whole. TakesBody whole held wanted kept.new.items (R.remaining reader.old) (R.remaining reader.new)) }
-    ensures fault { IfErr result (λ fault. IsLack fault.reason × ((octets : List ℕ) × (length octets ≡ fault.at)
+    ensures taken { IfOk result (λ whole. TakesBody whole held wanted kept.new.items
+        (R.remaining reader.old) (R.remaining reader.new)) }
+    ensures fault { IfErr result (λ fault.
+        IsLack fault.reason × ((octets : List ℕ) × (length octets ≡ fault.at)
         × LosesBelow held octets (R.remaining reader.old) (R.remaining reader.new))) }
 {
     let near = kept_of(wanted);
@@ -130,8 +135,10 @@ pub fn next_packet<R: BufRead>(
     form: Form,
     packet: &mut Packet,
 ) -> Result<bool, CaptureFault>
-    ensures taken { IfOk result (λ more. TakesPacket more form packet.new (R.remaining reader.old) (R.remaining reader.new)) }
-    ensures fault { IfErr result (λ fault. IsNoRecord form fault (R.remaining reader.old) (R.remaining reader.new)) }
+    ensures taken { IfOk result (λ more.
+        TakesPacket more form packet.new (R.remaining reader.old) (R.remaining reader.new)) }
+    ensures fault { IfErr result (λ fault.
+        IsNoRecord form fault (R.remaining reader.old) (R.remaining reader.new)) }
 {
     let Some(head) = take_head(reader, form, &mut packet.octets)? else {
         return Ok(false);

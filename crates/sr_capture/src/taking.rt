@@ -10,10 +10,12 @@ use std::io::BufRead;
 fn keep_some<R: BufRead>(reader: &mut R, room: usize, kept: &mut Vec<u8>) -> Result<bool, Reason>
     requires { 0 < room }
     ensures kept { IfOk result (λ more. (bs : List ℕ) × (kept.new.items ≡ kept.old.items ++ bs)
-        × Loses bs (R.remaining reader.old) (R.remaining reader.new) × HasSome more room (length bs) (R.remaining reader.old) (R.remaining reader.new)) }
+        × Loses bs (R.remaining reader.old) (R.remaining reader.new)
+        × HasSome more room (length bs) (R.remaining reader.old) (R.remaining reader.new)) }
     ensures fault { IfErr result (λ reason. (reason ≡ Reason.Read) ⊎ (reason ≡ Reason.NoMemory)) }
     ensures few { vec_len kept.new ≤ vec_len kept.old + room }
-    ensures err { IfErr result (λ _. (kept.new.items ≡ kept.old.items) × Loses [] (R.remaining reader.old) (R.remaining reader.new)) }
+    ensures err { IfErr result (λ _. (kept.new.items ≡ kept.old.items)
+        × Loses [] (R.remaining reader.old) (R.remaining reader.new)) }
 {
     let Ok(available) = reader.fill_buf() else {
         return Err(Reason::Read);
@@ -34,10 +36,12 @@ fn keep_some<R: BufRead>(reader: &mut R, room: usize, kept: &mut Vec<u8>) -> Res
 /// `Read` where the reader fails, `NoMemory`. What was taken till then is in `kept`.
 pub fn fill<R: BufRead>(reader: &mut R, count: usize, kept: &mut Vec<u8>) -> Result<bool, Reason>
     requires { vec_len kept.old ≤ count }
-    ensures taken { IfOk result (λ whole. Fills whole count kept.old.items kept.new.items (R.remaining reader.old) (R.remaining reader.new)) }
+    ensures taken { IfOk result (λ whole. Fills whole count kept.old.items kept.new.items
+        (R.remaining reader.old) (R.remaining reader.new)) }
     ensures fault { IfErr result (λ reason. (reason ≡ Reason.Read) ⊎ (reason ≡ Reason.NoMemory)) }
     ensures few { vec_len kept.new ≤ count }
-    ensures err { IfErr result (λ _. FillsBelow count kept.old.items kept.new.items (R.remaining reader.old) (R.remaining reader.new)) }
+    ensures err { IfErr result (λ _. FillsBelow count kept.old.items kept.new.items
+        (R.remaining reader.old) (R.remaining reader.new)) }
 {
     while kept.len() < count {
         if !keep_some(reader, count - kept.len(), kept)? {
@@ -52,10 +56,12 @@ pub fn fill<R: BufRead>(reader: &mut R, count: usize, kept: &mut Vec<u8>) -> Res
 /// # Errors
 /// `Read` where the reader fails, `NoMemory`. What was taken till then is in `kept`.
 pub fn keep<R: BufRead>(reader: &mut R, count: usize, kept: &mut Vec<u8>) -> Result<bool, Reason>
-    ensures taken { IfOk result (λ whole. TakesAll whole count kept.new.items (R.remaining reader.old) (R.remaining reader.new)) }
+    ensures taken { IfOk result (λ whole.
+        TakesAll whole count kept.new.items (R.remaining reader.old) (R.remaining reader.new)) }
     ensures fault { IfErr result (λ reason. (reason ≡ Reason.Read) ⊎ (reason ≡ Reason.NoMemory)) }
     ensures few { vec_len kept.new ≤ count }
-    ensures err { IfErr result (λ _. LosesBelow count kept.new.items (R.remaining reader.old) (R.remaining reader.new)) }
+    ensures err { IfErr result (λ _.
+        LosesBelow count kept.new.items (R.remaining reader.old) (R.remaining reader.new)) }
 {
     kept.clear();
     fill(reader, count, kept)
@@ -66,7 +72,8 @@ fn skip_some<R: BufRead>(reader: &mut R, room: u64) -> Option<u64>
     requires { 0 < room }
     ensures none { IfNone result (Loses [] (R.remaining reader.old) (R.remaining reader.new)) }
     ensures some { IfSome result (λ taken. (bs : List ℕ) × (length bs ≡ taken)
-        × Loses bs (R.remaining reader.old) (R.remaining reader.new) × SkipsSome room taken (R.remaining reader.old) (R.remaining reader.new)) }
+        × Loses bs (R.remaining reader.old) (R.remaining reader.new)
+        × SkipsSome room taken (R.remaining reader.old) (R.remaining reader.new)) }
 {
     let Ok(available) = reader.fill_buf() else {
         return None;
@@ -85,9 +92,11 @@ fn skip_some<R: BufRead>(reader: &mut R, room: u64) -> Option<u64>
 /// # Errors
 /// How many octets were passed over before the reader failed.
 pub(crate) fn skip<R: BufRead>(reader: &mut R, count: u64) -> Result<u64, u64>
-    ensures err { IfErr result (λ skipped. (bs : List ℕ) × (length bs ≡ skipped) × LosesBelow count bs (R.remaining reader.old) (R.remaining reader.new)) }
+    ensures err { IfErr result (λ skipped. (bs : List ℕ) × (length bs ≡ skipped)
+        × LosesBelow count bs (R.remaining reader.old) (R.remaining reader.new)) }
     ensures taken { IfOk result (λ skipped. (bs : List ℕ) × (length bs ≡ skipped)
-        × Loses bs (R.remaining reader.old) (R.remaining reader.new) × Skips count skipped (R.remaining reader.old) (R.remaining reader.new)) }
+        × Loses bs (R.remaining reader.old) (R.remaining reader.new)
+        × Skips count skipped (R.remaining reader.old) (R.remaining reader.new)) }
 {
     let mut skipped = 0;
     while skipped < count {

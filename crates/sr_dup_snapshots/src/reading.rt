@@ -29,7 +29,8 @@ struct Source {
 // The source that octets spell, if it has its greatest number on some lane.
 fn read_source(source: &[u8]) -> Option<Source>
     requires { length source.now ≡ 784 }
-    ensures found { IfSome result (λ s. (s.src, record { seen = window_of s.seen; time = s.time }) ≡ source_in source.now) }
+    ensures found { IfSome result (λ s.
+        (s.src, record { seen = window_of s.seen; time = s.time }) ≡ source_in source.now) }
     ensures some { IfSome result (λ s. follows None (source_in source.now) ≡ true) }
     ensures none { IfNone result (follows None (source_in source.now) ≡ false) }
 {
@@ -60,11 +61,14 @@ fn is_after(last: Option<Mac>, src: Mac) -> bool
 fn add(table: &mut DupTable, last: Option<Mac>, source: &[u8]) -> Result<Mac, DupFault>
     requires size { length source.now ≡ 784 }
     requires room { length table.old.sources < most_sources }
-    requires absent { (src : Mac) → is_after last src ≡ true → lookup (mac_eq src) table.old.sources ≡ None }
-    ensures added { OnOk result (table.new.sources ≡ table.old.sources ++ source_in source.now ∷ []) }
+    requires absent { (src : Mac) → is_after last src ≡ true
+        → lookup (mac_eq src) table.old.sources ≡ None }
+    ensures added { OnOk result (table.new.sources
+        ≡ table.old.sources ++ source_in source.now ∷ []) }
     ensures last { IfOk result (λ src. src ≡ (source_in source.now).0) }
     ensures follows { OnOk result (follows last (source_in source.now) ≡ true) }
-    ensures refused { IfErr result (λ e. (e ≡ DupFault.NoMemory) ⊎ ((e ≡ DupFault.BadSnapshot) × (follows last (source_in source.now) ≡ false))) }
+    ensures refused { IfErr result (λ e. (e ≡ DupFault.NoMemory)
+        ⊎ ((e ≡ DupFault.BadSnapshot) × (follows last (source_in source.now) ≡ false))) }
 {
     let Some(read) = read_source(source) else {
         return Err(DupFault::BadSnapshot);
@@ -82,7 +86,8 @@ fn read_sources(alloc: Global, count: usize, sources: &[u8]) -> Result<DupTable,
     requires few { count ≤ most_sources }
     ensures sources { IfOk result (λ table. table.sources ≡ sources_in count sources.now) }
     ensures order { OnOk result (are_in_order None (sources_in count sources.now) ≡ true) }
-    ensures refused { IfErr result (λ e. (e ≡ DupFault.NoMemory) ⊎ ((e ≡ DupFault.BadSnapshot) × (are_in_order None (sources_in count sources.now) ≡ false))) }
+    ensures refused { IfErr result (λ e. (e ≡ DupFault.NoMemory) ⊎ ((e ≡ DupFault.BadSnapshot)
+        × (are_in_order None (sources_in count sources.now) ≡ false))) }
 {
     let mut table = DupTable::new(alloc);
     let mut last = None;
@@ -129,7 +134,8 @@ fn sources_of(octets: &[u8]) -> Option<(usize, &[u8])>
 pub fn read_snapshot(alloc: Global, octets: &[u8]) -> Result<DupTable, DupFault>
     ensures found { IfOk result (λ table. IsSnapshot octets.now table.sources) }
     ensures held { IfOk result (λ table. table.held ≡ []) }
-    ensures only { (s : Sources) → IsSnapshot octets.now s → IfErr result (λ e. e ≡ DupFault.NoMemory) }
+    ensures only { (s : Sources) → IsSnapshot octets.now s
+        → IfErr result (λ e. e ≡ DupFault.NoMemory) }
     ensures refused { IfErr result (λ e. (e ≡ DupFault.NoMemory) ⊎ (e ≡ DupFault.BadSnapshot)) }
 {
     let Some((count, sources)) = sources_of(octets) else {

@@ -39,7 +39,8 @@ fn lane_octet(seen: &Record<16>, lane: Lane, place: u16) -> u8
 
 // Appends the octets of a lane.
 fn put_lane(out: &mut Vec<u8>, seen: &Record<16>, lane: Lane) -> Result<(), NoMemory>
-    ensures { OnOk result (out.new.items ≡ out.old.items ++ lane_octets (window_of seen.now).marks lane) }
+    ensures { OnOk result (out.new.items ≡ out.old.items
+        ++ lane_octets (window_of seen.now).marks lane) }
 {
     for place in 0..LANE_LEN {
         out.extend_from_slice(&[lane_octet(seen, lane, place)])?;
@@ -64,7 +65,8 @@ pub fn put_record(out: &mut Vec<u8>, seen: &Record<16>) -> Result<(), NoMemory>
 fn read_bit(lanes: &[u8], first: usize, back: u16) -> u8
     requires lane { first + 128 ≤ length lanes.now }
     requires back { back < 1024 }
-    ensures { result ≡ flag (bit_at (slice_index_or lanes.now (first + back / 8) 0) (back % 8) == 1) }
+    ensures { result
+        ≡ flag (bit_at (slice_index_or lanes.now (first + back / 8) 0) (back % 8) == 1) }
 {
     (lanes[first + usize::from(back / 8)] >> (back % 8)) & 1
 }
@@ -90,7 +92,10 @@ fn note_back(seen: &mut Record<16>, back: u16, noted: Lanes)
     requires back { back < 1024 }
     requires new { slice_index_or (window_of seen.old).marks back none ≡ none }
     requires plain { known noted ≡ noted }
-    ensures { window_of seen.new ≡ record { reference = (window_of seen.old).reference; marks = slice_set (window_of seen.old).marks back noted } }
+    ensures { window_of seen.new ≡ record {
+      reference = (window_of seen.old).reference;
+      marks = slice_set (window_of seen.old).marks back noted;
+    } }
 {
     if noted.is_empty() {
         return;

@@ -16,8 +16,10 @@ use std::alloc::Global;
 
 // Appends the octets of a source.
 fn put_source(out: &mut Vec<u8>, src: Mac, time: u64, seen: &Record<16>) -> Result<(), NoMemory>
-    ensures spelled { OnOk result (out.new.items ≡ out.old.items ++ source_octets (src, record { seen = window_of seen.now; time = time })) }
-    ensures source { OnOk result (IsSource (src, record { seen = window_of seen.now; time = time })) }
+    ensures spelled { OnOk result (out.new.items
+        ≡ out.old.items ++ source_octets (src, record { seen = window_of seen.now; time = time })) }
+    ensures source { OnOk result
+        (IsSource (src, record { seen = window_of seen.now; time = time })) }
 {
     out.extend_from_slice(&src.0)?;
     out.extend_from_slice(&time.to_be_bytes())?;
@@ -39,7 +41,8 @@ fn sorted(alloc: Global, table: &DupTable) -> Result<Vec<Mac>, NoMemory>
 
 // Appends the sources that stand at these addresses.
 fn put_sources(out: &mut Vec<u8>, table: &DupTable, macs: &[Mac]) -> Result<(), NoMemory>
-    ensures spelled { OnOk result (out.new.items ≡ out.old.items ++ flat_map source_octets (sources_at table.now.sources macs.now)) }
+    ensures spelled { OnOk result (out.new.items
+        ≡ out.old.items ++ flat_map source_octets (sources_at table.now.sources macs.now)) }
     ensures each { OnOk result (AllByRecursion IsSource (sources_at table.now.sources macs.now)) }
 {
     for src in macs {

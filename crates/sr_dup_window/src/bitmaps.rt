@@ -19,7 +19,8 @@ pub(crate) fn mark(rows: &mut [[u64; 6]], spot: usize, lanes: Lanes)
     requires within { spot < 64 * length rows.old }
     requires whole { AreRows (length rows.old) rows.old }
     ensures whole { AreRows (length rows.old) rows.new }
-    ensures lanes { (p : ℕ) → lanes_at rows.new p ≡ (if p == spot then union (lanes_at rows.old p) lanes else lanes_at rows.old p) }
+    ensures lanes { (p : ℕ) → lanes_at rows.new p
+        ≡ (if p == spot then union (lanes_at rows.old p) lanes else lanes_at rows.old p) }
 {
     mark_row(&mut rows[spot / 64], (spot % 64) as u32, lanes);
 }
@@ -31,7 +32,8 @@ fn clear_run(rows: &mut [[u64; 6]], start: usize, count: usize)
     requires one_row { start % 64 + count ≤ 64 }
     requires whole { AreRows (length rows.old) rows.old }
     ensures whole { AreRows (length rows.old) rows.new }
-    ensures lanes { (p : ℕ) → lanes_at rows.new p ≡ (if nat_le start p && nat_lt p (start + count) then none else lanes_at rows.old p) }
+    ensures lanes { (p : ℕ) → lanes_at rows.new p
+        ≡ (if nat_le start p && nat_lt p (start + count) then none else lanes_at rows.old p) }
 {
     let mask = all_but((start % 64) as u32, count as u32);
     keep_row(&mut rows[start / 64], mask);
@@ -44,7 +46,8 @@ fn clear_after(rows: &mut [[u64; 6]], from: usize, count: usize)
     requires part { count < 64 * length rows.old }
     requires whole { AreRows (length rows.old) rows.old }
     ensures whole { AreRows (length rows.old) rows.new }
-    ensures lanes { (p : ℕ) → p < 64 * length rows.old → lanes_at rows.new p ≡ (if is_passed (64 * length rows.old) from count p then none else lanes_at rows.old p) }
+    ensures lanes { (p : ℕ) → p < 64 * length rows.old → lanes_at rows.new p
+        ≡ (if is_passed (64 * length rows.old) from count p then none else lanes_at rows.old p) }
 {
     let spots = 64 * rows.len();
     let mut done = 0;
@@ -73,7 +76,9 @@ pub(crate) fn pass(rows: &mut [[u64; 6]], from: usize, count: usize)
     requires within { from < 64 * length rows.old }
     requires whole { AreRows (length rows.old) rows.old }
     ensures whole { AreRows (length rows.old) rows.new }
-    ensures lanes { (p : ℕ) → p < 64 * length rows.old → lanes_at rows.new p ≡ (if is_passed (64 * length rows.old) from count p || nat_le (64 * length rows.old) count then none else lanes_at rows.old p) }
+    ensures lanes { (p : ℕ) → p < 64 * length rows.old
+        → lanes_at rows.new p ≡ (if is_passed (64 * length rows.old) from count p || nat_le
+        (64 * length rows.old) count then none else lanes_at rows.old p) }
 {
     if count < 64 * rows.len() {
         clear_after(rows, from, count);
@@ -86,7 +91,8 @@ pub(crate) fn pass(rows: &mut [[u64; 6]], from: usize, count: usize)
 pub(crate) fn unite(rows: &mut [[u64; 6]], others: &[[u64; 6]])
     requires { length rows.old ≡ length others.now }
     ensures whole { AreRows (length rows.old) rows.new }
-    ensures lanes { (p : ℕ) → p < 64 * length rows.old → lanes_at rows.new p ≡ union (lanes_at rows.old p) (lanes_at others.now p) }
+    ensures lanes { (p : ℕ) → p < 64 * length rows.old
+        → lanes_at rows.new p ≡ union (lanes_at rows.old p) (lanes_at others.now p) }
 {
     for (i, row) in rows.iter_mut().enumerate() {
         unite_row(row, &others[i]);

@@ -67,7 +67,8 @@ impl Flags for Lanes {
 
     ghost exact = { ⊤ };
 
-    ghost table = { (codes "H", 1) ∷ (codes "A", 2) ∷ (codes "B", 4) ∷ (codes "C", 8) ∷ (codes "GOT_A", 16) ∷ (codes "GOT_B", 32) ∷ [] };
+    ghost table = { (codes "H", 1) ∷ (codes "A", 2) ∷ (codes "B", 4) ∷ (codes "C", 8)
+        ∷ (codes "GOT_A", 16) ∷ (codes "GOT_B", 32) ∷ [] };
 
     ghost set_of = { λ lanes. lanes.0 };
 

@@ -91,9 +91,11 @@ impl<const N: usize> Record<N> {
     /// the greatest one is ahead of it, and becomes the greatest.
     pub fn note(&mut self, seq: Seq, lanes: Lanes) -> Lanes
         requires { is_empty lanes ≡ false }
-        ensures value { window_of self.new ≡ window_noted (64 * N) (window_of self.old) seq.0 lanes }
+        ensures value { window_of self.new
+            ≡ window_noted (64 * N) (window_of self.old) seq.0 lanes }
         ensures answer { result ≡ fresh_lanes (64 * N) (window_of self.old) seq.0 lanes }
-        ensures stands { NotesAs (64 * N) (window_of self.old) (window_of self.new) seq.0 lanes result }
+        ensures stands { NotesAs (64 * N) (window_of self.old) (window_of self.new) seq.0
+            lanes result }
     {
         let spot = seq.0 as usize % (64 * N);
         match self.distance(seq) {
@@ -115,9 +117,12 @@ impl<const N: usize> Record<N> {
     /// Joins the numbers of another record to these. Apart exactly where the two references are 32768 apart; the record
     /// is then left as it is.
     pub fn merge(&mut self, other: &Self) -> Result<(), Apart>
-        ensures value { OnOk result (window_of self.new ≡ window_merged (64 * N) (window_of self.old) (window_of other.now)) }
-        ensures joins { OnOk result (Merges (64 * N) (window_of self.old) (window_of other.now) (window_of self.new)) }
-        ensures apart { IsErr result ↔ (steps (window_of self.old).reference (window_of other.now).reference ≡ 32768) }
+        ensures value { OnOk result (window_of self.new
+            ≡ window_merged (64 * N) (window_of self.old) (window_of other.now)) }
+        ensures joins { OnOk result
+            (Merges (64 * N) (window_of self.old) (window_of other.now) (window_of self.new)) }
+        ensures apart { IsErr result
+            ↔ (steps (window_of self.old).reference (window_of other.now).reference ≡ 32768) }
         ensures unchanged { OnErr result (self.new ≡ self.old) }
     {
         let spot = self.reference.0 as usize % (64 * N);

@@ -18,7 +18,8 @@ fn bit_of(word: u64, bit: u32) -> u8
 /// A lane's word with a bit set, where the lane is in the set.
 fn with_bit(word: u64, bit: u32, lanes: Lanes, lane: Lane) -> u64
     requires { bit < 64 }
-    ensures { (b : ℕ) → (bit_at result b == 1) ≡ ((b == bit && has lanes lane) || bit_at word b == 1) }
+    ensures { (b : ℕ) → (bit_at result b == 1)
+        ≡ ((b == bit && has lanes lane) || bit_at word b == 1) }
 {
     word | (u64::from(lanes.has(lane)) << bit)
 }
@@ -41,7 +42,8 @@ fn united(word: u64, other: u64) -> u64
 pub(crate) fn all_but(low: u32, count: u32) -> u64
     requires some { 0 < count }
     requires within { low + count ≤ 64 }
-    ensures { (b : ℕ) → b < 64 → (bit_at result b == 1) ≡ not (nat_le low b && nat_lt b (low + count)) }
+    ensures { (b : ℕ) → b < 64 → (bit_at result b == 1)
+        ≡ not (nat_le low b && nat_lt b (low + count)) }
 {
     !((u64::MAX << low) & (u64::MAX >> (64 - low - count)))
 }
@@ -66,7 +68,8 @@ pub(crate) fn lanes_in(row: &[u64; 6], bit: u32) -> Lanes
 pub(crate) fn mark_row(row: &mut [u64; 6], bit: u32, lanes: Lanes)
     requires { bit < 64 }
     ensures whole { IsRow row.new }
-    ensures lanes { (b : ℕ) → lanes_in row.new b ≡ (if b == bit then union (lanes_in row.old b) lanes else lanes_in row.old b) }
+    ensures lanes { (b : ℕ) → lanes_in row.new b
+        ≡ (if b == bit then union (lanes_in row.old b) lanes else lanes_in row.old b) }
 {
     let [h, a, b, c, got_a, got_b] = *row;
     *row = [
@@ -82,7 +85,8 @@ pub(crate) fn mark_row(row: &mut [u64; 6], bit: u32, lanes: Lanes)
 /// Clears the bits that a mask lacks.
 pub(crate) fn keep_row(row: &mut [u64; 6], mask: u64)
     ensures whole { IsRow row.new }
-    ensures lanes { (b : ℕ) → lanes_in row.new b ≡ (if bit_at mask b == 1 then lanes_in row.old b else none) }
+    ensures lanes { (b : ℕ) → lanes_in row.new b
+        ≡ (if bit_at mask b == 1 then lanes_in row.old b else none) }
 {
     let [h, a, b, c, got_a, got_b] = *row;
     *row = [
@@ -98,7 +102,8 @@ pub(crate) fn keep_row(row: &mut [u64; 6], mask: u64)
 /// Sets the bits of another row too.
 pub(crate) fn unite_row(row: &mut [u64; 6], other: &[u64; 6])
     ensures whole { IsRow row.new }
-    ensures lanes { (b : ℕ) → lanes_in row.new b ≡ union (lanes_in row.old b) (lanes_in other.now b) }
+    ensures lanes { (b : ℕ) → lanes_in row.new b
+        ≡ union (lanes_in row.old b) (lanes_in other.now b) }
 {
     let [h, a, b, c, got_a, got_b] = *row;
     *row = [

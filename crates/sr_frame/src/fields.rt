@@ -61,7 +61,13 @@ pub struct FrameView<'a> {
     pub kind: u16,
     /// What follows the type.
     pub payload: &'a [u8],
-    pub ghost legal: { IsLegal (record { dst = dst.0; src = src.0; vlan = vlan; kind = kind; payload = payload.now }) },
+    pub ghost legal: { IsLegal (record {
+      dst = dst.0;
+      src = src.0;
+      vlan = vlan;
+      kind = kind;
+      payload = payload.now;
+    }) },
 }
 
 impl FrameView<'_> {

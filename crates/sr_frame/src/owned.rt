@@ -57,7 +57,8 @@ impl Frame {
     /// growth was refused.
     pub fn copy(alloc: Global, octets: &[u8]) -> Result<Frame, FrameFault>
         ensures ok { IfOk result (λ f. (f ≡ octets.now) × HasFrameLength f) }
-        ensures short { IsErrOf result FrameFault.TooShort ↔ (length octets.now < least_len octets.now) }
+        ensures short { IsErrOf result FrameFault.TooShort
+            ↔ (length octets.now < least_len octets.now) }
         ensures long { IsErrOf result FrameFault.TooLong ↔ (MAX_FRAME_LEN < length octets.now) }
     {
         let _ = reading::view(octets)?;

@@ -65,7 +65,8 @@ pub fn view(octets: &[u8]) -> Result<FrameView<'_>, FrameFault>
     ensures only { (f : Fields) → IsFrame octets.now f → IsOkAnd result (λ v. fields_of v ≡ f) }
 
     // Each fault exactly where it is due.
-    ensures short { IsErrOf result FrameFault.TooShort ↔ (length octets.now < least_len octets.now) }
+    ensures short { IsErrOf result FrameFault.TooShort
+        ↔ (length octets.now < least_len octets.now) }
     ensures long { IsErrOf result FrameFault.TooLong ↔ (MAX_FRAME_LEN < length octets.now) }
     ensures no_memory { result ≢ Err FrameFault.NoMemory }
 {

@@ -13,7 +13,8 @@ use crate::fields::{FrameView, VLAN_KIND};
 pub fn append(out: &mut Vec<u8>, frame: &FrameView<'_>) -> Result<(), NoMemory>
     ensures ok { OnOk result (out.new.items ≡ out.old.items ++ spelling (fields_of frame.now)) }
     ensures err { OnErr result (out.new.items ≡ out.old.items) }
-    ensures succeeds { vec_len out.old + length (spelling (fields_of frame.now)) ≤ vec_capacity out.old → IsOk result }
+    ensures succeeds { vec_len out.old + length (spelling (fields_of frame.now))
+        ≤ vec_capacity out.old → IsOk result }
     ensures capacity { vec_capacity out.old ≤ vec_capacity out.new }
 {
     out.reserve(frame.frame_len())?;

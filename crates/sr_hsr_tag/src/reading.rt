@@ -38,12 +38,15 @@ fn tag_of(octets: &[u8; 6]) -> HsrTag
 
 /// The tag, and the octets behind it.
 fn parted<'a>(frame: &FrameView<'a>) -> Result<(HsrTag, &'a [u8]), TagFault>
-    ensures found { IfOk result (λ r. IsTagged (spelling (fields_of frame.now)) (with_type (fields_of frame.now) r.0.inner r.1.now) r.0) }
+    ensures found { IfOk result (λ r. IsTagged (spelling (fields_of frame.now))
+        (with_type (fields_of frame.now) r.0.inner r.1.now) r.0) }
     ensures only { (plain : List ℕ) (t : HsrTag) → IsTagged (spelling (fields_of frame.now)) plain t
-        → IsOkAnd result (λ r. (r.0 ≡ t) × (with_type (fields_of frame.now) r.0.inner r.1.now ≡ plain)) }
+        → IsOkAnd result (λ r.
+        (r.0 ≡ t) × (with_type (fields_of frame.now) r.0.inner r.1.now ≡ plain)) }
     ensures shorter { IfOk result (λ r. length r.1.now + 6 ≡ length frame.now.payload.now) }
     ensures not_tagged { IsErrOf result TagFault.NotTagged ↔ (frame.now.kind ≢ HSR_KIND) }
-    ensures truncated { IsErrOf result TagFault.Truncated ↔ (frame.now.kind ≡ HSR_KIND) × (length frame.now.payload.now < 6) }
+    ensures truncated { IsErrOf result TagFault.Truncated
+        ↔ (frame.now.kind ≡ HSR_KIND) × (length frame.now.payload.now < 6) }
 {
     if frame.kind != HSR_KIND {
         return Err(TagFault::NotTagged);
@@ -57,7 +60,8 @@ fn parted<'a>(frame: &FrameView<'a>) -> Result<(HsrTag, &'a [u8]), TagFault>
 /// A VLAN tag's control and the type behind it.
 fn control_and_kind(octets: &[u8]) -> Option<(u16, u16, &[u8])>
     ensures short { IsNone result ↔ (length octets.now < 4) }
-    ensures front { IfSome result (λ r. octets.now ≡ to_be_bytes w16 r.0 ++ to_be_bytes w16 r.1 ++ r.2.now) }
+    ensures front { IfSome result (λ r.
+        octets.now ≡ to_be_bytes w16 r.0 ++ to_be_bytes w16 r.1 ++ r.2.now) }
 {
     let (front, rest) = octets.split_first_chunk::<4>()?;
     let [control_high, control_low, kind_high, kind_low] = *front;
@@ -69,8 +73,11 @@ fn control_and_kind(octets: &[u8]) -> Option<(u16, u16, &[u8])>
 /// The frame with another type and payload. A type that marks a VLAN tag takes the tag from the payload.
 fn retyped<'a>(frame: &FrameView<'a>, kind: u16, payload: &'a [u8]) -> Option<FrameView<'a>>
     requires { length payload.now ≤ length frame.now.payload.now }
-    ensures found { IfSome result (λ v. spelling (fields_of v) ≡ with_type (fields_of frame.now) kind payload.now) }
-    ensures short { IsNone result ↔ (let plain = with_type (fields_of frame.now) kind payload.now in length plain < least_len plain) }
+    ensures found { IfSome result (λ v.
+        spelling (fields_of v) ≡ with_type (fields_of frame.now) kind payload.now) }
+    ensures short { IsNone result
+        ↔ (let plain = with_type (fields_of frame.now) kind payload.now in length plain
+        < least_len plain) }
 {
     let FrameView { dst, src, vlan, .. } = *frame;
     if kind != VLAN_KIND || vlan.is_some() {
@@ -98,12 +105,15 @@ fn retyped<'a>(frame: &FrameView<'a>, kind: u16, payload: &'a [u8]) -> Option<Fr
 /// behind it.
 pub fn read(frame: &FrameView<'_>) -> Result<HsrTag, TagFault>
     // What is read is spelled so, and what is spelled so is read.
-    ensures found { IfOk result (λ t. (plain : List ℕ) × IsTagged (spelling (fields_of frame.now)) plain t) }
-    ensures only { (plain : List ℕ) (t : HsrTag) → IsTagged (spelling (fields_of frame.now)) plain t → result ≡ Ok t }
+    ensures found { IfOk result (λ t.
+        (plain : List ℕ) × IsTagged (spelling (fields_of frame.now)) plain t) }
+    ensures only { (plain : List ℕ) (t : HsrTag) → IsTagged (spelling (fields_of frame.now)) plain t
+        → result ≡ Ok t }
 
     // Each fault exactly where it is due.
     ensures not_tagged { IsErrOf result TagFault.NotTagged ↔ (frame.now.kind ≢ HSR_KIND) }
-    ensures truncated { IsErrOf result TagFault.Truncated ↔ (frame.now.kind ≡ HSR_KIND) × (length frame.now.payload.now < 6) }
+    ensures truncated { IsErrOf result TagFault.Truncated
+        ↔ (frame.now.kind ≡ HSR_KIND) × (length frame.now.payload.now < 6) }
 {
     let (tag, _) = parted(frame)?;
     Ok(tag)
@@ -116,15 +126,19 @@ pub fn read(frame: &FrameView<'_>) -> Result<HsrTag, TagFault>
 /// stands behind it.
 pub fn untagged_view<'a>(frame: &FrameView<'a>) -> Result<(FrameView<'a>, HsrTag), UntagFault>
     // What is read is spelled so, and what is spelled so is read, where it is a frame without the tag too.
-    ensures found { IfOk result (λ r. IsTagged (spelling (fields_of frame.now)) (spelling (fields_of r.0)) r.1) }
-    ensures only { (plain : List ℕ) (t : HsrTag) → IsTagged (spelling (fields_of frame.now)) plain t → HasFrameLength plain
+    ensures found { IfOk result (λ r.
+        IsTagged (spelling (fields_of frame.now)) (spelling (fields_of r.0)) r.1) }
+    ensures only { (plain : List ℕ) (t : HsrTag) → IsTagged (spelling (fields_of frame.now)) plain t
+        → HasFrameLength plain
         → IsOkAnd result (λ r. (spelling (fields_of r.0) ≡ plain) × (r.1 ≡ t)) }
 
     // Each fault exactly where it is due.
     ensures not_tagged { IsErrOf result UntagFault.NotTagged ↔ (frame.now.kind ≢ HSR_KIND) }
-    ensures truncated { IsErrOf result UntagFault.Truncated ↔ (frame.now.kind ≡ HSR_KIND) × (length frame.now.payload.now < 6) }
+    ensures truncated { IsErrOf result UntagFault.Truncated
+        ↔ (frame.now.kind ≡ HSR_KIND) × (length frame.now.payload.now < 6) }
     ensures too_short { IsErrOf result UntagFault.TooShort
-        ↔ ((plain : List ℕ) × (t : HsrTag) × IsTagged (spelling (fields_of frame.now)) plain t × (length plain < least_len plain)) }
+        ↔ ((plain : List ℕ) × (t : HsrTag) × IsTagged (spelling (fields_of frame.now)) plain t
+        × (length plain < least_len plain)) }
     ensures no_memory { result ≢ Err UntagFault.NoMemory }
 {
     let (tag, rest) = parted(frame)?;
@@ -138,13 +152,17 @@ pub fn untagged_view<'a>(frame: &FrameView<'a>) -> Result<(FrameView<'a>, HsrTag
 ///
 /// Its faults are those of [`untagged_view`], and `NoMemory` where the growth was refused.
 pub fn untagged(alloc: Global, frame: &FrameView<'_>) -> Result<Frame, UntagFault>
-    ensures found { IfOk result (λ own. (t : HsrTag) × IsTagged (spelling (fields_of frame.now)) own t) }
-    ensures only { (plain : List ℕ) (t : HsrTag) → IsTagged (spelling (fields_of frame.now)) plain t → HasFrameLength plain
+    ensures found { IfOk result (λ own.
+        (t : HsrTag) × IsTagged (spelling (fields_of frame.now)) own t) }
+    ensures only { (plain : List ℕ) (t : HsrTag) → IsTagged (spelling (fields_of frame.now)) plain t
+        → HasFrameLength plain
         → MatchResult result (λ own. own ≡ plain) (λ e. e ≡ UntagFault.NoMemory) }
     ensures not_tagged { IsErrOf result UntagFault.NotTagged ↔ (frame.now.kind ≢ HSR_KIND) }
-    ensures truncated { IsErrOf result UntagFault.Truncated ↔ (frame.now.kind ≡ HSR_KIND) × (length frame.now.payload.now < 6) }
+    ensures truncated { IsErrOf result UntagFault.Truncated
+        ↔ (frame.now.kind ≡ HSR_KIND) × (length frame.now.payload.now < 6) }
     ensures too_short { IsErrOf result UntagFault.TooShort
-        ↔ ((plain : List ℕ) × (t : HsrTag) × IsTagged (spelling (fields_of frame.now)) plain t × (length plain < least_len plain)) }
+        ↔ ((plain : List ℕ) × (t : HsrTag) × IsTagged (spelling (fields_of frame.now)) plain t
+        × (length plain < least_len plain)) }
 {
     let (plain, _) = untagged_view(frame)?;
     let own = frame_of(alloc, &plain)?;

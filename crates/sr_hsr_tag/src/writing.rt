@@ -26,7 +26,8 @@ pub(crate) fn frame_of(alloc: Global, frame: &FrameView<'_>) -> Result<Frame, No
 /// Appends addresses, the VLAN tag, and the type of a tagged frame to a list that has room for them.
 fn put_head(out: &mut Vec<u8>, frame: &FrameView<'_>)
     requires { vec_len out.old + least_len (spelling (fields_of frame.now)) ≤ vec_capacity out.old }
-    ensures items { out.new.items ≡ out.old.items ++ (head_of (fields_of frame.now) ++ to_be_bytes w16 0x892F) }
+    ensures items { out.new.items ≡ out.old.items
+        ++ (head_of (fields_of frame.now) ++ to_be_bytes w16 0x892F) }
     ensures capacity { vec_capacity out.old ≤ vec_capacity out.new }
 {
     let head = FrameView {
@@ -57,9 +58,11 @@ fn put_tag(out: &mut Vec<u8>, tag: HsrTag)
 fn put_tagged(out: &mut Vec<u8>, frame: &FrameView<'_>, tag: HsrTag)
     requires path { tag.path < 16 }
     requires size { tag.size < 4096 }
-    requires room { vec_len out.old + length (spelling (fields_of frame.now)) + TAG_LEN ≤ vec_capacity out.old }
+    requires room { vec_len out.old + length (spelling (fields_of frame.now)) + TAG_LEN
+        ≤ vec_capacity out.old }
     ensures items { out.new.items ≡ out.old.items
-        ++ (head_of (fields_of frame.now) ++ to_be_bytes w16 0x892F ++ (tag_octets tag ++ frame.now.payload.now)) }
+        ++ (head_of (fields_of frame.now) ++ to_be_bytes w16 0x892F
+        ++ (tag_octets tag ++ frame.now.payload.now)) }
     ensures capacity { vec_capacity out.old ≤ vec_capacity out.new }
 {
     put_head(out, frame);
@@ -81,9 +84,15 @@ pub fn append_tagged(
     requires { path < 16 }
     ensures ok { OnOk result ((own : List ℕ) × (out.new.items ≡ out.old.items ++ own)
         × (let plain = padded (spelling (fields_of frame.now)) in
-        IsTagged own plain (record { path = path; size = octets_behind_type own; seq = seq; inner = frame.now.kind }))) }
+        IsTagged own plain (record {
+          path = path;
+          size = octets_behind_type own;
+          seq = seq;
+          inner = frame.now.kind;
+        }))) }
     ensures err { OnErr result (out.new.items ≡ out.old.items) }
-    ensures long { IsErrOf result FrameFault.TooLong ↔ (MAX_FRAME_LEN < length (padded (spelling (fields_of frame.now))) + 6) }
+    ensures long { IsErrOf result FrameFault.TooLong
+        ↔ (MAX_FRAME_LEN < length (padded (spelling (fields_of frame.now))) + 6) }
     ensures not_short { result ≢ Err FrameFault.TooShort }
 {
     let payload_len = frame.payload.len().max(MIN_PAYLOAD_LEN);
@@ -112,8 +121,14 @@ pub fn append_tagged(
 pub fn tagged(alloc: Global, frame: &FrameView<'_>, path: u8, seq: Seq) -> Result<Frame, FrameFault>
     requires { path < 16 }
     ensures ok { IfOk result (λ own. let plain = padded (spelling (fields_of frame.now)) in
-        IsTagged own plain (record { path = path; size = octets_behind_type own; seq = seq; inner = frame.now.kind })) }
-    ensures long { IsErrOf result FrameFault.TooLong ↔ (MAX_FRAME_LEN < length (padded (spelling (fields_of frame.now))) + 6) }
+        IsTagged own plain (record {
+          path = path;
+          size = octets_behind_type own;
+          seq = seq;
+          inner = frame.now.kind;
+        })) }
+    ensures long { IsErrOf result FrameFault.TooLong
+        ↔ (MAX_FRAME_LEN < length (padded (spelling (fields_of frame.now))) + 6) }
     ensures not_short { result ≢ Err FrameFault.TooShort }
 {
     let mut octets = Vec::new(alloc);

@@ -43,7 +43,8 @@ impl Model for ProxyTable {
 
 // Adds the address of an entry that is not forgotten.
 fn push_live(macs: &mut Vec<Mac>, mac: Mac, entry: &Aged<Proxied>, now: u64) -> Result<(), NoMemory>
-    ensures { OnOk result (macs.new.items ≡ macs.old.items ++ cons_option (live_mac now (mac, entry.now)) []) }
+    ensures { OnOk result (macs.new.items ≡ macs.old.items
+        ++ cons_option (live_mac now (mac, entry.now)) []) }
 {
     if is_live(entry, now) {
         if let Err(e) = macs.push(mac) {
@@ -110,7 +111,8 @@ impl ProxyTable {
 
         // There are never more. Full exactly where 256 others are live. An address that has an entry takes no memory.
         ensures few { length self.old ≤ most_proxied }
-        ensures full { (result ≡ Ok Learnt.Full) ↔ (length (live_others mac now self.old) ≡ most_proxied) }
+        ensures full { (result ≡ Ok Learnt.Full)
+            ↔ (length (live_others mac now self.old) ≡ most_proxied) }
         ensures known { is_some (lookup (mac_eq mac) self.old) ≡ true → IsOk result }
         ensures err { OnErr result (self.new ≡ self.old) }
     {

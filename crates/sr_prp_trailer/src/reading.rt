@@ -27,8 +27,10 @@ fn lan_of(id: u16) -> Option<Lan>
 
 /// The trailer that six octets spell, with this size.
 fn trailer_of(last: &[u8; 6], size: usize) -> Option<Trailer>
-    ensures found { IfSome result (λ t. (last.now ≡ trailer_octets t) × (t.size ≡ size) × (t.seq.0 < 2 ^ 16)) }
-    ensures only { (t : Trailer) → t.seq.0 < 2 ^ 16 → t.size ≡ size → size < 4096 → last.now ≡ trailer_octets t → result ≡ Some t }
+    ensures found { IfSome result (λ t.
+        (last.now ≡ trailer_octets t) × (t.size ≡ size) × (t.seq.0 < 2 ^ 16)) }
+    ensures only { (t : Trailer) → t.seq.0 < 2 ^ 16 → t.size ≡ size → size < 4096
+        → last.now ≡ trailer_octets t → result ≡ Some t }
 {
     let [
         seq_high,
@@ -59,8 +61,10 @@ fn trailer_of(last: &[u8; 6], size: usize) -> Option<Trailer>
 /// Padding before the trailer belongs to the frame. Six octets with another suffix, size or LAN id are no
 /// trailer; padding behind a trailer hides it. Of two trailers the last one is read.
 pub fn parted<'a>(frame: &FrameView<'a>) -> Option<(FrameView<'a>, Trailer)>
-    ensures found { IfSome result (λ r. IsTrailed (spelling (fields_of frame.now)) (spelling (fields_of r.0)) r.1) }
-    ensures only { (plain : List ℕ) (t : Trailer) → IsTrailed (spelling (fields_of frame.now)) plain t
+    ensures found { IfSome result (λ r.
+        IsTrailed (spelling (fields_of frame.now)) (spelling (fields_of r.0)) r.1) }
+    ensures only { (plain : List ℕ) (t : Trailer)
+        → IsTrailed (spelling (fields_of frame.now)) plain t
         → IsSomeAnd result (λ r. (spelling (fields_of r.0) ≡ plain) × (r.1 ≡ t)) }
 {
     let (front, last) = frame.payload.split_last_chunk::<6>()?;
@@ -77,8 +81,10 @@ pub fn parted<'a>(frame: &FrameView<'a>) -> Option<(FrameView<'a>, Trailer)>
 
 /// The trailer of a frame, where its last octets are one. Takes no memory.
 pub fn read(frame: &FrameView<'_>) -> Option<Trailer>
-    ensures found { IfSome result (λ t. (plain : List ℕ) × IsTrailed (spelling (fields_of frame.now)) plain t) }
-    ensures only { (plain : List ℕ) (t : Trailer) → IsTrailed (spelling (fields_of frame.now)) plain t → result ≡ Some t }
+    ensures found { IfSome result (λ t.
+        (plain : List ℕ) × IsTrailed (spelling (fields_of frame.now)) plain t) }
+    ensures only { (plain : List ℕ) (t : Trailer)
+        → IsTrailed (spelling (fields_of frame.now)) plain t → result ≡ Some t }
 {
     let (_, trailer) = parted(frame)?;
     Some(trailer)
@@ -88,11 +94,14 @@ pub fn read(frame: &FrameView<'_>) -> Option<Trailer>
 ///
 /// `NoTrailer` exactly where [`read`] finds none; `NoMemory` where the growth was refused.
 pub fn stripped(alloc: Global, frame: &FrameView<'_>) -> Result<Frame, StripFault>
-    ensures found { IfOk result (λ plain. (t : Trailer) × IsTrailed (spelling (fields_of frame.now)) plain t) }
-    ensures only { (plain : List ℕ) (t : Trailer) → IsTrailed (spelling (fields_of frame.now)) plain t
+    ensures found { IfOk result (λ plain.
+        (t : Trailer) × IsTrailed (spelling (fields_of frame.now)) plain t) }
+    ensures only { (plain : List ℕ) (t : Trailer)
+        → IsTrailed (spelling (fields_of frame.now)) plain t
         → MatchResult result (λ own. own ≡ plain) (λ e. e ≡ StripFault.NoMemory) }
     ensures no_trailer { IsErrOf result StripFault.NoTrailer
-        ↔ ((plain : List ℕ) (t : Trailer) → IsTrailed (spelling (fields_of frame.now)) plain t → ⊥) }
+        ↔ ((plain : List ℕ) (t : Trailer)
+        → IsTrailed (spelling (fields_of frame.now)) plain t → ⊥) }
 {
     let Some((plain, _)) = parted(frame) else {
         return Err(StripFault::NoTrailer);

@@ -57,9 +57,14 @@ pub fn append_trailed(
 ) -> Result<(), FrameFault>
     ensures ok { OnOk result ((own : List ℕ) × (out.new.items ≡ out.old.items ++ own)
         × (let plain = padded (spelling (fields_of frame.now)) in
-        IsTrailed own plain (record { seq = seq; lan = lan; size = length own - least_len plain }))) }
+        IsTrailed own plain (record {
+          seq = seq;
+          lan = lan;
+          size = length own - least_len plain;
+        }))) }
     ensures err { OnErr result (out.new.items ≡ out.old.items) }
-    ensures long { IsErrOf result FrameFault.TooLong ↔ (MAX_FRAME_LEN < length (padded (spelling (fields_of frame.now))) + TRAILER_LEN) }
+    ensures long { IsErrOf result FrameFault.TooLong
+        ↔ (MAX_FRAME_LEN < length (padded (spelling (fields_of frame.now))) + TRAILER_LEN) }
     ensures not_short { result ≢ Err FrameFault.TooShort }
 {
     let payload_len = frame.payload.len().max(MIN_PAYLOAD_LEN);
@@ -84,8 +89,13 @@ pub fn appended(
     lan: Lan,
 ) -> Result<Frame, FrameFault>
     ensures ok { IfOk result (λ own. let plain = padded (spelling (fields_of frame.now)) in
-        IsTrailed own plain (record { seq = seq; lan = lan; size = length own - least_len plain })) }
-    ensures long { IsErrOf result FrameFault.TooLong ↔ (MAX_FRAME_LEN < length (padded (spelling (fields_of frame.now))) + TRAILER_LEN) }
+        IsTrailed own plain (record {
+          seq = seq;
+          lan = lan;
+          size = length own - least_len plain;
+        })) }
+    ensures long { IsErrOf result FrameFault.TooLong
+        ↔ (MAX_FRAME_LEN < length (padded (spelling (fields_of frame.now))) + TRAILER_LEN) }
     ensures not_short { result ≢ Err FrameFault.TooShort }
 {
     let mut octets = Vec::new(alloc);

@@ -38,7 +38,8 @@ pub fn place(reference: Seq, seq: Seq, window: u16) -> Distance
     requires { 0 < window }
     ensures formula { result ≡ place_of reference.0 seq.0 window }
     ensures within { IsWithin window result }
-    ensures one { (greatest : ℤ) → wire greatest ≡ reference.0 → IsTheOne window greatest seq.0 (number_at greatest result) }
+    ensures one { (greatest : ℤ) → wire greatest ≡ reference.0
+        → IsTheOne window greatest seq.0 (number_at greatest result) }
 {
     let back = reference.0.wrapping_sub(seq.0);
     if back < window {

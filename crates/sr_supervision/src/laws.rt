@@ -6,5 +6,6 @@ ghost use Rattle.sr_supervision.specs.declared.message.Supervision.{Supervision}
 
 /// A list of octets says one thing at most.
 pub fn supervisions_are_unique()
-    ensures { (octets : List ℕ) (s t : Supervision) → IsSupervision octets s → IsSupervision octets t → s ≡ t }
+    ensures { (octets : List ℕ) (s t : Supervision) → IsSupervision octets s
+        → IsSupervision octets t → s ≡ t }
 {}

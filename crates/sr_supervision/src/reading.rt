@@ -78,7 +78,8 @@ fn is_first_len(len: u8) -> bool
 
 /// What the first TLV says, and the octets behind it.
 fn first_tlv(octets: &[u8]) -> Result<(Life, Mac, &[u8]), SupFault>
-    ensures { MatchResult result (λ r. IsFirstTlv octets.now r.0 r.1 r.2.now) (FirstRefused octets.now) }
+    ensures { MatchResult result (λ r. IsFirstTlv octets.now r.0 r.1 r.2.now)
+        (FirstRefused octets.now) }
 {
     let Some((head, behind)) = octets.split_first_chunk::<2>() else {
         return Err(SupFault::Truncated);
@@ -129,13 +130,18 @@ fn content(payload: &[u8]) -> Result<Supervision, SupFault>
 pub fn read(frame: &FrameView<'_>) -> Result<Supervision, SupFault>
     // What is read is spelled so, and what is spelled so is read.
     ensures found { IfOk result (λ s. IsSupervision (spelling (fields_of frame.now)) s) }
-    ensures only { (s : Supervision) → IsSupervision (spelling (fields_of frame.now)) s → result ≡ Ok s }
+    ensures only { (s : Supervision) → IsSupervision (spelling (fields_of frame.now)) s
+        → result ≡ Ok s }
 
     // Each fault exactly where it is due.
-    ensures not_supervision { IsErrOf result SupFault.NotSupervision ↔ (¬ IsAddressed (fields_of frame.now)) }
-    ensures version { IsErrOf result SupFault.Version ↔ (IsAddressed (fields_of frame.now) × HasOtherVersion frame.now.payload.now) }
-    ensures first_tlv { IsErrOf result SupFault.FirstTlv ↔ (IsAddressed (fields_of frame.now) × HasOtherFirst frame.now.payload.now) }
-    ensures truncated { IsErrOf result SupFault.Truncated ↔ (IsAddressed (fields_of frame.now) × EndsEarly frame.now.payload.now) }
+    ensures not_supervision { IsErrOf result SupFault.NotSupervision
+        ↔ (¬ IsAddressed (fields_of frame.now)) }
+    ensures version { IsErrOf result SupFault.Version
+        ↔ (IsAddressed (fields_of frame.now) × HasOtherVersion frame.now.payload.now) }
+    ensures first_tlv { IsErrOf result SupFault.FirstTlv
+        ↔ (IsAddressed (fields_of frame.now) × HasOtherFirst frame.now.payload.now) }
+    ensures truncated { IsErrOf result SupFault.Truncated
+        ↔ (IsAddressed (fields_of frame.now) × EndsEarly frame.now.payload.now) }
 {
     if !is_supervision(frame) {
         return Err(SupFault::NotSupervision);

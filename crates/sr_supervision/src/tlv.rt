@@ -50,7 +50,8 @@ fn redbox_of(tlv: &Tlv<'_>) -> Option<Mac>
 
 /// The TLV at the front and what stands behind it, or `None` at the end of the list.
 fn next_tlv(octets: &[u8]) -> Result<Option<(Tlv<'_>, &[u8])>, SupFault>
-    ensures tlv { IfOk result (λ next. IfSome next (λ r. (r.0.kind ≢ 0) × (octets.now ≡ r.0.kind ∷ length r.0.value.now ∷ r.0.value.now ++ r.1.now))) }
+    ensures tlv { IfOk result (λ next. IfSome next (λ r. (r.0.kind ≢ 0)
+        × (octets.now ≡ r.0.kind ∷ length r.0.value.now ∷ r.0.value.now ++ r.1.now))) }
     ensures end { IfOk result (λ next. IfNone next (IsTlvs octets.now None)) }
     ensures past { IfErr result (λ e. (e ≡ SupFault.Truncated) × RunsPast octets.now) }
 {
@@ -71,7 +72,8 @@ fn next_tlv(octets: &[u8]) -> Result<Option<(Tlv<'_>, &[u8])>, SupFault>
 
 /// The first RedBox in a list of TLVs.
 pub fn first_redbox(octets: &[u8]) -> Result<Option<Mac>, SupFault>
-    ensures { MatchResult result (λ redbox. IsTlvs octets.now redbox) (λ e. (e ≡ SupFault.Truncated) × RunsPast octets.now) }
+    ensures { MatchResult result (λ redbox. IsTlvs octets.now redbox) (λ e.
+        (e ≡ SupFault.Truncated) × RunsPast octets.now) }
 {
     let mut rest = octets;
     let mut redbox = None;

@@ -34,7 +34,8 @@ fn kind_of(life: Life) -> u8
 
 /// Appends destination, source and type.
 fn put_head(out: &mut Vec<u8>, src: Mac) -> Result<(), NoMemory>
-    ensures { OnOk result (out.new.items ≡ out.old.items ++ (supervision_address ++ src.0 ++ 0x88 ∷ 0xFB ∷ [])) }
+    ensures { OnOk result (out.new.items ≡ out.old.items
+        ++ (supervision_address ++ src.0 ++ 0x88 ∷ 0xFB ∷ [])) }
 {
     let head = FrameView {
         dst: SUPERVISION,
