@@ -1,6 +1,7 @@
 #!/usr/bin/env python3
-"""Looks for what no proof refuses: lines that are too wide, what is public without a comment, documents that name what is
-not there or show what is not compiled. Prints a line for each finding, and exits with 1 where there is one.
+"""Looks for what no proof refuses: lines that are too wide, what is public without a comment, limits without a name, one
+name for two things, want of memory that nobody met, documents that name what is not there or show what is not compiled.
+Prints a line for each finding, and exits with 1 where there is one.
 
 lint.py [ROOT]: of the repository at ROOT, this one where none is given."""
 import re
@@ -83,6 +84,133 @@ def crate_tables(root):
             yield readme, 1, f"is no README of `{name}`"
 
 
+# What 12, 15 and 16 bits hold: the wire's own numbers, no limits of this project.
+WIRE_NUMBERS = {4095, 4096, 32767, 32768, 65535, 65536}
+
+# Where a number stands that is a limit, and stays: it is the definition's own subject, or a case that is worked out.
+SPELLED = {
+    "crates/sr_frame/specs/Frame.antt": {1524},  # a frame's longest, which all else is counted from
+    "crates/sr_dup_window/specs/Bitmaps.antt": {1024, 2048},  # the widths of a record
+    "crates/sr_dup_runs/specs/TableRuns.antt": {65534, 65537},  # numbers that come round
+    "crates/sr_slots/specs/Calls.antt": {18446744073709551615},  # the greatest of 64 bits
+    "crates/sr_capture_script/specs/Flaws.antt": {1524},
+    "crates/sr_capture_script/specs/Texts.antt": {60000},
+    "crates/sr_script/specs/Lines.antt": {8000, 8001},
+    "crates/sr_script/specs/Runs.antt": {8000},
+    "crates/sr_script/specs/Turns.antt": {8000, 1000001},
+}
+
+
+def bare_limits(root):
+    """A limit of four digits or more stands in a definition by a name. It gets the name where it is a definition's whole
+    right side. Powers of ten are units, and lemmas and files of limits may have any number."""
+    named = re.compile(r"^\S+( \S+)? = [\d_]+$")
+    for path in sorted(root.glob("crates/*/specs/**/*.antt")):
+        if path.name == "Limits.antt" or path.name.endswith("Lemmas.antt"):
+            continue
+        stays = WIRE_NUMBERS | SPELLED.get(path.relative_to(root).as_posix(), set())
+        for number, line in numbered(path):
+            code = line.split("--")[0].rstrip()
+            if named.match(code):
+                continue
+            for found in re.findall(r"(?<![\w^])(?<!\^ )\d[\d_]{3,}(?![\w])", code):
+                value = int(found.replace("_", ""))
+                if value not in stays and not re.fullmatch("10+", str(value)):
+                    yield path, number, f"{value} has no name"
+
+
+def public_names(root):
+    """The public definitions of each crate's specs/: of each name the crates, with file and line. Fields of records and
+    what the compiler declares are none."""
+    top = re.compile(r"(?:abbrev |unfoldable |record |data |codata )?pub (?!mod )(?:record |data |codata )?([^\s:({]+)")
+    names = {}
+    for path in sorted(root.glob("crates/*/specs/**/*.antt")):
+        for number, line in numbered(path):
+            found = top.match(line)
+            if found:
+                names.setdefault(found[1], {}).setdefault(path.relative_to(root).parts[1], (path, number))
+    return names
+
+
+def shared_names(root):
+    """The names of lint/shared_names.txt, each with its crates. A line is a name, a colon and crates; # begins a comment."""
+    path = root / "lint/shared_names.txt"
+    lines = path.read_text().split("\n") if path.exists() else []
+    pairs = [line.split(":") for line in lines if ":" in line and not line.startswith("#")]
+    return {name.strip(): set(crates.split()) for name, crates in pairs}
+
+
+def names_twice(root):
+    """One public name of specs/ is one crate's, but for those that lint/shared_names.txt lists; it lists no other."""
+    shared = shared_names(root)
+    names = public_names(root)
+    for name, places in sorted(names.items()):
+        crates = set(places)
+        if len(crates) > 1 and not crates <= shared.get(name, set()):
+            path, number = places[max(crates - shared.get(name, set()))]
+            yield path, number, f"`{name}` is public in {' and '.join(sorted(crates))}"
+    for name, crates in sorted(shared.items()):
+        for crate in sorted(crates - set(names.get(name, {}))):
+            yield root / "lint/shared_names.txt", 1, f"`{name}` is not public in {crate}"
+
+
+# Where want of memory is made: in sr_frame; and the fault of a script whose first list was refused, and of one whose node
+# has no other name for what it answers.
+MADE = {
+    "crates/sr_frame/src/fault.rt",
+    "crates/sr_script/src/starting.rt",
+    "crates/sr_script/src/answering.rt",
+}
+
+
+def clause_lines(lines):
+    """The numbers, from 0, of the lines of clauses and of other ghost items in braces."""
+    begins = re.compile(r"\s*(pub(\(crate\))? )?(ensures|requires|ghost (?!use\b)\w+)\b")
+    inside, depth = False, 0
+    for number, line in enumerate(lines):
+        if not inside and begins.match(line) and "{" in line:
+            inside, depth = True, 0
+        if inside:
+            yield number
+            depth += line.count("{") - line.count("}")
+            inside = depth > 0
+
+
+def makes_lack(code):
+    """Whether a line of code has want of memory as a value: not as a type, a variant, or a pattern."""
+    if re.match(r"\s*(use|pub use|ghost use|impl|pub struct|pub enum)\b|\s*NoMemory,$", code):
+        return False
+    for found in re.finditer(r"(?:\w+::)*(?:NoMemory|AllocError)\b|(?:\w+::)+Memory\b", code):
+        before, behind = code[: found.start()], code[found.end() :]
+        is_type = re.search(r"(<|, |-> |&)$", before) and re.match(r"[>,;]|$| \{", behind)
+        is_typed = before.endswith(": ") and "::" not in found[0]
+        is_pattern = re.match(r"\)*( =>| \||\(_\))", behind)
+        if not (is_type or is_typed or is_pattern or behind.startswith("::")):
+            return True
+    return False
+
+
+def made_lacks(root):
+    """Want of memory is passed on: it is built where a call failed (an arm of `Err`, the else of `let Ok`, a closure over an
+    error), where a pattern names it, or in a `From`, and nowhere else."""
+    failed = re.compile(r"(?:\bErr\(.*\)|NoMemory\)?|Memory\)?) =>|\|_\w*\|")
+    for path in sorted(root.glob("crates/*/src/**/*.rt")):
+        name = path.relative_to(root)
+        if name.as_posix() in MADE or name.parts[1].endswith("_tests") or name.name == "tests.rt":
+            continue
+        lines = path.read_text().split("\n")
+        ghost = set(clause_lines(lines))
+        inside_from = False
+        for number, line in enumerate(lines):
+            code = line.split("//")[0].rstrip()
+            if re.match(r"(impl|fn|pub|const)\b", code):
+                inside_from = "From<" in code
+            above = lines[number - 1] if number else ""
+            passes = inside_from or failed.search(code) or re.search(r"let Ok\(.*\) = .*else \{", above)
+            if number not in ghost and not passes and makes_lack(code):
+                yield path, number + 1, "makes want of memory, and passes on none"
+
+
 def stripped(text):
     return "\n".join(line.strip() for line in text.strip().split("\n"))
 
@@ -97,7 +225,16 @@ def untested_examples(root):
                 yield path, text.count("\n", 0, shown.start()) + 1, "shows Rust that no crate of tests has"
 
 
-RULES = [wide_definitions, silent_items, missing_files, crate_tables, untested_examples]
+RULES = [
+    wide_definitions,
+    silent_items,
+    bare_limits,
+    names_twice,
+    made_lacks,
+    missing_files,
+    crate_tables,
+    untested_examples,
+]
 
 
 def findings(root):

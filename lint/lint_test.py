@@ -42,6 +42,60 @@ class Lint(unittest.TestCase):
             number = 1 + len(item.split("\n"))
             self.assertEqual(found, [f"crates/sr_one/src/lib.rt:{number}: `one` has no doc comment"])
 
+    def test_bare_limits(self):
+        for line in ["IsShort n = n < 8000", "most n = min n 60_000", "a = b n 1524 -- 1518", "all = 1524 ∷ []"]:
+            found = self.findings({"crates/sr_one/specs/Ones.antt": "one = 1\n" + line + "\n"})
+            self.assertEqual(len(found), 1, line)
+            self.assertRegex(found[0], r"^crates/sr_one/specs/Ones.antt:2: \d+ has no name$")
+        for line in ["longest = 1524", "size_of Wide = 2048", "-- 1524", "n < 2 ^ 1024", "n % 65536", "t / 1000000", "n < 784"]:
+            self.assertEqual(self.findings({"crates/sr_one/specs/Ones.antt": line + "\n"}), [], line)
+        for name in ["Limits", "OneLemmas"]:
+            self.assertEqual(self.findings({f"crates/sr_one/specs/{name}.antt": "IsShort n = n < 8000\n"}), [])
+
+    def test_names_twice(self):
+        other = "crates/sr_one_tests/specs/Ones.antt"
+        for line in ["abbrev pub two : ℕ", "unfoldable pub two : ℕ", "pub record two : Type 0 where", "pub data two : Type 0 where"]:
+            twice = {"crates/sr_one/specs/Ones.antt": line + "\n", other: "-- two\nabbrev pub two : ℕ\n"}
+            self.assertEqual(self.findings(twice), [f"{other}:2: `two` is public in sr_one and sr_one_tests"])
+            listed = {**twice, "lint/shared_names.txt": "# Both.\ntwo: sr_one sr_one_tests\n"}
+            self.assertEqual(self.findings(listed), [])
+        for line in ["two : ℕ", "  pub two : ℕ", "pub mod two", "-- abbrev pub two : ℕ"]:
+            once = {"crates/sr_one/specs/Ones.antt": "abbrev pub two : ℕ\n", other: line + "\n"}
+            self.assertEqual(self.findings(once), [], line)
+        self.assertEqual(
+            self.findings({"lint/shared_names.txt": "two: sr_one\n"}),
+            ["lint/shared_names.txt:1: `two` is not public in sr_one"],
+        )
+
+    def test_made_lacks(self):
+        source = "crates/sr_one/src/lib.rt"
+        for line in [
+            "return Err(NoMemory);",
+            "None => Err(Word::Memory),",
+            "Err(AllocError)",
+            "name.ok_or(Fault::NoMemory)",
+            "word: Word::Memory,",
+            "Fault::NoMemory",
+        ]:
+            found = self.findings({source: "fn one() {\n    " + line + "\n}\n"})
+            self.assertEqual(found, [f"{source}:2: makes want of memory, and passes on none"], line)
+        for lines in [
+            "Err(_) => Err(Word::Memory),",
+            "Err(ReadFault::NoMemory) => Err(NoMemory),",
+            "Fault::NoMemory => None,",
+            "Fault::Full | Fault::NoMemory => true,",
+            "let Ok(one) = two() else {\n    return Err(NoMemory);\n};",
+            "two().map_err(|_| Word::Memory)",
+            "NoMemory::from(two)",
+            "fn one() -> Result<(), NoMemory> {",
+            "fn one(lack: NoMemory) {}",
+            "use sr_frame::{Mac, NoMemory};",
+            "ensures err { IfErr result (λ word. word ≡ Word.Memory) }",
+            "ensures err { IfErr result (λ word.\n    word ≡ Word::Memory) }",
+            "impl From<Lack> for Word {\n    fn from(_lack: Lack) -> Word {\n        Word::Memory\n    }\n}",
+        ]:
+            self.assertEqual(self.findings({source: lines + "\n"}), [], lines)
+
     def test_missing_files(self):
         text = IN_ORDER["README.md"]
         for name in ["`two.rt`", "`crates/sr_one/src/two.rt`", "[the map](docs/MAP.md)"]:
