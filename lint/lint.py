@@ -87,7 +87,8 @@ def crate_tables(root):
 # What 12, 15 and 16 bits hold: the wire's own numbers, no limits of this project.
 WIRE_NUMBERS = {4095, 4096, 32767, 32768, 65535, 65536}
 
-# Where a number stands that is a limit, and stays: it is the definition's own subject, or a case that is worked out.
+# Where a number stands that is a limit, and stays: it is the definition's own subject, or a case that is worked out; the last
+# five have no name yet.
 SPELLED = {
     "crates/sr_frame/specs/Frame.antt": {1524},  # a frame's longest, which all else is counted from
     "crates/sr_dup_window/specs/Bitmaps.antt": {1024, 2048},  # the widths of a record
@@ -154,13 +155,9 @@ def names_twice(root):
             yield root / "lint/shared_names.txt", 1, f"`{name}` is not public in {crate}"
 
 
-# Where want of memory is made: in sr_frame; and the fault of a script whose first list was refused, and of one whose node
-# has no other name for what it answers.
-MADE = {
-    "crates/sr_frame/src/fault.rt",
-    "crates/sr_script/src/starting.rt",
-    "crates/sr_script/src/answering.rt",
-}
+# Where want of memory is made all the same: the fault of a script of which no line was read yet, and that of a line whose
+# refusal has no name.
+MADE = {"crates/sr_script/src/starting.rt", "crates/sr_script/src/answering.rt"}
 
 
 def clause_lines(lines):
@@ -225,6 +222,24 @@ def untested_examples(root):
                 yield path, text.count("\n", 0, shown.start()) + 1, "shows Rust that no crate of tests has"
 
 
+def untested_lines(root):
+    """A line that README shows indented, spaces apart and shortened by `..`, stands in a file of examples/ or in `check`,
+    which compares it with what the program prints; commands and what stands between fences are left out."""
+    squashed = lambda text: "".join(text.split())
+    files = [path for path in sorted(root.glob("examples/*")) if path.suffix in (".script", ".expected", ".status")]
+    lines = [squashed(line) for path in files for line in path.read_text().split("\n")]
+    if (root / "check").exists():
+        lines += [squashed(line.replace("echo ", "", 1)) for _, line in numbered(root / "check")]
+    fenced = False
+    for number, line in numbered(root / "README.md"):
+        fenced = fenced != line.startswith("```")
+        if fenced or not line.startswith("    ") or line.lstrip().startswith("./"):
+            continue
+        shown = re.compile(".*".join(re.escape(squashed(part)) for part in line.split("..")) + "$")
+        if not any(shown.match(there) for there in lines):
+            yield root / "README.md", number, "shows a line that no example has"
+
+
 RULES = [
     wide_definitions,
     silent_items,
@@ -234,6 +249,7 @@ RULES = [
     missing_files,
     crate_tables,
     untested_examples,
+    untested_lines,
 ]
 
 

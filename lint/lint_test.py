@@ -133,6 +133,14 @@ class Lint(unittest.TestCase):
             self.findings({**shown, test: "    let two = 1;\n"}), ["README.md:2: shows Rust that no crate of tests has"]
         )
 
+    def test_untested_lines(self):
+        shown = "See [the map](docs/ARCHITECTURE.md).\n\n```\n    a drawing\n```\n\n    ./seamless replay\n    H 0200 53..fb\n"
+        files = {"examples/one.script": "in A 0 0200\n", "examples/one.expected": "H 02005300fb\nH 02\n"}
+        self.assertEqual(self.findings({"README.md": shown, **files}), [])
+        self.assertEqual(self.findings({"README.md": shown, "check": "    echo H 0200530fb\n"}), [])
+        for changes in [{}, {"examples/one.expected": "H 02005300fa\n"}, {"examples/one.md": "H 02005300fb\n"}]:
+            self.assertEqual(self.findings({"README.md": shown, **changes}), ["README.md:8: shows a line that no example has"])
+
     def test_each_rule_has_a_test(self):
         for rule in lint.RULES:
             self.assertTrue(hasattr(self, f"test_{rule.__name__}"), rule.__name__)
