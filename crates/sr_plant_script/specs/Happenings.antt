@@ -38,7 +38,7 @@ pub record IsTold (s : Plant) (number : ℕ) (f : PlantFault) (text : List ℕ) 
   pub same : t ≡ s
 
 -- the plant refuses the event
-abbrev pub IsRefused : Plant → ℕ → PlantEvent → List ℕ → Plant → Type 0
+abbrev IsRefused : Plant → ℕ → PlantEvent → List ℕ → Plant → Type 0
 IsRefused s number e text t = (f : PlantFault) × PlantRefuses s e f × IsTold s number f text t
 
 -- the event of the line with this number is taken or refused

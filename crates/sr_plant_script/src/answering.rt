@@ -42,15 +42,14 @@ fn send(
 ) -> Result<(), Word>
     requires { text.old.items ≡ [] }
     ensures ok { OnOk result (Sends network.old number node receiver octets.old.items
-        (send_refusal (length network.old.nodes) node receiver (length octets.old.items)) text.new.items network.new) }
+        (send_refusal (length network.old.nodes) node receiver (length octets.old.items))
+        text.new.items network.new) }
     ensures err { IfErr result (λ word. word ≡ Word.Memory) }
 {
     if let Some(fault) = send_refusal(network.node_count(), node, receiver, octets) {
         return tell_refusal(text, number, fault);
     }
-    let Ok(frame) = sent_frame(alloc, node, receiver, octets) else {
-        return Err(Word::Memory);
-    };
+    let frame = sent_frame(alloc, node, receiver, octets)?;
     happen(
         network,
         number,
@@ -70,7 +69,8 @@ fn obey(
     text: &mut Vec<u8>,
 ) -> Result<(), Word>
     requires { text.old.items ≡ [] }
-    ensures ok { OnOk result (Obeys network.old number command octets.old.items text.new.items network.new) }
+    ensures ok { OnOk result
+        (Obeys network.old number command octets.old.items text.new.items network.new) }
     ensures err { IfErr result (λ word. word ≡ Word.Memory) }
 {
     match command {

@@ -15,7 +15,8 @@ const MAX_CARRIES: usize = 100_000;
 
 /// What was handed up is printed and let go.
 fn take_up(network: &mut Network, frame: &mut Vec<u8>, text: &mut Vec<u8>) -> Result<(), Word>
-    ensures told { OnOk result (text.new.items ≡ text.old.items ++ all_up_lines 0 network.old.handed) }
+    ensures told { OnOk result (text.new.items
+        ≡ text.old.items ++ all_up_lines 0 network.old.handed) }
     ensures left { OnOk result (network.new ≡ taken_up network.old) }
     ensures err { IfErr result (λ word. word ≡ Word.Memory) }
 {
@@ -33,7 +34,8 @@ pub(crate) fn happen(
     frame: &mut Vec<u8>,
     text: &mut Vec<u8>,
 ) -> Result<(), Word>
-    ensures ok { OnOk result ((told : List ℕ) × Happens network.old number event.now told network.new
+    ensures ok { OnOk result ((told : List ℕ)
+        × Happens network.old number event.now told network.new
         × (text.new.items ≡ text.old.items ++ told)) }
     ensures err { IfErr result (λ word. word ≡ Word.Memory) }
 {

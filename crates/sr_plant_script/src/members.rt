@@ -23,7 +23,8 @@ impl Routing for MemberRouting {
 
     ghost routed = { λ r. kind_of r.topology };
 
-    ghost alone = { λ r. elim r.topology as (λ t. StandsAlone (kind_of t)) [ Ring ↦ tt | TwinLan ↦ tt ] };
+    ghost alone = { λ r.
+        elim r.topology as (λ t. StandsAlone (kind_of t)) [ Ring ↦ tt | TwinLan ↦ tt ] };
 
     fn kind(&self) -> RoleKind {
         match self.topology {

@@ -35,11 +35,13 @@ impl Model for Network {
     ghost Value = { Plant };
 
     ghost view = { λ n. plant_of n.plant.topology
-        (map (λ m. node_state (role_of (kind_of m.role.routing.topology) m.role.mac) m.core) n.plant.nodes.items)
+        (map (λ m. node_state (role_of (kind_of m.role.routing.topology) m.role.mac) m.core)
+        n.plant.nodes.items)
         n.plant.traffic (map (λ h. h.items) n.plant.handed.items) };
 
     ghost invariant = { λ n. IsInOrder (plant_of n.plant.topology
-        (map (λ m. node_state (role_of (kind_of m.role.routing.topology) m.role.mac) m.core) n.plant.nodes.items)
+        (map (λ m. node_state (role_of (kind_of m.role.routing.topology) m.role.mac) m.core)
+        n.plant.nodes.items)
         n.plant.traffic (map (λ h. h.items) n.plant.handed.items)) };
 }
 
@@ -50,7 +52,8 @@ fn new_nodes(
     count: usize,
 ) -> Result<Vec<NodeOf<Member>>, NoMemory>
     requires { count ≤ most_nodes }
-    ensures { IfOk result (λ ns. map (λ m. node_state (role_of (kind_of m.role.routing.topology) m.role.mac) m.core) ns.items
+    ensures { IfOk result (λ ns.
+        map (λ m. node_state (role_of (kind_of m.role.routing.topology) m.role.mac) m.core) ns.items
         ≡ new_nodes topology count) }
 {
     let mut nodes = Vec::with_capacity(alloc, count)?;
@@ -70,26 +73,15 @@ fn empty_all(lists: &mut Vec<Vec<Parcel>>)
     }
 }
 
-// Why a plant is not made of nodes that make one: memory was refused.
-fn lack_of(fault: PlantFault) -> NoMemory
-    requires { fault ≡ PlantFault.NoMemory }
-{
-    match fault {
-        PlantFault::NoMemory => NoMemory,
-        _ => unreachable!(),
-    }
-}
-
 impl Network {
     /// A new one. NoMemory: a growth was refused.
-    pub(crate) fn new(alloc: Global, setup: &PlantSetup) -> Result<Network, NoMemory>
-        ensures { IfOk result (λ n. n ≡ start_of setup.now) }
+    pub(crate) fn new(alloc: Global, setup: &PlantSetup) -> Result<Network, PlantFault>
+        ensures made { IfOk result (λ n. n ≡ start_of setup.now) }
+        ensures lack { IfErr result (λ fault. fault ≡ PlantFault.NoMemory) }
     {
         let nodes = new_nodes(alloc, setup.topology, setup.nodes)?;
-        match PlantOf::new(alloc, setup.topology, nodes) {
-            Ok(plant) => Ok(Network { plant }),
-            Err(fault) => Err(lack_of(fault)),
-        }
+        let plant = PlantOf::new(alloc, setup.topology, nodes)?;
+        Ok(Network { plant })
     }
 
     /// How many nodes it has.

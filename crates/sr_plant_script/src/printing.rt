@@ -1,23 +1,32 @@
 //! What is printed of a plant.
 
 ghost use Rattle.std.specs.Prelude.{◌≡◌, ◌++◌, ◌≤◌, ℕ, List, length, map, OnOk, IfErr};
+ghost use Rattle.std.specs.Fmt.{decimal};
 ghost use Rattle.sr_forwarding.specs.Parcels.{plain_of};
 ghost use Rattle.sr_plant_script.specs.Texts.{up_line, up_lines, all_up_lines, flow_line, flight_line};
 
+use itoa::Buffer;
 use sr_forwarding::Parcel;
 use sr_hex::append_hex;
 use sr_script::{Word, write_plain};
 use std::alloc::AllocError;
-use std::io::Write;
+
+/// Appends the digits of a number.
+fn append_number(text: &mut Vec<u8>, number: usize) -> Result<(), AllocError>
+    ensures { OnOk result (text.new.items ≡ text.old.items ++ decimal number) }
+{
+    let mut digits = Buffer::new();
+    text.extend_from_slice(digits.format(number).as_bytes())
+}
 
 /// Appends the line for a frame that a node hands up.
 fn append_up(text: &mut Vec<u8>, node: usize, frame: &[u8]) -> Result<(), AllocError>
     requires { length frame.now ≤ 1524 }
     ensures { OnOk result (text.new.items ≡ text.old.items ++ up_line node frame.now) }
 {
-    if write!(text, "up {node} ").is_err() {
-        return Err(AllocError);
-    }
+    text.extend_from_slice(b"up ")?;
+    append_number(text, node)?;
+    text.push(b' ')?;
     append_hex(text, frame)?;
     text.push(b'\n')?;
     Ok(())
@@ -30,7 +39,8 @@ fn append_parcel(
     parcel: &Parcel,
     frame: &mut Vec<u8>,
 ) -> Result<(), Word>
-    ensures ok { OnOk result (text.new.items ≡ text.old.items ++ up_line node (plain_of parcel.now)) }
+    ensures ok { OnOk result (text.new.items ≡ text.old.items
+        ++ up_line node (plain_of parcel.now)) }
     ensures err { IfErr result (λ word. word ≡ Word.Memory) }
 {
     frame.clear();
@@ -61,7 +71,8 @@ pub(crate) fn append_all_ups(
     handed: &[Vec<Parcel>],
     frame: &mut Vec<u8>,
 ) -> Result<(), Word>
-    ensures ok { OnOk result (text.new.items ≡ text.old.items ++ all_up_lines 0 (map (λ l. l.items) handed.now)) }
+    ensures ok { OnOk result (text.new.items ≡ text.old.items
+        ++ all_up_lines 0 (map (λ l. l.items) handed.now)) }
     ensures err { IfErr result (λ word. word ≡ Word.Memory) }
 {
     for node in 0..handed.len() {
@@ -75,10 +86,10 @@ pub(crate) fn append_flow(text: &mut Vec<u8>, carries: usize) -> Result<(), Word
     ensures ok { OnOk result (text.new.items ≡ text.old.items ++ flow_line carries) }
     ensures err { IfErr result (λ word. word ≡ Word.Memory) }
 {
-    match writeln!(text, "flow {carries}") {
-        Ok(()) => Ok(()),
-        Err(_) => Err(Word::Memory),
-    }
+    text.extend_from_slice(b"flow ")?;
+    append_number(text, carries)?;
+    text.extend_from_slice(b"\n")?;
+    Ok(())
 }
 
 /// Appends the line at the end: so many copies are in flight.
@@ -86,8 +97,8 @@ pub(crate) fn append_flight(text: &mut Vec<u8>, copies: usize) -> Result<(), Wor
     ensures ok { OnOk result (text.new.items ≡ text.old.items ++ flight_line copies) }
     ensures err { IfErr result (λ word. word ≡ Word.Memory) }
 {
-    match writeln!(text, "flight {copies}") {
-        Ok(()) => Ok(()),
-        Err(_) => Err(Word::Memory),
-    }
+    text.extend_from_slice(b"flight ")?;
+    append_number(text, copies)?;
+    text.extend_from_slice(b"\n")?;
+    Ok(())
 }

@@ -58,7 +58,8 @@ fn receiver_of(word: &[u8]) -> Option<Receiver>
 /// What a line says is to be done, and at which place or to which link.
 fn placed(line: &[u8]) -> Option<(Verb, usize)>
     ensures found { IfSome result (λ parts. IsPlaced line.now parts.0 parts.1) }
-    ensures only { (verb : Verb) (place : ℕ) → IsPlaced line.now verb place → result ≡ Some (verb, place) }
+    ensures only { (verb : Verb) (place : ℕ) → IsPlaced line.now verb place
+        → result ≡ Some (verb, place) }
 {
     let (word, number) = split_word(line)?;
     let verb = verb_of(word)?;
@@ -69,7 +70,8 @@ fn placed(line: &[u8]) -> Option<(Verb, usize)>
 /// The numbers that two words spell.
 fn two_numbers(text: &[u8]) -> Option<(usize, u64)>
     ensures found { IfSome result (λ parts. AreNumbers text.now parts.0 parts.1) }
-    ensures only { (first second : ℕ) → AreNumbers text.now first second → result ≡ Some (first, second) }
+    ensures only { (first second : ℕ) → AreNumbers text.now first second
+        → result ≡ Some (first, second) }
 {
     let Some((first, second)) = split_word(text) else {
         return None;
@@ -112,9 +114,12 @@ fn bare_command(line: &[u8]) -> Option<Command>
 /// Reads what stands behind the word `send`: the sender, the receiver and the octets.
 fn sending(text: &[u8], octets: &mut Vec<u8>) -> Result<(usize, Receiver), Word>
     ensures found { IfOk result (λ parts. IsSending text.now parts.0 parts.1 octets.new.items) }
-    ensures only { (node : ℕ) (receiver : Receiver) (os : List ℕ) → IsSending text.now node receiver os
-        → MatchResult result (λ parts. (parts ≡ (node, receiver)) × (octets.new.items ≡ os)) (λ word. word ≡ Word.Memory) }
-    ensures memory { result ≡ Err Word.Memory → (node : ℕ) × (receiver : Receiver) × (os : List ℕ) × IsSending text.now node receiver os }
+    ensures only { (node : ℕ) (receiver : Receiver) (os : List ℕ)
+        → IsSending text.now node receiver os
+        → MatchResult result (λ parts. (parts ≡ (node, receiver))
+        × (octets.new.items ≡ os)) (λ word. word ≡ Word.Memory) }
+    ensures memory { result ≡ Err Word.Memory
+        → (node : ℕ) × (receiver : Receiver) × (os : List ℕ) × IsSending text.now node receiver os }
     ensures fault { IfErr result (λ word. IsOneOf word (Word.Line ∷ Word.Memory ∷ [])) }
 {
     let Some((node, rest)) = split_word(text) else {
@@ -142,7 +147,8 @@ fn sending(text: &[u8], octets: &mut Vec<u8>) -> Result<(usize, Receiver), Word>
 pub(crate) fn command_of(line: &[u8], octets: &mut Vec<u8>) -> Result<Command, Word>
     ensures found { IfOk result (λ command. Says line.now command octets.new.items) }
     ensures only { (command : Command) (os : List ℕ) → Says line.now command os
-        → MatchResult result (λ found. (found ≡ command) × (octets.new.items ≡ os)) (λ word. word ≡ Word.Memory) }
+        → MatchResult result (λ found. (found ≡ command) × (octets.new.items ≡ os)) (λ word.
+        word ≡ Word.Memory) }
     ensures memory { result ≡ Err Word.Memory → IsPlantLine line.now }
     ensures fault { IfErr result (λ word. IsOneOf word (Word.Line ∷ Word.Memory ∷ [])) }
 {

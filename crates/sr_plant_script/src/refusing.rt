@@ -8,6 +8,20 @@ ghost use Rattle.sr_plant_script.specs.Texts.{fault_name};
 use sr_plant::PlantFault;
 use sr_script::{Word, append_refusal, name_of};
 
+// A refusal that has no name: the plant or a node wanted memory.
+#[derive(Clone, Copy)]
+struct Nameless;
+
+impl From<Nameless> for Word {
+    ghost use Rattle.sr_script.specs.declared.fault.Word.TheVariants.{Memory};
+
+    ghost from_gives = { λ _ word. word ≡ Memory };
+
+    fn from(_refusal: Nameless) -> Word {
+        Word::Memory
+    }
+}
+
 // What a refusal is called. None for want of memory.
 fn fault_name(fault: PlantFault) -> Option<&'static str>
     ensures { option_copied result ≡ fault_name fault }
@@ -28,8 +42,5 @@ pub(crate) fn tell_refusal(text: &mut Vec<u8>, number: u64, fault: PlantFault) -
         × (text.new.items ≡ text.old.items ++ refusal_line number name)) }
     ensures err { IfErr result (λ word. word ≡ Word.Memory) }
 {
-    match fault_name(fault) {
-        Some(name) => append_refusal(text, number, name),
-        None => Err(Word::Memory),
-    }
+    append_refusal(text, number, fault_name(fault).ok_or(Nameless)?)
 }

@@ -72,8 +72,10 @@ pub fn run_plant<R: BufRead, W: Write>(
 
     // Memory was refused before anything was read. Or the lines before that of the fault are answered, and that line has this fault.
     ensures ended { IfErr result (λ fault.
-        IsNotBegun fault (R.remaining reader.old) (R.remaining reader.new) (W.contents writer.old) (W.contents writer.new)
-        ⊎ IfSome (R.remaining reader.old) (λ input. EndsAt plant_dialogue (start_of setup.now) (lines_of input) fault
+        IsNotBegun fault (R.remaining reader.old) (R.remaining reader.new) (W.contents writer.old)
+        (W.contents writer.new)
+        ⊎ IfSome (R.remaining reader.old) (λ input.
+        EndsAt plant_dialogue (start_of setup.now) (lines_of input) fault
         (R.remaining reader.new) (W.contents writer.old) (W.contents writer.new))) }
 {
     let Ok(mut line) = line_list(alloc) else {

@@ -7,10 +7,10 @@ ghost use Rattle.sr_plant_script.specs.Sendings.{is_there, send_refusal, receive
 use crate::command::Receiver;
 use crate::members::mac_of;
 use sr_forwarding::{MAX_PLAIN_LEN, ReadFault};
-use sr_frame::{Frame, HEADER_LEN, Mac, NoMemory};
+use sr_frame::{Frame, HEADER_LEN, Mac};
 use sr_node::StepFault;
 use sr_plant::PlantFault;
-use std::alloc::Global;
+use std::alloc::{AllocError, Global};
 
 /// The type of the frames: the first that IEEE 802 leaves to local experiments.
 const SENT_KIND: u16 = 0x88b5;
@@ -57,13 +57,13 @@ fn address_of(receiver: Receiver) -> Mac
     }
 }
 
-/// The frame with this payload that the host of a node sends. NoMemory: its growth was refused.
+/// The frame with this payload that the host of a node sends. An error where its growth was refused.
 pub(crate) fn sent_frame(
     alloc: Global,
     node: usize,
     receiver: Receiver,
     payload: &[u8],
-) -> Result<Frame, NoMemory>
+) -> Result<Frame, AllocError>
     requires sender { node < most_nodes }
     requires receiver { is_there most_nodes receiver ≡ true }
     requires short { length payload.now ≤ most_payload }
