@@ -22,6 +22,7 @@ use Rattle.std.specs.Prelude.{
   false,
   IfSome,
 }
+use Rattle.sr_capture.specs.Limits.{longest_kept}
 use Rattle.sr_capture.specs.declared.header.TimeUnit.{TimeUnit}
 use Rattle.sr_capture.specs.declared.header.TimeUnit.TheVariants.{Micro, Nano}
 use Rattle.sr_capture.specs.declared.fault.CaptureFault.{CaptureFault}
@@ -89,7 +90,7 @@ pub record Shows (shown : Packet) (packet : Captured) : Type 0 where
   pub time : shown.time ≡ packet.time
   pub extent : shown.extent ≡ packet.extent
   pub len : shown.len ≡ length packet.octets
-  pub octets : length packet.octets ≤ 1524 → shown.octets.items ≡ packet.octets
+  pub octets : length packet.octets ≤ longest_kept → shown.octets.items ≡ packet.octets
 
 -- the known octets were a record of the packet that is shown
 abbrev pub LosesRecord : Form → Packet → Option (List ℕ) → Option (List ℕ) → Type 0
@@ -108,7 +109,7 @@ TakesPacket false form shown old new = WasAtEnd old new
 -- the body of a packet was taken, of which so many octets are wanted; or the input ended before
 abbrev pub TakesBody : Bool → ℕ → ℕ → List ℕ → Option (List ℕ) → Option (List ℕ) → Type 0
 TakesBody true held wanted kept old new = (body : List ℕ) × Loses body old new × (length body ≡ held)
-    × (wanted ≤ 1524 → kept ≡ take wanted body)
+    × (wanted ≤ longest_kept → kept ≡ take wanted body)
 TakesBody false held wanted kept old new = (body : List ℕ) × Loses body old new × (length body < held) × LeavesNone old new
 
 -- the octets are the records of these packets, one behind the other
