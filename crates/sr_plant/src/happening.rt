@@ -4,7 +4,7 @@ ghost use Rattle.std.specs.Prelude.{◌≡◌, IfErr, OnOk, OnErr, None, Some, l
 ghost use Rattle.sr_plant.specs.Images.{plant_state};
 ghost use Rattle.sr_plant.specs.declared.fault.PlantFault.TheVariants.{NoSuchNode, NoSuchCopy};
 ghost use Rattle.sr_plant.specs.Plants.{IsInOrder};
-ghost use Rattle.sr_plant.specs.Steps.{PlantStep, PlantRefuses, plant_refusal, lacks};
+ghost use Rattle.sr_plant.specs.Steps.{PlantStep, PlantRefuses, plant_refusal, lacks, clock_fault};
 
 use crate::{PlantEvent, PlantFault, PlantOf};
 use sr_forwarding::Role;
@@ -17,6 +17,18 @@ pub(crate) fn has(place: usize, count: usize, fault: PlantFault) -> Result<(), P
     ensures err { IfErr result (λ f. lacks place count fault ≡ Some f) }
 {
     if place < count { Ok(()) } else { Err(fault) }
+}
+
+// Whether a time is not before the plant's, or else why it is refused.
+fn follows(now: u64, clock: u64) -> Result<(), PlantFault>
+    ensures ok { OnOk result (clock_fault now clock ≡ None) }
+    ensures err { IfErr result (λ f. clock_fault now clock ≡ Some f) }
+{
+    if now < clock {
+        Err(PlantFault::ClockBack)
+    } else {
+        Ok(())
+    }
 }
 
 impl<R: Role> PlantOf<R> {
@@ -56,9 +68,7 @@ impl<R: Role> PlantOf<R> {
         ensures in_order { IsInOrder (plant_state R.meaning self.new) }
     {
         has(node, self.nodes.len(), PlantFault::NoSuchNode)?;
-        if now < self.traffic.clock() {
-            return Err(PlantFault::ClockBack);
-        }
+        follows(now, self.traffic.clock())?;
         self.act(node, &Event::Tick { now }, now)
     }
 
