@@ -22,7 +22,7 @@ pub enum Seen {
     /// A parcel in this form with this number, path and mark of a wrong LAN.
     Parcel(Form, Option<u16>, u8, bool),
     Refused(ReadFault),
-    /// A parcel whose plain form is another one.
+    /// A parcel whose plain form, copy, or octets for a host are other ones.
     OtherPlain,
 }
 
@@ -31,6 +31,24 @@ fn number_of(seq: Option<Seq>) -> Option<u16> {
         Some(Seq(number)) => Some(number),
         None => None,
     }
+}
+
+// Whether a parcel has an equal copy.
+fn is_cloned(alloc: Global, parcel: &Parcel) -> Result<bool, ReadFault> {
+    let own = parcel.try_clone(alloc)?;
+    Ok(own == *parcel)
+}
+
+// Whether the plain form of a parcel is copied whole.
+fn is_copied_plain(alloc: Global, parcel: &Parcel, plain: &[u8]) -> Result<bool, ReadFault> {
+    let own = parcel.view().to_plain_parcel(alloc)?;
+    Ok(own.octets() == plain)
+}
+
+// Whether it goes up to a host whole, with any padding behind it.
+fn goes_up(alloc: Global, parcel: &Parcel, plain: &[u8]) -> Result<bool, ReadFault> {
+    let sent = PlainFraming.encode(alloc, parcel)?;
+    Ok(sent.octets().starts_with(plain))
 }
 
 /// What a framing reads, and whether the plain form is this one.
@@ -44,6 +62,12 @@ fn read_by(
     let mut own = Vec::new(alloc);
     append(&mut own, &parcel.plain())?;
     if own.as_slice() != plain {
+        return Ok(Seen::OtherPlain);
+    }
+    if !(is_cloned(alloc, &parcel)?
+        && is_copied_plain(alloc, &parcel, plain)?
+        && goes_up(alloc, &parcel, plain)?)
+    {
         return Ok(Seen::OtherPlain);
     }
     Ok(Seen::Parcel(

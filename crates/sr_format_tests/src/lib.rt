@@ -7,6 +7,8 @@ mod calls;
 #[cfg(test)]
 mod captured;
 #[cfg(test)]
+mod faults;
+#[cfg(test)]
 mod frames;
 #[cfg(test)]
 mod framings;

@@ -1,6 +1,6 @@
 //! The edges of reading at each port.
 
-use crate::framings::{At, Seen, read_at};
+use crate::framings::{At, Seen, all_three, read_at};
 use crate::texts::Part::{self, These, Zeros};
 use crate::texts::{Text, joined};
 use sr_forwarding::{Form, Framing, HsrFraming, PrpFraming, ReadFault};
@@ -160,6 +160,17 @@ fn first_reading(alloc: Global) -> Option<usize> {
 #[test]
 fn edges_of_reading(rt: HostRuntime) {
     assert_eq!(rt; first_reading(rt.alloc()), None);
+}
+
+// The longest plain frame, with a tag, with a trailer, and as it is. None for want of memory.
+fn longest_is_written(alloc: Global) -> Option<bool> {
+    let plain = joined(alloc, &[&[TO_ONE, These(b"\x08\x00"), Zeros(1504)]])?;
+    all_three(alloc, &plain).ok()
+}
+
+#[test]
+fn the_longest_frame_is_written(rt: HostRuntime) {
+    assert_eq!(rt; longest_is_written(rt.alloc()), Some(true));
 }
 
 /// What the first octets of a frame are read as.

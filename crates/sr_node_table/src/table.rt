@@ -403,6 +403,7 @@ impl NodeTable {
         ensures answer { IfOk result (λ learnt. learnt ≡ answer_to self.old.table (hearing_of mac port told now)) }
         ensures after { OnOk result (self.new.table ≡ after_hearing self.old.table (hearing_of mac port told now)) }
         ensures full { answer_to self.old.table (hearing_of mac port told now) ≡ Learnt.Full → result ≡ Ok Learnt.Full }
+        ensures nothing { result ≡ Ok Learnt.Full → self.new ≡ self.old }
         ensures reserved { is_held self.old mac ≡ true → IsOk result }
         ensures held { OnOk result (KeepsHeld self.old.held self.new.held mac) }
         ensures used { IfOk result (λ learnt. ¬ (learnt ≡ Learnt.Full) → is_held self.new mac ≡ false) }

@@ -39,6 +39,9 @@ impl Model for ProxyTable {
     ghost Value = { List (Address × Timed Entry) };
 
     ghost view = { λ t. t.slots.entries };
+
+    // Between calls no place is held.
+    ghost invariant = { λ t. t.slots.held ≡ [] };
 }
 
 // Adds the address of an entry that is not forgotten.

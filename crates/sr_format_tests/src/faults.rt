@@ -1,0 +1,82 @@
+//! The words of faults.
+
+use sr_forwarding::ReadFault;
+use sr_frame::{FrameFault, NoMemory};
+use sr_hsr_tag::{TagFault, UntagFault};
+use sr_prp_trailer::StripFault;
+use sr_supervision::SupFault;
+use std::alloc::Global;
+use std::fmt::Display;
+
+/// Whether a fault is told so. None for want of memory.
+fn is_told<D: Display>(alloc: Global, fault: &D, words: &str) -> Option<bool> {
+    let text = fault.to_string(alloc).ok()?;
+    Some(text.as_str() == words)
+}
+
+const FRAMES: &[(FrameFault, &str)] = &[
+    (FrameFault::TooShort, "the frame is too short"),
+    (FrameFault::TooLong, "the frame is too long"),
+    (FrameFault::NoMemory, "out of memory"),
+];
+
+const UNTAGS: &[(UntagFault, &str)] = &[
+    (UntagFault::NotTagged, "the frame has no HSR tag"),
+    (UntagFault::Truncated, "the HSR tag is cut short"),
+    (
+        UntagFault::TooShort,
+        "the frame without its HSR tag is too short",
+    ),
+    (UntagFault::NoMemory, "out of memory"),
+];
+
+const TAGS: &[(TagFault, &str)] = &[
+    (TagFault::NotTagged, "the frame has no HSR tag"),
+    (TagFault::Truncated, "the HSR tag is cut short"),
+];
+
+const STRIPS: &[(StripFault, &str)] = &[
+    (StripFault::NoTrailer, "the frame has no trailer"),
+    (StripFault::NoMemory, "out of memory"),
+];
+
+const SUPERVISIONS: &[(SupFault, &str)] = &[
+    (SupFault::NotSupervision, "the frame is no supervision"),
+    (SupFault::Version, "the supervision has an unknown version"),
+    (
+        SupFault::FirstTlv,
+        "the supervision begins with an unknown TLV",
+    ),
+    (SupFault::Truncated, "the supervision is cut short"),
+];
+
+const READS: &[(ReadFault, &str)] = &[
+    (ReadFault::TooShort, "the frame is too short"),
+    (ReadFault::TooLong, "the frame is too long"),
+    (ReadFault::Truncated, "the tag is cut off"),
+    (ReadFault::NotOwn, "the source is not this node"),
+    (ReadFault::Untagged, "the frame has no tag"),
+    (ReadFault::NoMemory, "out of memory"),
+];
+
+/// The place of the first fault that is told otherwise.
+fn first_wrong<D: Display>(alloc: Global, faults: &[(D, &str)]) -> Option<usize> {
+    for (place, (fault, words)) in faults.iter().enumerate() {
+        if is_told(alloc, fault, words) != Some(true) {
+            return Some(place);
+        }
+    }
+    None
+}
+
+#[test]
+fn words_of_faults(rt: HostRuntime) {
+    let alloc = rt.alloc();
+    assert_eq!(rt; first_wrong(alloc, &[(NoMemory, "out of memory")]), None);
+    assert_eq!(rt; first_wrong(alloc, FRAMES), None);
+    assert_eq!(rt; first_wrong(alloc, TAGS), None);
+    assert_eq!(rt; first_wrong(alloc, UNTAGS), None);
+    assert_eq!(rt; first_wrong(alloc, STRIPS), None);
+    assert_eq!(rt; first_wrong(alloc, SUPERVISIONS), None);
+    assert_eq!(rt; first_wrong(alloc, READS), None);
+}
