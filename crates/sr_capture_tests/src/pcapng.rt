@@ -165,6 +165,48 @@ const FORMS: &[Step] = &[
     ),
 ];
 
+/// The fronts of packets of 1524 and of 1525 octets, at 1 s, and of a simple one of 1524.
+const LONGEST: Part = These(&[
+    6, 0, 0, 0, 0x14, 6, 0, 0, 0, 0, 0, 0, 0, 0, 0, 0, 0x40, 0x42, 0x0F, 0, 0xF4, 5, 0, 0, 0xF4, 5,
+    0, 0,
+]);
+
+const TOO_LONG: Part = These(&[
+    6, 0, 0, 0, 0x18, 6, 0, 0, 0, 0, 0, 0, 0, 0, 0, 0, 0x40, 0x42, 0x0F, 0, 0xF5, 5, 0, 0, 0xF5, 5,
+    0, 0,
+]);
+
+const SIMPLE_LONGEST: Part = These(&[3, 0, 0, 0, 4, 6, 0, 0, 0xF4, 5, 0, 0]);
+
+const LENGTHS: &[Step] = &[Step::File(
+    &[
+        LITTLE,
+        ETHERNET,
+        LONGEST,
+        Times(1524, &[0xA0]),
+        These(&[0x14, 6, 0, 0]),
+        TOO_LONG,
+        Times(1528, &[0xA1]),
+        These(&[0x18, 6, 0, 0]),
+        SIMPLE_LONGEST,
+        Times(1524, &[0xA2]),
+        These(&[4, 6, 0, 0]),
+    ],
+    &[
+        These(b"in A 0 "),
+        Times(1524, b"a0"),
+        These(b"\n# A 2 long\nin A 0 "),
+        Times(1524, b"a2"),
+        These(b"\n# A 3 packets, 0 cut, 1 long, 0 empty\n"),
+    ],
+    None,
+)];
+
+#[test]
+fn the_longest_frames_are_read(rt: HostRuntime) {
+    expect_steps(&rt, LENGTHS);
+}
+
 #[test]
 fn blocks_are_read(rt: HostRuntime) {
     expect_steps(&rt, FORMS);
