@@ -2,6 +2,7 @@
 
 ghost use Rattle.std.specs.Prelude.{◌≡◌};
 
+use crate::listed::Listed;
 use std::alloc::AllocError;
 use thiserror::Error;
 
@@ -41,12 +42,15 @@ pub enum Reason {
     /// The options of an interface are none.
     #[error("the options of an interface can not be read")]
     Options,
-    /// These two interfaces of a section are Ethernet, and none was named.
-    #[error("interfaces {0} and {1} are Ethernet: name one, as FILE:{0}")]
-    Several(u32, u32),
+    /// These interfaces of a section are Ethernet, and none was named.
+    #[error("interfaces {0} are Ethernet: name one, as FILE:N")]
+    Several(Listed),
     /// A packet stands before any interface that is Ethernet, and no interface was named.
     #[error("a packet of an interface that is not Ethernet, and none before it is")]
     NoEthernet,
+    /// A packet is of an interface that its section has not described.
+    #[error("a packet of an interface that is not described")]
+    Undescribed,
     /// There are more blocks than 64 bits count.
     #[error("there are more blocks than 64 bits count")]
     Endless,

@@ -5,6 +5,7 @@
 mod fault;
 mod header;
 mod laws;
+mod listed;
 mod numbers;
 mod packet;
 mod record;
@@ -13,6 +14,7 @@ mod taking;
 pub use fault::{CaptureFault, Reason};
 pub use header::{Form, HEADER_LEN, TimeUnit, read_header};
 pub use laws::{broken_files_are_none, packets_are_unique};
+pub use listed::Listed;
 pub use numbers::{ByteOrder, half_at, word_at};
 pub use packet::{Extent, MAX_KEPT, Packet};
 pub use record::next_packet;

@@ -25,7 +25,24 @@ const ENDS: Ends = &[
 
 const COUNTS: &[u8] = b"# A 3 packets, 1 cut, 0 long, 1 empty\n";
 
-const EARLY: &[Step] = &[Step::Prefixes(SMALL, ENDS), Step::Broken(SMALL, ENDS)];
+/// Two octets at 1 s, and a check sequence of four behind them, which is passed over.
+const CHECKED: Text = &[
+    These(&[
+        0xD4, 0xC3, 0xB2, 0xA1, 2, 0, 4, 0, 0, 0, 0, 0, 0, 0, 0, 0, 0xFF, 0xFF, 0, 0, 1, 0, 0, 0x24,
+    ]),
+    These(&[
+        1, 0, 0, 0, 0, 0, 0, 0, 6, 0, 0, 0, 6, 0, 0, 0, 0xAB, 0xCD, 1, 2, 3, 4,
+    ]),
+];
+
+const CHECKED_ENDS: Ends = &[(46, b"in A 0 abcd\n")];
+
+const EARLY: &[Step] = &[
+    Step::Prefixes(SMALL, ENDS),
+    Step::Broken(SMALL, ENDS),
+    Step::Prefixes(CHECKED, CHECKED_ENDS),
+    Step::Broken(CHECKED, CHECKED_ENDS),
+];
 
 #[test]
 fn files_end_early(rt: HostRuntime) {

@@ -4,7 +4,7 @@ use crate::runs::{Ends, Files, Manner, PLAIN};
 use crate::steps::{Step, expect_steps};
 use crate::texts::Part::{These, Times};
 use crate::texts::{Part, Text};
-use sr_capture::Reason;
+use sr_capture::{Listed, Reason};
 use sr_capture_script::{Inlet, Interfaces};
 use sr_pcapng::Wanted;
 
@@ -24,9 +24,18 @@ const ETHERNET: Part = These(&[1, 0, 0, 0, 20, 0, 0, 0, 1, 0, 0, 0, 0, 0, 0, 0, 
 
 const SNAPPED: Part = These(&[1, 0, 0, 0, 20, 0, 0, 0, 1, 0, 0, 0, 1, 0, 0, 0, 20, 0, 0, 0]);
 
-const COOKED: Part = These(&[
+const COOKED: Part = These(COOKED_OCTETS);
+
+const COOKED_OCTETS: &[u8] = &[
     1, 0, 0, 0, 20, 0, 0, 0, 113, 0, 0, 0, 0, 0, 0, 0, 20, 0, 0, 0,
+];
+
+const COOKED_BIG: Part = These(&[
+    0, 0, 0, 1, 0, 0, 0, 20, 0, 113, 0, 0, 0, 0, 0, 0, 0, 0, 0, 20,
 ]);
+
+/// A description that is too short.
+const TOO_SHORT: Part = These(&[1, 0, 0, 0, 16, 0, 0, 0, 1, 0, 0, 0, 16, 0, 0, 0]);
 
 const BIG_ETHERNET: Part = These(&[0, 0, 0, 1, 0, 0, 0, 20, 0, 1, 0, 0, 0, 0, 0, 0, 0, 0, 0, 20]);
 
@@ -156,6 +165,48 @@ const FORMS: &[Step] = &[
     ),
 ];
 
+/// The fronts of packets of 1524 and of 1525 octets, at 1 s, and of a simple one of 1524.
+const LONGEST: Part = These(&[
+    6, 0, 0, 0, 0x14, 6, 0, 0, 0, 0, 0, 0, 0, 0, 0, 0, 0x40, 0x42, 0x0F, 0, 0xF4, 5, 0, 0, 0xF4, 5,
+    0, 0,
+]);
+
+const TOO_LONG: Part = These(&[
+    6, 0, 0, 0, 0x18, 6, 0, 0, 0, 0, 0, 0, 0, 0, 0, 0, 0x40, 0x42, 0x0F, 0, 0xF5, 5, 0, 0, 0xF5, 5,
+    0, 0,
+]);
+
+const SIMPLE_LONGEST: Part = These(&[3, 0, 0, 0, 4, 6, 0, 0, 0xF4, 5, 0, 0]);
+
+const LENGTHS: &[Step] = &[Step::File(
+    &[
+        LITTLE,
+        ETHERNET,
+        LONGEST,
+        Times(1524, &[0xA0]),
+        These(&[0x14, 6, 0, 0]),
+        TOO_LONG,
+        Times(1528, &[0xA1]),
+        These(&[0x18, 6, 0, 0]),
+        SIMPLE_LONGEST,
+        Times(1524, &[0xA2]),
+        These(&[4, 6, 0, 0]),
+    ],
+    &[
+        These(b"in A 0 "),
+        Times(1524, b"a0"),
+        These(b"\n# A 2 long\nin A 0 "),
+        Times(1524, b"a2"),
+        These(b"\n# A 3 packets, 0 cut, 1 long, 0 empty\n"),
+    ],
+    None,
+)];
+
+#[test]
+fn the_longest_frames_are_read(rt: HostRuntime) {
+    expect_steps(&rt, LENGTHS);
+}
+
 #[test]
 fn blocks_are_read(rt: HostRuntime) {
     expect_steps(&rt, FORMS);
@@ -206,7 +257,64 @@ const INTERFACES: &[Step] = &[
         ],
         None,
     ),
-    Step::File(TWO, NOTHING, Some((Inlet::A, 48, Reason::Several(0, 1)))),
+    Step::File(
+        TWO,
+        NOTHING,
+        Some((Inlet::A, 48, Reason::Several(Listed(0b11)))),
+    ),
+    // All are listed that the section describes, as far as it can be read, and none of another section.
+    Step::File(
+        &[
+            LITTLE, ETHERNET, COOKED, AT_1, NANO, STATISTICS, AT_1500, SIMPLE, ETHERNET, COOKED,
+            BEHIND, LITTLE, COOKED, COOKED, COOKED, COOKED, COOKED, COOKED, ETHERNET,
+        ],
+        &[These(b"in A 0 abcd\n")],
+        Some((Inlet::A, 104, Reason::Several(Listed(0b10_1101)))),
+    ),
+    Step::File(
+        &[
+            BIG,
+            COOKED_BIG,
+            BIG_ETHERNET,
+            BIG_ETHERNET,
+            BIG_ETHERNET,
+            Times(7, &[0]),
+        ],
+        NOTHING,
+        Some((Inlet::A, 68, Reason::Several(Listed(0b1110)))),
+    ),
+    Step::File(
+        &[LITTLE, ETHERNET, ETHERNET, TOO_SHORT, ETHERNET],
+        NOTHING,
+        Some((Inlet::A, 48, Reason::Several(Listed(0b11)))),
+    ),
+    // From number 63 on they are listed as one.
+    Step::File(
+        &[LITTLE, Times(62, COOKED_OCTETS), ETHERNET, ETHERNET],
+        NOTHING,
+        Some((
+            Inlet::A,
+            1288,
+            Reason::Several(Listed(0xC000_0000_0000_0000)),
+        )),
+    ),
+    Step::File(
+        &[LITTLE, Times(70, COOKED_OCTETS), ETHERNET, ETHERNET],
+        NOTHING,
+        Some((
+            Inlet::A,
+            1448,
+            Reason::Several(Listed(0x8000_0000_0000_0000)),
+        )),
+    ),
+    Step::Told(
+        Reason::Several(Listed(0b1011)),
+        b"interfaces 0, 1, 3 are Ethernet: name one, as FILE:N",
+    ),
+    Step::Told(
+        Reason::Several(Listed(0xC000_0000_0000_1000)),
+        b"interfaces 12, 62, 63 or above are Ethernet: name one, as FILE:N",
+    ),
     // Of the interface that is not Ethernet nothing can be shown, and a packet ahead of any other is not passed over.
     Step::Files(
         Files {
@@ -299,6 +407,85 @@ const REFUSED: &[Step] = &[
         ],
         NOTHING,
         Some((Inlet::A, 48, Reason::Length)),
+    ),
+    // Blocks that are shorter than what they are: of a section, an interface, a packet, and a simple one.
+    Step::File(
+        &[These(&[
+            0x0A, 0x0D, 0x0D, 0x0A, 16, 0, 0, 0, 0x4D, 0x3C, 0x2B, 0x1A, 16, 0, 0, 0,
+        ])],
+        NOTHING,
+        Some((Inlet::A, 0, Reason::Length)),
+    ),
+    Step::File(
+        &[LITTLE, TOO_SHORT],
+        NOTHING,
+        Some((Inlet::A, 28, Reason::Length)),
+    ),
+    Step::File(
+        &[
+            LITTLE,
+            ETHERNET,
+            These(&[6, 0, 0, 0, 28, 0, 0, 0]),
+            Times(16, &[0]),
+            These(&[28, 0, 0, 0]),
+        ],
+        NOTHING,
+        Some((Inlet::A, 48, Reason::Length)),
+    ),
+    Step::File(
+        &[
+            LITTLE,
+            ETHERNET,
+            These(&[3, 0, 0, 0, 12, 0, 0, 0, 12, 0, 0, 0]),
+        ],
+        NOTHING,
+        Some((Inlet::A, 48, Reason::Length)),
+    ),
+    // A simple packet that does not fit into its block.
+    Step::File(
+        &[
+            LITTLE,
+            ETHERNET,
+            These(&[3, 0, 0, 0, 20, 0, 0, 0, 5, 0, 0, 0, 1, 2, 3, 4, 20, 0, 0, 0]),
+        ],
+        NOTHING,
+        Some((Inlet::A, 48, Reason::Length)),
+    ),
+    // Packets of interfaces that are not described: of number 1, where there is 0 alone, and of 0, where there is none.
+    Step::File(
+        &[LITTLE, ETHERNET, AT_1, OTHER_AT_1500],
+        &[These(b"in A 0 abcd\n")],
+        Some((Inlet::A, 84, Reason::Undescribed)),
+    ),
+    Step::File(
+        &[LITTLE, SIMPLE],
+        NOTHING,
+        Some((Inlet::A, 28, Reason::Undescribed)),
+    ),
+    // The orders of another section: it has one of its own, and that has to be one.
+    Step::File(
+        &[
+            LITTLE,
+            ETHERNET,
+            AT_1,
+            These(&[0x0A, 0x0D, 0x0D, 0x0A, 28, 0, 0, 0, 0x4D, 0x3C, 0x2B, 0x1B]),
+            Times(12, &[0]),
+            These(&[28, 0, 0, 0]),
+        ],
+        &[These(b"in A 0 abcd\n")],
+        Some((Inlet::A, 84, Reason::Unknown)),
+    ),
+    // Options that pass the end of their block.
+    Step::File(
+        &[
+            LITTLE,
+            These(&[
+                1, 0, 0, 0, 28, 0, 0, 0, 1, 0, 0, 0, 0, 0, 0, 0, 2, 0, 5, 0, 65, 66, 67, 68, 28, 0,
+                0, 0,
+            ]),
+        ],
+        NOTHING,
+        Some((Inlet::A, 28, Reason::Options)),
     ),
     // A unit of two octets.
     Step::File(

@@ -353,3 +353,9 @@ pub fn is_taken_up(alloc: Global, file: Text, ends: Ends, last: &'static [u8]) -
         }
     }
 }
+
+/// Whether this is the text of a reason.
+pub fn is_told(alloc: Global, reason: Reason, text: &'static [u8]) -> Option<bool> {
+    let told = format!(in alloc; "{reason}").ok()?;
+    Some(told.as_bytes() == text)
+}

@@ -2,9 +2,10 @@
 
 use crate::runs::{
     Ending, Ends, Files, Manner, PLAIN, are_broken, are_endured, are_fronts, are_prefixes,
-    is_narrow, is_script, is_taken_up,
+    is_narrow, is_script, is_taken_up, is_told,
 };
 use crate::texts::Text;
+use sr_capture::Reason;
 use std::alloc::Global;
 use std::process::Abort;
 
@@ -27,6 +28,8 @@ pub enum Step {
     Endured(Text, u32),
     /// A file with these packets, and the last line of its script. Memory may be refused once.
     TakenUp(Text, Ends, &'static [u8]),
+    /// A reason, and its text.
+    Told(Reason, &'static [u8]),
 }
 
 /// Whether a run comes to what it has to. None for want of memory.
@@ -52,6 +55,7 @@ fn comes(alloc: Global, step: Step) -> Option<bool> {
         Step::Narrow(file, room, fails) => is_narrow(alloc, file, room, fails),
         Step::Endured(file, count) => are_endured(alloc, file, count),
         Step::TakenUp(file, ends, last) => is_taken_up(alloc, file, ends, last),
+        Step::Told(reason, text) => is_told(alloc, reason, text),
     }
 }
 

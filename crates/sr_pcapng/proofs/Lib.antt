@@ -3,3 +3,4 @@ pub mod OptionLists
 pub mod Steps
 pub mod PacketLemmas
 pub mod Unique
+pub mod Listings

@@ -1,5 +1,5 @@
 -- Packets that are shown.
-use Rattle.std.proofs.Common.{◌≡◌, ℕ, ◌+◌, ◌*◌, ◌^◌, ◌≤◌, List, [], ◌∷◌, length, Option, Some, true, sym, ap, subst, refl, ◌∙◌}
+use Rattle.std.proofs.Common.{◌≡◌, ℕ, ◌+◌, ◌*◌, ◌^◌, ◌≤◌, ◌<◌, List, [], ◌∷◌, length, Option, Some, true, sym, ap, subst, refl, ◌∙◌}
 use Rattle.sr_capture.specs.declared.packet.Packet.{Packet}
 use Rattle.sr_capture.specs.Numbers.{word_at}
 use Rattle.sr_capture.specs.Records.{Captured, Shows}
@@ -29,12 +29,12 @@ ShowsParts y time at held len check octets = (captured : Captured) → captured.
     → captured.octets ≡ body_at at held check octets → Shows y captured
 
 pub gives_enhanced : (wanted : Wanted) (section : Section) (octets : List ℕ) (interface : Interface) (found : Option Interface) (number ticks time held len : ℕ) (y : Packet)
-    → 32 ≤ length octets → IsTold wanted section.taken → found ≡ of_number section.taken number → found ≡ Some interface
+    → 32 ≤ length octets → word_at section.order octets 8 < section.count → IsTold wanted section.taken → found ≡ of_number section.taken number → found ≡ Some interface
     → number ≡ word_at section.order octets 8
     → held ≡ word_at section.order octets 20 → len ≡ word_at section.order octets 24 → Holds 28 held octets
     → ticks ≡ word_at section.order octets 12 * 2 ^ 32 + word_at section.order octets 16 → IsTime interface ticks time
     → ShowsParts y time 28 held len interface.check_len octets → (shown : List Captured) × InEnhanced wanted section octets shown × Gives true shown y
-gives_enhanced wanted section octets interface found number ticks time held len y long told same some at held_is len_is holds ticks_is moment shows =
+gives_enhanced wanted section octets interface found number ticks time held len y long known told same some at held_is len_is holds ticks_is moment shows =
     let p : Captured = record { time = time; extent = extent_of held len; octets = body_at 28 held interface.check_len octets } in
     let taken : Some interface ≡ of_number section.taken (word_at section.order octets 8) = sym some ∙ same ∙ ap (of_number section.taken) at in
     let e : IsEnhanced interface section.order octets p = record {
@@ -43,13 +43,13 @@ gives_enhanced wanted section octets interface found number ticks time held len 
       extent = ap (λ n. extent_of n len) held_is ∙ ap (extent_of (word_at section.order octets 20)) len_is;
       body = ap (λ n. body_at 28 n interface.check_len octets) held_is;
     } in
-    (p ∷ [], (long, told, subst (λ (o : Option Interface). ShowsEnhanced o section.order octets (p ∷ [])) taken (p, refl, e)), (p, refl, shows p refl refl refl))
+    (p ∷ [], (long, known, told, subst (λ (o : Option Interface). ShowsEnhanced o section.order octets (p ∷ [])) taken (p, refl, e)), (p, refl, shows p refl refl refl))
 
 pub gives_simple : (wanted : Wanted) (section : Section) (octets : List ℕ) (interface : Interface) (found : Option Interface) (held len : ℕ) (y : Packet)
-    → 16 ≤ length octets → IsTold wanted section.taken → found ≡ of_number section.taken 0 → found ≡ Some interface
+    → 16 ≤ length octets → 0 < section.count → IsTold wanted section.taken → found ≡ of_number section.taken 0 → found ≡ Some interface
     → held ≡ held_of interface.snap len → len ≡ word_at section.order octets 8 → Holds 12 held octets
     → ShowsParts y 0 12 held len interface.check_len octets → (shown : List Captured) × InSimple wanted section octets shown × Gives true shown y
-gives_simple wanted section octets interface found held len y long told same some held_is len_is holds shows =
+gives_simple wanted section octets interface found held len y long known told same some held_is len_is holds shows =
     let p : Captured = record { time = 0; extent = extent_of held len; octets = body_at 12 held interface.check_len octets } in
     let taken : Some interface ≡ of_number section.taken 0 = sym some ∙ same in
     let own : held ≡ held_of interface.snap (word_at section.order octets 8) = held_is ∙ ap (held_of interface.snap) len_is in
@@ -59,4 +59,4 @@ gives_simple wanted section octets interface found held len y long told same som
       extent = ap (λ n. extent_of n len) own ∙ ap (extent_of (held_of interface.snap (word_at section.order octets 8))) len_is;
       body = ap (λ n. body_at 12 n interface.check_len octets) own;
     } in
-    (p ∷ [], (long, told, subst (λ (o : Option Interface). ShowsSimple o section.order octets (p ∷ [])) taken (p, refl, e)), (p, refl, shows p refl refl refl))
+    (p ∷ [], (long, known, told, subst (λ (o : Option Interface). ShowsSimple o section.order octets (p ∷ [])) taken (p, refl, e)), (p, refl, shows p refl refl refl))

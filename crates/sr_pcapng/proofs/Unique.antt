@@ -98,9 +98,9 @@ within kind.Interface track section octets xs ys s t h k =
     let one : h.1.0 ≡ k.1.0 = described _ track.wanted track.check_len section octets h.1.0 k.1.0 h.1.1.1 k.1.1.1 in
     record { shown = h.0 ∙ sym k.0; next = h.1.2 ∙ ap (in_section track) one ∙ sym k.1.2 }
 within kind.Enhanced track section octets xs ys s t h k =
-    record { shown = shown_enhanced _ section.order octets xs ys h.1.2 k.1.2; next = h.0 ∙ sym k.0 }
+    record { shown = shown_enhanced _ section.order octets xs ys h.1.3 k.1.3; next = h.0 ∙ sym k.0 }
 within kind.Simple track section octets xs ys s t h k =
-    record { shown = shown_simple _ section.order octets xs ys h.1.2 k.1.2; next = h.0 ∙ sym k.0 }
+    record { shown = shown_simple _ section.order octets xs ys h.1.3 k.1.3; next = h.0 ∙ sym k.0 }
 within kind.Other track section octets xs ys s t h k = record { shown = h.1 ∙ sym k.1; next = h.0 ∙ sym k.0 }
 
 -- in one section

@@ -43,7 +43,7 @@ pub record IsSize (order : ByteOrder) (octets : List ℕ) (size : ℕ) : Type 0 
 -- why a length is that of no block
 abbrev pub IsWrongSize : ByteOrder → List ℕ → Reason → Type 0
 IsWrongSize order octets reason.Length = (word_at order octets 4 < 12) ⊎ (word_at order octets 4 % 4 ≢ 0)
-IsWrongSize order octets reason.Long = 2 ^ 24 < word_at order octets 4
+IsWrongSize order octets reason.Long = (2 ^ 24 < word_at order octets 4) × (word_at order octets 4 % 4 ≡ 0)
 IsWrongSize order octets other = ⊥
 
 -- the octets begin a block of this order and length

@@ -1,6 +1,7 @@
 pub mod Blocks
 pub mod Times
 pub mod Options
+pub mod Listing
 pub mod Interfaces
 pub mod PacketBlocks
 pub mod Steps

@@ -66,34 +66,40 @@ abbrev pub ShowsSimple : Option Interface → ByteOrder → List ℕ → List Ca
 ShowsSimple None order octets shown = shown ≡ []
 ShowsSimple (Some interface) order octets shown = (packet : Captured) × (shown ≡ packet ∷ []) × IsSimple interface order octets packet
 
--- the octets are a packet in this section
+-- the octets are a packet in this section, of an interface that it has described
 abbrev pub InEnhanced : Wanted → Section → List ℕ → List Captured → Type 0
-InEnhanced wanted section octets shown = (32 ≤ length octets) × IsTold wanted section.taken
+InEnhanced wanted section octets shown = (32 ≤ length octets) × (word_at section.order octets 8 < section.count)
+    × IsTold wanted section.taken
     × ShowsEnhanced (of_number section.taken (word_at section.order octets 8)) section.order octets shown
 
 abbrev pub InSimple : Wanted → Section → List ℕ → List Captured → Type 0
-InSimple wanted section octets shown = (16 ≤ length octets) × IsTold wanted section.taken
+InSimple wanted section octets shown = (16 ≤ length octets) × (0 < section.count) × IsTold wanted section.taken
     × ShowsSimple (of_number section.taken 0) section.order octets shown
 
 -- a packet whose octets do not fit into its block
 abbrev pub OverflowsEnhanced : Section → List ℕ → Type 0
-OverflowsEnhanced section octets = (interface : Interface) × (of_number section.taken (word_at section.order octets 8) ≡ Some interface)
-    × (Holds 28 (word_at section.order octets 20) octets → ⊥)
+OverflowsEnhanced section octets = (word_at section.order octets 8 < section.count)
+    × ((interface : Interface) × (of_number section.taken (word_at section.order octets 8) ≡ Some interface)
+    × (Holds 28 (word_at section.order octets 20) octets → ⊥))
 
 abbrev pub OverflowsSimple : Section → List ℕ → Type 0
-OverflowsSimple section octets = (interface : Interface) × (of_number section.taken 0 ≡ Some interface)
-    × (Holds 12 (held_of interface.snap (word_at section.order octets 8)) octets → ⊥)
+OverflowsSimple section octets = (0 < section.count) × ((interface : Interface) × (of_number section.taken 0 ≡ Some interface)
+    × (Holds 12 (held_of interface.snap (word_at section.order octets 8)) octets → ⊥))
 
--- why a packet is refused: its block is too short for it, or no interface is known and none was said; or memory was
+-- why a packet is refused: its block is too short for it, its interface is not described, or none is known and none was said; or memory was
 abbrev pub IsWrongEnhanced : Wanted → Section → List ℕ → Reason → Type 0
 IsWrongEnhanced wanted section octets reason.Length = (length octets < 32) ⊎ OverflowsEnhanced section octets
-IsWrongEnhanced wanted section octets reason.NoEthernet = (32 ≤ length octets) × (wanted ≡ Only) × (section.taken ≡ None)
+IsWrongEnhanced wanted section octets reason.Undescribed = (32 ≤ length octets) × (section.count ≤ word_at section.order octets 8)
+IsWrongEnhanced wanted section octets reason.NoEthernet = (32 ≤ length octets) × (word_at section.order octets 8 < section.count)
+    × (wanted ≡ Only) × (section.taken ≡ None)
 IsWrongEnhanced wanted section octets reason.NoMemory = Unit {0}
 IsWrongEnhanced wanted section octets other = ⊥
 
 abbrev pub IsWrongSimple : Wanted → Section → List ℕ → Reason → Type 0
 IsWrongSimple wanted section octets reason.Length = (length octets < 16) ⊎ OverflowsSimple section octets
-IsWrongSimple wanted section octets reason.NoEthernet = (16 ≤ length octets) × (wanted ≡ Only) × (section.taken ≡ None)
+IsWrongSimple wanted section octets reason.Undescribed = (16 ≤ length octets) × (section.count ≡ 0)
+IsWrongSimple wanted section octets reason.NoEthernet = (16 ≤ length octets) × (0 < section.count)
+    × (wanted ≡ Only) × (section.taken ≡ None)
 IsWrongSimple wanted section octets reason.NoMemory = Unit {0}
 IsWrongSimple wanted section octets other = ⊥
 

@@ -38,6 +38,7 @@ use Rattle.sr_pcapng.specs.declared.track.Section.{Section}
 use Rattle.sr_pcapng.specs.declared.track.Track.{Track}
 use Rattle.sr_pcapng.specs.Blocks.{kind_of, IsBlock, IsNoBlock}
 use Rattle.sr_pcapng.specs.Interfaces.{Describes, IsWrongInterface}
+use Rattle.sr_pcapng.specs.Listing.{Tells}
 use Rattle.sr_pcapng.specs.PacketBlocks.{InEnhanced, InSimple, IsWrongEnhanced, IsWrongSimple}
 
 -- the order of octets of a section, if there is one
@@ -110,10 +111,12 @@ place_of reason.Version = 12
 place_of (reason.Link link) = 8
 place_of other = 0
 
--- a block is refused
+-- a block is refused; where it describes a second interface that is Ethernet, all of its section that are Ethernet are told
 abbrev pub RefusesBlock : Track → CaptureFault → Option (List ℕ) → Option (List ℕ) → Type 0
-RefusesBlock track fault old new = (fault.at ≡ place_of fault.reason) × ((octets : List ℕ) × (order : ByteOrder) × Loses octets old new
-    × IsBlock (order_in track.section) octets order × IsWrong (kind_of order octets) track order octets fault.reason)
+RefusesBlock track fault old new = (own : Reason) × (fault.at ≡ place_of own)
+    × ((octets : List ℕ) × (order : ByteOrder) × (left : Option (List ℕ)) × Loses octets old left
+    × IsBlock (order_in track.section) octets order × IsWrong (kind_of order octets) track order octets own
+    × Tells track.section own fault.reason left new)
 
 -- why there is no next block that means something
 abbrev pub IsNoStep : Track → CaptureFault → Option (List ℕ) → Option (List ℕ) → Type 0

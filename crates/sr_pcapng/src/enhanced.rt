@@ -18,7 +18,8 @@ const BODY_AT: usize = 28;
 /// Reads an enhanced packet. False where its interface is not wanted.
 ///
 /// # Errors
-/// `Length` where its octets do not fit into its block, `NoEthernet` where no interface is known, `NoMemory`.
+/// `Length` where its octets do not fit into its block, `Undescribed` where its interface is not described, `NoEthernet` where
+/// no interface is known, `NoMemory`.
 pub(crate) fn read_enhanced(
     wanted: Wanted,
     section: &Section,
@@ -32,7 +33,11 @@ pub(crate) fn read_enhanced(
         return Err(Reason::Length);
     }
     let order = section.order;
-    let interface = match interface_of(wanted, section.taken, word_at(order, octets, 8)) {
+    let number = word_at(order, octets, 8);
+    if number >= section.count {
+        return Err(Reason::Undescribed);
+    }
+    let interface = match interface_of(wanted, section.taken, number) {
         Ok(Some(interface)) => interface,
         Ok(None) => return Ok(false),
         Err(reason) => return Err(reason),

@@ -6,10 +6,10 @@ ghost use Rattle.sr_pcapng.specs.declared.track.Interface.{Interface as Known};
 
 use crate::options::read_options;
 use crate::track::{Interface, Section, Wanted};
-use sr_capture::{Reason, half_at, word_at};
+use sr_capture::{Listed, Reason, half_at, word_at};
 
 /// The length of the description of an interface without options.
-const MIN_LEN: usize = 20;
+pub(crate) const MIN_LEN: usize = 20;
 
 /// Where the options of a description begin.
 const OPTIONS_AT: usize = 16;
@@ -18,7 +18,7 @@ const OPTIONS_AT: usize = 16;
 const TAIL_LEN: usize = 4;
 
 /// The link type of Ethernet.
-const ETHERNET: u16 = 1;
+pub(crate) const ETHERNET: u16 = 1;
 
 /// The unit of times where no option tells it: microseconds.
 const MICROSECONDS: u8 = 6;
@@ -80,7 +80,7 @@ fn described(
         return Err(Reason::Link(link));
     }
     if let (Wanted::Only, Some(other)) = (wanted, section.taken) {
-        return Err(Reason::Several(other.number, section.count));
+        return Err(Reason::Several(Listed(0).with(other.number).with(section.count)));
     }
     match interface_of(check_len, section, octets) {
         Some(interface) => Ok(counted(section, Some(interface))),

@@ -7,6 +7,7 @@ mod body;
 mod enhanced;
 mod interface;
 mod laws;
+mod listing;
 mod options;
 mod packets;
 mod reading;

@@ -5,6 +5,7 @@ ghost use Rattle.sr_capture.specs.Taking.{Loses};
 ghost use Rattle.sr_pcapng.specs.Steps.{order_in, place_of, IsNoStep, TakesStep, Takes, IsNoPacket};
 
 use crate::block::take_block;
+use crate::listing::told;
 use crate::reading::read_block;
 use crate::track::{Section, Track};
 use sr_capture::{ByteOrder, CaptureFault, Packet, Reason};
@@ -53,7 +54,8 @@ fn take_step<R: BufRead>(
         (R.remaining reader.old) (R.remaining reader.new)) }
     ensures fault { IfErr result (λ fault. IsNoStep track.old fault (R.remaining reader.old) (R.remaining reader.new)) }
 {
-    let order = match take_block(reader, order_in(track.section), block) {
+    let section = track.section;
+    let order = match take_block(reader, order_in(section), block) {
         Ok(Some(order)) => order,
         Ok(None) => return Ok(Step::End),
         Err(fault) => return Err(fault),
@@ -61,9 +63,9 @@ fn take_step<R: BufRead>(
     match read_block(track, order, block, packet) {
         Ok(true) => Ok(Step::Packet),
         Ok(false) => Ok(Step::Passed),
-        Err(reason) => Err(CaptureFault {
-            at: place_of(reason),
-            reason,
+        Err(own) => Err(CaptureFault {
+            at: place_of(own),
+            reason: told(reader, section, own, block),
         }),
     }
 }
@@ -73,8 +75,8 @@ fn take_step<R: BufRead>(
 ///
 /// # Errors
 /// Of the first block that can not be read: `Unfinished` where the input ends within it, `Unknown` where its order of octets
-/// can not be told, `Length` and `Long` for its lengths, `Several`, `Options` and `NoEthernet` for what it says of
-/// interfaces, all at its first octet; `Version` and `Link` at the field that is wrong; `Read` where the reader fails and
+/// can not be told, `Length` and `Long` for its lengths, `Several`, `Options`, `NoEthernet` and `Undescribed` for what
+/// it says of interfaces, all at its first octet; `Version` and `Link` at the field that is wrong; `Read` where the reader fails and
 /// `NoMemory`, at the octet that could not be taken, or at the first of a packet that could not be kept. The place is counted
 /// from the first octet that was left. What `track` and `packet` then hold says nothing. `Endless` behind 2^64 - 1 blocks
 /// without a packet.

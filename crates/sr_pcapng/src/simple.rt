@@ -24,7 +24,8 @@ fn held_of(snap: u32, len: u32) -> u32
 /// Reads a simple packet. False where interface 0 is not wanted.
 ///
 /// # Errors
-/// `Length` where its octets do not fit into its block, `NoEthernet` where no interface is known, `NoMemory`.
+/// `Length` where its octets do not fit into its block, `Undescribed` where no interface is described, `NoEthernet` where none
+/// is known, `NoMemory`.
 pub(crate) fn read_simple(
     wanted: Wanted,
     section: &Section,
@@ -36,6 +37,9 @@ pub(crate) fn read_simple(
 {
     if octets.len() < MIN_LEN {
         return Err(Reason::Length);
+    }
+    if section.count == 0 {
+        return Err(Reason::Undescribed);
     }
     let interface = match interface_of(wanted, section.taken, 0) {
         Ok(Some(interface)) => interface,

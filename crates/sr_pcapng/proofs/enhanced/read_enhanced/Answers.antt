@@ -1,4 +1,4 @@
-use Rattle.std.proofs.Common.{◌≡◌, ◌≤◌, ◌+◌, ◌*◌, ◌^◌, length, arith, rules}
+use Rattle.std.proofs.Common.{◌≡◌, ◌≤◌, ◌<◌, ◌+◌, ◌*◌, ◌^◌, length, arith, rules}
 use Rattle.sr_capture.specs.Numbers.{word_at}
 use Rattle.sr_pcapng.specs.PacketBlocks.{Holds}
 use Rattle.sr_pcapng.proofs.PacketLemmas.{gives_enhanced}
@@ -9,8 +9,9 @@ returns-in-Ok-clause-read c =
     let s = c.args.section.now in
     let f = c.in-Ok-Some.ensures.found in
     let long : 32 ≤ length c.args.octets.now = omega (arith, c.if-octets-lt-MIN_LEN.false) in
-    let holds : Holds 28 c.word_at-2.result c.args.octets.now = search (rules, c.holds.ensures, c.if-not-holds.false) in
+    let known : word_at s.order c.args.octets.now 8 < s.count = omega (arith, c.word_at-number.ensures, c.if-number-section.false) in
+    let holds : Holds 28 c.word_at.result c.args.octets.now = search (rules, c.holds.ensures, c.if-not-holds.false) in
     let ticks : c.from-high.result * 4294967296 + c.from.result ≡ word_at s.order c.args.octets.now 12 * 2 ^ 32 + word_at s.order c.args.octets.now 16 =
-    omega (arith, c.from-high.ensures, c.from.ensures, c.word_at-4.ensures, c.word_at-5.ensures) in
-    gives_enhanced c.args.wanted s c.args.octets.now c.in-Ok-Some.interface _ c.word_at.result _ c.time_of.result c.word_at-2.result c.word_at-3.result _
-    long f.0 f.1 c.in-Ok-Some.field-0-is c.word_at.ensures c.word_at-2.ensures c.word_at-3.ensures holds ticks c.time_of.ensures.time c.in-Ok.ensures
+    omega (arith, c.from-high.ensures, c.from.ensures, c.word_at-3.ensures, c.word_at-4.ensures) in
+    gives_enhanced c.args.wanted s c.args.octets.now c.in-Ok-Some.interface _ c.word_at-number.result _ c.time_of.result c.word_at.result c.word_at-2.result _
+    long known f.0 f.1 c.in-Ok-Some.field-0-is c.word_at-number.ensures c.word_at.ensures c.word_at-2.ensures holds ticks c.time_of.ensures.time c.in-Ok.ensures

@@ -1,0 +1,95 @@
+//! The interfaces of a section that are Ethernet, where there is more than one and none was named.
+
+ghost use Rattle.std.specs.Prelude.{◌≡◌, ◌≤◌, length};
+ghost use Rattle.sr_pcapng.specs.Listing.{listed_by, noted, Lists, Tells};
+
+use crate::block::{Kind, kind_of, take_block};
+use crate::interface::{ETHERNET, MIN_LEN};
+use crate::track::Section;
+use sr_capture::{ByteOrder, Listed, Reason, half_at};
+use std::io::BufRead;
+
+/// The interfaces that are listed, and how many were described.
+#[derive(Clone, Copy, Debug)]
+pub(crate) struct Listing {
+    pub listed: u64,
+    pub count: u32,
+}
+
+/// A list behind the description of an interface.
+fn noted(order: ByteOrder, octets: &[u8], listing: Listing) -> Listing
+    requires { 20 ≤ length octets.now }
+    ensures { result ≡ noted order octets.now listing }
+{
+    let is_ethernet = half_at(order, octets, 8) == ETHERNET;
+    Listing {
+        listed: if is_ethernet {
+            Listed(listing.listed).with(listing.count).0
+        } else {
+            listing.listed
+        },
+        count: listing.count.saturating_add(1),
+    }
+}
+
+/// A list behind a block. None where another section begins, and where a description is too short.
+fn listed_by(kind: Kind, order: ByteOrder, octets: &[u8], listing: Listing) -> Option<Listing>
+    ensures { result ≡ listed_by kind order octets.now listing }
+{
+    match kind {
+        Kind::Section => None,
+        Kind::Interface => {
+            if octets.len() < MIN_LEN {
+                return None;
+            }
+            Some(noted(order, octets, listing))
+        }
+        Kind::Enhanced | Kind::Simple | Kind::Other => Some(listing),
+    }
+}
+
+/// Lists what is Ethernet in the rest of a section, as far as it can be read. `block` is used for it.
+fn list_rest<R: BufRead>(
+    reader: &mut R,
+    order: ByteOrder,
+    start: Listing,
+    block: &mut Vec<u8>,
+) -> u64
+    ensures { Lists order start result (R.remaining reader.old) (R.remaining reader.new) }
+{
+    let mut listing = start;
+    'rest: for _ in 0..u64::MAX {
+        let own = match take_block(reader, Some(order), block) {
+            Ok(Some(own)) => own,
+            Ok(None) => return listing.listed,
+            Err(_) => return listing.listed,
+        };
+        match listed_by(kind_of(own, block), own, block, listing) {
+            Some(next) => listing = next,
+            None => return listing.listed,
+        }
+    }
+    listing.listed
+}
+
+/// The reason that is told for what is wrong with a block of a section: where it describes a second interface that is
+/// Ethernet, all that are. `block` is used for it.
+pub(crate) fn told<R: BufRead>(
+    reader: &mut R,
+    section: Option<Section>,
+    own: Reason,
+    block: &mut Vec<u8>,
+) -> Reason
+    ensures { Tells section own result (R.remaining reader.old) (R.remaining reader.new) }
+{
+    match (section, own) {
+        (Some(section), Reason::Several(two)) => {
+            let start = Listing {
+                listed: two.0,
+                count: section.count.saturating_add(1),
+            };
+            Reason::Several(Listed(list_rest(reader, section.order, start, block)))
+        }
+        _ => own,
+    }
+}
