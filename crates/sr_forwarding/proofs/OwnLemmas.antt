@@ -2,6 +2,7 @@
 use Rattle.std.proofs.Common.{◌≡◌, ℕ, refl}
 use Rattle.sr_frame.specs.declared.fields.Mac.{Mac}
 use Rattle.sr_frame.specs.declared.ports.Port.{Port}
+use Rattle.sr_frame.specs.declared.ports.Port.TheVariants.{H, A, B, C}
 use Rattle.sr_frame.specs.declared.learnt.Learnt.TheVariants.{Known}
 use Rattle.sr_forwarding.specs.declared.header.Header.{Header}
 use Rattle.sr_forwarding.specs.declared.role_image.RoleKind.{RoleKind}
@@ -9,6 +10,7 @@ use Rattle.sr_forwarding.specs.declared.role_image.RoleKind.TheVariants.{Danp, D
 use Rattle.sr_forwarding.specs.RoleImages.{role_of}
 use Rattle.sr_forwarding.specs.Proxies.{learned, learnt}
 use Rattle.sr_forwarding.specs.OwnRoles.{StandsAlone}
+use Rattle.sr_forwarding.specs.Routes.{IgnoresKnown}
 
 pub knows_all : (kind : RoleKind) (mac : Mac) (h : Header) (inlet : Port) (now : ℕ) → StandsAlone kind → Known ≡ learnt (role_of kind mac) h inlet now
 knows_all Danp mac h inlet now alone = refl
@@ -23,3 +25,23 @@ learns_none Danh mac h inlet now alone = refl
 learns_none San mac h inlet now alone = absurd alone
 learns_none (Prp lan net) mac h inlet now alone = refl
 learns_none Hsr mac h inlet now alone = refl
+
+-- nor do its routes read whether the destination is known
+pub ignores_known : (kind : RoleKind) → StandsAlone kind → IgnoresKnown kind
+ignores_known Danp alone r h known H now = refl
+ignores_known Danp alone r h known A now = refl
+ignores_known Danp alone r h known B now = refl
+ignores_known Danp alone r h known C now = refl
+ignores_known Danh alone r h known H now = refl
+ignores_known Danh alone r h known A now = refl
+ignores_known Danh alone r h known B now = refl
+ignores_known Danh alone r h known C now = refl
+ignores_known San alone r h known inlet now = absurd alone
+ignores_known (Prp lan net) alone r h known H now = refl
+ignores_known (Prp lan net) alone r h known A now = refl
+ignores_known (Prp lan net) alone r h known B now = refl
+ignores_known (Prp lan net) alone r h known C now = refl
+ignores_known Hsr alone r h known H now = refl
+ignores_known Hsr alone r h known A now = refl
+ignores_known Hsr alone r h known B now = refl
+ignores_known Hsr alone r h known C now = refl

@@ -1,6 +1,6 @@
 -- Where frames go: a table for each kind of role, of which the first line that fits holds. A line is an inlet, a case of
 -- the header, and the outlets; an inlet that a table does not list has none.
-use Rattle.std.specs.Prelude.{ℕ, ◌/◌, ◌==◌, ◌||◌, Bool, List, [], ◌∷◌, ◌++◌, if◌then◌else◌}
+use Rattle.std.specs.Prelude.{◌≡◌, ℕ, ◌/◌, ◌==◌, ◌||◌, Bool, List, [], ◌∷◌, ◌++◌, if◌then◌else◌}
 use Rattle.sr_frame.specs.declared.ports.Port.{Port}
 use Rattle.sr_frame.specs.declared.ports.Port.TheVariants.{H, A, B, C}
 use Rattle.sr_frame.specs.Addresses.{mac_eq}
@@ -124,3 +124,8 @@ routes_of Hsr r h inlet now = box_routes r h inlet (C ∷ [])
 -- where a frame goes, by the role, what its header says, and the inlet where it came in
 abbrev pub routes : RoleImage → Header → Port → ℕ → Outlets
 routes r h inlet now = routes_of r.kind r h inlet now
+
+-- no route of such a role depends on whether the destination is known as a node
+abbrev pub IgnoresKnown : RoleKind → Type 0
+IgnoresKnown kind = (r : RoleImage) (h : Header) (known : Bool) (inlet : Port) (now : ℕ) →
+    routes_of kind r (record h { dst_known = known }) inlet now ≡ routes_of kind r h inlet now

@@ -1,6 +1,7 @@
 //! Roles as data.
 
-ghost use Rattle.std.specs.Prelude.{◌≡◌};
+ghost use Rattle.std.specs.Prelude.{◌≡◌, false};
+ghost use Rattle.sr_forwarding.specs.Routes.{IgnoresKnown};
 
 use sr_frame::Mac;
 use sr_prp_trailer::Lan;
@@ -24,6 +25,19 @@ pub enum RoleKind {
     },
     /// A RedBox between two rings.
     Hsr,
+}
+
+impl RoleKind {
+    /// Whether the routes of such a role read whether the destination is known as a node.
+    #[tactic(auto, using(crate::proofs::OwnLemmas::ignores_known))]
+    pub fn reads_known(self) -> bool
+        ensures { result ≡ false → IgnoresKnown self }
+    {
+        match self {
+            RoleKind::San => true,
+            RoleKind::Danp | RoleKind::Danh | RoleKind::Prp { .. } | RoleKind::Hsr => false,
+        }
+    }
 }
 
 /// The addresses that a role stands for beside its own, each with the time when it was last learned, in the order in

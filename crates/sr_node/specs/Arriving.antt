@@ -83,6 +83,10 @@ going_on s port p = record p { seq = number_at s.core.next port p }
 abbrev pub dst_known : State → Mac → ℕ → Bool
 dst_known s mac now = has_at s.core.nodes mac now
 
+-- a header that says whether the node knows the destination
+abbrev pub header_told : State → Header → ℕ → Header
+header_told s h now = record h { dst_known = dst_known s h.dst now }
+
 -- what routes read of a parcel
 abbrev pub header_at : State → ParcelImage → ℕ → Header
 header_at s p now = record (header_of p) { dst_known = dst_known s (header_of p).dst now }

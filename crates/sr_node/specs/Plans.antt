@@ -4,6 +4,7 @@ use Rattle.sr_frame.specs.declared.ports.Port.{Port}
 use Rattle.sr_forwarding.specs.declared.outlets.Outlets.{Outlets}
 use Rattle.sr_forwarding.specs.Parcels.{ParcelImage}
 use Rattle.sr_forwarding.specs.declared.header.Header.{Header}
+use Rattle.sr_forwarding.specs.Headers.{header_of}
 use Rattle.sr_node.specs.declared.arriving.Admission.{Admission}
 use Rattle.sr_node.specs.declared.arriving.Admission.TheVariants as admission
 use Rattle.sr_node.specs.declared.arriving.Plan.{Plan}
@@ -12,14 +13,14 @@ use Rattle.sr_node.specs.Outboxes.{first_full}
 use Rattle.sr_node.specs.Lanes.{is_host}
 use Rattle.sr_node.specs.LifeChecks.{is_due}
 use Rattle.sr_node.specs.Images.{State}
-use Rattle.sr_node.specs.Arriving.{is_own, going_on, header_at, wanted_at, goes, outlets_fault, arrive_refusal}
+use Rattle.sr_node.specs.Arriving.{is_own, going_on, wanted_at, goes, outlets_fault, arrive_refusal}
 use Rattle.sr_node.specs.Ticking.{life_outlets}
 
 -- a frame of another node, which only a full table or a full queue may refuse
 pub record IsOther (s : State) (port : Port) (p : ParcelImage) (now : ℕ) (header : Header) (wanted : Outlets) : Type 0 where
   pub inlet : is_host port ≡ false
   pub other : is_own s p ≡ false
-  pub read : header ≡ header_at s (going_on s port p) now
+  pub read : header ≡ header_of (going_on s port p)
   pub asked : wanted ≡ wanted_at s port (going_on s port p) now
   pub fault : arrive_refusal s port p now ≡ outlets_fault s.core.out (goes s port p now)
 
@@ -31,7 +32,7 @@ IsAdmitted s port p now (admission.Other header wanted) = IsOther s port p now h
 -- where an arrival is wanted and where it is new, with room there
 pub record IsPassing (s : State) (port : Port) (p : ParcelImage) (now : ℕ) (header : Header) (wanted outlets : Outlets) : Type 0 where
   pub inlet : is_host port ≡ false
-  pub read : header ≡ header_at s (going_on s port p) now
+  pub read : header ≡ header_of (going_on s port p)
   pub asked : wanted ≡ wanted_at s port (going_on s port p) now
   pub goes : goes s port p now ≡ Some outlets
   pub room : first_full s.core.out outlets ≡ None

@@ -7,8 +7,10 @@ ghost use Rattle.sr_node.specs.Copies.{no_copies, copies_for, Room};
 ghost use Rattle.sr_node.specs.Images.{shown, node_state, IsReady, IsIdle};
 ghost use Rattle.sr_node.specs.Hearing.{HasRoomFor, HasRoomToo};
 ghost use Rattle.sr_node.specs.Lanes.{is_host};
+ghost use Rattle.sr_forwarding.specs.Headers.{header_of};
 ghost use Rattle.sr_forwarding.specs.Proxies.{learned};
-ghost use Rattle.sr_node.specs.Arriving.{is_too_long, is_untagged, takes_unnumbered, dst_known, header_at, wanted_at, going_on, number_at, next_at, goes, outlets_fault, arrive_refusal, Arrived, passed};
+ghost use Rattle.sr_forwarding.specs.Routes.{routes};
+ghost use Rattle.sr_node.specs.Arriving.{is_too_long, is_untagged, takes_unnumbered, header_told, wanted_at, going_on, number_at, next_at, goes, outlets_fault, arrive_refusal, Arrived, passed};
 ghost use Rattle.sr_node.specs.Octets.{OctetsArrived, OctetsRefused};
 ghost use Rattle.sr_node.specs.Plans.{ArrivalIs, IsAdmitted, IsPassing};
 
@@ -17,7 +19,7 @@ use crate::hearing::{Heard, said_by};
 use crate::state::is_plain_at_interlink;
 use crate::{Answer, NodeOf, StepFault};
 use sr_forwarding::{Form, Framing, Header, Outlets, ParcelView, ReadFault, Role, RoleKind};
-use sr_frame::{Mac, NoMemory, Port};
+use sr_frame::{NoMemory, Port};
 use sr_sequence::Seq;
 use sr_slots::Spot;
 use sr_supervision::Supervision;
@@ -97,32 +99,28 @@ fn numbered<'a>(port: Port, parcel: ParcelView<'a>, next: Seq) -> ParcelView<'a>
 }
 
 impl<R: Role> NodeOf<R> {
-    /// Whether the node knows a node with this address at this time.
-    pub(crate) fn is_dst_known(&self, dst: Mac, now: u64) -> bool
-        ensures { result ≡ dst_known (node_state (R.meaning self.now.role) self.now.core) dst now }
+    /// Where a frame with this header is wanted. The nodes are asked for its destination only where the role's routes read that.
+    pub(crate) fn wanted(&self, header: &Header, inlet: Port, now: u64) -> Outlets
+        ensures { result ≡ routes (R.meaning self.now.role)
+            (header_told (node_state (R.meaning self.now.role) self.now.core) header.now now) inlet now }
     {
-        self.core.nodes().has(dst, now)
-    }
-
-    /// What routes read of a parcel.
-    pub(crate) fn header_at(&self, parcel: &ParcelView<'_>, now: u64) -> Header
-        ensures { result ≡ header_at (node_state (R.meaning self.now.role) self.now.core) parcel.now now }
-    {
-        let header = parcel.header();
-        Header {
-            dst_known: self.is_dst_known(header.dst, now),
-            ..header
+        if !self.role.kind().reads_known() {
+            return self.role.wants(header, inlet, now);
         }
+        let header = Header {
+            dst_known: self.core.nodes().has(header.dst, now),
+            ..*header
+        };
+        self.role.wants(&header, inlet, now)
     }
 
-    // What routes read of a parcel as it goes on.
-    fn header_on(&self, port: Port, parcel: &ParcelView<'_>, now: u64) -> Header
-        ensures { result ≡ header_at (node_state (R.meaning self.now.role) self.now.core)
-            (going_on (node_state (R.meaning self.now.role) self.now.core) port parcel.now) now }
+    // What a header says of a parcel as it goes on.
+    fn header_on(&self, port: Port, parcel: &ParcelView<'_>) -> Header
+        ensures { result ≡ header_of (going_on (node_state (R.meaning self.now.role) self.now.core) port parcel.now) }
     {
         Header {
             seq: self.core.number_at(port, parcel),
-            ..self.header_at(parcel, now)
+            ..parcel.header()
         }
     }
 
@@ -142,8 +140,8 @@ impl<R: Role> NodeOf<R> {
         if parcel.header().src == self.role.mac() {
             return Ok(Admission::Own);
         }
-        let header = self.header_on(port, parcel, now);
-        let wanted = self.role.wants(&header, port, now);
+        let header = self.header_on(port, parcel);
+        let wanted = self.wanted(&header, port, now);
         Ok(Admission::Other { header, wanted })
     }
 

@@ -6,7 +6,7 @@ ghost use Rattle.sr_forwarding.specs.Routes.{routes};
 ghost use Rattle.sr_node.specs.Faults.{or_no_memory};
 ghost use Rattle.sr_node.specs.Outboxes.{first_full};
 ghost use Rattle.sr_node.specs.Images.{node_state, IsIdle};
-ghost use Rattle.sr_node.specs.Arriving.{full_fault};
+ghost use Rattle.sr_node.specs.Arriving.{full_fault, header_told};
 ghost use Rattle.sr_node.specs.Sending.{sent_parcel, send_outlets, send_refusal, SentAs};
 
 use crate::arriving::MAX_PLAIN_LEN;
@@ -18,14 +18,15 @@ use sr_frame::{Frame, Port};
 impl<R: Role> NodeOf<R> {
     /// Where a frame of the node with this header goes, or the first of these outlets that is full.
     pub(crate) fn plan_sent(&self, header: &Header, now: u64) -> Result<Outlets, StepFault>
-        ensures outlets { IfOk result (λ o. o ≡ routes (R.meaning self.now.role) header.now H now) }
+        ensures outlets { IfOk result (λ o. o ≡ routes (R.meaning self.now.role)
+            (header_told (node_state (R.meaning self.now.role) self.now.core) header.now now) H now) }
         ensures room { IfOk result (λ o. first_full self.now.core.out o ≡ None) }
-        ensures ok { OnOk result (full_fault (first_full self.now.core.out
-            (routes (R.meaning self.now.role) header.now H now)) ≡ None) }
-        ensures err { IfErr result (λ f. full_fault (first_full self.now.core.out
-            (routes (R.meaning self.now.role) header.now H now)) ≡ Some f) }
+        ensures ok { OnOk result (full_fault (first_full self.now.core.out (routes (R.meaning self.now.role)
+            (header_told (node_state (R.meaning self.now.role) self.now.core) header.now now) H now)) ≡ None) }
+        ensures err { IfErr result (λ f. full_fault (first_full self.now.core.out (routes (R.meaning self.now.role)
+            (header_told (node_state (R.meaning self.now.role) self.now.core) header.now now) H now)) ≡ Some f) }
     {
-        let outlets = self.role.wants(header, Port::H, now);
+        let outlets = self.wanted(header, Port::H, now);
         match self.core.out().first_full(outlets) {
             Some(full) => Err(StepFault::OutboxFull(full)),
             None => Ok(outlets),
@@ -55,7 +56,7 @@ impl<R: Role> NodeOf<R> {
         if parcel.header().src != self.role.mac() {
             return Err(StepFault::Reading(ReadFault::NotOwn));
         }
-        self.plan_sent(&self.header_at(&parcel, now), now)
+        self.plan_sent(&parcel.header(), now)
     }
 
     /// Sends a frame of the host at this moment, under the next number.

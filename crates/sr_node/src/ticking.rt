@@ -1,11 +1,12 @@
 //! Time passes.
 
-ghost use Rattle.std.specs.Prelude.{◌≡◌, IfOk, OnOk, OnErr, IfErr, None, Some};
+ghost use Rattle.std.specs.Prelude.{◌≡◌, ℕ, IfOk, OnOk, OnErr, IfErr, None, Some};
 ghost use Rattle.sr_node.specs.Faults.{or_no_memory};
 ghost use Rattle.sr_node.specs.Outboxes.{first_full};
 ghost use Rattle.sr_node.specs.Copies.{no_copies, copies_for, Room};
 ghost use Rattle.sr_node.specs.Images.{node_state, IsIdle};
 ghost use Rattle.sr_node.specs.Ticking.{life_header, next_life_check, tick_refusal, TickedAs};
+ghost use Rattle.sr_node.specs.Arriving.{header_told};
 ghost use Rattle.sr_node.specs.Plans.{LifeIs};
 
 use crate::copies::{Copies, no_copies};
@@ -16,9 +17,10 @@ use sr_frame::NoMemory;
 use sr_supervision::SUPERVISION;
 
 impl<R: Role> NodeOf<R> {
-    // What routes read of the next life check.
-    fn life_header(&self, now: u64) -> Header
-        ensures { result ≡ life_header (node_state (R.meaning self.now.role) self.now.core) now }
+    // What a header says of the next life check.
+    fn life_header(&self) -> Header
+        ensures { (now : ℕ) → header_told (node_state (R.meaning self.now.role) self.now.core) result now
+            ≡ life_header (node_state (R.meaning self.now.role) self.now.core) now }
     {
         Header {
             dst: SUPERVISION,
@@ -26,7 +28,7 @@ impl<R: Role> NodeOf<R> {
             seq: Some(self.core.next()),
             path: 0,
             supervision: true,
-            dst_known: self.is_dst_known(SUPERVISION, now),
+            dst_known: false,
         }
     }
 
@@ -39,7 +41,7 @@ impl<R: Role> NodeOf<R> {
         if !self.core.is_life_check_due(now) {
             return Ok(None);
         }
-        Ok(Some(self.plan_sent(&self.life_header(now), now)?))
+        Ok(Some(self.plan_sent(&self.life_header(), now)?))
     }
 
     // All growths of a life check.

@@ -3,7 +3,9 @@ use Rattle.std.proofs.Common.{◌≡◌, ℕ, suc, ◌+◌, ◌-◌, ◌≤◌, 
 use Rattle.std.specs.Map.{lookup, set_value, keys_of}
 use Rattle.std.specs.Map.Calls.{RetainsPairs}
 use Rattle.std.specs.List.{list_any, IsDistinct, AllByRecursion, position_or_len, insert, remove, slice_get}
-use Rattle.std.specs.Option.{option_map_or}
+use Rattle.std.specs.Prelude.{option_to_list}
+use Rattle.std.specs.Borrow.{Bor}
+use Rattle.std.specs.Option.{option_copied, option_map_or}
 use Rattle.std.proofs.Math.Bool.{or-true}
 use Rattle.std.proofs.lemmas.Bool.{not-true, not-false}
 use Rattle.std.proofs.lemmas.List.Folds.{list_any-append}
@@ -12,7 +14,7 @@ use Rattle.indexmap.specs.IndexMap.{insert_entry, move_index}
 use Rattle.sr_frame.specs.declared.fields.Mac.{Mac}
 use Rattle.sr_slots.specs.declared.places.Slot.{Slot}
 use Rattle.sr_frame.specs.Addresses.{mac_eq}
-use Rattle.sr_slots.specs.Places.{entry_at, held_at, entries_of, held_of, slot_of, KeepsHeld, KeepsAllHeld}
+use Rattle.sr_slots.specs.Places.{entry_at, held_at, entries_of, held_of, slot_of, IsLast, KeepsHeld, KeepsAllHeld}
 use Rattle.sr_frame.specs.AddressLemmas.{mac_same, mac_refl}
 use Rattle.sr_slots.specs.EntryLemmas.{one_if, head_differs}
 
@@ -52,6 +54,11 @@ moved front back x last h =
     ap (λ o. option_map_or (λ y. insert (remove (front ++ x ∷ back) (length front)) last y) o (front ++ x ∷ back)) (item_at front back x)
     ∙ ap (λ l. insert l last x) (without_item front back x)
     ∙ at_end (front ++ back) last x (omega (arith, length-append front (x ∷ back), length-append front back))
+
+-- there is a value behind a reference exactly where there is one
+pub copied_some : {T : Type 0} (o : Option (Bor T)) → is_some (option_copied o) ≡ is_some o
+copied_some None = refl
+copied_some (Some x) = refl
 
 -- a count of one more exactly where it was not counted before
 pub one_more : (b : Bool) (m n : ℕ) → m + one_if b ≡ n + 1 → m ≡ n + one_if (not b)
@@ -437,6 +444,29 @@ module _ {V : Type 0} where
         len = ap (λ l. length l + 0) held ∙ omega arith;
         others = λ q other. ap (list_any (mac_eq q)) held;
         free = ap (list_any (mac_eq m)) held ∙ held_absent m es absent;
+      }
+
+  -- `pop_held`: where the last place is held and has no value it goes
+  pub record Pops (es new : List (Mac × Slot V)) (went : Bool) : Type 0 where
+    pub entries : entries_of new ≡ entries_of es
+    pub len : length (held_of new) + one_if went ≡ length (held_of es)
+
+  pub held_empty : (s : Slot V) → s.held ≡ true → is_some s.value ≡ false → s ≡ slot_of None true
+  held_empty s held none = λ j. record { value = none_from s.value (sym none) j; held = held j }
+
+  pub pops : (o : Option (Mac × Slot V)) (es new : List (Mac × Slot V)) → es ≡ new ++ option_to_list o → IsLast (slot_of None true) es → Pops es new (is_some o)
+  pops None es new is last =
+      let t : new ≡ es = sym (append-nil new) ∙ sym is in
+      record { entries = ap entries_of t; len = ap (λ l. length (held_of l) + 0) t ∙ omega arith }
+  pops (Some p) es new is last =
+      let n : length es - 1 ≡ length new = ap (λ l. length l - 1) is ∙ omega (arith, length-append new (p ∷ [])) in
+      let at : slice_get es (length es - 1) ≡ Some p = (λ j. slice_get (is j) (n j)) ∙ item_at new [] p in
+      let same : Some p ≡ Some (last.0, slot_of None true) = sym at ∙ last.1 in
+      let p_is : p ≡ (last.0, slot_of None true) = cc in
+      let e : es ≡ new ++ (last.0, slot_of None true) ∷ [] = is ∙ ap (λ q. new ++ q ∷ []) p_is in
+      record {
+        entries = sym (added_entries last.0 (slot_of None true) new es e ∙ append-nil (entries_of new));
+        len = sym (ap length (added_held last.0 (slot_of None true) new es e) ∙ length-append (held_of new) (last.0 ∷ []));
       }
 
   -- `release`

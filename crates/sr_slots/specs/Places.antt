@@ -1,5 +1,5 @@
 -- What a table of addresses shows: its entries in order, and the addresses whose place is held.
-use Rattle.std.specs.Prelude.{◌≡◌, Bool, true, false, List, [], ◌∷◌, ◌++◌, slice_get, ℕ, is_some, Option, None, Some}
+use Rattle.std.specs.Prelude.{◌≡◌, ◌-◌, Bool, true, false, List, [], ◌∷◌, ◌++◌, length, slice_get, ℕ, is_some, Option, None, Some}
 use Rattle.std.specs.List.{list_any}
 use Rattle.std.specs.Map.{lookup, set_value, values_of}
 use Rattle.indexmap.specs.IndexMap.{set_value_at}
@@ -59,3 +59,7 @@ pub record StandsAt {X : Type 0} (key : Mac) (es : List (Mac × X)) (index : ℕ
 
 abbrev pub slot_of : {V : Type 0} → Option V → Bool → Slot V
 slot_of value held = record { value = value; held = held }
+
+-- this is what the last entry has
+abbrev pub IsLast : {X : Type 0} → X → List (Mac × X) → Type 0
+IsLast x es = (key : Mac) × (slice_get es (length es - 1) ≡ Some (key, x))

@@ -206,11 +206,15 @@ impl<V: Drop + Ranked> Slots<V> {
         }
     }
 
-    /// Gives up all held places. Where none is held it looks at none.
+    /// Gives up all held places. Where none is held it looks at none, and where the one that was held last is the only one, at
+    /// that alone.
     pub fn release(&mut self)
         ensures entries { self.new.entries ≡ self.old.entries }
         ensures held { self.new.held ≡ [] }
     {
+        if self.held > 0 && places::pop_held(&mut self.map) {
+            self.held -= 1;
+        }
         if self.held > 0 {
             places::release(&mut self.map);
             self.held = 0;

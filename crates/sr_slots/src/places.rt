@@ -5,7 +5,7 @@ ghost use Rattle.std.specs.Map.{lookup};
 ghost use Rattle.std.specs.Option.{option_copied, option_map};
 ghost use Rattle.indexmap.specs.IndexMap.{values};
 ghost use Rattle.sr_frame.specs.Addresses.{mac_eq};
-ghost use Rattle.sr_slots.specs.Places.{entries_of, held_of, slot_of, StandsAt, KeepsHeld};
+ghost use Rattle.sr_slots.specs.Places.{entries_of, held_of, slot_of, IsLast, StandsAt, KeepsHeld};
 ghost use Rattle.sr_slots.specs.Calls.{ChangesAt, least_rank, passing};
 
 use crate::keys::Keys;
@@ -219,6 +219,24 @@ pub fn give_up<V: Drop + Ranked>(map: &mut IndexMap<Mac, Slot<V>, Keys>, key: Ma
         }
         None => false,
     }
+}
+
+// Whether the last place is held and has no value.
+fn ends_held<V: Drop + Ranked>(map: &IndexMap<Mac, Slot<V>, Keys>) -> bool
+    ensures { result ≡ true → IsLast (slot_of None true) map.now.entries }
+{
+    match map.last() {
+        Some((_, slot)) => slot.held && slot.value.get().is_none(),
+        None => false,
+    }
+}
+
+/// Takes the last place out if it is held and has no value. Answers whether it was so.
+pub fn pop_held<V: Drop + Ranked>(map: &mut IndexMap<Mac, Slot<V>, Keys>) -> bool
+    ensures entries { entries_of map.new.entries ≡ entries_of map.old.entries }
+    ensures held { length (held_of map.new.entries) + (if result then 1 else 0) ≡ length (held_of map.old.entries) }
+{
+    ends_held(map) && map.pop().is_some()
 }
 
 /// Gives up all held places.

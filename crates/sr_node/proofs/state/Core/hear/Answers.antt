@@ -1,7 +1,7 @@
-use Rattle.std.proofs.Common.{◌≡◌, Ok, ap, ◌∙◌, subst, sym, Some}
+use Rattle.std.proofs.Common.{Ok, ap, ◌∙◌, subst, sym, Some}
 use Rattle.sr_node_table.specs.declared.node.Told.TheVariants.{Numbered}
 use Rattle.sr_node_table.specs.Nodes.{hearing_of}
-use Rattle.sr_node.specs.Hearing.{HasRoomFor, KeepsRoom}
+use Rattle.sr_node.specs.Hearing.{KeepsRoom}
 use Rattle.sr_node.proofs.HearingLemmas.{ready_still}
 use Rattle.sr_node.proofs.state.Core.hear.Goals as goal
 
