@@ -149,7 +149,9 @@ fn append_parcel(
     Ok(())
 }
 
-/// Takes what waits at a port, one after the other, and appends a line for each frame.
+/// Takes what waits at a port, one after the other, and appends a line for each frame. It stands apart, so that a port where
+/// nothing waits costs no call.
+#[inline(never)]
 fn append_queue<R: Role>(
     role: RoleName,
     node: &mut NodeOf<R>,
