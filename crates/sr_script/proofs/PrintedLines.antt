@@ -1,11 +1,11 @@
 -- Lines of parcels that are taken one by one.
-use Rattle.std.proofs.Common.{◌≡◌, ℕ, List, [], ◌∷◌, ◌++◌, drop, Some, None, refl, sym, subst, ◌∙◌, ap, append_assoc}
+use Rattle.std.proofs.Common.{◌≡◌, ℕ, List, [], ◌∷◌, ◌++◌, drop, Some, None, refl, sym, subst, ◌∙◌, ap, append_assoc, length, arith}
 use Rattle.std.proofs.lemmas.List.{append-nil}
 use Rattle.sr_frame.specs.declared.ports.Port.{Port}
 use Rattle.sr_frame.specs.declared.ports.Port.TheVariants.{H, A, B, C}
 use Rattle.sr_forwarding.specs.Parcels.{ParcelImage}
 use Rattle.sr_node.specs.Images.{State}
-use Rattle.sr_node.specs.Outboxes.{box_at, boxes_left, first_of}
+use Rattle.sr_node.specs.Outboxes.{Outboxes, box_at, boxes_left, first_of}
 use Rattle.sr_node.specs.PerPort.{with_at}
 use Rattle.sr_script.specs.declared.setups.RoleName.{RoleName}
 use Rattle.sr_script.specs.Texts.{IsLine, AreLines}
@@ -63,6 +63,31 @@ nothing_behind (x ∷ xs) e = absurd cc
 pub left_is_emptied : (s : State) (port : Port) → first_of (box_at s.core.out port) ≡ None → left_at s port ≡ emptied s port
 left_is_emptied s port e =
     ap (λ (q : List ParcelImage). record s { core = record s.core { out = with_at s.core.out port q } }) (nothing_behind (box_at s.core.out port) e)
+
+same_box : (s : State) (port : Port) → with_at s.core.out port (box_at s.core.out port) ≡ s.core.out
+same_box s H = refl
+same_box s A = refl
+same_box s B = refl
+same_box s C = refl
+
+none_first : (q : List ParcelImage) → length q ≡ 0 → (None ≡ first_of q) × (q ≡ drop 1 q)
+none_first [] e = (refl, refl)
+none_first (x ∷ xs) e = absurd (omega arith)
+
+-- where nothing waits, nothing is taken
+pub took_none : (s : State) (port : Port) → length (box_at s.core.out port) ≡ 0 → (None ≡ first_of (box_at s.core.out port)) × (s ≡ left_at s port)
+took_none s port e =
+    let none = none_first (box_at s.core.out port) e in (
+      none.0,
+      ap (λ (o : Outboxes). record s { core = record s.core { out = o } })
+          (sym (same_box s port) ∙ ap (λ (q : List ParcelImage). with_at s.core.out port q) none.1),
+    )
+
+pub emptied_none : (role : RoleName) (port : Port) (s : State) → length (box_at s.core.out port) ≡ 0
+    → AreLines role port (box_at s.core.out port) [] × (s ≡ emptied s port)
+emptied_none role port s e =
+    let none = took_none s port e in
+    (nothing_left role port (box_at s.core.out port) (sym none.0), none.1 ∙ left_is_emptied s port (sym none.0))
 
 pub four_parts : (t h a b c : List ℕ) → (((t ++ h) ++ a) ++ b) ++ c ≡ t ++ (h ++ (a ++ (b ++ c)))
 four_parts t h a b c = append_assoc ((t ++ h) ++ a) b c ∙ append_assoc (t ++ h) a (b ++ c) ∙ append_assoc t h (a ++ (b ++ c))

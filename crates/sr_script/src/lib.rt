@@ -17,6 +17,7 @@ mod setups;
 mod starting;
 mod status;
 mod status_lines;
+mod taking;
 mod waiting;
 mod words;
 

@@ -1,6 +1,6 @@
 //! What a node puts out, as text.
 
-ghost use Rattle.std.specs.Prelude.{◌≡◌, ◌++◌, ◌∷◌, [], ◌≤◌, ℕ, List, length, OnOk, IfErr};
+ghost use Rattle.std.specs.Prelude.{◌≡◌, ◌++◌, ◌∷◌, [], ◌≤◌, ℕ, List, length, OnOk, IfErr, IfSome};
 ghost use Rattle.hex.specs.Hex.{encode_lower};
 ghost use Rattle.sr_node.specs.Images.{node_state};
 ghost use Rattle.sr_forwarding.specs.Encoding.{IsWritten};
@@ -10,13 +10,15 @@ ghost use Rattle.sr_script.specs.Stations.{framing_of};
 ghost use Rattle.sr_script.specs.Texts.{frame_line, GoesAs, IsLine};
 ghost use Rattle.sr_script.specs.Replies.{Emptied, AllEmptied};
 
-use crate::carriers::carrier_of;
+use crate::carriers::{Carrier, carrier_of};
 use crate::fault::Word;
 use crate::setups::RoleName;
-use sr_forwarding::{Framing, Parcel, Role};
+use crate::taking::take_waiting;
+use sr_forwarding::{Form, Framing, Parcel, Role};
 use sr_frame::{Port, append};
 use sr_hex::append_hex;
 use sr_node::NodeOf;
+use sr_prp_trailer::TRAILER_LEN;
 use std::alloc::AllocError;
 
 /// The letter of a port.
@@ -90,6 +92,43 @@ fn write_frame(role: RoleName, port: Port, parcel: &Parcel, frame: &mut Vec<u8>)
     }
 }
 
+/// The plain form of a parcel, where it is a front of its octets.
+fn plain_in_place(parcel: &Parcel) -> Option<&[u8]>
+    ensures plain { IfSome result (λ octets. octets.now ≡ plain_of parcel.now) }
+    ensures size { IfSome result (λ octets. length octets.now ≤ 1524) }
+{
+    let octets = parcel.octets();
+    match parcel.form() {
+        Form::Plain => Some(octets),
+        Form::Prp => Some(&octets[..octets.len() - TRAILER_LEN]),
+        Form::Hsr => None,
+    }
+}
+
+/// The octets of a parcel, where the framing of a port writes them as they are.
+fn framed_in_place(role: RoleName, port: Port, parcel: &Parcel) -> Option<&[u8]>
+    ensures written { IfSome result (λ octets. IsWritten (framing_of role port) parcel.now.form parcel.now octets.now) }
+    ensures size { IfSome result (λ octets. length octets.now ≤ 1524) }
+{
+    match (carrier_of(role, port), parcel.form()) {
+        (Carrier::Plain(_), Form::Plain) => Some(parcel.octets()),
+        (Carrier::Ring(_), Form::Hsr) => Some(parcel.octets()),
+        (Carrier::Network(_), Form::Prp) => Some(parcel.octets()),
+        _ => None,
+    }
+}
+
+/// The octets that a parcel goes out as at a port, where they stand among its own.
+fn in_place(role: RoleName, port: Port, parcel: &Parcel) -> Option<&[u8]>
+    ensures goes { IfSome result (λ octets. GoesAs role port parcel.now octets.now) }
+    ensures size { IfSome result (λ octets. length octets.now ≤ 1524) }
+{
+    match port {
+        Port::H => plain_in_place(parcel),
+        Port::A | Port::B | Port::C => framed_in_place(role, port, parcel),
+    }
+}
+
 /// Appends the line for a parcel that goes out at a port. The list is used again.
 fn append_parcel(
     role: RoleName,
@@ -101,12 +140,37 @@ fn append_parcel(
     ensures ok { OnOk result ((line : List ℕ) × IsLine role port parcel.now line × (text.new.items ≡ text.old.items ++ line)) }
     ensures err { IfErr result (λ word. word ≡ Word.Memory) }
 {
+    if let Some(octets) = in_place(role, port, parcel) {
+        append_frame(text, port, octets)?;
+        return Ok(());
+    }
     write_frame(role, port, parcel, frame)?;
     append_frame(text, port, frame)?;
     Ok(())
 }
 
-/// Takes all that waits at a port, and appends a line for each frame.
+/// Takes what waits at a port, one after the other, and appends a line for each frame. It stands apart, so that a port where
+/// nothing waits costs no call.
+#[inline(never)]
+fn append_queue<R: Role>(
+    role: RoleName,
+    node: &mut NodeOf<R>,
+    port: Port,
+    frame: &mut Vec<u8>,
+    text: &mut Vec<u8>,
+) -> Result<(), Word>
+    ensures ok { OnOk result ((lines : List ℕ)
+        × Emptied role port (node_state (R.meaning node.old.role) node.old.core) lines (node_state (R.meaning node.new.role) node.new.core)
+        × (text.new.items ≡ text.old.items ++ lines)) }
+    ensures err { IfErr result (λ word. word ≡ Word.Memory) }
+{
+    while let Some(parcel) = take_waiting(node, port) {
+        append_parcel(role, port, &parcel, frame, text)?;
+    }
+    Ok(())
+}
+
+/// Takes all that waits at a port, and appends a line for each frame. As a rule nothing waits, which is seen first.
 fn append_waiting<R: Role>(
     role: RoleName,
     node: &mut NodeOf<R>,
@@ -119,10 +183,10 @@ fn append_waiting<R: Role>(
         × (text.new.items ≡ text.old.items ++ lines)) }
     ensures err { IfErr result (λ word. word ≡ Word.Memory) }
 {
-    while let Some(parcel) = node.take(port) {
-        append_parcel(role, port, &parcel, frame, text)?;
+    if node.waiting(port) == 0 {
+        return Ok(());
     }
-    Ok(())
+    append_queue(role, node, port, frame, text)
 }
 
 /// Takes all that waits, outlet by outlet, and appends a line for each frame.

@@ -3,7 +3,7 @@ use Rattle.sr_node.specs.Images.{node_state}
 use Rattle.sr_node.specs.Outboxes.{box_at}
 use Rattle.sr_script.specs.Replies.{emptied}
 use Rattle.sr_script.proofs.PrintedLines.{Printed}
-use Rattle.sr_script.proofs.printing.append_waiting.Given as goal
+use Rattle.sr_script.proofs.printing.append_queue.Given as goal
 
 abbrev pub invariant-loop-parcel : goal.invariant-loop-parcel
 invariant-loop-parcel g l = record {
