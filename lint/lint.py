@@ -9,6 +9,7 @@ import sys
 from pathlib import Path
 
 WIDEST_DEFINITION = 140
+WIDEST_CLAUSE = 100
 DOCUMENTS = ["README.md", "CONTRIBUTING.md", "docs/*.md", "bench/*.md", "crates/*/README.md"]
 FILE_ENDINGS = ("rt", "antt", "md", "script", "expected", "status", "pcap", "pcapng", "edit", "txt")
 
@@ -34,6 +35,28 @@ def wide_definitions(root):
         for number, line in numbered(path):
             if len(line) > WIDEST_DEFINITION:
                 yield path, number, f"a line of {len(line)} characters"
+
+
+def clause_lines(lines):
+    """The numbers, from 0, of the lines of clauses and of other ghost items in braces."""
+    begins = re.compile(r"\s*(pub(\(crate\))? )?(ensures|requires|ghost (?!use\b)\w+)\b")
+    inside, depth = False, 0
+    for number, line in enumerate(lines):
+        if not inside and begins.match(line) and "{" in line:
+            inside, depth = True, 0
+        if inside:
+            yield number
+            depth += line.count("{") - line.count("}")
+            inside = depth > 0
+
+
+def wide_clauses(root):
+    """A line of a clause, or of another ghost item of the source, is at most 100 characters wide."""
+    for path in sorted(root.glob("crates/*/src/**/*.rt")):
+        lines = path.read_text().split("\n")
+        for number in clause_lines(lines):
+            if len(lines[number]) > WIDEST_CLAUSE:
+                yield path, number + 1, f"a line of a clause of {len(lines[number])} characters"
 
 
 def silent_items(root):
@@ -160,19 +183,6 @@ def names_twice(root):
 MADE = {"crates/sr_script/src/starting.rt", "crates/sr_script/src/answering.rt"}
 
 
-def clause_lines(lines):
-    """The numbers, from 0, of the lines of clauses and of other ghost items in braces."""
-    begins = re.compile(r"\s*(pub(\(crate\))? )?(ensures|requires|ghost (?!use\b)\w+)\b")
-    inside, depth = False, 0
-    for number, line in enumerate(lines):
-        if not inside and begins.match(line) and "{" in line:
-            inside, depth = True, 0
-        if inside:
-            yield number
-            depth += line.count("{") - line.count("}")
-            inside = depth > 0
-
-
 def makes_lack(code):
     """Whether a line of code has want of memory as a value: not as a type, a variant, or a pattern."""
     if re.match(r"\s*(use|pub use|ghost use|impl|pub struct|pub enum)\b|\s*NoMemory,$", code):
@@ -242,6 +252,7 @@ def untested_lines(root):
 
 RULES = [
     wide_definitions,
+    wide_clauses,
     silent_items,
     bare_limits,
     names_twice,

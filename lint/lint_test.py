@@ -36,6 +36,17 @@ class Lint(unittest.TestCase):
         wide = {"crates/sr_one/specs/Ones.antt": "one = 1\n-- " + "ℕ" * 137 + "\n-- " + "ℕ" * 138 + "\n"}
         self.assertEqual(self.findings(wide), ["crates/sr_one/specs/Ones.antt:3: a line of 141 characters"])
 
+    def test_wide_clauses(self):
+        source = "crates/sr_one/src/lib.rt"
+        begin, end = "    ensures { ", " }"
+        for length, wide in [(100, []), (101, [f"{source}:2: a line of a clause of 101 characters"])]:
+            clause = begin + "ℕ" * (length - len(begin) - len(end)) + end
+            self.assertEqual(self.findings({source: f"fn one()\n{clause}\n{{\n}}\n"}), wide)
+        later = "    requires later { a\n" + " " * 8 + "→ " + "b" * 95 + " }\n"
+        self.assertEqual(self.findings({source: later}), [f"{source}:2: a line of a clause of 107 characters"])
+        for line in ["ghost use Rattle.one.{" + "a" * 100 + "}", "// ensures { " + "a" * 100 + " }", '    b"' + "0" * 100 + '",']:
+            self.assertEqual(self.findings({source: line + "\n"}), [], line)
+
     def test_silent_items(self):
         for item in ["pub fn one() {}", "    pub const fn one() {}", "pub struct one;", "#[inline]\npub enum one {}"]:
             found = self.findings({"crates/sr_one/src/lib.rt": "// one\n" + item + "\n"})
