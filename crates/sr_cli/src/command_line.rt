@@ -47,64 +47,96 @@ impl From<AllocError> for Refused {
     }
 }
 
-/// A subcommand that runs a script on a node: `--role danp|danh|san|prp|hsr --mac M [--lan a|b] [--net 1..6]`.
+/// The role of a node: `--role danp|danh|san|prp|hsr`.
+fn role_option<'a>(alloc: Global) -> Arg<'a> {
+    Arg::new(alloc, "role")
+        .long("role")
+        .required(true)
+        .value_parser(["danp", "danh", "san", "prp", "hsr"].as_slice())
+        .help("The role of the node")
+}
+
+/// Its address: `--mac M`.
+fn mac_option<'a>(alloc: Global) -> Arg<'a> {
+    Arg::new(alloc, "mac")
+        .long("mac")
+        .required(true)
+        .help("The address of the node, 12 hexadecimal digits")
+}
+
+/// The LAN at its interlink: `[--lan a|b]`.
+fn lan_option<'a>(alloc: Global) -> Arg<'a> {
+    Arg::new(alloc, "lan")
+        .long("lan")
+        .default_value("a")
+        .value_parser(["a", "b"].as_slice())
+        .help("The LAN at the interlink, of role prp")
+}
+
+/// The network at its interlink: `[--net 1..6]`.
+fn net_option<'a>(alloc: Global) -> Arg<'a> {
+    Arg::new(alloc, "net")
+        .long("net")
+        .default_value("1")
+        .value_parser(["1", "2", "3", "4", "5", "6"].as_slice())
+        .help("The number of the PRP network at the interlink, of role prp")
+}
+
+/// A subcommand that runs a script on a node.
 fn node_command<'a>(
     alloc: Global,
     name: &'a str,
     about: &'a str,
 ) -> Result<Command<'a>, AllocError> {
-    let role = Arg::new(alloc, "role")
-        .long("role")
-        .required(true)
-        .value_parser(["danp", "danh", "san", "prp", "hsr"].as_slice())
-        .help("The role of the node");
-    let mac = Arg::new(alloc, "mac")
-        .long("mac")
-        .required(true)
-        .help("The address of the node, 12 hexadecimal digits");
-    let lan = Arg::new(alloc, "lan")
-        .long("lan")
-        .default_value("a")
-        .value_parser(["a", "b"].as_slice())
-        .help("The LAN at the interlink, of role prp");
-    let net = Arg::new(alloc, "net")
-        .long("net")
-        .default_value("1")
-        .value_parser(["1", "2", "3", "4", "5", "6"].as_slice())
-        .help("The number of the PRP network at the interlink, of role prp");
     Command::new(alloc, name)
         .about(about)
-        .arg(role)?
-        .arg(mac)?
-        .arg(lan)?
-        .arg(net)
+        .arg(role_option(alloc))?
+        .arg(mac_option(alloc))?
+        .arg(lan_option(alloc))?
+        .arg(net_option(alloc))
+}
+
+/// The program without its subcommands.
+fn program<'a>(alloc: Global) -> Result<Command<'a>, AllocError> {
+    let program = Command::new(alloc, "seamless").bin_name("seamless")?;
+    Ok(
+        program
+            .about("Runs a script of events on a node of a redundant network")
+            .subcommand_required(true),
+    )
+}
+
+/// A command with one subcommand more, if that was made. A command is large: what holds two of them at once is this alone.
+fn with<'a>(
+    command: Command<'a>,
+    subcommand: Result<Command<'a>, AllocError>,
+) -> Result<Command<'a>, AllocError> {
+    command.subcommand(subcommand?)
 }
 
 /// What the parser knows.
 fn command<'a>(alloc: Global) -> Result<Command<'a>, AllocError> {
-    let replay = node_command(alloc, "replay", "Prints the frames that the node hands out")?;
+    let replay = node_command(alloc, "replay", "Prints the frames that the node hands out");
+    let command = with(program(alloc)?, replay)?;
     let status = node_command(
         alloc,
         "status",
         "Prints what the node knows of other nodes at the end, and its alarms",
-    )?;
-    Command::new(alloc, "seamless")
-        .bin_name("seamless")?
-        .about("Runs a script of events on a node of a redundant network")
-        .subcommand_required(true)
-        .subcommand(replay)?
-        .subcommand(status)?
-        .subcommand(script_command(alloc)?)?
-        .subcommand(plant_command(
-            alloc,
-            "ring",
-            "Runs a script on a ring of doubly attached nodes",
-        )?)?
-        .subcommand(plant_command(
-            alloc,
-            "lan",
-            "Runs a script on doubly attached nodes of two LANs",
-        )?)
+    );
+    let command = with(command, status)?;
+    let command = with(command, script_command(alloc))?;
+    let ring = plant_command(
+        alloc,
+        "ring",
+        "Runs a script on a ring of doubly attached nodes",
+    );
+    let command = with(command, ring)?;
+    let lan = plant_command(
+        alloc,
+        "lan",
+        "Runs a script on doubly attached nodes of two LANs",
+    );
+    with(command, lan)
 }
 
 /// The address that 12 hexadecimal digits of either case spell.
