@@ -2,6 +2,7 @@
 
 use crate::frames::{Sent, life_check, octets_of, plain_form, untagged_form};
 use crate::steps::{Outcome, Taken, Told};
+use sr_dup_table::DupFault;
 use sr_forwarding::{Framing, HsrFraming, Parcel, PlainFraming, PrpFraming, RoleKind};
 use sr_frame::{Frame, Mac, Port};
 use sr_node::{Answer, Event, Node, NodeImage, StepFault};
@@ -131,6 +132,24 @@ fn happens(node: &mut Node, event: &Event) -> Outcome {
         (Ok(()), outcome) => outcome,
         (Err(fault), Outcome::Refused(same)) if fault == same => outcome,
         (Err(_), _) => Outcome::Other,
+    }
+}
+
+/// Taking over: why it was refused, if it was. None where the refusal changed the node.
+fn absorb_whole(node: &mut Node, other: &Node) -> Option<Option<DupFault>> {
+    let before = image_of(node);
+    let refusal = node.absorb(other).err();
+    if refusal.is_some() && !is_as(node, before) {
+        return None;
+    }
+    Some(refusal)
+}
+
+/// Taking over.
+pub fn absorb(node: &mut Node, other: &Node) -> Option<Option<DupFault>> {
+    match absorb_whole(node, other) {
+        Some(Some(DupFault::NoMemory)) => absorb_whole(node, other),
+        outcome => outcome,
     }
 }
 

@@ -5,6 +5,7 @@ use crate::steps::{Outcome, Step, Taken, expect_ring_steps, expect_steps};
 use sr_forwarding::{ReadFault, RoleKind};
 use sr_frame::Port;
 use sr_node::StepFault;
+use sr_node_table::Alarm;
 use sr_sequence::Seq;
 
 // The host's frame goes both ways round under the next number, with the path of each port. Another's group frame goes up
@@ -159,7 +160,7 @@ fn frames_handed_over_as_events(rt: HostRuntime) {
 }
 
 // For a run in which one allocation fails: supervision of a new node that speaks of another new one, a frame with two copies,
-// one of the host, and a life check.
+// one of the host, a life check, a frame at a port that the role has not, and a life check at which all is forgotten.
 const GROWTHS: &[Step] = &[
     Step::In(
         Port::A,
@@ -188,10 +189,35 @@ const GROWTHS: &[Step] = &[
         Taken::Untagged(Sent::Tagged(EVERYONE, OTHER, 0, 7)),
     ),
     Step::Take(Port::A, Taken::As(Sent::Tagged(EVERYONE, OWN, 0, 64511))),
+    Step::In(Port::C, Sent::OfSource(3), 6, Outcome::Nowhere),
     Step::Waiting(Port::H, 1),
     Step::Waiting(Port::A, 3),
     Step::Waiting(Port::B, 5),
     Step::Knows(&[OTHER, THIRD]),
+    Step::Tick(60_005, Outcome::Forgot(2)),
+    Step::Waiting(Port::A, 4),
+    Step::Waiting(Port::B, 6),
+    Step::Knows(&[]),
+    Step::Alarms(&[
+        Alarm::RingError {
+            mac: OTHER,
+            port: Port::B,
+            at: 3,
+        },
+        Alarm::RingError {
+            mac: THIRD,
+            port: Port::B,
+            at: 3,
+        },
+        Alarm::NodeDown {
+            mac: OTHER,
+            at: 60_005,
+        },
+        Alarm::NodeDown {
+            mac: THIRD,
+            at: 60_005,
+        },
+    ]),
 ];
 
 #[test]

@@ -43,3 +43,19 @@ const APART: &[Step] = &[
 fn numbers_half_of_all_apart_are_not_taken_over(rt: HostRuntime) {
     expect_steps(&rt, APART);
 }
+
+// Of many sources each record is copied; for a run in which one allocation fails.
+const MANY: &[Step] = &[
+    Step::Sources(20),
+    Step::Absorb(Sent::OfSource(20), 399, None),
+    Step::Time(399),
+    Step::In(Port::B, Sent::OfSource(0), 399, Outcome::Nowhere),
+    Step::In(Port::B, Sent::OfSource(19), 399, Outcome::Nowhere),
+    Step::In(Port::B, Sent::OfSource(20), 399, Outcome::Nowhere),
+    Step::In(Port::B, Sent::OfSource(21), 399, Outcome::Up),
+];
+
+#[test]
+fn refused_growths_take_nothing_over(rt: HostRuntime) {
+    expect_steps(&rt, MANY);
+}

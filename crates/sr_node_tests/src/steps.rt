@@ -2,8 +2,8 @@
 //! No test holds a node, an answer or a parcel itself, which would make its proof long.
 
 use crate::calls::{
-    alarmed, arrive, arrive_of_many, arrive_zeros, hand, knows, send, takes, takes_by_event, tick,
-    told_of,
+    absorb, alarmed, arrive, arrive_of_many, arrive_zeros, hand, knows, send, takes,
+    takes_by_event, tick, told_of,
 };
 use crate::frames::{OTHER, OWN, Sent, octets_of};
 use sr_dup_table::DupFault;
@@ -159,27 +159,25 @@ fn becomes(alloc: Global, node: &mut Node, kind: RoleKind) -> bool {
     }
 }
 
-/// What taking over comes to. None for want of memory.
-fn absorb(alloc: Global, node: &mut Node, sent: Sent, now: u64) -> Option<Option<DupFault>> {
+/// Another node of the address, which heard this frame. None for want of memory.
+fn hearer(alloc: Global, sent: Sent, now: u64) -> Option<Node> {
     let danp = Box::new(alloc, Danp::new(OWN)).ok()?;
     let role: Box<dyn Role + Send> = danp;
-    let mut active = Node::new(alloc, role).ok()?;
-    if arrive_of_many(&mut active, Port::A, &octets_of(sent), now) != Outcome::Up {
+    let mut other = Node::new(alloc, role).ok()?;
+    if arrive_of_many(&mut other, Port::A, &octets_of(sent), now) != Outcome::Up {
         return None;
     }
-    match node.absorb(&active) {
-        Ok(()) => Some(None),
-        Err(DupFault::NoMemory) => None,
-        Err(fault) => Some(Some(fault)),
-    }
+    Some(other)
 }
 
-/// Whether it comes to this, where need be at another try.
+/// Whether taking over comes to this. Want of memory for the other node is met by another try.
 fn absorbs(alloc: Global, node: &mut Node, sent: Sent, now: u64, wanted: Option<DupFault>) -> bool {
-    match absorb(alloc, node, sent, now) {
-        None => absorb(alloc, node, sent, now) == Some(wanted),
-        other => other == Some(wanted),
+    for _ in 0..2 {
+        if let Some(other) = hearer(alloc, sent, now) {
+            return absorb(node, &other) == Some(wanted);
+        }
     }
+    false
 }
 
 fn fills(node: &mut Node, count: u16, now: u64) -> bool {

@@ -5,7 +5,7 @@ use Rattle.sr_capture.specs.Taking.{Loses}
 use Rattle.sr_pcapng.specs.declared.listing.Listing.{Listing}
 use Rattle.sr_pcapng.specs.Blocks.{kind_of, IsBlock}
 use Rattle.sr_pcapng.specs.declared.block.Kind.{Kind}
-use Rattle.sr_pcapng.specs.Listing.{listed_by, Follow, Ends, Lists}
+use Rattle.sr_pcapng.specs.Listing.{listed_by, Follow, EndsList, Lists}
 
 -- some blocks were taken: what follows them here follows them and others from the start
 abbrev pub Goes : ByteOrder → Listing → Listing → ℕ → Option (List ℕ) → Option (List ℕ) → Type 0
@@ -30,7 +30,7 @@ goes_all order start now count old left g =
 
 -- the section ends
 pub lists : (order : ByteOrder) (start now : Listing) (count : ℕ) (old left new : Option (List ℕ)) → Goes order start now count old left
-    → Ends order now left new → Lists order start now.listed old new
+    → EndsList order now left new → Lists order start now.listed old new
 lists order start now count old left new g ends =
     let all = goes_all order start now count old left g in
     (all.0, now, left, all.2, refl, inl ends)

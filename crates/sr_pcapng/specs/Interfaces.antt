@@ -28,7 +28,7 @@ use Rattle.sr_pcapng.specs.declared.track.Interface.{Interface}
 use Rattle.sr_pcapng.specs.declared.track.Section.{Section}
 use Rattle.sr_pcapng.specs.declared.track.Wanted.{Wanted}
 use Rattle.sr_pcapng.specs.declared.track.Wanted.TheVariants.{Only, Number}
-use Rattle.sr_pcapng.specs.Listing.{with_number}
+use Rattle.sr_pcapng.specs.Listing.{with_listed}
 use Rattle.sr_pcapng.specs.Options.{Reads}
 
 -- whether the interface of this number and this link type is the one that is wanted; link type 1 is Ethernet
@@ -81,7 +81,7 @@ IsWrongInterface wanted check section octets reason.Length = length octets < 20
 IsWrongInterface wanted check section octets (reason.Link link) = IsMeant wanted section octets
     × (link ≡ half_at section.order octets 8) × (link ≢ 1)
 IsWrongInterface wanted check section octets (reason.Several two) = IsMeant wanted section octets × (wanted ≡ Only)
-    × ((other : Interface) × (section.taken ≡ Some other) × (two.0 ≡ with_number (with_number 0 other.number) section.count))
+    × ((other : Interface) × (section.taken ≡ Some other) × (two.0 ≡ with_listed (with_listed 0 other.number) section.count))
 IsWrongInterface wanted check section octets reason.Options = IsMeant wanted section octets
     × (half_at section.order octets 8 ≡ 1) × IsFree wanted section.taken
     × ((interface : Interface) → IsInterface check section octets interface → ⊥)

@@ -16,20 +16,20 @@ use Rattle.sr_pcapng.specs.declared.track.Section.{Section}
 use Rattle.sr_pcapng.specs.Blocks.{kind_of, IsBlock, IsNoBlock}
 
 -- a list with one number more: bit N stands for number N, and bit 63 for 63 and any above
-abbrev pub with_number : ℕ → ℕ → ℕ
-with_number listed number = bit_or listed (2 ^ min number 63)
+abbrev pub with_listed : ℕ → ℕ → ℕ
+with_listed listed number = bit_or listed (2 ^ min number 63)
 
 -- a list behind the description of an interface, which is on it where it is Ethernet
-abbrev pub noted : ByteOrder → List ℕ → Listing → Listing
-noted order octets listing = record {
-  listed = if half_at order octets 8 == 1 then with_number listing.listed listing.count else listing.listed;
+abbrev pub after_description : ByteOrder → List ℕ → Listing → Listing
+after_description order octets listing = record {
+  listed = if half_at order octets 8 == 1 then with_listed listing.listed listing.count else listing.listed;
   count = min (listing.count + 1) (2 ^ 32 - 1);
 }
 
 -- a list behind a block of this kind, if that is still of the section, and no description that is too short
 abbrev pub listed_by : Kind → ByteOrder → List ℕ → Listing → Option Listing
 listed_by kind.Section order octets listing = None
-listed_by kind.Interface order octets listing = if nat_lt (length octets) 20 then None else Some (noted order octets listing)
+listed_by kind.Interface order octets listing = if nat_lt (length octets) 20 then None else Some (after_description order octets listing)
 listed_by rest order octets listing = Some listing
 
 -- the octets are these blocks of a section, and from one list they lead to another
@@ -40,8 +40,8 @@ Follow (block ∷ blocks) order listing last old new = (left : Option (List ℕ)
     × Follow blocks order next last left new
 
 -- the section can be read no further: nothing is left, there is no block, or one that adds nothing to the list
-abbrev pub Ends : ByteOrder → Listing → Option (List ℕ) → Option (List ℕ) → Type 0
-Ends order listing old new = WasAtEnd old new
+abbrev pub EndsList : ByteOrder → Listing → Option (List ℕ) → Option (List ℕ) → Type 0
+EndsList order listing old new = WasAtEnd old new
     ⊎ (((fault : CaptureFault) × IsNoBlock (Some order) fault old new)
     ⊎ ((block : List ℕ) × (own : ByteOrder) × Loses block old new × IsBlock (Some order) block own
     × (listed_by (kind_of own block) own block listing ≡ None)))
@@ -50,10 +50,10 @@ Ends order listing old new = WasAtEnd old new
 abbrev pub Lists : ByteOrder → Listing → ℕ → Option (List ℕ) → Option (List ℕ) → Type 0
 Lists order listing listed old new = (blocks : List (List ℕ)) × (last : Listing) × (left : Option (List ℕ))
     × Follow blocks order listing last old left × (listed ≡ last.listed)
-    × (Ends order last left new ⊎ ((new ≡ left) × (length blocks ≡ 2 ^ 64 - 1)))
+    × (EndsList order last left new ⊎ ((new ≡ left) × (length blocks ≡ 2 ^ 64 - 1)))
 
 -- the reason that is told: where a second interface of a section is Ethernet, all that are; else the one that was found
-abbrev pub Tells : Option Section → Reason → Reason → Option (List ℕ) → Option (List ℕ) → Type 0
-Tells (Some section) (reason.Several two) told old new = (all : Listed) × (told ≡ reason.Several all)
+abbrev pub TellsAll : Option Section → Reason → Reason → Option (List ℕ) → Option (List ℕ) → Type 0
+TellsAll (Some section) (reason.Several two) told old new = (all : Listed) × (told ≡ reason.Several all)
     × Lists section.order (record { listed = two.0; count = min (section.count + 1) (2 ^ 32 - 1) }) all.0 old new
-Tells section own told old new = (told ≡ own) × (new ≡ old)
+TellsAll section own told old new = (told ≡ own) × (new ≡ old)

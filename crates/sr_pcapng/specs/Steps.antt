@@ -38,7 +38,7 @@ use Rattle.sr_pcapng.specs.declared.track.Section.{Section}
 use Rattle.sr_pcapng.specs.declared.track.Track.{Track}
 use Rattle.sr_pcapng.specs.Blocks.{kind_of, IsBlock, IsNoBlock}
 use Rattle.sr_pcapng.specs.Interfaces.{Describes, IsWrongInterface}
-use Rattle.sr_pcapng.specs.Listing.{Tells}
+use Rattle.sr_pcapng.specs.Listing.{TellsAll}
 use Rattle.sr_pcapng.specs.PacketBlocks.{InEnhanced, InSimple, IsWrongEnhanced, IsWrongSimple}
 
 -- the order of octets of a section, if there is one
@@ -116,7 +116,7 @@ abbrev pub RefusesBlock : Track → CaptureFault → Option (List ℕ) → Optio
 RefusesBlock track fault old new = (own : Reason) × (fault.at ≡ place_of own)
     × ((octets : List ℕ) × (order : ByteOrder) × (left : Option (List ℕ)) × Loses octets old left
     × IsBlock (order_in track.section) octets order × IsWrong (kind_of order octets) track order octets own
-    × Tells track.section own fault.reason left new)
+    × TellsAll track.section own fault.reason left new)
 
 -- why there is no next block that means something
 abbrev pub IsNoStep : Track → CaptureFault → Option (List ℕ) → Option (List ℕ) → Type 0

@@ -1,7 +1,7 @@
 //! The interfaces of a section that are Ethernet, where there is more than one and none was named.
 
 ghost use Rattle.std.specs.Prelude.{◌≡◌, ◌≤◌, length};
-ghost use Rattle.sr_pcapng.specs.Listing.{listed_by, noted, Lists, Tells};
+ghost use Rattle.sr_pcapng.specs.Listing.{listed_by, after_description, Lists, TellsAll};
 
 use crate::block::{Kind, kind_of, take_block};
 use crate::interface::{ETHERNET, MIN_LEN};
@@ -17,9 +17,9 @@ pub(crate) struct Listing {
 }
 
 /// A list behind the description of an interface.
-fn noted(order: ByteOrder, octets: &[u8], listing: Listing) -> Listing
+fn after_description(order: ByteOrder, octets: &[u8], listing: Listing) -> Listing
     requires { 20 ≤ length octets.now }
-    ensures { result ≡ noted order octets.now listing }
+    ensures { result ≡ after_description order octets.now listing }
 {
     let is_ethernet = half_at(order, octets, 8) == ETHERNET;
     Listing {
@@ -42,7 +42,7 @@ fn listed_by(kind: Kind, order: ByteOrder, octets: &[u8], listing: Listing) -> O
             if octets.len() < MIN_LEN {
                 return None;
             }
-            Some(noted(order, octets, listing))
+            Some(after_description(order, octets, listing))
         }
         Kind::Enhanced | Kind::Simple | Kind::Other => Some(listing),
     }
@@ -80,7 +80,7 @@ pub(crate) fn told<R: BufRead>(
     own: Reason,
     block: &mut Vec<u8>,
 ) -> Reason
-    ensures { Tells section own result (R.remaining reader.old) (R.remaining reader.new) }
+    ensures { TellsAll section own result (R.remaining reader.old) (R.remaining reader.new) }
 {
     match (section, own) {
         (Some(section), Reason::Several(two)) => {

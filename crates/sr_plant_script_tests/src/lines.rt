@@ -2,6 +2,9 @@
 
 use crate::steps::{Step, expect_steps};
 
+/// The digits of 1504 octets 55.
+const FIVES: &[u8] = &[b'5'; 3008];
+
 // Each of these is none of a script.
 const NONE: &[Step] = &[
     Step::Refused(b" "),
@@ -42,7 +45,8 @@ fn lines_of_no_script(rt: HostRuntime) {
     expect_steps(&rt, NONE);
 }
 
-// What is empty or a comment says nothing; the greatest number is one; the reasons come in their order, the sender first.
+// What is empty or a comment says nothing; the greatest number is one; the reasons come in their order, the sender first;
+// the longest frame is taken, carried and handed up.
 const SOME: &[Step] = &[
     Step::Ring(2, &[b"\n#\n# carry 0\n\n"], &[b"flight 0\n"]),
     Step::Ring(2, &[b""], &[b"flight 0\n"]),
@@ -73,7 +77,18 @@ const SOME: &[Step] = &[
         &[],
         &[b"refused 1 NoSuchNode\nflight 0\n"],
     ),
-    Step::Long(2, &[b"send 0 1 "], 1504, &[b"5c"], &[], &[b"flight 2\n"]),
+    Step::Long(
+        2,
+        &[b"send 0 1 "],
+        1504,
+        &[b"55"],
+        &[b"\nflow\n"],
+        &[
+            b"up 1 02000000000102000000000088b5",
+            FIVES,
+            b"\nflow 2\nflight 0\n",
+        ],
+    ),
 ];
 
 #[test]

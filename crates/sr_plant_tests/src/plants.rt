@@ -104,8 +104,33 @@ const CUTS: &[Step] = &[
     Step::Up(3, &[(0, To::All)]),
 ];
 
+// What goes up stays, in order, however much of it there is.
+const MANY_UP: &[Step] = &[
+    Step::Does(Act::Send(0, To::Node(1))),
+    Step::Flow(2),
+    Step::Does(Act::Send(0, To::All)),
+    Step::Flow(4),
+    Step::Does(Act::Send(0, To::Node(1))),
+    Step::Flow(2),
+    Step::Does(Act::Send(0, To::All)),
+    Step::Flow(4),
+    Step::Does(Act::Send(0, To::Node(1))),
+    Step::Flow(2),
+    Step::Up(
+        1,
+        &[
+            (0, To::Node(1)),
+            (0, To::All),
+            (0, To::Node(1)),
+            (0, To::All),
+            (0, To::Node(1)),
+        ],
+    ),
+];
+
 #[test]
 fn rings(rt: HostRuntime) {
+    expect_steps(&rt, rt.alloc(), Network::Ring(2), MANY_UP);
     expect_steps(&rt, rt.alloc(), Network::Ring(4), WHOLE_RING);
     expect_steps(&rt, rt.alloc(), Network::Ring(4), CUT_RING);
     expect_steps(&rt, rt.alloc(), Network::Ring(4), ONE_NODE);

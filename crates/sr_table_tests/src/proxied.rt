@@ -21,14 +21,30 @@ fn mac(number: u16) -> Mac {
     Mac([2, 0, 0, 0, high, low])
 }
 
-// A call is made once more where memory ran out.
-fn learn(table: &mut ProxyTable, number: u16, now: u64) -> Option<Learnt> {
-    for _ in 0..2u8 {
-        if let Ok(learnt) = table.learn(mac(number), now) {
-            return Some(learnt);
-        }
+// All that a table has, asked for again where memory runs out.
+fn times_of(table: &ProxyTable) -> Option<Vec<(Mac, u64)>> {
+    match table.times() {
+        Ok(times) => Some(times),
+        Err(_) => table.times().ok(),
     }
-    None
+}
+
+// Whether a table is as it was.
+fn is_as(table: &ProxyTable, before: Option<Vec<(Mac, u64)>>) -> bool {
+    match (times_of(table), before) {
+        (Some(times), Some(before)) => times == before,
+        _ => false,
+    }
+}
+
+// What is learned. Want of memory leaves the table as it was, and the call is made once more.
+fn learn(table: &mut ProxyTable, number: u16, now: u64) -> Option<Learnt> {
+    let before = times_of(table);
+    match table.learn(mac(number), now) {
+        Ok(learnt) => Some(learnt),
+        Err(_) if is_as(table, before) => table.learn(mac(number), now).ok(),
+        Err(_) => None,
+    }
 }
 
 fn fills(table: &mut ProxyTable, first: u16, count: u16, now: u64) -> bool {

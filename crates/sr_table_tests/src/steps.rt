@@ -54,7 +54,8 @@ pub enum Step {
     Damaged(Which, usize, u8, bool),
     /// A snapshot of so many octets, cut or with zeros behind it, is one, or none.
     Resized(Which, usize, bool),
-    /// No damage of a table's snapshot is read as a table with another snapshot: 64 octets one by one, by a seed.
+    /// No damage of a table's snapshot is read as a table with another snapshot: 64 octets one by one, and then all behind its
+    /// head, by a seed.
     NeverMisread(Which, u32),
     /// Whether two tables have one snapshot.
     SameText(Which, Which, bool),
@@ -242,6 +243,19 @@ fn is_never_misread(alloc: Global, table: &DupTable, seed: u32) -> bool {
     true
 }
 
+// Whether octets with no pattern behind the head are no snapshot, or that of the table which is read.
+fn is_never_made_up(alloc: Global, table: &DupTable, seed: u32) -> bool {
+    let Some(mut text) = text_of(alloc, table) else {
+        return false;
+    };
+    let mut random = seed;
+    for octet in text.iter_mut().skip(7) {
+        random = random.wrapping_mul(1664525).wrapping_add(1013904223);
+        *octet = (random >> 24) as u8;
+    }
+    is_own_text(alloc, text.as_slice())
+}
+
 fn holds(alloc: Global, tables: &mut Tables, step: Step) -> bool {
     match step {
         Step::Hear(Which::One, src, seq, now) => hear(&mut tables.one, src, seq, now),
@@ -273,9 +287,13 @@ fn holds(alloc: Global, tables: &mut Tables, step: Step) -> bool {
             let Some(mut text) = text_of(alloc, table(tables, which)) else {
                 return false;
             };
-            text.resize(len, 0).is_ok() && is_read(alloc, text.as_slice()) == answer
+            let is_resized = text.resize(len, 0).is_ok() || text.resize(len, 0).is_ok();
+            is_resized && is_read(alloc, text.as_slice()) == answer
         }
-        Step::NeverMisread(which, seed) => is_never_misread(alloc, table(tables, which), seed),
+        Step::NeverMisread(which, seed) => {
+            let table = table(tables, which);
+            is_never_misread(alloc, table, seed) && is_never_made_up(alloc, table, seed)
+        }
         Step::SameText(one, other, answer) => {
             has_same_text(alloc, table(tables, one), table(tables, other)) == answer
         }
