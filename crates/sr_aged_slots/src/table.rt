@@ -122,7 +122,8 @@ impl<V: Drop, const SPAN: u64, const MOST: usize> AgedSlots<V, SPAN, MOST> {
     /// Holds the places of two addresses. NoMemory: memory ran out, and each address has a held place as before.
     pub fn hold_both(&mut self, key: Mac, other: Mac) -> Result<(), NoMemory>
         ensures entries { self.new.entries ≡ self.old.entries }
-        ensures held { OnOk result ((is_held self.new key ≡ true) × (is_held self.new other ≡ true)) }
+        ensures held { OnOk result ((is_held self.new key ≡ true)
+            × (is_held self.new other ≡ true)) }
         ensures others { OnOk result (KeepsHeldBut self.old.held self.new.held key other) }
         ensures err { OnErr result (KeepsAllHeld self.old.held self.new.held) }
     {
@@ -161,9 +162,11 @@ impl<V: Drop, const SPAN: u64, const MOST: usize> AgedSlots<V, SPAN, MOST> {
         change: F,
     ) -> Option<R>
         requires callable { F.IsAlwaysCallable change }
-        requires later { (was is : Aged V) (answer : R) → FnOnceReturnsAtMut F.FnOnce change was answer is → was.time ≤ is.time }
+        requires later { (was is : Aged V) (answer : R)
+            → FnOnceReturnsAtMut F.FnOnce change was answer is → was.time ≤ is.time }
         ensures found { is_some result ≡ is_some (value_at self.old key) }
-        ensures changed { IfSome result (λ answer. ChangesAt F.FnOnce change key self.old.entries answer self.new.entries) }
+        ensures changed { IfSome result (λ answer.
+            ChangesAt F.FnOnce change key self.old.entries answer self.new.entries) }
         ensures others { IfSome result (λ answer. KeepsHeld self.old.held self.new.held key) }
         ensures used { IfSome result (λ answer. is_held self.new key ≡ false) }
         ensures none { IfNone result (self.new ≡ self.old) }
@@ -193,7 +196,8 @@ impl<V: Drop, const SPAN: u64, const MOST: usize> AgedSlots<V, SPAN, MOST> {
     pub fn append(&mut self, key: Mac, value: V, now: u64) -> Result<(), NoMemory>
         requires absent { value_at self.old key ≡ None }
         requires room { nat_lt (length (with_room SPAN MOST now self.old.entries)) MOST ≡ true }
-        ensures entries { OnOk result (self.new.entries ≡ with_room SPAN MOST now self.old.entries ++ (key, record { value = value; time = now }) ∷ []) }
+        ensures entries { OnOk result (self.new.entries ≡ with_room SPAN MOST now self.old.entries
+            ++ (key, record { value = value; time = now }) ∷ []) }
         ensures reserved { is_held self.old key ≡ true → IsOk result }
         ensures others { OnOk result (KeepsHeld self.old.held self.new.held key) }
         ensures used { OnOk result (is_held self.new key ≡ false) }
@@ -240,7 +244,8 @@ impl<V: Drop, const SPAN: u64, const MOST: usize> AgedSlots<V, SPAN, MOST> {
 
     /// The same. The next calls at this time look at no value.
     pub fn is_full_now(&mut self, now: u64) -> bool
-        ensures result { result ≡ not (nat_lt (length (with_room SPAN MOST now self.old.entries)) MOST) }
+        ensures result { result
+            ≡ not (nat_lt (length (with_room SPAN MOST now self.old.entries)) MOST) }
         ensures same { self.new ≡ self.old }
     {
         if self.slots.len() >= MOST {

@@ -15,7 +15,8 @@ use std::io::BufRead;
 /// # Errors
 /// Those of `take_next`, at the octet of the file.
 pub(crate) fn advance<R: BufRead>(source: &mut Source<R>) -> Result<(), CaptureFault>
-    ensures goes { OnOk result (GoesOn source.old.state source.old.delay source.new.due (left_of R.remaining source.old.reader)
+    ensures goes { OnOk result (GoesOn source.old.state source.old.delay source.new.due
+        (left_of R.remaining source.old.reader)
         (left_of R.remaining source.new.reader) (progress_of source.old) (progress_of source.new)) }
     ensures same { IsSame source.old source.new }
     ensures fault { IfErr result (λ fault. IsStuck source.old.state source.old.place fault

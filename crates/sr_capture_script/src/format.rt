@@ -37,8 +37,10 @@ pub(crate) fn take_next<R: BufRead>(
     block: &mut Vec<u8>,
     packet: &mut Packet,
 ) -> Result<bool, CaptureFault>
-    ensures taken { IfOk result (λ more. Takes more format.old format.new packet.new (R.remaining reader.old) (R.remaining reader.new)) }
-    ensures fault { IfErr result (λ fault. IsNoNext format.old fault (R.remaining reader.old) (R.remaining reader.new)) }
+    ensures taken { IfOk result (λ more. Takes more format.old format.new packet.new
+        (R.remaining reader.old) (R.remaining reader.new)) }
+    ensures fault { IfErr result (λ fault.
+        IsNoNext format.old fault (R.remaining reader.old) (R.remaining reader.new)) }
 {
     match *format {
         Format::Pcap(form) => match sr_capture::next_packet(reader, form, packet) {

@@ -34,7 +34,8 @@ fn given(check: u8, form: Form) -> Form
 /// `Read` where the reader fails.
 fn begins_pcapng<R: BufRead>(reader: &mut R) -> Result<bool, Reason>
     ensures kept { Loses [] (R.remaining reader.old) (R.remaining reader.new) }
-    ensures told { IfOk result (λ begins. IfSome (R.remaining reader.old) (λ octets. IsTrue begins ↔ BeginsPcapng octets)) }
+    ensures told { IfOk result (λ begins.
+        IfSome (R.remaining reader.old) (λ octets. IsTrue begins ↔ BeginsPcapng octets)) }
     ensures fault { IfErr result (λ reason. reason ≡ ReadFails) }
 {
     let Ok(available) = reader.fill_buf() else {
@@ -52,8 +53,10 @@ pub(crate) fn take_front<R: BufRead>(
     how: Reading,
     octets: &mut Vec<u8>,
 ) -> Result<Format, CaptureFault>
-    ensures taken { IfOk result (λ form. TakesFront how form (R.remaining reader.old) (R.remaining reader.new)) }
-    ensures refused { IfErr result (λ fault. HasNoFront fault (R.remaining reader.old) (R.remaining reader.new)) }
+    ensures taken { IfOk result (λ form.
+        TakesFront how form (R.remaining reader.old) (R.remaining reader.new)) }
+    ensures refused { IfErr result (λ fault.
+        HasNoFront fault (R.remaining reader.old) (R.remaining reader.new)) }
 {
     match begins_pcapng(reader) {
         Ok(true) => return Ok(Format::Pcapng(Track::new(how.wanted, how.check_len))),

@@ -61,7 +61,8 @@ fn append_arrival(
     octets: &[u8],
 ) -> Result<(), ScriptFault>
     requires { length octets.now < 2 ^ 32 }
-    ensures ok { OnOk result (text.new.items ≡ text.old.items ++ arrival_line inlet time octets.now) }
+    ensures ok { OnOk result (text.new.items ≡ text.old.items
+        ++ arrival_line inlet time octets.now) }
     ensures err { IfErr result (λ fault. fault ≡ ScriptFault.NoMemory) }
 {
     let letter = letter_of(inlet);
@@ -82,7 +83,8 @@ pub(crate) fn append_line(
     time: u64,
     packet: &Packet,
 ) -> Result<(), ScriptFault>
-    ensures ok { OnOk result ((captured : Captured) (n : ℕ) → Shows packet.now captured → number ≡ min n (2 ^ 64 - 1)
+    ensures ok { OnOk result ((captured : Captured) (n : ℕ) → Shows packet.now captured
+        → number ≡ min n (2 ^ 64 - 1)
         → text.new.items ≡ text.old.items ++ line_of inlet n time captured) }
     ensures err { IfErr result (λ fault. fault ≡ ScriptFault.NoMemory) }
 {

@@ -28,11 +28,16 @@ fn serve_at<R: BufRead, W: Write>(
 ) -> Result<(), ScriptFault>
     requires { IsEarliest inlet moment a.old.due b.old.due c.old.due }
     ensures goes { OnOk result ((start_a start_b start_c held : Option (List ℕ))
-        → Going R.remaining choice.now start_a start_b start_c a.old b.old c.old clock.old held (W.contents writer.old)
-        → Going R.remaining choice.now start_a start_b start_c a.new b.new c.new clock.new held (W.contents writer.new)) }
-    ensures halts { IfErr result (λ fault. fault ≢ ScriptFault.Write → (start_a start_b start_c held : Option (List ℕ))
-        → Going R.remaining choice.now start_a start_b start_c a.old b.old c.old clock.old held (W.contents writer.old)
-        → Halts choice.now (feed_of a.old start_a) (feed_of b.old start_b) (feed_of c.old start_c) fault held (W.contents writer.new)) }
+        → Going R.remaining choice.now start_a start_b start_c a.old b.old c.old clock.old held
+        (W.contents writer.old)
+        → Going R.remaining choice.now start_a start_b start_c a.new b.new c.new clock.new held
+        (W.contents writer.new)) }
+    ensures halts { IfErr result (λ fault. fault ≢ ScriptFault.Write
+        → (start_a start_b start_c held : Option (List ℕ))
+        → Going R.remaining choice.now start_a start_b start_c a.old b.old c.old clock.old held
+        (W.contents writer.old)
+        → Halts choice.now (feed_of a.old start_a) (feed_of b.old start_b) (feed_of c.old start_c)
+        fault held (W.contents writer.new)) }
     ensures same_a { IsSame a.old a.new }
     ensures same_b { IsSame b.old b.new }
     ensures same_c { IsSame c.old c.new }
@@ -53,13 +58,18 @@ pub(crate) fn merge<R: BufRead, W: Write>(
     text: &mut Vec<u8>,
     writer: &mut W,
 ) -> Result<Option<u64>, ScriptFault>
-    ensures merged { IfOk result (λ last. (start_a start_b start_c : Option (List ℕ)) → IsFed R.remaining AtA start_a a.old []
+    ensures merged { IfOk result (λ last. (start_a start_b start_c : Option (List ℕ))
+        → IsFed R.remaining AtA start_a a.old []
         → IsFed R.remaining AtB start_b b.old [] → IsFed R.remaining AtC start_c c.old []
-        → Merges choice.now (feed_of a.old start_a) (feed_of b.old start_b) (feed_of c.old start_c) a.new b.new c.new last
+        → Merges choice.now (feed_of a.old start_a) (feed_of b.old start_b) (feed_of c.old start_c)
+        a.new b.new c.new last
         (W.contents writer.old) (W.contents writer.new)) }
-    ensures halts { IfErr result (λ fault. fault ≢ ScriptFault.Write → (start_a start_b start_c : Option (List ℕ))
-        → IsFed R.remaining AtA start_a a.old [] → IsFed R.remaining AtB start_b b.old [] → IsFed R.remaining AtC start_c c.old []
-        → Halts choice.now (feed_of a.old start_a) (feed_of b.old start_b) (feed_of c.old start_c) fault
+    ensures halts { IfErr result (λ fault. fault ≢ ScriptFault.Write
+        → (start_a start_b start_c : Option (List ℕ))
+        → IsFed R.remaining AtA start_a a.old [] → IsFed R.remaining AtB start_b b.old []
+        → IsFed R.remaining AtC start_c c.old []
+        → Halts choice.now (feed_of a.old start_a) (feed_of b.old start_b)
+        (feed_of c.old start_c) fault
         (W.contents writer.old) (W.contents writer.new)) }
     ensures same_a { IsSame a.old a.new }
     ensures same_b { IsSame b.old b.new }

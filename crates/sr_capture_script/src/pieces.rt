@@ -30,7 +30,8 @@ fn tick_count(last: u64, step: u64, most: u64) -> u64
 
 /// Appends the ticks behind a line, a step apart, that are not after a time, nor more than a minute behind the line.
 fn append_tick_times(text: &mut Vec<u8>, last: u64, step: u64, most: u64) -> Result<(), ScriptFault>
-    ensures ok { OnOk result (text.new.items ≡ text.old.items ++ flat_map tick_line (tick_times last step most)) }
+    ensures ok { OnOk result (text.new.items ≡ text.old.items
+        ++ flat_map tick_line (tick_times last step most)) }
     ensures err { IfErr result (λ fault. fault ≡ ScriptFault.NoMemory) }
 {
     let count = tick_count(last, step, most);

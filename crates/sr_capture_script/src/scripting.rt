@@ -76,14 +76,19 @@ fn print<R: BufRead, W: Write>(
     text: &mut Vec<u8>,
     writer: &mut W,
 ) -> Result<(), ScriptFault>
-    ensures scripts { OnOk result ((start_a start_b start_c : Option (List ℕ)) → IsFed R.remaining AtA start_a a.old []
+    ensures scripts { OnOk result ((start_a start_b start_c : Option (List ℕ))
+        → IsFed R.remaining AtA start_a a.old []
         → IsFed R.remaining AtB start_b b.old [] → IsFed R.remaining AtC start_c c.old []
-        → (all : List ℕ) × Scripts options.now.choice (feed_of a.old start_a) (feed_of b.old start_b) (feed_of c.old start_c)
+        → (all : List ℕ) × Scripts options.now.choice (feed_of a.old start_a)
+        (feed_of b.old start_b) (feed_of c.old start_c)
         (is_some a.old.reader) (is_some b.old.reader) (is_some c.old.reader) all
         × Appends (W.contents writer.old) (W.contents writer.new) all) }
-    ensures halts { IfErr result (λ fault. fault ≢ ScriptFault.Write → (start_a start_b start_c : Option (List ℕ))
-        → IsFed R.remaining AtA start_a a.old [] → IsFed R.remaining AtB start_b b.old [] → IsFed R.remaining AtC start_c c.old []
-        → Halts options.now.choice (feed_of a.old start_a) (feed_of b.old start_b) (feed_of c.old start_c) fault
+    ensures halts { IfErr result (λ fault. fault ≢ ScriptFault.Write
+        → (start_a start_b start_c : Option (List ℕ))
+        → IsFed R.remaining AtA start_a a.old [] → IsFed R.remaining AtB start_b b.old []
+        → IsFed R.remaining AtC start_c c.old []
+        → Halts options.now.choice (feed_of a.old start_a) (feed_of b.old start_b)
+        (feed_of c.old start_c) fault
         (W.contents writer.old) (W.contents writer.new)) }
 {
     let last = merge(a, b, c, &options.choice, text, writer)?;

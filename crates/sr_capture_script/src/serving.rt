@@ -42,13 +42,17 @@ pub(crate) fn serve<R: BufRead, W: Write>(
     writer: &mut W,
 ) -> Result<(), ScriptFault>
     requires { source.old.due ≡ Some moment }
-    ensures served { OnOk result ((start : Option (List ℕ)) (gone : List Item) → IsFed R.remaining inlet start source.old gone
-        → Serves R.remaining inlet choice.now (unwrap_or clock.old.base moment) moment clock.old.last start gone source.new
+    ensures served { OnOk result ((start : Option (List ℕ)) (gone : List Item)
+        → IsFed R.remaining inlet start source.old gone
+        → Serves R.remaining inlet choice.now (unwrap_or clock.old.base moment) moment
+        clock.old.last start gone source.new
         (W.contents writer.old) (W.contents writer.new)) }
     ensures same { IsSame source.old source.new }
     ensures clock { OnOk result ((clock.new.base ≡ Some (unwrap_or clock.old.base moment))
-        × (clock.new.last ≡ last_after choice.now (unwrap_or clock.old.base moment) clock.old.last moment)) }
-    ensures stopped { IfErr result (λ fault. StopsServing R.remaining inlet choice.now (unwrap_or clock.old.base moment) moment clock.old.last fault
+        × (clock.new.last
+        ≡ last_after choice.now (unwrap_or clock.old.base moment) clock.old.last moment)) }
+    ensures stopped { IfErr result (λ fault. StopsServing R.remaining inlet choice.now
+        (unwrap_or clock.old.base moment) moment clock.old.last fault
         source.old source.new (W.contents writer.old) (W.contents writer.new)) }
 {
     let base = clock.base.unwrap_or(moment);

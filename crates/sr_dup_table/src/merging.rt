@@ -37,7 +37,8 @@ fn live_count(table: &DupTable, now: u64) -> usize
 // What a table has of a live source.
 fn live_entry(table: &DupTable, src: Mac, now: u64) -> Option<&Aged<Record<16>>>
     requires { IsTable table.now.sources }
-    ensures { option_map heard_of (option_copied result) ≡ lookup (mac_eq src) (live_at now table.now.sources) }
+    ensures { option_map heard_of (option_copied result)
+        ≡ lookup (mac_eq src) (live_at now table.now.sources) }
 {
     let entry = table.entry(src)?;
     if is_live(entry, now) {
@@ -49,7 +50,8 @@ fn live_entry(table: &DupTable, src: Mac, now: u64) -> Option<&Aged<Record<16>>>
 
 // Whether the greatest numbers of two records are half of all numbers apart.
 fn is_apart(one: &Record<16>, other: &Record<16>) -> bool
-    ensures { result ≡ nat_eq (steps (window_of one.now).reference (window_of other.now).reference) 32768 }
+    ensures { result
+        ≡ nat_eq (steps (window_of one.now).reference (window_of other.now).reference) 32768 }
 {
     other.reference().0.wrapping_sub(one.reference().0) == 32768
 }
@@ -65,7 +67,8 @@ struct Tally {
 fn see(tally: &mut Tally, src: Mac, known: Option<&Aged<Record<16>>>, entry: &Aged<Record<16>>)
     requires { tally.old.count ≤ 2048 }
     ensures count { tally.new.count ≡ tally.old.count
-        + length (new_source (option_map heard_of (option_copied known.entry)) (src, heard_of entry.now)) }
+        + length (new_source (option_map heard_of (option_copied known.entry))
+        (src, heard_of entry.now)) }
     ensures apart { tally.new.apart ≡ or_else tally.old.apart
         (apart_source (option_map heard_of (option_copied known.entry)) (src, heard_of entry.now)) }
 {
@@ -106,9 +109,11 @@ fn join_fault(table: &DupTable, other: &DupTable, now: u64) -> Option<DupFault>
 // Adds a source to a table that lacks it. TableFull: 1024 others stand there. NoMemory: memory ran out.
 fn add(table: &mut DupTable, src: Mac, entry: &Aged<Record<16>>) -> Result<(), DupFault>
     requires { lookup (mac_eq src) table.old.sources ≡ None }
-    ensures added { OnOk result (table.new.sources ≡ table.old.sources ++ (src, heard_of entry.now) ∷ []) }
+    ensures added { OnOk result (table.new.sources
+        ≡ table.old.sources ++ (src, heard_of entry.now) ∷ []) }
     ensures room { OnOk result (length table.new.sources ≤ most_sources) }
-    ensures refused { IfErr result (λ e. length table.old.sources + 1 ≤ most_sources → e ≡ DupFault.NoMemory) }
+    ensures refused { IfErr result (λ e. length table.old.sources + 1 ≤ most_sources
+        → e ≡ DupFault.NoMemory) }
 {
     if table.source_count() >= MOST_SOURCES {
         return Err(DupFault::TableFull);
@@ -120,11 +125,15 @@ fn add(table: &mut DupTable, src: Mac, entry: &Aged<Record<16>>) -> Result<(), D
 // Joins a source to a table. TableFull: it is new, and 1024 others stand there. Apart: the two records are. NoMemory: memory ran out.
 fn take(table: &mut DupTable, src: Mac, entry: &Aged<Record<16>>) -> Result<(), DupFault>
     requires { length table.old.sources ≤ most_sources }
-    ensures joined { OnOk result (table.new.sources ≡ with_source table.old.sources (src, heard_of entry.now)) }
-    ensures close { OnOk result (is_apart (lookup (mac_eq src) table.old.sources) (heard_of entry.now) ≡ false) }
+    ensures joined { OnOk result (table.new.sources
+        ≡ with_source table.old.sources (src, heard_of entry.now)) }
+    ensures close { OnOk result
+        (is_apart (lookup (mac_eq src) table.old.sources) (heard_of entry.now) ≡ false) }
     ensures room { OnOk result (length table.new.sources ≤ most_sources) }
-    ensures refused { IfErr result (λ e. length (with_source table.old.sources (src, heard_of entry.now)) ≤ most_sources
-        → is_apart (lookup (mac_eq src) table.old.sources) (heard_of entry.now) ≡ false → e ≡ DupFault.NoMemory) }
+    ensures refused { IfErr result (λ e.
+        length (with_source table.old.sources (src, heard_of entry.now)) ≤ most_sources
+        → is_apart (lookup (mac_eq src) table.old.sources) (heard_of entry.now) ≡ false
+        → e ≡ DupFault.NoMemory) }
 {
     match table.join(src, entry) {
         Some(true) => Ok(()),
@@ -137,9 +146,12 @@ fn take(table: &mut DupTable, src: Mac, entry: &Aged<Record<16>>) -> Result<(), 
 fn take_all(table: &mut DupTable, other: &DupTable, now: u64) -> Result<(), DupFault>
     requires few { length table.old.sources ≤ most_sources }
     requires unique { IsDistinct mac_eq (keys_of other.now.sources) }
-    ensures joined { OnOk result (table.new.sources ≡ with_sources table.old.sources (live_at now other.now.sources)) }
-    ensures joinable { OnOk result (join_fault table.old.sources (live_at now other.now.sources) ≡ None) }
-    ensures refused { IfErr result (λ e. join_fault table.old.sources (live_at now other.now.sources) ≡ None → e ≡ DupFault.NoMemory) }
+    ensures joined { OnOk result (table.new.sources
+        ≡ with_sources table.old.sources (live_at now other.now.sources)) }
+    ensures joinable { OnOk result
+        (join_fault table.old.sources (live_at now other.now.sources) ≡ None) }
+    ensures refused { IfErr result (λ e. join_fault table.old.sources
+        (live_at now other.now.sources) ≡ None → e ≡ DupFault.NoMemory) }
 {
     for (src, entry) in other.entries() {
         if is_live(entry, now) {
@@ -158,10 +170,13 @@ fn join_of(
 ) -> Result<DupTable, DupFault>
     requires few { length table.now.sources ≤ most_sources }
     requires unique { IsDistinct mac_eq (keys_of other.now.sources) }
-    ensures joins { IfOk result (λ both. IsJoin (live_at now table.now.sources) (live_at now other.now.sources) both.sources) }
+    ensures joins { IfOk result (λ both.
+        IsJoin (live_at now table.now.sources) (live_at now other.now.sources) both.sources) }
     ensures held { IfOk result (λ both. both.held ≡ []) }
-    ensures joinable { OnOk result (join_fault (live_at now table.now.sources) (live_at now other.now.sources) ≡ None) }
-    ensures refused { IfErr result (λ e. join_fault (live_at now table.now.sources) (live_at now other.now.sources) ≡ None
+    ensures joinable { OnOk result
+        (join_fault (live_at now table.now.sources) (live_at now other.now.sources) ≡ None) }
+    ensures refused { IfErr result (λ e.
+        join_fault (live_at now table.now.sources) (live_at now other.now.sources) ≡ None
         → e ≡ DupFault.NoMemory) }
 {
     let mut both = table.try_clone(alloc)?;
@@ -177,13 +192,16 @@ impl DupTable {
     /// TableFull: the join has over 1024 sources. Apart: two records of this source are 32768 apart, the first such source of the
     /// other table. NoMemory: memory ran out. The first of these is answered, and nothing changes.
     pub fn merge(&mut self, alloc: Global, other: &DupTable, now: u64) -> Result<(), DupFault>
-        ensures joins { OnOk result (IsJoin (live_at now self.old.sources) (live_at now other.now.sources) self.new.sources) }
+        ensures joins { OnOk result (IsJoin (live_at now self.old.sources)
+            (live_at now other.now.sources) self.new.sources) }
         ensures held { OnOk result (self.new.held ≡ []) }
 
         // Exactly where there is a fault it is answered, and otherwise at most NoMemory.
         ensures refused { IfErr result (λ e. e
-            ≡ unwrap_or (join_fault (live_at now self.old.sources) (live_at now other.now.sources)) DupFault.NoMemory) }
-        ensures joinable { OnOk result (join_fault (live_at now self.old.sources) (live_at now other.now.sources) ≡ None) }
+            ≡ unwrap_or (join_fault (live_at now self.old.sources) (live_at now other.now.sources))
+            DupFault.NoMemory) }
+        ensures joinable { OnOk result
+            (join_fault (live_at now self.old.sources) (live_at now other.now.sources) ≡ None) }
         ensures err { OnErr result (self.new ≡ self.old) }
     {
         let _few = (self.source_count(), other.source_count());

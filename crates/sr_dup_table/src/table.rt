@@ -94,7 +94,8 @@ impl DupTable {
 
     /// The record of a source, forgotten or not, and the time when it was last heard.
     pub fn entry(&self, src: Mac) -> Option<&Aged<Record<16>>>
-        ensures { option_map heard_of (option_copied result) ≡ lookup (mac_eq src) self.now.sources }
+        ensures { option_map heard_of (option_copied result)
+            ≡ lookup (mac_eq src) self.now.sources }
     {
         self.slots.get(src)
     }
@@ -153,7 +154,8 @@ impl DupTable {
     pub fn fresh(&self, src: Mac, seq: Seq, lanes: Lanes, now: u64) -> Result<Lanes, TableFull>
         requires { is_empty lanes ≡ false }
         ensures answer { result_ok result ≡ arrive_answer self.now.sources src seq.0 lanes now }
-        ensures full { IsErr result ↔ (length (live_others src now self.now.sources) ≡ most_sources) }
+        ensures full { IsErr result
+            ↔ (length (live_others src now self.now.sources) ≡ most_sources) }
     {
         match self.slots.get(src) {
             Some(entry) => Ok(fresh(entry, seq, lanes, now)),
@@ -171,8 +173,10 @@ impl DupTable {
     /// the sources to see whether the table is full. Nothing that shows changes.
     pub fn look(&mut self, src: Mac, seq: Seq, lanes: Lanes, now: u64) -> Result<Look, TableFull>
         requires { is_empty lanes ≡ false }
-        ensures answer { option_map (λ look. look.fresh) (result_ok result) ≡ arrive_answer self.old.sources src seq.0 lanes now }
-        ensures full { IsErr result ↔ (length (live_others src now self.old.sources) ≡ most_sources) }
+        ensures answer { option_map (λ look. look.fresh) (result_ok result)
+            ≡ arrive_answer self.old.sources src seq.0 lanes now }
+        ensures full { IsErr result
+            ↔ (length (live_others src now self.old.sources) ≡ most_sources) }
         ensures same { self.new ≡ self.old }
     {
         if let Some(look) = self.look_known(src, seq, lanes, now) {
@@ -190,7 +194,8 @@ impl DupTable {
     // The same for a source that has a record.
     fn look_known(&self, src: Mac, seq: Seq, lanes: Lanes, now: u64) -> Option<Look>
         ensures answer { option_map (λ look. look.fresh) result
-            ≡ option_map (λ heard. fresh_at heard seq.0 lanes now) (lookup (mac_eq src) self.now.sources) }
+            ≡ option_map (λ heard. fresh_at heard seq.0 lanes now)
+            (lookup (mac_eq src) self.now.sources) }
         ensures few { length self.now.sources ≤ most_sources }
     {
         let (spot, entry) = self.slots.find(src)?;
@@ -204,17 +209,24 @@ impl DupTable {
     /// TableFull: 1024 other sources are live. NoMemory: memory ran out. Either way nothing changes.
     pub fn arrive(&mut self, src: Mac, seq: Seq, lanes: Lanes, now: u64) -> Result<Lanes, DupFault>
         requires { is_empty lanes ≡ false }
-        ensures answer { IfOk result (λ fresh. arrive_answer self.old.sources src seq.0 lanes now ≡ Some fresh) }
-        ensures after { OnOk result (self.new.sources ≡ after_arrive self.old.sources src seq.0 lanes now) }
+        ensures answer { IfOk result (λ fresh.
+            arrive_answer self.old.sources src seq.0 lanes now ≡ Some fresh) }
+        ensures after { OnOk result (self.new.sources
+            ≡ after_arrive self.old.sources src seq.0 lanes now) }
 
         // TableFull exactly where 1024 other sources are live, and otherwise NoMemory alone.
-        ensures exact { IsErrOf result DupFault.TableFull ↔ (length (live_others src now self.old.sources) ≡ most_sources) }
-        ensures refused { IfErr result (λ e. e ≡ arrive_fault (arrive_answer self.old.sources src seq.0 lanes now)) }
-        ensures full { IfErr result (λ e. e ≡ DupFault.TableFull → arrive_answer self.old.sources src seq.0 lanes now ≡ None) }
-        ensures only_full { arrive_answer self.old.sources src seq.0 lanes now ≡ None → IsErrOf result DupFault.TableFull }
+        ensures exact { IsErrOf result DupFault.TableFull
+            ↔ (length (live_others src now self.old.sources) ≡ most_sources) }
+        ensures refused { IfErr result (λ e.
+            e ≡ arrive_fault (arrive_answer self.old.sources src seq.0 lanes now)) }
+        ensures full { IfErr result (λ e. e ≡ DupFault.TableFull
+            → arrive_answer self.old.sources src seq.0 lanes now ≡ None) }
+        ensures only_full { arrive_answer self.old.sources src seq.0 lanes now ≡ None
+            → IsErrOf result DupFault.TableFull }
 
         // A place that was held is used up, and no other.
-        ensures reserved { is_held self.old src ≡ true → IfErr result (λ e. e ≡ DupFault.TableFull) }
+        ensures reserved { is_held self.old src ≡ true
+            → IfErr result (λ e. e ≡ DupFault.TableFull) }
         ensures held { OnOk result (KeepsHeld self.old.held self.new.held src) }
         ensures used { OnOk result (is_held self.new src ≡ false) }
         ensures err { OnErr result (self.new ≡ self.old) }
@@ -234,14 +246,20 @@ impl DupTable {
         now: u64,
     ) -> Result<Lanes, DupFault>
         requires { is_empty lanes ≡ false }
-        ensures answer { IfOk result (λ fresh. arrive_answer self.old.sources src seq.0 lanes now ≡ Some fresh) }
-        ensures after { OnOk result (self.new.sources ≡ after_arrive self.old.sources src seq.0 lanes now) }
+        ensures answer { IfOk result (λ fresh.
+            arrive_answer self.old.sources src seq.0 lanes now ≡ Some fresh) }
+        ensures after { OnOk result (self.new.sources
+            ≡ after_arrive self.old.sources src seq.0 lanes now) }
 
         // TableFull exactly where 1024 other sources are live, and otherwise NoMemory alone.
-        ensures exact { IsErrOf result DupFault.TableFull ↔ (length (live_others src now self.old.sources) ≡ most_sources) }
-        ensures refused { IfErr result (λ e. e ≡ arrive_fault (arrive_answer self.old.sources src seq.0 lanes now)) }
-        ensures full { IfErr result (λ e. e ≡ DupFault.TableFull → arrive_answer self.old.sources src seq.0 lanes now ≡ None) }
-        ensures only_full { arrive_answer self.old.sources src seq.0 lanes now ≡ None → IsErrOf result DupFault.TableFull }
+        ensures exact { IsErrOf result DupFault.TableFull
+            ↔ (length (live_others src now self.old.sources) ≡ most_sources) }
+        ensures refused { IfErr result (λ e.
+            e ≡ arrive_fault (arrive_answer self.old.sources src seq.0 lanes now)) }
+        ensures full { IfErr result (λ e. e ≡ DupFault.TableFull
+            → arrive_answer self.old.sources src seq.0 lanes now ≡ None) }
+        ensures only_full { arrive_answer self.old.sources src seq.0 lanes now ≡ None
+            → IsErrOf result DupFault.TableFull }
 
         // What is ready for it takes no memory. A place that was held is used up, and no other.
         ensures ready { is_ready self.old src ≡ true → IfErr result (λ e. e ≡ DupFault.TableFull) }
@@ -267,8 +285,10 @@ impl DupTable {
         requires { is_empty lanes ≡ false }
         ensures few { length self.old.sources ≤ most_sources }
         ensures found { is_some result ≡ is_some (lookup (mac_eq src) self.old.sources) }
-        ensures answer { IfSome result (λ fresh. arrive_answer self.old.sources src seq.0 lanes now ≡ Some fresh) }
-        ensures after { IfSome result (λ fresh. self.new.sources ≡ after_arrive self.old.sources src seq.0 lanes now) }
+        ensures answer { IfSome result (λ fresh.
+            arrive_answer self.old.sources src seq.0 lanes now ≡ Some fresh) }
+        ensures after { IfSome result (λ fresh.
+            self.new.sources ≡ after_arrive self.old.sources src seq.0 lanes now) }
         ensures others { IfSome result (λ fresh. KeepsHeld self.old.held self.new.held src) }
         ensures used { IfSome result (λ fresh. is_held self.new src ≡ false) }
         ensures none { IfNone result (self.new ≡ self.old) }
@@ -278,7 +298,8 @@ impl DupTable {
             src,
             |entry: &mut Aged<Record<16>>| -> Lanes
                 requires { is_empty lanes ≡ false }
-                ensures after { heard_of entry.new ≡ heard_next (heard_of entry.old) seq.0 lanes now }
+                ensures after { heard_of entry.new
+                    ≡ heard_next (heard_of entry.old) seq.0 lanes now }
                 ensures answer { result ≡ fresh_at (heard_of entry.old) seq.0 lanes now }
             { hear(entry, seq, lanes, now) },
         )?;
@@ -289,12 +310,18 @@ impl DupTable {
     fn begin(&mut self, src: Mac, seq: Seq, lanes: Lanes, now: u64) -> Result<Lanes, DupFault>
         requires some { is_empty lanes ≡ false }
         requires absent { lookup (mac_eq src) self.old.sources ≡ None }
-        ensures answer { IfOk result (λ fresh. arrive_answer self.old.sources src seq.0 lanes now ≡ Some fresh) }
-        ensures after { OnOk result (self.new.sources ≡ after_arrive self.old.sources src seq.0 lanes now) }
-        ensures refused { IfErr result (λ e. e ≡ arrive_fault (arrive_answer self.old.sources src seq.0 lanes now)) }
-        ensures full { IfErr result (λ e. e ≡ DupFault.TableFull → arrive_answer self.old.sources src seq.0 lanes now ≡ None) }
-        ensures only_full { arrive_answer self.old.sources src seq.0 lanes now ≡ None → IsErrOf result DupFault.TableFull }
-        ensures reserved { is_held self.old src ≡ true → IfErr result (λ e. e ≡ DupFault.TableFull) }
+        ensures answer { IfOk result (λ fresh.
+            arrive_answer self.old.sources src seq.0 lanes now ≡ Some fresh) }
+        ensures after { OnOk result (self.new.sources
+            ≡ after_arrive self.old.sources src seq.0 lanes now) }
+        ensures refused { IfErr result (λ e.
+            e ≡ arrive_fault (arrive_answer self.old.sources src seq.0 lanes now)) }
+        ensures full { IfErr result (λ e. e ≡ DupFault.TableFull
+            → arrive_answer self.old.sources src seq.0 lanes now ≡ None) }
+        ensures only_full { arrive_answer self.old.sources src seq.0 lanes now ≡ None
+            → IsErrOf result DupFault.TableFull }
+        ensures reserved { is_held self.old src ≡ true
+            → IfErr result (λ e. e ≡ DupFault.TableFull) }
         ensures held { OnOk result (KeepsHeld self.old.held self.new.held src) }
         ensures used { OnOk result (is_held self.new src ≡ false) }
         ensures err { OnErr result (self.new ≡ self.old) }
@@ -311,7 +338,8 @@ impl DupTable {
     pub fn put_last(&mut self, src: Mac, first: Record<16>, now: u64) -> Result<(), NoMemory>
         requires absent { lookup (mac_eq src) self.old.sources ≡ None }
         requires room { nat_lt (length (with_room now self.old.sources)) most_sources ≡ true }
-        ensures sources { OnOk result (self.new.sources ≡ with_room now self.old.sources ++ (src, record { seen = window_of first; time = now }) ∷ []) }
+        ensures sources { OnOk result (self.new.sources ≡ with_room now self.old.sources
+            ++ (src, record { seen = window_of first; time = now }) ∷ []) }
         ensures reserved { is_held self.old src ≡ true → IsOk result }
         ensures held { OnOk result (KeepsHeld self.old.held self.new.held src) }
         ensures used { OnOk result (is_held self.new src ≡ false) }
@@ -324,18 +352,23 @@ impl DupTable {
     // Joins a record to that of its source, unless the two are apart. Answers whether it did; None: there is no such source.
     pub(crate) fn join(&mut self, src: Mac, other: &Aged<Record<16>>) -> Option<bool>
         ensures found { is_some result ≡ is_some (lookup (mac_eq src) self.old.sources) }
-        ensures close { IfSome result (λ joined. joined ≡ not (is_apart (lookup (mac_eq src) self.old.sources) (heard_of other.now))) }
-        ensures joined { IfSome result (λ joined. joined ≡ true → self.new.sources ≡ with_source self.old.sources (src, heard_of other.now)) }
+        ensures close { IfSome result (λ joined.
+            joined ≡ not (is_apart (lookup (mac_eq src) self.old.sources) (heard_of other.now))) }
+        ensures joined { IfSome result (λ joined. joined ≡ true
+            → self.new.sources ≡ with_source self.old.sources (src, heard_of other.now)) }
         ensures none { IfNone result (self.new ≡ self.old) }
     {
         let joined = self.slots.update_at(
             None,
             src,
             |entry: &mut Aged<Record<16>>| -> bool
-                ensures answer { result ≡ not (is_apart (Some (heard_of entry.old)) (heard_of other.entry.now)) }
+                ensures answer { result
+                    ≡ not (is_apart (Some (heard_of entry.old)) (heard_of other.entry.now)) }
                 ensures later { entry.old.time ≤ entry.new.time }
-                ensures joined { is_apart (Some (heard_of entry.old)) (heard_of other.entry.now) ≡ false
-                    → heard_of entry.new ≡ joined_heard (heard_of entry.old) (heard_of other.entry.now) }
+                ensures joined { is_apart (Some (heard_of entry.old))
+                    (heard_of other.entry.now) ≡ false
+                    → heard_of entry.new
+                    ≡ joined_heard (heard_of entry.old) (heard_of other.entry.now) }
             { join(entry, other) },
         )?;
         Some(joined)
@@ -350,7 +383,8 @@ impl DupTable {
 
     // The same. The next calls at this time go over no sources.
     fn is_full_now(&mut self, now: u64) -> bool
-        ensures result { result ≡ not (nat_lt (length (with_room now self.old.sources)) most_sources) }
+        ensures result { result
+            ≡ not (nat_lt (length (with_room now self.old.sources)) most_sources) }
         ensures same { self.new ≡ self.old }
     {
         self.slots.is_full_now(now)

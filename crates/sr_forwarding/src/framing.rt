@@ -36,7 +36,8 @@ pub(crate) fn unnumbered<'a>(octets: &'a [u8], frame: &FrameView<'a>) -> ParcelV
 
 // Appends the octets of a parcel as they are.
 pub(crate) fn append_as_it_is(out: &mut Vec<u8>, parcel: &ParcelView<'_>) -> Result<(), ReadFault>
-    ensures ok { OnOk result (Grows (λ octets. octets ≡ parcel.now.octets) out.old.items out.new.items) }
+    ensures ok { OnOk result
+        (Grows (λ octets. octets ≡ parcel.now.octets) out.old.items out.new.items) }
     ensures err { IfErr result (λ e. e ≡ ReadFault.NoMemory) }
     ensures same { OnErr result (out.new.items ≡ out.old.items) }
 {
@@ -66,9 +67,11 @@ pub trait Framing: Send + Drop {
     /// `Untagged` where the parcel has no number and the port's form needs one, `TooLong` where more than 1524 octets would
     /// come of it, `NoMemory` where a growth was refused: the list then stays as it was.
     fn write(&self, out: &mut Vec<u8>, parcel: &ParcelView<'_>) -> Result<(), ReadFault>
-        ensures written { OnOk result (Appends (meaning self.now) parcel.now out.old.items out.new.items) }
+        ensures written { OnOk result
+            (Appends (meaning self.now) parcel.now out.old.items out.new.items) }
         ensures ok { OnOk result (write_fault (meaning self.now) parcel.now ≡ None) }
-        ensures err { IfErr result (λ e. e ≡ or_no_memory (write_fault (meaning self.now) parcel.now)) }
+        ensures err { IfErr result (λ e.
+            e ≡ or_no_memory (write_fault (meaning self.now) parcel.now)) }
         ensures same { OnErr result (out.new.items ≡ out.old.items) };
 
     /// The parcel that octets at the port are, with octets of its own that are copied once.
@@ -84,9 +87,11 @@ pub trait Framing: Send + Drop {
 
     /// The frame that a parcel is written as. Its faults are those of `write`.
     fn encode(&self, alloc: Global, parcel: &Parcel) -> Result<Frame, ReadFault>
-        ensures written { IfOk result (λ f. IsWritten (meaning self.now) parcel.now.form parcel.now f) }
+        ensures written { IfOk result (λ f.
+            IsWritten (meaning self.now) parcel.now.form parcel.now f) }
         ensures ok { OnOk result (write_fault (meaning self.now) parcel.now ≡ None) }
-        ensures err { IfErr result (λ e. e ≡ or_no_memory (write_fault (meaning self.now) parcel.now)) }
+        ensures err { IfErr result (λ e.
+            e ≡ or_no_memory (write_fault (meaning self.now) parcel.now)) }
     {
         let mut octets = Vec::new(alloc);
         self.write(&mut octets, &parcel.view())?;

@@ -44,7 +44,8 @@ fn read_tagged<'a>(octets: &'a [u8], frame: &FrameView<'a>) -> Result<ParcelView
 // Appends the plain form of a parcel with a tag before its type.
 fn write_tagged(out: &mut Vec<u8>, parcel: &ParcelView<'_>, path: u8) -> Result<(), ReadFault>
     requires { path < 16 }
-    ensures written { OnOk result (Grows (IsTaggedAnew path parcel.now) out.old.items out.new.items) }
+    ensures written { OnOk result
+        (Grows (IsTaggedAnew path parcel.now) out.old.items out.new.items) }
     ensures ok { OnOk result (number_fault parcel.now parcel.now.seq ≡ None) }
     ensures err { IfErr result (λ e. e ≡ or_no_memory (number_fault parcel.now parcel.now.seq)) }
     ensures same { OnErr result (out.new.items ≡ out.old.items) }

@@ -15,24 +15,28 @@ ghost use Rattle.sr_forwarding.specs.Carriage.{IsTaken, copy_for, HasNet, IsRead
 
 /// No frame goes back to the port where it came in, whatever the role.
 pub fn routes_never_have_the_inlet()
-    ensures { (r : RoleImage) (h : Header) (inlet : Port) (now : ℕ) → has (routes r h inlet now) inlet ≡ false }
+    ensures { (r : RoleImage) (h : Header) (inlet : Port) (now : ℕ)
+        → has (routes r h inlet now) inlet ≡ false }
 {}
 
 /// With a role's own framings, what goes where its routes say is written, want of memory apart.
 pub fn what_is_wanted_is_written()
-    ensures { (r : RoleImage) (h : Header) (inlet outlet : Port) (now : ℕ) (p : ParcelImage) (f : FramingImage)
+    ensures { (r : RoleImage) (h : Header) (inlet outlet : Port) (now : ℕ) (p : ParcelImage)
+        (f : FramingImage)
         → HasNet r.kind → IsTaken r.kind inlet p → has (routes r h inlet now) outlet ≡ true
         → framing_at r.kind outlet ≡ Some f → write_fault f (copy_for outlet p) ≡ None }
 {}
 
 /// A framing answers to octets in one way at most: with one parcel, or with one reason why they are none.
 pub fn readings_are_unique()
-    ensures { (f : FramingImage) (octets : List ℕ) (r s : Result ParcelImage ReadFault) → Reads f octets r → Reads f octets s → r ≡ s }
+    ensures { (f : FramingImage) (octets : List ℕ) (r s : Result ParcelImage ReadFault)
+        → Reads f octets r → Reads f octets s → r ≡ s }
 {}
 
 /// What an outlet wrote is read at a port of the same framing: with the same number, and in plain form the same frame, padded
 /// where it was written anew.
 pub fn what_is_written_is_read_again()
     ensures { (f : FramingImage) (p : ParcelImage) (octets : List ℕ)
-        → IsParcel p → IsWritten f p.form p octets → length octets ≤ longest f → IsReadAgain f p octets }
+        → IsParcel p → IsWritten f p.form p octets → length octets ≤ longest f
+        → IsReadAgain f p octets }
 {}

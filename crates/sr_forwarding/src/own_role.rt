@@ -23,7 +23,8 @@ pub trait Routing: Send + Drop {
 
     /// Where a frame from this inlet goes, at the node with this address, by the first line that fits of the table.
     fn outlets(&self, mac: Mac, header: &Header, inlet: Port) -> Outlets
-        ensures { (now : ℕ) → result ≡ routes (role_of (routed self.now) mac) header.now inlet now };
+        ensures { (now : ℕ)
+            → result ≡ routes (role_of (routed self.now) mac) header.now inlet now };
 }
 
 /// A role that stands for its own address alone.

@@ -37,11 +37,30 @@ impl Model for Parcel {
 
     ghost Value = { ParcelImage };
 
-    ghost view = { λ p. record { form = p.form; octets = p.octets; seq = p.seq; path = p.path; wrong_lan = p.wrong_lan } };
+    ghost view = { λ p. record {
+      form = p.form;
+      octets = p.octets;
+      seq = p.seq;
+      path = p.path;
+      wrong_lan = p.wrong_lan;
+    } };
 
-    ghost invariant = { λ p. IsParcel (record { form = p.form; octets = p.octets; seq = p.seq; path = p.path; wrong_lan = p.wrong_lan }) };
+    ghost invariant = { λ p.
+        IsParcel (record {
+          form = p.form;
+          octets = p.octets;
+          seq = p.seq;
+          path = p.path;
+          wrong_lan = p.wrong_lan;
+        }) };
 
-    ghost inverse = { λ p. record { form = p.form; octets = p.octets; seq = p.seq; path = p.path; wrong_lan = p.wrong_lan } };
+    ghost inverse = { λ p. record {
+      form = p.form;
+      octets = p.octets;
+      seq = p.seq;
+      path = p.path;
+      wrong_lan = p.wrong_lan;
+    } };
 }
 
 // The frame without its tag.
@@ -98,8 +117,20 @@ impl Parcel {
         path: u8,
         wrong_lan: bool,
     ) -> Parcel
-        requires { IsParcel (record { form = form; octets = octets; seq = seq; path = path; wrong_lan = wrong_lan }) }
-        ensures { result ≡ record { form = form; octets = octets; seq = seq; path = path; wrong_lan = wrong_lan } }
+        requires { IsParcel (record {
+          form = form;
+          octets = octets;
+          seq = seq;
+          path = path;
+          wrong_lan = wrong_lan;
+        }) }
+        ensures { result ≡ record {
+          form = form;
+          octets = octets;
+          seq = seq;
+          path = path;
+          wrong_lan = wrong_lan;
+        } }
     {
         Parcel {
             form,

@@ -36,10 +36,22 @@ impl<'a> Model for ParcelView<'a> {
 
     ghost Value = { ParcelImage };
 
-    ghost view = { λ p. record { form = p.form; octets = p.octets.now; seq = p.seq; path = p.path; wrong_lan = p.wrong_lan } };
+    ghost view = { λ p. record {
+      form = p.form;
+      octets = p.octets.now;
+      seq = p.seq;
+      path = p.path;
+      wrong_lan = p.wrong_lan;
+    } };
 
     ghost invariant = { λ p.
-        IsParcel (record { form = p.form; octets = p.octets.now; seq = p.seq; path = p.path; wrong_lan = p.wrong_lan })
+        IsParcel (record {
+          form = p.form;
+          octets = p.octets.now;
+          seq = p.seq;
+          path = p.path;
+          wrong_lan = p.wrong_lan;
+        })
         × (spelling (fields_of p.plain) ≡ plain_in p.form p.octets.now) };
 }
 
@@ -149,9 +161,21 @@ impl<'a> ParcelView<'a> {
         path: u8,
         wrong_lan: bool,
     ) -> ParcelView<'a>
-        requires parcel { IsParcel (record { form = form; octets = octets.now; seq = seq; path = path; wrong_lan = wrong_lan }) }
+        requires parcel { IsParcel (record {
+          form = form;
+          octets = octets.now;
+          seq = seq;
+          path = path;
+          wrong_lan = wrong_lan;
+        }) }
         requires plain { spelling (fields_of plain) ≡ plain_in form octets.now }
-        ensures { result ≡ record { form = form; octets = octets.entry.now; seq = seq; path = path; wrong_lan = wrong_lan } }
+        ensures { result ≡ record {
+          form = form;
+          octets = octets.entry.now;
+          seq = seq;
+          path = path;
+          wrong_lan = wrong_lan;
+        } }
     {
         ParcelView {
             form,

@@ -29,7 +29,8 @@ fn put_padded(out: &mut Vec<u8>, frame: &FrameView<'_>, len: usize)
 
 // Appends a frame, padded.
 fn append_padded(out: &mut Vec<u8>, frame: &FrameView<'_>) -> Result<(), NoMemory>
-    ensures ok { OnOk result (out.new.items ≡ out.old.items ++ padded (spelling (fields_of frame.now))) }
+    ensures ok { OnOk result (out.new.items ≡ out.old.items
+        ++ padded (spelling (fields_of frame.now))) }
     ensures same { OnErr result (out.new.items ≡ out.old.items) }
 {
     let len = frame.header_len() + frame.payload.len().max(MIN_PAYLOAD_LEN);
@@ -40,7 +41,8 @@ fn append_padded(out: &mut Vec<u8>, frame: &FrameView<'_>) -> Result<(), NoMemor
 
 // Appends the plain form of a parcel, padded.
 fn write_plain(out: &mut Vec<u8>, parcel: &ParcelView<'_>) -> Result<(), ReadFault>
-    ensures written { OnOk result (Grows (λ octets. octets ≡ padded_plain parcel.now) out.old.items out.new.items) }
+    ensures written { OnOk result
+        (Grows (λ octets. octets ≡ padded_plain parcel.now) out.old.items out.new.items) }
     ensures err { IfErr result (λ e. e ≡ ReadFault.NoMemory) }
     ensures same { OnErr result (out.new.items ≡ out.old.items) }
 {

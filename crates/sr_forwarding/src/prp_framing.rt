@@ -69,7 +69,8 @@ fn read_trailed<'a>(
 
 // Appends the plain form of a parcel with a trailer of this LAN behind it.
 fn write_trailed(out: &mut Vec<u8>, parcel: &ParcelView<'_>, lan: Lan) -> Result<(), ReadFault>
-    ensures written { OnOk result (Grows (IsTrailedAnew lan parcel.now) out.old.items out.new.items) }
+    ensures written { OnOk result
+        (Grows (IsTrailedAnew lan parcel.now) out.old.items out.new.items) }
     ensures ok { OnOk result (number_fault parcel.now parcel.now.seq ≡ None) }
     ensures err { IfErr result (λ e. e ≡ or_no_memory (number_fault parcel.now parcel.now.seq)) }
     ensures same { OnErr result (out.new.items ≡ out.old.items) }

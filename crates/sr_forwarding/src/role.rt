@@ -42,7 +42,8 @@ pub trait Role: Send + Drop {
         now: u64,
     ) -> Result<Learnt, NoMemory>
         ensures answer { IfOk result (λ a. a ≡ learnt (meaning self.old) header.now inlet now) }
-        ensures after { OnOk result (meaning self.new ≡ learned (meaning self.old) header.now inlet now) }
+        ensures after { OnOk result (meaning self.new
+            ≡ learned (meaning self.old) header.now inlet now) }
         ensures err { OnErr result (meaning self.new ≡ meaning self.old) };
 
     /// Lets go the addresses that are proxied no more, and says how many they were.

@@ -69,7 +69,8 @@ pub(crate) fn letters(codes: u8x16) -> u8x16
 /// The octets of values, two neighbouring ones each.
 #[inline(always)]
 pub(crate) fn octets_of(first: u8x16, second: u8x16) -> u8x16
-    ensures { HasLanes result (λ i. octet_of (slice_index (first ++ second) (2 * i)) (slice_index (first ++ second) (2 * i + 1))) }
+    ensures { HasLanes result (λ i. octet_of (slice_index (first ++ second) (2 * i))
+        (slice_index (first ++ second) (2 * i + 1))) }
 {
     let high: u8x16 = first.shuffle(
         second,

@@ -53,7 +53,8 @@ fn read_block(digits: &[u8], at: usize, octets: &mut [u8]) -> u8x16
 fn read_blocks(digits: &[u8], octets: &mut [u8]) -> bool
     requires pairs { length digits.now ≡ 2 * length octets.old }
     requires enough { 16 ≤ length octets.old }
-    ensures { MatchBool result (decode_of digits.now ≡ Ok octets.new) (IsErr (decode_of digits.now)) }
+    ensures { MatchBool result (decode_of digits.now ≡ Ok octets.new)
+        (IsErr (decode_of digits.now)) }
 {
     let last = octets.len() - 16;
     let mut worst = u8x16::splat(0);
@@ -83,7 +84,8 @@ fn digit_value(digit: u8) -> u8
 /// Reads octets one by one.
 fn read_few(digits: &[u8], octets: &mut [u8]) -> bool
     requires { length digits.now ≡ 2 * length octets.old }
-    ensures { MatchBool result (decode_of digits.now ≡ Ok octets.new) (IsErr (decode_of digits.now)) }
+    ensures { MatchBool result (decode_of digits.now ≡ Ok octets.new)
+        (IsErr (decode_of digits.now)) }
 {
     let mut worst = 0u8;
     for i in 0..octets.len() {
@@ -111,7 +113,8 @@ pub fn are_digits(digits: &[u8]) -> bool
 /// then says nothing.
 pub fn read_hex(digits: &[u8], octets: &mut [u8]) -> bool
     requires { length digits.now ≡ 2 * length octets.old }
-    ensures { MatchBool result (decode_of digits.now ≡ Ok octets.new) (IsErr (decode_of digits.now)) }
+    ensures { MatchBool result (decode_of digits.now ≡ Ok octets.new)
+        (IsErr (decode_of digits.now)) }
 {
     if octets.len() < 16 {
         read_few(digits, octets)

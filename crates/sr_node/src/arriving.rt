@@ -102,7 +102,8 @@ impl<R: Role> NodeOf<R> {
     /// Where a frame with this header is wanted. The nodes are asked for its destination only where the role's routes read that.
     pub(crate) fn wanted(&self, header: &Header, inlet: Port, now: u64) -> Outlets
         ensures { result ≡ routes (R.meaning self.now.role)
-            (header_told (node_state (R.meaning self.now.role) self.now.core) header.now now) inlet now }
+            (header_told (node_state (R.meaning self.now.role) self.now.core) header.now
+            now) inlet now }
     {
         if !self.role.kind().reads_known() {
             return self.role.wants(header, inlet, now);
@@ -116,7 +117,8 @@ impl<R: Role> NodeOf<R> {
 
     // What a header says of a parcel as it goes on.
     fn header_on(&self, port: Port, parcel: &ParcelView<'_>) -> Header
-        ensures { result ≡ header_of (going_on (node_state (R.meaning self.now.role) self.now.core) port parcel.now) }
+        ensures { result ≡ header_of
+            (going_on (node_state (R.meaning self.now.role) self.now.core) port parcel.now) }
     {
         Header {
             seq: self.core.number_at(port, parcel),
@@ -129,7 +131,8 @@ impl<R: Role> NodeOf<R> {
         ensures admitted { IfOk result (λ a.
             IsAdmitted (node_state (R.meaning self.now.role) self.now.core) port parcel.now now a) }
         ensures err { IfErr result (λ f.
-            arrive_refusal (node_state (R.meaning self.now.role) self.now.core) port parcel.now now ≡ Some f) }
+            arrive_refusal (node_state (R.meaning self.now.role) self.now.core) port parcel.now
+            now ≡ Some f) }
     {
         if is_too_long(port, parcel) {
             return Err(StepFault::Reading(ReadFault::TooLong));
@@ -153,9 +156,11 @@ impl<R: Role> NodeOf<R> {
         now: u64,
     ) -> Result<(), StepFault>
         ensures ok { OnOk result
-            (arrive_refusal (node_state (R.meaning self.now.role) self.now.core) port parcel.now now ≡ None) }
+            (arrive_refusal (node_state (R.meaning self.now.role) self.now.core) port parcel.now
+            now ≡ None) }
         ensures err { IfErr result (λ f.
-            arrive_refusal (node_state (R.meaning self.now.role) self.now.core) port parcel.now now ≡ Some f) }
+            arrive_refusal (node_state (R.meaning self.now.role) self.now.core) port parcel.now
+            now ≡ Some f) }
     {
         match self.admit(port, parcel, now)? {
             Admission::Own => Ok(()),
@@ -175,11 +180,14 @@ impl<R: Role> NodeOf<R> {
         parcel: &ParcelView<'_>,
         now: u64,
     ) -> Result<Plan, StepFault>
-        ensures plan { IfOk result (λ p. ArrivalIs (node_state (R.meaning self.old.role) self.old.core) port parcel.now now p) }
+        ensures plan { IfOk result (λ p.
+            ArrivalIs (node_state (R.meaning self.old.role) self.old.core) port parcel.now now p) }
         ensures ok { OnOk result
-            (arrive_refusal (node_state (R.meaning self.old.role) self.old.core) port parcel.now now ≡ None) }
+            (arrive_refusal (node_state (R.meaning self.old.role) self.old.core) port parcel.now
+            now ≡ None) }
         ensures err { IfErr result (λ f.
-            arrive_refusal (node_state (R.meaning self.old.role) self.old.core) port parcel.now now ≡ Some f) }
+            arrive_refusal (node_state (R.meaning self.old.role) self.old.core) port parcel.now
+            now ≡ Some f) }
         ensures same { (self.new.role ≡ self.old.role) × (self.new.core ≡ self.old.core) }
     {
         match self.admit(port, parcel, now)? {
@@ -216,9 +224,12 @@ impl<R: Role> NodeOf<R> {
         ensures copies { OnOk result (copies.new ≡ copies_for outlets going.now) }
         ensures room { OnOk result (Room self.new.core.out copies.new) }
         ensures ready { OnOk result (IsReady self.new.core.table header.now.src header.now.seq) }
-        ensures number { OnOk result (HasRoomFor self.new.core.nodes header.now.src heard.now.number) }
-        ensures announced { OnOk result (HasRoomToo self.new.core.nodes header.now.src heard.now.number heard.now.announced) }
-        ensures role { OnOk result (R.meaning self.new.role ≡ learned (R.meaning self.old.role) header.now port now) }
+        ensures number { OnOk result
+            (HasRoomFor self.new.core.nodes header.now.src heard.now.number) }
+        ensures announced { OnOk result
+            (HasRoomToo self.new.core.nodes header.now.src heard.now.number heard.now.announced) }
+        ensures role { OnOk result (R.meaning self.new.role
+            ≡ learned (R.meaning self.old.role) header.now port now) }
         ensures shown { shown self.new.core ≡ shown self.old.core }
         ensures err { OnErr result (R.meaning self.new.role ≡ R.meaning self.old.role) }
         ensures idle { OnErr result (IsIdle self.old.core → IsIdle self.new.core) }
@@ -245,7 +256,8 @@ impl<R: Role> NodeOf<R> {
         spot: Option<Spot>,
         said: Option<Supervision>,
     ) -> Result<(), NoMemory>
-        requires { IsPassing (node_state (R.meaning self.old.role) self.old.core) port parcel now header.now wanted outlets }
+        requires { IsPassing (node_state (R.meaning self.old.role) self.old.core) port parcel now
+            header.now wanted outlets }
         ensures ok { OnOk result (node_state (R.meaning self.new.role) self.new.core
             ≡ passed (node_state (R.meaning self.old.role) self.old.core) port
             (going_on (node_state (R.meaning self.old.role) self.old.core) port parcel.entry)
@@ -291,10 +303,12 @@ impl<R: Role> NodeOf<R> {
         octets: &[u8],
         now: u64,
     ) -> Result<Answer, StepFault>
-        ensures step { IfOk result (λ a. OctetsArrived ((⟦<dyn Framing as Framing>⟧ framing.now.0).meaning framing.now.1)
+        ensures step { IfOk result (λ a.
+            OctetsArrived ((⟦<dyn Framing as Framing>⟧ framing.now.0).meaning framing.now.1)
             (node_state (R.meaning self.old.role) self.old.core) port octets.now now a
             (node_state (R.meaning self.new.role) self.new.core)) }
-        ensures err { IfErr result (λ f. OctetsRefused ((⟦<dyn Framing as Framing>⟧ framing.now.0).meaning framing.now.1)
+        ensures err { IfErr result (λ f.
+            OctetsRefused ((⟦<dyn Framing as Framing>⟧ framing.now.0).meaning framing.now.1)
             (node_state (R.meaning self.old.role) self.old.core) port octets.now now f) }
         ensures same { OnErr result (node_state (R.meaning self.new.role) self.new.core
             ≡ node_state (R.meaning self.old.role) self.old.core) }

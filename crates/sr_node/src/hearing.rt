@@ -46,7 +46,8 @@ fn is_network(port: Port) -> bool
 impl<R: Role> NodeOf<R> {
     // The number under which the source of a frame is heard, if it is.
     fn number_heard(&self, port: Port, header: &Header, now: u64) -> Option<Seq>
-        ensures { result ≡ number_heard (R.meaning self.now.role) port header.now.src header.now.seq now }
+        ensures { result
+            ≡ number_heard (R.meaning self.now.role) port header.now.src header.now.seq now }
     {
         if is_network(port) && !self.role.owns(header.src, now) {
             header.seq
@@ -80,8 +81,10 @@ impl<R: Role> NodeOf<R> {
         said: Option<Supervision>,
         now: u64,
     ) -> Heard
-        ensures number { result.number ≡ number_heard (R.meaning self.now.role) port header.now.src header.now.seq now }
-        ensures announced { result.announced ≡ announced (R.meaning self.now.role) port header.now.seq said }
+        ensures number { result.number
+            ≡ number_heard (R.meaning self.now.role) port header.now.src header.now.seq now }
+        ensures announced { result.announced
+            ≡ announced (R.meaning self.now.role) port header.now.seq said }
     {
         let number = self.number_heard(port, header, now);
         let announced = self.announced(port, header, said);

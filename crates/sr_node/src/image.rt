@@ -37,7 +37,8 @@ pub struct NodeImage {
 impl<R: Role> NodeOf<R> {
     /// The node's whole state as data. NoMemory: a growth was refused.
     pub fn image(&self) -> Result<NodeImage, NoMemory>
-        ensures { IfOk result (λ i. state_of i ≡ node_state (R.meaning self.now.role) self.now.core) }
+        ensures { IfOk result (λ i.
+            state_of i ≡ node_state (R.meaning self.now.role) self.now.core) }
     {
         let role = self.role.image(self.core.alloc())?;
         self.core.image(role)

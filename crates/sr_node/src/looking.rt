@@ -12,8 +12,10 @@ use sr_frame::Port;
 impl<R: Role> NodeOf<R> {
     /// What `step` would refuse this event for, want of memory apart. Does not allocate.
     pub fn check(&self, event: &Event) -> Result<(), StepFault>
-        ensures ok { OnOk result (refusal_of (node_state (R.meaning self.now.role) self.now.core) event.now ≡ None) }
-        ensures err { IfErr result (λ f. refusal_of (node_state (R.meaning self.now.role) self.now.core) event.now ≡ Some f) }
+        ensures ok { OnOk result
+            (refusal_of (node_state (R.meaning self.now.role) self.now.core) event.now ≡ None) }
+        ensures err { IfErr result (λ f.
+            refusal_of (node_state (R.meaning self.now.role) self.now.core) event.now ≡ Some f) }
     {
         match event {
             Event::Arrive { port, parcel, now } => {
@@ -33,7 +35,8 @@ impl<R: Role> NodeOf<R> {
     /// What `take` would give.
     pub fn front(&self, port: Port) -> Option<&Parcel>
         ensures none { result ≡ None ↔ (first_of (box_at (shown self.now.core).out port) ≡ None) }
-        ensures some { IfSome result (λ p. first_of (box_at (shown self.now.core).out port) ≡ Some p.now) }
+        ensures some { IfSome result (λ p.
+            first_of (box_at (shown self.now.core).out port) ≡ Some p.now) }
     {
         self.core.out().at(port).front()
     }

@@ -29,7 +29,8 @@ pub type Node = NodeOf<Box<dyn Role + Send>>;
 impl<R: Role> NodeOf<R> {
     /// A new node over this role, whose table has fixed keys. NoMemory: a growth was refused.
     pub fn new(alloc: Global, role: R) -> Result<NodeOf<R>, NoMemory>
-        ensures begun { IfOk result (λ n. node_state (R.meaning n.role) n.core ≡ begun (R.meaning role)) }
+        ensures begun { IfOk result (λ n.
+            node_state (R.meaning n.role) n.core ≡ begun (R.meaning role)) }
         ensures idle { IfOk result (λ n. IsIdle n.core) }
     {
         NodeOf::with_keys(alloc, role, Keys::FIXED)
@@ -37,7 +38,8 @@ impl<R: Role> NodeOf<R> {
 
     /// The same, with these keys for its table, which nobody who chooses addresses should know. No answer depends on them.
     pub fn with_keys(alloc: Global, role: R, keys: Keys) -> Result<NodeOf<R>, NoMemory>
-        ensures begun { IfOk result (λ n. node_state (R.meaning n.role) n.core ≡ begun (R.meaning role)) }
+        ensures begun { IfOk result (λ n.
+            node_state (R.meaning n.role) n.core ≡ begun (R.meaning role)) }
         ensures idle { IfOk result (λ n. IsIdle n.core) }
     {
         let core = Core::with_keys(alloc, keys)?;
@@ -52,7 +54,8 @@ impl<R: Role> NodeOf<R> {
         ensures step { IfOk result (λ a. Step
             (node_state (R.meaning self.old.role) self.old.core) event.now a
             (node_state (R.meaning self.new.role) self.new.core)) }
-        ensures ok { OnOk result (refusal_of (node_state (R.meaning self.old.role) self.old.core) event.now ≡ None) }
+        ensures ok { OnOk result
+            (refusal_of (node_state (R.meaning self.old.role) self.old.core) event.now ≡ None) }
         ensures err { IfErr result (λ f. f ≡ or_no_memory
             (refusal_of (node_state (R.meaning self.old.role) self.old.core) event.now)) }
         ensures same { OnErr result (node_state (R.meaning self.new.role) self.new.core

@@ -31,7 +31,8 @@ impl Model for Outbox {
 
     ghost view = { λ q. q.queue.items };
 
-    ghost invariant = { λ q. (outbox_limit ≤ deque_capacity q.queue) × (deque_len q.queue ≤ outbox_limit) };
+    ghost invariant = { λ q.
+        (outbox_limit ≤ deque_capacity q.queue) × (deque_len q.queue ≤ outbox_limit) };
 }
 
 impl Outbox {

@@ -19,12 +19,17 @@ impl<R: Role> NodeOf<R> {
     /// Where a frame of the node with this header goes, or the first of these outlets that is full.
     pub(crate) fn plan_sent(&self, header: &Header, now: u64) -> Result<Outlets, StepFault>
         ensures outlets { IfOk result (λ o. o ≡ routes (R.meaning self.now.role)
-            (header_told (node_state (R.meaning self.now.role) self.now.core) header.now now) H now) }
+            (header_told (node_state (R.meaning self.now.role) self.now.core) header.now
+            now) H now) }
         ensures room { IfOk result (λ o. first_full self.now.core.out o ≡ None) }
-        ensures ok { OnOk result (full_fault (first_full self.now.core.out (routes (R.meaning self.now.role)
-            (header_told (node_state (R.meaning self.now.role) self.now.core) header.now now) H now)) ≡ None) }
-        ensures err { IfErr result (λ f. full_fault (first_full self.now.core.out (routes (R.meaning self.now.role)
-            (header_told (node_state (R.meaning self.now.role) self.now.core) header.now now) H now)) ≡ Some f) }
+        ensures ok { OnOk result
+            (full_fault (first_full self.now.core.out (routes (R.meaning self.now.role)
+            (header_told (node_state (R.meaning self.now.role) self.now.core) header.now now) H
+            now)) ≡ None) }
+        ensures err { IfErr result (λ f.
+            full_fault (first_full self.now.core.out (routes (R.meaning self.now.role)
+            (header_told (node_state (R.meaning self.now.role) self.now.core) header.now now) H
+            now)) ≡ Some f) }
     {
         let outlets = self.wanted(header, Port::H, now);
         match self.core.out().first_full(outlets) {
@@ -35,7 +40,8 @@ impl<R: Role> NodeOf<R> {
 
     // A frame of the host, as it goes on.
     fn sent_parcel<'a>(&self, frame: &'a Frame) -> ParcelView<'a>
-        ensures { result ≡ sent_parcel (node_state (R.meaning self.now.role) self.now.core) frame.now }
+        ensures { result
+            ≡ sent_parcel (node_state (R.meaning self.now.role) self.now.core) frame.now }
     {
         ParcelView::plain_with(frame, Some(self.core.next()))
     }
@@ -45,9 +51,11 @@ impl<R: Role> NodeOf<R> {
         ensures outlets { IfOk result (λ o. o
             ≡ send_outlets (node_state (R.meaning self.now.role) self.now.core) frame.now now) }
         ensures room { IfOk result (λ o. first_full self.now.core.out o ≡ None) }
-        ensures ok { OnOk result (send_refusal (node_state (R.meaning self.now.role) self.now.core) frame.now now ≡ None) }
+        ensures ok { OnOk result (send_refusal (node_state (R.meaning self.now.role) self.now.core)
+            frame.now now ≡ None) }
         ensures err { IfErr result (λ f.
-            send_refusal (node_state (R.meaning self.now.role) self.now.core) frame.now now ≡ Some f) }
+            send_refusal (node_state (R.meaning self.now.role) self.now.core) frame.now
+            now ≡ Some f) }
     {
         let parcel = self.sent_parcel(frame);
         if frame.octets().len() > MAX_PLAIN_LEN {
@@ -64,7 +72,8 @@ impl<R: Role> NodeOf<R> {
         ensures step { IfOk result (λ a. SentAs
             (node_state (R.meaning self.old.role) self.old.core) frame.now now a
             (node_state (R.meaning self.new.role) self.new.core)) }
-        ensures ok { OnOk result (send_refusal (node_state (R.meaning self.old.role) self.old.core) frame.now now ≡ None) }
+        ensures ok { OnOk result (send_refusal (node_state (R.meaning self.old.role) self.old.core)
+            frame.now now ≡ None) }
         ensures err { IfErr result (λ f. f ≡ or_no_memory
             (send_refusal (node_state (R.meaning self.old.role) self.old.core) frame.now now)) }
         ensures same { OnErr result (node_state (R.meaning self.new.role) self.new.core

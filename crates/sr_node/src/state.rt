@@ -142,9 +142,11 @@ impl Core {
 
     /// Joins what the other has noted, at the later of both times. All else stays.
     pub(crate) fn absorb(&mut self, other: &Core) -> Result<(), DupFault>
-        ensures joined { OnOk result (Absorbed (shown self.old) (shown other.now) (shown self.new)) }
+        ensures joined { OnOk result
+            (Absorbed (shown self.old) (shown other.now) (shown self.new)) }
         ensures joinable { OnOk result (absorb_fault (shown self.old) (shown other.now) ≡ None) }
-        ensures refused { IfErr result (λ e. e ≡ unwrap_or (absorb_fault (shown self.old) (shown other.now)) DupFault.NoMemory) }
+        ensures refused { IfErr result (λ e.
+            e ≡ unwrap_or (absorb_fault (shown self.old) (shown other.now)) DupFault.NoMemory) }
         ensures same { OnErr result (self.new ≡ self.old) }
         ensures idle { IsIdle self.old → IsIdle self.new }
     {
@@ -236,7 +238,8 @@ impl Core {
         now: u64,
     ) -> Result<Outlets, TableFull>
         requires { is_host port ≡ false }
-        ensures { result_ok result ≡ new_outlets self.now.table.sources port header.now.src header.now.seq wanted now }
+        ensures { result_ok result
+            ≡ new_outlets self.now.table.sources port header.now.src header.now.seq wanted now }
     {
         let Some(seq) = header.seq else {
             return Ok(wanted);
@@ -287,7 +290,8 @@ impl Core {
         ensures same { shown self.new ≡ shown self.old }
         ensures ready { OnOk result (IsReady self.new.table header.now.src header.now.seq) }
         ensures number { OnOk result (HasRoomFor self.new.nodes header.now.src heard.now.number) }
-        ensures announced { OnOk result (HasRoomToo self.new.nodes header.now.src heard.now.number heard.now.announced) }
+        ensures announced { OnOk result
+            (HasRoomToo self.new.nodes header.now.src heard.now.number heard.now.announced) }
         ensures err { OnErr result (IsIdle self.old → IsIdle self.new) }
     {
         if header.seq.is_some() {
@@ -320,7 +324,8 @@ impl Core {
         ensures same { shown self.new ≡ shown self.old }
         ensures table { self.new.table ≡ self.old.table }
         ensures number { OnOk result (HasRoomFor self.new.nodes src heard.now.number) }
-        ensures announced { OnOk result (HasRoomToo self.new.nodes src heard.now.number heard.now.announced) }
+        ensures announced { OnOk result
+            (HasRoomToo self.new.nodes src heard.now.number heard.now.announced) }
     {
         let Some(said) = heard.announced else {
             return Ok(());
@@ -339,7 +344,8 @@ impl Core {
         ensures same { shown self.new ≡ shown self.old }
         ensures table { self.new.table ≡ self.old.table }
         ensures number { OnOk result (HasRoomFor self.new.nodes src heard.now.number) }
-        ensures announced { OnOk result (HasRoomToo self.new.nodes src heard.now.number heard.now.announced) }
+        ensures announced { OnOk result
+            (HasRoomToo self.new.nodes src heard.now.number heard.now.announced) }
     {
         let source = self.hold_source(src, heard)?;
         self.hold_told(src, source, heard)
@@ -358,9 +364,11 @@ impl Core {
     fn note(&mut self, port: Port, header: &Header, spot: Option<Spot>, wanted: Outlets, now: u64)
         requires port { is_host port ≡ false }
         requires ready { IsReady self.old.table header.now.src header.now.seq }
-        requires answered { is_some (new_outlets self.old.table.sources port header.now.src header.now.seq wanted now) ≡ true }
+        requires answered { is_some (new_outlets self.old.table.sources port header.now.src
+            header.now.seq wanted now) ≡ true }
         ensures shown { shown self.new ≡ record (shown self.old) {
-          sources = sources_after self.old.table.sources port header.now.src header.now.seq wanted now;
+          sources = sources_after self.old.table.sources port header.now.src
+              header.now.seq wanted now;
         } }
         ensures nodes { self.new.nodes ≡ self.old.nodes }
     {
@@ -375,9 +383,13 @@ impl Core {
     fn hear(&mut self, port: Port, src: Mac, number: Option<Seq>, spot: Option<Spot>, now: u64)
         requires port { IsSome number → is_network port ≡ true }
         requires held { HasRoomFor self.old.nodes src number }
-        ensures nodes { shown self.new ≡ record (shown self.old) { nodes = nodes_heard self.old.nodes.table port src number now } }
+        ensures nodes { shown self.new ≡ record (shown self.old) {
+          nodes = nodes_heard
+              self.old.nodes.table port src number now;
+        } }
         ensures table { self.new.table ≡ self.old.table }
-        ensures ready { (mac : Address) → KeepsRoom self.old.nodes src number mac → IsReadyFor self.new.nodes mac now }
+        ensures ready { (mac : Address) → KeepsRoom self.old.nodes src number mac
+            → IsReadyFor self.new.nodes mac now }
     {
         if let Some(seq) = number {
             self.nodes.heard_at(spot, src, port, seq, now).unwrap();
@@ -388,7 +400,10 @@ impl Core {
     fn take_up(&mut self, port: Port, announced: Option<Supervision>, spot: Option<Spot>, now: u64)
         requires port { IsSome announced → is_network port ≡ true }
         requires ready { ForSome announced (λ said. IsReadyFor self.old.nodes said.mac now) }
-        ensures nodes { shown self.new ≡ record (shown self.old) { nodes = nodes_told self.old.nodes.table port announced now } }
+        ensures nodes { shown self.new ≡ record (shown self.old) {
+          nodes = nodes_told
+              self.old.nodes.table port announced now;
+        } }
         ensures table { self.new.table ≡ self.old.table }
     {
         if let Some(said) = announced {
@@ -398,11 +413,13 @@ impl Core {
 
     // Hears what a frame makes known, for which there is room.
     fn hear_all(&mut self, port: Port, src: Mac, heard: &Heard, now: u64)
-        requires port { (IsSome heard.now.number → is_network port ≡ true) × (IsSome heard.now.announced → is_network port ≡ true) }
+        requires port { (IsSome heard.now.number → is_network port ≡ true)
+            × (IsSome heard.now.announced → is_network port ≡ true) }
         requires number { HasRoomFor self.old.nodes src heard.now.number }
         requires announced { HasRoomToo self.old.nodes src heard.now.number heard.now.announced }
         ensures nodes { shown self.new ≡ record (shown self.old) {
-          nodes = nodes_told (nodes_heard self.old.nodes.table port src heard.now.number now) port heard.now.announced now;
+          nodes = nodes_told (nodes_heard self.old.nodes.table port src heard.now.number now) port
+              heard.now.announced now;
         } }
         ensures table { self.new.table ≡ self.old.table }
     {
@@ -425,16 +442,21 @@ impl Core {
     )
         requires port { is_host port ≡ false }
         requires ready { IsReady self.old.table header.now.src header.now.seq }
-        requires answered { is_some (new_outlets self.old.table.sources port header.now.src header.now.seq wanted now) ≡ true }
+        requires answered { is_some (new_outlets self.old.table.sources port header.now.src
+            header.now.seq wanted now) ≡ true }
         requires room { Room self.old.out copies.old }
-        requires network { (IsSome heard.now.number → is_network port ≡ true) × (IsSome heard.now.announced → is_network port ≡ true) }
+        requires network { (IsSome heard.now.number → is_network port ≡ true)
+            × (IsSome heard.now.announced → is_network port ≡ true) }
         requires number { HasRoomFor self.old.nodes header.now.src heard.now.number }
-        requires announced { HasRoomToo self.old.nodes header.now.src heard.now.number heard.now.announced }
+        requires announced { HasRoomToo self.old.nodes header.now.src heard.now.number
+            heard.now.announced }
         ensures shown { shown self.new ≡ record (shown self.old) {
           time = now;
           next = next;
-          sources = sources_after self.old.table.sources port header.now.src header.now.seq wanted now;
-          nodes = nodes_told (nodes_heard self.old.nodes.table port header.now.src heard.now.number now) port heard.now.announced now;
+          sources = sources_after self.old.table.sources port header.now.src
+              header.now.seq wanted now;
+          nodes = nodes_told (nodes_heard self.old.nodes.table port header.now.src heard.now.number
+              now) port heard.now.announced now;
           out = put_copies self.old.out copies.old;
           wrong_lan = wrong_lan_after self.old.wrong_lan port parcel.now;
         } }
@@ -488,7 +510,8 @@ impl Core {
 
     /// Counts a life check that went out.
     pub(crate) fn set_life(&mut self, now: u64)
-        ensures shown { shown self.new ≡ record (shown self.old) { next_life = after self.old.next_life; life_at = Some now } }
+        ensures shown { shown self.new
+            ≡ record (shown self.old) { next_life = after self.old.next_life; life_at = Some now } }
         ensures held { self.new.table ≡ self.old.table }
         ensures nodes { self.new.nodes ≡ self.old.nodes }
     {
@@ -503,8 +526,10 @@ impl Core {
           sources = live_at now self.old.table.sources;
           nodes = after_prune self.old.nodes.table now;
         } }
-        ensures sources { result.0 + length (live_at now self.old.table.sources) ≡ length self.old.table.sources }
-        ensures nodes { result.1 + length (after_prune self.old.nodes.table now).entries ≡ length self.old.nodes.table.entries }
+        ensures sources { result.0 + length (live_at now self.old.table.sources)
+            ≡ length self.old.table.sources }
+        ensures nodes { result.1 + length (after_prune self.old.nodes.table now).entries
+            ≡ length self.old.nodes.table.entries }
         ensures idle { IsIdle self.old → IsIdle self.new }
     {
         self.time = now;
@@ -522,7 +547,8 @@ impl Core {
     /// The first parcel that waits at a port, taken out.
     pub(crate) fn take(&mut self, port: Port) -> Option<Parcel>
         ensures result { result ≡ first_of (box_at self.old.out port) }
-        ensures shown { shown self.new ≡ record (shown self.old) { out = boxes_left self.old.out port } }
+        ensures shown { shown self.new
+            ≡ record (shown self.old) { out = boxes_left self.old.out port } }
         ensures held { self.new.table ≡ self.old.table }
         ensures nodes { self.new.nodes ≡ self.old.nodes }
     {

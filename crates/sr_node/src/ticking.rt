@@ -19,7 +19,8 @@ use sr_supervision::SUPERVISION;
 impl<R: Role> NodeOf<R> {
     // What a header says of the next life check.
     fn life_header(&self) -> Header
-        ensures { (now : ℕ) → header_told (node_state (R.meaning self.now.role) self.now.core) result now
+        ensures { (now : ℕ)
+            → header_told (node_state (R.meaning self.now.role) self.now.core) result now
             ≡ life_header (node_state (R.meaning self.now.role) self.now.core) now }
     {
         Header {
@@ -34,9 +35,12 @@ impl<R: Role> NodeOf<R> {
 
     /// Where a life check goes at this moment, if one is due, or why it may not.
     pub(crate) fn plan_tick(&self, now: u64) -> Result<Option<Outlets>, StepFault>
-        ensures plan { IfOk result (λ o. LifeIs (node_state (R.meaning self.now.role) self.now.core) now o) }
-        ensures ok { OnOk result (tick_refusal (node_state (R.meaning self.now.role) self.now.core) now ≡ None) }
-        ensures err { IfErr result (λ f. tick_refusal (node_state (R.meaning self.now.role) self.now.core) now ≡ Some f) }
+        ensures plan { IfOk result (λ o.
+            LifeIs (node_state (R.meaning self.now.role) self.now.core) now o) }
+        ensures ok { OnOk result
+            (tick_refusal (node_state (R.meaning self.now.role) self.now.core) now ≡ None) }
+        ensures err { IfErr result (λ f.
+            tick_refusal (node_state (R.meaning self.now.role) self.now.core) now ≡ Some f) }
     {
         if !self.core.is_life_check_due(now) {
             return Ok(None);
@@ -67,7 +71,8 @@ impl<R: Role> NodeOf<R> {
         ensures step { IfOk result (λ a. TickedAs
             (node_state (R.meaning self.old.role) self.old.core) now a
             (node_state (R.meaning self.new.role) self.new.core)) }
-        ensures ok { OnOk result (tick_refusal (node_state (R.meaning self.old.role) self.old.core) now ≡ None) }
+        ensures ok { OnOk result
+            (tick_refusal (node_state (R.meaning self.old.role) self.old.core) now ≡ None) }
         ensures err { IfErr result (λ f. f ≡ or_no_memory
             (tick_refusal (node_state (R.meaning self.old.role) self.old.core) now)) }
         ensures same { OnErr result (node_state (R.meaning self.new.role) self.new.core

@@ -68,7 +68,8 @@ impl LatePorts {
         requires absent { lookup (mac_eq mac) self.old.ports ≡ None }
         requires room { 0 < self.old.room }
         ensures ports { self.new.ports ≡ self.old.ports ++ (mac, port) ∷ [] }
-        ensures room { length self.old.ports + self.old.room ≤ length self.new.ports + self.new.room }
+        ensures room { length self.old.ports + self.old.room
+            ≤ length self.new.ports + self.new.room }
     {
         let _old = self.map.insert(mac, port);
     }

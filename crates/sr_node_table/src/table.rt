@@ -72,7 +72,8 @@ impl Model for NodeTable {
 
 // Adds the address of a node that is not forgotten.
 fn push_live(macs: &mut Vec<Mac>, mac: Mac, entry: &Aged<Node>, now: u64) -> Result<(), NoMemory>
-    ensures { OnOk result (macs.new.items ≡ macs.old.items ++ cons_option (live_mac now (mac, entry.now)) []) }
+    ensures { OnOk result (macs.new.items ≡ macs.old.items
+        ++ cons_option (live_mac now (mac, entry.now)) []) }
 {
     if is_live(entry, now) {
         if let Err(e) = macs.push(mac) {
@@ -194,7 +195,8 @@ impl NodeTable {
         ensures table { self.new.table ≡ self.old.table }
         ensures held { OnOk result (is_held self.new mac ≡ true) }
         ensures both { OnOk result (IfSome other (λ second. is_held self.new second ≡ true)) }
-        ensures others { OnOk result (KeepsHeldBut self.old.held self.new.held mac (unwrap_or other mac)) }
+        ensures others { OnOk result
+            (KeepsHeldBut self.old.held self.new.held mac (unwrap_or other mac)) }
         ensures err { OnErr result (KeepsAllHeld self.old.held self.new.held) }
     {
         match other {
@@ -222,7 +224,8 @@ impl NodeTable {
     /// it; for any other a place is held. NoMemory: memory ran out, and nothing changes.
     pub fn reserve_at(&mut self, spot: Option<Spot>, mac: Mac) -> Result<Ready, NoMemory>
         ensures table { self.new.table ≡ self.old.table }
-        ensures known { (result ≡ Ok Ready.Known) ↔ ((is_some spot && is_some (lookup (mac_eq mac) self.old.table.entries)) ≡ true) }
+        ensures known { (result ≡ Ok Ready.Known)
+            ↔ ((is_some spot && is_some (lookup (mac_eq mac) self.old.table.entries)) ≡ true) }
         ensures same { result ≡ Ok Ready.Known → self.new ≡ self.old }
         ensures held { result ≡ Ok Ready.Held → is_held self.new mac ≡ true }
         ensures others { OnOk result (KeepsHeld self.old.held self.new.held mac) }
@@ -247,17 +250,21 @@ impl NodeTable {
     /// NoMemory: memory ran out for a new node. Either way nothing changes.
     pub fn heard(&mut self, mac: Mac, port: Port, seq: Seq, now: u64) -> Result<Learnt, NoMemory>
         requires ring { (port ≡ Port.A) ⊎ (port ≡ Port.B) }
-        ensures answer { IfOk result (λ learnt. learnt ≡ answer_to self.old.table (hearing_of mac port (Told.Numbered seq) now)) }
-        ensures after { OnOk result (self.new.table ≡ after_hearing self.old.table (hearing_of mac port (Told.Numbered seq) now)) }
+        ensures answer { IfOk result (λ learnt.
+            learnt ≡ answer_to self.old.table (hearing_of mac port (Told.Numbered seq) now)) }
+        ensures after { OnOk result (self.new.table
+            ≡ after_hearing self.old.table (hearing_of mac port (Told.Numbered seq) now)) }
 
         // Full exactly where 1024 others are live. An address that has an entry, or a held place, takes no memory.
-        ensures full { (result ≡ Ok Learnt.Full) ↔ (length (live_others mac now self.old.table.entries) ≡ most_nodes) }
+        ensures full { (result ≡ Ok Learnt.Full)
+            ↔ (length (live_others mac now self.old.table.entries) ≡ most_nodes) }
         ensures known { is_some (lookup (mac_eq mac) self.old.table.entries) ≡ true → IsOk result }
         ensures reserved { is_held self.old mac ≡ true → IsOk result }
 
         // A held place is used up, and no other.
         ensures held { OnOk result (KeepsHeld self.old.held self.new.held mac) }
-        ensures used { IfOk result (λ learnt. ¬ (learnt ≡ Learnt.Full) → is_held self.new mac ≡ false) }
+        ensures used { IfOk result (λ learnt.
+            ¬ (learnt ≡ Learnt.Full) → is_held self.new mac ≡ false) }
         ensures err { OnErr result (self.new ≡ self.old) }
     {
         self.heard_at(None, mac, port, seq, now)
@@ -274,17 +281,21 @@ impl NodeTable {
         now: u64,
     ) -> Result<Learnt, NoMemory>
         requires ring { (port ≡ Port.A) ⊎ (port ≡ Port.B) }
-        ensures answer { IfOk result (λ learnt. learnt ≡ answer_to self.old.table (hearing_of mac port (Told.Numbered seq) now)) }
-        ensures after { OnOk result (self.new.table ≡ after_hearing self.old.table (hearing_of mac port (Told.Numbered seq) now)) }
+        ensures answer { IfOk result (λ learnt.
+            learnt ≡ answer_to self.old.table (hearing_of mac port (Told.Numbered seq) now)) }
+        ensures after { OnOk result (self.new.table
+            ≡ after_hearing self.old.table (hearing_of mac port (Told.Numbered seq) now)) }
 
         // Full exactly where 1024 others are live. An address that has an entry, or a held place, takes no memory.
-        ensures full { (result ≡ Ok Learnt.Full) ↔ (length (live_others mac now self.old.table.entries) ≡ most_nodes) }
+        ensures full { (result ≡ Ok Learnt.Full)
+            ↔ (length (live_others mac now self.old.table.entries) ≡ most_nodes) }
         ensures known { is_some (lookup (mac_eq mac) self.old.table.entries) ≡ true → IsOk result }
         ensures reserved { is_held self.old mac ≡ true → IsOk result }
 
         // A held place is used up, and no other.
         ensures held { OnOk result (KeepsHeld self.old.held self.new.held mac) }
-        ensures used { IfOk result (λ learnt. ¬ (learnt ≡ Learnt.Full) → is_held self.new mac ≡ false) }
+        ensures used { IfOk result (λ learnt.
+            ¬ (learnt ≡ Learnt.Full) → is_held self.new mac ≡ false) }
         ensures err { OnErr result (self.new ≡ self.old) }
     {
         self.hear(spot, mac, port, Told::Numbered(seq), now)
@@ -299,17 +310,22 @@ impl NodeTable {
         now: u64,
     ) -> Result<Learnt, NoMemory>
         requires ring { (port ≡ Port.A) ⊎ (port ≡ Port.B) }
-        ensures answer { IfOk result (λ learnt. learnt ≡ answer_to self.old.table (announcement supervision.now port now)) }
-        ensures after { OnOk result (self.new.table ≡ after_hearing self.old.table (announcement supervision.now port now)) }
+        ensures answer { IfOk result (λ learnt.
+            learnt ≡ answer_to self.old.table (announcement supervision.now port now)) }
+        ensures after { OnOk result (self.new.table
+            ≡ after_hearing self.old.table (announcement supervision.now port now)) }
 
         // Full exactly where 1024 others are live. An address that has an entry, or a held place, takes no memory.
-        ensures full { (result ≡ Ok Learnt.Full) ↔ (length (live_others supervision.now.mac now self.old.table.entries) ≡ most_nodes) }
-        ensures known { is_some (lookup (mac_eq supervision.now.mac) self.old.table.entries) ≡ true → IsOk result }
+        ensures full { (result ≡ Ok Learnt.Full)
+            ↔ (length (live_others supervision.now.mac now self.old.table.entries) ≡ most_nodes) }
+        ensures known { is_some (lookup (mac_eq supervision.now.mac) self.old.table.entries) ≡ true
+            → IsOk result }
         ensures reserved { is_held self.old supervision.now.mac ≡ true → IsOk result }
 
         // A held place is used up, and no other.
         ensures held { OnOk result (KeepsHeld self.old.held self.new.held supervision.now.mac) }
-        ensures used { IfOk result (λ learnt. ¬ (learnt ≡ Learnt.Full) → is_held self.new supervision.now.mac ≡ false) }
+        ensures used { IfOk result (λ learnt.
+            ¬ (learnt ≡ Learnt.Full) → is_held self.new supervision.now.mac ≡ false) }
         ensures err { OnErr result (self.new ≡ self.old) }
     {
         self.announce_at(None, supervision, port, now)
@@ -325,17 +341,22 @@ impl NodeTable {
         now: u64,
     ) -> Result<Learnt, NoMemory>
         requires ring { (port ≡ Port.A) ⊎ (port ≡ Port.B) }
-        ensures answer { IfOk result (λ learnt. learnt ≡ answer_to self.old.table (announcement supervision.now port now)) }
-        ensures after { OnOk result (self.new.table ≡ after_hearing self.old.table (announcement supervision.now port now)) }
+        ensures answer { IfOk result (λ learnt.
+            learnt ≡ answer_to self.old.table (announcement supervision.now port now)) }
+        ensures after { OnOk result (self.new.table
+            ≡ after_hearing self.old.table (announcement supervision.now port now)) }
 
         // Full exactly where 1024 others are live. An address that has an entry, or a held place, takes no memory.
-        ensures full { (result ≡ Ok Learnt.Full) ↔ (length (live_others supervision.now.mac now self.old.table.entries) ≡ most_nodes) }
-        ensures known { is_some (lookup (mac_eq supervision.now.mac) self.old.table.entries) ≡ true → IsOk result }
+        ensures full { (result ≡ Ok Learnt.Full)
+            ↔ (length (live_others supervision.now.mac now self.old.table.entries) ≡ most_nodes) }
+        ensures known { is_some (lookup (mac_eq supervision.now.mac) self.old.table.entries) ≡ true
+            → IsOk result }
         ensures reserved { is_held self.old supervision.now.mac ≡ true → IsOk result }
 
         // A held place is used up, and no other.
         ensures held { OnOk result (KeepsHeld self.old.held self.new.held supervision.now.mac) }
-        ensures used { IfOk result (λ learnt. ¬ (learnt ≡ Learnt.Full) → is_held self.new supervision.now.mac ≡ false) }
+        ensures used { IfOk result (λ learnt.
+            ¬ (learnt ≡ Learnt.Full) → is_held self.new supervision.now.mac ≡ false) }
         ensures err { OnErr result (self.new ≡ self.old) }
     {
         let announced = Announced {
@@ -354,13 +375,17 @@ impl NodeTable {
         told: Told,
         now: u64,
     ) -> Result<Learnt, NoMemory>
-        ensures answer { IfOk result (λ learnt. learnt ≡ answer_to self.old.table (hearing_of mac port told now)) }
-        ensures after { OnOk result (self.new.table ≡ after_hearing self.old.table (hearing_of mac port told now)) }
-        ensures full { (result ≡ Ok Learnt.Full) ↔ (length (live_others mac now self.old.table.entries) ≡ most_nodes) }
+        ensures answer { IfOk result (λ learnt.
+            learnt ≡ answer_to self.old.table (hearing_of mac port told now)) }
+        ensures after { OnOk result (self.new.table
+            ≡ after_hearing self.old.table (hearing_of mac port told now)) }
+        ensures full { (result ≡ Ok Learnt.Full)
+            ↔ (length (live_others mac now self.old.table.entries) ≡ most_nodes) }
         ensures known { is_some (lookup (mac_eq mac) self.old.table.entries) ≡ true → IsOk result }
         ensures reserved { is_held self.old mac ≡ true → IsOk result }
         ensures held { OnOk result (KeepsHeld self.old.held self.new.held mac) }
-        ensures used { IfOk result (λ learnt. ¬ (learnt ≡ Learnt.Full) → is_held self.new mac ≡ false) }
+        ensures used { IfOk result (λ learnt.
+            ¬ (learnt ≡ Learnt.Full) → is_held self.new mac ≡ false) }
         ensures err { OnErr result (self.new ≡ self.old) }
     {
         match self.hear_again(spot, mac, port, told, now) {
@@ -380,8 +405,10 @@ impl NodeTable {
     ) -> Option<Learnt>
         ensures few { length self.old.table.entries ≤ most_nodes }
         ensures found { is_some result ≡ is_some (lookup (mac_eq mac) self.old.table.entries) }
-        ensures answer { IfSome result (λ learnt. learnt ≡ answer_to self.old.table (hearing_of mac port told now)) }
-        ensures after { IfSome result (λ learnt. self.new.table ≡ after_hearing self.old.table (hearing_of mac port told now)) }
+        ensures answer { IfSome result (λ learnt.
+            learnt ≡ answer_to self.old.table (hearing_of mac port told now)) }
+        ensures after { IfSome result (λ learnt.
+            self.new.table ≡ after_hearing self.old.table (hearing_of mac port told now)) }
         ensures others { IfSome result (λ learnt. KeepsHeld self.old.held self.new.held mac) }
         ensures used { IfSome result (λ learnt. is_held self.new mac ≡ false) }
         ensures none { IfNone result (self.new ≡ self.old) }
@@ -400,13 +427,17 @@ impl NodeTable {
     // The first hearing of a node that has no entry.
     fn begin(&mut self, mac: Mac, port: Port, told: Told, now: u64) -> Result<Learnt, NoMemory>
         requires absent { lookup (mac_eq mac) self.old.table.entries ≡ None }
-        ensures answer { IfOk result (λ learnt. learnt ≡ answer_to self.old.table (hearing_of mac port told now)) }
-        ensures after { OnOk result (self.new.table ≡ after_hearing self.old.table (hearing_of mac port told now)) }
-        ensures full { answer_to self.old.table (hearing_of mac port told now) ≡ Learnt.Full → result ≡ Ok Learnt.Full }
+        ensures answer { IfOk result (λ learnt.
+            learnt ≡ answer_to self.old.table (hearing_of mac port told now)) }
+        ensures after { OnOk result (self.new.table
+            ≡ after_hearing self.old.table (hearing_of mac port told now)) }
+        ensures full { answer_to self.old.table (hearing_of mac port told now) ≡ Learnt.Full
+            → result ≡ Ok Learnt.Full }
         ensures nothing { result ≡ Ok Learnt.Full → self.new ≡ self.old }
         ensures reserved { is_held self.old mac ≡ true → IsOk result }
         ensures held { OnOk result (KeepsHeld self.old.held self.new.held mac) }
-        ensures used { IfOk result (λ learnt. ¬ (learnt ≡ Learnt.Full) → is_held self.new mac ≡ false) }
+        ensures used { IfOk result (λ learnt.
+            ¬ (learnt ≡ Learnt.Full) → is_held self.new mac ≡ false) }
         ensures err { OnErr result (self.new ≡ self.old) }
     {
         if self.nodes.is_full_now(now) {
@@ -420,7 +451,10 @@ impl NodeTable {
 
     // Raises the alarms of the nodes that a full table is about to let go.
     fn raise_downs(&mut self, now: u64)
-        ensures table { self.new.table ≡ record self.old.table { alarms = raised self.old.table.alarms (downs_of now self.old.table.entries) } }
+        ensures table { self.new.table ≡ record self.old.table {
+          alarms = raised
+              self.old.table.alarms (downs_of now self.old.table.entries);
+        } }
         ensures held { self.new.held ≡ self.old.held }
     {
         let _room = self.alarms.capacity();
@@ -442,7 +476,8 @@ impl NodeTable {
 
     // Raises the alarms of a prune, and remembers which ports are late.
     fn watch(&mut self, now: u64)
-        ensures table { self.new.table ≡ record (after_prune self.old.table now) { entries = self.old.table.entries } }
+        ensures table { self.new.table
+            ≡ record (after_prune self.old.table now) { entries = self.old.table.entries } }
         ensures held { self.new.held ≡ self.old.held }
     {
         let _nodes = self.nodes.len();

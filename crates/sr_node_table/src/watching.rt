@@ -89,7 +89,8 @@ fn alarm_of(
 
 // Raises an alarm, if there is one. Where as many are kept as may be, the oldest goes.
 fn raise(alarms: &mut HeapCircularBuffer<Alarm>, alarm: Option<Alarm>)
-    ensures { alarms.new ≡ buffer (keep_last alarms.old.capacity (alarms.old.items ++ cons_option alarm [])) alarms.old.capacity }
+    ensures { alarms.new ≡ buffer (keep_last alarms.old.capacity
+        (alarms.old.items ++ cons_option alarm [])) alarms.old.capacity }
 {
     let _room = alarms.capacity();
     if let Some(alarm) = alarm {
@@ -102,7 +103,8 @@ fn find(found: &mut LatePorts, mac: Mac, late: Option<Port>)
     requires absent { lookup (mac_eq mac) found.old.ports ≡ None }
     requires room { 0 < found.old.room }
     ensures ports { found.new.ports ≡ found.old.ports ++ cons_option (found_late mac late) [] }
-    ensures room { length found.old.ports + found.old.room ≤ length found.new.ports + found.new.room }
+    ensures room { length found.old.ports + found.old.room
+        ≤ length found.new.ports + found.new.room }
 {
     if let Some(port) = late {
         found.add(mac, port);
@@ -119,7 +121,9 @@ pub fn watch(
 )
     requires none { found.old.ports ≡ [] }
     requires room { length nodes.now.entries ≤ found.old.room }
-    ensures alarms { alarms.new ≡ buffer (keep_last alarms.old.capacity (alarms.old.items ++ alarms_at before.now.ports now nodes.now.entries)) alarms.old.capacity }
+    ensures alarms { alarms.new
+        ≡ buffer (keep_last alarms.old.capacity (alarms.old.items
+        ++ alarms_at before.now.ports now nodes.now.entries)) alarms.old.capacity }
     ensures ports { found.new.ports ≡ late_at now nodes.now.entries }
     ensures room { found.old.room ≤ length found.new.ports + found.new.room }
 {
@@ -139,7 +143,8 @@ pub fn raise_downs(
     alarms: &mut HeapCircularBuffer<Alarm>,
     now: u64,
 )
-    ensures { alarms.new ≡ buffer (keep_last alarms.old.capacity (alarms.old.items ++ downs_at now nodes.now.entries)) alarms.old.capacity }
+    ensures { alarms.new ≡ buffer (keep_last alarms.old.capacity
+        (alarms.old.items ++ downs_at now nodes.now.entries)) alarms.old.capacity }
 {
     let _room = alarms.capacity();
     for (mac, entry) in nodes.iter() {

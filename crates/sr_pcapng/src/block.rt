@@ -109,10 +109,12 @@ fn take_front<R: BufRead>(
     own: Option<ByteOrder>,
     block: &mut Vec<u8>,
 ) -> Result<Option<(ByteOrder, usize)>, CaptureFault>
-    ensures taken { IfOk result (λ found. MatchOption found (WasAtEnd (R.remaining reader.old) (R.remaining reader.new))
+    ensures taken { IfOk result (λ found.
+        MatchOption found (WasAtEnd (R.remaining reader.old) (R.remaining reader.new))
         (λ front. Loses block.new.items (R.remaining reader.old) (R.remaining reader.new)
         × BeginsBlock own block.new.items front.0 front.1 × (length block.new.items ≡ 12))) }
-    ensures fault { IfErr result (λ fault. IsNoBlock own fault (R.remaining reader.old) (R.remaining reader.new)) }
+    ensures fault { IfErr result (λ fault.
+        IsNoBlock own fault (R.remaining reader.old) (R.remaining reader.new)) }
 {
     match keep(reader, FRONT_LEN, block) {
         Ok(true) => {}
@@ -150,9 +152,12 @@ pub(crate) fn take_block<R: BufRead>(
     own: Option<ByteOrder>,
     block: &mut Vec<u8>,
 ) -> Result<Option<ByteOrder>, CaptureFault>
-    ensures taken { IfOk result (λ found. MatchOption found (WasAtEnd (R.remaining reader.old) (R.remaining reader.new))
-        (λ order. Loses block.new.items (R.remaining reader.old) (R.remaining reader.new) × IsBlock own block.new.items order)) }
-    ensures fault { IfErr result (λ fault. IsNoBlock own fault (R.remaining reader.old) (R.remaining reader.new)) }
+    ensures taken { IfOk result (λ found.
+        MatchOption found (WasAtEnd (R.remaining reader.old) (R.remaining reader.new))
+        (λ order. Loses block.new.items (R.remaining reader.old) (R.remaining reader.new)
+        × IsBlock own block.new.items order)) }
+    ensures fault { IfErr result (λ fault.
+        IsNoBlock own fault (R.remaining reader.old) (R.remaining reader.new)) }
 {
     let Some((order, size)) = take_front(reader, own, block)? else {
         return Ok(None);

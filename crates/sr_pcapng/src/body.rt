@@ -41,8 +41,10 @@ pub(crate) fn interface_of(
     taken: Option<Interface>,
     number: u32,
 ) -> Result<Option<Interface>, Reason>
-    ensures found { IfOk result (λ interface. IsTold wanted taken × (interface ≡ of_number taken number)) }
-    ensures refused { IfErr result (λ reason. (reason ≡ NoEthernet) × (wanted ≡ Only) × (taken ≡ None)) }
+    ensures found { IfOk result (λ interface.
+        IsTold wanted taken × (interface ≡ of_number taken number)) }
+    ensures refused { IfErr result (λ reason.
+        (reason ≡ NoEthernet) × (wanted ≡ Only) × (taken ≡ None)) }
 {
     if wanted == Wanted::Only && taken.is_none() {
         return Err(Reason::NoEthernet);
@@ -84,8 +86,10 @@ pub(crate) fn show(
     requires early { time < 2 ^ 63 }
     requires near { body.at ≤ 28 }
     requires whole { Holds body.at body.held octets.now }
-    ensures { OnOk result ((captured : Captured) → captured.time ≡ time → captured.extent ≡ extent_of body.held body.len
-        → captured.octets ≡ body_at body.at body.held body.check_len octets.now → Shows packet.new captured) }
+    ensures { OnOk result ((captured : Captured) → captured.time ≡ time
+        → captured.extent ≡ extent_of body.held body.len
+        → captured.octets ≡ body_at body.at body.held body.check_len octets.now
+        → Shows packet.new captured) }
 {
     let wanted = body.held.saturating_sub(u32::from(body.check_len));
     packet.octets.clear();

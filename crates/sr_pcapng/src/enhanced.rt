@@ -26,8 +26,10 @@ pub(crate) fn read_enhanced(
     octets: &[u8],
     packet: &mut Packet,
 ) -> Result<bool, Reason>
-    ensures read { IfOk result (λ more. (shown : List Captured) × InEnhanced wanted section.now octets.now shown × Gives more shown packet.new) }
-    ensures refused { IfErr result (λ reason. IsWrongEnhanced wanted section.now octets.now reason) }
+    ensures read { IfOk result (λ more. (shown : List Captured)
+        × InEnhanced wanted section.now octets.now shown × Gives more shown packet.new) }
+    ensures refused { IfErr result (λ reason.
+        IsWrongEnhanced wanted section.now octets.now reason) }
 {
     if octets.len() < MIN_LEN {
         return Err(Reason::Length);

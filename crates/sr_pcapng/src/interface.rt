@@ -36,8 +36,10 @@ fn is_wanted(wanted: Wanted, count: u32, link: u16) -> bool
 /// The interface that a block describes. None where its options are none.
 fn interface_of(check_len: u8, section: &Section, octets: &[u8]) -> Option<Interface>
     requires { 20 ≤ length octets.now }
-    ensures found { IfSome result (λ interface. IsInterface check_len section.now octets.now interface) }
-    ensures none { IfNone result ((interface : Known) → IsInterface check_len section.now octets.now interface → ⊥) }
+    ensures found { IfSome result (λ interface.
+        IsInterface check_len section.now octets.now interface) }
+    ensures none { IfNone result ((interface : Known)
+        → IsInterface check_len section.now octets.now interface → ⊥) }
 {
     let plain = Interface {
         number: section.count,
@@ -73,7 +75,8 @@ fn described(
 ) -> Result<Section, Reason>
     requires { IsMeant wanted section.now octets.now }
     ensures read { IfOk result (λ next. Describes wanted check_len section.now octets.now next) }
-    ensures refused { IfErr result (λ reason. IsWrongInterface wanted check_len section.now octets.now reason) }
+    ensures refused { IfErr result (λ reason.
+        IsWrongInterface wanted check_len section.now octets.now reason) }
 {
     let link = half_at(section.order, octets, 8);
     if link != ETHERNET {
@@ -100,7 +103,8 @@ pub(crate) fn read_interface(
     octets: &[u8],
 ) -> Result<Section, Reason>
     ensures read { IfOk result (λ next. Describes wanted check_len section.now octets.now next) }
-    ensures refused { IfErr result (λ reason. IsWrongInterface wanted check_len section.now octets.now reason) }
+    ensures refused { IfErr result (λ reason.
+        IsWrongInterface wanted check_len section.now octets.now reason) }
 {
     if octets.len() < MIN_LEN {
         return Err(Reason::Length);

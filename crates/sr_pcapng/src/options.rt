@@ -107,8 +107,10 @@ pub(crate) fn read_options(
     octets: &[u8],
     interface: Interface,
 ) -> Option<Interface>
-    ensures found { IfSome result (λ known. (options : List (List ℕ)) × Reads order octets.now interface options known) }
-    ensures none { IfNone result ((options : List (List ℕ)) (known : Interface) → Reads order octets.now interface options known → ⊥) }
+    ensures found { IfSome result (λ known.
+        (options : List (List ℕ)) × Reads order octets.now interface options known) }
+    ensures none { IfNone result ((options : List (List ℕ)) (known : Interface)
+        → Reads order octets.now interface options known → ⊥) }
 {
     let mut rest = octets;
     let mut known = interface;

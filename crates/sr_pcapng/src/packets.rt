@@ -50,9 +50,11 @@ fn take_step<R: BufRead>(
     block: &mut Vec<u8>,
     packet: &mut Packet,
 ) -> Result<Step, CaptureFault>
-    ensures taken { IfOk result (λ step. TakesStep step track.old track.new block.new.items packet.new
+    ensures taken { IfOk result (λ step.
+        TakesStep step track.old track.new block.new.items packet.new
         (R.remaining reader.old) (R.remaining reader.new)) }
-    ensures fault { IfErr result (λ fault. IsNoStep track.old fault (R.remaining reader.old) (R.remaining reader.new)) }
+    ensures fault { IfErr result (λ fault.
+        IsNoStep track.old fault (R.remaining reader.old) (R.remaining reader.new)) }
 {
     let section = track.section;
     let order = match take_block(reader, order_in(section), block) {
@@ -86,8 +88,10 @@ pub fn next_packet<R: BufRead>(
     block: &mut Vec<u8>,
     packet: &mut Packet,
 ) -> Result<bool, CaptureFault>
-    ensures taken { IfOk result (λ more. Takes more track.old track.new packet.new (R.remaining reader.old) (R.remaining reader.new)) }
-    ensures fault { IfErr result (λ fault. IsNoPacket track.old fault (R.remaining reader.old) (R.remaining reader.new)) }
+    ensures taken { IfOk result (λ more. Takes more track.old track.new packet.new
+        (R.remaining reader.old) (R.remaining reader.new)) }
+    ensures fault { IfErr result (λ fault.
+        IsNoPacket track.old fault (R.remaining reader.old) (R.remaining reader.new)) }
 {
     let mut size: u64 = 0;
     'steps: for _ in 0..u64::MAX {

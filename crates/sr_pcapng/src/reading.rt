@@ -22,7 +22,8 @@ const VERSION: u16 = 1;
 
 /// Begins a section.
 fn read_section(track: &mut Track, order: ByteOrder, octets: &[u8]) -> Result<(), Reason>
-    ensures read { OnOk result (IsHeader order octets.now × (track.new ≡ in_section track.old (begun order))) }
+    ensures read { OnOk result (IsHeader order octets.now
+        × (track.new ≡ in_section track.old (begun order))) }
     ensures refused { IfErr result (λ reason. IsWrongSection order octets.now reason) }
 {
     if octets.len() < MIN_HEADER_LEN {
@@ -48,9 +49,11 @@ fn read_within(
     packet: &mut Packet,
 ) -> Result<bool, Reason>
     requires { kind ≢ SectionKind }
-    ensures read { IfOk result (λ more. (shown : List Captured) × MeansWithin kind track.old section.now octets.now shown track.new
+    ensures read { IfOk result (λ more.
+        (shown : List Captured) × MeansWithin kind track.old section.now octets.now shown track.new
         × Gives more shown packet.new) }
-    ensures refused { IfErr result (λ reason. IsWrongWithin kind track.old section.now octets.now reason) }
+    ensures refused { IfErr result (λ reason.
+        IsWrongWithin kind track.old section.now octets.now reason) }
 {
     match kind {
         Kind::Interface => {
@@ -80,8 +83,10 @@ pub(crate) fn read_block(
 ) -> Result<bool, Reason>
     requires { IsBlock (order_in track.old.section) octets.now order }
     ensures read { IfOk result (λ more. (shown : List Captured)
-        × Means (kind_of order octets.now) track.old order octets.now shown track.new × Gives more shown packet.new) }
-    ensures refused { IfErr result (λ reason. IsWrong (kind_of order octets.now) track.old order octets.now reason) }
+        × Means (kind_of order octets.now) track.old order octets.now shown track.new
+        × Gives more shown packet.new) }
+    ensures refused { IfErr result (λ reason.
+        IsWrong (kind_of order octets.now) track.old order octets.now reason) }
 {
     match kind_of(order, octets) {
         Kind::Section => match read_section(track, order, octets) {

@@ -32,7 +32,8 @@ pub(crate) fn read_simple(
     octets: &[u8],
     packet: &mut Packet,
 ) -> Result<bool, Reason>
-    ensures read { IfOk result (λ more. (shown : List Captured) × InSimple wanted section.now octets.now shown × Gives more shown packet.new) }
+    ensures read { IfOk result (λ more. (shown : List Captured)
+        × InSimple wanted section.now octets.now shown × Gives more shown packet.new) }
     ensures refused { IfErr result (λ reason. IsWrongSimple wanted section.now octets.now reason) }
 {
     if octets.len() < MIN_LEN {

@@ -24,7 +24,8 @@ fn step_out<R: Role>(
     ensures ok { IfOk result (λ g. StepsOut (state_of R.meaning node.old) event.now g.0 g.1
         up.old.items up.new.items (state_of R.meaning node.new)) }
     ensures err { IfErr result (λ f. (f ≡ PlantFault.NoMemory)
-        ⊎ (f ≡ PlantFault.Node (or_no_memory (refusal_of (state_of R.meaning node.old) event.now)))) }
+        ⊎ (f ≡ PlantFault.Node
+        (or_no_memory (refusal_of (state_of R.meaning node.old) event.now)))) }
     ensures same { OnErr result ((state_of R.meaning node.new
         ≡ state_of R.meaning node.old) × (up.new.items ≡ up.old.items)) }
 {
@@ -44,7 +45,8 @@ impl<R: Role> PlantOf<R> {
         ensures in_order { OnOk result (IsInOrder (plant_state R.meaning self.new)) }
         ensures err { IfErr result (λ f. (f ≡ PlantFault.NoMemory) ⊎ NodeRefuses
             (plant_state R.meaning self.old) node event.now f) }
-        ensures same { OnErr result (plant_state R.meaning self.new ≡ plant_state R.meaning self.old) }
+        ensures same { OnErr result (plant_state R.meaning self.new
+            ≡ plant_state R.meaning self.old) }
     {
         let nodes = self.nodes.len();
         self.traffic.reserve(nodes)?;

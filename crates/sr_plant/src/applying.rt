@@ -22,7 +22,8 @@ impl<R: Role> PlantOf<R> {
         ensures ok { OnOk result (plant_refusal (plant_state R.meaning self.old) event.now ≡ None) }
         ensures err { IfErr result (λ f. PlantRefuses
             (plant_state R.meaning self.old) event.now f) }
-        ensures same { OnErr result (plant_state R.meaning self.new ≡ plant_state R.meaning self.old) }
+        ensures same { OnErr result (plant_state R.meaning self.new
+            ≡ plant_state R.meaning self.old) }
         ensures in_order { IsInOrder (plant_state R.meaning self.new) }
     {
         match event {

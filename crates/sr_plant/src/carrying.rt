@@ -15,14 +15,16 @@ impl<R: Role> PlantOf<R> {
     // The copy at a place comes to its receiver, all growths first.
     fn bring(&mut self, place: usize, arriving: &Arriving) -> Result<(), PlantFault>
         requires in_order { IsInOrder (plant_state R.meaning self.old) }
-        requires there { OneComesAs self.old.topology self.old.traffic.flight.copies place (Some arriving.now) }
+        requires there { OneComesAs self.old.topology self.old.traffic.flight.copies place
+            (Some arriving.now) }
         ensures ok { OnOk result (Carried
             (plant_state R.meaning self.old) place
             (plant_state R.meaning self.new)) }
         ensures in_order { OnOk result (IsInOrder (plant_state R.meaning self.new)) }
         ensures err { IfErr result (λ f. Fails
             (plant_state R.meaning self.old) (PlantEvent.Carry place) f) }
-        ensures same { OnErr result (plant_state R.meaning self.new ≡ plant_state R.meaning self.old) }
+        ensures same { OnErr result (plant_state R.meaning self.new
+            ≡ plant_state R.meaning self.old) }
     {
         let nodes = self.nodes.len();
         self.traffic.reserve(nodes)?;
@@ -52,10 +54,12 @@ impl<R: Role> PlantOf<R> {
         ensures step { OnOk result (PlantStep
             (plant_state R.meaning self.old) (PlantEvent.Carry place)
             (plant_state R.meaning self.new)) }
-        ensures ok { OnOk result (plant_refusal (plant_state R.meaning self.old) (PlantEvent.Carry place) ≡ None) }
+        ensures ok { OnOk result
+            (plant_refusal (plant_state R.meaning self.old) (PlantEvent.Carry place) ≡ None) }
         ensures err { IfErr result (λ f. PlantRefuses
             (plant_state R.meaning self.old) (PlantEvent.Carry place) f) }
-        ensures same { OnErr result (plant_state R.meaning self.new ≡ plant_state R.meaning self.old) }
+        ensures same { OnErr result (plant_state R.meaning self.new
+            ≡ plant_state R.meaning self.old) }
         ensures in_order { IsInOrder (plant_state R.meaning self.new) }
     {
         has(place, self.traffic.len(), PlantFault::NoSuchCopy)?;

@@ -96,7 +96,8 @@ fn look_at(kept: &mut Slab<Kept>, places: &mut VecDeque<Flying>, seen: Flying, l
     ensures counted { AreCounted kept.new places.new.items }
     ensures used { AreUsed kept.new }
     ensures copies { copies_in kept.new places.new.items
-        ≡ copies_in kept.old places.old.items ++ filter (λ c. not (is_on link c)) (copy_in kept.old seen ∷ []) }
+        ≡ copies_in kept.old places.old.items
+        ++ filter (λ c. not (is_on link c)) (copy_in kept.old seen ∷ []) }
     ensures len { deque_len places.new ≤ deque_len places.old + 1 }
     ensures capacity { deque_capacity places.new ≡ deque_capacity places.old }
 {

@@ -40,10 +40,12 @@ impl<R: Role> PlantOf<R> {
         ensures step { OnOk result (PlantStep
             (plant_state R.meaning self.old) (PlantEvent.Send node frame.now)
             (plant_state R.meaning self.new)) }
-        ensures ok { OnOk result (plant_refusal (plant_state R.meaning self.old) (PlantEvent.Send node frame.now) ≡ None) }
+        ensures ok { OnOk result (plant_refusal (plant_state R.meaning self.old)
+            (PlantEvent.Send node frame.now) ≡ None) }
         ensures err { IfErr result (λ f. PlantRefuses
             (plant_state R.meaning self.old) (PlantEvent.Send node frame.now) f) }
-        ensures same { OnErr result (plant_state R.meaning self.new ≡ plant_state R.meaning self.old) }
+        ensures same { OnErr result (plant_state R.meaning self.new
+            ≡ plant_state R.meaning self.old) }
         ensures in_order { IsInOrder (plant_state R.meaning self.new) }
     {
         has(node, self.nodes.len(), PlantFault::NoSuchNode)?;
@@ -61,10 +63,12 @@ impl<R: Role> PlantOf<R> {
         ensures step { OnOk result (PlantStep
             (plant_state R.meaning self.old) (PlantEvent.Tick node now)
             (plant_state R.meaning self.new)) }
-        ensures ok { OnOk result (plant_refusal (plant_state R.meaning self.old) (PlantEvent.Tick node now) ≡ None) }
+        ensures ok { OnOk result
+            (plant_refusal (plant_state R.meaning self.old) (PlantEvent.Tick node now) ≡ None) }
         ensures err { IfErr result (λ f. PlantRefuses
             (plant_state R.meaning self.old) (PlantEvent.Tick node now) f) }
-        ensures same { OnErr result (plant_state R.meaning self.new ≡ plant_state R.meaning self.old) }
+        ensures same { OnErr result (plant_state R.meaning self.new
+            ≡ plant_state R.meaning self.old) }
         ensures in_order { IsInOrder (plant_state R.meaning self.new) }
     {
         has(node, self.nodes.len(), PlantFault::NoSuchNode)?;
@@ -78,10 +82,12 @@ impl<R: Role> PlantOf<R> {
         ensures step { OnOk result (PlantStep
             (plant_state R.meaning self.old) (PlantEvent.Drop place)
             (plant_state R.meaning self.new)) }
-        ensures ok { OnOk result (plant_refusal (plant_state R.meaning self.old) (PlantEvent.Drop place) ≡ None) }
+        ensures ok { OnOk result
+            (plant_refusal (plant_state R.meaning self.old) (PlantEvent.Drop place) ≡ None) }
         ensures err { IfErr result (λ f. PlantRefuses
             (plant_state R.meaning self.old) (PlantEvent.Drop place) f) }
-        ensures same { OnErr result (plant_state R.meaning self.new ≡ plant_state R.meaning self.old) }
+        ensures same { OnErr result (plant_state R.meaning self.new
+            ≡ plant_state R.meaning self.old) }
         ensures in_order { IsInOrder (plant_state R.meaning self.new) }
     {
         has(place, self.traffic.len(), PlantFault::NoSuchCopy)?;
@@ -95,10 +101,12 @@ impl<R: Role> PlantOf<R> {
         ensures step { OnOk result (PlantStep
             (plant_state R.meaning self.old) (PlantEvent.Repeat place)
             (plant_state R.meaning self.new)) }
-        ensures ok { OnOk result (plant_refusal (plant_state R.meaning self.old) (PlantEvent.Repeat place) ≡ None) }
+        ensures ok { OnOk result
+            (plant_refusal (plant_state R.meaning self.old) (PlantEvent.Repeat place) ≡ None) }
         ensures err { IfErr result (λ f. PlantRefuses
             (plant_state R.meaning self.old) (PlantEvent.Repeat place) f) }
-        ensures same { OnErr result (plant_state R.meaning self.new ≡ plant_state R.meaning self.old) }
+        ensures same { OnErr result (plant_state R.meaning self.new
+            ≡ plant_state R.meaning self.old) }
         ensures in_order { IsInOrder (plant_state R.meaning self.new) }
     {
         has(place, self.traffic.len(), PlantFault::NoSuchCopy)?;
@@ -113,10 +121,12 @@ impl<R: Role> PlantOf<R> {
         ensures step { OnOk result (PlantStep
             (plant_state R.meaning self.old) (PlantEvent.Cut link)
             (plant_state R.meaning self.new)) }
-        ensures ok { OnOk result (plant_refusal (plant_state R.meaning self.old) (PlantEvent.Cut link) ≡ None) }
+        ensures ok { OnOk result
+            (plant_refusal (plant_state R.meaning self.old) (PlantEvent.Cut link) ≡ None) }
         ensures err { IfErr result (λ f. PlantRefuses
             (plant_state R.meaning self.old) (PlantEvent.Cut link) f) }
-        ensures same { OnErr result (plant_state R.meaning self.new ≡ plant_state R.meaning self.old) }
+        ensures same { OnErr result (plant_state R.meaning self.new
+            ≡ plant_state R.meaning self.old) }
         ensures in_order { IsInOrder (plant_state R.meaning self.new) }
     {
         has(link, self.traffic.links(), PlantFault::NoSuchNode)?;
@@ -130,10 +140,12 @@ impl<R: Role> PlantOf<R> {
         ensures step { OnOk result (PlantStep
             (plant_state R.meaning self.old) (PlantEvent.Mend link)
             (plant_state R.meaning self.new)) }
-        ensures ok { OnOk result (plant_refusal (plant_state R.meaning self.old) (PlantEvent.Mend link) ≡ None) }
+        ensures ok { OnOk result
+            (plant_refusal (plant_state R.meaning self.old) (PlantEvent.Mend link) ≡ None) }
         ensures err { IfErr result (λ f. PlantRefuses
             (plant_state R.meaning self.old) (PlantEvent.Mend link) f) }
-        ensures same { OnErr result (plant_state R.meaning self.new ≡ plant_state R.meaning self.old) }
+        ensures same { OnErr result (plant_state R.meaning self.new
+            ≡ plant_state R.meaning self.old) }
         ensures in_order { IsInOrder (plant_state R.meaning self.new) }
     {
         has(link, self.traffic.links(), PlantFault::NoSuchNode)?;

@@ -34,7 +34,8 @@ pub(crate) fn add_copy(kept: &mut Slab<Kept>, key: usize)
 pub(crate) fn drop_copy(kept: &mut Slab<Kept>, key: usize)
     requires { 0 < copies_of (get kept.old key) }
     ensures fewer { copies_of (get kept.new key) + 1 ≡ copies_of (get kept.old key) }
-    ensures parcel { 0 < copies_of (get kept.new key) → parcel_of (get kept.new key) ≡ parcel_of (get kept.old key) }
+    ensures parcel { 0 < copies_of (get kept.new key)
+        → parcel_of (get kept.new key) ≡ parcel_of (get kept.old key) }
     ensures gone { copies_of (get kept.new key) ≡ 0 → get kept.new key ≡ None }
     ensures others { (other : ℕ) → other ≢ key → get kept.new other ≡ get kept.old other }
     ensures len { slab_len kept.new ≤ slab_len kept.old }

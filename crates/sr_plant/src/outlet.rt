@@ -40,7 +40,8 @@ impl Outlet {
     // The hop round a ring to a node, if the outlet leads there.
     fn ring_hop(self, to: usize) -> Option<Hop>
         requires { self.node < self.nodes }
-        ensures { option_map hop_of result ≡ hop_to Topology.Ring self.nodes self.node self.port to }
+        ensures { option_map hop_of result
+            ≡ hop_to Topology.Ring self.nodes self.node self.port to }
     {
         match self.port {
             Port::A if to == previous(self.node, self.nodes) => Some(Hop {
@@ -64,7 +65,8 @@ impl Outlet {
         requires small { self.nodes ≤ most_nodes }
         requires node { self.node < self.nodes }
         requires to { to < self.nodes }
-        ensures { option_map hop_of result ≡ hop_to Topology.TwinLan self.nodes self.node self.port to }
+        ensures { option_map hop_of result
+            ≡ hop_to Topology.TwinLan self.nodes self.node self.port to }
     {
         if to == self.node {
             return None;
@@ -91,7 +93,8 @@ impl Outlet {
         requires small { self.nodes ≤ most_nodes }
         requires node { self.node < self.nodes }
         requires to { to < self.nodes }
-        ensures { option_map hop_of result ≡ hop_to self.topology self.nodes self.node self.port to }
+        ensures { option_map hop_of result
+            ≡ hop_to self.topology self.nodes self.node self.port to }
     {
         match self.topology {
             Topology::Ring => self.ring_hop(to),

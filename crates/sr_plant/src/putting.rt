@@ -69,7 +69,8 @@ pub(crate) fn put_copies(
     ensures used { AreUsedBut key kept.new }
     ensures copies { copies_in kept.new places.new.items ≡ copies_in kept.old places.old.items
         ++ those_passing cut.now
-        (copies_put outlet.topology outlet.nodes outlet.node outlet.port (parcel_of (get kept.old key))) }
+        (copies_put outlet.topology outlet.nodes outlet.node outlet.port
+        (parcel_of (get kept.old key))) }
     ensures kept_len { slab_len kept.new ≡ slab_len kept.old }
     ensures kept_capacity { kept.new.capacity ≡ kept.old.capacity }
     ensures len { deque_len places.new ≤ deque_len places.old + outlet.nodes }

@@ -165,7 +165,8 @@ impl Traffic {
     /// A link is cut, and what is on it is lost.
     pub(crate) fn cut(&mut self, link: usize)
         requires { link < length self.old.cut }
-        ensures copies { self.new.flight.copies ≡ filter (λ c. not (is_on link c)) self.old.flight.copies }
+        ensures copies { self.new.flight.copies
+            ≡ filter (λ c. not (is_on link c)) self.old.flight.copies }
         ensures cut { self.new.cut ≡ slice_set self.old.cut link true }
         ensures clock { self.new.clock ≡ self.old.clock }
     {

@@ -27,7 +27,8 @@ impl<R: Role> TwinLanOf<R> {
         ensures begun { IfOk result (λ r. plant_state R.meaning r.plant
             ≡ opening Topology.TwinLan (states_of R.meaning nodes.items)) }
         ensures in_order { IfOk result (λ r. IsInOrder (plant_state R.meaning r.plant)) }
-        ensures ok { OnOk result (is_plant Topology.TwinLan (states_of R.meaning nodes.items) ≡ true) }
+        ensures ok { OnOk result
+            (is_plant Topology.TwinLan (states_of R.meaning nodes.items) ≡ true) }
         ensures err { IfErr result (λ f. f ≡ plant_fault
             (is_plant Topology.TwinLan (states_of R.meaning nodes.items))) }
     {

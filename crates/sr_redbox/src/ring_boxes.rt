@@ -30,7 +30,8 @@ fn onward(inlet: Port, interlink: Interlink) -> Outlets
 
 // Where a frame of the ring goes.
 fn from_ring(mac: Mac, header: &Header, inlet: Port, interlink: Interlink) -> Outlets
-    ensures { result ≡ box_from_ring (role_of RoleKind.Hsr mac) header.now inlet (ports_of interlink) }
+    ensures { result
+        ≡ box_from_ring (role_of RoleKind.Hsr mac) header.now inlet (ports_of interlink) }
 {
     let onward = onward(inlet, interlink);
     if header.src == mac {

@@ -58,7 +58,11 @@ impl SanBox {
     // Stands for this address from now on, where there is room. NoMemory: memory ran out, and nothing changes.
     fn proxy(&mut self, mac: Mac, now: u64) -> Result<Learnt, NoMemory>
         ensures answer { IfOk result (λ a. a ≡ proxy_answer (san_of self.old).proxied mac now) }
-        ensures after { OnOk result (san_of self.new ≡ record (san_of self.old) { proxied = proxied_after (san_of self.old).proxied mac now }) }
+        ensures after { OnOk result (san_of self.new
+            ≡ record (san_of self.old) {
+              proxied = proxied_after (san_of self.old).proxied
+                  mac now;
+            }) }
         ensures err { OnErr result (self.new ≡ self.old) }
     {
         self.proxied.learn(mac, now)

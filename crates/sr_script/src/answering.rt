@@ -66,7 +66,8 @@ fn arrive<R: Role>(
     time: u64,
 ) -> Result<Answer, StepFault>
     ensures taken { IfOk result (λ a. OctetsArrived (framing_of role port)
-        (node_state (R.meaning node.old.role) node.old.core) port octets.old.items time a (node_state (R.meaning node.new.role) node.new.core)) }
+        (node_state (R.meaning node.old.role) node.old.core) port octets.old.items time a
+        (node_state (R.meaning node.new.role) node.new.core)) }
     ensures refused { IfErr result (λ f. OctetsRefused (framing_of role port)
         (node_state (R.meaning node.old.role) node.old.core) port octets.old.items time f) }
     ensures same { OnErr result (node_state (R.meaning node.new.role) node.new.core
@@ -85,9 +86,11 @@ fn send<R: Role>(
 ) -> Result<Answer, StepFault>
     ensures taken { IfOk result (λ a. Step (node_state (R.meaning node.old.role) node.old.core)
         (event.Send octets.old.items time) a (node_state (R.meaning node.new.role) node.new.core)) }
-    ensures ok { OnOk result (refusal_of (node_state (R.meaning node.old.role) node.old.core) (event.Send octets.old.items time) ≡ None) }
+    ensures ok { OnOk result (refusal_of (node_state (R.meaning node.old.role) node.old.core)
+        (event.Send octets.old.items time) ≡ None) }
     ensures refused { IfErr result (λ f. f ≡ or_no_memory
-        (refusal_of (node_state (R.meaning node.old.role) node.old.core) (event.Send octets.old.items time))) }
+        (refusal_of (node_state (R.meaning node.old.role) node.old.core)
+        (event.Send octets.old.items time))) }
     ensures same { OnErr result (node_state (R.meaning node.new.role) node.new.core
         ≡ node_state (R.meaning node.old.role) node.old.core) }
 {
@@ -103,7 +106,8 @@ fn send<R: Role>(
 /// Appends the line for an event that is refused for this reason.
 fn tell_refusal(text: &mut Vec<u8>, number: u64, fault: StepFault) -> Result<(), Word>
     requires { text.old.items ≡ [] }
-    ensures ok { OnOk result ((name : List ℕ) × (name_of fault ≡ Some name) × (text.new.items ≡ refusal_line number name)) }
+    ensures ok { OnOk result ((name : List ℕ) × (name_of fault ≡ Some name)
+        × (text.new.items ≡ refusal_line number name)) }
     ensures err { IfErr result (λ word. word ≡ Word.Memory) }
 {
     match name_of(fault) {
@@ -123,7 +127,8 @@ pub(crate) fn obey<R: Role>(
     text: &mut Vec<u8>,
 ) -> Result<(), Word>
     requires { text.old.items ≡ [] }
-    ensures ok { OnOk result (Obeys role (node_state (R.meaning node.old.role) node.old.core) number command octets.old.items
+    ensures ok { OnOk result (Obeys role (node_state (R.meaning node.old.role) node.old.core) number
+        command octets.old.items
         text.new.items (node_state (R.meaning node.new.role) node.new.core)) }
     ensures err { IfErr result (λ word. word ≡ Word.Memory) }
 {
@@ -158,7 +163,8 @@ pub(crate) fn answer<R: Role>(
     text: &mut Vec<u8>,
 ) -> Result<(), Word>
     requires { text.old.items ≡ [] }
-    ensures ok { OnOk result (Replied role (node_state (R.meaning node.old.role) node.old.core) number line.now
+    ensures ok { OnOk result
+        (Replied role (node_state (R.meaning node.old.role) node.old.core) number line.now
         text.new.items (node_state (R.meaning node.new.role) node.new.core)) }
     ensures known { OnOk result (IsEventLine role line.now) }
     ensures bad { result ≡ Err Word.Line → IsEventLine role line.now → ⊥ }

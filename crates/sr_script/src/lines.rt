@@ -26,7 +26,8 @@ pub(crate) enum Piece {
 fn take_piece<R: BufRead>(reader: &mut R, line: &mut Vec<u8>) -> Result<Piece, Word>
     requires short { vec_len line.old ≤ 8000 }
     requires room { 8001 ≤ vec_capacity line.old }
-    ensures taken { IfOk result (λ piece. TakesPiece piece line.old.items line.new.items (R.remaining reader.old) (R.remaining reader.new)) }
+    ensures taken { IfOk result (λ piece. TakesPiece piece line.old.items line.new.items
+        (R.remaining reader.old) (R.remaining reader.new)) }
     ensures fault { IfErr result (λ word. word ≡ Word.Read) }
     ensures untaken { OnErr result (Keeps (R.remaining reader.old) (R.remaining reader.new)) }
     ensures room { vec_capacity line.old ≤ vec_capacity line.new }
@@ -61,10 +62,12 @@ fn take_piece<R: BufRead>(reader: &mut R, line: &mut Vec<u8>) -> Result<Piece, W
 /// reader fails.
 pub(crate) fn next_line<R: BufRead>(reader: &mut R, line: &mut Vec<u8>) -> Result<bool, Word>
     requires { 8001 ≤ vec_capacity line.old }
-    ensures taken { IfOk result (λ more. TakesLine more line.new.items (R.remaining reader.old) (R.remaining reader.new)) }
+    ensures taken { IfOk result (λ more.
+        TakesLine more line.new.items (R.remaining reader.old) (R.remaining reader.new)) }
     ensures short { IfOk result (λ _. length line.new.items ≤ 8000) }
     ensures long { result ≡ Err Word.Long → IfSome (R.remaining reader.old) BeginsLong }
-    ensures read { result ≡ Err Word.Read → TakesPart (R.remaining reader.old) (R.remaining reader.new) }
+    ensures read { result ≡ Err Word.Read
+        → TakesPart (R.remaining reader.old) (R.remaining reader.new) }
     ensures fault { IfErr result (λ word. IsOneOf word (Word.Long ∷ Word.Read ∷ [])) }
     ensures room { vec_capacity line.old ≤ vec_capacity line.new }
 {

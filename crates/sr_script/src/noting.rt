@@ -19,14 +19,16 @@ use std::alloc::Global;
 
 /// Takes all that waits at a port, and keeps none of it.
 fn drop_waiting<R: Role>(node: &mut NodeOf<R>, port: Port)
-    ensures { node_state (R.meaning node.new.role) node.new.core ≡ emptied (node_state (R.meaning node.old.role) node.old.core) port }
+    ensures { node_state (R.meaning node.new.role) node.new.core
+        ≡ emptied (node_state (R.meaning node.old.role) node.old.core) port }
 {
     while let Some(_parcel) = take_waiting(node, port) {}
 }
 
 /// Takes all that waits, and keeps none of it.
 fn drop_all_waiting<R: Role>(node: &mut NodeOf<R>)
-    ensures { node_state (R.meaning node.new.role) node.new.core ≡ all_taken (node_state (R.meaning node.old.role) node.old.core) }
+    ensures { node_state (R.meaning node.new.role) node.new.core
+        ≡ all_taken (node_state (R.meaning node.old.role) node.old.core) }
 {
     drop_waiting(node, Port::H);
     drop_waiting(node, Port::A);
@@ -48,7 +50,8 @@ pub(crate) fn note<R: Role>(
     text: &mut Vec<u8>,
 ) -> Result<(), Word>
     requires { text.old.items ≡ [] }
-    ensures ok { OnOk result (Noted role (node_state (R.meaning node.old.role) node.old.core) number line.now
+    ensures ok { OnOk result
+        (Noted role (node_state (R.meaning node.old.role) node.old.core) number line.now
         text.new.items (node_state (R.meaning node.new.role) node.new.core)) }
     ensures known { OnOk result (IsEventLine role line.now) }
     ensures bad { result ≡ Err Word.Line → IsEventLine role line.now → ⊥ }

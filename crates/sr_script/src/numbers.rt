@@ -7,7 +7,8 @@ ghost use Rattle.std.specs.Str.Parse.{AllDigits, digits_value};
 
 /// The value of decimal digits. None where an octet is no digit, or the value is above 18446744073709551615.
 fn value_of(digits: &[u8]) -> Option<u64>
-    ensures { SomeIff result (AllDigits 10 digits.now × (digits_value 10 digits.now < 2 ^ 64)) (digits_value 10 digits.now) }
+    ensures { SomeIff result (AllDigits 10 digits.now
+        × (digits_value 10 digits.now < 2 ^ 64)) (digits_value 10 digits.now) }
 {
     let mut value = 0u64;
     for digit in digits {

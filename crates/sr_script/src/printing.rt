@@ -36,7 +36,8 @@ pub(crate) fn letter_of(port: Port) -> u8
 /// Appends the line for a frame that goes out at a port.
 fn append_frame(text: &mut Vec<u8>, port: Port, frame: &[u8]) -> Result<(), AllocError>
     requires { length frame.now ≤ 1524 }
-    ensures { OnOk result (text.new.items ≡ text.old.items ++ (letter_of port ++ (32 ∷ encode_lower frame.now)) ++ 10 ∷ []) }
+    ensures { OnOk result (text.new.items ≡ text.old.items
+        ++ (letter_of port ++ (32 ∷ encode_lower frame.now)) ++ 10 ∷ []) }
 {
     text.push(letter_of(port))?;
     text.push(b' ')?;
@@ -69,7 +70,8 @@ fn write_framed(
     frame: &mut Vec<u8>,
 ) -> Result<(), Word>
     requires { frame.old.items ≡ [] }
-    ensures ok { OnOk result (IsWritten (framing_of role port) parcel.now.form parcel.now frame.new.items) }
+    ensures ok { OnOk result
+        (IsWritten (framing_of role port) parcel.now.form parcel.now frame.new.items) }
     ensures size { OnOk result (length frame.new.items ≤ 1524) }
     ensures err { IfErr result (λ word. word ≡ Word.Memory) }
 {
@@ -107,7 +109,8 @@ fn plain_in_place(parcel: &Parcel) -> Option<&[u8]>
 
 /// The octets of a parcel, where the framing of a port writes them as they are.
 fn framed_in_place(role: RoleName, port: Port, parcel: &Parcel) -> Option<&[u8]>
-    ensures written { IfSome result (λ octets. IsWritten (framing_of role port) parcel.now.form parcel.now octets.now) }
+    ensures written { IfSome result (λ octets.
+        IsWritten (framing_of role port) parcel.now.form parcel.now octets.now) }
     ensures size { IfSome result (λ octets. length octets.now ≤ 1524) }
 {
     match (carrier_of(role, port), parcel.form()) {
@@ -137,7 +140,8 @@ fn append_parcel(
     frame: &mut Vec<u8>,
     text: &mut Vec<u8>,
 ) -> Result<(), Word>
-    ensures ok { OnOk result ((line : List ℕ) × IsLine role port parcel.now line × (text.new.items ≡ text.old.items ++ line)) }
+    ensures ok { OnOk result ((line : List ℕ) × IsLine role port parcel.now line
+        × (text.new.items ≡ text.old.items ++ line)) }
     ensures err { IfErr result (λ word. word ≡ Word.Memory) }
 {
     if let Some(octets) = in_place(role, port, parcel) {
@@ -160,7 +164,8 @@ fn append_queue<R: Role>(
     text: &mut Vec<u8>,
 ) -> Result<(), Word>
     ensures ok { OnOk result ((lines : List ℕ)
-        × Emptied role port (node_state (R.meaning node.old.role) node.old.core) lines (node_state (R.meaning node.new.role) node.new.core)
+        × Emptied role port (node_state (R.meaning node.old.role) node.old.core) lines
+        (node_state (R.meaning node.new.role) node.new.core)
         × (text.new.items ≡ text.old.items ++ lines)) }
     ensures err { IfErr result (λ word. word ≡ Word.Memory) }
 {
@@ -179,7 +184,8 @@ fn append_waiting<R: Role>(
     text: &mut Vec<u8>,
 ) -> Result<(), Word>
     ensures ok { OnOk result ((lines : List ℕ)
-        × Emptied role port (node_state (R.meaning node.old.role) node.old.core) lines (node_state (R.meaning node.new.role) node.new.core)
+        × Emptied role port (node_state (R.meaning node.old.role) node.old.core) lines
+        (node_state (R.meaning node.new.role) node.new.core)
         × (text.new.items ≡ text.old.items ++ lines)) }
     ensures err { IfErr result (λ word. word ≡ Word.Memory) }
 {
@@ -197,7 +203,8 @@ pub(crate) fn append_outlets<R: Role>(
     text: &mut Vec<u8>,
 ) -> Result<(), Word>
     ensures ok { OnOk result ((lines : List ℕ)
-        × AllEmptied role (node_state (R.meaning node.old.role) node.old.core) lines (node_state (R.meaning node.new.role) node.new.core)
+        × AllEmptied role (node_state (R.meaning node.old.role) node.old.core) lines
+        (node_state (R.meaning node.new.role) node.new.core)
         × (text.new.items ≡ text.old.items ++ lines)) }
     ensures err { IfErr result (λ word. word ≡ Word.Memory) }
 {

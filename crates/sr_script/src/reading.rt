@@ -35,7 +35,8 @@ pub fn is_comment(line: &[u8]) -> bool
 /// What stands behind the word `in` and a space.
 fn behind_in(line: &[u8]) -> Option<&[u8]>
     ensures found { IfSome result (λ rest. line.now ≡ codes "in " ++ rest.now) }
-    ensures only { (rest : List ℕ) → line.now ≡ codes "in " ++ rest → IsSomeAnd result (λ r. r.now ≡ rest) }
+    ensures only { (rest : List ℕ) → line.now ≡ codes "in " ++ rest
+        → IsSomeAnd result (λ r. r.now ≡ rest) }
 {
     match line {
         [b'i', b'n', b' ', rest @ ..] => Some(rest),
@@ -46,7 +47,8 @@ fn behind_in(line: &[u8]) -> Option<&[u8]>
 /// What stands behind the word `send` and a space.
 pub fn behind_send(line: &[u8]) -> Option<&[u8]>
     ensures found { IfSome result (λ rest. line.now ≡ codes "send " ++ rest.now) }
-    ensures only { (rest : List ℕ) → line.now ≡ codes "send " ++ rest → IsSomeAnd result (λ r. r.now ≡ rest) }
+    ensures only { (rest : List ℕ) → line.now ≡ codes "send " ++ rest
+        → IsSomeAnd result (λ r. r.now ≡ rest) }
 {
     match line {
         [b's', b'e', b'n', b'd', b' ', rest @ ..] => Some(rest),
@@ -66,8 +68,10 @@ fn has_interlink(role: RoleName) -> bool
 
 /// The port that a text begins with, where frames come in, and what stands behind it and a space.
 fn split_inlet(role: RoleName, text: &[u8]) -> Option<(Port, &[u8])>
-    ensures found { IfSome result (λ parts. (text.now ≡ letter_of parts.0 ++ 32 ∷ parts.1.now) × IsInlet role parts.0) }
-    ensures only { (port : Port) (rest : List ℕ) → IsInlet role port → text.now ≡ letter_of port ++ 32 ∷ rest
+    ensures found { IfSome result (λ parts.
+        (text.now ≡ letter_of parts.0 ++ 32 ∷ parts.1.now) × IsInlet role parts.0) }
+    ensures only { (port : Port) (rest : List ℕ) → IsInlet role port
+        → text.now ≡ letter_of port ++ 32 ∷ rest
         → IsSomeAnd result (λ parts. (parts.0 ≡ port) × (parts.1.now ≡ rest)) }
 {
     match text {
@@ -82,8 +86,10 @@ fn split_inlet(role: RoleName, text: &[u8]) -> Option<(Port, &[u8])>
 fn timed(text: &[u8], octets: &mut Vec<u8>) -> Result<u64, Word>
     ensures found { IfOk result (λ time. IsTimed text.now time octets.new.items) }
     ensures only { (time : ℕ) (os : List ℕ) → IsTimed text.now time os
-        → MatchResult result (λ t. (t ≡ time) × (octets.new.items ≡ os)) (λ word. word ≡ Word.Memory) }
-    ensures memory { result ≡ Err Word.Memory → (time : ℕ) × (os : List ℕ) × IsTimed text.now time os }
+        → MatchResult result (λ t. (t ≡ time) × (octets.new.items ≡ os)) (λ word.
+        word ≡ Word.Memory) }
+    ensures memory { result ≡ Err Word.Memory
+        → (time : ℕ) × (os : List ℕ) × IsTimed text.now time os }
     ensures fault { IfErr result (λ word. IsOneOf word (Word.Line ∷ Word.Memory ∷ [])) }
 {
     let Some((time, digits)) = split_word(text) else {
@@ -101,9 +107,12 @@ fn timed(text: &[u8], octets: &mut Vec<u8>) -> Result<u64, Word>
 /// Reads what stands behind the word `in`: the port, the time and the octets.
 fn arrival(role: RoleName, text: &[u8], octets: &mut Vec<u8>) -> Result<Command, Word>
     ensures found { IfOk result (λ command. IsArrival role text.now command octets.new.items) }
-    ensures only { (port : Port) (time : ℕ) (os : List ℕ) → IsArrival role text.now (Command.Arrive port time) os
-        → MatchResult result (λ command. (command ≡ Command.Arrive port time) × (octets.new.items ≡ os)) (λ word. word ≡ Word.Memory) }
-    ensures memory { result ≡ Err Word.Memory → (port : Port) × (time : ℕ) × (os : List ℕ) × IsArrival role text.now (Command.Arrive port time) os }
+    ensures only { (port : Port) (time : ℕ) (os : List ℕ)
+        → IsArrival role text.now (Command.Arrive port time) os
+        → MatchResult result (λ command. (command ≡ Command.Arrive port time)
+        × (octets.new.items ≡ os)) (λ word. word ≡ Word.Memory) }
+    ensures memory { result ≡ Err Word.Memory → (port : Port) × (time : ℕ) × (os : List ℕ)
+        × IsArrival role text.now (Command.Arrive port time) os }
     ensures fault { IfErr result (λ word. IsOneOf word (Word.Line ∷ Word.Memory ∷ [])) }
 {
     let Some((port, rest)) = split_inlet(role, text) else {
@@ -119,8 +128,10 @@ fn arrival(role: RoleName, text: &[u8], octets: &mut Vec<u8>) -> Result<Command,
 fn sending(text: &[u8], octets: &mut Vec<u8>) -> Result<Command, Word>
     ensures found { IfOk result (λ command. IsSending text.now command octets.new.items) }
     ensures only { (time : ℕ) (os : List ℕ) → IsSending text.now (Command.Send time) os
-        → MatchResult result (λ command. (command ≡ Command.Send time) × (octets.new.items ≡ os)) (λ word. word ≡ Word.Memory) }
-    ensures memory { result ≡ Err Word.Memory → (time : ℕ) × (os : List ℕ) × IsSending text.now (Command.Send time) os }
+        → MatchResult result (λ command. (command ≡ Command.Send time)
+        × (octets.new.items ≡ os)) (λ word. word ≡ Word.Memory) }
+    ensures memory { result ≡ Err Word.Memory
+        → (time : ℕ) × (os : List ℕ) × IsSending text.now (Command.Send time) os }
     ensures fault { IfErr result (λ word. IsOneOf word (Word.Line ∷ Word.Memory ∷ [])) }
 {
     match timed(text, octets) {
@@ -144,7 +155,8 @@ fn tick_of(line: &[u8]) -> Option<u64>
 pub(crate) fn command_of(role: RoleName, line: &[u8], octets: &mut Vec<u8>) -> Result<Command, Word>
     ensures found { IfOk result (λ command. Says role line.now command octets.new.items) }
     ensures only { (command : Command) (os : List ℕ) → Says role line.now command os
-        → MatchResult result (λ found. (found ≡ command) × (octets.new.items ≡ os)) (λ word. word ≡ Word.Memory) }
+        → MatchResult result (λ found. (found ≡ command) × (octets.new.items ≡ os)) (λ word.
+        word ≡ Word.Memory) }
     ensures memory { result ≡ Err Word.Memory → IsEventLine role line.now }
     ensures fault { IfErr result (λ word. IsOneOf word (Word.Line ∷ Word.Memory ∷ [])) }
 {

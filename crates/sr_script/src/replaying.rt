@@ -24,7 +24,10 @@ impl Session for NodeSession {
 
     ghost State = { Station };
 
-    ghost state = { λ s. record { role = s.role; node = node_state ((Role-box s.node.role).meaning s.node.role.value) s.node.core } };
+    ghost state = { λ s. record {
+      role = s.role;
+      node = node_state ((Role-box s.node.role).meaning s.node.role.value) s.node.core;
+    } };
 
     ghost dialogue = { replay_dialogue };
 

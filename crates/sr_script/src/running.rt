@@ -50,12 +50,14 @@ fn obey_line<S: Session>(
     text: &mut Vec<u8>,
     waiting: &mut Waiting,
 ) -> Result<(), Word>
-    ensures ok { OnOk result (AddsAnswer S.dialogue (S.state session.old) number line.now waiting.old.text.items waiting.old.marks.items
+    ensures ok { OnOk result (AddsAnswer S.dialogue (S.state session.old) number line.now
+        waiting.old.text.items waiting.old.marks.items
         waiting.new.text.items waiting.new.marks.items (S.state session.new)) }
     ensures bad { result ≡ Err Word.Line → S.dialogue.Knows (S.state session.old) line.now → ⊥ }
     ensures memory { result ≡ Err Word.Memory → S.dialogue.Knows (S.state session.old) line.now }
     ensures fault { IfErr result (λ word. IsOneOf word (Word.Line ∷ Word.Memory ∷ [])) }
-    ensures same { OnErr result ((waiting.new.text.items ≡ waiting.old.text.items) × (waiting.new.marks.items ≡ waiting.old.marks.items)) }
+    ensures same { OnErr result ((waiting.new.text.items ≡ waiting.old.text.items)
+        × (waiting.new.marks.items ≡ waiting.old.marks.items)) }
 {
     text.clear();
     session.answer(number, line, text)?;
@@ -75,7 +77,8 @@ fn obey_front<S: Session>(
     requires number { first ≤ 1000001 }
     requires text { waiting.old.text.items ≡ [] }
     requires marks { waiting.old.marks.items ≡ [] }
-    ensures { IsFront S.dialogue (S.state session.old) first octets.now waiting.new.text.items waiting.new.marks.items result (S.state session.new) }
+    ensures { IsFront S.dialogue (S.state session.old) first octets.now waiting.new.text.items
+        waiting.new.marks.items result (S.state session.new) }
 {
     let mut used = 0;
     let mut next = first;
@@ -113,14 +116,16 @@ fn obey_at_hand<S: Session, R: BufRead, W: Write>(
     requires number { first ≤ 1000001 }
     requires text { waiting.old.text.items ≡ [] }
     requires marks { waiting.old.marks.items ≡ [] }
-    ensures obeyed { IfOk result (λ n. AreObeyed S.dialogue (S.state session.old) first n (R.remaining reader.old) (R.remaining reader.new)
+    ensures obeyed { IfOk result (λ n. AreObeyed S.dialogue (S.state session.old) first n
+        (R.remaining reader.old) (R.remaining reader.new)
         (W.contents writer.old) (W.contents writer.new) (S.state session.new)) }
     ensures count { IfOk result (λ n. n ≤ 1000001) }
     ensures ahead { IfOk result (λ n. first ≤ n) }
     ensures text { OnOk result (waiting.new.text.items ≡ []) }
     ensures marks { OnOk result (waiting.new.marks.items ≡ []) }
     ensures ended { IfErr result (λ fault. IfSome (R.remaining reader.old) (λ input.
-        EndsFrom S.dialogue (S.state session.old) first (lines_of input) fault (R.remaining reader.new) (W.contents writer.old) (W.contents writer.new))) }
+        EndsFrom S.dialogue (S.state session.old) first (lines_of input) fault
+        (R.remaining reader.new) (W.contents writer.old) (W.contents writer.new))) }
 {
     let Ok(available) = reader.fill_buf() else {
         return Err(Fault {
@@ -156,13 +161,16 @@ fn obey_next<S: Session, R: BufRead, W: Write>(
     requires room { 8001 ≤ vec_capacity line.old }
     requires text { waiting.old.text.items ≡ [] }
     requires marks { waiting.old.marks.items ≡ [] }
-    ensures turned { IfOk result (λ more. Turned S.dialogue more number (R.remaining reader.old) (R.remaining reader.new)
-        (W.contents writer.old) (W.contents writer.new) (S.state session.old) (S.state session.new)) }
+    ensures turned { IfOk result (λ more.
+        Turned S.dialogue more number (R.remaining reader.old) (R.remaining reader.new)
+        (W.contents writer.old) (W.contents writer.new) (S.state session.old)
+        (S.state session.new)) }
     ensures room { vec_capacity line.old ≤ vec_capacity line.new }
     ensures text { OnOk result (waiting.new.text.items ≡ []) }
     ensures marks { OnOk result (waiting.new.marks.items ≡ []) }
     ensures ended { IfErr result (λ fault. IfSome (R.remaining reader.old) (λ input.
-        EndsFrom S.dialogue (S.state session.old) number (lines_of input) fault (R.remaining reader.new) (W.contents writer.old) (W.contents writer.new))) }
+        EndsFrom S.dialogue (S.state session.old) number (lines_of input) fault
+        (R.remaining reader.new) (W.contents writer.old) (W.contents writer.new))) }
 {
     match next_line(reader, line) {
         Ok(true) => {}
@@ -191,9 +199,11 @@ fn obey_lines<S: Session, R: BufRead, W: Write>(
     requires text { waiting.old.text.items ≡ [] }
     requires marks { waiting.old.marks.items ≡ [] }
     ensures done { IfOk result (λ n. IfSome (R.remaining reader.old) (λ input.
-        AllAnswered S.dialogue (S.state session.old) (lines_of input) (W.contents writer.old) (W.contents writer.new) (S.state session.new) n)) }
+        AllAnswered S.dialogue (S.state session.old) (lines_of input) (W.contents writer.old)
+        (W.contents writer.new) (S.state session.new) n)) }
     ensures ended { IfErr result (λ fault. IfSome (R.remaining reader.old) (λ input.
-        EndsAt S.dialogue (S.state session.old) (lines_of input) fault (R.remaining reader.new) (W.contents writer.old) (W.contents writer.new))) }
+        EndsAt S.dialogue (S.state session.old) (lines_of input) fault (R.remaining reader.new)
+        (W.contents writer.old) (W.contents writer.new))) }
 {
     let mut number = match obey_at_hand(session, 1, text, waiting, reader, writer) {
         Ok(next) => next,
@@ -231,7 +241,8 @@ fn end<S: Session, W: Write>(
         × Appends (W.contents writer.old) (W.contents writer.new) last) }
     ensures failed { IfErr result (λ word. IsOneOf word (Word.Write ∷ Word.Memory ∷ [])) }
     ensures kept { IfErr result (λ word. (number : ℕ)
-        → HeldSince S.dialogue (S.state session.old) number word [] (W.contents writer.old) (W.contents writer.new)) }
+        → HeldSince S.dialogue (S.state session.old) number word [] (W.contents writer.old)
+        (W.contents writer.new)) }
 {
     text.clear();
     session.finish(text)?;
@@ -257,9 +268,11 @@ fn obey_script<S: Session, R: BufRead, W: Write>(
     requires text { waiting.old.text.items ≡ [] }
     requires marks { waiting.old.marks.items ≡ [] }
     ensures done { OnOk result (IfSome (R.remaining reader.old) (λ input.
-        IsAnswered S.dialogue (S.state session.old) (lines_of input) (W.contents writer.old) (W.contents writer.new))) }
+        IsAnswered S.dialogue (S.state session.old) (lines_of input) (W.contents writer.old)
+        (W.contents writer.new))) }
     ensures ended { IfErr result (λ fault. IfSome (R.remaining reader.old) (λ input.
-        EndsAt S.dialogue (S.state session.old) (lines_of input) fault (R.remaining reader.new) (W.contents writer.old) (W.contents writer.new))) }
+        EndsAt S.dialogue (S.state session.old) (lines_of input) fault (R.remaining reader.new)
+        (W.contents writer.old) (W.contents writer.new))) }
 {
     let number = obey_lines(session, line, text, waiting, reader, writer)?;
     match end(session, text, writer) {
@@ -283,11 +296,13 @@ pub fn run_session<S: Session, R: BufRead, W: Write>(
 
     // All lines are lines of a script, and what is written is the answers to them, and then the end.
     ensures done { OnOk result (IfSome (R.remaining reader.old) (λ input.
-        IsAnswered S.dialogue (S.state session.old) (lines_of input) (W.contents writer.old) (W.contents writer.new))) }
+        IsAnswered S.dialogue (S.state session.old) (lines_of input) (W.contents writer.old)
+        (W.contents writer.new))) }
 
     // The lines before that of the fault are answered, and that line has this fault.
     ensures ended { IfErr result (λ fault. IfSome (R.remaining reader.old) (λ input.
-        EndsAt S.dialogue (S.state session.old) (lines_of input) fault (R.remaining reader.new) (W.contents writer.old) (W.contents writer.new))) }
+        EndsAt S.dialogue (S.state session.old) (lines_of input) fault (R.remaining reader.new)
+        (W.contents writer.old) (W.contents writer.new))) }
 {
     let mut waiting = Waiting::new(alloc);
     obey_script(session, line, text, &mut waiting, reader, writer)

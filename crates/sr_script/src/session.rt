@@ -22,7 +22,8 @@ pub trait Session: Send + Drop {
     /// `Line` where the line is none that it knows, whatever memory there is; `Memory`.
     fn answer(&mut self, number: u64, line: &[u8], text: &mut Vec<u8>) -> Result<(), Word>
         requires { text.old.items ≡ [] }
-        ensures ok { OnOk result (dialogue.Replied (state self.old) number line.now text.new.items (state self.new)) }
+        ensures ok { OnOk result
+            (dialogue.Replied (state self.old) number line.now text.new.items (state self.new)) }
         ensures known { OnOk result (dialogue.Knows (state self.old) line.now) }
         ensures bad { result ≡ Err Word.Line → dialogue.Knows (state self.old) line.now → ⊥ }
         ensures memory { result ≡ Err Word.Memory → dialogue.Knows (state self.old) line.now }

@@ -46,11 +46,14 @@ fn run_over<R: BufRead, W: Write>(
     writer: &mut W,
 ) -> Result<(), Fault>
     requires { meaning role ≡ role_of (kind_of setup.now.role) setup.now.mac }
-    ensures done { OnOk result (IfSome (R.remaining reader.old) (λ input. IsAnswered (dialogue_of report)
+    ensures done { OnOk result (IfSome (R.remaining reader.old) (λ input.
+        IsAnswered (dialogue_of report)
         (start_of setup.now) (lines_of input) (W.contents writer.old) (W.contents writer.new))) }
     ensures ended { IfErr result (λ fault.
-        IsNotBegun fault (R.remaining reader.old) (R.remaining reader.new) (W.contents writer.old) (W.contents writer.new)
-        ⊎ IfSome (R.remaining reader.old) (λ input. EndsAt (dialogue_of report) (start_of setup.now) (lines_of input) fault
+        IsNotBegun fault (R.remaining reader.old) (R.remaining reader.new) (W.contents writer.old)
+        (W.contents writer.new)
+        ⊎ IfSome (R.remaining reader.old) (λ input.
+        EndsAt (dialogue_of report) (start_of setup.now) (lines_of input) fault
         (R.remaining reader.new) (W.contents writer.old) (W.contents writer.new))) }
 {
     let Ok(mut line) = line_list(alloc) else {
@@ -83,11 +86,14 @@ fn run_reported<R: BufRead, W: Write>(
     reader: &mut R,
     writer: &mut W,
 ) -> Result<(), Fault>
-    ensures done { OnOk result (IfSome (R.remaining reader.old) (λ input. IsAnswered (dialogue_of report)
+    ensures done { OnOk result (IfSome (R.remaining reader.old) (λ input.
+        IsAnswered (dialogue_of report)
         (start_of setup.now) (lines_of input) (W.contents writer.old) (W.contents writer.new))) }
     ensures ended { IfErr result (λ fault.
-        IsNotBegun fault (R.remaining reader.old) (R.remaining reader.new) (W.contents writer.old) (W.contents writer.new)
-        ⊎ IfSome (R.remaining reader.old) (λ input. EndsAt (dialogue_of report) (start_of setup.now) (lines_of input) fault
+        IsNotBegun fault (R.remaining reader.old) (R.remaining reader.new) (W.contents writer.old)
+        (W.contents writer.new)
+        ⊎ IfSome (R.remaining reader.old) (λ input.
+        EndsAt (dialogue_of report) (start_of setup.now) (lines_of input) fault
         (R.remaining reader.new) (W.contents writer.old) (W.contents writer.new))) }
 {
     match setup.role {
@@ -151,8 +157,10 @@ pub fn run<R: BufRead, W: Write>(
 
     // Memory was refused before anything was read. Or the lines before that of the fault are answered, and that line has this fault.
     ensures ended { IfErr result (λ fault.
-        IsNotBegun fault (R.remaining reader.old) (R.remaining reader.new) (W.contents writer.old) (W.contents writer.new)
-        ⊎ IfSome (R.remaining reader.old) (λ input. EndsAt replay_dialogue (start_of setup.now) (lines_of input) fault
+        IsNotBegun fault (R.remaining reader.old) (R.remaining reader.new) (W.contents writer.old)
+        (W.contents writer.new)
+        ⊎ IfSome (R.remaining reader.old) (λ input.
+        EndsAt replay_dialogue (start_of setup.now) (lines_of input) fault
         (R.remaining reader.new) (W.contents writer.old) (W.contents writer.new))) }
 {
     run_reported(alloc, setup, Report::Frames, reader, writer)
@@ -176,8 +184,10 @@ pub fn run_status<R: BufRead, W: Write>(
 
     // Memory was refused before anything was read. Or the lines before that of the fault are answered, and that line has this fault.
     ensures ended { IfErr result (λ fault.
-        IsNotBegun fault (R.remaining reader.old) (R.remaining reader.new) (W.contents writer.old) (W.contents writer.new)
-        ⊎ IfSome (R.remaining reader.old) (λ input. EndsAt status_dialogue (start_of setup.now) (lines_of input) fault
+        IsNotBegun fault (R.remaining reader.old) (R.remaining reader.new) (W.contents writer.old)
+        (W.contents writer.new)
+        ⊎ IfSome (R.remaining reader.old) (λ input.
+        EndsAt status_dialogue (start_of setup.now) (lines_of input) fault
         (R.remaining reader.new) (W.contents writer.old) (W.contents writer.new))) }
 {
     run_reported(alloc, setup, Report::Status, reader, writer)

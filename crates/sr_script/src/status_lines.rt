@@ -46,7 +46,8 @@ fn append_ages(text: &mut Vec<u8>, status: &Status) -> Result<(), Word>
 
 /// Appends the last numbers of a node, and the indices of the ports.
 fn append_numbers(text: &mut Vec<u8>, status: &Status) -> Result<(), Word>
-    ensures ok { OnOk result (text.new.items ≡ text.old.items ++ 32 ∷ spaced (number_words status.now)) }
+    ensures ok { OnOk result (text.new.items ≡ text.old.items
+        ++ 32 ∷ spaced (number_words status.now)) }
     ensures err { IfErr result (λ word. word ≡ Word.Memory) }
 {
     match write!(
@@ -83,7 +84,8 @@ fn name_of(port: Port) -> &'static str
 
 /// Appends the line of an alarm of this port.
 fn append_ring_error(text: &mut Vec<u8>, mac: Mac, port: Port, at: u64) -> Result<(), Word>
-    ensures ok { OnOk result (text.new.items ≡ text.old.items ++ alarm_line (Alarm.RingError mac port at)) }
+    ensures ok { OnOk result (text.new.items ≡ text.old.items
+        ++ alarm_line (Alarm.RingError mac port at)) }
     ensures err { IfErr result (λ word. word ≡ Word.Memory) }
 {
     match writeln!(text, "alarm RingError {mac} port {} at {at}", name_of(port)) {
@@ -94,7 +96,8 @@ fn append_ring_error(text: &mut Vec<u8>, mac: Mac, port: Port, at: u64) -> Resul
 
 /// Appends the line of an alarm of a node that is down.
 fn append_node_down(text: &mut Vec<u8>, mac: Mac, at: u64) -> Result<(), Word>
-    ensures ok { OnOk result (text.new.items ≡ text.old.items ++ alarm_line (Alarm.NodeDown mac at)) }
+    ensures ok { OnOk result (text.new.items ≡ text.old.items
+        ++ alarm_line (Alarm.NodeDown mac at)) }
     ensures err { IfErr result (λ word. word ≡ Word.Memory) }
 {
     match writeln!(text, "alarm NodeDown {mac} at {at}") {
@@ -128,7 +131,8 @@ fn append_status(text: &mut Vec<u8>, status: Option<Status>) -> Result<(), Word>
 /// Appends the lines of these addresses, of each what the node knows of it.
 fn append_nodes<R: Role>(text: &mut Vec<u8>, node: &NodeOf<R>, macs: &[Mac]) -> Result<(), Word>
     ensures ok { OnOk result (text.new.items ≡ text.old.items
-        ++ flat_map (λ mac. status_line (status_at (shown node.now.core).nodes mac (shown node.now.core).time)) macs.now) }
+        ++ flat_map (λ mac. status_line
+        (status_at (shown node.now.core).nodes mac (shown node.now.core).time)) macs.now) }
     ensures err { IfErr result (λ word. word ≡ Word.Memory) }
 {
     for mac in macs {

@@ -11,7 +11,8 @@ use sr_node::NodeOf;
 
 /// The first parcel that waits at a port, taken out. As a rule none does, which is seen first.
 pub(crate) fn take_waiting<R: Role>(node: &mut NodeOf<R>, port: Port) -> Option<Parcel>
-    ensures took { Took (node_state (R.meaning node.old.role) node.old.core) port (answer.Taken result)
+    ensures took { Took (node_state (R.meaning node.old.role) node.old.core) port
+        (answer.Taken result)
         (node_state (R.meaning node.new.role) node.new.core) }
 {
     if node.waiting(port) == 0 {

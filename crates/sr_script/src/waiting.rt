@@ -73,7 +73,8 @@ impl Waiting {
     /// Adds the text of a line.
     pub(crate) fn add(&mut self, line: u64, text: &[u8]) -> Result<(), AllocError>
         ensures text { OnOk result (self.new.text.items ≡ self.old.text.items ++ text.now) }
-        ensures marks { OnOk result (self.new.marks.items ≡ self.old.marks.items ++ marked line (length self.new.text.items) text.now []) }
+        ensures marks { OnOk result (self.new.marks.items
+            ≡ self.old.marks.items ++ marked line (length self.new.text.items) text.now []) }
         ensures same_text { OnErr result (self.new.text.items ≡ self.old.text.items) }
         ensures same_marks { OnErr result (self.new.marks.items ≡ self.old.marks.items) }
     {
@@ -92,10 +93,12 @@ impl Waiting {
     /// # Errors
     /// `Write` at the line whose text holds the first octet that the writer did not take; at the last where it took all.
     pub(crate) fn send<W: Write>(&mut self, writer: &mut W) -> Result<(), Fault>
-        ensures sent { OnOk result (Appends (W.contents writer.old) (W.contents writer.new) self.old.text.items) }
+        ensures sent { OnOk result
+            (Appends (W.contents writer.old) (W.contents writer.new) self.old.text.items) }
         ensures text { OnOk result (self.new.text.items ≡ []) }
         ensures marks { OnOk result (self.new.marks.items ≡ []) }
-        ensures cut { IfErr result (λ fault. IsCut self.old.text.items self.old.marks.items fault (W.contents writer.old) (W.contents writer.new)) }
+        ensures cut { IfErr result (λ fault. IsCut self.old.text.items self.old.marks.items fault
+            (W.contents writer.old) (W.contents writer.new)) }
     {
         if self.text.is_empty() {
             self.marks.clear();

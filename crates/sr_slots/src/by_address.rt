@@ -40,9 +40,11 @@ impl<V: Drop + Ranked> Model for Slots<V> {
 
     ghost Value = { Places V };
 
-    ghost view = { λ s. record { entries = entries_of s.map.entries; held = held_of s.map.entries } };
+    ghost view = { λ s.
+        record { entries = entries_of s.map.entries; held = held_of s.map.entries } };
 
-    ghost invariant = { λ s. (s.count ≡ length (entries_of s.map.entries)) × (s.held ≡ length (held_of s.map.entries)) };
+    ghost invariant = { λ s.
+        (s.count ≡ length (entries_of s.map.entries)) × (s.held ≡ length (held_of s.map.entries)) };
 }
 
 impl<V: Drop + Ranked> Slots<V> {
@@ -119,7 +121,8 @@ impl<V: Drop + Ranked> Slots<V> {
     ) -> Option<R>
         requires { F.IsAlwaysCallable change }
         ensures found { is_some result ≡ is_some (value_at self.old key) }
-        ensures changed { IfSome result (λ answer. ChangesAt F.FnOnce change key self.old.entries answer self.new.entries) }
+        ensures changed { IfSome result (λ answer.
+            ChangesAt F.FnOnce change key self.old.entries answer self.new.entries) }
         ensures others { IfSome result (λ answer. KeepsHeld self.old.held self.new.held key) }
         ensures used { IfSome result (λ answer. is_held self.new key ≡ false) }
         ensures none { IfNone result (self.new ≡ self.old) }
@@ -163,7 +166,8 @@ impl<V: Drop + Ranked> Slots<V> {
     /// Holds the places of two addresses, or of none where memory runs out.
     pub fn hold_both(&mut self, key: Mac, other: Mac) -> Result<(), NoMemory>
         ensures entries { self.new.entries ≡ self.old.entries }
-        ensures held { OnOk result ((is_held self.new key ≡ true) × (is_held self.new other ≡ true)) }
+        ensures held { OnOk result ((is_held self.new key ≡ true)
+            × (is_held self.new other ≡ true)) }
         ensures others { OnOk result (KeepsHeldBut self.old.held self.new.held key other) }
         ensures err { OnErr result (KeepsAllHeld self.old.held self.new.held) }
     {
@@ -224,7 +228,8 @@ impl<V: Drop + Ranked> Slots<V> {
     /// Takes the values out whose rank is below a limit. The others keep their order, and held places stay held. Answers the least
     /// rank of those that are left, or the greatest number where none is.
     pub fn sift(&mut self, limit: u64) -> u64
-        ensures kept { self.new.entries ≡ filter (λ e. nat_le limit (V.rank_of e.1)) self.old.entries }
+        ensures kept { self.new.entries
+            ≡ filter (λ e. nat_le limit (V.rank_of e.1)) self.old.entries }
         ensures held { self.new.held ≡ self.old.held }
         ensures least { result ≡ least_rank V.rank_of self.new.entries }
     {

@@ -83,9 +83,11 @@ pub struct KeyedHasher {
 }
 
 impl Hasher for KeyedHasher {
-    ghost write = { λ h octets. record h { word = fold (λ w octet. (w * 256 + octet) % 2 ^ 64) h.word octets } };
+    ghost write = { λ h octets.
+        record h { word = fold (λ w octet. (w * 256 + octet) % 2 ^ 64) h.word octets } };
 
-    ghost finish = { λ h. spread ((((h.keys.factor * h.word) % 2 ^ 128 + h.keys.addend) % 2 ^ 128) / 2 ^ 64) };
+    ghost finish = { λ h.
+        spread ((((h.keys.factor * h.word) % 2 ^ 128 + h.keys.addend) % 2 ^ 128) / 2 ^ 64) };
 
     fn write(&mut self, octets: &[u8]) {
         for octet in octets {

@@ -37,7 +37,8 @@ pub fn value_of<V: Drop + Ranked>(map: &IndexMap<Mac, Slot<V>, Keys>, key: Mac) 
 
 /// The value at an address, and the index of its place.
 pub fn find<V: Drop + Ranked>(map: &IndexMap<Mac, Slot<V>, Keys>, key: Mac) -> Option<(usize, &V)>
-    ensures { option_map (λ found. found.1.now) result ≡ lookup (mac_eq key) (entries_of map.now.entries) }
+    ensures { option_map (λ found. found.1.now) result
+        ≡ lookup (mac_eq key) (entries_of map.now.entries) }
 {
     let _places = map.len();
     let (index, _, slot) = map.get_full(&key)?;
@@ -95,10 +96,14 @@ pub fn change_at<V: Drop + Ranked, R, F: FnOnce(&mut V) -> R>(
 ) -> Option<(R, bool)>
     requires { F.IsAlwaysCallable change }
     ensures found { is_some result ≡ is_some (lookup (mac_eq key) (entries_of map.old.entries)) }
-    ensures changed { IfSome result (λ r. ChangesAt F.FnOnce change key (entries_of map.old.entries) r.0 (entries_of map.new.entries)) }
-    ensures len { IfSome result (λ r. length (entries_of map.new.entries) ≡ length (entries_of map.old.entries)) }
-    ensures held { IfSome result (λ r. length (held_of map.new.entries) + (if r.1 then 1 else 0) ≡ length (held_of map.old.entries)) }
-    ensures others { IfSome result (λ r. KeepsHeld (held_of map.old.entries) (held_of map.new.entries) key) }
+    ensures changed { IfSome result (λ r. ChangesAt F.FnOnce change key (entries_of map.old.entries)
+        r.0 (entries_of map.new.entries)) }
+    ensures len { IfSome result (λ r.
+        length (entries_of map.new.entries) ≡ length (entries_of map.old.entries)) }
+    ensures held { IfSome result (λ r. length (held_of map.new.entries) + (if r.1 then 1 else 0)
+        ≡ length (held_of map.old.entries)) }
+    ensures others { IfSome result (λ r.
+        KeepsHeld (held_of map.old.entries) (held_of map.new.entries) key) }
     ensures used { IfSome result (λ r. list_any (mac_eq key) (held_of map.new.entries) ≡ false) }
     ensures none { IfNone result (map.new.entries ≡ map.old.entries) }
 {
@@ -142,9 +147,12 @@ pub fn put_last<V: Drop + Ranked>(
     value: V,
 ) -> Result<bool, NoMemory>
     requires { lookup (mac_eq key) (entries_of map.old.entries) ≡ None }
-    ensures entries { OnOk result (entries_of map.new.entries ≡ entries_of map.old.entries ++ (key, value) ∷ []) }
-    ensures held { IfOk result (λ was_held. length (held_of map.new.entries) + (if was_held then 1 else 0) ≡ length (held_of map.old.entries)) }
-    ensures others { OnOk result (KeepsHeld (held_of map.old.entries) (held_of map.new.entries) key) }
+    ensures entries { OnOk result (entries_of map.new.entries
+        ≡ entries_of map.old.entries ++ (key, value) ∷ []) }
+    ensures held { IfOk result (λ was_held. length (held_of map.new.entries)
+        + (if was_held then 1 else 0) ≡ length (held_of map.old.entries)) }
+    ensures others { OnOk result
+        (KeepsHeld (held_of map.old.entries) (held_of map.new.entries) key) }
     ensures used { OnOk result (list_any (mac_eq key) (held_of map.new.entries) ≡ false) }
     ensures reserved { list_any (mac_eq key) (held_of map.old.entries) ≡ true → IsOk result }
     ensures fits { length (entries_of map.old.entries) < 2 ^ 63 }
@@ -175,11 +183,14 @@ pub fn hold<V: Drop + Ranked>(
 ) -> Result<bool, NoMemory>
     ensures entries { entries_of map.new.entries ≡ entries_of map.old.entries }
     ensures held { OnOk result (list_any (mac_eq key) (held_of map.new.entries) ≡ true) }
-    ensures len { IfOk result (λ newly. length (held_of map.new.entries) ≡ length (held_of map.old.entries) + (if newly then 1 else 0)) }
+    ensures len { IfOk result (λ newly. length (held_of map.new.entries)
+        ≡ length (held_of map.old.entries) + (if newly then 1 else 0)) }
     ensures again { list_any (mac_eq key) (held_of map.old.entries) ≡ true → IsOk result }
-    ensures newly { IfOk result (λ newly. newly ≡ not (list_any (mac_eq key) (held_of map.old.entries))) }
+    ensures newly { IfOk result (λ newly.
+        newly ≡ not (list_any (mac_eq key) (held_of map.old.entries))) }
     ensures fits { length (held_of map.old.entries) < 2 ^ 63 }
-    ensures others { OnOk result (KeepsHeld (held_of map.old.entries) (held_of map.new.entries) key) }
+    ensures others { OnOk result
+        (KeepsHeld (held_of map.old.entries) (held_of map.new.entries) key) }
     ensures err { OnErr result (map.new.entries ≡ map.old.entries) }
 {
     // The length is the bound of the places.
@@ -206,7 +217,8 @@ pub fn hold<V: Drop + Ranked>(
 pub fn give_up<V: Drop + Ranked>(map: &mut IndexMap<Mac, Slot<V>, Keys>, key: Mac) -> bool
     ensures entries { entries_of map.new.entries ≡ entries_of map.old.entries }
     ensures held { list_any (mac_eq key) (held_of map.new.entries) ≡ false }
-    ensures len { length (held_of map.new.entries) + (if result then 1 else 0) ≡ length (held_of map.old.entries) }
+    ensures len { length (held_of map.new.entries) + (if result then 1 else 0)
+        ≡ length (held_of map.old.entries) }
     ensures others { KeepsHeld (held_of map.old.entries) (held_of map.new.entries) key }
 {
     // The length says that no two addresses are equal.
@@ -234,7 +246,8 @@ fn ends_held<V: Drop + Ranked>(map: &IndexMap<Mac, Slot<V>, Keys>) -> bool
 /// Takes the last place out if it is held and has no value. Answers whether it was so.
 pub fn pop_held<V: Drop + Ranked>(map: &mut IndexMap<Mac, Slot<V>, Keys>) -> bool
     ensures entries { entries_of map.new.entries ≡ entries_of map.old.entries }
-    ensures held { length (held_of map.new.entries) + (if result then 1 else 0) ≡ length (held_of map.old.entries) }
+    ensures held { length (held_of map.new.entries) + (if result then 1 else 0)
+        ≡ length (held_of map.old.entries) }
 {
     ends_held(map) && map.pop().is_some()
 }
@@ -246,7 +259,8 @@ pub fn release<V: Drop + Ranked>(map: &mut IndexMap<Mac, Slot<V>, Keys>)
 {
     map.retain(
         |_key: &Mac, slot: &mut Slot<V>| -> bool
-            ensures { (slot.new ≡ slot_of slot.old.value false) × (result ≡ is_some slot.old.value) }
+            ensures { (slot.new ≡ slot_of slot.old.value false)
+                × (result ≡ is_some slot.old.value) }
         {
             slot.held = false;
             slot.value.get().is_some()
@@ -277,7 +291,8 @@ pub struct Left {
 
 /// Takes the values out whose rank is below the limit, and moves nothing. Held places stay held.
 pub fn sift<V: Drop + Ranked>(map: &mut IndexMap<Mac, Slot<V>, Keys>, limit: u64) -> Left
-    ensures kept { entries_of map.new.entries ≡ filter (λ e. nat_le limit (V.rank_of e.1)) (entries_of map.old.entries) }
+    ensures kept { entries_of map.new.entries
+        ≡ filter (λ e. nat_le limit (V.rank_of e.1)) (entries_of map.old.entries) }
     ensures held { held_of map.new.entries ≡ held_of map.old.entries }
     ensures count { result.count ≡ length (entries_of map.new.entries) }
     ensures least { result.least ≡ least_rank V.rank_of (entries_of map.new.entries) }

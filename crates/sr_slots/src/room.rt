@@ -83,7 +83,8 @@ impl<V: Drop + Ranked> Room<V> {
     pub fn change<R, F: FnOnce(&mut V) -> R>(&mut self, change: F) -> Option<R>
         requires { F.IsAlwaysCallable change }
         ensures none { IfNone result ((self.old ≡ None) × (self.new ≡ None)) }
-        ensures some { IfSome result (λ answer. (was is : V) × (self.old ≡ Some was) × (self.new ≡ Some is) × FnOnceReturnsAtMut F.FnOnce change was answer is) }
+        ensures some { IfSome result (λ answer. (was is : V) × (self.old ≡ Some was)
+            × (self.new ≡ Some is) × FnOnceReturnsAtMut F.FnOnce change was answer is) }
     {
         if !self.is_used {
             return None;
