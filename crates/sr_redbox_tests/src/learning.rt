@@ -1,6 +1,6 @@
 //! What boxes learn and forget, and for whom they stand.
 
-use sr_forwarding::{Header, Learnt, Port, Role, RoleImage};
+use sr_forwarding::{Header, Learnt, Port, Role};
 use sr_frame::Mac;
 use sr_redbox::SanBox;
 use std::alloc::Global;
@@ -36,31 +36,14 @@ fn header(src: Mac) -> Header {
     }
 }
 
-// The box as data, asked for again where memory runs out.
-fn image_of(alloc: Global, role: &SanBox) -> Option<RoleImage> {
-    match role.image(alloc) {
-        Ok(image) => Some(image),
-        Err(_) => role.image(alloc).ok(),
-    }
-}
-
-// Whether a box is as it was.
-fn is_as(alloc: Global, role: &SanBox, before: Option<RoleImage>) -> bool {
-    match (image_of(alloc, role), before) {
-        (Some(image), Some(before)) => image == before,
-        _ => false,
-    }
-}
-
-// What is learned. Want of memory leaves the box as it was, and the call is made once more.
+// A call is made once more where memory ran out.
 fn learn(alloc: Global, role: &mut SanBox, number: u16, port: Port, now: u64) -> Option<Learnt> {
-    let before = image_of(alloc, role);
-    let header = header(mac(number));
-    match role.learn(alloc, &header, port, now) {
-        Ok(learnt) => Some(learnt),
-        Err(_) if is_as(alloc, role, before) => role.learn(alloc, &header, port, now).ok(),
-        Err(_) => None,
+    for _ in 0..3u8 {
+        if let Ok(learnt) = role.learn(alloc, &header(mac(number)), port, now) {
+            return Some(learnt);
+        }
     }
+    None
 }
 
 fn fills(alloc: Global, role: &mut SanBox, first: u16, count: u16, now: u64) -> bool {
@@ -73,13 +56,15 @@ fn fills(alloc: Global, role: &mut SanBox, first: u16, count: u16, now: u64) -> 
 }
 
 fn image_has(alloc: Global, role: &SanBox, count: usize, last: u64) -> bool {
-    let Some(image) = image_of(alloc, role) else {
-        return false;
-    };
-    let addresses = image.proxied.addresses();
-    image.mac == OWN
-        && addresses.len() == count
-        && addresses.last().map(|entry| entry.1) == Some(last)
+    for _ in 0..8u8 {
+        if let Ok(image) = role.image(alloc) {
+            let addresses = image.proxied.addresses();
+            return image.mac == OWN
+                && addresses.len() == count
+                && addresses.last().map(|entry| entry.1) == Some(last);
+        }
+    }
+    false
 }
 
 fn holds(alloc: Global, role: &mut SanBox, step: Step) -> bool {

@@ -3,8 +3,8 @@
 use sr_forwarding::{
     Danh, Framing, HsrFraming, OwnRole, Parcel, PlainFraming, Port, PrpFraming, Role, RoleKind,
 };
-use sr_frame::{Frame, Mac};
-use sr_node::{Answer, Event, Node, NodeImage, StepFault};
+use sr_frame::Mac;
+use sr_node::{Answer, Event, Node, StepFault};
 use sr_prp_trailer::Lan;
 use sr_redbox::{HsrBox, HsrRouting, PrpBox, PrpRouting, SanBox};
 use std::alloc::Global;
@@ -40,8 +40,6 @@ pub enum Step {
     Out(Port, Sent),
     /// So many nodes without redundancy send a group frame at the interlink at time 0, and all that waits is taken out.
     Sans(u16),
-    /// The host sends a frame to this destination, which goes out under this number.
-    Send(Mac, u64, u16),
     /// Time passes, and so many are proxied no more.
     Tick(u64, usize),
     /// How many frames of the other LAN came in at a port.
@@ -97,113 +95,14 @@ fn read(node: &mut Node, port: Port, octets: &[u8], now: u64) -> Result<Answer, 
     }
 }
 
-// The node as data, asked for again where memory runs out.
-fn image_of(node: &Node) -> Option<NodeImage> {
-    match node.image() {
-        Ok(image) => Some(image),
-        Err(_) => node.image().ok(),
-    }
-}
-
-// Whether a node is as it was.
-fn is_as(node: &Node, before: Option<NodeImage>) -> bool {
-    match (image_of(node), before) {
-        (Some(image), Some(before)) => image == before,
-        _ => false,
-    }
-}
-
-// What an event has to come to.
-#[derive(Clone, Copy)]
-enum Wanted {
-    Passed(&'static [Port]),
-    Sent(u16),
-    // So many are proxied no more.
-    Ticked(usize),
-}
-
-// What it came to.
-#[derive(Clone, Copy, PartialEq, Eq)]
-enum Came {
-    AsWanted,
-    NoMemory,
-    Otherwise,
-}
-
-fn came_of(call: Result<Answer, StepFault>, wanted: Wanted) -> Came {
-    let is_wanted = match (call, wanted) {
-        (Ok(Answer::Passed(ports)), Wanted::Passed(outlets)) => ports.as_slice() == outlets,
-        (Ok(Answer::Sent(seq)), Wanted::Sent(number)) => seq.0 == number,
-        (Ok(Answer::Ticked { proxies, .. }), Wanted::Ticked(count)) => proxies == count,
-        (Err(StepFault::NoMemory), _) => return Came::NoMemory,
-        _ => false,
-    };
-    if is_wanted {
-        Came::AsWanted
-    } else {
-        Came::Otherwise
-    }
-}
-
-// Octets come in, and want of memory leaves the node as it was.
-fn read_whole(node: &mut Node, port: Port, octets: &[u8], now: u64, wanted: Wanted) -> Came {
-    let before = image_of(node);
-    let came = came_of(read(node, port, octets, now), wanted);
-    if came == Came::NoMemory && !is_as(node, before) {
-        return Came::Otherwise;
-    }
-    came
-}
-
 // Octets come in; where memory runs out, once more.
-fn goes_to(node: &mut Node, port: Port, sent: Sent, now: u64, outlets: &'static [Port]) -> bool {
+fn goes_to(node: &mut Node, port: Port, sent: Sent, now: u64, outlets: &[Port]) -> bool {
     let (octets, len) = octets_of(sent);
-    let octets = &octets[..len.min(66)];
-    let wanted = Wanted::Passed(outlets);
-    let came = match read_whole(node, port, octets, now, wanted) {
-        Came::NoMemory => read_whole(node, port, octets, now, wanted),
-        came => came,
-    };
-    came == Came::AsWanted
-}
-
-// The same, of many: the node is not compared.
-fn goes_to_of_many(node: &mut Node, port: Port, sent: Sent, outlets: &'static [Port]) -> bool {
-    let (octets, len) = octets_of(sent);
-    let octets = &octets[..len.min(66)];
-    let wanted = Wanted::Passed(outlets);
-    let came = match came_of(read(node, port, octets, 0), wanted) {
-        Came::NoMemory => came_of(read(node, port, octets, 0), wanted),
-        came => came,
-    };
-    came == Came::AsWanted
-}
-
-// An event, and want of memory leaves the node as it was.
-fn step_whole(node: &mut Node, event: &Event, wanted: Wanted) -> Came {
-    let before = image_of(node);
-    let came = came_of(node.step(event), wanted);
-    if came == Came::NoMemory && !is_as(node, before) {
-        return Came::Otherwise;
-    }
-    came
-}
-
-// An event; where memory runs out, once more.
-fn happens(node: &mut Node, event: &Event, wanted: Wanted) -> bool {
-    let came = match step_whole(node, event, wanted) {
-        Came::NoMemory => step_whole(node, event, wanted),
-        came => came,
-    };
-    came == Came::AsWanted
-}
-
-// The host sends; want of memory for its frame is met by another try.
-fn sends(alloc: Global, node: &mut Node, dst: Mac, now: u64, number: u16) -> bool {
-    let octets = plain(dst, OWN);
     for _ in 0..2u8 {
-        if let Ok(frame) = Frame::copy(alloc, &octets[..60]) {
-            return happens(node, &Event::Send { frame, now }, Wanted::Sent(number));
+        match read(node, port, &octets[..len.min(66)], now) {
+            Ok(Answer::Passed(ports)) => return ports.as_slice() == outlets,
+            Err(StepFault::NoMemory) => {}
+            _ => return false,
         }
     }
     false
@@ -239,11 +138,22 @@ fn sans_send(node: &mut Node, count: u16) -> bool {
     (0..count).all(|number| {
         let [high, low] = number.to_be_bytes();
         let sent = Sent::Plain(GROUP, Mac([4, 0, 0, 0, high, low]));
-        goes_to_of_many(node, Port::C, sent, &[Port::H, Port::A, Port::B])
+        goes_to(node, Port::C, sent, 0, &[Port::H, Port::A, Port::B])
             && node.take(Port::H).is_some()
             && node.take(Port::A).is_some()
             && node.take(Port::B).is_some()
     })
+}
+
+fn forgets(node: &mut Node, now: u64, count: usize) -> bool {
+    for _ in 0..8u8 {
+        match node.step(&Event::Tick { now }) {
+            Ok(Answer::Ticked { proxies, .. }) => return proxies == count,
+            Err(StepFault::NoMemory) => {}
+            _ => return false,
+        }
+    }
+    false
 }
 
 fn holds(alloc: Global, node: &mut Node, step: Step) -> bool {
@@ -251,8 +161,7 @@ fn holds(alloc: Global, node: &mut Node, step: Step) -> bool {
         Step::In(port, sent, now, outlets) => goes_to(node, port, sent, now, outlets),
         Step::Out(port, sent) => goes_out(alloc, node, port, sent),
         Step::Sans(count) => sans_send(node, count),
-        Step::Send(dst, now, number) => sends(alloc, node, dst, now, number),
-        Step::Tick(now, count) => happens(node, &Event::Tick { now }, Wanted::Ticked(count)),
+        Step::Tick(now, count) => forgets(node, now, count),
         Step::WrongLan(port, count) => node.wrong_lan(port) == count,
     }
 }
