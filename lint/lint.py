@@ -110,18 +110,12 @@ def crate_tables(root):
 # What 12, 15 and 16 bits hold: the wire's own numbers, no limits of this project.
 WIRE_NUMBERS = {4095, 4096, 32767, 32768, 65535, 65536}
 
-# Where a number stands that is a limit, and stays: it is the definition's own subject, or a case that is worked out; the last
-# five have no name yet.
+# Where a number stands that is a limit, and stays: it is the definition's own subject, or a case that is worked out.
 SPELLED = {
     "crates/sr_frame/specs/Frame.antt": {1524},  # a frame's longest, which all else is counted from
     "crates/sr_dup_window/specs/Bitmaps.antt": {1024, 2048},  # the widths of a record
     "crates/sr_dup_runs/specs/TableRuns.antt": {65534, 65537},  # numbers that come round
     "crates/sr_slots/specs/Calls.antt": {18446744073709551615},  # the greatest of 64 bits
-    "crates/sr_capture_script/specs/Flaws.antt": {1524},
-    "crates/sr_capture_script/specs/Texts.antt": {60000},
-    "crates/sr_script/specs/Lines.antt": {8000, 8001},
-    "crates/sr_script/specs/Runs.antt": {8000},
-    "crates/sr_script/specs/Turns.antt": {8000, 1000001},
 }
 
 

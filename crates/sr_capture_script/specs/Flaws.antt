@@ -21,6 +21,7 @@ use Rattle.std.specs.Prelude.{
 use Rattle.std.specs.List.{count_by}
 use Rattle.sr_capture.specs.declared.packet.Extent.{Extent}
 use Rattle.sr_capture.specs.declared.packet.Extent.TheVariants.{Whole, Cut}
+use Rattle.sr_capture.specs.Limits.{longest_kept}
 use Rattle.sr_capture.specs.Records.{Captured}
 use Rattle.sr_capture_script.specs.declared.flaws.Flaw.{Flaw}
 use Rattle.sr_capture_script.specs.declared.flaws.Flaw.TheVariants as flaw
@@ -35,7 +36,7 @@ name_of flaw.Empty = codes "empty"
 -- why a packet of this extent and length is not used
 abbrev pub flaw_by : Extent → ℕ → Option Flaw
 flaw_by Cut len = Some flaw.Cut
-flaw_by Whole len = if nat_lt 1524 len then Some flaw.Long else if len == 0 then Some flaw.Empty else None
+flaw_by Whole len = if nat_lt longest_kept len then Some flaw.Long else if len == 0 then Some flaw.Empty else None
 
 -- why a packet is not used
 abbrev pub flaw_of : Captured → Option Flaw

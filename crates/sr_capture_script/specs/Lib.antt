@@ -1,3 +1,4 @@
+pub mod Limits
 pub mod Shifts
 pub mod Picking
 pub mod Items

@@ -35,6 +35,7 @@ use Rattle.sr_capture_script.specs.declared.flaws.Flaw.{Flaw}
 use Rattle.sr_capture_script.specs.declared.flaws.FlawCounts.{FlawCounts}
 use Rattle.sr_capture_script.specs.Flaws.{flaw_of, name_of, tallied}
 use Rattle.sr_capture_script.specs.Items.{Item}
+use Rattle.sr_capture_script.specs.Limits.{farthest_tick}
 
 -- words with single spaces between them, as a line
 abbrev pub printed : List (List ℕ) → List ℕ
@@ -85,7 +86,7 @@ is_wanted choice time = not (nat_lt time choice.from || nat_lt choice.to time)
 
 -- how many steps there are from a line's time on that end neither after `most` nor more than a minute behind the line
 abbrev pub tick_count : ℕ → ℕ → ℕ → ℕ
-tick_count last step most = (min most (last + 60000) - last) / step
+tick_count last step most = (min most (last + farthest_tick) - last) / step
 
 -- the times at the ends of these steps
 abbrev pub tick_times : ℕ → ℕ → ℕ → List ℕ

@@ -21,8 +21,36 @@ pub const VLAN_KIND: u16 = 0x8100;
 /// A hardware address: its six octets in the order in which a frame carries them.
 ///
 /// Addresses are ordered octet by octet, and shown as six pairs of lower case digits joined by colons.
-#[derive(Clone, Copy, Debug, PartialEq, Eq, PartialOrd, Ord)]
+#[derive(Clone, Copy, Debug, PartialOrd, Ord)]
 pub struct Mac(pub [u8; 6]);
+
+impl PartialEq for Mac {
+    ghost use Rattle.std.specs.Cmp.Rules.{comparing};
+    ghost use Rattle.std.proofs.Common.{rules};
+    ghost use Rattle.sr_frame.specs.Addresses.{mac_eq};
+
+    ghost eq = { mac_eq };
+
+    ghost laws = { Prim.search (comparing, rules) };
+
+    // Without a branch: six compares cost less than a walk that stops at the first octet that differs.
+    fn eq(&self, other: &Mac) -> bool {
+        let (a, b) = (self.0, other.0);
+        (a[0] == b[0])
+            & (a[1] == b[1])
+            & (a[2] == b[2])
+            & (a[3] == b[3])
+            & (a[4] == b[4])
+            & (a[5] == b[5])
+    }
+}
+
+impl Eq for Mac {
+    ghost use Rattle.std.specs.Cmp.Rules.{comparing};
+    ghost use Rattle.std.proofs.Common.{rules};
+
+    ghost laws = { Prim.search (comparing, rules) };
+}
 
 impl std::hash::Hash for Mac {
     ghost use Rattle.std.specs.Prelude.{◌∷◌, []};

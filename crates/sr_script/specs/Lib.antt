@@ -1,3 +1,4 @@
+pub mod Limits
 pub mod Octets
 pub mod Lines
 pub mod Commands

@@ -2,6 +2,7 @@
 use Rattle.std.specs.Prelude.{
   ◌≡◌,
   ℕ,
+  ◌+◌,
   ◌<◌,
   ◌≤◌,
   List,
@@ -21,6 +22,7 @@ use Rattle.std.specs.Prelude.{
   OnSome,
 }
 use Rattle.std.specs.Io.KnownBytes.{Consumes, IsAtEnd}
+use Rattle.sr_script.specs.Limits.{longest_line}
 use Rattle.sr_script.specs.Octets.{Lacks}
 use Rattle.sr_script.specs.declared.fault.Word.{Word}
 use Rattle.sr_script.specs.declared.lines.Piece.{Piece}
@@ -36,9 +38,9 @@ abbrev pub lines_of : List ℕ → List (List ℕ)
 lines_of [] = []
 lines_of (b ∷ bs) = if b == 10 then [] ∷ lines_of bs else before_first_line b (lines_of bs)
 
--- the text's first line has more than 8000 octets
+-- the text's first line has too many octets
 abbrev pub BeginsLong : List ℕ → Type 0
-BeginsLong text = (line : List ℕ) × (lines : List (List ℕ)) × (lines_of text ≡ line ∷ lines) × (8000 < length line)
+BeginsLong text = (line : List ℕ) × (lines : List (List ℕ)) × (lines_of text ≡ line ∷ lines) × (longest_line < length line)
 
 -- where the octets that a reader has left are known: what a read of a line took, and what it left
 abbrev pub TakesLine : Bool → List ℕ → Option (List ℕ) → Option (List ℕ) → Type 0
@@ -47,9 +49,9 @@ TakesLine more line (Some xs) None = ⊥
 TakesLine true line (Some xs) (Some ys) = lines_of xs ≡ line ∷ lines_of ys
 TakesLine false line (Some xs) (Some ys) = lines_of xs ≡ []
 
--- of a line no more than 8000 octets were taken, and not its end
+-- of a line no more octets were taken than a line may have, and not its end
 abbrev pub TakesPart : Option (List ℕ) → Option (List ℕ) → Type 0
-TakesPart before after = (part : List ℕ) × Consumes before after part × Lacks 10 part × (length part ≤ 8000)
+TakesPart before after = (part : List ℕ) × Consumes before after part × Lacks 10 part × (length part ≤ longest_line)
 
 -- what stands behind the octets that were taken of a line
 abbrev pub end_of : Piece → List ℕ
@@ -59,8 +61,8 @@ end_of End = []
 
 -- how long the line is by then; a part is not empty
 abbrev pub HasPieceLength : Piece → List ℕ → List ℕ → Type 0
-HasPieceLength Part old new = (length old < length new) × (length new ≤ 8001)
-HasPieceLength Last old new = length new ≤ 8000
+HasPieceLength Part old new = (length old < length new) × (length new ≤ longest_line + 1)
+HasPieceLength Last old new = length new ≤ longest_line
 HasPieceLength End old new = new ≡ old
 
 -- the end of the input was met, where the octets are known

@@ -4,6 +4,7 @@ use Rattle.std.specs.Io.KnownBytes.{Appends, Keeps}
 use Rattle.sr_script.specs.declared.fault.Fault.{Fault}
 use Rattle.sr_script.specs.declared.fault.Word.{Word}
 use Rattle.sr_script.specs.declared.fault.Word.TheVariants as word
+use Rattle.sr_script.specs.Limits.{longest_line, most_lines}
 use Rattle.sr_script.specs.Lines.{lines_of}
 use Rattle.sr_script.specs.Octets.{Lacks}
 
@@ -16,8 +17,8 @@ pub record Dialogue (S : Type 0) : Type 1 where
 
 -- a line of a length and at a place that a script may have
 pub record HasPlace (number : ℕ) (line : List ℕ) : Type 0 where
-  pub count : number ≤ 1000000
-  pub short : length line ≤ 8000
+  pub count : number ≤ most_lines
+  pub short : length line ≤ longest_line
 
 -- the lines, of which the first has this number, are lines of a script; the session answers them with this text, and comes to t
 abbrev pub Replies : {S : Type 0} → Dialogue S → S → ℕ → List (List ℕ) → List ℕ → S → Type 0
@@ -34,10 +35,10 @@ IsAnswered d start lines held now = (text : List ℕ) × (t : _) × (last : List
 abbrev pub AreAnswered : {S : Type 0} → Dialogue S → S → ℕ → List (List ℕ) → Option (List ℕ) → Option (List ℕ) → S → Type 0
 AreAnswered d start first lines held now t = (text : List ℕ) × Replies d start first lines text t × Appends held now text
 
--- of the first of the lines that are left, the reader gave no more than 8000 octets, and no end
+-- of the first of the lines that are left, the reader gave no more octets than a line may have, and no end
 abbrev pub IsWithinLine : List (List ℕ) → Option (List ℕ) → Type 0
 IsWithinLine left None = ⊥
-IsWithinLine left (Some rest) = (part : List ℕ) × (left ≡ lines_of (part ++ rest)) × Lacks 10 part × (length part ≤ 8000)
+IsWithinLine left (Some rest) = (part : List ℕ) × (left ≡ lines_of (part ++ rest)) × Lacks 10 part × (length part ≤ longest_line)
 
 -- the fault of the first of the lines that are left, at the state t, the reader having this left: where it is `read`, the line was
 -- not read, and where it is `write` or `memory`, the line is none of those that are `line` or `long`
@@ -45,7 +46,7 @@ abbrev pub HasFault : {S : Type 0} → Dialogue S → S → ℕ → Word → Lis
 HasFault d t number word.Line [] rest = ⊥
 HasFault d t number word.Line (line ∷ lines) rest = HasPlace number line × (d.Knows t line → ⊥)
 HasFault d t number word.Long [] rest = ⊥
-HasFault d t number word.Long (line ∷ lines) rest = (1000000 < number) ⊎ (8000 < length line)
+HasFault d t number word.Long (line ∷ lines) rest = (most_lines < number) ⊎ (longest_line < length line)
 HasFault d t number word.Read left rest = IsWithinLine left rest
 HasFault d t number word.Write [] rest = Unit {0}
 HasFault d t number word.Write (line ∷ lines) rest = HasPlace number line × d.Knows t line

@@ -7,6 +7,7 @@ use Rattle.sr_script.specs.declared.fault.Word.{Word}
 use Rattle.sr_script.specs.declared.fault.Word.TheVariants as word
 use Rattle.sr_script.specs.declared.waiting.Mark.{Mark}
 use Rattle.sr_script.specs.declared.running.Front.{Front}
+use Rattle.sr_script.specs.Limits.{longest_line, most_lines}
 use Rattle.sr_script.specs.Lines.{lines_of, IsOneOf, TakesLine}
 use Rattle.sr_script.specs.Octets.{Lacks}
 use Rattle.sr_script.specs.Runs.{Dialogue, HasPlace, Replies}
@@ -47,10 +48,10 @@ TakesLines lines None new = Unit {0}
 TakesLines lines (Some xs) None = ⊥
 TakesLines lines (Some xs) (Some ys) = lines_of xs ≡ lines ++ lines_of ys
 
--- a line of no more than 8000 octets, and the LF that ends it, stand at a place
+-- a line that is not too long, and the LF that ends it, stand at a place
 pub record IsLineAt (octets : List ℕ) (from : ℕ) (line : List ℕ) : Type 0 where
   pub unbroken : Lacks 10 line
-  pub short : length line ≤ 8000
+  pub short : length line ≤ longest_line
   pub parts : drop from octets ≡ line ++ 10 ∷ drop (from + (length line + 1)) octets
   pub within : from + length line < length octets
 
@@ -74,7 +75,7 @@ pub record IsFront {S : Type 0} (d : Dialogue S) (s : S) (first : ℕ) (octets t
   pub within : front.used ≤ length octets
   pub waits : Waits d s first 0 lines text marks reached
   pub next : front.next ≡ first + length lines
-  pub count : front.next ≤ 1000001
+  pub count : front.next ≤ most_lines + 1
   pub stops : StopsSo d reached front.next (drop front.used octets) front.fault t
 
 -- lines, of which the first has this number, were taken and answered, and n is the number behind them
