@@ -45,7 +45,11 @@ fn fields_of_a_tagged_frame(rt: HostRuntime) {
 }
 
 // Each growth may be refused: the call is then made again, and answers as it would have.
-const COPIES: &[Step] = &[Step::Copies(&[These(&[1; 60])], 0x0101)];
+const COPIES: &[Step] = &[
+    Step::Copies(&[These(&[1; 14])], 0x0101),
+    Step::Copies(&[These(&[1; 60])], 0x0101),
+    Step::Copies(&[These(&[1; 14]), Zeros(1509), These(&[2])], 0x0101),
+];
 
 #[test]
 fn copies(rt: HostRuntime) {

@@ -268,8 +268,14 @@ fn tagged_supervision(rt: HostRuntime) {
     expect_steps(&rt, TAGGED_SUPERVISION);
 }
 
-// 1518 octets have room for a tag, whose size is then 1510, and 1519 have not.
+// 1518 octets have room for a tag, whose size is then 1510, and 1519 have not. It can be taken out again.
 const LONGEST: &[Step] = &[
+    Step::Untagged(
+        &[Zeros(12)],
+        &[These(&[0x89, 0x2f, 0x05, 0xe6, 0, 0])],
+        &[Zeros(1505), These(&[1])],
+        (0, 0x5e6, 0, 0),
+    ),
     Step::Tagged(
         &[Zeros(12)],
         &[Zeros(1506)],
