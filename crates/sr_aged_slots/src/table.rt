@@ -106,6 +106,13 @@ impl<V: Drop, const SPAN: u64, const MOST: usize> AgedSlots<V, SPAN, MOST> {
         self.slots.iter()
     }
 
+    /// Makes room for so many more addresses, in one growth. Nothing that shows changes. NoMemory: memory ran out.
+    pub fn reserve(&mut self, more: usize) -> Result<(), NoMemory>
+        ensures { self.new ≡ self.old }
+    {
+        self.slots.reserve(more)
+    }
+
     /// Holds a place for an address, so that `append` of it takes no memory. Nothing else sees the place.
     /// NoMemory: memory ran out, and nothing changes.
     pub fn hold(&mut self, key: Mac) -> Result<(), NoMemory>

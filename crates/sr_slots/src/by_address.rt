@@ -151,6 +151,13 @@ impl<V: Drop + Ranked> Slots<V> {
         Ok(())
     }
 
+    /// Makes room for so many more addresses, in one growth. Nothing that shows changes. NoMemory: memory ran out.
+    pub fn reserve(&mut self, more: usize) -> Result<(), NoMemory>
+        ensures { self.new ≡ self.old }
+    {
+        places::reserve(&mut self.map, more)
+    }
+
     /// Holds a place for an address, so that `append` of it takes no memory.
     pub fn hold(&mut self, key: Mac) -> Result<(), NoMemory>
         ensures entries { self.new.entries ≡ self.old.entries }
@@ -210,13 +217,12 @@ impl<V: Drop + Ranked> Slots<V> {
         }
     }
 
-    /// Gives up all held places. Where none is held it looks at none, and where the one that was held last is the only one, at
-    /// that alone.
+    /// Gives up all held places. Where they stand last and have no value, it looks at them alone.
     pub fn release(&mut self)
         ensures entries { self.new.entries ≡ self.old.entries }
         ensures held { self.new.held ≡ [] }
     {
-        if self.held > 0 && places::pop_held(&mut self.map) {
+        while self.held > 0 && places::pop_held(&mut self.map) {
             self.held -= 1;
         }
         if self.held > 0 {
@@ -262,9 +268,10 @@ impl<V: Drop + Ranked + Copy> Slots<V> {
         ensures entries { IfOk result (λ own. own.entries ≡ self.now.entries) }
         ensures held { IfOk result (λ own. own.held ≡ []) }
     {
-        // The length says that no two addresses are equal.
-        let _values = self.len();
+        // The length says too that no two addresses are equal.
+        let values = self.len();
         let mut own = Slots::with_keys(alloc, *self.map.hasher());
+        own.reserve(values)?;
         for (key, value) in self.iter() {
             own.append(key, *value)?;
         }

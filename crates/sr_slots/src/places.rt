@@ -233,6 +233,17 @@ pub fn give_up<V: Drop + Ranked>(map: &mut IndexMap<Mac, Slot<V>, Keys>, key: Ma
     }
 }
 
+/// Makes room for so many more places in one growth. No place changes.
+pub fn reserve<V: Drop + Ranked>(
+    map: &mut IndexMap<Mac, Slot<V>, Keys>,
+    more: usize,
+) -> Result<(), NoMemory>
+    ensures { map.new.entries ≡ map.old.entries }
+{
+    map.reserve(more)?;
+    Ok(())
+}
+
 // Whether the last place is held and has no value.
 fn ends_held<V: Drop + Ranked>(map: &IndexMap<Mac, Slot<V>, Keys>) -> bool
     ensures { result ≡ true → IsLast (slot_of None true) map.now.entries }

@@ -13,7 +13,7 @@ append-requires g c =
 
 pub loop-key-init : goal.loop-key-init
 loop-key-init g c = record {
-  together = ap (λ es. es ++ c.into_iter-key-iterator.result) c.with_keys-own.ensures.entries ∙ c.into_iter-key-iterator.ensures.into_iter_gives ∙ c.iter-key-items.ensures.rest;
+  together = ap (λ es. es ++ c.into_iter-key-iterator.result) (ap (λ own. own.entries) c.reserve.ensures ∙ c.with_keys-own.ensures.entries) ∙ c.into_iter-key-iterator.ensures.into_iter_gives ∙ c.iter-key-items.ensures.rest;
   unique = c.len-values.ensures.unique;
 }
 
