@@ -110,6 +110,13 @@ impl DupTable {
         self.slots.len()
     }
 
+    /// Makes room for so many more sources, in one growth. Nothing that shows changes. NoMemory: memory ran out.
+    pub fn make_room(&mut self, more: usize) -> Result<(), NoMemory>
+        ensures { self.new ≡ self.old }
+    {
+        self.slots.reserve(more)
+    }
+
     /// Holds a place for a source, so that its next arrival takes no memory. Nothing else sees the place.
     /// NoMemory: memory ran out, and nothing changes.
     pub fn reserve(&mut self, src: Mac) -> Result<(), NoMemory>
