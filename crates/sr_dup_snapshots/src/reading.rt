@@ -90,6 +90,7 @@ fn read_sources(alloc: Global, count: usize, sources: &[u8]) -> Result<DupTable,
         × (are_in_order None (sources_in count sources.now) ≡ false))) }
 {
     let mut table = DupTable::new(alloc);
+    table.make_room(count)?;
     let mut last = None;
     let mut rest = sources;
     for place in 0..count {
@@ -130,7 +131,8 @@ fn sources_of(octets: &[u8]) -> Option<(usize, &[u8])>
 /// The table that a snapshot spells, in one pass. Its sources stand in ascending order of address, and it holds no place.
 /// BadSnapshot: the octets are no snapshot of a table. Their head or version is another, they have over 1024 sources, another length
 /// than so many sources have, addresses that don't ascend, or a source without its greatest number on any lane.
-/// NoMemory: memory ran out. No more is asked for than sources stand in the octets.
+/// NoMemory: memory ran out. No more is asked for than sources stand in the octets: the places of all at once, and then for each its
+/// record, which has memory of its own, so that what goes moves no record.
 pub fn read_snapshot(alloc: Global, octets: &[u8]) -> Result<DupTable, DupFault>
     ensures found { IfOk result (λ table. IsSnapshot octets.now table.sources) }
     ensures held { IfOk result (λ table. table.held ≡ []) }

@@ -10,7 +10,7 @@ use Rattle.sr_dup_snapshots.proofs.reading.read_sources.Goals as goal
 
 pub returns-in_err-add-clause-refused : goal.returns-in_err-add-clause-refused
 returns-in_err-add-clause-refused c =
-    let e = err_from_is_err_and c.from_residual.result c.from_residual.ensures.1 in
+    let e = err_from_is_err_and c.from_residual-in_err-add.result c.from_residual-in_err-add.ensures.1 in
     let left = c.args.count - c.loop-place.place in
     let source = source_in c.split_at.result.0.now in
     let more : 0 < left = omega (arith, c.loop-place-test.true) in
