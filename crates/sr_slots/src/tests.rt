@@ -26,6 +26,8 @@ enum Step {
     Hold(u8),
     /// All held places are given up.
     Release,
+    /// Room is made for so many more addresses, or there is no memory for so many.
+    Reserve(usize, bool),
     /// This value replaces the one of the address, looked for where the other address is. Whether there was one.
     Set(u8, u8, u32, bool),
     /// The values below this one go, and this is the least of those that are left.
@@ -81,6 +83,45 @@ const NONE_IS_LEFT: [Step; 6] = [
     Step::Shows(2, 5),
 ];
 
+// Two of them stand last; then one stands last and one before another place; then one stands last and one has a value.
+const HELD_PLACES_ARE_GIVEN_UP: [Step; 20] = [
+    Step::Add(1, 10),
+    Step::Hold(2),
+    Step::Hold(3),
+    Step::Release,
+    Step::Shows(1, 10),
+    Step::Add(3, 30),
+    Step::Add(2, 20),
+    Step::Shows(132, 60),
+    Step::Hold(4),
+    Step::Add(5, 50),
+    Step::Hold(6),
+    Step::Release,
+    Step::Add(6, 60),
+    Step::Shows(13256, 170),
+    Step::Hold(6),
+    Step::Hold(4),
+    Step::Release,
+    Step::Release,
+    Step::Add(4, 40),
+    Step::Shows(132564, 210),
+];
+
+// Room for more, or none, shows nowhere.
+const ROOM_SHOWS_NOWHERE: [Step; 11] = [
+    Step::Reserve(0, true),
+    Step::Reserve(2, true),
+    Step::Add(3, 30),
+    Step::Hold(1),
+    Step::Reserve(usize::MAX, false),
+    Step::Reserve(100, true),
+    Step::Shows(3, 30),
+    Step::Add(2, 20),
+    Step::Add(1, 10),
+    Step::Shows(321, 60),
+    Step::Set(1, 1, 11, true),
+];
+
 // Where memory runs out the table is as it was, and the call is repeated.
 fn add(slots: &mut Slots<u32>, last: u8, value: u32) -> bool {
     let key = mac(last);
@@ -100,6 +141,11 @@ fn add(slots: &mut Slots<u32>, last: u8, value: u32) -> bool {
 fn hold(slots: &mut Slots<u32>, last: u8) -> bool {
     let len = slots.len();
     (slots.hold(mac(last)).is_ok() || slots.hold(mac(last)).is_ok()) && slots.len() == len
+}
+
+fn reserve(slots: &mut Slots<u32>, more: usize) -> bool {
+    let len = slots.len();
+    (slots.reserve(more).is_ok() || slots.reserve(more).is_ok()) && slots.len() == len
 }
 
 fn shows(slots: &Slots<u32>, order: u32, sum: u32) -> bool {
@@ -129,6 +175,7 @@ fn obeys(slots: &mut Slots<u32>, step: Step) -> bool {
             slots.release();
             true
         }
+        Step::Reserve(more, there) => reserve(slots, more) == there,
         Step::Set(last, at, value, there) => set(slots, last, at, value) == there,
         Step::Sift(limit, least) => {
             slots.sweep(2);
@@ -157,6 +204,16 @@ fn what_goes_comes_back_last(rt: HostRuntime) {
 #[test]
 fn none_is_left(rt: HostRuntime) {
     assert!(rt; first_wrong(rt.alloc(), NONE_IS_LEFT.as_slice()).is_none());
+}
+
+#[test]
+fn held_places_are_given_up(rt: HostRuntime) {
+    assert!(rt; first_wrong(rt.alloc(), HELD_PLACES_ARE_GIVEN_UP.as_slice()).is_none());
+}
+
+#[test]
+fn room_shows_nowhere(rt: HostRuntime) {
+    assert!(rt; first_wrong(rt.alloc(), ROOM_SHOWS_NOWHERE.as_slice()).is_none());
 }
 
 // How many of 100 addresses stand in a table under these keys, with as many places held between them.
