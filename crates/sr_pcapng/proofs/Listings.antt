@@ -1,11 +1,13 @@
 -- Interfaces that are listed, block by block.
 use Rattle.std.proofs.Common.{◌≡◌, ℕ, ◌+◌, ◌-◌, ◌^◌, List, [], ◌∷◌, length, Option, Some, refl, sym, ap, ◌∙◌, arith, inl, inr}
+use Rattle.sr_capture.specs.declared.fault.CaptureFault.{CaptureFault}
+use Rattle.sr_capture.specs.declared.fault.Reason.TheVariants.{NoMemory}
 use Rattle.sr_capture.specs.declared.numbers.ByteOrder.{ByteOrder}
 use Rattle.sr_capture.specs.Taking.{Loses}
 use Rattle.sr_pcapng.specs.declared.listing.Listing.{Listing}
-use Rattle.sr_pcapng.specs.Blocks.{kind_of, IsBlock}
+use Rattle.sr_pcapng.specs.Blocks.{kind_of, IsBlock, IsNoBlock}
 use Rattle.sr_pcapng.specs.declared.block.Kind.{Kind}
-use Rattle.sr_pcapng.specs.Listing.{listed_by, Follow, EndsList, Lists}
+use Rattle.sr_pcapng.specs.Listing.{listed_by, Follow, EndsList, Lists, LacksMemory}
 
 -- some blocks were taken: what follows them here follows them and others from the start
 abbrev pub Goes : ByteOrder → Listing → Listing → ℕ → Option (List ℕ) → Option (List ℕ) → Type 0
@@ -34,6 +36,13 @@ pub lists : (order : ByteOrder) (start now : Listing) (count : ℕ) (old left ne
 lists order start now count old left new g ends =
     let all = goes_all order start now count old left g in
     (all.0, now, left, all.2, refl, inl ends)
+
+-- memory is refused
+pub lacks_memory : (order : ByteOrder) (start now : Listing) (count : ℕ) (old left new : Option (List ℕ)) (fault : CaptureFault)
+    → Goes order start now count old left → IsNoBlock (Some order) fault left new → fault.reason ≡ NoMemory → LacksMemory order start old new
+lacks_memory order start now count old left new fault g none why =
+    let all = goes_all order start now count old left g in
+    (all.0, now, left, fault, all.2, none, why)
 
 -- there are too many blocks
 pub lists_most : (order : ByteOrder) (start now : Listing) (count : ℕ) (old left : Option (List ℕ)) → Goes order start now count old left

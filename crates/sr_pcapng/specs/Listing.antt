@@ -1,10 +1,9 @@
 -- The interfaces of a section that are Ethernet, where there is more than one and none was named.
-use Rattle.std.specs.Prelude.{◌≡◌, ℕ, ◌+◌, ◌-◌, ◌^◌, ◌⊎◌, ◌==◌, min, bit_or, nat_lt, if◌then◌else◌, List, [], ◌∷◌, length}
+use Rattle.std.specs.Prelude.{◌≡◌, ◌≢◌, ℕ, ◌+◌, ◌-◌, ◌^◌, ◌⊎◌, ◌==◌, min, bit_or, nat_lt, if◌then◌else◌, List, [], ◌∷◌, length}
 use Rattle.std.specs.Prelude.{Option, Some, None}
 use Rattle.sr_capture.specs.declared.fault.CaptureFault.{CaptureFault}
 use Rattle.sr_capture.specs.declared.fault.Reason.{Reason}
 use Rattle.sr_capture.specs.declared.fault.Reason.TheVariants as reason
-use Rattle.sr_capture.specs.declared.listed.Listed.{Listed}
 use Rattle.sr_capture.specs.declared.numbers.ByteOrder.{ByteOrder}
 use Rattle.sr_capture.specs.Numbers.{half_at}
 use Rattle.sr_capture.specs.Records.{WasAtEnd}
@@ -39,10 +38,10 @@ Follow (block ∷ blocks) order listing last old new = (left : Option (List ℕ)
     × Loses block old left × IsBlock (Some order) block own × (listed_by (kind_of own block) own block listing ≡ Some next)
     × Follow blocks order next last left new
 
--- the section can be read no further: nothing is left, there is no block, or one that adds nothing to the list
+-- the section can be read no further: nothing is left, there is no block, not for want of memory, or one that adds nothing to the list
 abbrev pub EndsList : ByteOrder → Listing → Option (List ℕ) → Option (List ℕ) → Type 0
 EndsList order listing old new = WasAtEnd old new
-    ⊎ (((fault : CaptureFault) × IsNoBlock (Some order) fault old new)
+    ⊎ (((fault : CaptureFault) × IsNoBlock (Some order) fault old new × (fault.reason ≢ reason.NoMemory))
     ⊎ ((block : List ℕ) × (own : ByteOrder) × Loses block old new × IsBlock (Some order) block own
     × (listed_by (kind_of own block) own block listing ≡ None)))
 
@@ -52,8 +51,19 @@ Lists order listing listed old new = (blocks : List (List ℕ)) × (last : Listi
     × Follow blocks order listing last old left × (listed ≡ last.listed)
     × (EndsList order last left new ⊎ ((new ≡ left) × (length blocks ≡ 2 ^ 64 - 1)))
 
+-- behind blocks of a section memory was refused for the next one
+abbrev pub LacksMemory : ByteOrder → Listing → Option (List ℕ) → Option (List ℕ) → Type 0
+LacksMemory order start old new = (blocks : List (List ℕ)) × (last : Listing) × (left : Option (List ℕ)) × (fault : CaptureFault)
+    × Follow blocks order start last old left × IsNoBlock (Some order) fault left new × (fault.reason ≡ reason.NoMemory)
+
+-- what is told of interfaces that are Ethernet: all of them, or want of memory
+abbrev pub TellsListed : ByteOrder → Listing → Reason → Option (List ℕ) → Option (List ℕ) → Type 0
+TellsListed order start (reason.Several all) old new = Lists order start all.0 old new
+TellsListed order start reason.NoMemory old new = LacksMemory order start old new
+TellsListed order start other old new = ⊥
+
 -- the reason that is told: where a second interface of a section is Ethernet, all that are; else the one that was found
 abbrev pub TellsAll : Option Section → Reason → Reason → Option (List ℕ) → Option (List ℕ) → Type 0
-TellsAll (Some section) (reason.Several two) told old new = (all : Listed) × (told ≡ reason.Several all)
-    × Lists section.order (record { listed = two.0; count = min (section.count + 1) (2 ^ 32 - 1) }) all.0 old new
+TellsAll (Some section) (reason.Several two) told old new =
+    TellsListed section.order (record { listed = two.0; count = min (section.count + 1) (2 ^ 32 - 1) }) told old new
 TellsAll section own told old new = (told ≡ own) × (new ≡ old)

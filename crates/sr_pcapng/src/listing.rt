@@ -1,7 +1,8 @@
 //! The interfaces of a section that are Ethernet, where there is more than one and none was named.
 
-ghost use Rattle.std.specs.Prelude.{◌≡◌, ◌≤◌, length};
-ghost use Rattle.sr_pcapng.specs.Listing.{listed_by, after_description, Lists, TellsAll};
+ghost use Rattle.std.specs.Prelude.{◌≡◌, ◌≤◌, length, IfOk, IfErr};
+ghost use Rattle.sr_capture.specs.declared.fault.Reason.TheVariants.{NoMemory};
+ghost use Rattle.sr_pcapng.specs.Listing.{listed_by, after_description, Lists, LacksMemory, TellsAll};
 
 use crate::block::{Kind, kind_of, take_block};
 use crate::interface::{ETHERNET, MIN_LEN};
@@ -49,31 +50,43 @@ fn listed_by(kind: Kind, order: ByteOrder, octets: &[u8], listing: Listing) -> O
 }
 
 /// Lists what is Ethernet in the rest of a section, as far as it can be read. `block` is used for it.
+///
+/// # Errors
+/// `NoMemory`, where a block could not be kept. What stands behind a block that can't be read for another reason is out of
+/// reach of any run, and is not listed.
 fn list_rest<R: BufRead>(
     reader: &mut R,
     order: ByteOrder,
     start: Listing,
     block: &mut Vec<u8>,
-) -> u64
-    ensures { Lists order start result (R.remaining reader.old) (R.remaining reader.new) }
+) -> Result<u64, Reason>
+    ensures listed { IfOk result (λ listed.
+        Lists order start listed (R.remaining reader.old) (R.remaining reader.new)) }
+    ensures refused { IfErr result (λ reason. (reason ≡ NoMemory)
+        × LacksMemory order start (R.remaining reader.old) (R.remaining reader.new)) }
 {
     let mut listing = start;
     'rest: for _ in 0..u64::MAX {
         let own = match take_block(reader, Some(order), block) {
             Ok(Some(own)) => own,
-            Ok(None) => return listing.listed,
-            Err(_) => return listing.listed,
+            Ok(None) => return Ok(listing.listed),
+            Err(fault) => {
+                return match fault.reason {
+                    Reason::NoMemory => Err(Reason::NoMemory),
+                    _ => Ok(listing.listed),
+                };
+            }
         };
         match listed_by(kind_of(own, block), own, block, listing) {
             Some(next) => listing = next,
-            None => return listing.listed,
+            None => return Ok(listing.listed),
         }
     }
-    listing.listed
+    Ok(listing.listed)
 }
 
 /// The reason that is told for what is wrong with a block of a section: where it describes a second interface that is
-/// Ethernet, all that are. `block` is used for it.
+/// Ethernet, all that are, or that memory was refused for the list. `block` is used for it.
 pub(crate) fn told<R: BufRead>(
     reader: &mut R,
     section: Option<Section>,
@@ -88,7 +101,10 @@ pub(crate) fn told<R: BufRead>(
                 listed: two.0,
                 count: section.count.saturating_add(1),
             };
-            Reason::Several(Listed(list_rest(reader, section.order, start, block)))
+            match list_rest(reader, section.order, start, block) {
+                Ok(listed) => Reason::Several(Listed(listed)),
+                Err(lack) => lack,
+            }
         }
         _ => own,
     }

@@ -79,9 +79,9 @@ fn take_step<R: BufRead>(
 /// Of the first block that can not be read: `Unfinished` where the input ends within it, `Unknown` where its order of octets
 /// can not be told, `Length` and `Long` for its lengths, `Several`, `Options`, `NoEthernet` and `Undescribed` for what
 /// it says of interfaces, all at its first octet; `Version` and `Link` at the field that is wrong; `Read` where the reader fails and
-/// `NoMemory`, at the octet that could not be taken, or at the first of a packet that could not be kept. The place is counted
-/// from the first octet that was left. What `track` and `packet` then hold says nothing. `Endless` behind 2^64 - 1 blocks
-/// without a packet.
+/// `NoMemory`, at the octet that could not be taken, or at the first of a packet that could not be kept, or of a second
+/// interface that is Ethernet, where those behind it could not be listed. The place is counted from the first octet that was
+/// left. What `track` and `packet` then hold says nothing. `Endless` behind 2^64 - 1 blocks without a packet.
 pub fn next_packet<R: BufRead>(
     reader: &mut R,
     track: &mut Track,
