@@ -2,7 +2,7 @@
 
 use crate::steps::{Step, expect_steps};
 use crate::texts::Part::{These, Times};
-use crate::texts::{Part, Text};
+use crate::texts::{NOTHING, Part, Text};
 use sr_capture::Reason;
 use sr_capture_script::Inlet;
 
@@ -47,8 +47,6 @@ const BIG_AT_1500_NANO: Part = These(&[
 ]);
 
 const BOTH: Text = &[These(b"in A 0 abcd\nin A 500 ef01\n# A 2 packets, 0 cut, 0 long, 0 empty\n")];
-
-const NOTHING: Text = &[];
 
 const FORMS: &[Step] = &[
     Step::File(

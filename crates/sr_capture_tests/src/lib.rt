@@ -3,11 +3,17 @@
 #![tactic(auto)]
 
 #[cfg(test)]
+mod blocks;
+#[cfg(test)]
 mod damage;
 #[cfg(test)]
 mod failing;
 #[cfg(test)]
 mod headers;
+#[cfg(test)]
+mod interfaces;
+#[cfg(test)]
+mod listing;
 #[cfg(test)]
 mod merging;
 #[cfg(test)]

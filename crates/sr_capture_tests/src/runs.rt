@@ -19,7 +19,7 @@ const ANY: Interfaces = Interfaces {
 };
 
 /// What that is.
-const ALL: Options = Options {
+pub const ALL: Options = Options {
     choice: Choice {
         from: 0,
         to: u64::MAX,
@@ -77,7 +77,7 @@ pub type Ending = Option<(Inlet, u64, Reason)>;
 pub type Ends = &'static [(usize, &'static [u8])];
 
 /// Whether a script that is written to a list ends so. None where memory was refused, to the list too.
-fn is_ended(outcome: Result<(), ScriptFault>, ending: Ending) -> Option<bool> {
+pub fn is_ended(outcome: Result<(), ScriptFault>, ending: Ending) -> Option<bool> {
     match outcome {
         Ok(()) => Some(ending.is_none()),
         Err(ScriptFault::NoMemory) => None,
@@ -134,7 +134,7 @@ pub fn is_script(
 }
 
 /// Whether the text begins with the lines of the packets that end by so many octets, and what stands behind them is this.
-fn are_lines(text: &[u8], ends: Ends, len: usize, last: &[u8]) -> bool {
+pub fn are_lines(text: &[u8], ends: Ends, len: usize, last: &[u8]) -> bool {
     let mut rest = text;
     for (end, line) in ends {
         if *end <= len {

@@ -1,5 +1,6 @@
 //! One driver for all tests: it makes the runs of a table, and answers at which one it differs.
 
+use crate::listing::{Lists, are_listed};
 use crate::runs::{
     Ending, Ends, Files, Manner, PLAIN, are_broken, are_endured, are_fronts, are_prefixes,
     is_narrow, is_script, is_taken_up, is_told,
@@ -22,6 +23,9 @@ pub enum Step {
     Fronts(Text, &'static [usize], Ends),
     /// A file that can be read up to each of its octets.
     Broken(Text, Ends),
+    /// A file, its packets, where the second interface that is Ethernet begins, and what is listed from where on: it ends, or
+    /// can be read, up to each of its octets.
+    Listed(Text, Ends, u64, Lists),
     /// The writer takes so many octets, and whether it then fails.
     Narrow(Text, usize, bool),
     /// A file in which octets are changed, one after the other, so many times.
@@ -52,6 +56,7 @@ fn comes(alloc: Global, step: Step) -> Option<bool> {
         Step::Prefixes(file, ends) => are_prefixes(alloc, file, ends),
         Step::Fronts(file, blocks, ends) => are_fronts(alloc, file, blocks, ends),
         Step::Broken(file, ends) => are_broken(alloc, file, ends),
+        Step::Listed(file, ends, begin, lists) => are_listed(alloc, file, ends, begin, lists),
         Step::Narrow(file, room, fails) => is_narrow(alloc, file, room, fails),
         Step::Endured(file, count) => are_endured(alloc, file, count),
         Step::TakenUp(file, ends, last) => is_taken_up(alloc, file, ends, last),

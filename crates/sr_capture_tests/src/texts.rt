@@ -13,6 +13,9 @@ pub enum Part {
 /// A text, in parts.
 pub type Text = &'static [Part];
 
+/// A text of no octets.
+pub const NOTHING: Text = &[];
+
 fn append_part(octets: &mut Vec<u8>, part: Part) -> Result<(), AllocError> {
     match part {
         Part::These(these) => octets.extend_from_slice(these),
