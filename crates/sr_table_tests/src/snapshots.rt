@@ -1,6 +1,6 @@
 use crate::steps::Merged::Joined;
 use crate::steps::Step::{
-    Damaged, Fill, Hear, Merge, NeverMisread, Reads, Resized, SameText, Text,
+    Damaged, Fill, Hear, MakeRoom, Merge, NeverMisread, Reads, Resized, SameText, Text,
 };
 use crate::steps::Which::{One, Three, Two};
 use crate::steps::{Step, expect_steps};
@@ -159,7 +159,11 @@ fn misread(rt: HostRuntime) {
 
 const THERE_AND_BACK: &[Step] = &[
     Reads(One),
-    Fill(One, 0, 1024, 1000),
+    MakeRoom(3, true),
+    Fill(One, 0, 3, 1000),
+    MakeRoom(usize::MAX, false),
+    Reads(One),
+    Fill(One, 3, 1021, 1000),
     Reads(One),
     Hear(Two, 2, 64518, 1000),
     Hear(Two, 2, 65533, 1000),

@@ -36,6 +36,8 @@ pub enum Step {
     Hear(Which, u16, u16, u64),
     /// It hears number 5 of so many sources, from one on, at this time.
     Fill(Which, u16, u16, u64),
+    /// Room for so many more sources is made in the first table, or there is no memory for so many. Either way nothing shows of it.
+    MakeRoom(usize, bool),
     /// The first table takes in the second at this time.
     Merge(Which, Which, u64, Merged),
     /// So many sources stand in a table.
@@ -141,6 +143,18 @@ fn merge(alloc: Global, table: &mut DupTable, other: &DupTable, now: u64) -> Mer
         return Merged::Wrong;
     }
     outcome_of(answer)
+}
+
+// Room that is asked for again where memory runs out.
+fn make_room(alloc: Global, table: &mut DupTable, more: usize, answer: bool) -> bool {
+    let Some(before) = cloned(alloc, table) else {
+        return false;
+    };
+    let is_made = table.make_room(more).is_ok();
+    if *table != before {
+        return false;
+    }
+    (is_made || table.make_room(more).is_ok()) == answer && *table == before
 }
 
 fn merge_tables(alloc: Global, tables: &mut Tables, into: Which, from: Which, now: u64) -> Merged {
@@ -264,6 +278,7 @@ fn holds(alloc: Global, tables: &mut Tables, step: Step) -> bool {
         Step::Fill(Which::One, from, count, now) => fill(&mut tables.one, from, count, now),
         Step::Fill(Which::Two, from, count, now) => fill(&mut tables.two, from, count, now),
         Step::Fill(Which::Three, from, count, now) => fill(&mut tables.three, from, count, now),
+        Step::MakeRoom(more, answer) => make_room(alloc, &mut tables.one, more, answer),
         Step::Merge(into, from, now, answer) => merge_tables(alloc, tables, into, from, now)
             == answer,
         Step::Count(which, count) => table(tables, which).source_count() == count,
