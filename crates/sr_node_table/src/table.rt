@@ -265,6 +265,7 @@ impl NodeTable {
         ensures held { OnOk result (KeepsHeld self.old.held self.new.held mac) }
         ensures used { IfOk result (λ learnt.
             ¬ (learnt ≡ Learnt.Full) → is_held self.new mac ≡ false) }
+        ensures nothing { result ≡ Ok Learnt.Full → self.new ≡ self.old }
         ensures err { OnErr result (self.new ≡ self.old) }
     {
         self.heard_at(None, mac, port, seq, now)
@@ -296,6 +297,7 @@ impl NodeTable {
         ensures held { OnOk result (KeepsHeld self.old.held self.new.held mac) }
         ensures used { IfOk result (λ learnt.
             ¬ (learnt ≡ Learnt.Full) → is_held self.new mac ≡ false) }
+        ensures nothing { result ≡ Ok Learnt.Full → self.new ≡ self.old }
         ensures err { OnErr result (self.new ≡ self.old) }
     {
         self.hear(spot, mac, port, Told::Numbered(seq), now)
@@ -326,6 +328,7 @@ impl NodeTable {
         ensures held { OnOk result (KeepsHeld self.old.held self.new.held supervision.now.mac) }
         ensures used { IfOk result (λ learnt.
             ¬ (learnt ≡ Learnt.Full) → is_held self.new supervision.now.mac ≡ false) }
+        ensures nothing { result ≡ Ok Learnt.Full → self.new ≡ self.old }
         ensures err { OnErr result (self.new ≡ self.old) }
     {
         self.announce_at(None, supervision, port, now)
@@ -357,6 +360,7 @@ impl NodeTable {
         ensures held { OnOk result (KeepsHeld self.old.held self.new.held supervision.now.mac) }
         ensures used { IfOk result (λ learnt.
             ¬ (learnt ≡ Learnt.Full) → is_held self.new supervision.now.mac ≡ false) }
+        ensures nothing { result ≡ Ok Learnt.Full → self.new ≡ self.old }
         ensures err { OnErr result (self.new ≡ self.old) }
     {
         let announced = Announced {
@@ -386,6 +390,7 @@ impl NodeTable {
         ensures held { OnOk result (KeepsHeld self.old.held self.new.held mac) }
         ensures used { IfOk result (λ learnt.
             ¬ (learnt ≡ Learnt.Full) → is_held self.new mac ≡ false) }
+        ensures nothing { result ≡ Ok Learnt.Full → self.new ≡ self.old }
         ensures err { OnErr result (self.new ≡ self.old) }
     {
         match self.hear_again(spot, mac, port, told, now) {
