@@ -507,6 +507,15 @@ module _ {V : Type 0} where
   swept_held_by false m None rest ms h = h
   swept_held_by false m (Some x) rest ms h = h
 
+  -- each place that is left shows a value or is held
+  swept_length_by : (held : Bool) (m : Mac) (r : Option V) (rest : List (Mac × Slot V)) → length rest ≤ length (entries_of rest) + length (held_of rest)
+      → length (cond (held || is_some r) ((m, slot_of r held) ∷ rest) rest)
+      ≤ length (entries_of (cond (held || is_some r) ((m, slot_of r held) ∷ rest) rest)) + length (held_of (cond (held || is_some r) ((m, slot_of r held) ∷ rest) rest))
+  swept_length_by true m None rest h = omega arith
+  swept_length_by true m (Some x) rest h = omega arith
+  swept_length_by false m None rest h = h
+  swept_length_by false m (Some x) rest h = omega arith
+
   module _ {F : Type 0} (T : F → Mac → Slot V → Bool → Slot V → F → Type 0) (f : F)
       (says : (k : Mac) (v : Slot V) (b : Bool) (w : Slot V) (g : F) → T f k v b w g → (w ≡ v) × (b ≡ (v.held || is_some v.value)) × (g ≡ f)) where
     pub swept_entries : (es kept : List (Mac × Slot V)) → RetainsPairs T f es kept → entries_of kept ≡ entries_of es
@@ -524,3 +533,11 @@ module _ {V : Type 0} where
         ap held_of h.6
         ∙ (λ j. held_of (cond (s.1 j) ((e.0, s.0 j) ∷ h.3) h.3))
         ∙ swept_held_by e.1.held e.0 e.1.value h.3 (held_of es) (swept_held es h.3 (subst (λ g. RetainsPairs T g es h.3) s.2 h.5))
+
+    pub swept_length : (es kept : List (Mac × Slot V)) → RetainsPairs T f es kept → length kept ≤ length (entries_of kept) + length (held_of kept)
+    swept_length [] kept h = subst (λ l. length l ≤ length (entries_of l) + length (held_of l)) (sym h) (omega arith)
+    swept_length (e ∷ es) kept h =
+        let s = says e.0 e.1 h.0 h.1 h.2 h.4 in
+        let is = h.6 ∙ (λ j. cond (s.1 j) ((e.0, s.0 j) ∷ h.3) h.3) in
+        subst (λ l. length l ≤ length (entries_of l) + length (held_of l)) (sym is)
+        (swept_length_by e.1.held e.0 e.1.value h.3 (swept_length es h.3 (subst (λ g. RetainsPairs T g es h.3) s.2 h.5)))

@@ -1,5 +1,5 @@
 //! The map behind a table. A held place is an entry that may have no value.
-ghost use Rattle.std.specs.Prelude.{◌≡◌, ◌+◌, ◌^◌, ◌<◌, ◌++◌, ◌∷◌, ◌||◌, [], None, Some, true, false, not, Bool, is_some, length, filter, nat_le, IsOk, OnOk, OnErr, IfOk, IfSome, IfNone, if◌then◌else◌};
+ghost use Rattle.std.specs.Prelude.{◌≡◌, ◌+◌, ◌^◌, ◌<◌, ◌≤◌, ◌++◌, ◌∷◌, ◌||◌, [], None, Some, true, false, not, Bool, is_some, length, filter, nat_le, IsOk, OnOk, OnErr, IfOk, IfSome, IfNone, if◌then◌else◌};
 ghost use Rattle.std.specs.List.{list_any};
 ghost use Rattle.std.specs.Map.{lookup};
 ghost use Rattle.std.specs.Option.{option_copied, option_map};
@@ -342,6 +342,8 @@ pub fn least_rank<V: Drop + Ranked>(map: &IndexMap<Mac, Slot<V>, Keys>) -> u64
 pub fn sweep<V: Drop + Ranked>(map: &mut IndexMap<Mac, Slot<V>, Keys>)
     ensures entries { entries_of map.new.entries ≡ entries_of map.old.entries }
     ensures held { held_of map.new.entries ≡ held_of map.old.entries }
+    ensures swept { length map.new.entries
+        ≤ length (entries_of map.new.entries) + length (held_of map.new.entries) }
 {
     map.retain(
         |_key: &Mac, slot: &mut Slot<V>| -> bool
