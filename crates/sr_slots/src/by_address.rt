@@ -28,7 +28,7 @@ pub struct Spot {
 /// leaves an empty place, until the address comes back or `sweep` is called.
 #[derive(Drop)]
 pub struct Slots<V: Drop + Ranked> {
-    map: IndexMap<Mac, Slot<V>, Keys>,
+    pub(crate) map: IndexMap<Mac, Slot<V>, Keys>,
     alloc: Global,
     count: usize,
     held: usize,

@@ -32,6 +32,8 @@ enum Step {
     Set(u8, u8, u32, bool),
     /// The values below this one go, and this is the least of those that are left.
     Sift(u64, u64),
+    /// The empty places go where there are this many places or more, and so many places are left.
+    Sweep(usize, usize),
     /// The last octets of the addresses that have a value, in order, as the digits of one number; and the sum of the values.
     Shows(u32, u32),
 }
@@ -122,6 +124,20 @@ const ROOM_SHOWS_NOWHERE: [Step; 11] = [
     Step::Set(1, 1, 11, true),
 ];
 
+// What goes leaves its place until there are as many as are asked for; then it goes too, and held places stay.
+const EMPTY_PLACES_GO: [Step; 10] = [
+    Step::Add(1, 10),
+    Step::Add(2, 20),
+    Step::Hold(3),
+    Step::Hold(1),
+    Step::Add(4, 12),
+    Step::Sift(15, 20),
+    Step::Sweep(5, 4),
+    Step::Sweep(4, 3),
+    Step::Sweep(0, 3),
+    Step::Shows(2, 20),
+];
+
 // Where memory runs out the table is as it was, and the call is repeated.
 fn add(slots: &mut Slots<u32>, last: u8, value: u32) -> bool {
     let key = mac(last);
@@ -181,6 +197,10 @@ fn obeys(slots: &mut Slots<u32>, step: Step) -> bool {
             slots.sweep(2);
             slots.sift(limit) == least && slots.least_rank() == least
         }
+        Step::Sweep(most, left) => {
+            slots.sweep(most);
+            slots.map.len() == left
+        }
         Step::Shows(order, sum) => shows(slots, order, sum),
     }
 }
@@ -214,6 +234,11 @@ fn held_places_are_given_up(rt: HostRuntime) {
 #[test]
 fn room_shows_nowhere(rt: HostRuntime) {
     assert!(rt; first_wrong(rt.alloc(), ROOM_SHOWS_NOWHERE.as_slice()).is_none());
+}
+
+#[test]
+fn empty_places_go(rt: HostRuntime) {
+    assert!(rt; first_wrong(rt.alloc(), EMPTY_PLACES_GO.as_slice()).is_none());
 }
 
 // How many of 100 addresses stand in a table under these keys, with as many places held between them.
@@ -280,6 +305,38 @@ fn keys_take_all_octets(rt: HostRuntime) {
     let drawn = number_under(&source, address);
     let refused = number_under(&source, address);
     assert!(rt; (fixed, drawn, refused) == (0x7f89_9125_eeb8_f22f, 0x6ee6_7cea_53a4_e087, 0));
+}
+
+// The numbers by which a table under these keys and its clone place an address.
+fn numbers_in_tables(alloc: Global, keys: Keys, address: Mac) -> Option<(u64, u64)> {
+    let slots: Slots<u32> = Slots::with_keys(alloc, keys);
+    let clone = match slots.try_clone(alloc) {
+        Ok(clone) => clone,
+        Err(_) => slots.try_clone(alloc).ok()?,
+    };
+    Some((
+        slots.map.hasher().hash_one(address),
+        clone.map.hasher().hash_one(address),
+    ))
+}
+
+// Of no answer can be told under which keys a table stands, so this looks at them.
+#[test]
+fn a_table_and_its_clone_keep_their_keys(rt: HostRuntime) {
+    let address = Mac([2, 0, 0, 0, 0x12, 0x34]);
+    let source = Counting {
+        calls: std::cell::Cell::new(0),
+    };
+    let keys = Keys::new(&source).unwrap_or(Keys::FIXED);
+    let number = 0x6ee6_7cea_53a4_e087;
+    assert!(rt; numbers_in_tables(rt.alloc(), keys, address) == Some((number, number)));
+}
+
+// Keys are secret.
+#[test]
+fn keys_show_nothing(rt: HostRuntime) {
+    let shown = format!(in rt.alloc(); "{:?}", Keys::FIXED);
+    assert!(rt; shown.is_ok_and(|text| text.as_str() == "Keys"));
 }
 
 fn sendable<T: Send>(_value: &T) {}
