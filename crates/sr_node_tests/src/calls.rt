@@ -1,96 +1,61 @@
 //! The calls of a node that the steps make. Where a growth is refused, nothing may have changed, and the call is made again.
+//!
+//! What costs is an owned value that is alive over branches: so each function here has one at most, and answers a plain
+//! value. Whatever may want memory twice is a function that answers None for want of it, and its caller asks again.
 
-use crate::frames::{Sent, life_check, octets_of, plain_form, untagged_form};
-use crate::steps::{Outcome, Taken, Told};
+use crate::steps::{Outcome, Told};
+use crate::ways::{decoded, ended, read, way_of};
 use sr_dup_table::DupFault;
-use sr_forwarding::{Framing, HsrFraming, Parcel, PlainFraming, PrpFraming, RoleKind};
 use sr_frame::{Frame, Mac, Port};
 use sr_node::{Answer, Event, Node, NodeImage, StepFault};
 use sr_node_table::{Alarm, Status};
-use sr_prp_trailer::Lan;
-use sr_sequence::Seq;
 use std::alloc::Global;
-
-/// The framings of the ports of a node of a PRP network, and of a node of a ring.
-const LAN_A: PrpFraming = PrpFraming {
-    lan: Lan::A,
-    net: 0,
-};
-
-const LAN_B: PrpFraming = PrpFraming {
-    lan: Lan::B,
-    net: 0,
-};
-
-const RING_A: HsrFraming = HsrFraming { path: 0 };
-
-const RING_B: HsrFraming = HsrFraming { path: 1 };
 
 const NO_MEMORY: Outcome = Outcome::Refused(StepFault::NoMemory);
 
-fn outcome_of(answer: &Answer) -> Outcome {
-    match answer {
-        Answer::Passed(ports) => match ports.as_slice() {
-            [] => Outcome::Nowhere,
-            [Port::H] => Outcome::Up,
-            [Port::H, Port::A] => Outcome::UpAndA,
-            [Port::H, Port::B] => Outcome::UpAndB,
-            [port] => Outcome::To(*port),
-            _ => Outcome::Other,
-        },
-        Answer::Own => Outcome::Own,
-        Answer::Sent(seq) => Outcome::Sent(seq.0),
-        Answer::Ticked {
-            sources,
-            nodes: 0,
-            proxies: 0,
-            life,
-        } => Outcome::Ticked(*sources, *life),
-        Answer::Ticked { nodes, .. } => Outcome::Forgot(*nodes),
-        _ => Outcome::Other,
-    }
-}
-
-fn ended(call: Result<Answer, StepFault>) -> Outcome {
-    match call {
-        Ok(answer) => outcome_of(&answer),
-        Err(fault) => Outcome::Refused(fault),
-    }
-}
-
-/// The node as data. Want of memory for it is met by another try.
-fn image_of(node: &Node) -> Option<NodeImage> {
+// Whether a node is as it was. None for want of memory.
+fn is_still(node: &Node, before: &NodeImage) -> Option<bool> {
     match node.image() {
-        Ok(image) => Some(image),
-        Err(_) => node.image().ok(),
+        Ok(image) => Some(image == *before),
+        Err(_) => None,
     }
 }
 
-/// Whether a node is as it was.
-fn is_as(node: &Node, before: Option<NodeImage>) -> bool {
-    match (image_of(node), before) {
-        (Some(image), Some(before)) => image == before,
-        _ => false,
+/// Whether a node is as it was. Want of memory for its image is met by another try.
+fn is_as(node: &Node, before: &NodeImage) -> bool {
+    match is_still(node, before) {
+        Some(is_same) => is_same,
+        None => is_still(node, before) == Some(true),
     }
 }
 
-fn read(node: &mut Node, port: Port, octets: &[u8], now: u64) -> Outcome {
-    ended(match (node.kind(), port) {
-        (RoleKind::Danp, Port::A) => node.arrive(&LAN_A, port, octets, now),
-        (RoleKind::Danp, Port::B) => node.arrive(&LAN_B, port, octets, now),
-        (RoleKind::Danh, Port::A) => node.arrive(&RING_A, port, octets, now),
-        (RoleKind::Danh, Port::B) => node.arrive(&RING_B, port, octets, now),
-        _ => node.arrive(&PlainFraming, port, octets, now),
-    })
+// The outcome, where a refusal left the node as it was.
+fn unchanged_or(node: &Node, before: &NodeImage, outcome: Outcome) -> Outcome {
+    if matches!(outcome, Outcome::Refused(_)) && !is_as(node, before) {
+        Outcome::Changed
+    } else {
+        outcome
+    }
+}
+
+fn read_from(node: &mut Node, before: &NodeImage, port: Port, octets: &[u8], now: u64) -> Outcome {
+    let outcome = read(node, port, octets, now);
+    unchanged_or(node, before, outcome)
+}
+
+// None for want of memory for the image.
+fn read_beside(node: &mut Node, port: Port, octets: &[u8], now: u64) -> Option<Outcome> {
+    match node.image() {
+        Ok(before) => Some(read_from(node, &before, port, octets, now)),
+        Err(_) => None,
+    }
 }
 
 /// Octets come in, and a refusal leaves the node as it was.
 fn read_whole(node: &mut Node, port: Port, octets: &[u8], now: u64) -> Outcome {
-    let before = image_of(node);
-    let outcome = read(node, port, octets, now);
-    match outcome {
-        Outcome::Refused(_) if !is_as(node, before) => Outcome::Changed,
-        _ => outcome,
+    match read_beside(node, port, octets, now) {
+        Some(outcome) => outcome,
+        None => read_beside(node, port, octets, now).unwrap_or(Outcome::Changed),
     }
 }
 
@@ -110,23 +75,35 @@ pub fn arrive_of_many(node: &mut Node, port: Port, octets: &[u8], now: u64) -> O
     }
 }
 
-/// An event, and a refusal leaves the node as it was.
-fn step_whole(node: &mut Node, event: &Event) -> Outcome {
-    let before = image_of(node);
+fn step_from(node: &mut Node, before: &NodeImage, event: &Event) -> Outcome {
     let outcome = ended(node.step(event));
-    match outcome {
-        Outcome::Refused(_) if !is_as(node, before) => Outcome::Changed,
-        _ => outcome,
+    unchanged_or(node, before, outcome)
+}
+
+// None for want of memory for the image.
+fn step_beside(node: &mut Node, event: &Event) -> Option<Outcome> {
+    match node.image() {
+        Ok(before) => Some(step_from(node, &before, event)),
+        Err(_) => None,
     }
 }
 
-/// An event, which `check` refuses as `step` does.
-fn happens(node: &mut Node, event: &Event) -> Outcome {
-    let checked = node.check(event);
-    let outcome = match step_whole(node, event) {
+/// An event, and a refusal leaves the node as it was.
+fn step_whole(node: &mut Node, event: &Event) -> Outcome {
+    match step_beside(node, event) {
+        Some(outcome) => outcome,
+        None => step_beside(node, event).unwrap_or(Outcome::Changed),
+    }
+}
+
+fn step_again(node: &mut Node, event: &Event) -> Outcome {
+    match step_whole(node, event) {
         NO_MEMORY => step_whole(node, event),
         outcome => outcome,
-    };
+    }
+}
+
+fn agreed(checked: Result<(), StepFault>, outcome: Outcome) -> Outcome {
     match (checked, outcome) {
         (Ok(()), Outcome::Refused(_)) => Outcome::Other,
         (Ok(()), outcome) => outcome,
@@ -135,21 +112,51 @@ fn happens(node: &mut Node, event: &Event) -> Outcome {
     }
 }
 
-/// Taking over: why it was refused, if it was. None where the refusal changed the node.
-fn absorb_whole(node: &mut Node, other: &Node) -> Option<Option<DupFault>> {
-    let before = image_of(node);
-    let refusal = node.absorb(other).err();
-    if refusal.is_some() && !is_as(node, before) {
-        return None;
+/// An event, which `check` refuses as `step` does.
+fn happens(node: &mut Node, event: &Event) -> Outcome {
+    let checked = node.check(event);
+    let outcome = step_again(node, event);
+    agreed(checked, outcome)
+}
+
+/// What taking over came to.
+#[derive(Clone, Copy, PartialEq, Eq)]
+pub enum Absorbed {
+    Whole,
+    Refused(DupFault),
+    /// It was refused, and the node is another than it was.
+    Changed,
+}
+
+fn absorb_from(node: &mut Node, before: &NodeImage, other: &Node) -> Absorbed {
+    match node.absorb(other) {
+        Ok(()) => Absorbed::Whole,
+        Err(fault) if is_as(node, before) => Absorbed::Refused(fault),
+        Err(_) => Absorbed::Changed,
     }
-    Some(refusal)
+}
+
+// None for want of memory for the image.
+fn absorb_beside(node: &mut Node, other: &Node) -> Option<Absorbed> {
+    match node.image() {
+        Ok(before) => Some(absorb_from(node, &before, other)),
+        Err(_) => None,
+    }
+}
+
+/// Taking over, and a refusal leaves the node as it was.
+fn absorb_whole(node: &mut Node, other: &Node) -> Absorbed {
+    match absorb_beside(node, other) {
+        Some(absorbed) => absorbed,
+        None => absorb_beside(node, other).unwrap_or(Absorbed::Changed),
+    }
 }
 
 /// Taking over.
-pub fn absorb(node: &mut Node, other: &Node) -> Option<Option<DupFault>> {
+pub fn absorb(node: &mut Node, other: &Node) -> Absorbed {
     match absorb_whole(node, other) {
-        Some(Some(DupFault::NoMemory)) => absorb_whole(node, other),
-        outcome => outcome,
+        Absorbed::Refused(DupFault::NoMemory) => absorb_whole(node, other),
+        absorbed => absorbed,
     }
 }
 
@@ -158,36 +165,40 @@ pub fn tick(node: &mut Node, now: u64) -> Outcome {
     happens(node, &Event::Tick { now })
 }
 
-fn decoded(alloc: Global, kind: RoleKind, port: Port, octets: &[u8]) -> Option<Parcel> {
-    let parcel = match (kind, port) {
-        (RoleKind::Danp, Port::A) => LAN_A.decode(alloc, octets),
-        (RoleKind::Danp, Port::B) => LAN_B.decode(alloc, octets),
-        (RoleKind::Danh, Port::A) => RING_A.decode(alloc, octets),
-        (RoleKind::Danh, Port::B) => RING_B.decode(alloc, octets),
-        _ => PlainFraming.decode(alloc, octets),
-    };
-    parcel.ok()
+fn clone_happens_once(alloc: Global, node: &mut Node, event: &Event) -> Option<Outcome> {
+    match event.try_clone(alloc) {
+        Ok(clone) => Some(happens(node, &clone)),
+        Err(_) => None,
+    }
 }
 
-/// A clone of the event happens.
+/// A clone of the event happens. Want of memory for it is met by another try.
 fn clone_happens(alloc: Global, node: &mut Node, event: &Event) -> Outcome {
-    for _ in 0..2 {
-        if let Ok(clone) = event.try_clone(alloc) {
-            return happens(node, &clone);
-        }
+    match clone_happens_once(alloc, node, event) {
+        Some(outcome) => outcome,
+        None => clone_happens_once(alloc, node, event).unwrap_or(Outcome::Other),
     }
-    Outcome::Other
 }
 
-/// Octets are decoded, and come in as an event.
-pub fn hand(alloc: Global, node: &mut Node, port: Port, octets: &[u8], now: u64) -> Outcome {
-    let kind = node.kind();
-    for _ in 0..2 {
-        if let Some(parcel) = decoded(alloc, kind, port, octets) {
-            return clone_happens(alloc, node, &Event::Arrive { port, parcel, now });
-        }
+fn hand_once(
+    alloc: Global,
+    node: &mut Node,
+    port: Port,
+    octets: &[u8],
+    now: u64,
+) -> Option<Outcome> {
+    match decoded(alloc, way_of(node.kind(), port), octets) {
+        Some(parcel) => Some(clone_happens(alloc, node, &Event::Arrive { port, parcel, now })),
+        None => None,
     }
-    Outcome::Other
+}
+
+/// Octets are decoded, and come in as an event. Want of memory for the parcel is met by another try.
+pub fn hand(alloc: Global, node: &mut Node, port: Port, octets: &[u8], now: u64) -> Outcome {
+    match hand_once(alloc, node, port, octets, now) {
+        Some(outcome) => outcome,
+        None => hand_once(alloc, node, port, octets, now).unwrap_or(Outcome::Other),
+    }
 }
 
 /// A frame of zeros behind its addresses, as long as a frame may be.
@@ -199,16 +210,21 @@ fn zeros_between(dst: Mac, src: Mac) -> [u8; 1524] {
     octets
 }
 
+fn send_once(alloc: Global, node: &mut Node, octets: &[u8], now: u64) -> Option<Outcome> {
+    match Frame::copy(alloc, octets) {
+        Ok(frame) => Some(happens(node, &Event::Send { frame, now })),
+        Err(_) => None,
+    }
+}
+
 /// The host sends. Want of memory for the frame itself is met by another try.
 pub fn send(alloc: Global, node: &mut Node, dst: Mac, src: Mac, len: usize, now: u64) -> Outcome {
     let octets = zeros_between(dst, src);
     let sent = &octets[..len.min(1524)];
-    for _ in 0..2 {
-        if let Ok(frame) = Frame::copy(alloc, sent) {
-            return happens(node, &Event::Send { frame, now });
-        }
+    match send_once(alloc, node, sent, now) {
+        Some(outcome) => outcome,
+        None => send_once(alloc, node, sent, now).unwrap_or(Outcome::Other),
     }
-    Outcome::Other
 }
 
 /// What comes of a frame of zeros of this length.
@@ -224,91 +240,34 @@ pub fn arrive_zeros(
     arrive(node, port, &octets[..len.min(1525)], now)
 }
 
-fn written(alloc: Global, kind: RoleKind, port: Port, parcel: &Parcel) -> Option<Frame> {
-    let frame = match (kind, port) {
-        (RoleKind::Danp, Port::A) => LAN_A.encode(alloc, parcel),
-        (RoleKind::Danp, Port::B) => LAN_B.encode(alloc, parcel),
-        (RoleKind::Danh, Port::A) => RING_A.encode(alloc, parcel),
-        (RoleKind::Danh, Port::B) => RING_B.encode(alloc, parcel),
-        _ => PlainFraming.encode(alloc, parcel),
-    };
-    frame.ok()
-}
-
-/// Whether a parcel goes out at the port as these octets.
-fn goes_as(alloc: Global, kind: RoleKind, port: Port, parcel: &Parcel, octets: &[u8]) -> bool {
-    for _ in 0..2 {
-        if let Some(frame) = written(alloc, kind, port, parcel) {
-            return frame.octets() == octets;
-        }
-    }
-    false
-}
-
-fn is_as_wanted(alloc: Global, kind: RoleKind, port: Port, parcel: &Parcel, wanted: Taken) -> bool {
-    match wanted {
-        Taken::Nothing => false,
-        Taken::Something => true,
-        Taken::Plain(sent, seq, path, wrong_lan) => goes_as(
-            alloc,
-            kind,
-            port,
-            parcel,
-            plain_form(&octets_of(sent)),
-        ) && parcel.seq() == Some(Seq(seq))
-            && parcel.path() == path
-            && parcel.wrong_lan() == wrong_lan,
-        Taken::Whole(sent) => goes_as(alloc, kind, port, parcel, &octets_of(sent))
-            && parcel.seq().is_none(),
-        Taken::As(sent) => goes_as(alloc, kind, port, parcel, &octets_of(sent)),
-        Taken::Untagged(sent) => goes_as(
-            alloc,
-            kind,
-            port,
-            parcel,
-            untagged_form(octets_of(sent)).as_slice(),
-        ),
-        Taken::Life(seq, life_seq) => {
-            let lan = if port == Port::A { 0xa0 } else { 0xb0 };
-            goes_as(
-                alloc,
-                kind,
-                port,
-                parcel,
-                life_check(seq, life_seq, lan).as_slice(),
-            )
-        }
-    }
-}
-
-/// Whether what is taken out is as wanted, and was seen before.
-pub fn takes(alloc: Global, node: &mut Node, port: Port, wanted: Taken) -> bool {
-    let kind = node.kind();
-    let seen = node.front(port).is_some();
-    match node.take(port) {
-        None => !seen && matches!(&wanted, Taken::Nothing),
-        Some(parcel) => seen && is_as_wanted(alloc, kind, port, &parcel, wanted),
+fn knows_now(node: &Node, wanted: &[Mac]) -> Option<bool> {
+    match node.nodes() {
+        Ok(nodes) => Some(nodes.as_slice() == wanted),
+        Err(_) => None,
     }
 }
 
 /// Whether these nodes are known, in this order. Want of memory is met by another try.
 pub fn knows(node: &Node, wanted: &[Mac]) -> bool {
-    for _ in 0..2 {
-        if let Ok(nodes) = node.nodes() {
-            return nodes.as_slice() == wanted;
-        }
+    match knows_now(node, wanted) {
+        Some(is_so) => is_so,
+        None => knows_now(node, wanted) == Some(true),
     }
-    false
+}
+
+fn alarmed_now(node: &Node, wanted: &[Alarm]) -> Option<bool> {
+    match node.alarms() {
+        Ok(alarms) => Some(alarms.as_slice() == wanted),
+        Err(_) => None,
+    }
 }
 
 /// Whether these alarms are kept, in this order. Want of memory is met by another try.
 pub fn alarmed(node: &Node, wanted: &[Alarm]) -> bool {
-    for _ in 0..2 {
-        if let Ok(alarms) = node.alarms() {
-            return alarms.as_slice() == wanted;
-        }
+    match alarmed_now(node, wanted) {
+        Some(is_so) => is_so,
+        None => alarmed_now(node, wanted) == Some(true),
     }
-    false
 }
 
 /// What is told of a node: the ages and the numbers at A and B, and the RedBox.
@@ -324,13 +283,28 @@ pub fn told_of(node: &Node, mac: Mac) -> Option<Told> {
     Some(Told(if1_age, if2_age, if1_seq, if2_seq, redbox))
 }
 
+/// What a take by an event gave.
+#[derive(Clone, Copy, PartialEq, Eq)]
+enum Given {
+    Parcel,
+    Nothing,
+    Other,
+}
+
+fn given_by_event(node: &mut Node, port: Port) -> Given {
+    match node.step(&Event::Take { port }) {
+        Ok(Answer::Taken(Some(_))) => Given::Parcel,
+        Ok(Answer::Taken(None)) => Given::Nothing,
+        _ => Given::Other,
+    }
+}
+
 /// Whether a take that is handed over as an event gives what is seen.
 pub fn takes_by_event(node: &mut Node, port: Port) -> bool {
     let waiting = node.waiting(port);
-    let answer = node.step(&Event::Take { port });
-    match answer {
-        Ok(Answer::Taken(Some(_))) => node.waiting(port) + 1 == waiting,
-        Ok(Answer::Taken(None)) => waiting == 0,
-        _ => false,
+    match given_by_event(node, port) {
+        Given::Parcel => waiting.checked_sub(1) == Some(node.waiting(port)),
+        Given::Nothing => waiting == 0,
+        Given::Other => false,
     }
 }

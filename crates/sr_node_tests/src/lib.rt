@@ -10,9 +10,15 @@ mod example;
 #[cfg(test)]
 mod frames;
 #[cfg(test)]
+mod makers;
+#[cfg(test)]
+mod many;
+#[cfg(test)]
 mod nodes;
 #[cfg(test)]
 mod noted;
+#[cfg(test)]
+mod others;
 #[cfg(test)]
 mod rings;
 #[cfg(test)]
@@ -20,4 +26,8 @@ mod standbys;
 #[cfg(test)]
 mod steps;
 #[cfg(test)]
+mod taken;
+#[cfg(test)]
 mod ticks;
+#[cfg(test)]
+mod ways;

@@ -2,12 +2,15 @@
 //! No test holds a node, an answer or a parcel itself, which would make its proof long.
 
 use crate::calls::{
-    absorb, alarmed, arrive, arrive_of_many, arrive_zeros, hand, knows, send, takes,
-    takes_by_event, tick, told_of,
+    alarmed, arrive, arrive_zeros, hand, knows, send, takes_by_event, tick, told_of,
 };
-use crate::frames::{OTHER, OWN, Sent, octets_of};
+use crate::frames::{OWN, Sent, octets_of};
+use crate::makers::{danh, danp};
+use crate::many::{fills, hears_sources, lives};
+use crate::others::{absorbs, becomes};
+use crate::taken::takes;
 use sr_dup_table::DupFault;
-use sr_forwarding::{Danh, Danp, Role, RoleKind};
+use sr_forwarding::RoleKind;
 use sr_frame::{Mac, Port};
 use sr_node::{Node, StepFault};
 use sr_node_table::Alarm;
@@ -109,130 +112,76 @@ pub enum Step {
     LifeChecks(u16),
 }
 
-/// Whether the node takes this role of its address, and hands back one of this kind; one of another address is handed
-/// back itself.
-fn swaps(node: &mut Node, other: Box<dyn Role + Send>, next: Box<dyn Role + Send>) -> bool {
-    let (before, after) = (node.kind(), next.kind());
-    let refused = match node.replace_role(other) {
-        Ok(_) => false,
-        Err(given) => given.mac() == OTHER,
-    };
-    let given = match node.replace_role(next) {
-        Ok(old) => old.kind() == before && old.mac() == OWN,
-        Err(_) => false,
-    };
-    refused && given && node.kind() == after && node.mac() == OWN
-}
-
-/// Whether the node becomes one of a ring.
-fn becomes_danh(alloc: Global, node: &mut Node) -> bool {
-    let Ok(danh) = Box::new(alloc, Danh::new(OWN)) else {
-        return false;
-    };
-    let next: Box<dyn Role + Send> = danh;
-    let Ok(stranger) = Box::new(alloc, Danh::new(OTHER)) else {
-        return false;
-    };
-    let other: Box<dyn Role + Send> = stranger;
-    swaps(node, other, next)
-}
-
-/// Whether the node becomes one of a PRP network.
-fn becomes_danp(alloc: Global, node: &mut Node) -> bool {
-    let Ok(danp) = Box::new(alloc, Danp::new(OWN)) else {
-        return false;
-    };
-    let next: Box<dyn Role + Send> = danp;
-    let Ok(stranger) = Box::new(alloc, Danp::new(OTHER)) else {
-        return false;
-    };
-    let other: Box<dyn Role + Send> = stranger;
-    swaps(node, other, next)
-}
-
-/// Whether the node gets a role of its address and of this kind. Want of memory for a box is met by another try.
-fn becomes(alloc: Global, node: &mut Node, kind: RoleKind) -> bool {
-    match kind {
-        RoleKind::Danp => becomes_danp(alloc, node) || becomes_danp(alloc, node),
-        RoleKind::Danh => becomes_danh(alloc, node) || becomes_danh(alloc, node),
-        _ => false,
-    }
-}
-
-/// Another node of the address, which heard this frame. None for want of memory.
-fn hearer(alloc: Global, sent: Sent, now: u64) -> Option<Node> {
-    let danp = Box::new(alloc, Danp::new(OWN)).ok()?;
-    let role: Box<dyn Role + Send> = danp;
-    let mut other = Node::new(alloc, role).ok()?;
-    if arrive_of_many(&mut other, Port::A, &octets_of(sent), now) != Outcome::Up {
-        return None;
-    }
-    Some(other)
-}
-
-/// Whether taking over comes to this. Want of memory for the other node is met by another try.
-fn absorbs(alloc: Global, node: &mut Node, sent: Sent, now: u64, wanted: Option<DupFault>) -> bool {
-    for _ in 0..2 {
-        if let Some(other) = hearer(alloc, sent, now) {
-            return absorb(node, &other) == Some(wanted);
-        }
-    }
-    false
-}
-
-fn fills(node: &mut Node, count: u16, now: u64) -> bool {
-    (0..count).all(|seq| {
-        arrive_of_many(node, Port::A, &octets_of(Sent::InA(seq)), now) == Outcome::Up
-    })
-}
-
-fn hears_sources(node: &mut Node, count: u16) -> bool {
-    (0..count).all(|number| {
-        arrive_of_many(node, Port::A, &octets_of(Sent::OfSource(number)), 0) == Outcome::Up
-            && node.take(Port::H).is_some()
-    })
-}
-
-fn lives(node: &mut Node, count: u16) -> bool {
-    (0..count).all(|number| {
-        let wanted = Outcome::Ticked(0, Some(Seq(64511u16.wrapping_add(number))));
-        tick(node, 2000 * u64::from(number)) == wanted
-    })
-}
-
-fn goes(alloc: Global, node: &mut Node, step: Step) -> bool {
+// What a node answers without a change. None of another step.
+fn is_so(node: &Node, step: Step) -> Option<bool> {
     match step {
-        Step::In(port, sent, now, wanted) => arrive(node, port, &octets_of(sent), now) == wanted,
-        Step::Handed(port, sent, now, wanted) => hand(alloc, node, port, &octets_of(sent), now)
-            == wanted,
-        Step::Cut(port, sent, len, now, wanted) => arrive(
-            node,
-            port,
-            &octets_of(sent)[..len.min(66)],
-            now,
-        ) == wanted,
-        Step::WrongLan(port, wanted) => node.wrong_lan(port) == wanted,
-        Step::Become(kind) => becomes(alloc, node, kind),
-        Step::Knows(wanted) => knows(node, wanted),
-        Step::Status(mac, wanted) => told_of(node, mac) == wanted,
-        Step::Alarms(wanted) => alarmed(node, wanted),
-        Step::TakeEvent(port) => takes_by_event(node, port),
-        Step::Zeros(port, len, first, now, wanted) => arrive_zeros(node, port, len, first, now)
-            == wanted,
-        Step::Tick(now, wanted) => tick(node, now) == wanted,
-        Step::Send(dst, src, len, now, wanted) => send(alloc, node, dst, src, len, now) == wanted,
+        Step::WrongLan(port, wanted) => Some(node.wrong_lan(port) == wanted),
+        Step::Knows(wanted) => Some(knows(node, wanted)),
+        Step::Status(mac, wanted) => Some(told_of(node, mac) == wanted),
+        Step::Alarms(wanted) => Some(alarmed(node, wanted)),
+        Step::Waiting(port, wanted) => Some(node.waiting(port) == wanted),
+        Step::Time(wanted) => Some(node.time() == wanted),
+        _ => None,
+    }
+}
+
+fn arrive_cut(node: &mut Node, port: Port, sent: Sent, len: usize, now: u64) -> Outcome {
+    arrive(node, port, &octets_of(sent)[..len.min(66)], now)
+}
+
+// What an event comes to, and what it has to come to. None of another step.
+fn comes_to(alloc: Global, node: &mut Node, step: Step) -> Option<(Outcome, Outcome)> {
+    match step {
+        Step::In(port, sent, now, wanted) => {
+            Some((arrive(node, port, &octets_of(sent), now), wanted))
+        }
+        Step::Handed(port, sent, now, wanted) => {
+            Some((hand(alloc, node, port, &octets_of(sent), now), wanted))
+        }
+        Step::Cut(port, sent, len, now, wanted) => {
+            Some((arrive_cut(node, port, sent, len, now), wanted))
+        }
+        Step::Zeros(port, len, first, now, wanted) => {
+            Some((arrive_zeros(node, port, len, first, now), wanted))
+        }
+        Step::Tick(now, wanted) => Some((tick(node, now), wanted)),
+        Step::Send(dst, src, len, now, wanted) => {
+            Some((send(alloc, node, dst, src, len, now), wanted))
+        }
+        _ => None,
+    }
+}
+
+// Whether what else is done to a node succeeds.
+fn succeeds(alloc: Global, node: &mut Node, step: Step) -> bool {
+    match step {
         Step::Take(port, wanted) => takes(alloc, node, port, wanted),
-        Step::Waiting(port, wanted) => node.waiting(port) == wanted,
-        Step::Time(wanted) => node.time() == wanted,
+        Step::TakeEvent(port) => takes_by_event(node, port),
+        Step::Become(kind) => becomes(alloc, node, kind),
         Step::Absorb(sent, now, wanted) => absorbs(alloc, node, sent, now, wanted),
         Step::Fill(count, now) => fills(node, count, now),
         Step::Sources(count) => hears_sources(node, count),
         Step::LifeChecks(count) => lives(node, count),
+        _ => false,
     }
 }
 
-/// The place of the first step at which a node differs.
+// A match of all steps at once would be dear: each of its arms has the node.
+fn goes(alloc: Global, node: &mut Node, step: Step) -> bool {
+    if let Some(is_right) = is_so(node, step) {
+        return is_right;
+    }
+    match comes_to(alloc, node, step) {
+        Some((outcome, wanted)) => outcome == wanted,
+        None => succeeds(alloc, node, step),
+    }
+}
+
+/// The place of the first step at which a node differs, and the number of steps where it has not its address.
 fn first_wrong_of(alloc: Global, node: &mut Node, steps: &[Step]) -> Option<usize> {
+    if node.mac() != OWN {
+        return Some(steps.len());
+    }
     for (place, step) in steps.iter().enumerate() {
         if !goes(alloc, node, *step) {
             return Some(place);
@@ -241,55 +190,50 @@ fn first_wrong_of(alloc: Global, node: &mut Node, steps: &[Step]) -> Option<usiz
     None
 }
 
-/// The place of the first step at which a new node of this kind differs, or None, and the number of steps where it
+/// The place of the first step at which a new node of a PRP network differs, or None, and the number of steps where it
 /// is no node with its address.
 fn first_wrong_of_danp(alloc: Global, steps: &[Step]) -> Option<usize> {
-    let Ok(danp) = Box::new(alloc, Danp::new(OWN)) else {
-        return Some(steps.len());
-    };
-    let role: Box<dyn Role + Send> = danp;
-    let Ok(mut node) = Node::new(alloc, role) else {
-        return Some(steps.len());
-    };
-    if node.mac() == OWN {
-        first_wrong_of(alloc, &mut node, steps)
-    } else {
-        Some(steps.len())
+    match danp(alloc) {
+        Some(mut node) => first_wrong_of(alloc, &mut node, steps),
+        None => Some(steps.len()),
     }
 }
 
-/// The place of the first step at which a new node of this kind differs, or None, and the number of steps where it
-/// is no node with its address.
+/// So for a new node of a ring.
 fn first_wrong_of_danh(alloc: Global, steps: &[Step]) -> Option<usize> {
-    let Ok(danh) = Box::new(alloc, Danh::new(OWN)) else {
-        return Some(steps.len());
-    };
-    let role: Box<dyn Role + Send> = danh;
-    let Ok(mut node) = Node::new(alloc, role) else {
-        return Some(steps.len());
-    };
-    if node.mac() == OWN {
-        first_wrong_of(alloc, &mut node, steps)
-    } else {
-        Some(steps.len())
+    match danh(alloc) {
+        Some(mut node) => first_wrong_of(alloc, &mut node, steps),
+        None => Some(steps.len()),
     }
 }
 
-/// Fails the test at the place of the first step at which a new node of a PRP network differs. Where a growth is refused
-/// as the node is made, it is made again.
-pub fn expect_steps<R: Abort + AllocGlobal>(rt: &R, steps: &[Step]) {
-    let mut wrong = first_wrong_of_danp(rt.alloc(), steps);
+// Where a growth is refused as the node is made, it is made again.
+fn wrong_danp(alloc: Global, steps: &[Step]) -> Option<usize> {
+    let wrong = first_wrong_of_danp(alloc, steps);
     if wrong == Some(steps.len()) {
-        wrong = first_wrong_of_danp(rt.alloc(), steps);
+        first_wrong_of_danp(alloc, steps)
+    } else {
+        wrong
     }
+}
+
+fn wrong_danh(alloc: Global, steps: &[Step]) -> Option<usize> {
+    let wrong = first_wrong_of_danh(alloc, steps);
+    if wrong == Some(steps.len()) {
+        first_wrong_of_danh(alloc, steps)
+    } else {
+        wrong
+    }
+}
+
+/// Fails the test at the place of the first step at which a new node of a PRP network differs.
+pub fn expect_steps<R: Abort + AllocGlobal>(rt: &R, steps: &[Step]) {
+    let wrong = wrong_danp(rt.alloc(), steps);
     assert_eq!(rt; wrong, None);
 }
 
 /// So for a new node of a ring.
 pub fn expect_ring_steps<R: Abort + AllocGlobal>(rt: &R, steps: &[Step]) {
-    let mut wrong = first_wrong_of_danh(rt.alloc(), steps);
-    if wrong == Some(steps.len()) {
-        wrong = first_wrong_of_danh(rt.alloc(), steps);
-    }
+    let wrong = wrong_danh(rt.alloc(), steps);
     assert_eq!(rt; wrong, None);
 }
