@@ -28,7 +28,7 @@ pub struct Spot {
 /// leaves an empty place, until the address comes back or `sweep` is called.
 #[derive(Drop)]
 pub struct Slots<V: Drop + Ranked> {
-    pub(crate) map: IndexMap<Mac, Slot<V>, Keys>,
+    map: IndexMap<Mac, Slot<V>, Keys>,
     alloc: Global,
     count: usize,
     held: usize,
@@ -258,6 +258,14 @@ impl<V: Drop + Ranked> Slots<V> {
         if self.map.len() >= most {
             places::sweep(&mut self.map);
         }
+    }
+}
+
+#[cfg(test)]
+impl<V: Drop + Ranked> Slots<V> {
+    /// The map behind the table, which a test looks at for what no answer tells.
+    pub(crate) fn map(&self) -> &IndexMap<Mac, Slot<V>, Keys> {
+        &self.map
     }
 }
 

@@ -199,7 +199,7 @@ fn obeys(slots: &mut Slots<u32>, step: Step) -> bool {
         }
         Step::Sweep(most, left) => {
             slots.sweep(most);
-            slots.map.len() == left
+            slots.map().len() == left
         }
         Step::Shows(order, sum) => shows(slots, order, sum),
     }
@@ -315,8 +315,8 @@ fn numbers_in_tables(alloc: Global, keys: Keys, address: Mac) -> Option<(u64, u6
         Err(_) => slots.try_clone(alloc).ok()?,
     };
     Some((
-        slots.map.hasher().hash_one(address),
-        clone.map.hasher().hash_one(address),
+        slots.map().hasher().hash_one(address),
+        clone.map().hasher().hash_one(address),
     ))
 }
 
