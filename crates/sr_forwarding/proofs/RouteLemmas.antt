@@ -1,4 +1,5 @@
--- Routes never have the inlet; those of a LAN have the host alone.
+-- Routes never have the inlet; those of a LAN have the host alone; those of a box for nodes without redundancy are nowhere
+-- where it owns the source.
 use Rattle.std.proofs.Common.{◌≡◌, ℕ, ◌==◌, ◌/◌, Bool, true, false, List, [], ◌∷◌, ◌++◌, refl}
 use Rattle.std.specs.Prelude.{if◌then◌else◌, ◌||◌}
 use Rattle.sr_frame.specs.declared.ports.Port.{Port}
@@ -8,9 +9,9 @@ use Rattle.sr_forwarding.specs.declared.outlets.Outlets.{Outlets}
 use Rattle.sr_forwarding.specs.declared.role_image.RoleImage.{RoleImage}
 use Rattle.sr_forwarding.specs.declared.role_image.RoleKind.{RoleKind}
 use Rattle.sr_forwarding.specs.declared.role_image.RoleKind.TheVariants.{Danp, Danh, San, Prp, Hsr}
-use Rattle.sr_forwarding.specs.Outlets.{has, to, ring}
-use Rattle.sr_forwarding.specs.RoleImages.{is_proxied}
-use Rattle.sr_forwarding.specs.Routes.{is_own, to_group, is_from_role, danp_from_lan, danh_from_ring, san_from_ring, box_from_ring, box_from_interlink, box_routes, routes_of, routes}
+use Rattle.sr_forwarding.specs.Outlets.{has, to, ring, is_nowhere}
+use Rattle.sr_forwarding.specs.RoleImages.{is_proxied, owned}
+use Rattle.sr_forwarding.specs.Routes.{is_own, to_group, is_from_role, danp_from_lan, danh_from_ring, san_from_ring, box_from_ring, box_from_interlink, box_routes, routes_of, routes, WantsAllButOwned}
 
 -- of sets that tests pick, none has a port
 pick1 : (a0 : Bool) (o0 o1 : Outlets) (p : Port) → has o0 p ≡ false → has o1 p ≡ false → has (if a0 then o0 else o1) p ≡ false
@@ -103,3 +104,22 @@ kind_no Hsr r h inlet now = box_linked_no r h inlet
 
 pub no_inlet : (r : RoleImage) (h : Header) (inlet : Port) (now : ℕ) → has (routes r h inlet now) inlet ≡ false
 no_inlet r h inlet now = kind_no r.kind r h inlet now
+
+-- of the lines of a RedBox for nodes that know no redundancy, the first alone sends a ring frame nowhere
+all_but_first : (owns says own group link known : Bool) (inlet : Port) → is_nowhere (to (ring inlet)) ≡ false → is_nowhere (to (H ∷ ring inlet ++ C ∷ [])) ≡ false → is_nowhere (to (ring inlet ++ C ∷ [])) ≡ false
+    → is_nowhere (if owns then to [] else if says then to (ring inlet) else if own then to (H ∷ []) else if group then to (H ∷ ring inlet ++ C ∷ []) else if link then to (C ∷ []) else if known then to (ring inlet) else to (ring inlet ++ C ∷ [])) ≡ owns
+all_but_first true says own group link known inlet around all on = refl
+all_but_first false true own group link known inlet around all on = around
+all_but_first false false true group link known inlet around all on = refl
+all_but_first false false false true link known inlet around all on = all
+all_but_first false false false false true known inlet around all on = refl
+all_but_first false false false false false true inlet around all on = around
+all_but_first false false false false false false inlet around all on = on
+
+san_at : (r : RoleImage) (h : Header) (inlet : Port) (now : ℕ) → is_nowhere (to (ring inlet)) ≡ false → is_nowhere (to (H ∷ ring inlet ++ C ∷ [])) ≡ false → is_nowhere (to (ring inlet ++ C ∷ [])) ≡ false
+    → is_nowhere (san_from_ring r h inlet now) ≡ owned r h.src now
+san_at r h inlet now around all on =
+    all_but_first (is_from_role r h || is_proxied r h.src now) h.supervision (is_own r h) (to_group h) (is_proxied r h.dst now) h.dst_known inlet around all on
+
+pub san_wants_all_but_owned : WantsAllButOwned San
+san_wants_all_but_owned r h now = (san_at r h A now refl refl refl, san_at r h B now refl refl refl)

@@ -33,6 +33,10 @@ outlets_where test = record { 0 = bit_if (test H) 1 + bit_if (test A) 2 + bit_if
 abbrev pub to : List Port → Outlets
 to ports = outlets_where (λ p. list_any (port_eq p) ports)
 
+-- the set has no port
+abbrev pub is_nowhere : Outlets → Bool
+is_nowhere o = o.0 == 0
+
 -- the ports of either set
 abbrev pub either : Outlets → Outlets → Outlets
 either o u = outlets_where (λ p. has o p || has u p)

@@ -1,7 +1,7 @@
 //! Roles as data.
 
-ghost use Rattle.std.specs.Prelude.{◌≡◌, false};
-ghost use Rattle.sr_forwarding.specs.Routes.{IgnoresKnown};
+ghost use Rattle.std.specs.Prelude.{◌≡◌, false, true};
+ghost use Rattle.sr_forwarding.specs.Routes.{IgnoresKnown, WantsAllButOwned};
 
 use sr_frame::Mac;
 use sr_prp_trailer::Lan;
@@ -37,6 +37,15 @@ impl RoleKind {
             RoleKind::San => true,
             RoleKind::Danp | RoleKind::Danh | RoleKind::Prp { .. } | RoleKind::Hsr => false,
         }
+    }
+
+    /// Whether such a role wants a frame from A or B nowhere exactly where it owns the source: then the routes tell whether it
+    /// does, and its addresses need not be asked again.
+    #[tactic(auto, using(crate::proofs::RouteLemmas::san_wants_all_but_owned))]
+    pub fn wants_all_but_owned(self) -> bool
+        ensures { result ≡ true → WantsAllButOwned self }
+    {
+        matches!(self, RoleKind::San)
     }
 }
 

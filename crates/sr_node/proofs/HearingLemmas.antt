@@ -1,22 +1,31 @@
--- A hearing leaves what the next one needs: a held place, or the address has an entry now, or there is no room for it.
-use Rattle.std.proofs.Common.{◌≡◌, Bool, true, false, [], ◌∷◌, ◌++◌, length, Option, None, Some, is_some, refl, sym, ap, ◌∙◌, subst, inl, inr, if◌then◌else◌}
+-- A hearing leaves what the next one needs: a held place, or the address has an entry now, or there is no room for it. Where a
+-- frame is wanted nowhere tells of some roles that they own its source.
+use Rattle.std.proofs.Common.{◌≡◌, ℕ, Bool, true, false, [], ◌∷◌, ◌++◌, length, Option, None, Some, is_some, refl, sym, ap, ◌∙◌, subst, inl, inr, if◌then◌else◌}
 use Rattle.std.specs.declared.result.Result.{Result}
 use Rattle.std.specs.declared.result.Result.TheVariants.{Ok}
 use Rattle.std.specs.Map.{lookup}
 use Rattle.sr_frame.specs.declared.fields.Mac.{Mac}
+use Rattle.sr_frame.specs.declared.ports.Port.{Port}
+use Rattle.sr_frame.specs.declared.ports.Port.TheVariants.{H, A, B, C}
 use Rattle.sr_frame.specs.Addresses.{mac_eq}
 use Rattle.sr_frame.specs.AddressLemmas.{mac_same, mac_laws}
 use Rattle.sr_sequence.specs.declared.Seq.{Seq}
 use Rattle.sr_frame.specs.declared.fault.NoMemory.{NoMemory}
 use Rattle.sr_frame.specs.declared.learnt.Learnt.{Learnt}
 use Rattle.sr_frame.specs.declared.learnt.Learnt.TheVariants.{Learned, Known, Full}
+use Rattle.sr_forwarding.specs.declared.header.Header.{Header}
+use Rattle.sr_forwarding.specs.declared.outlets.Outlets.{Outlets}
+use Rattle.sr_forwarding.specs.declared.role_image.RoleImage.{RoleImage}
+use Rattle.sr_forwarding.specs.Outlets.{is_nowhere}
+use Rattle.sr_forwarding.specs.RoleImages.{owned}
+use Rattle.sr_forwarding.specs.Routes.{routes, WantsAllButOwned}
 use Rattle.sr_slots.specs.EntryLemmas.{lookup-set}
 use Rattle.sr_slots.specs.Places.{KeepsHeld}
 use Rattle.sr_node_table.specs.Limits.{most_nodes}
 use Rattle.sr_node_table.specs.Nodes.{Nodes, Table, Entry, Entries, Hearing, is_held, live_others, entry_after, entry_begun, with_room, kept_by, after_answer, after_hearing, answer_to}
 use Rattle.sr_node_table.specs.declared.table.Ready.{Ready}
 use Rattle.sr_node_table.specs.declared.table.Ready.TheVariants as ready
-use Rattle.sr_node.specs.Hearing.{HasRoomFor, KeepsRoom, IsReadyFor}
+use Rattle.sr_node.specs.Hearing.{is_network, HasRoomFor, KeepsRoom, IsReadyFor}
 
 there : (m : Mac) (w : Entry) (es : Entries) → is_some (lookup (mac_eq m) (es ++ (m, w) ∷ [])) ≡ true
 there m w [] = ap (λ b. is_some (if b then Some w else None)) (mac_laws.refl m)
@@ -98,3 +107,11 @@ room_still old new mac answer ready.Held is same held keeps table src (Some seq)
   | inl before ↦ inl (held_still old new mac src keeps (held is) before)
   | inr there ↦ inr (ap (λ (t : Table). is_some (lookup (mac_eq src) t.entries)) table ∙ there)
 ]
+
+-- what such a role wants nowhere of the frames from a network is from a source that it owns
+pub owned_where_unwanted : (r : RoleImage) (h : Header) (known : Bool) (port : Port) (now : ℕ) (wanted : Outlets) → is_network port ≡ true → WantsAllButOwned r.kind
+    → wanted ≡ routes r (record h { dst_known = known }) port now → is_nowhere wanted ≡ owned r h.src now
+owned_where_unwanted r h known H now wanted network all asked = let bad : false ≡ true = network in cc
+owned_where_unwanted r h known A now wanted network all asked = ap is_nowhere asked ∙ (all r (record h { dst_known = known }) now).0
+owned_where_unwanted r h known B now wanted network all asked = ap is_nowhere asked ∙ (all r (record h { dst_known = known }) now).1
+owned_where_unwanted r h known C now wanted network all asked = let bad : false ≡ true = network in cc

@@ -268,7 +268,7 @@ impl<R: Role> NodeOf<R> {
     {
         let next = self.core.next_at(port, &parcel);
         let going = numbered(port, parcel, self.core.next());
-        let heard = self.heard_in(port, header, said, now);
+        let heard = self.heard_in(port, header, wanted, said, now);
         let mut copies = no_copies();
         self.grow(
             port,

@@ -1,10 +1,15 @@
 //! What a node hears of other nodes.
 
-ghost use Rattle.std.specs.Prelude.{◌≡◌};
+ghost use Rattle.std.specs.Prelude.{◌≡◌, true};
+ghost use Rattle.sr_forwarding.specs.RoleImages.{owned};
+ghost use Rattle.sr_forwarding.specs.Routes.{routes};
+ghost use Rattle.sr_node.specs.Arriving.{header_told};
 ghost use Rattle.sr_node.specs.Hearing.{SaysOf, is_network, number_heard, announced};
+ghost use Rattle.sr_node.specs.Images.{node_state};
 
 use crate::NodeOf;
-use sr_forwarding::{Header, ParcelView, Role};
+use bitflags::Flags;
+use sr_forwarding::{Header, Outlets, ParcelView, Role};
 use sr_frame::Port;
 use sr_sequence::Seq;
 use sr_slots::Spot;
@@ -44,12 +49,31 @@ fn is_network(port: Port) -> bool
 }
 
 impl<R: Role> NodeOf<R> {
-    // The number under which the source of a frame is heard, if it is.
-    fn number_heard(&self, port: Port, header: &Header, now: u64) -> Option<Seq>
+    // Whether the role owns the source of a frame that is wanted there. It is asked only where its routes don't tell.
+    #[tactic(auto, using(crate::proofs::HearingLemmas::owned_where_unwanted))]
+    fn owns_source(&self, port: Port, header: &Header, wanted: Outlets, now: u64) -> bool
+        requires network { is_network port ≡ true }
+        requires asked { wanted ≡ routes (R.meaning self.now.role)
+            (header_told (node_state (R.meaning self.now.role) self.now.core) header.now now)
+            port now }
+        ensures { result ≡ owned (R.meaning self.now.role) header.now.src now }
+    {
+        if self.role.kind().wants_all_but_owned() {
+            wanted.is_empty()
+        } else {
+            self.role.owns(header.src, now)
+        }
+    }
+
+    // The number under which the source of a frame is heard that is wanted there, if it is.
+    fn number_heard(&self, port: Port, header: &Header, wanted: Outlets, now: u64) -> Option<Seq>
+        requires asked { wanted ≡ routes (R.meaning self.now.role)
+            (header_told (node_state (R.meaning self.now.role) self.now.core) header.now now)
+            port now }
         ensures { result
             ≡ number_heard (R.meaning self.now.role) port header.now.src header.now.seq now }
     {
-        if is_network(port) && !self.role.owns(header.src, now) {
+        if is_network(port) && !self.owns_source(port, header, wanted, now) {
             header.seq
         } else {
             None
@@ -73,20 +97,24 @@ impl<R: Role> NodeOf<R> {
         }
     }
 
-    /// What a frame from this port makes known that says this.
+    /// What a frame from this port makes known that is wanted there and says this.
     pub(crate) fn heard_in(
         &self,
         port: Port,
         header: &Header,
+        wanted: Outlets,
         said: Option<Supervision>,
         now: u64,
     ) -> Heard
+        requires asked { wanted ≡ routes (R.meaning self.now.role)
+            (header_told (node_state (R.meaning self.now.role) self.now.core) header.now now)
+            port now }
         ensures number { result.number
             ≡ number_heard (R.meaning self.now.role) port header.now.src header.now.seq now }
         ensures announced { result.announced
             ≡ announced (R.meaning self.now.role) port header.now.seq said }
     {
-        let number = self.number_heard(port, header, now);
+        let number = self.number_heard(port, header, wanted, now);
         let announced = self.announced(port, header, said);
         let source = match number {
             Some(_) => self.core.nodes().find(header.src),

@@ -1,7 +1,7 @@
 //! What boxes learn and forget, and for whom they stand.
 
-use sr_forwarding::{Header, Learnt, Port, Role};
-use sr_frame::Mac;
+use sr_forwarding::{Header, Learnt, Port, Role, RoleImage};
+use sr_frame::{Mac, NoMemory};
 use sr_redbox::SanBox;
 use std::alloc::Global;
 
@@ -36,14 +36,65 @@ fn header(src: Mac) -> Header {
     }
 }
 
-// A call is made once more where memory ran out.
-fn learn(alloc: Global, role: &mut SanBox, number: u16, port: Port, now: u64) -> Option<Learnt> {
-    for _ in 0..3u8 {
-        if let Ok(learnt) = role.learn(alloc, &header(mac(number)), port, now) {
-            return Some(learnt);
-        }
+// The box as data, asked for again where memory runs out.
+fn image_of(alloc: Global, role: &SanBox) -> Option<RoleImage> {
+    match role.image(alloc) {
+        Ok(image) => Some(image),
+        Err(_) => role.image(alloc).ok(),
     }
-    None
+}
+
+// Whether this is the box as data.
+fn is_image(alloc: Global, role: &SanBox, before: &RoleImage) -> bool {
+    match image_of(alloc, role) {
+        Some(image) => image == *before,
+        None => false,
+    }
+}
+
+// Whether a box is as it was.
+fn is_as(alloc: Global, role: &SanBox, before: Option<RoleImage>) -> bool {
+    match before {
+        Some(before) => is_image(alloc, role, &before),
+        None => false,
+    }
+}
+
+// What a call comes to.
+#[derive(Clone, Copy)]
+enum Came {
+    Answered(Learnt),
+    NoMemory,
+    Otherwise,
+}
+
+// Want of memory is to leave the box as it was.
+fn came_of(call: Result<Learnt, NoMemory>, is_same: bool) -> Came {
+    match call {
+        Ok(learnt) => Came::Answered(learnt),
+        Err(_) if is_same => Came::NoMemory,
+        Err(_) => Came::Otherwise,
+    }
+}
+
+// What is learned. The images are compared each time, so that none is alive where the call's answers part.
+fn learn_whole(alloc: Global, role: &mut SanBox, header: &Header, port: Port, now: u64) -> Came {
+    let before = image_of(alloc, role);
+    let call = role.learn(alloc, header, port, now);
+    came_of(call, is_as(alloc, role, before))
+}
+
+// The same; where memory runs out, once more.
+fn learn(alloc: Global, role: &mut SanBox, number: u16, port: Port, now: u64) -> Option<Learnt> {
+    let header = header(mac(number));
+    let came = match learn_whole(alloc, role, &header, port, now) {
+        Came::NoMemory => learn_whole(alloc, role, &header, port, now),
+        came => came,
+    };
+    match came {
+        Came::Answered(learnt) => Some(learnt),
+        Came::NoMemory | Came::Otherwise => None,
+    }
 }
 
 fn fills(alloc: Global, role: &mut SanBox, first: u16, count: u16, now: u64) -> bool {
@@ -55,16 +106,18 @@ fn fills(alloc: Global, role: &mut SanBox, first: u16, count: u16, now: u64) -> 
     true
 }
 
+fn has_addresses(image: &RoleImage, count: usize, last: u64) -> bool {
+    let addresses = image.proxied.addresses();
+    image.mac == OWN
+        && addresses.len() == count
+        && addresses.last().map(|entry| entry.1) == Some(last)
+}
+
 fn image_has(alloc: Global, role: &SanBox, count: usize, last: u64) -> bool {
-    for _ in 0..8u8 {
-        if let Ok(image) = role.image(alloc) {
-            let addresses = image.proxied.addresses();
-            return image.mac == OWN
-                && addresses.len() == count
-                && addresses.last().map(|entry| entry.1) == Some(last);
-        }
+    match image_of(alloc, role) {
+        Some(image) => has_addresses(&image, count, last),
+        None => false,
     }
-    false
 }
 
 fn holds(alloc: Global, role: &mut SanBox, step: Step) -> bool {

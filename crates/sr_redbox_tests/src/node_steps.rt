@@ -3,8 +3,8 @@
 use sr_forwarding::{
     Danh, Framing, HsrFraming, OwnRole, Parcel, PlainFraming, Port, PrpFraming, Role, RoleKind,
 };
-use sr_frame::Mac;
-use sr_node::{Answer, Event, Node, StepFault};
+use sr_frame::{Frame, Mac};
+use sr_node::{Answer, Event, Node, NodeImage, StepFault};
 use sr_prp_trailer::Lan;
 use sr_redbox::{HsrBox, HsrRouting, PrpBox, PrpRouting, SanBox};
 use std::alloc::Global;
@@ -40,6 +40,8 @@ pub enum Step {
     Out(Port, Sent),
     /// So many nodes without redundancy send a group frame at the interlink at time 0, and all that waits is taken out.
     Sans(u16),
+    /// The host sends a frame to this destination, which goes out under this number.
+    Send(Mac, u64, u16),
     /// Time passes, and so many are proxied no more.
     Tick(u64, usize),
     /// How many frames of the other LAN came in at a port.
@@ -95,17 +97,136 @@ fn read(node: &mut Node, port: Port, octets: &[u8], now: u64) -> Result<Answer, 
     }
 }
 
-// Octets come in; where memory runs out, once more.
-fn goes_to(node: &mut Node, port: Port, sent: Sent, now: u64, outlets: &[Port]) -> bool {
-    let (octets, len) = octets_of(sent);
-    for _ in 0..2u8 {
-        match read(node, port, &octets[..len.min(66)], now) {
-            Ok(Answer::Passed(ports)) => return ports.as_slice() == outlets,
-            Err(StepFault::NoMemory) => {}
-            _ => return false,
-        }
+// The node as data, asked for again where memory runs out.
+fn image_of(node: &Node) -> Option<NodeImage> {
+    match node.image() {
+        Ok(image) => Some(image),
+        Err(_) => node.image().ok(),
     }
-    false
+}
+
+// Whether this is the node as data.
+fn is_image(node: &Node, before: &NodeImage) -> bool {
+    match image_of(node) {
+        Some(image) => image == *before,
+        None => false,
+    }
+}
+
+// Whether a node is as it was.
+fn is_as(node: &Node, before: Option<NodeImage>) -> bool {
+    match before {
+        Some(before) => is_image(node, &before),
+        None => false,
+    }
+}
+
+// What an event has to come to.
+#[derive(Clone, Copy)]
+enum Wanted {
+    Passed(&'static [Port]),
+    Sent(u16),
+    // So many are proxied no more.
+    Ticked(usize),
+}
+
+// What it came to.
+#[derive(Clone, Copy, PartialEq, Eq)]
+enum Came {
+    AsWanted,
+    NoMemory,
+    Otherwise,
+}
+
+fn came_of(call: Result<Answer, StepFault>, wanted: Wanted) -> Came {
+    let is_wanted = match (call, wanted) {
+        (Ok(Answer::Passed(ports)), Wanted::Passed(outlets)) => ports.as_slice() == outlets,
+        (Ok(Answer::Sent(seq)), Wanted::Sent(number)) => seq.0 == number,
+        (Ok(Answer::Ticked { proxies, .. }), Wanted::Ticked(count)) => proxies == count,
+        (Err(StepFault::NoMemory), _) => return Came::NoMemory,
+        _ => false,
+    };
+    if is_wanted {
+        Came::AsWanted
+    } else {
+        Came::Otherwise
+    }
+}
+
+// Want of memory is to leave the node as it was.
+fn settled(came: Came, is_same: bool) -> Came {
+    match came {
+        Came::NoMemory if !is_same => Came::Otherwise,
+        came => came,
+    }
+}
+
+// Octets come in. The images are compared each time, so that none is alive where the call's answers part.
+fn read_whole(node: &mut Node, port: Port, octets: &[u8], now: u64, wanted: Wanted) -> Came {
+    let before = image_of(node);
+    let came = came_of(read(node, port, octets, now), wanted);
+    settled(came, is_as(node, before))
+}
+
+// Octets come in; where memory runs out, once more.
+fn goes_to(node: &mut Node, port: Port, sent: Sent, now: u64, outlets: &'static [Port]) -> bool {
+    let (octets, len) = octets_of(sent);
+    let octets = &octets[..len.min(66)];
+    let wanted = Wanted::Passed(outlets);
+    let came = match read_whole(node, port, octets, now, wanted) {
+        Came::NoMemory => read_whole(node, port, octets, now, wanted),
+        came => came,
+    };
+    came == Came::AsWanted
+}
+
+// The same, of many: the node is not compared.
+fn goes_to_of_many(node: &mut Node, port: Port, sent: Sent, outlets: &'static [Port]) -> bool {
+    let (octets, len) = octets_of(sent);
+    let octets = &octets[..len.min(66)];
+    let wanted = Wanted::Passed(outlets);
+    let came = match came_of(read(node, port, octets, 0), wanted) {
+        Came::NoMemory => came_of(read(node, port, octets, 0), wanted),
+        came => came,
+    };
+    came == Came::AsWanted
+}
+
+// An event, with the images as above.
+fn step_whole(node: &mut Node, event: &Event, wanted: Wanted) -> Came {
+    let before = image_of(node);
+    let came = came_of(node.step(event), wanted);
+    settled(came, is_as(node, before))
+}
+
+// An event; where memory runs out, once more.
+fn happens(node: &mut Node, event: &Event, wanted: Wanted) -> bool {
+    let came = match step_whole(node, event, wanted) {
+        Came::NoMemory => step_whole(node, event, wanted),
+        came => came,
+    };
+    came == Came::AsWanted
+}
+
+// A frame of these octets, asked for again where memory runs out.
+fn frame_of(alloc: Global, octets: &[u8]) -> Option<Frame> {
+    match Frame::copy(alloc, octets) {
+        Ok(frame) => Some(frame),
+        Err(_) => Frame::copy(alloc, octets).ok(),
+    }
+}
+
+fn frame_to(alloc: Global, dst: Mac) -> Option<Frame> {
+    let (octets, len) = octets_of(Sent::Plain(dst, OWN));
+    frame_of(alloc, &octets[..len.min(66)])
+}
+
+// The host sends.
+fn sends(alloc: Global, node: &mut Node, dst: Mac, now: u64, number: u16) -> bool {
+    match frame_to(alloc, dst) {
+        Some(frame) => happens(node, &Event::Send { frame, now }, Wanted::Sent(number)),
+        None => false,
+    }
 }
 
 fn is_written(alloc: Global, kind: RoleKind, port: Port, parcel: &Parcel, octets: &[u8]) -> bool {
@@ -138,22 +259,11 @@ fn sans_send(node: &mut Node, count: u16) -> bool {
     (0..count).all(|number| {
         let [high, low] = number.to_be_bytes();
         let sent = Sent::Plain(GROUP, Mac([4, 0, 0, 0, high, low]));
-        goes_to(node, Port::C, sent, 0, &[Port::H, Port::A, Port::B])
+        goes_to_of_many(node, Port::C, sent, &[Port::H, Port::A, Port::B])
             && node.take(Port::H).is_some()
             && node.take(Port::A).is_some()
             && node.take(Port::B).is_some()
     })
-}
-
-fn forgets(node: &mut Node, now: u64, count: usize) -> bool {
-    for _ in 0..8u8 {
-        match node.step(&Event::Tick { now }) {
-            Ok(Answer::Ticked { proxies, .. }) => return proxies == count,
-            Err(StepFault::NoMemory) => {}
-            _ => return false,
-        }
-    }
-    false
 }
 
 fn holds(alloc: Global, node: &mut Node, step: Step) -> bool {
@@ -161,7 +271,8 @@ fn holds(alloc: Global, node: &mut Node, step: Step) -> bool {
         Step::In(port, sent, now, outlets) => goes_to(node, port, sent, now, outlets),
         Step::Out(port, sent) => goes_out(alloc, node, port, sent),
         Step::Sans(count) => sans_send(node, count),
-        Step::Tick(now, count) => forgets(node, now, count),
+        Step::Send(dst, now, number) => sends(alloc, node, dst, now, number),
+        Step::Tick(now, count) => happens(node, &Event::Tick { now }, Wanted::Ticked(count)),
         Step::WrongLan(port, count) => node.wrong_lan(port) == count,
     }
 }
@@ -241,32 +352,46 @@ fn hands_back(node: &mut Node, role: Box<dyn Role + Send>) -> bool {
     }
 }
 
+fn becomes_box(alloc: Global, node: &mut Node) -> bool {
+    match Box::new(alloc, SanBox::new(alloc, OWN)) {
+        Ok(role) => takes_box(node, role),
+        Err(_) => false,
+    }
+}
+
+fn refuses_another(alloc: Global, node: &mut Node) -> bool {
+    match Box::new(alloc, SanBox::new(alloc, GROUP)) {
+        Ok(role) => hands_back(node, role),
+        Err(_) => false,
+    }
+}
+
 // The place of the first step at which a node of a ring differs after it got a box of its address; as many as there are where it
 // differed before, or where memory ran out.
-fn exchanged_differs(alloc: Global, before: &[Step], after: &[Step]) -> Option<usize> {
-    let wrong = Some(after.len());
-    let (Ok(ring), Ok(own), Ok(other)) = (
-        Box::new(alloc, Danh::new(OWN)),
-        Box::new(alloc, SanBox::new(alloc, OWN)),
-        Box::new(alloc, SanBox::new(alloc, GROUP)),
-    ) else {
-        return wrong;
-    };
-    let (ring, own, other): (
-        Box<dyn Role + Send>,
-        Box<dyn Role + Send>,
-        Box<dyn Role + Send>,
-    ) = (ring, own, other);
-    let Ok(mut node) = Node::new(alloc, ring) else {
-        return wrong;
-    };
-    if differs(alloc, &mut node, before).is_some()
-        || !hands_back(&mut node, other)
-        || !takes_box(&mut node, own)
-    {
-        return wrong;
+fn exchanges(alloc: Global, node: &mut Node, before: &[Step], after: &[Step]) -> Option<usize> {
+    let goes = differs(alloc, node, before).is_none()
+        && refuses_another(alloc, node)
+        && becomes_box(alloc, node);
+    if goes {
+        differs(alloc, node, after)
+    } else {
+        Some(after.len())
     }
-    differs(alloc, &mut node, after)
+}
+
+// A node of a ring.
+fn ring_node(alloc: Global) -> Option<Node> {
+    match Box::new(alloc, Danh::new(OWN)) {
+        Ok(role) => Node::new(alloc, role).ok(),
+        Err(_) => None,
+    }
+}
+
+fn exchanged_differs(alloc: Global, before: &[Step], after: &[Step]) -> Option<usize> {
+    match ring_node(alloc) {
+        Some(mut node) => exchanges(alloc, &mut node, before, after),
+        None => Some(after.len()),
+    }
 }
 
 /// The place of the first step at which a node of a ring differs after it got a box of its address; as many as there are where it

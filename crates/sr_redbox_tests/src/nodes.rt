@@ -7,6 +7,8 @@ use sr_prp_trailer::Lan;
 
 const GROUP: Mac = Mac([0xff; 6]);
 
+const OWN: Mac = Mac([2, 0, 0, 0, 0, 1]);
+
 const M2: Mac = Mac([2, 0, 0, 0, 0, 2]);
 
 const M3: Mac = Mac([2, 0, 0, 0, 0, 3]);
@@ -86,7 +88,8 @@ const SAN_KNOWS: &[Step] = &[
     ),
 ];
 
-// With 256 others proxied, the group frame of one more goes out all the same, and its copy that comes round goes nowhere.
+// With 256 others proxied, the group frame of one more goes out all the same, and its copy that comes round goes nowhere. But
+// it is heard in the ring then: what is for it comes out no more.
 const SAN_FULL: &[Step] = &[
     Step::Sans(256),
     Step::In(
@@ -96,7 +99,9 @@ const SAN_FULL: &[Step] = &[
         &[Port::H, Port::A, Port::B],
     ),
     Step::Out(Port::B, Sent::Tagged(GROUP, M9, 1, 0xfcff)),
+    Step::In(Port::A, Sent::Tagged(M9, M2, 0, 5), 0, &[Port::B, Port::C]),
     Step::In(Port::B, Sent::Tagged(GROUP, M9, 0, 0xfcff), 0, &[]),
+    Step::In(Port::A, Sent::Tagged(M9, M2, 0, 6), 0, &[Port::B]),
     Step::Tick(60000, 256),
 ];
 
@@ -154,6 +159,76 @@ const HSR: &[Step] = &[
 #[test]
 fn a_node_between_rings(rt: HostRuntime) {
     assert_eq!(rt; first_wrong(rt.alloc(), Kind::Hsr, HSR), None);
+}
+
+// For a run in which one allocation fails: each event of a box that learns and forgets, and then of the other two.
+const SAN_GROWTHS: &[Step] = &[
+    Step::In(
+        Port::C,
+        Sent::Plain(GROUP, M9),
+        0,
+        &[Port::H, Port::A, Port::B],
+    ),
+    Step::In(
+        Port::A,
+        Sent::Tagged(GROUP, M2, 0, 1),
+        1,
+        &[Port::H, Port::B, Port::C],
+    ),
+    Step::In(Port::B, Sent::Tagged(M9, M3, 1, 5), 2, &[Port::C]),
+    Step::In(
+        Port::C,
+        Sent::Plain(GROUP, M8),
+        3,
+        &[Port::H, Port::A, Port::B],
+    ),
+    Step::Send(M8, 4, 0xfc01),
+    Step::Tick(5, 0),
+    Step::Send(GROUP, 6, 0xfc03),
+    Step::In(Port::C, Sent::Plain(M2, M8), 7, &[Port::A, Port::B]),
+    Step::Tick(60_003, 1),
+    Step::Tick(60_007, 1),
+    Step::Out(Port::C, Sent::Plain(GROUP, M2)),
+    Step::Out(Port::C, Sent::Plain(M9, M3)),
+    Step::Out(Port::C, Sent::Plain(M8, OWN)),
+    Step::Out(Port::C, Sent::Plain(GROUP, OWN)),
+];
+
+const PRP_GROWTHS: &[Step] = &[
+    Step::In(
+        Port::C,
+        Sent::Trailed(M3, M2, 5, 0xa0),
+        0,
+        &[Port::A, Port::B],
+    ),
+    Step::In(Port::A, Sent::Tagged(M3, M4, 4, 6), 1, &[Port::B, Port::C]),
+    Step::In(Port::B, Sent::Tagged(M3, M5, 0, 7), 2, &[Port::A, Port::C]),
+    Step::Send(M2, 3, 0xfbff),
+    Step::Tick(4, 0),
+    Step::Out(Port::C, Sent::Trailed(M3, M4, 6, 0xa0)),
+    Step::Out(Port::C, Sent::Trailed(M3, M5, 7, 0xa0)),
+    Step::Out(Port::C, Sent::Trailed(M2, OWN, 0xfbff, 0xa0)),
+];
+
+const HSR_GROWTHS: &[Step] = &[
+    Step::In(Port::C, Sent::Tagged(M3, M2, 0, 5), 0, &[Port::A, Port::B]),
+    Step::In(Port::A, Sent::Tagged(M3, M4, 0, 6), 1, &[Port::B, Port::C]),
+    Step::In(Port::B, Sent::Tagged(M3, M5, 1, 7), 2, &[Port::A, Port::C]),
+    Step::Send(M2, 3, 0xfbff),
+    Step::Tick(4, 0),
+    Step::Out(Port::C, Sent::Tagged(M3, M4, 0, 6)),
+    Step::Out(Port::C, Sent::Tagged(M3, M5, 1, 7)),
+    Step::Out(Port::C, Sent::Tagged(M2, OWN, 0, 0xfbff)),
+];
+
+#[test]
+fn refused_growths_change_nothing(rt: HostRuntime) {
+    assert_eq!(rt; first_wrong(rt.alloc(), Kind::San, SAN_GROWTHS), None);
+    assert_eq!(rt;
+        first_wrong(rt.alloc(), Kind::Prp(Lan::A), PRP_GROWTHS),
+        None
+    );
+    assert_eq!(rt; first_wrong(rt.alloc(), Kind::Hsr, HSR_GROWTHS), None);
 }
 
 // A node of a ring becomes a box for nodes without redundancy: copies of what it noted go nowhere where it went.
