@@ -132,6 +132,7 @@ impl<V: Drop, const SPAN: u64, const MOST: usize> AgedSlots<V, SPAN, MOST> {
         ensures held { OnOk result ((is_held self.new key ≡ true)
             × (is_held self.new other ≡ true)) }
         ensures others { OnOk result (KeepsHeldBut self.old.held self.new.held key other) }
+        ensures again { is_held self.old key ≡ true → is_held self.old other ≡ true → IsOk result }
         ensures err { OnErr result (KeepsAllHeld self.old.held self.new.held) }
     {
         self.slots.hold_both(key, other)
@@ -146,6 +147,7 @@ impl<V: Drop, const SPAN: u64, const MOST: usize> AgedSlots<V, SPAN, MOST> {
     }
 
     /// The value of an address, forgotten or not, and where it is.
+    #[inline(always)]
     pub fn find(&self, key: Mac) -> Option<(Spot, &Aged<V>)>
         ensures value { option_map (λ found. found.1.now) result ≡ value_at self.now key }
         ensures few { length self.now.entries ≤ MOST }

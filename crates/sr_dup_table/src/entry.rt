@@ -39,7 +39,7 @@ pub fn hear(entry: &mut Aged<Record<16>>, seq: Seq, lanes: Lanes, now: u64) -> L
         entry.value.note(seq, lanes)
     } else {
         entry.time = now;
-        entry.value = Record::begin(seq, lanes);
+        entry.value.begin_again(seq, lanes);
         lanes
     }
 }

@@ -6,7 +6,7 @@ ghost use Rattle.std.specs.Option.{option_copied, option_map};
 ghost use Rattle.sr_dup_window.specs.LaneSets.{is_empty};
 ghost use Rattle.sr_dup_window.specs.Windows.{window_of};
 ghost use Rattle.sr_frame.specs.Addresses.{mac_eq};
-ghost use Rattle.sr_slots.specs.Places.{KeepsHeld};
+ghost use Rattle.sr_slots.specs.Places.{IsFound, KeepsHeld};
 ghost use Rattle.sr_dup_table.specs.Limits.{most_sources};
 ghost use Rattle.sr_dup_table.specs.Sources.{IsTable, is_held, is_ready, live_at, live_others, arrive_fault, with_room, arrive_answer, after_arrive, heard_next, fresh_at};
 ghost use Rattle.std.specs.Bool.{OnTrue, OnFalse};
@@ -123,30 +123,10 @@ impl DupTable {
         ensures sources { self.new.sources ≡ self.old.sources }
         ensures held { OnOk result (is_held self.new src ≡ true) }
         ensures others { OnOk result (KeepsHeld self.old.held self.new.held src) }
+        ensures again { is_held self.old src ≡ true → IsOk result }
         ensures err { OnErr result (self.new ≡ self.old) }
     {
         self.slots.hold(src)
-    }
-
-    /// Sees to it that the next arrival of a source takes no memory: a source with a record needs none, where a spot tells of one;
-    /// for any other a place is held. NoMemory: memory ran out, and nothing changes.
-    pub fn reserve_at(&mut self, spot: Option<Spot>, src: Mac) -> Result<(), NoMemory>
-        ensures sources { self.new.sources ≡ self.old.sources }
-        ensures ready { OnOk result (is_ready self.new src ≡ true) }
-        ensures others { OnOk result (KeepsHeld self.old.held self.new.held src) }
-        ensures err { OnErr result (self.new ≡ self.old) }
-    {
-        if spot.is_some() && self.has_record(spot, src) {
-            return Ok(());
-        }
-        self.reserve(src)
-    }
-
-    // Whether a source has a record, forgotten or not.
-    fn has_record(&self, spot: Option<Spot>, src: Mac) -> bool
-        ensures { result ≡ is_some (lookup (mac_eq src) self.now.sources) }
-    {
-        self.slots.get_at(spot, src).is_some()
     }
 
     /// Gives up all held places.
@@ -178,12 +158,14 @@ impl DupTable {
 
     /// What `fresh` answers, and where the record of the source is: one look-up for a frame. After it no call at this time goes over
     /// the sources to see whether the table is full. Nothing that shows changes.
+    #[inline(always)]
     pub fn look(&mut self, src: Mac, seq: Seq, lanes: Lanes, now: u64) -> Result<Look, TableFull>
         requires { is_empty lanes ≡ false }
         ensures answer { option_map (λ look. look.fresh) (result_ok result)
             ≡ arrive_answer self.old.sources src seq.0 lanes now }
         ensures full { IsErr result
             ↔ (length (live_others src now self.old.sources) ≡ most_sources) }
+        ensures found { IfOk result (λ look. IsFound look.spot self.old.sources src) }
         ensures same { self.new ≡ self.old }
     {
         if let Some(look) = self.look_known(src, seq, lanes, now) {
@@ -199,6 +181,7 @@ impl DupTable {
     }
 
     // The same for a source that has a record.
+    #[inline(always)]
     fn look_known(&self, src: Mac, seq: Seq, lanes: Lanes, now: u64) -> Option<Look>
         ensures answer { option_map (λ look. look.fresh) result
             ≡ option_map (λ heard. fresh_at heard seq.0 lanes now)
@@ -244,6 +227,7 @@ impl DupTable {
     /// What `arrive` does, where the record of the source is looked for at a spot first. It notes an arrival, and answers the
     /// asked lanes on which its number is new in the epoch of its source.
     /// TableFull: 1024 other sources are live. NoMemory: memory ran out. Either way nothing changes.
+    #[inline(always)]
     pub fn arrive_at(
         &mut self,
         spot: Option<Spot>,
@@ -281,6 +265,7 @@ impl DupTable {
     }
 
     // An arrival of a source that has a record, forgotten or not.
+    #[inline(always)]
     fn hear(
         &mut self,
         spot: Option<Spot>,

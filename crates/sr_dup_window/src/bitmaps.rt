@@ -61,7 +61,7 @@ fn clear_after(rows: &mut [[u64; 6]], from: usize, count: usize)
 }
 
 /// Clears all spots.
-fn clear_all(rows: &mut [[u64; 6]])
+pub(crate) fn clear_all(rows: &mut [[u64; 6]])
     ensures whole { AreRows (length rows.old) rows.new }
     ensures lanes { (p : ℕ) → lanes_at rows.new p ≡ none }
 {

@@ -3,7 +3,7 @@ ghost use Rattle.std.specs.Prelude.{◌≡◌, ◌==◌, ◌||◌, ◌*◌, ◌%
 ghost use Rattle.sr_dup_window.specs.LaneSets.{is_empty};
 ghost use Rattle.sr_dup_window.specs.Bitmaps.{AreRows, lanes_at};
 
-use crate::bitmaps::{lanes_at, mark, pass, unite};
+use crate::bitmaps::{clear_all, lanes_at, mark, pass, unite};
 use crate::lane_sets::{Lane, Lanes};
 use sr_sequence::{Distance, Seq, place};
 use thiserror::Error;
@@ -46,6 +46,17 @@ impl<const N: usize> Record<N> {
             reference: seq,
             rows,
         }
+    }
+
+    /// Begins anew with one number, on some lanes: what was noted is gone.
+    pub fn begin_again(&mut self, seq: Seq, lanes: Lanes)
+        requires { is_empty lanes ≡ false }
+        ensures value { window_of self.new ≡ window_begun (64 * N) seq.0 lanes }
+        ensures stands { Begins (64 * N) (window_of self.new) seq.0 lanes }
+    {
+        clear_all(&mut self.rows);
+        mark(&mut self.rows, seq.0 as usize % (64 * N), lanes);
+        self.reference = seq;
     }
 
     /// The greatest number noted.

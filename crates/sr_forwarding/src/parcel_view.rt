@@ -130,19 +130,12 @@ impl<'a> ParcelView<'a> {
         ))
     }
 
-    /// A plain parcel under this number, in place of any it has.
-    pub fn with_number(self, seq: Seq) -> ParcelView<'a>
-        requires { self.form ≡ Form.Plain }
-        ensures { result ≡ with_number self.entry seq }
+    /// Gives a plain parcel this number, in place of any it has.
+    pub fn set_number(&mut self, seq: Seq)
+        requires { self.old.form ≡ Form.Plain }
+        ensures { self.new ≡ with_number self.old seq }
     {
-        ParcelView {
-            form: Form::Plain,
-            octets: self.octets,
-            plain: self.plain,
-            seq: Some(seq),
-            path: self.path,
-            wrong_lan: self.wrong_lan,
-        }
+        self.seq = Some(seq);
     }
 
     /// The parcel of an ordinary frame, with this number or none. Does not allocate.

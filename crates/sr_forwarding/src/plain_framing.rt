@@ -55,6 +55,7 @@ impl Framing for PlainFraming {
 
     ghost meaning = { λ _. Ordinary };
 
+    #[inline(always)]
     fn read<'a>(&self, octets: &'a [u8]) -> Result<ParcelView<'a>, ReadFault> {
         let frame = whole_frame(octets, MAX_PLAIN_LEN)?;
         Ok(unnumbered(octets, &frame))

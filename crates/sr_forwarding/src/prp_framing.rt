@@ -45,6 +45,7 @@ fn is_same(one: Lan, other: Lan) -> bool
 }
 
 // A frame with a trailer, read in place.
+#[inline(always)]
 fn read_trailed<'a>(
     lan: Lan,
     net: u8,
@@ -90,6 +91,7 @@ impl Framing for PrpFraming {
 
     ghost meaning = { λ f. Trailed f.lan f.net };
 
+    #[inline(always)]
     fn read<'a>(&self, octets: &'a [u8]) -> Result<ParcelView<'a>, ReadFault> {
         let frame = whole_frame(octets, MAX_FRAME_LEN)?;
         match read_trailed(self.lan, self.net, octets, &frame) {

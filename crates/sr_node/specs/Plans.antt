@@ -1,5 +1,7 @@
 -- What an event comes to that is not refused, before anything grows.
 use Rattle.std.specs.Prelude.{◌≡◌, ℕ, true, false, Option, None, Some}
+use Rattle.sr_slots.specs.Places.{IsFound}
+use Rattle.sr_dup_table.specs.Sources.{Sources}
 use Rattle.sr_frame.specs.declared.ports.Port.{Port}
 use Rattle.sr_forwarding.specs.declared.outlets.Outlets.{Outlets}
 use Rattle.sr_forwarding.specs.Parcels.{ParcelImage}
@@ -40,6 +42,11 @@ pub record IsPassing (s : State) (port : Port) (p : ParcelImage) (now : ℕ) (he
 abbrev pub ArrivalIs : State → Port → ParcelImage → ℕ → Plan → Type 0
 ArrivalIs s port p now plan.Own = is_own s p ≡ true
 ArrivalIs s port p now (plan.Pass header wanted outlets spot) = (is_own s p ≡ false) × IsPassing s port p now header wanted outlets
+
+-- an arrival for whose source a record was found has a source with a record
+abbrev pub IsFoundBy : Sources → Plan → Type 0
+IsFoundBy sources plan.Own = Unit {0}
+IsFoundBy sources (plan.Pass header wanted outlets spot) = IsFound spot sources header.src
 
 -- where a life check goes, if one is due
 abbrev pub LifeIs : State → ℕ → Option Outlets → Type 0

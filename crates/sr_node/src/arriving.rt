@@ -12,7 +12,8 @@ ghost use Rattle.sr_forwarding.specs.Proxies.{learned};
 ghost use Rattle.sr_forwarding.specs.Routes.{routes};
 ghost use Rattle.sr_node.specs.Arriving.{is_too_long, is_untagged, takes_unnumbered, header_told, wanted_at, going_on, number_at, next_at, goes, outlets_fault, arrive_refusal, Arrived, passed};
 ghost use Rattle.sr_node.specs.Octets.{OctetsArrived, OctetsRefused};
-ghost use Rattle.sr_node.specs.Plans.{ArrivalIs, IsAdmitted, IsPassing};
+ghost use Rattle.sr_node.specs.Plans.{ArrivalIs, IsAdmitted, IsPassing, IsFoundBy};
+ghost use Rattle.sr_slots.specs.Places.{IsFound};
 
 use crate::copies::{Copies, no_copies};
 use crate::hearing::{Heard, said_by};
@@ -87,25 +88,33 @@ fn is_untagged(kind: RoleKind, port: Port, form: Form) -> bool
     }
 }
 
-// A frame from this port as it goes on: a plain one from the interlink takes the node's next number.
-fn numbered<'a>(port: Port, parcel: ParcelView<'a>, next: Seq) -> ParcelView<'a>
-    ensures { result ≡ record parcel.entry { seq = number_at next port parcel.entry } }
+// A frame from this port as it goes on, in its place: a plain one from the interlink takes the node's next number.
+fn number(port: Port, parcel: &mut ParcelView<'_>, next: Seq)
+    ensures { parcel.new ≡ record parcel.old { seq = number_at next port parcel.old } }
 {
     if is_plain_at_interlink(port, parcel.form()) {
-        parcel.with_number(next)
-    } else {
-        parcel
+        parcel.set_number(next);
     }
 }
 
 impl<R: Role> NodeOf<R> {
-    /// Where a frame with this header is wanted. The nodes are asked for its destination only where the role's routes read that.
+    /// Where a frame with this header is wanted.
     pub(crate) fn wanted(&self, header: &Header, inlet: Port, now: u64) -> Outlets
         ensures { result ≡ routes (R.meaning self.now.role)
             (header_told (node_state (R.meaning self.now.role) self.now.core) header.now
             now) inlet now }
     {
-        if !self.role.kind().reads_known() {
+        self.wanted_by(self.role.kind(), header, inlet, now)
+    }
+
+    // The same at a node of this kind. The nodes are asked for the destination only where the role's routes read that.
+    fn wanted_by(&self, kind: RoleKind, header: &Header, inlet: Port, now: u64) -> Outlets
+        requires { kind ≡ (R.meaning self.now.role).kind }
+        ensures { result ≡ routes (R.meaning self.now.role)
+            (header_told (node_state (R.meaning self.now.role) self.now.core) header.now
+            now) inlet now }
+    {
+        if !kind.reads_known() {
             return self.role.wants(header, inlet, now);
         }
         let header = Header {
@@ -137,14 +146,15 @@ impl<R: Role> NodeOf<R> {
         if is_too_long(port, parcel) {
             return Err(StepFault::Reading(ReadFault::TooLong));
         }
-        if is_untagged(self.role.kind(), port, parcel.form()) {
+        let kind = self.role.kind();
+        if is_untagged(kind, port, parcel.form()) {
             return Err(StepFault::Untagged);
         }
         if parcel.header().src == self.role.mac() {
             return Ok(Admission::Own);
         }
         let header = self.header_on(port, parcel);
-        let wanted = self.wanted(&header, port, now);
+        let wanted = self.wanted_by(kind, &header, port, now);
         Ok(Admission::Other { header, wanted })
     }
 
@@ -188,6 +198,7 @@ impl<R: Role> NodeOf<R> {
         ensures err { IfErr result (λ f.
             arrive_refusal (node_state (R.meaning self.old.role) self.old.core) port parcel.now
             now ≡ Some f) }
+        ensures found { IfOk result (IsFoundBy self.old.core.table.sources) }
         ensures same { (self.new.role ≡ self.old.role) × (self.new.core ≡ self.old.core) }
     {
         match self.admit(port, parcel, now)? {
@@ -221,6 +232,9 @@ impl<R: Role> NodeOf<R> {
     ) -> Result<(), NoMemory>
         requires full { first_full self.old.core.out outlets ≡ None }
         requires none { copies.old ≡ no_copies }
+        requires spot { IsFound spot self.old.core.table.sources header.now.src }
+        requires source { IsFound heard.now.source self.old.core.nodes.table.entries
+            header.now.src }
         ensures copies { OnOk result (copies.new ≡ copies_for outlets going.now) }
         ensures room { OnOk result (Room self.new.core.out copies.new) }
         ensures ready { OnOk result (IsReady self.new.core.table header.now.src header.now.seq) }
@@ -248,7 +262,7 @@ impl<R: Role> NodeOf<R> {
     fn pass(
         &mut self,
         port: Port,
-        parcel: ParcelView<'_>,
+        mut parcel: ParcelView<'_>,
         header: &Header,
         now: u64,
         wanted: Outlets,
@@ -256,8 +270,9 @@ impl<R: Role> NodeOf<R> {
         spot: Option<Spot>,
         said: Option<Supervision>,
     ) -> Result<(), NoMemory>
-        requires { IsPassing (node_state (R.meaning self.old.role) self.old.core) port parcel now
-            header.now wanted outlets }
+        requires passing { IsPassing (node_state (R.meaning self.old.role) self.old.core) port
+            parcel now header.now wanted outlets }
+        requires spot { IsFound spot self.old.core.table.sources header.now.src }
         ensures ok { OnOk result (node_state (R.meaning self.new.role) self.new.core
             ≡ passed (node_state (R.meaning self.old.role) self.old.core) port
             (going_on (node_state (R.meaning self.old.role) self.old.core) port parcel.entry)
@@ -267,12 +282,12 @@ impl<R: Role> NodeOf<R> {
         ensures idle { IsIdle self.old.core → IsIdle self.new.core }
     {
         let next = self.core.next_at(port, &parcel);
-        let going = numbered(port, parcel, self.core.next());
+        number(port, &mut parcel, self.core.next());
         let heard = self.heard_in(port, header, wanted, said, now);
         let mut copies = no_copies();
         self.grow(
             port,
-            &going,
+            &parcel,
             header,
             spot,
             &heard,
@@ -282,7 +297,7 @@ impl<R: Role> NodeOf<R> {
         )?;
         self.core.pass(
             port,
-            &going,
+            &parcel,
             header,
             spot,
             &heard,

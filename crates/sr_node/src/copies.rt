@@ -1,6 +1,7 @@
 //! The copies of a frame that goes out, each with octets of its own.
 
-ghost use Rattle.std.specs.Prelude.{◌≡◌, None, OnOk};
+ghost use Rattle.std.specs.Prelude.{◌≡◌, [], None, OnOk, IsOk, false};
+ghost use Rattle.sr_forwarding.specs.Outlets.{to};
 ghost use Rattle.sr_node.specs.Outboxes.{first_full};
 ghost use Rattle.sr_node.specs.Copies.{no_copies, copy_if, copies_for, put_copies, Room};
 
@@ -24,7 +25,8 @@ pub(crate) fn no_copies() -> Copies
     }
 }
 
-// The parcel, if it is wanted.
+// The parcel, if it is wanted. What is not takes no memory.
+#[inline(always)]
 fn copy_if(
     alloc: Global,
     wanted: bool,
@@ -32,7 +34,8 @@ fn copy_if(
     copy: &mut Option<Parcel>,
 ) -> Result<(), NoMemory>
     requires { copy.old ≡ None }
-    ensures { OnOk result (copy.new ≡ copy_if wanted parcel.now) }
+    ensures copy { OnOk result (copy.new ≡ copy_if wanted parcel.now) }
+    ensures unwanted { wanted ≡ false → IsOk result }
 {
     if wanted {
         *copy = Some(parcel.to_parcel(alloc)?);
@@ -40,7 +43,8 @@ fn copy_if(
     Ok(())
 }
 
-/// A copy for each of these outlets.
+/// A copy for each of these outlets. Where there are none it takes no memory.
+#[inline(always)]
 pub(crate) fn copies_for(
     alloc: Global,
     outlets: Outlets,
@@ -48,7 +52,8 @@ pub(crate) fn copies_for(
     copies: &mut Copies,
 ) -> Result<(), NoMemory>
     requires { copies.old ≡ no_copies }
-    ensures { OnOk result (copies.new ≡ copies_for outlets parcel.now) }
+    ensures copies { OnOk result (copies.new ≡ copies_for outlets parcel.now) }
+    ensures nowhere { outlets ≡ to [] → IsOk result }
 {
     copy_if(alloc, outlets.has(Port::H), parcel, &mut copies.h)?;
     copy_if(alloc, outlets.has(Port::A), parcel, &mut copies.a)?;
@@ -57,6 +62,7 @@ pub(crate) fn copies_for(
 }
 
 /// Puts each copy last in its queue.
+#[inline(always)]
 pub(crate) fn put_copies(out: &mut PerPort<Outbox>, copies: &mut Copies)
     requires { Room out.old copies.old }
     ensures { out.new ≡ put_copies out.old copies.old }

@@ -6,6 +6,7 @@ ghost use Rattle.sr_forwarding.specs.Routes.{routes};
 ghost use Rattle.sr_node.specs.Arriving.{header_told};
 ghost use Rattle.sr_node.specs.Hearing.{SaysOf, is_network, number_heard, announced};
 ghost use Rattle.sr_node.specs.Images.{node_state};
+ghost use Rattle.sr_slots.specs.Places.{IsFound};
 
 use crate::NodeOf;
 use bitflags::Flags;
@@ -29,6 +30,7 @@ pub(crate) struct Heard {
 }
 
 /// What a frame says, if it is supervision that can be read.
+#[inline(always)]
 pub(crate) fn said_by(parcel: &ParcelView<'_>) -> Option<Supervision>
     ensures { SaysOf parcel.now result }
 {
@@ -113,22 +115,31 @@ impl<R: Role> NodeOf<R> {
             ≡ number_heard (R.meaning self.now.role) port header.now.src header.now.seq now }
         ensures announced { result.announced
             ≡ announced (R.meaning self.now.role) port header.now.seq said }
+        ensures source { IsFound result.source self.now.core.nodes.table.entries header.now.src }
     {
         let number = self.number_heard(port, header, wanted, now);
-        let announced = self.announced(port, header, said);
         let source = match number {
             Some(_) => self.core.nodes().find(header.src),
             None => None,
         };
+        let Some(said) = self.announced(port, header, said) else {
+            return Heard {
+                number,
+                source,
+                announced: None,
+                told: None,
+            };
+        };
+        let told = if said.mac == header.src && number.is_some() {
+            source
+        } else {
+            self.core.nodes().find(said.mac)
+        };
         Heard {
             number,
             source,
-            announced,
-            told: match announced {
-                Some(said) if said.mac == header.src && number.is_some() => source,
-                Some(said) => self.core.nodes().find(said.mac),
-                None => None,
-            },
+            announced: Some(said),
+            told,
         }
     }
 }

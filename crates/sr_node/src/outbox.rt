@@ -84,6 +84,7 @@ impl Outbox {
     }
 
     /// Puts a copy last, if there is one.
+    #[inline(always)]
     pub(crate) fn put(&mut self, copy: &mut Option<Parcel>)
         requires { IsSome copy.old → length self.old < 256 }
         ensures { self.new ≡ with_copy self.old copy.old }

@@ -1,11 +1,12 @@
 //! What a node keeps beside its role: what grows, and the changes, of which none can fail.
 
-ghost use Rattle.std.specs.Prelude.{◌≡◌, ◌+◌, IfOk, OnOk, IfErr, OnErr, IsSome, None, Some, true, false, is_some, length, max, unwrap_or};
+ghost use Rattle.std.specs.Prelude.{◌≡◌, ◌+◌, IfOk, OnOk, IfErr, OnErr, IsOk, IsSome, None, Some, true, false, is_some, length, max, unwrap_or};
 ghost use Rattle.std.specs.Option.{option_map, ForSome};
 ghost use Rattle.std.specs.Result.{result_ok};
 ghost use Rattle.sr_dup_table.specs.Sources.{live_at};
 ghost use Rattle.sr_frame.specs.declared.fields.Mac.{Mac as Address};
 ghost use Rattle.sr_node_table.specs.Nodes.{is_held};
+ghost use Rattle.sr_slots.specs.Places.{IsFound};
 ghost use Rattle.sr_node_table.specs.Watching.{after_prune};
 ghost use Rattle.sr_node.specs.Hearing.{is_network, HasRoomFor, HasRoomToo, IsKnownIf, KeepsRoom, IsReadyFor, nodes_heard, nodes_told};
 ghost use Rattle.sr_node.specs.Lanes.{is_host, new_outlets, sources_after};
@@ -174,6 +175,7 @@ impl Core {
     }
 
     /// A copy for each of these outlets, where there is room. NoMemory: a growth was refused.
+    #[inline(always)]
     pub(crate) fn copies(
         &self,
         outlets: Outlets,
@@ -252,6 +254,7 @@ impl Core {
 
     /// The same, and where the record of its source was found, so that it is looked for once.
     /// TableFull where too many other sources are live. Nothing changes.
+    #[inline(always)]
     pub(crate) fn look(
         &mut self,
         port: Port,
@@ -262,6 +265,8 @@ impl Core {
         requires { is_host port ≡ false }
         ensures new { option_map (λ found. found.0) (result_ok result)
             ≡ new_outlets self.old.table.sources port header.now.src header.now.seq wanted now }
+        ensures found { IfOk result (λ look.
+            IsFound look.1 self.old.table.sources header.now.src) }
         ensures same { self.new ≡ self.old }
     {
         let Some(seq) = header.seq else {
@@ -281,21 +286,28 @@ impl Core {
     }
 
     /// Makes room for the note of a frame and for what it makes known. Nothing that shows changes.
+    #[inline(always)]
     pub(crate) fn hold(
         &mut self,
         header: &Header,
         spot: Option<Spot>,
         heard: &Heard,
     ) -> Result<(), NoMemory>
+        requires spot { IsFound spot self.old.table.sources header.now.src }
+        requires source { IsFound heard.now.source self.old.nodes.table.entries header.now.src }
         ensures same { shown self.new ≡ shown self.old }
         ensures ready { OnOk result (IsReady self.new.table header.now.src header.now.seq) }
         ensures number { OnOk result (HasRoomFor self.new.nodes header.now.src heard.now.number) }
         ensures announced { OnOk result
             (HasRoomToo self.new.nodes header.now.src heard.now.number heard.now.announced) }
         ensures err { OnErr result (IsIdle self.old → IsIdle self.new) }
+
+        // What is neither noted nor heard takes no memory.
+        ensures free { header.now.seq ≡ None → heard.now.number ≡ None → heard.now.announced ≡ None
+            → (IsOk result) × (self.new ≡ self.old) }
     {
-        if header.seq.is_some() {
-            self.table.reserve_at(spot, header.src)?;
+        if header.seq.is_some() && spot.is_none() {
+            self.table.reserve(header.src)?;
         }
         if let Err(fault) = self.hold_nodes(header.src, heard) {
             self.release();
@@ -305,19 +317,24 @@ impl Core {
     }
 
     // Makes room for the source of a frame, where it is heard. Held: it may be a new node.
+    #[inline(always)]
     fn hold_source(&mut self, src: Mac, heard: &Heard) -> Result<Ready, NoMemory>
+        requires { IsFound heard.now.source self.old.nodes.table.entries src }
         ensures same { shown self.new ≡ shown self.old }
         ensures table { self.new.table ≡ self.old.table }
         ensures number { OnOk result (HasRoomFor self.new.nodes src heard.now.number) }
         ensures known { result ≡ Ok Ready.Known → IsKnownIf self.new.nodes src heard.now.number }
+        ensures free { heard.now.number ≡ None → (IsOk result) × (self.new ≡ self.old) }
     {
-        match heard.number {
-            Some(_) => self.nodes.reserve_at(heard.source, src),
-            None => Ok(Ready::Known),
+        if heard.number.is_none() || heard.source.is_some() {
+            return Ok(Ready::Known);
         }
+        self.nodes.reserve(src, None)?;
+        Ok(Ready::Held)
     }
 
     // Makes room for the node of which a frame speaks, beside that for its source.
+    #[inline(always)]
     fn hold_told(&mut self, src: Mac, source: Ready, heard: &Heard) -> Result<(), NoMemory>
         requires number { HasRoomFor self.old.nodes src heard.now.number }
         requires known { source ≡ Ready.Known → IsKnownIf self.old.nodes src heard.now.number }
@@ -326,6 +343,7 @@ impl Core {
         ensures number { OnOk result (HasRoomFor self.new.nodes src heard.now.number) }
         ensures announced { OnOk result
             (HasRoomToo self.new.nodes src heard.now.number heard.now.announced) }
+        ensures free { heard.now.announced ≡ None → (IsOk result) × (self.new ≡ self.old) }
     {
         let Some(said) = heard.announced else {
             return Ok(());
@@ -340,12 +358,16 @@ impl Core {
     }
 
     // Makes room for what a frame makes known. Nothing that shows changes.
+    #[inline(always)]
     fn hold_nodes(&mut self, src: Mac, heard: &Heard) -> Result<(), NoMemory>
+        requires { IsFound heard.now.source self.old.nodes.table.entries src }
         ensures same { shown self.new ≡ shown self.old }
         ensures table { self.new.table ≡ self.old.table }
         ensures number { OnOk result (HasRoomFor self.new.nodes src heard.now.number) }
         ensures announced { OnOk result
             (HasRoomToo self.new.nodes src heard.now.number heard.now.announced) }
+        ensures free { heard.now.number ≡ None → heard.now.announced ≡ None
+            → (IsOk result) × (self.new ≡ self.old) }
     {
         let source = self.hold_source(src, heard)?;
         self.hold_told(src, source, heard)
@@ -361,6 +383,7 @@ impl Core {
     }
 
     // Notes a frame for which there is room.
+    #[inline(always)]
     fn note(&mut self, port: Port, header: &Header, spot: Option<Spot>, wanted: Outlets, now: u64)
         requires port { is_host port ≡ false }
         requires ready { IsReady self.old.table header.now.src header.now.seq }
@@ -428,6 +451,7 @@ impl Core {
     }
 
     /// The changes of an arrival that passes and goes on as this parcel, of which none can fail.
+    #[inline(always)]
     pub(crate) fn pass(
         &mut self,
         port: Port,

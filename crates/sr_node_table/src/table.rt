@@ -197,6 +197,8 @@ impl NodeTable {
         ensures both { OnOk result (IfSome other (λ second. is_held self.new second ≡ true)) }
         ensures others { OnOk result
             (KeepsHeldBut self.old.held self.new.held mac (unwrap_or other mac)) }
+        ensures again { is_held self.old mac ≡ true
+            → IfSome other (λ second. is_held self.old second ≡ true) → IsOk result }
         ensures err { OnErr result (KeepsAllHeld self.old.held self.new.held) }
     {
         match other {
@@ -206,6 +208,7 @@ impl NodeTable {
     }
 
     /// Where the entry of a node is, forgotten or not, for the calls that look there first.
+    #[inline(always)]
     pub fn find(&self, mac: Mac) -> Option<Spot>
         ensures { is_some result ≡ is_some (lookup (mac_eq mac) self.now.table.entries) }
     {
@@ -222,6 +225,7 @@ impl NodeTable {
 
     /// Sees to it that the next hearing of an address takes no memory: one that has an entry needs none, where a spot tells of
     /// it; for any other a place is held. NoMemory: memory ran out, and nothing changes.
+    #[inline(always)]
     pub fn reserve_at(&mut self, spot: Option<Spot>, mac: Mac) -> Result<Ready, NoMemory>
         ensures table { self.new.table ≡ self.old.table }
         ensures known { (result ≡ Ok Ready.Known)
@@ -229,6 +233,7 @@ impl NodeTable {
         ensures same { result ≡ Ok Ready.Known → self.new ≡ self.old }
         ensures held { result ≡ Ok Ready.Held → is_held self.new mac ≡ true }
         ensures others { OnOk result (KeepsHeld self.old.held self.new.held mac) }
+        ensures again { is_held self.old mac ≡ true → IsOk result }
         ensures err { OnErr result (self.new ≡ self.old) }
     {
         if self.is_at(spot, mac) {
@@ -273,6 +278,7 @@ impl NodeTable {
 
     /// What `heard` does, where the entry of the node is looked for at a spot first. It hears a numbered frame of a node at a
     /// ring port, A or B. Full and NoMemory: as `heard`.
+    #[inline(always)]
     pub fn heard_at(
         &mut self,
         spot: Option<Spot>,

@@ -10,6 +10,7 @@ use crate::fault::Word;
 use sr_hex::are_digits;
 
 /// Gives a list so many octets. Where it has to grow, the digits are looked at first.
+#[inline(always)]
 fn make_room(digits: &[u8], octets: &mut Vec<u8>, count: usize) -> Result<(), Word>
     ensures ok { OnOk result (length octets.new.items ≡ count) }
     ensures bad { result ≡ Err Word.Line → AllPass is_hex_digit digits.now → ⊥ }

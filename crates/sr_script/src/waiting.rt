@@ -71,6 +71,7 @@ impl Waiting {
     }
 
     /// Adds the text of a line.
+    #[inline(always)]
     pub(crate) fn add(&mut self, line: u64, text: &[u8]) -> Result<(), AllocError>
         ensures text { OnOk result (self.new.text.items ≡ self.old.text.items ++ text.now) }
         ensures marks { OnOk result (self.new.marks.items

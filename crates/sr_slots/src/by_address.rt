@@ -176,6 +176,7 @@ impl<V: Drop + Ranked> Slots<V> {
         ensures held { OnOk result ((is_held self.new key ≡ true)
             × (is_held self.new other ≡ true)) }
         ensures others { OnOk result (KeepsHeldBut self.old.held self.new.held key other) }
+        ensures again { is_held self.old key ≡ true → is_held self.old other ≡ true → IsOk result }
         ensures err { OnErr result (KeepsAllHeld self.old.held self.new.held) }
     {
         let newly = self.hold_newly(key)?;
@@ -218,7 +219,20 @@ impl<V: Drop + Ranked> Slots<V> {
     }
 
     /// Gives up all held places. Where they stand last and have no value, it looks at them alone.
+    #[inline(always)]
     pub fn release(&mut self)
+        ensures entries { self.new.entries ≡ self.old.entries }
+        ensures held { self.new.held ≡ [] }
+    {
+        if self.held == 0 {
+            return;
+        }
+        self.release_held();
+    }
+
+    // The same where there are some. It stands apart, so that a call with nothing to give up costs a question.
+    #[inline(never)]
+    fn release_held(&mut self)
         ensures entries { self.new.entries ≡ self.old.entries }
         ensures held { self.new.held ≡ [] }
     {

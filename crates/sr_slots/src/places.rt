@@ -46,6 +46,7 @@ pub fn find<V: Drop + Ranked>(map: &IndexMap<Mac, Slot<V>, Keys>, key: Mac) -> O
 }
 
 // Whether the place of an address is at this index.
+#[inline(always)]
 fn stands_at<V: Drop + Ranked>(map: &IndexMap<Mac, Slot<V>, Keys>, index: usize, key: Mac) -> bool
     ensures { result ≡ true → StandsAt key map.now.entries index }
 {
@@ -56,7 +57,19 @@ fn stands_at<V: Drop + Ranked>(map: &IndexMap<Mac, Slot<V>, Keys>, index: usize,
     }
 }
 
+// The index of the place of an address, by a look-up. It stands apart, so that an address that is where it was sought first costs
+// no more than a compare.
+#[inline(never)]
+fn sought<V: Drop + Ranked>(map: &IndexMap<Mac, Slot<V>, Keys>, key: Mac) -> Option<usize>
+    ensures found { is_some result ≡ is_some (lookup (mac_eq key) map.now.entries) }
+    ensures at { IfSome result (λ index. StandsAt key map.now.entries index) }
+{
+    let _places = map.len();
+    map.get_index_of(&key)
+}
+
 // The index of the place of an address: the given one, if it is there, else by a look-up.
+#[inline(always)]
 fn index_of<V: Drop + Ranked>(
     map: &IndexMap<Mac, Slot<V>, Keys>,
     first: Option<usize>,
@@ -70,7 +83,7 @@ fn index_of<V: Drop + Ranked>(
     {
         return Some(index);
     }
-    map.get_index_of(&key)
+    sought(map, key)
 }
 
 /// The value at an address, whose place is looked for at an index first.

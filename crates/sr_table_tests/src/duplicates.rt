@@ -67,8 +67,9 @@ fn hear(table: &mut DupTable, number: u16, now: u64) -> Answer {
     let src = mac(number);
     let count = table.source_count();
     let (ahead, spot) = told(table, src, now);
-    if table.reserve_at(spot, src).is_err()
-        && (table.source_count() != count || table.reserve_at(spot, src).is_err())
+    if spot.is_none()
+        && table.reserve(src).is_err()
+        && (table.source_count() != count || table.reserve(src).is_err())
     {
         return Answer::Wrong;
     }

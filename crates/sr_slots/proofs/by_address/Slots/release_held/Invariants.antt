@@ -1,6 +1,6 @@
 use Rattle.std.proofs.Common.{◌≡◌, length}
 use Rattle.sr_slots.specs.Places.{entries_of, held_of}
-use Rattle.sr_slots.proofs.by_address.Slots.release.Given as goal
+use Rattle.sr_slots.proofs.by_address.Slots.release_held.Given as goal
 
 -- what the places show of values stays, and both are counted
 abbrev pub invariant-loop-self : goal.invariant-loop-self
