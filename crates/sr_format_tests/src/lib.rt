@@ -7,8 +7,6 @@ mod calls;
 #[cfg(test)]
 mod captured;
 #[cfg(test)]
-mod faults;
-#[cfg(test)]
 mod frames;
 #[cfg(test)]
 mod framings;

@@ -160,11 +160,6 @@ pub fn absorb(node: &mut Node, other: &Node) -> Absorbed {
     }
 }
 
-/// What comes of time that passes.
-pub fn tick(node: &mut Node, now: u64) -> Outcome {
-    happens(node, &Event::Tick { now })
-}
-
 fn clone_happens_once(alloc: Global, node: &mut Node, event: &Event) -> Option<Outcome> {
     match event.try_clone(alloc) {
         Ok(clone) => Some(happens(node, &clone)),
@@ -193,6 +188,18 @@ fn hand_once(
     }
 }
 
+fn clone_ticks(alloc: Global, node: &mut Node, event: &Event) -> Outcome {
+    match event.try_clone(alloc) {
+        Ok(clone) => happens(node, &clone),
+        Err(_) => Outcome::Other,
+    }
+}
+
+/// What comes of time that passes, told by a clone of the event, which takes no memory.
+pub fn tick(alloc: Global, node: &mut Node, now: u64) -> Outcome {
+    clone_ticks(alloc, node, &Event::Tick { now })
+}
+
 /// Octets are decoded, and come in as an event. Want of memory for the parcel is met by another try.
 pub fn hand(alloc: Global, node: &mut Node, port: Port, octets: &[u8], now: u64) -> Outcome {
     match hand_once(alloc, node, port, octets, now) {
@@ -212,7 +219,7 @@ fn zeros_between(dst: Mac, src: Mac) -> [u8; 1524] {
 
 fn send_once(alloc: Global, node: &mut Node, octets: &[u8], now: u64) -> Option<Outcome> {
     match Frame::copy(alloc, octets) {
-        Ok(frame) => Some(happens(node, &Event::Send { frame, now })),
+        Ok(frame) => Some(clone_happens(alloc, node, &Event::Send { frame, now })),
         Err(_) => None,
     }
 }
@@ -291,18 +298,25 @@ enum Given {
     Other,
 }
 
-fn given_by_event(node: &mut Node, port: Port) -> Given {
-    match node.step(&Event::Take { port }) {
+fn given_by(node: &mut Node, event: &Event) -> Given {
+    match node.step(event) {
         Ok(Answer::Taken(Some(_))) => Given::Parcel,
         Ok(Answer::Taken(None)) => Given::Nothing,
         _ => Given::Other,
     }
 }
 
-/// Whether a take that is handed over as an event gives what is seen.
-pub fn takes_by_event(node: &mut Node, port: Port) -> bool {
+fn given_by_event(alloc: Global, node: &mut Node, event: &Event) -> Given {
+    match event.try_clone(alloc) {
+        Ok(clone) => given_by(node, &clone),
+        Err(_) => Given::Other,
+    }
+}
+
+/// Whether a take that is handed over as a clone of an event, which takes no memory, gives what is seen.
+pub fn takes_by_event(alloc: Global, node: &mut Node, port: Port) -> bool {
     let waiting = node.waiting(port);
-    match given_by_event(node, port) {
+    match given_by_event(alloc, node, &Event::Take { port }) {
         Given::Parcel => waiting.checked_sub(1) == Some(node.waiting(port)),
         Given::Nothing => waiting == 0,
         Given::Other => false,

@@ -6,6 +6,7 @@ use crate::steps::Outcome;
 use sr_frame::Port;
 use sr_node::Node;
 use sr_sequence::Seq;
+use std::alloc::Global;
 
 fn goes_up(node: &mut Node, sent: Sent, now: u64) -> bool {
     arrive_of_many(node, Port::A, &octets_of(sent), now) == Outcome::Up
@@ -35,15 +36,15 @@ pub fn hears_sources(node: &mut Node, count: u16) -> bool {
     true
 }
 
-fn life_goes_out(node: &mut Node, number: u16) -> bool {
+fn life_goes_out(alloc: Global, node: &mut Node, number: u16) -> bool {
     let wanted = Outcome::Ticked(0, Some(Seq(64511u16.wrapping_add(number))));
-    tick(node, 2000 * u64::from(number)) == wanted
+    tick(alloc, node, 2000 * u64::from(number)) == wanted
 }
 
 /// Whether each life check goes out.
-pub fn lives(node: &mut Node, count: u16) -> bool {
+pub fn lives(alloc: Global, node: &mut Node, count: u16) -> bool {
     for number in 0..count {
-        if !life_goes_out(node, number) {
+        if !life_goes_out(alloc, node, number) {
             return false;
         }
     }

@@ -27,6 +27,22 @@ fn a_standby_hands_up_what_is_left(rt: HostRuntime) {
     expect_steps(&rt, TAKEN_OVER);
 }
 
+// A node that has noted nothing takes over.
+const NOTHING_NOTED: &[Step] = &[
+    Step::Absorb(Sent::InA(5), 200, None),
+    Step::Time(200),
+    Step::In(Port::B, Sent::InB(5), 200, Outcome::Nowhere),
+    Step::In(Port::B, Sent::InB(6), 200, Outcome::Up),
+    Step::Absorb(Sent::InA(5), 200, None),
+    Step::In(Port::A, Sent::InA(6), 200, Outcome::Nowhere),
+    Step::Waiting(Port::H, 1),
+];
+
+#[test]
+fn a_new_node_takes_over(rt: HostRuntime) {
+    expect_steps(&rt, NOTHING_NOTED);
+}
+
 // Of numbers that are half of all apart, neither is ahead: the node stays as it is.
 const APART: &[Step] = &[
     Step::In(Port::A, Sent::InA(0), 100, Outcome::Up),

@@ -144,7 +144,7 @@ fn comes_to(alloc: Global, node: &mut Node, step: Step) -> Option<(Outcome, Outc
         Step::Zeros(port, len, first, now, wanted) => {
             Some((arrive_zeros(node, port, len, first, now), wanted))
         }
-        Step::Tick(now, wanted) => Some((tick(node, now), wanted)),
+        Step::Tick(now, wanted) => Some((tick(alloc, node, now), wanted)),
         Step::Send(dst, src, len, now, wanted) => {
             Some((send(alloc, node, dst, src, len, now), wanted))
         }
@@ -156,12 +156,12 @@ fn comes_to(alloc: Global, node: &mut Node, step: Step) -> Option<(Outcome, Outc
 fn succeeds(alloc: Global, node: &mut Node, step: Step) -> bool {
     match step {
         Step::Take(port, wanted) => takes(alloc, node, port, wanted),
-        Step::TakeEvent(port) => takes_by_event(node, port),
+        Step::TakeEvent(port) => takes_by_event(alloc, node, port),
         Step::Become(kind) => becomes(alloc, node, kind),
         Step::Absorb(sent, now, wanted) => absorbs(alloc, node, sent, now, wanted),
         Step::Fill(count, now) => fills(node, count, now),
         Step::Sources(count) => hears_sources(node, count),
-        Step::LifeChecks(count) => lives(node, count),
+        Step::LifeChecks(count) => lives(alloc, node, count),
         _ => false,
     }
 }

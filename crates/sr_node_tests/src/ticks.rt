@@ -33,6 +33,24 @@ fn life_checks_go_out_every_two_seconds(rt: HostRuntime) {
     expect_steps(&rt, LIFE);
 }
 
+// A life check goes out whichever port has more that waits.
+const UNEVEN_OUTBOXES: &[Step] = &[
+    Step::Tick(0, Outcome::Ticked(0, Some(Seq(64511)))),
+    Step::Take(Port::B, Taken::Life(64511, 32255)),
+    Step::Tick(2000, Outcome::Ticked(0, Some(Seq(64512)))),
+    Step::Take(Port::A, Taken::Life(64511, 32255)),
+    Step::Take(Port::A, Taken::Life(64512, 32256)),
+    Step::Tick(4000, Outcome::Ticked(0, Some(Seq(64513)))),
+    Step::Take(Port::B, Taken::Life(64512, 32256)),
+    Step::Take(Port::B, Taken::Life(64513, 32257)),
+    Step::Take(Port::A, Taken::Life(64513, 32257)),
+];
+
+#[test]
+fn life_checks_go_out_at_uneven_outboxes(rt: HostRuntime) {
+    expect_steps(&rt, UNEVEN_OUTBOXES);
+}
+
 // 256 life checks wait at either port: a tick at which one more is due is refused, first for A, then for B.
 const FULL_OUTBOXES: &[Step] = &[
     Step::LifeChecks(256),

@@ -1,6 +1,8 @@
-//! Tests of `sr_plant`, above it, so that its own functions are proved once.
+//! Tests of `sr_plant`, above it, so that its own functions are proved once; and of the words of all faults below it.
 #![tactic(auto)]
 
+#[cfg(test)]
+mod faults;
 #[cfg(test)]
 mod frames;
 #[cfg(test)]

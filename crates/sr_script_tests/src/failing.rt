@@ -18,6 +18,19 @@ impl Read for Broken<'_> {
     }
 }
 
+/// Gives its octets one by one.
+#[derive(Drop)]
+pub struct Sparse<'a> {
+    pub octets: &'a [u8],
+}
+
+impl Read for Sparse<'_> {
+    fn read(&mut self, buf: &mut [u8]) -> io::Result<usize> {
+        let room = buf.len().min(1);
+        self.octets.read(&mut buf[..room])
+    }
+}
+
 /// Gives some LFs.
 #[derive(Drop)]
 pub struct EmptyLines {
@@ -67,6 +80,46 @@ impl Write for Unflushed {
 
     fn flush(&mut self) -> io::Result<()> {
         Err(io::Error::from(ErrorKind::Other))
+    }
+}
+
+/// Is interrupted at every other call, and takes a few octets at those between.
+#[derive(Drop)]
+pub struct Interrupted {
+    pub is_next: bool,
+}
+
+impl Interrupted {
+    fn is_now(&mut self) -> bool {
+        self.is_next = !self.is_next;
+        !self.is_next
+    }
+}
+
+impl Write for Interrupted {
+    fn write(&mut self, buf: &[u8]) -> io::Result<usize> {
+        if self.is_now() {
+            return Err(io::Error::from(ErrorKind::Interrupted));
+        }
+        Ok(buf.len().min(7))
+    }
+
+    fn flush(&mut self) -> io::Result<()> {
+        Ok(())
+    }
+}
+
+/// Takes no octet, and does not say why.
+#[derive(Drop)]
+pub struct Stuck;
+
+impl Write for Stuck {
+    fn write(&mut self, _buf: &[u8]) -> io::Result<usize> {
+        Ok(0)
+    }
+
+    fn flush(&mut self) -> io::Result<()> {
+        Ok(())
     }
 }
 

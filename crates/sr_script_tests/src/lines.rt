@@ -1,5 +1,6 @@
 //! Lines, their endings, and readers and writers that fail.
 
+use crate::runs::Told::{Frames, Status};
 use crate::steps::{Step, expect_steps};
 use crate::texts::Part::{These, Times};
 use crate::texts::Text;
@@ -287,6 +288,25 @@ const READERS: &[Step] = &[
     ),
 ];
 
+// A line may come in any pieces.
+const PIECES: &[Step] = &[
+    Step::Sparse(
+        b"in A 0 00\n\n#\nin A 0 00",
+        b"refused 1 TooShort\nrefused 4 TooShort\n",
+        None,
+    ),
+    Step::Sparse(
+        b"in A 0 00\n\r\nin A 0 00\n",
+        b"refused 1 TooShort\n",
+        Some((2, Word::Line)),
+    ),
+];
+
+#[test]
+fn lines_in_pieces(rt: HostRuntime) {
+    expect_steps(&rt, PIECES);
+}
+
 #[test]
 fn reader_fails(rt: HostRuntime) {
     expect_steps(&rt, READERS);
@@ -302,21 +322,27 @@ const A_FAULT_BEHIND: &[u8] = b"in A 0 00\nin A 0 00\nno line\nin A 0 00\n";
 const TWO_FRAMES: &[u8] = b"in A 0 00\nin A 0 00\n";
 
 const WRITERS: &[Step] = &[
-    Step::Narrow(TWO_FRAMES, 0, Some((1, Word::Write))),
-    Step::Narrow(TWO_FRAMES, 18, Some((1, Word::Write))),
-    Step::Narrow(TWO_FRAMES, 19, Some((2, Word::Write))),
-    Step::Narrow(TWO_FRAMES, 37, Some((2, Word::Write))),
-    Step::Narrow(TWO_FRAMES, 38, None),
-    Step::Unflushed(TWO_FRAMES, Some((2, Word::Write))),
+    Step::Narrow(Frames, TWO_FRAMES, 0, Some((1, Word::Write))),
+    Step::Narrow(Frames, TWO_FRAMES, 18, Some((1, Word::Write))),
+    Step::Narrow(Frames, TWO_FRAMES, 19, Some((2, Word::Write))),
+    Step::Narrow(Frames, TWO_FRAMES, 37, Some((2, Word::Write))),
+    Step::Narrow(Frames, TWO_FRAMES, 38, None),
+    Step::Unflushed(Frames, TWO_FRAMES, Some((2, Word::Write))),
     // Lines that print nothing stand between and behind those that do.
-    Step::Narrow(FRAMES_APART, 18, Some((2, Word::Write))),
-    Step::Narrow(FRAMES_APART, 19, Some((5, Word::Write))),
-    Step::Unflushed(FRAMES_APART, Some((5, Word::Write))),
+    Step::Narrow(Frames, FRAMES_APART, 18, Some((2, Word::Write))),
+    Step::Narrow(Frames, FRAMES_APART, 19, Some((5, Word::Write))),
+    Step::Unflushed(Frames, FRAMES_APART, Some((5, Word::Write))),
     // What waits is written before a fault is told, and its own fault goes before that.
-    Step::Narrow(A_FAULT_BEHIND, 38, Some((3, Word::Line))),
-    Step::Narrow(A_FAULT_BEHIND, 37, Some((2, Word::Write))),
-    Step::Narrow(A_FAULT_BEHIND, 18, Some((1, Word::Write))),
-    Step::Unflushed(A_FAULT_BEHIND, Some((2, Word::Write))),
+    Step::Narrow(Frames, A_FAULT_BEHIND, 38, Some((3, Word::Line))),
+    Step::Narrow(Frames, A_FAULT_BEHIND, 37, Some((2, Word::Write))),
+    Step::Narrow(Frames, A_FAULT_BEHIND, 18, Some((1, Word::Write))),
+    Step::Unflushed(Frames, A_FAULT_BEHIND, Some((2, Word::Write))),
+    // What was obeyed is not left to be read, though it was not written.
+    Step::Left(TWO_FRAMES, 18, 0),
+    Step::Left(A_FAULT_BEHIND, 18, 18),
+    // An interrupted write is made again, and goes on where it was; a writer that takes nothing has failed.
+    Step::Interrupted(Frames, TWO_FRAMES),
+    Step::Stuck(Frames, TWO_FRAMES, Some((1, Word::Write))),
 ];
 
 #[test]
@@ -327,13 +353,43 @@ fn writer_fails(rt: HostRuntime) {
 // What is printed for the whole lines at hand is written at once, and then passed on; a last line without LF is read for
 // itself, and what is printed for it goes out too. Where nothing is printed, nothing is called.
 const CALLS: &[Step] = &[
-    Step::Recorded(b"in A 0 00\n\nin A 0 00\n#", b"wf"),
-    Step::Recorded(b"in A 0 00\nin A 0 00\nin A 0 00", b"wfwf"),
-    Step::Recorded(b"in A 0 00", b"wf"),
-    Step::Recorded(b"\n#\n", b""),
+    Step::Recorded(Frames, &[These(b"in A 0 00\n\nin A 0 00\n#")], b"wf"),
+    Step::Recorded(
+        Frames,
+        &[These(b"in A 0 00\nin A 0 00\nin A 0 00")],
+        b"wfwf",
+    ),
+    Step::Recorded(Frames, &[These(b"in A 0 00")], b"wf"),
+    Step::Recorded(Frames, &[These(b"\n#\n")], b""),
+    // No more waits than 65536 octets: the first 3030 lines print so many, and the next one is read for itself.
+    Step::Recorded(Frames, &[Times(4000, b"in A 0 00\n")], b"wfwfwf"),
 ];
 
 #[test]
 fn answers_are_passed_on_together(rt: HostRuntime) {
     expect_steps(&rt, CALLS);
+}
+
+/// A node is heard, of which a line is told at the end.
+const HEARD: &[u8] = b"in A 0 02000000000102000000000208005c0005a00788fb\n";
+
+/// Before that 19 octets are printed for a frame that is refused.
+const HEARD_AND_REFUSED: &[u8] = b"in A 0 02000000000102000000000208005c0005a00788fb\nin A 0 00\n";
+
+// What is told at the end is written and passed on for itself; the line of a fault is then the one behind the last.
+const ENDS: &[Step] = &[
+    Step::Recorded(Status, &[These(HEARD)], b"wf"),
+    Step::Recorded(Status, &[These(HEARD_AND_REFUSED)], b"wfwf"),
+    Step::Recorded(Status, &[These(b"\n#\n")], b""),
+    Step::Narrow(Status, HEARD_AND_REFUSED, 18, Some((2, Word::Write))),
+    Step::Narrow(Status, HEARD_AND_REFUSED, 19, Some((3, Word::Write))),
+    Step::Unflushed(Status, HEARD, Some((2, Word::Write))),
+    Step::Unflushed(Status, HEARD_AND_REFUSED, Some((2, Word::Write))),
+    Step::Interrupted(Status, HEARD_AND_REFUSED),
+    Step::Stuck(Status, HEARD, Some((2, Word::Write))),
+];
+
+#[test]
+fn the_end_is_passed_on(rt: HostRuntime) {
+    expect_steps(&rt, ENDS);
 }

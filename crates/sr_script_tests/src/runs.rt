@@ -1,7 +1,7 @@
 //! The runs. Each function keeps to itself what it owns, and answers whether all was as it had to be, or None for want
 //! of memory.
 
-use crate::failing::{Broken, EmptyLines, Narrow, Recorder, Unflushed};
+use crate::failing::{Broken, EmptyLines, Interrupted, Narrow, Recorder, Sparse, Stuck, Unflushed};
 use crate::texts::{Text, joined};
 use sr_frame::Mac;
 use sr_prp_trailer::Lan;
@@ -168,31 +168,72 @@ pub fn is_broken(
     )
 }
 
+/// Whether a run over a reader that gives these octets one by one writes this and ends so.
+pub fn is_sparse(alloc: Global, octets: &[u8], wanted: &[u8], ending: Ending) -> Option<bool> {
+    is_read(alloc, Sparse { octets }, wanted, ending)
+}
+
 /// Whether a run over so many empty lines ends so.
 pub fn are_empty_lines(alloc: Global, left: usize, ending: Ending) -> Option<bool> {
     is_read(alloc, EmptyLines { left }, &[], ending)
 }
 
-/// Whether a run with a writer that takes so many octets ends so.
-pub fn is_narrow(alloc: Global, script: &[u8], room: usize, ending: Ending) -> Option<bool> {
+/// What a run with this writer ends in, and whether it is so. None for want of memory.
+fn is_written<W: Write>(
+    told: Told,
+    alloc: Global,
+    script: &[u8],
+    writer: &mut W,
+    ending: Ending,
+) -> Option<bool> {
     let mut reader = script;
-    is_ended(
-        run(alloc, &danp(), &mut reader, &mut Narrow { room }),
-        ending,
-    )
+    is_ended(run_as(told, alloc, &danp(), &mut reader, writer), ending)
+}
+
+/// Whether a run with a writer that takes so many octets ends so.
+pub fn is_narrow(
+    told: Told,
+    alloc: Global,
+    script: &[u8],
+    room: usize,
+    ending: Ending,
+) -> Option<bool> {
+    is_written(told, alloc, script, &mut Narrow { room }, ending)
+}
+
+/// Whether a run with a writer that takes so many octets fails, and leaves so many octets to be read.
+pub fn leaves(alloc: Global, script: &[u8], room: usize, left: usize) -> Option<bool> {
+    let mut reader = script;
+    let outcome = run(alloc, &danp(), &mut reader, &mut Narrow { room });
+    Some(!is_ended(outcome, None)? && reader.len() == left)
 }
 
 /// Whether a run with a writer that can not be flushed ends so.
-pub fn is_unflushed(alloc: Global, script: &[u8], ending: Ending) -> Option<bool> {
-    let mut reader = script;
-    is_ended(run(alloc, &danp(), &mut reader, &mut Unflushed), ending)
+pub fn is_unflushed(told: Told, alloc: Global, script: &[u8], ending: Ending) -> Option<bool> {
+    is_written(told, alloc, script, &mut Unflushed, ending)
+}
+
+/// Whether a run with a writer that is interrupted again and again ends well.
+pub fn is_interrupted(told: Told, alloc: Global, script: &[u8]) -> Option<bool> {
+    is_written(
+        told,
+        alloc,
+        script,
+        &mut Interrupted { is_next: true },
+        None,
+    )
+}
+
+/// Whether a run with a writer that takes nothing ends so.
+pub fn is_stuck(told: Told, alloc: Global, script: &[u8], ending: Ending) -> Option<bool> {
+    is_written(told, alloc, script, &mut Stuck, ending)
 }
 
 /// Whether a run makes these calls of its writer.
-pub fn is_recorded(alloc: Global, script: &[u8], calls: &[u8]) -> Option<bool> {
-    let mut reader = script;
+pub fn is_recorded(told: Told, alloc: Global, script: Text, calls: &[u8]) -> Option<bool> {
+    let script = joined(alloc, script)?;
     let mut writer = Recorder::new();
-    Some(is_ended(run(alloc, &danp(), &mut reader, &mut writer), None)? && writer.kept(calls))
+    Some(is_written(told, alloc, &script, &mut writer, None)? && writer.kept(calls))
 }
 
 /// Whether these are the answers to the first lines, to so many.

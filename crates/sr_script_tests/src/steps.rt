@@ -1,8 +1,8 @@
 //! One driver for all tests: it makes the runs of a table, and answers at which one it differs.
 
 use crate::runs::{
-    At, Ending, Told, are_empty_lines, is_broken, is_narrow, is_recorded, is_run_at, is_run_to,
-    is_taken_up, is_unflushed,
+    At, Ending, Told, are_empty_lines, is_broken, is_interrupted, is_narrow, is_recorded,
+    is_run_at, is_run_to, is_sparse, is_stuck, is_taken_up, is_unflushed, leaves,
 };
 use crate::texts::{Part, Text};
 use sr_script::Word;
@@ -29,14 +29,22 @@ pub enum Step {
     Refused(&'static [u8]),
     /// The reader gives these octets and then fails so: what is written, and at which line the run ends.
     Broken(&'static [u8], ErrorKind, &'static [u8], u64),
+    /// The reader gives these octets one by one: what is written, and how the run ends.
+    Sparse(&'static [u8], &'static [u8], Ending),
     /// The reader gives so many LFs.
     EmptyLines(usize, Ending),
     /// The writer takes so many octets and then fails.
-    Narrow(&'static [u8], usize, Ending),
+    Narrow(Told, &'static [u8], usize, Ending),
+    /// The writer takes so many octets and then fails, and so many octets are left to be read.
+    Left(&'static [u8], usize, usize),
     /// The writer takes all, and does not pass it on.
-    Unflushed(&'static [u8], Ending),
+    Unflushed(Told, &'static [u8], Ending),
+    /// The writer is interrupted again and again, and the run ends well.
+    Interrupted(Told, &'static [u8]),
+    /// The writer takes nothing.
+    Stuck(Told, &'static [u8], Ending),
     /// A script, and the calls of its writer.
-    Recorded(&'static [u8], &'static [u8]),
+    Recorded(Told, Text, &'static [u8]),
     /// A script at a node, and the answers to each of its lines. Memory may be refused once.
     TakenUp(At, &'static [u8], &'static [&'static [u8]]),
     /// The same, and the status behind them.
@@ -62,7 +70,7 @@ fn comes(alloc: Global, step: Step) -> Option<bool> {
         Step::Status(at, script, wanted, ending) => {
             is_run_at(Told::Status, alloc, at, script, wanted, ending)
         }
-        Step::Recorded(script, calls) => is_recorded(alloc, script, calls),
+        Step::Recorded(told, script, calls) => is_recorded(told, alloc, script, calls),
         Step::Obeyed(line) => is_run_to(alloc, TWO_LINES, line, b"refused 3 TooShort\n", None),
         Step::Skipped(line) => is_run_to(
             alloc,
@@ -79,9 +87,13 @@ fn comes(alloc: Global, step: Step) -> Option<bool> {
             Some((3, Word::Line)),
         ),
         Step::Broken(octets, kind, wanted, line) => is_broken(alloc, octets, kind, wanted, line),
+        Step::Sparse(octets, wanted, ending) => is_sparse(alloc, octets, wanted, ending),
         Step::EmptyLines(left, ending) => are_empty_lines(alloc, left, ending),
-        Step::Narrow(script, room, ending) => is_narrow(alloc, script, room, ending),
-        Step::Unflushed(script, ending) => is_unflushed(alloc, script, ending),
+        Step::Narrow(told, script, room, ending) => is_narrow(told, alloc, script, room, ending),
+        Step::Left(script, room, left) => leaves(alloc, script, room, left),
+        Step::Unflushed(told, script, ending) => is_unflushed(told, alloc, script, ending),
+        Step::Interrupted(told, script) => is_interrupted(told, alloc, script),
+        Step::Stuck(told, script, ending) => is_stuck(told, alloc, script, ending),
         Step::TakenUp(at, script, answers) => {
             is_taken_up(Told::Frames, alloc, at, script, answers)
         }

@@ -159,6 +159,7 @@ fn misread(rt: HostRuntime) {
 
 const THERE_AND_BACK: &[Step] = &[
     Reads(One),
+    MakeRoom(0, true),
     MakeRoom(3, true),
     Fill(One, 0, 3, 1000),
     MakeRoom(usize::MAX, false),

@@ -1,17 +1,29 @@
-//! The words of faults.
+//! The words of faults, of frames, tables, nodes and plants.
 
+use sr_dup_table::{DupFault, TableFull};
+use sr_dup_window::Apart;
 use sr_forwarding::ReadFault;
-use sr_frame::{FrameFault, NoMemory};
+use sr_frame::{FrameFault, Mac, NoMemory, Port};
 use sr_hsr_tag::{TagFault, UntagFault};
+use sr_node::StepFault;
+use sr_plant::PlantFault;
 use sr_prp_trailer::StripFault;
 use sr_supervision::SupFault;
 use std::alloc::Global;
 use std::fmt::Display;
 
 /// Whether a fault is told so. None for want of memory.
-fn is_told<D: Display>(alloc: Global, fault: &D, words: &str) -> Option<bool> {
+fn is_told_once<D: Display>(alloc: Global, fault: &D, words: &str) -> Option<bool> {
     let text = fault.to_string(alloc).ok()?;
     Some(text.as_str() == words)
+}
+
+/// The same. For want of memory it is asked again.
+fn is_told<D: Display>(alloc: Global, fault: &D, words: &str) -> bool {
+    match is_told_once(alloc, fault, words) {
+        Some(is_told) => is_told,
+        None => is_told_once(alloc, fault, words) == Some(true),
+    }
 }
 
 const FRAMES: &[(FrameFault, &str)] = &[
@@ -59,10 +71,40 @@ const READS: &[(ReadFault, &str)] = &[
     (ReadFault::NoMemory, "out of memory"),
 ];
 
+const TABLES: &[(DupFault, &str)] = &[
+    (DupFault::TableFull, "the duplicate table is full"),
+    (DupFault::NoMemory, "out of memory"),
+    (
+        DupFault::Apart(Mac([2, 0, 0, 0, 0, 1])),
+        "two records of a source are 32768 apart",
+    ),
+    (DupFault::BadSnapshot, "no snapshot of a duplicate table"),
+];
+
+const STEPS: &[(StepFault, &str)] = &[
+    (
+        StepFault::Reading(ReadFault::TooShort),
+        "the frame is not read",
+    ),
+    (StepFault::Untagged, "the frame has no tag"),
+    (StepFault::TableFull, "the table of sources is full"),
+    (StepFault::OutboxFull(Port::A), "an outbox is full"),
+    (StepFault::NoMemory, "out of memory"),
+];
+
+const PLANTS: &[(PlantFault, &str)] = &[
+    (PlantFault::NoSuchNode, "no such node or link"),
+    (PlantFault::NoSuchCopy, "no such copy"),
+    (PlantFault::ClockBack, "the clock would go back"),
+    (PlantFault::Node(StepFault::Untagged), "the node refuses it"),
+    (PlantFault::BadPlant, "the nodes make no plant"),
+    (PlantFault::NoMemory, "out of memory"),
+];
+
 /// The place of the first fault that is told otherwise.
 fn first_wrong<D: Display>(alloc: Global, faults: &[(D, &str)]) -> Option<usize> {
     for (place, (fault, words)) in faults.iter().enumerate() {
-        if is_told(alloc, fault, words) != Some(true) {
+        if !is_told(alloc, fault, words) {
             return Some(place);
         }
     }
@@ -79,4 +121,11 @@ fn words_of_faults(rt: HostRuntime) {
     assert_eq!(rt; first_wrong(alloc, STRIPS), None);
     assert_eq!(rt; first_wrong(alloc, SUPERVISIONS), None);
     assert_eq!(rt; first_wrong(alloc, READS), None);
+    let apart = "the greatest numbers are 32768 apart";
+    assert_eq!(rt; first_wrong(alloc, &[(Apart, apart)]), None);
+    let full = "the duplicate table is full";
+    assert_eq!(rt; first_wrong(alloc, &[(TableFull, full)]), None);
+    assert_eq!(rt; first_wrong(alloc, TABLES), None);
+    assert_eq!(rt; first_wrong(alloc, STEPS), None);
+    assert_eq!(rt; first_wrong(alloc, PLANTS), None);
 }
