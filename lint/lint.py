@@ -1,6 +1,7 @@
 #!/usr/bin/env python3
 """Looks for what no proof refuses: lines that are too wide, what is public without a comment, limits without a name, one
-name for two things, want of memory that nobody met, documents that name what is not there or show what is not compiled.
+name for two things, want of memory that nobody met, keys that go no further, documents that name what is not there or
+show what is not compiled.
 Prints a line for each finding, and exits with 1 where there is one.
 
 lint.py [ROOT]: of the repository at ROOT, this one where none is given."""
@@ -212,6 +213,29 @@ def made_lacks(root):
                 yield path, number + 1, "makes want of memory, and passes on none"
 
 
+def dropped_keys(root):
+    """Keys that are given go on: a `with_keys` hands them to each table that it makes, and fixed ones stand in a `new` alone.
+    No clause can see them, since no answer depends on them."""
+    sources = [path for path in sorted(root.glob("crates/*/src/**/*.rt")) if path.name != "tests.rt"]
+    sources = [path for path in sources if not path.relative_to(root).parts[1].endswith("_tests")]
+    keyed = {name for path in sources for name in re.findall(r"\b(\w+)::with_keys\(", path.read_text())}
+    for path in sources:
+        function, begun, hands_on = "", 0, True
+        for number, line in [*numbered(path), (0, "fn")]:
+            code = line.split("//")[0]
+            found = re.match(r"\s*(?:pub(?:\(crate\))? )?(?:const )?fn\b ?(\w*)", code)
+            if found:
+                if not hands_on:
+                    yield path, begun, "drops the keys that it is given"
+                function, begun, hands_on = found[1], number, found[1] != "with_keys"
+            elif function == "with_keys":
+                hands_on = hands_on or re.search(r"\bkeys\b", code) is not None
+                if any(name in keyed for name in re.findall(r"\b(\w+)::new\(", code)):
+                    yield path, number, "makes a table without the keys that it is given"
+            if re.search(r"with_keys\(.*Keys::FIXED", code) and function != "new":
+                yield path, number, "makes a table with fixed keys outside a `new`"
+
+
 def stripped(text):
     return "\n".join(line.strip() for line in text.strip().split("\n"))
 
@@ -251,6 +275,7 @@ RULES = [
     bare_limits,
     names_twice,
     made_lacks,
+    dropped_keys,
     missing_files,
     crate_tables,
     untested_examples,

@@ -107,6 +107,19 @@ class Lint(unittest.TestCase):
         ]:
             self.assertEqual(self.findings({source: lines + "\n"}), [], lines)
 
+    def test_dropped_keys(self):
+        source = "crates/sr_one/src/lib.rt"
+        made = "fn new() -> One {\n    One::with_keys(Keys::FIXED)\n}\n"
+        given = made + "fn with_keys(keys: Keys) -> One {\n    One(CALL)\n}\n"
+        self.assertEqual(self.findings({source: given.replace("CALL", "Two::with_keys(keys)")}), [])
+        for call, number, text in [
+            ("Two::with_keys(two)", 4, "drops the keys that it is given"),
+            ("keys, One::new()", 5, "makes a table without the keys that it is given"),
+            ("keys, Two::with_keys(Keys::FIXED)", 5, "makes a table with fixed keys outside a `new`"),
+        ]:
+            found = self.findings({source: given.replace("CALL", call)})
+            self.assertEqual(found, [f"{source}:{number}: {text}"], call)
+
     def test_missing_files(self):
         text = IN_ORDER["README.md"]
         for name in ["`two.rt`", "`crates/sr_one/src/two.rt`", "[the map](docs/MAP.md)"]:
