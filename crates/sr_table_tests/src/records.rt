@@ -96,6 +96,8 @@ fn merges_in_any_order_and_grouping(rt: HostRuntime) {
 
 #[test]
 fn sets_of_lanes(rt: HostRuntime) {
+    let in_order = [Lane::H, Lane::A, Lane::B, Lane::C, Lane::GotA, Lane::GotB];
+    assert_eq!(rt; Lane::ALL, in_order);
     let ends = Lanes::H.union(Lanes::GOT_B);
     for lane in Lane::ALL {
         assert_eq!(rt; ends.has(lane), matches!(lane, Lane::H | Lane::GotB));
