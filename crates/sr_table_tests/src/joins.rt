@@ -82,6 +82,14 @@ const FULL_TABLES: &[Step] = &[
     Count(One, 0),
 ];
 
+// A full table goes into one that lacks all its sources, the 1024th among them.
+const FULL_INTO_EMPTY: &[Step] = &[
+    Fill(One, 0, 1024, 1000),
+    Merge(Two, One, 1100, Joined),
+    Count(Two, 1024),
+    Same(One, Two, true),
+];
+
 #[test]
 fn two_sources(rt: HostRuntime) {
     expect_steps(&rt, TWO_SOURCES);
@@ -105,4 +113,9 @@ fn apart_sources(rt: HostRuntime) {
 #[test]
 fn full_tables(rt: HostRuntime) {
     expect_steps(&rt, FULL_TABLES);
+}
+
+#[test]
+fn full_into_empty(rt: HostRuntime) {
+    expect_steps(&rt, FULL_INTO_EMPTY);
 }
