@@ -12,6 +12,8 @@ const LINES: &[Step] = &[
     Step::Obeyed(b"in A 0 00"),
     Step::Obeyed(b"in B 0 fF"),
     Step::Obeyed(b"in A 0 Aa\n"),
+    Step::Obeyed(b"in A 999999999999999999 00"),
+    Step::Obeyed(b"in A 1000000000000000000 00"),
     Step::Obeyed(b"in A 18446744073709551615 00"),
     Step::Obeyed(b"send 0 00"),
     Step::Obeyed(b"send 18446744073709551615 fF\n"),
