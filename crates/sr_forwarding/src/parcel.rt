@@ -178,6 +178,13 @@ impl Parcel {
         self.wrong_lan
     }
 
+    /// The list of its octets, for another parcel. Does not allocate.
+    pub fn into_octets(self) -> Vec<u8>
+        ensures { result.items ≡ self.octets }
+    {
+        self.octets.into_octets()
+    }
+
     /// An equal parcel. `NoMemory` where its one growth was refused.
     pub fn try_clone(&self, alloc: Global) -> Result<Parcel, NoMemory>
         ensures { IfOk result (λ p. p ≡ self.now) }

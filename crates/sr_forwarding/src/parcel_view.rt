@@ -1,6 +1,6 @@
 //! Parcels that borrow their octets.
 
-ghost use Rattle.std.specs.Prelude.{◌≡◌, ◌<◌, ℕ, None, IfOk};
+ghost use Rattle.std.specs.Prelude.{◌≡◌, ◌<◌, ◌≤◌, ℕ, None, IfOk, IsOk, length, vec_capacity};
 ghost use Rattle.sr_frame.specs.Frame.{HasFrameLength, IsFrame, spelling};
 ghost use Rattle.sr_frame.specs.View.{fields_of};
 ghost use Rattle.sr_hsr_tag.specs.Tagged.{IsTagged};
@@ -112,6 +112,17 @@ impl<'a> ParcelView<'a> {
         ensures { IfOk result (λ p. p ≡ self.now) }
     {
         let octets = Frame::of(Vec::from_slice(alloc, self.octets)?);
+        Ok(Parcel::of_parts(self.form, octets, self.seq, self.path, self.wrong_lan))
+    }
+
+    /// The same in this list, in place of what it held. Where the list has room for the octets no growth is needed.
+    pub fn to_parcel_in(&self, mut list: Vec<u8>) -> Result<Parcel, NoMemory>
+        ensures parcel { IfOk result (λ p. p ≡ self.now) }
+        ensures room { length self.now.octets ≤ vec_capacity list → IsOk result }
+    {
+        list.clear();
+        list.extend_from_slice(self.octets)?;
+        let octets = Frame::of(list);
         Ok(Parcel::of_parts(self.form, octets, self.seq, self.path, self.wrong_lan))
     }
 

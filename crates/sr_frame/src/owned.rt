@@ -82,6 +82,13 @@ impl Frame {
         Ok(Frame { octets })
     }
 
+    /// The octets, in the list that the frame kept. Does not allocate.
+    pub fn into_octets(self) -> Vec<u8>
+        ensures { result.items ≡ self }
+    {
+        self.octets
+    }
+
     /// All octets.
     pub fn octets(&self) -> &[u8]
         ensures whole { result.now ≡ self.now }

@@ -1,5 +1,5 @@
 -- What a node does with a frame that comes in, at a moment.
-use Rattle.std.specs.Prelude.{◌≡◌, ℕ, ◌+◌, min, Bool, true, false, not, ◌&&◌, nat_lt, List, length, Option, None, Some, if◌then◌else◌}
+use Rattle.std.specs.Prelude.{◌≡◌, ℕ, ◌+◌, min, Bool, true, false, not, ◌&&◌, nat_lt, length, Option, None, Some, if◌then◌else◌}
 use Rattle.sr_frame.specs.declared.ports.Port.{Port}
 use Rattle.sr_frame.specs.declared.ports.Port.TheVariants.{H, A, B, C}
 use Rattle.sr_frame.specs.declared.fields.Mac.{Mac}
@@ -13,7 +13,6 @@ use Rattle.sr_forwarding.specs.declared.header.Header.{Header}
 use Rattle.sr_forwarding.specs.declared.outlets.Outlets.{Outlets}
 use Rattle.sr_forwarding.specs.declared.role_image.RoleKind.{RoleKind}
 use Rattle.sr_forwarding.specs.declared.role_image.RoleKind.TheVariants as kind
-use Rattle.sr_forwarding.specs.Outlets.{listed}
 use Rattle.sr_forwarding.specs.Parcels.{ParcelImage}
 use Rattle.sr_forwarding.specs.Headers.{header_of}
 use Rattle.sr_forwarding.specs.Routes.{routes}
@@ -138,20 +137,20 @@ passed s port p next now outlets said = record {
   };
 }
 
--- the frame went to these outlets, which are answered in the order H, A, B, C
-abbrev pub PassedTo : State → Port → ParcelImage → ℕ → Option Outlets → List Port → State → Type 0
-PassedTo s port p now None ports t = ⊥
-PassedTo s port p now (Some outlets) ports t =
+-- the frame went to these outlets, and they are answered
+abbrev pub PassedTo : State → Port → ParcelImage → ℕ → Option Outlets → Outlets → State → Type 0
+PassedTo s port p now None answered t = ⊥
+PassedTo s port p now (Some outlets) answered t =
     (said : Option Supervision)
     × SaysOf p said
-    × (ports ≡ listed outlets)
+    × (answered ≡ outlets)
     × (t ≡ passed s port (going_on s port p) (next_at s.core.next port p) now outlets said)
 
 -- from s, an arrival may be answered so, and leave t
 abbrev pub Arrived : State → Port → ParcelImage → ℕ → Answer → State → Type 0
 Arrived s port p now answer.Own t = (is_own s p ≡ true) × (t ≡ record s { core = with_time s.core now })
-Arrived s port p now (answer.Passed ports) t =
-    (is_own s p ≡ false) × PassedTo s port p now (goes s port p now) ports.items t
+Arrived s port p now (answer.Passed outlets) t =
+    (is_own s p ≡ false) × PassedTo s port p now (goes s port p now) outlets t
 Arrived s port p now (answer.Sent number) t = ⊥
 Arrived s port p now (answer.Ticked sources nodes proxies life) t = ⊥
 Arrived s port p now (answer.Taken given) t = ⊥

@@ -365,7 +365,7 @@ impl<R: Role> NodeOf<R> {
             } => {
                 let said = said_by(&parcel);
                 self.pass(port, parcel, &header, now, wanted, outlets, spot, said)?;
-                Ok(Answer::Passed(outlets.ports(self.core.alloc())))
+                Ok(Answer::Passed(outlets))
             }
         }
     }

@@ -25,12 +25,13 @@ pub(crate) fn no_copies() -> Copies
     }
 }
 
-// The parcel, if it is wanted. What is not takes no memory.
+// The parcel in the spare list, if it is wanted. What is not takes no memory.
 #[inline(always)]
 fn copy_if(
     alloc: Global,
     wanted: bool,
     parcel: &ParcelView<'_>,
+    spare: &mut Vec<u8>,
     copy: &mut Option<Parcel>,
 ) -> Result<(), NoMemory>
     requires { copy.old ≡ None }
@@ -38,27 +39,29 @@ fn copy_if(
     ensures unwanted { wanted ≡ false → IsOk result }
 {
     if wanted {
-        *copy = Some(parcel.to_parcel(alloc)?);
+        let list = std::mem::replace(spare, Vec::new(alloc));
+        *copy = Some(parcel.to_parcel_in(list)?);
     }
     Ok(())
 }
 
-/// A copy for each of these outlets. Where there are none it takes no memory.
+/// A copy for each of these outlets, the first in the spare list. Where there are none it takes no memory.
 #[inline(always)]
 pub(crate) fn copies_for(
     alloc: Global,
     outlets: Outlets,
     parcel: &ParcelView<'_>,
+    spare: &mut Vec<u8>,
     copies: &mut Copies,
 ) -> Result<(), NoMemory>
     requires { copies.old ≡ no_copies }
     ensures copies { OnOk result (copies.new ≡ copies_for outlets parcel.now) }
     ensures nowhere { outlets ≡ to [] → IsOk result }
 {
-    copy_if(alloc, outlets.has(Port::H), parcel, &mut copies.h)?;
-    copy_if(alloc, outlets.has(Port::A), parcel, &mut copies.a)?;
-    copy_if(alloc, outlets.has(Port::B), parcel, &mut copies.b)?;
-    copy_if(alloc, outlets.has(Port::C), parcel, &mut copies.c)
+    copy_if(alloc, outlets.has(Port::H), parcel, spare, &mut copies.h)?;
+    copy_if(alloc, outlets.has(Port::A), parcel, spare, &mut copies.a)?;
+    copy_if(alloc, outlets.has(Port::B), parcel, spare, &mut copies.b)?;
+    copy_if(alloc, outlets.has(Port::C), parcel, spare, &mut copies.c)
 }
 
 /// Puts each copy last in its queue.

@@ -90,6 +90,15 @@ impl<R: Role> NodeOf<R> {
         self.core.take(port)
     }
 
+    /// Gives the memory of a parcel that went out back to the node, for the next. Nothing that shows changes.
+    pub fn give_back(&mut self, parcel: Parcel)
+        ensures same { node_state (R.meaning self.new.role) self.new.core
+            ≡ node_state (R.meaning self.old.role) self.old.core }
+        ensures idle { IsIdle self.old.core → IsIdle self.new.core }
+    {
+        self.core.give_back(parcel);
+    }
+
     /// How many parcels wait at a port.
     pub fn waiting(&self, port: Port) -> usize
         ensures { result ≡ length (box_at (shown self.now.core).out port) }

@@ -83,8 +83,8 @@ impl<R: Role> NodeOf<R> {
         let outlets = self.plan_send(frame, now)?;
         let number = self.core.next();
         let mut copies = no_copies();
-        self.core
-            .copies(outlets, &self.sent_parcel(frame), &mut copies)?;
+        let parcel = self.sent_parcel(frame);
+        self.core.copies(outlets, &parcel, &mut copies)?;
         self.core.send(&mut copies, now);
         Ok(Answer::Sent(number))
     }

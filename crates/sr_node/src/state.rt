@@ -50,6 +50,8 @@ pub struct Core {
     nodes: NodeTable,
     out: PerPort<Outbox>,
     wrong_lan: PerPort<u64>,
+    // A list that the next copy of a frame is made in.
+    spare: Vec<u8>,
     alloc: Global,
 }
 
@@ -111,6 +113,7 @@ impl Core {
                 b: 0,
                 c: 0,
             },
+            spare: Vec::new(alloc),
             alloc,
         })
     }
@@ -174,20 +177,28 @@ impl Core {
         })
     }
 
-    /// A copy for each of these outlets, where there is room. NoMemory: a growth was refused.
+    /// A copy for each of these outlets, where there is room. Nothing that shows changes. NoMemory: a growth was refused.
     #[inline(always)]
     pub(crate) fn copies(
-        &self,
+        &mut self,
         outlets: Outlets,
         parcel: &ParcelView<'_>,
         copies: &mut Copies,
     ) -> Result<(), NoMemory>
-        requires full { first_full self.now.out outlets ≡ None }
+        requires full { first_full self.old.out outlets ≡ None }
         requires none { copies.old ≡ no_copies }
         ensures copies { OnOk result (copies.new ≡ copies_for outlets parcel.now) }
-        ensures room { OnOk result (Room self.now.out copies.new) }
+        ensures room { OnOk result (Room self.new.out copies.new) }
+        ensures same { self.new ≡ self.old }
     {
-        copies_for(self.alloc, outlets, parcel, copies)
+        copies_for(self.alloc, outlets, parcel, &mut self.spare, copies)
+    }
+
+    /// Takes the list of a parcel's octets for the next copy. Nothing that shows changes.
+    pub(crate) fn give_back(&mut self, parcel: Parcel)
+        ensures { self.new ≡ self.old }
+    {
+        self.spare = parcel.into_octets();
     }
 
     /// OutboxFull of the first of these outlets, in the order H, A, B, C, whose queue is full, if one is.

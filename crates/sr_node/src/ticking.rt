@@ -48,13 +48,14 @@ impl<R: Role> NodeOf<R> {
         Ok(Some(self.plan_sent(&self.life_header(), now)?))
     }
 
-    // All growths of a life check.
-    fn life_copies(&self, outlets: Outlets, copies: &mut Copies) -> Result<(), NoMemory>
-        requires full { first_full self.now.core.out outlets ≡ None }
+    // All growths of a life check. Nothing that shows changes.
+    fn life_copies(&mut self, outlets: Outlets, copies: &mut Copies) -> Result<(), NoMemory>
+        requires full { first_full self.old.core.out outlets ≡ None }
         requires none { copies.old ≡ no_copies }
         ensures copies { OnOk result (copies.new ≡ copies_for outlets
-            (next_life_check (node_state (R.meaning self.now.role) self.now.core))) }
-        ensures room { OnOk result (Room self.now.core.out copies.new) }
+            (next_life_check (node_state (R.meaning self.old.role) self.old.core))) }
+        ensures room { OnOk result (Room self.new.core.out copies.new) }
+        ensures same { (self.new.role ≡ self.old.role) × (self.new.core ≡ self.old.core) }
     {
         let frame = life_frame(
             self.core.alloc(),

@@ -87,7 +87,7 @@ host_sent o before s t (event.Send octets now) (answer.Sent number) n of step =
     let x = send_brings before s octets (time_at s now) in
     ap (λ u. box_at u.core.out o) step.1 ∙ goes_out o s.core.out x.wanted x (λ b. has b.wanted o) refl
 host_sent o before s t (event.Send octets now) answer.Own n of step = absurd step
-host_sent o before s t (event.Send octets now) (answer.Passed ports) n of step = absurd step
+host_sent o before s t (event.Send octets now) (answer.Passed outlets) n of step = absurd step
 host_sent o before s t (event.Send octets now) (answer.Ticked sources nodes proxies life) n of step = absurd step
 host_sent o before s t (event.Send octets now) (answer.Taken handed) n of step = absurd step
 host_sent o before s t (event.Tick now) (answer.Ticked sources nodes proxies life) n of step = by (is_due s.core.life_at (time_at s now)) refl
@@ -106,7 +106,7 @@ host_sent o before s t (event.Tick now) (answer.Ticked sources nodes proxies lif
         ap (λ u. box_at u.core.out o) step.4 ∙ ap (λ x. box_at x o) out ∙ sym (append-nil (box_at s.core.out o))
         ∙ ap (λ k. box_at s.core.out o ++ parcels_of (filter (λ x. has x.wanted o) (if k then b ∷ [] else []))) (sym e)
 host_sent o before s t (event.Tick now) answer.Own n of step = absurd step
-host_sent o before s t (event.Tick now) (answer.Passed ports) n of step = absurd step
+host_sent o before s t (event.Tick now) (answer.Passed outlets) n of step = absurd step
 host_sent o before s t (event.Tick now) (answer.Sent number) n of step = absurd step
 host_sent o before s t (event.Tick now) (answer.Taken handed) n of step = absurd step
 host_sent o before s t (event.Arrive port p now) a n of step = absurd of
@@ -121,9 +121,9 @@ own_sent o before s t port p now n own out =
 
 wanted_step : (o : Port) (before : List Turn) (s t : State) (e : Event) (a : Answer) (n : ℤ) → Step s e a t → IsQuietAt o (happened s e a n) t ⊎ IsSentTo o before (happened s e a n) t
 wanted_step o before s t (event.Arrive port p now) answer.Own n step = inr (own_sent o before s t port p now n step.0 (ap (λ u. u.core.out) step.1))
-wanted_step o before s t (event.Arrive port p now) (answer.Passed ports) n step =
+wanted_step o before s t (event.Arrive port p now) (answer.Passed outlets) n step =
     let at = time_at s now in
-    let q = passed_by s port p at ports.items t step.0 step.1 in
+    let q = passed_by s port p at outlets t step.0 step.1 in
     let g = going_on s port p in
     let x = arrival_brings before s port p at n in
     let here : box_at t.core.out o ≡ box_at (put_at s.core.out q.outlets g) o = ap (λ u. box_at u.core.out o) q.after in
@@ -139,7 +139,7 @@ wanted_step o before s t (event.Tick now) a n step = inr (host_sent o before s t
 wanted_step o before s t (event.Take port) (answer.Taken handed) n step =
     inl (ap (λ u. takes o (happened s (event.Take port) (answer.Taken handed) n) ++ box_at u.core.out o) step.1 ∙ taken_there o port s.core.out handed step.0)
 wanted_step o before s t (event.Take port) answer.Own n step = absurd step
-wanted_step o before s t (event.Take port) (answer.Passed ports) n step = absurd step
+wanted_step o before s t (event.Take port) (answer.Passed outlets) n step = absurd step
 wanted_step o before s t (event.Take port) (answer.Sent number) n step = absurd step
 wanted_step o before s t (event.Take port) (answer.Ticked sources nodes proxies life) n step = absurd step
 
@@ -173,9 +173,9 @@ unknown_outlets s port src (Some seq) wanted outlets now o u goes =
 unknown_step : (before : List Turn) (s t : State) (port : Port) (p : ParcelImage) (now : ℕ) (a : Answer) (n : ℤ) (o : Port) → Step s (event.Arrive port p now) a t → CannotTell s.core.sources (header_of p).src (going_on s port p).seq (time_at s now)
     → IsSentTo o before (happened s (event.Arrive port p now) a n) t
 unknown_step before s t port p now answer.Own n o step u = own_sent o before s t port p now n step.0 (ap (λ x. x.core.out) step.1)
-unknown_step before s t port p now (answer.Passed ports) n o step u =
+unknown_step before s t port p now (answer.Passed outlets) n o step u =
     let at = time_at s now in
-    let q = passed_by s port p at ports.items t step.0 step.1 in
+    let q = passed_by s port p at outlets t step.0 step.1 in
     let g = going_on s port p in
     let x = arrival_brings before s port p at n in
     ap (λ v. box_at v.core.out o) q.after

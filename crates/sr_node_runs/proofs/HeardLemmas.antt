@@ -137,9 +137,9 @@ made_step : (turns : List Turn) (s t : State) (e : node.Event) (a : Answer) (n :
 made_step turns s t (event.Arrive port p at) answer.Own n m step =
     left (happened s (event.Arrive port p at) answer.Own n) turns s t m refl (ap (λ u. u.core.nodes) step.1)
     (subst (λ x. s.core.time ≤ x) (sym (ap (λ u. u.core.time) step.1)) (le-max_left s.core.time at))
-made_step turns s t (event.Arrive port p at) (answer.Passed ports) n m step =
+made_step turns s t (event.Arrive port p at) (answer.Passed outlets) n m step =
     let now = time_at s at in
-    let q = passed_by s port p now ports.items t step.0 step.1 in
+    let q = passed_by s port p now outlets t step.0 step.1 in
     let r = s.role in
     record {
       all = after_frame r port p q.said now m.all;
@@ -154,20 +154,20 @@ made_step turns s t (event.Arrive port p at) (answer.Sent number) n m step = abs
 made_step turns s t (event.Arrive port p at) (answer.Ticked sources nodes proxies life) n m step = absurd step
 made_step turns s t (event.Arrive port p at) (answer.Taken given) n m step = absurd step
 made_step turns s t (event.Send octets at) answer.Own n m step = absurd step
-made_step turns s t (event.Send octets at) (answer.Passed ports) n m step = absurd step
+made_step turns s t (event.Send octets at) (answer.Passed outlets) n m step = absurd step
 made_step turns s t (event.Send octets at) (answer.Sent number) n m step =
     left (happened s (event.Send octets at) (answer.Sent number) n) turns s t m refl (ap (λ u. u.core.nodes) step.1)
     (subst (λ x. s.core.time ≤ x) (sym (ap (λ u. u.core.time) step.1)) (le-max_left s.core.time at))
 made_step turns s t (event.Send octets at) (answer.Ticked sources nodes proxies life) n m step = absurd step
 made_step turns s t (event.Send octets at) (answer.Taken given) n m step = absurd step
 made_step turns s t (event.Tick at) answer.Own n m step = absurd step
-made_step turns s t (event.Tick at) (answer.Passed ports) n m step = absurd step
+made_step turns s t (event.Tick at) (answer.Passed outlets) n m step = absurd step
 made_step turns s t (event.Tick at) (answer.Sent number) n m step = absurd step
 made_step turns s t (event.Tick at) (answer.Ticked sources nodes proxies life) n m step =
     pruned (is_due s.core.life_at (time_at s at)) turns s t (answer.Ticked sources nodes proxies life) n at m refl (ap (λ u. u.core) step.4)
 made_step turns s t (event.Tick at) (answer.Taken given) n m step = absurd step
 made_step turns s t (event.Take port) answer.Own n m step = absurd step
-made_step turns s t (event.Take port) (answer.Passed ports) n m step = absurd step
+made_step turns s t (event.Take port) (answer.Passed outlets) n m step = absurd step
 made_step turns s t (event.Take port) (answer.Sent number) n m step = absurd step
 made_step turns s t (event.Take port) (answer.Ticked sources nodes proxies life) n m step = absurd step
 made_step turns s t (event.Take port) (answer.Taken given) n m step =
@@ -204,7 +204,7 @@ says_one unique p (Some s) None h k = absurd (k s h)
 says_one unique p (Some s) (Some t) h k = ap Some (unique (plain_of p) s t h k)
 
 happens_one : AreUnique → (turn : Turn) (before all others : List Event) → Happens turn before all → Happens turn before others → all ≡ others
-happens_one unique (happened s (event.Arrive port p at) (answer.Passed ports) n) before all others h k =
+happens_one unique (happened s (event.Arrive port p at) (answer.Passed outlets) n) before all others h k =
     let now = time_at s at in
     h.2 ∙ ap (λ said. after_frame s.role port p said now before) (says_one unique p h.0 k.0 h.1 k.1) ∙ sym k.2
 happens_one unique (happened s (event.Arrive port p at) answer.Own n) before all others h k = h ∙ sym k

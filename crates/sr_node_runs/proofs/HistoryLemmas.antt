@@ -1,6 +1,5 @@
 -- The table of a node that took over what others had noted, beside its history.
 use Rattle.std.proofs.Common.{◌≡◌, ℕ, ◌≤◌, Bool, true, false, ◌||◌, ◌&&◌, not, is_some, List, [], ◌∷◌, ◌++◌, Option, None, Some, ℤ, refl, sym, ap, ◌∙◌, subst, arith, ◌⊎◌, inl, inr, if◌then◌else◌}
-use Rattle.std.specs.List.{list_any}
 use Rattle.std.specs.Map.{lookup}
 use Rattle.std.proofs.Math.Nat.{le-max_left}
 use Rattle.std.proofs.lemmas.List.Folds.{list_any-append}
@@ -17,7 +16,7 @@ use Rattle.sr_dup_runs.specs.TableRuns as table
 use Rattle.sr_dup_joins.specs.Growths.{Growth, aged, merged, Grew, newest, remembered, epoch, numbers, latest, AreInOrder, AreSteady}
 use Rattle.sr_dup_joins.specs.GrowthLaws.{Tells, TablesStand, AnswersByTheUnion}
 use Rattle.sr_forwarding.specs.declared.outlets.Outlets.{Outlets}
-use Rattle.sr_forwarding.specs.Outlets.{has, listed}
+use Rattle.sr_forwarding.specs.Outlets.{has}
 use Rattle.sr_forwarding.specs.Parcels.{ParcelImage}
 use Rattle.sr_forwarding.specs.Headers.{header_of}
 use Rattle.sr_node.specs.declared.event.Event.{Event}
@@ -102,9 +101,9 @@ event-behind g s t (event.Arrive port p now) answer.Own n taken numbered step b 
     let x = with_noting g (going_on s port p).seq (noting_at s port (going_on s port p) (time_at s now) n) in
     subst (λ y. Behind y t) (sym (ap (λ own. if own then g else x) step.0))
     (stays g s t (ap (λ u. u.core.sources) step.1) (subst (λ y. s.core.time ≤ y) (sym (ap (λ u. u.core.time) step.1)) (le-max_left s.core.time now)) b)
-event-behind g s t (event.Arrive port p now) (answer.Passed ports) n taken numbered step b =
+event-behind g s t (event.Arrive port p now) (answer.Passed outlets) n taken numbered step b =
     let at = time_at s now in
-    let q = passed_by s port p at ports.items t step.0 step.1 in
+    let q = passed_by s port p at outlets t step.0 step.1 in
     let going = going_on s port p in
     let x = with_noting g going.seq (noting_at s port going at n) in
     subst (λ y. Behind y t) (sym (ap (λ own. if own then g else x) step.0))
@@ -114,19 +113,19 @@ event-behind g s t (event.Arrive port p now) (answer.Sent number) n taken number
 event-behind g s t (event.Arrive port p now) (answer.Ticked sources nodes proxies life) n taken numbered step b = absurd step
 event-behind g s t (event.Arrive port p now) (answer.Taken given) n taken numbered step b = absurd step
 event-behind g s t (event.Send octets now) answer.Own n taken numbered step b = absurd step
-event-behind g s t (event.Send octets now) (answer.Passed ports) n taken numbered step b = absurd step
+event-behind g s t (event.Send octets now) (answer.Passed outlets) n taken numbered step b = absurd step
 event-behind g s t (event.Send octets now) (answer.Sent number) n taken numbered step b =
     stays g s t (ap (λ u. u.core.sources) step.1) (subst (λ y. s.core.time ≤ y) (sym (ap (λ u. u.core.time) step.1)) (le-max_left s.core.time now)) b
 event-behind g s t (event.Send octets now) (answer.Ticked sources nodes proxies life) n taken numbered step b = absurd step
 event-behind g s t (event.Send octets now) (answer.Taken given) n taken numbered step b = absurd step
 event-behind g s t (event.Tick now) answer.Own n taken numbered step b = absurd step
-event-behind g s t (event.Tick now) (answer.Passed ports) n taken numbered step b = absurd step
+event-behind g s t (event.Tick now) (answer.Passed outlets) n taken numbered step b = absurd step
 event-behind g s t (event.Tick now) (answer.Sent number) n taken numbered step b = absurd step
 event-behind g s t (event.Tick now) (answer.Ticked sources nodes proxies life) n taken numbered step b =
     ticked-behind (is_due s.core.life_at (time_at s now)) g s t (time_at s now) refl (le-max_left s.core.time now) (ap (λ u. u.core) step.4) b
 event-behind g s t (event.Tick now) (answer.Taken given) n taken numbered step b = absurd step
 event-behind g s t (event.Take port) answer.Own n taken numbered step b = absurd step
-event-behind g s t (event.Take port) (answer.Passed ports) n taken numbered step b = absurd step
+event-behind g s t (event.Take port) (answer.Passed outlets) n taken numbered step b = absurd step
 event-behind g s t (event.Take port) (answer.Sent number) n taken numbered step b = absurd step
 event-behind g s t (event.Take port) (answer.Ticked sources nodes proxies life) n taken numbered step b = absurd step
 event-behind g s t (event.Take port) (answer.Taken given) n taken numbered step b =
@@ -143,51 +142,14 @@ behind (turned h (swapped s r)) t run numbered =
 behind (absorbed h s g o) t run numbered =
     absorbed-behind (table_of h) (table_of g) s o t run.2 (behind h s run.0 numbered.0) (behind g o run.1 numbered.1)
 
--- a port is named where it is in the set
-any-if : (f : Port → Bool) (b : Bool) (x : Port) (xs : List Port) → list_any f (if b then x ∷ xs else xs) ≡ ((b && f x) || list_any f xs)
-any-if f true x xs = refl
-any-if f false x xs = refl
-
-skip : (x y z : Bool) → y ≡ z → ((x && false) || y) ≡ z
-skip true y z e = e
-skip false y z e = e
-
-here : (x y : Bool) → y ≡ false → ((x && true) || y) ≡ x
-here true y e = refl
-here false y e = e
-
-pub named : (outlets : Outlets) (o : Port) → list_any (is_at o) (listed outlets) ≡ has outlets o
-named outlets o = four (is_at o) ∙ by o
-  where
-    four : (f : Port → Bool) → list_any f (listed outlets)
-        ≡ ((has outlets H && f H) || ((has outlets A && f A) || ((has outlets B && f B) || ((has outlets C && f C) || false))))
-    four f =
-        let fourth = if has outlets C then C ∷ [] else [] in
-        let third = if has outlets B then B ∷ fourth else fourth in
-        let second = if has outlets A then A ∷ third else third in
-        any-if f (has outlets H) H second
-        ∙ ap (λ r. (has outlets H && f H) || r) (any-if f (has outlets A) A third
-        ∙ ap (λ r. (has outlets A && f A) || r) (any-if f (has outlets B) B fourth
-        ∙ ap (λ r. (has outlets B && f B) || r) (any-if f (has outlets C) C [])))
-
-    by : (o : Port) → ((has outlets H && is_at o H) || ((has outlets A && is_at o A) || ((has outlets B && is_at o B) || ((has outlets C && is_at o C) || false)))) ≡ has outlets o
-    by H = here (has outlets H) _ (skip (has outlets A) _ false (skip (has outlets B) _ false (skip (has outlets C) false false refl)))
-    by A = skip (has outlets H) _ (has outlets A) (here (has outlets A) _ (skip (has outlets B) _ false (skip (has outlets C) false false refl)))
-    by B = skip (has outlets H) _ (has outlets B) (skip (has outlets A) _ (has outlets B) (here (has outlets B) _ (skip (has outlets C) false false refl)))
-    by C = skip (has outlets H) _ (has outlets C) (skip (has outlets A) _ (has outlets C) (skip (has outlets B) _ (has outlets C) (here (has outlets C) false refl)))
-
 -- where an arrival went
-record WentTo (s : State) (port : Port) (p : ParcelImage) (now : ℕ) (ports : List Port) : Type 0 where
-  outlets : Outlets
-  goes : goes s port p now ≡ Some outlets
-  ports_are : ports ≡ listed outlets
-
-went-to : (s : State) (port : Port) (p : ParcelImage) (now : ℕ) (ports : List Port) (t : State) → PassedTo s port p now (goes s port p now) ports t → WentTo s port p now ports
-went-to s port p now ports t to = by (goes s port p now) refl to
+went-to : (s : State) (port : Port) (p : ParcelImage) (now : ℕ) (answered : Outlets) (t : State) → PassedTo s port p now (goes s port p now) answered t
+    → goes s port p now ≡ Some answered
+went-to s port p now answered t to = by (goes s port p now) refl to
   where
-    by : (o : Option Outlets) → goes s port p now ≡ o → PassedTo s port p now o ports t → WentTo s port p now ports
+    by : (o : Option Outlets) → goes s port p now ≡ o → PassedTo s port p now o answered t → goes s port p now ≡ Some answered
     by None e to = absurd to
-    by (Some outlets) e to = record { outlets = outlets; goes = e; ports_are = to.2 }
+    by (Some outlets) e to = e ∙ ap (λ x. Some x) (sym to.2)
 
 wanted-and-new : (w c k : Bool) → (w && ((w || c) && not k)) ≡ (w && not k)
 wanted-and-new true c k = refl
@@ -215,15 +177,13 @@ goes-by law g s port p now n seq (Some m) outlets o is carried goes b le steady 
 pub goes_where_new_lem : AnswersByTheUnion → GoesWhereNew
 goes_where_new_lem law h s t port p now answer.Own n seq o run numbered steady other is =
     let bad : true ≡ false = sym run.2.0 ∙ other in cc
-goes_where_new_lem law h s t port p now (answer.Passed ports) n seq o run numbered steady other is =
+goes_where_new_lem law h s t port p now (answer.Passed outlets) n seq o run numbered steady other is =
     let at = time_at s now in
     let going = going_on s port p in
-    let w = went-to s port p at ports.items t run.2.1 in
+    let went = went-to s port p at outlets t run.2.1 in
     let x = with_noting (table_of h) going.seq (noting_at s port going at n) in
     let noted : AreSteady x = subst (λ y. AreSteady y) (ap (λ own. if own then table_of h else x) other) steady in
-    ap (list_any (is_at o)) w.ports_are
-    ∙ named w.outlets o
-    ∙ goes-by law (table_of h) s port going at n seq going.seq w.outlets o is numbered.1 w.goes (behind h s run.0 numbered.0) (le-max_left s.core.time now) noted
+    goes-by law (table_of h) s port going at n seq going.seq outlets o is numbered.1 went (behind h s run.0 numbered.0) (le-max_left s.core.time now) noted
 goes_where_new_lem law h s t port p now (answer.Sent number) n seq o run numbered steady other is = absurd run.2
 goes_where_new_lem law h s t port p now (answer.Ticked sources nodes proxies life) n seq o run numbered steady other is = absurd run.2
 goes_where_new_lem law h s t port p now (answer.Taken given) n seq o run numbered steady other is = absurd run.2
@@ -256,7 +216,7 @@ held false k e = refl
 
 pub holds_back_both_lem : AnswersByTheUnion → TablesStand → HoldsBackBoth
 holds_back_both_lem law stand h g one other s t port p now answer.Own n seq o run numbered steady is there either = refl
-holds_back_both_lem law stand h g one other s t port p now (answer.Passed ports) n seq o run numbered steady is there either =
+holds_back_both_lem law stand h g one other s t port p now (answer.Passed outlets) n seq o run numbered steady is there either =
     let at = time_at s now in
     let src = (header_of p).src in
     let both = absorbed h one g other in
@@ -269,7 +229,7 @@ holds_back_both_lem law stand h g one other s t port p now (answer.Passed ports)
     let told = stand (table_of both) s.core.sources src at b.grew (b.order, before (table_of both) going.seq (noting_at s port going at n) noted)
     (omega (arith, b.last, le-max_left s.core.time now)) in
     let lookup_there = lookup (mac_eq src) (live_at at s.core.sources) in
-    goes_where_new_lem law both s t port p now (answer.Passed ports) n seq o run numbered steady run.2.0 is
+    goes_where_new_lem law both s t port p now (answer.Passed outlets) n seq o run numbered steady run.2.0 is
     ∙ held (has (wanted_at s port going at) o) (is_noted (table_of both) src at o n)
     (still-noted src at (xs ++ ys) lookup_there o n told there (in-both src xs ys o n either))
   where

@@ -59,10 +59,10 @@ pub record PassedBy (s : State) (port : Port) (p : ParcelImage) (now : ℕ) (t :
   pub says : SaysOf p said
   pub after : t ≡ passed s port (going_on s port p) (next_at s.core.next port p) now outlets said
 
-pub passed_by : (s : State) (port : Port) (p : ParcelImage) (now : ℕ) (ports : List Port) (t : State) → is_own s p ≡ false → PassedTo s port p now (goes s port p now) ports t → PassedBy s port p now t
-passed_by s port p now ports t other to = by (goes s port p now) refl to
+pub passed_by : (s : State) (port : Port) (p : ParcelImage) (now : ℕ) (answered : Outlets) (t : State) → is_own s p ≡ false → PassedTo s port p now (goes s port p now) answered t → PassedBy s port p now t
+passed_by s port p now answered t other to = by (goes s port p now) refl to
   where
-    by : (o : Option Outlets) → goes s port p now ≡ o → PassedTo s port p now o ports t → PassedBy s port p now t
+    by : (o : Option Outlets) → goes s port p now ≡ o → PassedTo s port p now o answered t → PassedBy s port p now t
     by None e to = absurd to
     by (Some outlets) e to = record { other = other; outlets = outlets; goes = e; said = to.0; says = to.1; after = to.3 }
 
@@ -105,8 +105,8 @@ kept_step s t (event.Arrive port p now) answer.Own mac count k step =
       mac = ap (λ u. u.role.mac) step.1 ∙ k.mac;
       next = ap (λ u. u.core.next.0) step.1 ∙ none_more s.core.next.0 count k.next ∙ ap (λ b. (first_number + (count + one_if (not b && is_plain_at_interlink port p.form))) % 65536) (sym step.0);
     }
-kept_step s t (event.Arrive port p now) (answer.Passed ports) mac count k step =
-    let q = passed_by s port p (time_at s now) ports.items t step.0 step.1 in
+kept_step s t (event.Arrive port p now) (answer.Passed outlets) mac count k step =
+    let q = passed_by s port p (time_at s now) outlets t step.0 step.1 in
     record {
       mac = ap (λ u. u.role.mac) q.after ∙ learned_keeps s.role.kind port s.role (header_at s (going_on s port p) (time_at s now)) (time_at s now) ∙ k.mac;
       next = ap (λ u. u.core.next.0) q.after ∙ kept_number (is_plain_at_interlink port p.form) (is_own s p) s port p mac count step.0 refl k.next;
@@ -115,19 +115,19 @@ kept_step s t (event.Arrive port p now) (answer.Sent number) mac count k step = 
 kept_step s t (event.Arrive port p now) (answer.Ticked sources nodes proxies life) mac count k step = absurd step
 kept_step s t (event.Arrive port p now) (answer.Taken given) mac count k step = absurd step
 kept_step s t (event.Send octets now) answer.Own mac count k step = absurd step
-kept_step s t (event.Send octets now) (answer.Passed ports) mac count k step = absurd step
+kept_step s t (event.Send octets now) (answer.Passed outlets) mac count k step = absurd step
 kept_step s t (event.Send octets now) (answer.Sent number) mac count k step =
     record { mac = ap (λ u. u.role.mac) step.1 ∙ k.mac; next = ap (λ u. u.core.next.0) step.1 ∙ one_more s.core.next.0 count k.next }
 kept_step s t (event.Send octets now) (answer.Ticked sources nodes proxies life) mac count k step = absurd step
 kept_step s t (event.Send octets now) (answer.Taken given) mac count k step = absurd step
 kept_step s t (event.Tick now) answer.Own mac count k step = absurd step
-kept_step s t (event.Tick now) (answer.Passed ports) mac count k step = absurd step
+kept_step s t (event.Tick now) (answer.Passed outlets) mac count k step = absurd step
 kept_step s t (event.Tick now) (answer.Sent number) mac count k step = absurd step
 kept_step s t (event.Tick now) (answer.Ticked sources nodes proxies life) mac count k step =
     record { mac = ap (λ u. u.role.mac) step.4 ∙ k.mac; next = ap (λ u. u.core.next.0) step.4 ∙ kept_tick (is_due s.core.life_at (time_at s now)) s (time_at s now) count refl k.next }
 kept_step s t (event.Tick now) (answer.Taken given) mac count k step = absurd step
 kept_step s t (event.Take port) answer.Own mac count k step = absurd step
-kept_step s t (event.Take port) (answer.Passed ports) mac count k step = absurd step
+kept_step s t (event.Take port) (answer.Passed outlets) mac count k step = absurd step
 kept_step s t (event.Take port) (answer.Sent number) mac count k step = absurd step
 kept_step s t (event.Take port) (answer.Ticked sources nodes proxies life) mac count k step = absurd step
 kept_step s t (event.Take port) (answer.Taken given) mac count k step =
@@ -243,14 +243,14 @@ behind_step before s t (event.Arrive port p now) answer.Own n next taken numbere
     (subst (λ x. s.core.time ≤ x) (sym (ap (λ u. u.core.time) step.1)) (le-max_left s.core.time now))
     (if_mine (is_own s p) (noted_of port (arrival_brings before s port p (time_at s now) n) (time_at s now)) (notings before) step.0)
     b
-behind_step before s t (event.Arrive port p now) (answer.Passed ports) n next taken numbered step b =
+behind_step before s t (event.Arrive port p now) (answer.Passed outlets) n next taken numbered step b =
     let at = time_at s now in
-    let q = passed_by s port p at ports.items t step.0 step.1 in
+    let q = passed_by s port p at outlets t step.0 step.1 in
     let g = going_on s port p in
     numbered_behind before s t port (header_of g).src g.seq (whole_number before port p n) (wanted_at s port g at) q.outlets at (not_from_host s port p at taken) (le-max_left s.core.time now)
     (carried_here before s port p n next numbered)
     q.goes
-    (happened s (event.Arrive port p now) (answer.Passed ports) n ∷ before)
+    (happened s (event.Arrive port p now) (answer.Passed outlets) n ∷ before)
     (if_other (is_own s p) (noted_of port (arrival_brings before s port p at n) at) (notings before) step.0)
     (ap (λ u. u.core.sources) q.after)
     (ap (λ u. u.core.time) q.after)
@@ -259,7 +259,7 @@ behind_step before s t (event.Arrive port p now) (answer.Sent number) n next tak
 behind_step before s t (event.Arrive port p now) (answer.Ticked sources nodes proxies life) n next taken numbered step b = absurd step
 behind_step before s t (event.Arrive port p now) (answer.Taken given) n next taken numbered step b = absurd step
 behind_step before s t (event.Send octets now) answer.Own n next taken numbered step b = absurd step
-behind_step before s t (event.Send octets now) (answer.Passed ports) n next taken numbered step b = absurd step
+behind_step before s t (event.Send octets now) (answer.Passed outlets) n next taken numbered step b = absurd step
 behind_step before s t (event.Send octets now) (answer.Sent number) n next taken numbered step b =
     stay_behind before (happened s (event.Send octets now) (answer.Sent number) n ∷ before) s t
     (ap (λ u. u.core.sources) step.1)
@@ -268,14 +268,14 @@ behind_step before s t (event.Send octets now) (answer.Sent number) n next taken
 behind_step before s t (event.Send octets now) (answer.Ticked sources nodes proxies life) n next taken numbered step b = absurd step
 behind_step before s t (event.Send octets now) (answer.Taken given) n next taken numbered step b = absurd step
 behind_step before s t (event.Tick now) answer.Own n next taken numbered step b = absurd step
-behind_step before s t (event.Tick now) (answer.Passed ports) n next taken numbered step b = absurd step
+behind_step before s t (event.Tick now) (answer.Passed outlets) n next taken numbered step b = absurd step
 behind_step before s t (event.Tick now) (answer.Sent number) n next taken numbered step b = absurd step
 behind_step before s t (event.Tick now) (answer.Ticked sources nodes proxies life) n next taken numbered step b =
     aged_behind (is_due s.core.life_at (time_at s now)) before (happened s (event.Tick now) (answer.Ticked sources nodes proxies life) n ∷ before) s t (time_at s now)
     refl (le-max_left s.core.time now) (ap (λ u. u.core) step.4) refl b
 behind_step before s t (event.Tick now) (answer.Taken given) n next taken numbered step b = absurd step
 behind_step before s t (event.Take port) answer.Own n next taken numbered step b = absurd step
-behind_step before s t (event.Take port) (answer.Passed ports) n next taken numbered step b = absurd step
+behind_step before s t (event.Take port) (answer.Passed outlets) n next taken numbered step b = absurd step
 behind_step before s t (event.Take port) (answer.Sent number) n next taken numbered step b = absurd step
 behind_step before s t (event.Take port) (answer.Ticked sources nodes proxies life) n next taken numbered step b = absurd step
 behind_step before s t (event.Take port) (answer.Taken given) n next taken numbered step b =

@@ -169,9 +169,9 @@ turn_step o before s t (event.Arrive port p now) answer.Own n mac k keep b not_r
     ap (λ u. box_at u.core.out o) step.1
     ∙ sym (append-nil (box_at s.core.out o))
     ∙ ap (λ own. box_at s.core.out o ++ parcels_of (filter (goes_at o (brought before)) (if own then [] else x ∷ []))) (sym step.0)
-turn_step o before s t (event.Arrive port p now) (answer.Passed ports) n mac k keep b not_refused numbered steady step =
+turn_step o before s t (event.Arrive port p now) (answer.Passed outlets) n mac k keep b not_refused numbered steady step =
     let at = time_at s now in
-    let q = passed_by s port p at ports.items t step.0 step.1 in
+    let q = passed_by s port p at outlets t step.0 step.1 in
     let g = going_on s port p in
     let x = arrival_brings before s port p at n in
     let number = whole_number before port p n in
@@ -188,7 +188,7 @@ turn_step o before s t (event.Arrive port p now) (answer.Sent number) n mac k ke
 turn_step o before s t (event.Arrive port p now) (answer.Ticked sources nodes proxies life) n mac k keep b not_refused numbered steady step = absurd step
 turn_step o before s t (event.Arrive port p now) (answer.Taken handed) n mac k keep b not_refused numbered steady step = absurd step
 turn_step o before s t (event.Send octets now) answer.Own n mac k keep b not_refused numbered steady step = absurd step
-turn_step o before s t (event.Send octets now) (answer.Passed ports) n mac k keep b not_refused numbered steady step = absurd step
+turn_step o before s t (event.Send octets now) (answer.Passed outlets) n mac k keep b not_refused numbered steady step = absurd step
 turn_step o before s t (event.Send octets now) (answer.Sent number) n mac k keep b not_refused numbered steady step =
     let x = send_brings before s octets (time_at s now) in
     ap (λ u. box_at u.core.out o) step.1
@@ -196,13 +196,13 @@ turn_step o before s t (event.Send octets now) (answer.Sent number) n mac k keep
 turn_step o before s t (event.Send octets now) (answer.Ticked sources nodes proxies life) n mac k keep b not_refused numbered steady step = absurd step
 turn_step o before s t (event.Send octets now) (answer.Taken handed) n mac k keep b not_refused numbered steady step = absurd step
 turn_step o before s t (event.Tick now) answer.Own n mac k keep b not_refused numbered steady step = absurd step
-turn_step o before s t (event.Tick now) (answer.Passed ports) n mac k keep b not_refused numbered steady step = absurd step
+turn_step o before s t (event.Tick now) (answer.Passed outlets) n mac k keep b not_refused numbered steady step = absurd step
 turn_step o before s t (event.Tick now) (answer.Sent number) n mac k keep b not_refused numbered steady step = absurd step
 turn_step o before s t (event.Tick now) (answer.Ticked sources nodes proxies life) n mac k keep b not_refused numbered steady step =
     ticked (is_due s.core.life_at (time_at s now)) o before s t (time_at s now) mac refl keep k.mac (ap (λ u. u.core) step.4)
 turn_step o before s t (event.Tick now) (answer.Taken handed) n mac k keep b not_refused numbered steady step = absurd step
 turn_step o before s t (event.Take port) answer.Own n mac k keep b not_refused numbered steady step = absurd step
-turn_step o before s t (event.Take port) (answer.Passed ports) n mac k keep b not_refused numbered steady step = absurd step
+turn_step o before s t (event.Take port) (answer.Passed outlets) n mac k keep b not_refused numbered steady step = absurd step
 turn_step o before s t (event.Take port) (answer.Sent number) n mac k keep b not_refused numbered steady step = absurd step
 turn_step o before s t (event.Take port) (answer.Ticked sources nodes proxies life) n mac k keep b not_refused numbered steady step = absurd step
 turn_step o before s t (event.Take port) (answer.Taken handed) n mac k keep b not_refused numbered steady step =

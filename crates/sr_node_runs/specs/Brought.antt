@@ -159,7 +159,7 @@ parcels_of bs = map (λ b. b.parcel) bs
 abbrev pub handed_by : Answer → List ParcelImage
 handed_by (answer.Taken parcel) = option_to_list parcel
 handed_by answer.Own = []
-handed_by (answer.Passed ports) = []
+handed_by (answer.Passed outlets) = []
 handed_by (answer.Sent number) = []
 handed_by (answer.Ticked sources nodes proxies life) = []
 

@@ -40,7 +40,7 @@ after_frame r port p said now before = map nodes.Hears (of_told r port p said no
 -- What happens to the table of nodes in a turn, after all that happened before, the latest first: hearings of a frame that is not
 -- the node's own, and a prune as time passes.
 abbrev pub Happens : Turn → List nodes.Event → List nodes.Event → Type 0
-Happens (happened s (event.Arrive port p now) (answer.Passed ports) n) before all =
+Happens (happened s (event.Arrive port p now) (answer.Passed outlets) n) before all =
     (said : Option Supervision) × SaysOf p said × (all ≡ after_frame s.role port p said (time_at s now) before)
 Happens (happened s (event.Arrive port p now) answer.Own n) before all = all ≡ before
 Happens (happened s (event.Arrive port p now) (answer.Sent number) n) before all = ⊥

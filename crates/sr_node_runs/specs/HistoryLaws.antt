@@ -1,6 +1,5 @@
 -- Where frames go at a node that took over what others had noted.
-use Rattle.std.specs.Prelude.{◌≡◌, ℕ, ℤ, ◌⊎◌, Bool, true, false, not, ◌&&◌, is_some, List, [], Some}
-use Rattle.std.specs.List.{list_any}
+use Rattle.std.specs.Prelude.{◌≡◌, ℕ, ℤ, ◌⊎◌, Bool, true, false, not, ◌&&◌, is_some, Some}
 use Rattle.std.specs.Map.{lookup}
 use Rattle.sr_frame.specs.declared.fields.Mac.{Mac}
 use Rattle.sr_frame.specs.declared.ports.Port.{Port}
@@ -19,16 +18,15 @@ use Rattle.sr_node.specs.Lanes.{lane_at}
 use Rattle.sr_node.specs.Arriving.{is_own, going_on, wanted_at}
 use Rattle.sr_node.specs.Absorbing.{later_time}
 use Rattle.sr_node_runs.specs.NodeRuns.{happened}
-use Rattle.sr_node_runs.specs.Brought.{is_at}
 use Rattle.sr_node_runs.specs.Histories.{History, turned, absorbed, Reaches, table_of, AreNumbered}
 
--- the ports that an answer names
-abbrev pub ports_in : Answer → List Port
-ports_in (answer.Passed ports) = ports.items
-ports_in answer.Own = []
-ports_in (answer.Sent number) = []
-ports_in (answer.Ticked sources nodes proxies life) = []
-ports_in (answer.Taken given) = []
+-- whether an answer says that a frame went to an outlet
+abbrev pub names : Answer → Port → Bool
+names (answer.Passed outlets) o = has outlets o
+names answer.Own o = false
+names (answer.Sent number) o = false
+names (answer.Ticked sources nodes proxies life) o = false
+names (answer.Taken given) o = false
 
 -- whether a copy of a source's number was noted on an outlet's lane, in the source's epoch at a time, by any node of the tree
 abbrev pub is_noted : Growth → Mac → ℕ → Port → ℤ → Bool
@@ -43,7 +41,7 @@ GoesWhereNew =
     → AreNumbered (turned h (happened s (event.Arrive port p now) a n))
     → AreSteady (table_of (turned h (happened s (event.Arrive port p now) a n)))
     → is_own s p ≡ false → (going_on s port p).seq ≡ Some seq
-    → list_any (is_at o) (ports_in a)
+    → names a o
     ≡ (has (wanted_at s port (going_on s port p) (time_at s now)) o && not (is_noted (table_of h) (header_of p).src (time_at s now) o n))
 
 -- what either of two nodes had noted when one took over from the other is held back, as long as its source is not forgotten
@@ -57,4 +55,4 @@ HoldsBackBoth =
     → is_some (lookup (mac_eq (header_of p).src) (live_at (time_at s now) s.core.sources)) ≡ true
     → (is_noted (table_of h) (header_of p).src (later_time one.core other.core) o n ≡ true)
     ⊎ (is_noted (table_of g) (header_of p).src (later_time one.core other.core) o n ≡ true)
-    → list_any (is_at o) (ports_in a) ≡ false
+    → names a o ≡ false

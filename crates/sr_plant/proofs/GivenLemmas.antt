@@ -56,9 +56,9 @@ none_few = record { h = omega arith; a = omega arith; b = omega arith; c = omega
 -- where nothing waited, an arrival puts one parcel at each outlet at most
 pub arrived_few : (s : State) (port : Port) (p : ParcelImage) (now : ℕ) (a : Answer) (t : State) → IsEmptied s → Arrived s port p now a t → IsAtMostOneEach t.core.out
 arrived_few s port p now answer.Own t empty came = rw (came.1, empty) none_few
-arrived_few s port p now (answer.Passed ports) t empty came = by_outlets (goes s port p now) came.1
+arrived_few s port p now (answer.Passed outlets) t empty came = by_outlets (goes s port p now) came.1
   where
-    by_outlets : (o : Option Set) → PassedTo s port p now o ports.items t → IsAtMostOneEach t.core.out
+    by_outlets : (o : Option Set) → PassedTo s port p now o outlets t → IsAtMostOneEach t.core.out
     by_outlets None came = absurd came
     by_outlets (Some o) came = rw (came.3, empty) (put_few o (going_on s port p))
 arrived_few s port p now (answer.Sent number) t empty came = absurd came
@@ -70,7 +70,7 @@ pub stepped_few : (s : State) (e : Event) (a : Answer) (t : State) → IsEmptied
 stepped_few s (event.Arrive port p now) a t empty step = arrived_few s port p (time_at s now) a t empty step
 stepped_few s (event.Send frame now) (answer.Sent number) t empty step = rw (step.1, empty) (put_few (send_outlets s frame (time_at s now)) (sent_parcel s frame))
 stepped_few s (event.Send frame now) answer.Own t empty step = absurd step
-stepped_few s (event.Send frame now) (answer.Passed ports) t empty step = absurd step
+stepped_few s (event.Send frame now) (answer.Passed outlets) t empty step = absurd step
 stepped_few s (event.Send frame now) (answer.Ticked sources nodes proxies life) t empty step = absurd step
 stepped_few s (event.Send frame now) (answer.Taken given) t empty step = absurd step
 stepped_few s (event.Tick now) (answer.Ticked sources nodes proxies life) t empty step =
@@ -80,7 +80,7 @@ stepped_few s (event.Tick now) (answer.Ticked sources nodes proxies life) t empt
     ticked true e = rw (e, empty) (put_few (life_outlets s (time_at s now)) (next_life_check s))
     ticked false e = rw (e, empty) none_few
 stepped_few s (event.Tick now) answer.Own t empty step = absurd step
-stepped_few s (event.Tick now) (answer.Passed ports) t empty step = absurd step
+stepped_few s (event.Tick now) (answer.Passed outlets) t empty step = absurd step
 stepped_few s (event.Tick now) (answer.Sent number) t empty step = absurd step
 stepped_few s (event.Tick now) (answer.Taken given) t empty step = absurd step
 stepped_few s (event.Take port) (answer.Taken given) t empty step = rw (step.1, empty) (left_few port)
@@ -91,6 +91,6 @@ stepped_few s (event.Take port) (answer.Taken given) t empty step = rw (step.1, 
     left_few B = none_few
     left_few C = none_few
 stepped_few s (event.Take port) answer.Own t empty step = absurd step
-stepped_few s (event.Take port) (answer.Passed ports) t empty step = absurd step
+stepped_few s (event.Take port) (answer.Passed outlets) t empty step = absurd step
 stepped_few s (event.Take port) (answer.Sent number) t empty step = absurd step
 stepped_few s (event.Take port) (answer.Ticked sources nodes proxies life) t empty step = absurd step

@@ -117,9 +117,9 @@ learned_kind Hsr port r h now = refl
 
 pub arrived_kind : (s : State) (port : Port) (p : ParcelImage) (now : ℕ) (a : Answer) (t : State) → Arrived s port p now a t → t.role.kind ≡ s.role.kind
 arrived_kind s port p now answer.Own t came = rw came.1 refl
-arrived_kind s port p now (answer.Passed ports) t came = by_outlets (goes s port p now) came.1
+arrived_kind s port p now (answer.Passed outlets) t came = by_outlets (goes s port p now) came.1
   where
-    by_outlets : (o : Option Set) → PassedTo s port p now o ports.items t → t.role.kind ≡ s.role.kind
+    by_outlets : (o : Option Set) → PassedTo s port p now o outlets t → t.role.kind ≡ s.role.kind
     by_outlets None came = absurd came
     by_outlets (Some o) came = rw came.3 (learned_kind s.role.kind port s.role (header_at s (going_on s port p) now) now)
 arrived_kind s port p now (answer.Sent number) t came = absurd came
@@ -130,17 +130,17 @@ step_kind : (s : State) (e : Event) (a : Answer) (t : State) → Step s e a t �
 step_kind s (event.Arrive port p now) a t step = arrived_kind s port p (time_at s now) a t step
 step_kind s (event.Send frame now) (answer.Sent number) t step = rw step.1 refl
 step_kind s (event.Send frame now) answer.Own t step = absurd step
-step_kind s (event.Send frame now) (answer.Passed ports) t step = absurd step
+step_kind s (event.Send frame now) (answer.Passed outlets) t step = absurd step
 step_kind s (event.Send frame now) (answer.Ticked sources nodes proxies life) t step = absurd step
 step_kind s (event.Send frame now) (answer.Taken given) t step = absurd step
 step_kind s (event.Tick now) (answer.Ticked sources nodes proxies life) t step = rw step.4 refl
 step_kind s (event.Tick now) answer.Own t step = absurd step
-step_kind s (event.Tick now) (answer.Passed ports) t step = absurd step
+step_kind s (event.Tick now) (answer.Passed outlets) t step = absurd step
 step_kind s (event.Tick now) (answer.Sent number) t step = absurd step
 step_kind s (event.Tick now) (answer.Taken given) t step = absurd step
 step_kind s (event.Take port) (answer.Taken given) t step = rw step.1 refl
 step_kind s (event.Take port) answer.Own t step = absurd step
-step_kind s (event.Take port) (answer.Passed ports) t step = absurd step
+step_kind s (event.Take port) (answer.Passed outlets) t step = absurd step
 step_kind s (event.Take port) (answer.Sent number) t step = absurd step
 step_kind s (event.Take port) (answer.Ticked sources nodes proxies life) t step = absurd step
 

@@ -72,7 +72,7 @@ host_sends t s frame now (answer.Sent number) u kind empty step = record {
   sources = ap (λ x. x.core.sources) step.1;
 }
 host_sends t s frame now answer.Own u kind empty step = absurd step
-host_sends t s frame now (answer.Passed ports) u kind empty step = absurd step
+host_sends t s frame now (answer.Passed outlets) u kind empty step = absurd step
 host_sends t s frame now (answer.Ticked sources nodes proxies life) u kind empty step = absurd step
 host_sends t s frame now (answer.Taken given) u kind empty step = absurd step
 
@@ -129,7 +129,7 @@ node_ticks t s now (answer.Ticked sources nodes proxies life) u kind empty step 
           sources = ap (λ x. x.sources) c;
         }
 node_ticks t s now answer.Own u kind empty step = absurd step
-node_ticks t s now (answer.Passed ports) u kind empty step = absurd step
+node_ticks t s now (answer.Passed outlets) u kind empty step = absurd step
 node_ticks t s now (answer.Sent number) u kind empty step = absurd step
 node_ticks t s now (answer.Taken given) u kind empty step = absurd step
 
@@ -195,12 +195,12 @@ node_takes s port p seq now answer.Own u empty side number came = inl (record {
   idle = record { out = ap (λ x. x.core.out) came.1 ∙ empty; next = ap (λ x. x.core.next) came.1 };
   sources = ap (λ x. x.core.sources) came.1;
 })
-node_takes s port p seq now (answer.Passed ports) u empty side number came = by (goes s port p now) refl came.1
+node_takes s port p seq now (answer.Passed outlets) u empty side number came = by (goes s port p now) refl came.1
   where
     on : (going_on s port p ≡ p) × (next_at s.core.next port p ≡ s.core.next)
     on = on_as_it_came s port p side
 
-    by : (o : Option Outlets) → goes s port p now ≡ o → PassedTo s port p now o ports.items u → IsBack s p now u ⊎ TakesIn s port p seq now u
+    by : (o : Option Outlets) → goes s port p now ≡ o → PassedTo s port p now o outlets u → IsBack s p now u ⊎ TakesIn s port p seq now u
     by None e to = absurd to
     by (Some o) e to =
         let at : new_at s port p now ≡ Some o = sym (ap (λ q. new_at s port q now) on.0) ∙ e in

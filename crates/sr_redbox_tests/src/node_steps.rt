@@ -1,7 +1,8 @@
 //! One driver for all nodes: it makes a node over a box, takes it through a table of steps, and answers at which step it differs.
 
+use bitflags::Flags;
 use sr_forwarding::{
-    Danh, Framing, HsrFraming, OwnRole, Parcel, PlainFraming, Port, PrpFraming, Role, RoleKind,
+    Danh, Framing, HsrFraming, Outlets, OwnRole, Parcel, PlainFraming, Port, PrpFraming, Role, RoleKind,
 };
 use sr_frame::{Frame, Mac};
 use sr_node::{Answer, Event, Node, NodeImage, StepFault};
@@ -138,9 +139,17 @@ enum Came {
     Otherwise,
 }
 
+fn set_of(ports: &[Port]) -> Outlets {
+    let mut outlets = Outlets::none();
+    for port in ports {
+        outlets = outlets.union(Outlets::only(*port));
+    }
+    outlets
+}
+
 fn came_of(call: Result<Answer, StepFault>, wanted: Wanted) -> Came {
     let is_wanted = match (call, wanted) {
-        (Ok(Answer::Passed(ports)), Wanted::Passed(outlets)) => ports.as_slice() == outlets,
+        (Ok(Answer::Passed(outlets)), Wanted::Passed(ports)) => outlets == set_of(ports),
         (Ok(Answer::Sent(seq)), Wanted::Sent(number)) => seq.0 == number,
         (Ok(Answer::Ticked { proxies, .. }), Wanted::Ticked(count)) => proxies == count,
         (Err(StepFault::NoMemory), _) => return Came::NoMemory,

@@ -1,5 +1,5 @@
 -- Decimal digits and the numbers that they spell.
-use Rattle.std.proofs.Common.{◌≡◌, ◌≢◌, ℕ, zero, suc, ◌+◌, ◌-◌, ◌*◌, ◌^◌, ◌<◌, ◌≤◌, List, length, take, get_or, sym, ap, subst, ◌∙◌, arith, true, false, inl, inr}
+use Rattle.std.proofs.Common.{◌≡◌, ◌≢◌, ℕ, zero, suc, ◌+◌, ◌-◌, ◌*◌, ◌^◌, ◌<◌, ◌≤◌, List, length, take, get_or, sym, ap, subst, ◌∙◌, arith, true, false, inl, inr, lit<}
 use Rattle.std.specs.Char.{digit_value, is_ascii_digit}
 use Rattle.std.specs.Fmt.{decimal}
 use Rattle.std.specs.Int.{IsInRange}
@@ -7,7 +7,9 @@ use Rattle.std.specs.Str.Parse.{AllDigits, digits_value}
 use Rattle.std.specs.Prelude.{Option, Some, None, IfSome}
 use Rattle.std.specs.Option.{SomeIff}
 use Rattle.std.proofs.lemmas.Bool.{cases_lt}
-use Rattle.std.proofs.lemmas.Int.Digits.{digits_value_more}
+use native.Mathlib.Nat.{pow-le-pow_right}
+use lib.ListN.{length-take}
+use Rattle.std.proofs.lemmas.Int.Digits.{digits_value_more, digits_value-lt}
 use Rattle.std.proofs.lemmas.Str.Parse.{IsNumeralModel, numerals_by_value, tells_digits, digit_at, digits_value-take-le}
 use Rattle.std.proofs.lemmas.Fmt.{digits_decimal, digits_value-decimal, decimal-digits_value, decimal_digit, decimal_nonempty, first_decimal}
 
@@ -34,6 +36,14 @@ decimal_value ds all some first lt = sym (decimal-digits_value own ds all some f
 -- the value of a front is at most that of all digits
 pub value_front : (ds : List ℕ) (i : ℕ) → i < length ds → digits_value 10 (take i ds) * 10 + digit_value (get_or ds i 0) ≤ digits_value 10 ds
 value_front ds i lt = subst (λ n. n ≤ digits_value 10 ds) (digits_value_more 10 ds i lt) (digits_value-take-le 10 ds (i + 1) (omega arith))
+
+-- the value of a front of at most nineteen digits, with another behind it, is below 2 to the 64th
+pub front_fits : (ds : List ℕ) (i : ℕ) → i < length ds → length ds ≤ 19 → AllDigits 10 (take i ds) → digits_value 10 (take i ds) * 10 + 9 < 2 ^ 64
+front_fits ds i lt few all =
+    let below : digits_value 10 (take i ds) < 10 ^ length (take i ds) = digits_value-lt 10 (take i ds) all in
+    let short : length (take i ds) ≤ 18 = omega (arith, length-take i ds) in
+    let most : 10 ^ length (take i ds) ≤ 10 ^ 18 = pow-le-pow_right (lit< tt) short in
+    omega (arith, below, most)
 
 -- an octet that is no digit has no place among digits
 pub no_digit : (ds : List ℕ) (i : ℕ) → i < length ds → is_ascii_digit (get_or ds i 0) ≡ false → AllDigits 10 ds → ⊥

@@ -1,12 +1,30 @@
 //! Decimal numbers.
 
-ghost use Rattle.std.specs.Prelude.{◌≡◌, ◌<◌, ◌^◌, ◌↔◌, ℕ, IfSome, IsTrue, length, slice_index};
+ghost use Rattle.std.specs.Prelude.{◌≡◌, ◌<◌, ◌≤◌, ◌^◌, ◌↔◌, ℕ, IfSome, IsTrue, length, slice_index};
 ghost use Rattle.std.specs.Option.{SomeIff};
 ghost use Rattle.std.specs.Fmt.{decimal};
 ghost use Rattle.std.specs.Str.Parse.{AllDigits, digits_value};
 
+/// The most digits whose value is never above 18446744073709551615.
+const FEW: usize = 19;
+
+/// The value of few decimal digits. None where an octet is no digit.
+fn value_of_few(digits: &[u8]) -> Option<u64>
+    requires { length digits.now ≤ 19 }
+    ensures { SomeIff result (AllDigits 10 digits.now) (digits_value 10 digits.now) }
+{
+    let mut value = 0u64;
+    for digit in digits {
+        if !digit.is_ascii_digit() {
+            return None;
+        }
+        value = value * 10 + u64::from(*digit - b'0');
+    }
+    Some(value)
+}
+
 /// The value of decimal digits. None where an octet is no digit, or the value is above 18446744073709551615.
-fn value_of(digits: &[u8]) -> Option<u64>
+fn value_of_many(digits: &[u8]) -> Option<u64>
     ensures { SomeIff result (AllDigits 10 digits.now
         × (digits_value 10 digits.now < 2 ^ 64)) (digits_value 10 digits.now) }
 {
@@ -20,6 +38,17 @@ fn value_of(digits: &[u8]) -> Option<u64>
             .checked_add(u64::from(*digit - b'0'))?;
     }
     Some(value)
+}
+
+/// The same, of few or of many.
+fn value_of(digits: &[u8]) -> Option<u64>
+    ensures { SomeIff result (AllDigits 10 digits.now
+        × (digits_value 10 digits.now < 2 ^ 64)) (digits_value 10 digits.now) }
+{
+    if digits.len() > FEW {
+        return value_of_many(digits);
+    }
+    value_of_few(digits)
 }
 
 /// Whether a 0 stands before other octets.

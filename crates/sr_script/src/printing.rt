@@ -171,6 +171,7 @@ fn append_queue<R: Role>(
 {
     while let Some(parcel) = take_waiting(node, port) {
         append_parcel(role, port, &parcel, frame, text)?;
+        node.give_back(parcel);
     }
     Ok(())
 }

@@ -14,13 +14,14 @@ loop-parcel-preserved g c =
     let before = c.args.text.now.items in
     let took = c.in-Some.ensures.took in
     let line = c.in_ok-append_parcel.ensures.ok in
-    let left : box_at c.take_waiting.new.node.core.out port ≡ drop 1 (box_at c.loop-parcel.node.core.out port) =
-    ap (λ (u : State). box_at u.core.out port) took.1 ∙ box_left s port in
+    let same = c.give_back.ensures.same in
+    let left : box_at c.give_back.new.self.core.out port ≡ drop 1 (box_at c.loop-parcel.node.core.out port) =
+    ap (λ (u : State). box_at u.core.out port) same ∙ ap (λ (u : State). box_at u.core.out port) took.1 ∙ box_left s port in
     let more = printed_more c.args.role port whole (box_at c.loop-parcel.node.core.out port) c.in-Some.parcel before c.loop-parcel.text.items line.0 (sym took.0) line.1 c.loop-parcel.invariant.lines in
     record {
       lines = subst (λ (q : List ParcelImage). Printed c.args.role port whole q before c.append_parcel.new.text.items) (sym left)
           (subst (λ (text : List ℕ). Printed c.args.role port whole (drop 1 (box_at c.loop-parcel.node.core.out port)) before text) (sym line.2) more);
-      node = ap (λ (u : State). emptied u port) took.1 ∙ emptied_left s port ∙ c.loop-parcel.invariant.node;
+      node = ap (λ (u : State). emptied u port) same ∙ ap (λ (u : State). emptied u port) took.1 ∙ emptied_left s port ∙ c.loop-parcel.invariant.node;
     }
 
 pub returns-clause-ok : goal.returns-clause-ok

@@ -2,7 +2,7 @@ use Rattle.std.proofs.Common.{◌≡◌, take, get_or, arith, sym, ap, subst, �
 use Rattle.std.specs.Str.Parse.{AllDigits, digits_value}
 use Rattle.std.proofs.lemmas.Int.Digits.{digits_more, digits_value_more}
 use Rattle.sr_script.proofs.Numerals.{no_digit, digit_value_is, value_front}
-use Rattle.sr_script.proofs.numbers.value_of.Goals as goal
+use Rattle.sr_script.proofs.numbers.value_of_many.Goals as goal
 
 pub returns-then-not-is_ascii_digit : goal.returns-then-not-is_ascii_digit
 returns-then-not-is_ascii_digit c h =
