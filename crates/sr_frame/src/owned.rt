@@ -86,7 +86,8 @@ impl Frame {
     pub fn into_octets(self) -> Vec<u8>
         ensures { result.items ≡ self }
     {
-        self.octets
+        let Frame { octets: list } = self;
+        list
     }
 
     /// All octets.

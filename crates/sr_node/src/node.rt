@@ -3,7 +3,7 @@
 ghost use Rattle.std.specs.Prelude.{◌≡◌, IfOk, OnOk, OnErr, IfErr, IsOk, None, Some, length};
 ghost use Rattle.sr_node.specs.Faults.{or_no_memory};
 ghost use Rattle.sr_node.specs.PerPort.{at};
-ghost use Rattle.sr_node.specs.Outboxes.{box_at};
+ghost use Rattle.sr_node.specs.Outboxes.{box_at, first_of};
 ghost use Rattle.sr_node.specs.Images.{shown, node_state, begun, time_at, IsIdle};
 ghost use Rattle.sr_node.specs.Taking.{Took};
 ghost use Rattle.sr_node.specs.Steps.{Step, IsTake, refusal_of};
@@ -90,13 +90,16 @@ impl<R: Role> NodeOf<R> {
         self.core.take(port)
     }
 
-    /// Gives the memory of a parcel that went out back to the node, for the next. Nothing that shows changes.
-    pub fn give_back(&mut self, parcel: Parcel)
-        ensures same { node_state (R.meaning self.new.role) self.new.core
-            ≡ node_state (R.meaning self.old.role) self.old.core }
+    /// The first parcel that waits at a port goes, if one waits there: for who has looked at it by `front`. The node
+    /// keeps its memory for the next copy of a frame.
+    #[inline(always)]
+    pub fn drop_first(&mut self, port: Port)
+        ensures dropped { Took (node_state (R.meaning self.old.role) self.old.core) port
+            (Answer.Taken (first_of (box_at (shown self.old.core).out port)))
+            (node_state (R.meaning self.new.role) self.new.core) }
         ensures idle { IsIdle self.old.core → IsIdle self.new.core }
     {
-        self.core.give_back(parcel);
+        self.core.drop_first(port);
     }
 
     /// How many parcels wait at a port.

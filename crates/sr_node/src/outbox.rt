@@ -57,6 +57,7 @@ impl Outbox {
     }
 
     /// The first parcel.
+    #[inline(always)]
     pub(crate) fn front(&self) -> Option<&Parcel>
         ensures none { result ≡ None ↔ (first_of self.now ≡ None) }
         ensures some { IfSome result (λ p. first_of self.now ≡ Some p.now) }
@@ -76,6 +77,7 @@ impl Outbox {
     }
 
     /// The first parcel, taken out.
+    #[inline(always)]
     fn take(&mut self) -> Option<Parcel>
         ensures result { result ≡ first_of self.old }
         ensures rest { self.new ≡ drop 1 self.old }
@@ -137,6 +139,7 @@ impl PerPort<Outbox> {
     }
 
     /// The first parcel of a queue, taken out.
+    #[inline(always)]
     pub(crate) fn take(&mut self, port: Port) -> Option<Parcel>
         ensures result { result ≡ first_of (box_at self.old port) }
         ensures rest { self.new ≡ boxes_left self.old port }

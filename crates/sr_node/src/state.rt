@@ -194,13 +194,6 @@ impl Core {
         copies_for(self.alloc, outlets, parcel, &mut self.spare, copies)
     }
 
-    /// Takes the list of a parcel's octets for the next copy. Nothing that shows changes.
-    pub(crate) fn give_back(&mut self, parcel: Parcel)
-        ensures { self.new ≡ self.old }
-    {
-        self.spare = parcel.into_octets();
-    }
-
     /// OutboxFull of the first of these outlets, in the order H, A, B, C, whose queue is full, if one is.
     pub(crate) fn room_for(&self, outlets: Outlets) -> Result<(), StepFault>
         ensures ok { OnOk result (first_full self.now.out outlets ≡ None) }
@@ -588,5 +581,18 @@ impl Core {
         ensures nodes { self.new.nodes ≡ self.old.nodes }
     {
         self.out.take(port)
+    }
+
+    /// The first parcel that waits at a port goes, and the next copy is made in its memory.
+    #[inline(always)]
+    pub(crate) fn drop_first(&mut self, port: Port)
+        ensures shown { shown self.new
+            ≡ record (shown self.old) { out = boxes_left self.old.out port } }
+        ensures held { self.new.table ≡ self.old.table }
+        ensures nodes { self.new.nodes ≡ self.old.nodes }
+    {
+        if let Some(parcel) = self.out.take(port) {
+            self.spare = parcel.into_octets();
+        }
     }
 }

@@ -70,24 +70,26 @@ same_box s A = refl
 same_box s B = refl
 same_box s C = refl
 
-none_first : (q : List ParcelImage) → length q ≡ 0 → (None ≡ first_of q) × (q ≡ drop 1 q)
-none_first [] e = (refl, refl)
+unchanged : (q : List ParcelImage) → first_of q ≡ None → q ≡ drop 1 q
+unchanged [] e = refl
+unchanged (x ∷ xs) e = absurd cc
+
+pub none_first : (q : List ParcelImage) → length q ≡ 0 → first_of q ≡ None
+none_first [] e = refl
 none_first (x ∷ xs) e = absurd (omega arith)
 
--- where nothing waits, nothing is taken
-pub took_none : (s : State) (port : Port) → length (box_at s.core.out port) ≡ 0 → (None ≡ first_of (box_at s.core.out port)) × (s ≡ left_at s port)
-took_none s port e =
-    let none = none_first (box_at s.core.out port) e in (
-      none.0,
-      ap (λ (o : Outboxes). record s { core = record s.core { out = o } })
-          (sym (same_box s port) ∙ ap (λ (q : List ParcelImage). with_at s.core.out port q) none.1),
-    )
+-- where nothing waits, all is taken
+pub is_emptied : (s : State) (port : Port) → first_of (box_at s.core.out port) ≡ None → s ≡ emptied s port
+is_emptied s port e =
+    ap (λ (o : Outboxes). record s { core = record s.core { out = o } })
+        (sym (same_box s port) ∙ ap (λ (q : List ParcelImage). with_at s.core.out port q) (unchanged (box_at s.core.out port) e))
+    ∙ left_is_emptied s port e
 
 pub emptied_none : (role : RoleName) (port : Port) (s : State) → length (box_at s.core.out port) ≡ 0
     → AreLines role port (box_at s.core.out port) [] × (s ≡ emptied s port)
 emptied_none role port s e =
-    let none = took_none s port e in
-    (nothing_left role port (box_at s.core.out port) (sym none.0), none.1 ∙ left_is_emptied s port (sym none.0))
+    let none = none_first (box_at s.core.out port) e in
+    (nothing_left role port (box_at s.core.out port) none, is_emptied s port none)
 
 pub four_parts : (t h a b c : List ℕ) → (((t ++ h) ++ a) ++ b) ++ c ≡ t ++ (h ++ (a ++ (b ++ c)))
 four_parts t h a b c = append_assoc ((t ++ h) ++ a) b c ∙ append_assoc (t ++ h) a (b ++ c) ∙ append_assoc t h (a ++ (b ++ c))

@@ -17,7 +17,6 @@ mod setups;
 mod starting;
 mod status;
 mod status_lines;
-mod taking;
 mod waiting;
 mod words;
 

@@ -11,7 +11,6 @@ use crate::answering::obey;
 use crate::fault::Word;
 use crate::reading::command_of;
 use crate::setups::RoleName;
-use crate::taking::take_waiting;
 use sr_forwarding::Role;
 use sr_frame::Port;
 use sr_node::NodeOf;
@@ -22,7 +21,9 @@ fn drop_waiting<R: Role>(node: &mut NodeOf<R>, port: Port)
     ensures { node_state (R.meaning node.new.role) node.new.core
         ≡ emptied (node_state (R.meaning node.old.role) node.old.core) port }
 {
-    while let Some(_parcel) = take_waiting(node, port) {}
+    'parcels: while node.waiting(port) > 0 {
+        node.drop_first(port);
+    }
 }
 
 /// Takes all that waits, and keeps none of it.

@@ -13,7 +13,6 @@ ghost use Rattle.sr_script.specs.Replies.{Emptied, AllEmptied};
 use crate::carriers::{Carrier, carrier_of};
 use crate::fault::Word;
 use crate::setups::RoleName;
-use crate::taking::take_waiting;
 use sr_forwarding::{Form, Framing, Parcel, Role};
 use sr_frame::{Port, append};
 use sr_hex::append_hex;
@@ -169,9 +168,9 @@ fn append_queue<R: Role>(
         × (text.new.items ≡ text.old.items ++ lines)) }
     ensures err { IfErr result (λ word. word ≡ Word.Memory) }
 {
-    while let Some(parcel) = take_waiting(node, port) {
-        append_parcel(role, port, &parcel, frame, text)?;
-        node.give_back(parcel);
+    while let Some(parcel) = node.front(port) {
+        append_parcel(role, port, parcel, frame, text)?;
+        node.drop_first(port);
     }
     Ok(())
 }
