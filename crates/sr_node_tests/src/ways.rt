@@ -43,7 +43,12 @@ pub fn way_of(kind: RoleKind, port: Port) -> Way {
 
 fn outcome_of_outlets(outlets: Outlets) -> Outcome {
     let [h, a, b, c] = [Port::H, Port::A, Port::B, Port::C];
-    match (outlets.has(h), outlets.has(a), outlets.has(b), outlets.has(c)) {
+    match (
+        outlets.has(h),
+        outlets.has(a),
+        outlets.has(b),
+        outlets.has(c),
+    ) {
         (false, false, false, false) => Outcome::Nowhere,
         (true, false, false, false) => Outcome::Up,
         (true, true, false, false) => Outcome::UpAndA,

@@ -82,7 +82,7 @@ none_first (x ∷ xs) e = absurd (omega arith)
 pub is_emptied : (s : State) (port : Port) → first_of (box_at s.core.out port) ≡ None → s ≡ emptied s port
 is_emptied s port e =
     ap (λ (o : Outboxes). record s { core = record s.core { out = o } })
-        (sym (same_box s port) ∙ ap (λ (q : List ParcelImage). with_at s.core.out port q) (unchanged (box_at s.core.out port) e))
+    (sym (same_box s port) ∙ ap (λ (q : List ParcelImage). with_at s.core.out port q) (unchanged (box_at s.core.out port) e))
     ∙ left_is_emptied s port e
 
 pub emptied_none : (role : RoleName) (port : Port) (s : State) → length (box_at s.core.out port) ≡ 0
