@@ -77,12 +77,21 @@ impl Outbox {
     }
 
     /// The first parcel, taken out.
-    #[inline(always)]
     fn take(&mut self) -> Option<Parcel>
         ensures result { result ≡ first_of self.old }
         ensures rest { self.new ≡ drop 1 self.old }
     {
         self.queue.pop_front()
+    }
+
+    // The first parcel goes; its list is the spare one then.
+    #[inline(always)]
+    fn drop_first(&mut self, spare: &mut Vec<u8>)
+        ensures { self.new ≡ drop 1 self.old }
+    {
+        if let Some(parcel) = self.queue.pop_front() {
+            *spare = parcel.into_octets();
+        }
     }
 
     /// Puts a copy last, if there is one.
@@ -139,7 +148,6 @@ impl PerPort<Outbox> {
     }
 
     /// The first parcel of a queue, taken out.
-    #[inline(always)]
     pub(crate) fn take(&mut self, port: Port) -> Option<Parcel>
         ensures result { result ≡ first_of (box_at self.old port) }
         ensures rest { self.new ≡ boxes_left self.old port }
@@ -149,6 +157,19 @@ impl PerPort<Outbox> {
             Port::A => self.a.take(),
             Port::B => self.b.take(),
             Port::C => self.c.take(),
+        }
+    }
+
+    /// The first parcel of a queue goes; its list is the spare one then.
+    #[inline(always)]
+    pub(crate) fn drop_first(&mut self, port: Port, spare: &mut Vec<u8>)
+        ensures { self.new ≡ boxes_left self.old port }
+    {
+        match port {
+            Port::H => self.h.drop_first(spare),
+            Port::A => self.a.drop_first(spare),
+            Port::B => self.b.drop_first(spare),
+            Port::C => self.c.drop_first(spare),
         }
     }
 }

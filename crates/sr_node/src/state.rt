@@ -591,8 +591,6 @@ impl Core {
         ensures held { self.new.table ≡ self.old.table }
         ensures nodes { self.new.nodes ≡ self.old.nodes }
     {
-        if let Some(parcel) = self.out.take(port) {
-            self.spare = parcel.into_octets();
-        }
+        self.out.drop_first(port, &mut self.spare);
     }
 }

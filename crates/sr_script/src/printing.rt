@@ -38,8 +38,7 @@ fn append_frame(text: &mut Vec<u8>, port: Port, frame: &[u8]) -> Result<(), Allo
     ensures { OnOk result (text.new.items ≡ text.old.items
         ++ (letter_of port ++ (32 ∷ encode_lower frame.now)) ++ 10 ∷ []) }
 {
-    text.push(letter_of(port))?;
-    text.push(b' ')?;
+    text.extend_from_slice(&[letter_of(port), b' '])?;
     append_hex(text, frame)?;
     text.push(b'\n')?;
     Ok(())
