@@ -33,6 +33,7 @@ pub(crate) fn letter_of(port: Port) -> u8
 }
 
 /// Appends the line for a frame that goes out at a port.
+#[inline(always)]
 fn append_frame(text: &mut Vec<u8>, port: Port, frame: &[u8]) -> Result<(), AllocError>
     requires { length frame.now ≤ 1524 }
     ensures { OnOk result (text.new.items ≡ text.old.items
