@@ -56,18 +56,16 @@ fn header(sent: Sent) -> Header {
     }
 }
 
-// Whether a frame goes to these outlets, and to no other.
-fn goes<R: Role>(role: &R, row: &Row, now: u64) -> bool {
+// Whether a frame goes to these outlets, in the order H, A, B, C, and to no other.
+fn goes<R: Role>(alloc: Global, role: &R, row: &Row, now: u64) -> bool {
     let (sent, inlet, outlets) = *row;
-    let wanted = role.wants(&header(sent), inlet, now);
-    [Port::H, Port::A, Port::B, Port::C]
-        .iter()
-        .all(|port| wanted.has(*port) == outlets.contains(port))
+    let wanted = role.wants(&header(sent), inlet, now).ports(alloc);
+    wanted.as_slice() == outlets
 }
 
 // The first row that differs.
-fn differs<R: Role>(role: &R, rows: &[Row], now: u64) -> Option<usize> {
-    rows.iter().position(|row| !goes(role, row, now))
+fn differs<R: Role>(alloc: Global, role: &R, rows: &[Row], now: u64) -> Option<usize> {
+    rows.iter().position(|row| !goes(alloc, role, row, now))
 }
 
 /// The time at which the box learned what it proxies.
@@ -133,14 +131,14 @@ fn san_box_goes(alloc: Global, rows: &[Row], now: u64) -> bool {
     let Some(role) = san_box(alloc) else {
         return false;
     };
-    if differs(&role, rows, now).is_some() {
+    if differs(alloc, &role, rows, now).is_some() {
         return false;
     }
     let Ok(boxed) = Box::new(alloc, role) else {
         return false;
     };
     let boxed: Box<dyn Role + Send> = boxed;
-    differs(&boxed, rows, now).is_none()
+    differs(alloc, &boxed, rows, now).is_none()
 }
 
 #[test]
@@ -196,12 +194,12 @@ fn ring_boxes_differ(alloc: Global) -> Option<usize> {
         PrpRouting { lan, net: 3 },
     ));
     for role in boxes.iter() {
-        if let Some(place) = differs(role, OPEN, 0).or(differs(role, OF_NETS, 0)) {
+        if let Some(place) = differs(alloc, role, OPEN, 0).or(differs(alloc, role, OF_NETS, 0)) {
             return Some(place);
         }
     }
     let role: HsrBox = OwnRole::of(OWN, HsrRouting);
-    differs(&role, OPEN, 0)
+    differs(alloc, &role, OPEN, 0)
 }
 
 #[test]
