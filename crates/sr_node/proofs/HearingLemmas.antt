@@ -4,6 +4,7 @@ use Rattle.std.proofs.Common.{◌≡◌, ℕ, Bool, true, false, [], ◌∷◌, 
 use Rattle.std.specs.declared.result.Result.{Result}
 use Rattle.std.specs.declared.result.Result.TheVariants.{Ok}
 use Rattle.std.specs.Map.{lookup}
+use Rattle.std.specs.Prelude.{IsOk}
 use Rattle.sr_frame.specs.declared.fields.Mac.{Mac}
 use Rattle.sr_frame.specs.declared.ports.Port.{Port}
 use Rattle.sr_frame.specs.declared.ports.Port.TheVariants.{H, A, B, C}
@@ -90,6 +91,14 @@ ready_still old new h seq a mac answer table full keeps room = elim room [
     by_entry Learned e there src = still (after Learned e) there src
     by_entry Known e there src = still (after Known e) there src
 
+-- who is ready for a hearing is answered
+pub answered : (n : Nodes) (mac : Mac) (now : ℕ) (result : Result Learnt NoMemory) → IsReadyFor n mac now → (is_held n mac ≡ true → IsOk result)
+    → (is_some (lookup (mac_eq mac) n.table.entries) ≡ true → IsOk result) → (length (live_others mac now n.table.entries) ≡ most_nodes → result ≡ Ok Full) → IsOk result
+answered n mac now result ready held known full = elim ready [
+  | inl room ↦ elim room [ inl h ↦ held h | inr k ↦ known k ]
+  | inr f ↦ subst (λ r. IsOk r) (sym (full f)) refl
+]
+
 -- no held place is lost where one more is held
 pub held_still : (old new : Nodes) (mac other : Mac) → KeepsHeld old.held new.held mac → is_held new mac ≡ true → is_held old other ≡ true → is_held new other ≡ true
 held_still old new mac other keeps now before = by (mac_eq other mac) refl
@@ -100,12 +109,15 @@ held_still old new mac other keeps now before = by (mac_eq other mac) refl
 
 -- what has room keeps it where one more address is made ready
 pub room_still : (old new : Nodes) (mac : Mac) (answer : Result Ready NoMemory) (r : Ready) → answer ≡ Ok r → (answer ≡ Ok ready.Known → new ≡ old) → (answer ≡ Ok ready.Held → is_held new mac ≡ true)
-    → KeepsHeld old.held new.held mac → new.table ≡ old.table → (src : Mac) (number : Option Seq) → HasRoomFor old src number → HasRoomFor new src number
-room_still old new mac answer ready.Known is same held keeps table src number room = subst (λ n. HasRoomFor n src number) (sym (same is)) room
-room_still old new mac answer ready.Held is same held keeps table src None room = tt
-room_still old new mac answer ready.Held is same held keeps table src (Some seq) room = elim room [
-  | inl before ↦ inl (held_still old new mac src keeps (held is) before)
-  | inr there ↦ inr (ap (λ (t : Table). is_some (lookup (mac_eq src) t.entries)) table ∙ there)
+    → KeepsHeld old.held new.held mac → new.table ≡ old.table → (src : Mac) (number : Option Seq) (now : ℕ) → HasRoomFor old src number now → HasRoomFor new src number now
+room_still old new mac answer ready.Known is same held keeps table src number now room = subst (λ n. HasRoomFor n src number now) (sym (same is)) room
+room_still old new mac answer ready.Held is same held keeps table src None now room = tt
+room_still old new mac answer ready.Held is same held keeps table src (Some seq) now room = elim room [
+  | inl has ↦ elim has [
+    | inl before ↦ inl (inl (held_still old new mac src keeps (held is) before))
+    | inr there ↦ inl (inr (ap (λ (t : Table). is_some (lookup (mac_eq src) t.entries)) table ∙ there))
+  ]
+  | inr full ↦ inr (ap (λ (t : Table). length (live_others src now t.entries)) table ∙ full)
 ]
 
 -- what such a role wants nowhere of the frames from a network is from a source that it owns

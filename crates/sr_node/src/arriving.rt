@@ -239,7 +239,7 @@ impl<R: Role> NodeOf<R> {
         ensures room { OnOk result (Room self.new.core.out copies.new) }
         ensures ready { OnOk result (IsReady self.new.core.table header.now.src header.now.seq) }
         ensures number { OnOk result
-            (HasRoomFor self.new.core.nodes header.now.src heard.now.number) }
+            (HasRoomFor self.new.core.nodes header.now.src heard.now.number now) }
         ensures announced { OnOk result
             (HasRoomToo self.new.core.nodes header.now.src heard.now.number heard.now.announced) }
         ensures role { OnOk result (R.meaning self.new.role
@@ -249,7 +249,7 @@ impl<R: Role> NodeOf<R> {
         ensures idle { OnErr result (IsIdle self.old.core → IsIdle self.new.core) }
     {
         self.core.copies(outlets, going, copies)?;
-        self.core.hold(header, spot, heard)?;
+        self.core.hold(header, spot, heard, now)?;
         // Its success shows, so it is the last.
         if let Err(fault) = self.role.learn(self.core.alloc(), header, port, now) {
             self.core.release();

@@ -1,6 +1,6 @@
 //! What a node hears of other nodes.
 
-ghost use Rattle.std.specs.Prelude.{◌≡◌, true};
+ghost use Rattle.std.specs.Prelude.{◌≡◌, ◌||◌, true, not, is_some};
 ghost use Rattle.sr_forwarding.specs.RoleImages.{owned};
 ghost use Rattle.sr_forwarding.specs.Routes.{routes};
 ghost use Rattle.sr_node.specs.Arriving.{header_told};
@@ -27,6 +27,15 @@ pub(crate) struct Heard {
     pub(crate) announced: Option<Supervision>,
     /// Where the entry of the node of which it speaks was found.
     pub(crate) told: Option<Spot>,
+}
+
+impl Heard {
+    /// Whether its source is not heard, or was found: then it takes nobody's place.
+    pub(crate) fn is_of_known(&self) -> bool
+        ensures { result ≡ (not (is_some self.now.number) || is_some self.now.source) }
+    {
+        self.number.is_none() || self.source.is_some()
+    }
 }
 
 /// What a frame says, if it is supervision that can be read.

@@ -8,7 +8,7 @@ ghost use Rattle.sr_frame.specs.declared.fields.Mac.{Mac as Address};
 ghost use Rattle.sr_node_table.specs.Nodes.{is_held};
 ghost use Rattle.sr_slots.specs.Places.{IsFound};
 ghost use Rattle.sr_node_table.specs.Watching.{after_prune};
-ghost use Rattle.sr_node.specs.Hearing.{is_network, HasRoomFor, HasRoomToo, IsKnownIf, KeepsRoom, IsReadyFor, nodes_heard, nodes_told};
+ghost use Rattle.sr_node.specs.Hearing.{is_network, HasRoomFor, HasRoomToo, KeepsRoom, IsReadyFor, nodes_heard, nodes_told};
 ghost use Rattle.sr_node.specs.Lanes.{is_host, new_outlets, sources_after};
 ghost use Rattle.sr_node.specs.Outboxes.{box_at, boxes_left, first_full, first_of};
 ghost use Rattle.sr_node.specs.Copies.{Room, no_copies, copies_for, put_copies};
@@ -26,7 +26,7 @@ use crate::{NodeImage, Outbox, PerPort, StepFault};
 use sr_dup_table::{DupFault, DupTable, TableFull};
 use sr_forwarding::{Form, Header, Outlets, Parcel, ParcelView, RoleImage};
 use sr_frame::{Mac, NoMemory, Port};
-use sr_node_table::{NodeTable, Ready};
+use sr_node_table::NodeTable;
 use sr_sequence::Seq;
 use sr_slots::{Keys, Spot};
 use sr_supervision::Supervision;
@@ -289,19 +289,21 @@ impl Core {
         &self.nodes
     }
 
-    /// Makes room for the note of a frame and for what it makes known. Nothing that shows changes.
+    /// Makes room for the note of a frame at this moment and for what it makes known. Nothing that shows changes.
     #[inline(always)]
     pub(crate) fn hold(
         &mut self,
         header: &Header,
         spot: Option<Spot>,
         heard: &Heard,
+        now: u64,
     ) -> Result<(), NoMemory>
         requires spot { IsFound spot self.old.table.sources header.now.src }
         requires source { IsFound heard.now.source self.old.nodes.table.entries header.now.src }
         ensures same { shown self.new ≡ shown self.old }
         ensures ready { OnOk result (IsReady self.new.table header.now.src header.now.seq) }
-        ensures number { OnOk result (HasRoomFor self.new.nodes header.now.src heard.now.number) }
+        ensures number { OnOk result
+            (HasRoomFor self.new.nodes header.now.src heard.now.number now) }
         ensures announced { OnOk result
             (HasRoomToo self.new.nodes header.now.src heard.now.number heard.now.announced) }
         ensures err { OnErr result (IsIdle self.old → IsIdle self.new) }
@@ -313,38 +315,36 @@ impl Core {
         if header.seq.is_some() && spot.is_none() {
             self.table.reserve(header.src)?;
         }
-        if let Err(fault) = self.hold_nodes(header.src, heard) {
+        if let Err(fault) = self.hold_nodes(header.src, heard, now) {
             self.release();
             return Err(fault);
         }
         Ok(())
     }
 
-    // Makes room for the source of a frame, where it is heard. Held: it may be a new node.
+    // Makes room for the source of a frame, where it is heard and a full table would not refuse it.
     #[inline(always)]
-    fn hold_source(&mut self, src: Mac, heard: &Heard) -> Result<Ready, NoMemory>
+    fn hold_source(&mut self, src: Mac, heard: &Heard, now: u64) -> Result<(), NoMemory>
         requires { IsFound heard.now.source self.old.nodes.table.entries src }
         ensures same { shown self.new ≡ shown self.old }
         ensures table { self.new.table ≡ self.old.table }
-        ensures number { OnOk result (HasRoomFor self.new.nodes src heard.now.number) }
-        ensures known { result ≡ Ok Ready.Known → IsKnownIf self.new.nodes src heard.now.number }
+        ensures number { OnOk result (HasRoomFor self.new.nodes src heard.now.number now) }
         ensures free { heard.now.number ≡ None → (IsOk result) × (self.new ≡ self.old) }
     {
-        if heard.number.is_none() || heard.source.is_some() {
-            return Ok(Ready::Known);
+        if heard.is_of_known() || self.nodes.is_full_for(src, now) {
+            return Ok(());
         }
-        self.nodes.reserve(src, None)?;
-        Ok(Ready::Held)
+        self.nodes.reserve(src, None)
     }
 
     // Makes room for the node of which a frame speaks, beside that for its source.
     #[inline(always)]
-    fn hold_told(&mut self, src: Mac, source: Ready, heard: &Heard) -> Result<(), NoMemory>
-        requires number { HasRoomFor self.old.nodes src heard.now.number }
-        requires known { source ≡ Ready.Known → IsKnownIf self.old.nodes src heard.now.number }
+    fn hold_told(&mut self, src: Mac, heard: &Heard, now: u64) -> Result<(), NoMemory>
+        requires source { IsFound heard.now.source self.old.nodes.table.entries src }
+        requires number { HasRoomFor self.old.nodes src heard.now.number now }
         ensures same { shown self.new ≡ shown self.old }
         ensures table { self.new.table ≡ self.old.table }
-        ensures number { OnOk result (HasRoomFor self.new.nodes src heard.now.number) }
+        ensures number { OnOk result (HasRoomFor self.new.nodes src heard.now.number now) }
         ensures announced { OnOk result
             (HasRoomToo self.new.nodes src heard.now.number heard.now.announced) }
         ensures free { heard.now.announced ≡ None → (IsOk result) × (self.new ≡ self.old) }
@@ -353,9 +353,10 @@ impl Core {
             return Ok(());
         };
         // A new node may push a forgotten one out of a full table: then an entry alone would not do.
-        let spot = match source {
-            Ready::Known => heard.told,
-            Ready::Held => None,
+        let spot = if heard.is_of_known() {
+            heard.told
+        } else {
+            None
         };
         let _ready = self.nodes.reserve_at(spot, said.mac)?;
         Ok(())
@@ -363,18 +364,18 @@ impl Core {
 
     // Makes room for what a frame makes known. Nothing that shows changes.
     #[inline(always)]
-    fn hold_nodes(&mut self, src: Mac, heard: &Heard) -> Result<(), NoMemory>
+    fn hold_nodes(&mut self, src: Mac, heard: &Heard, now: u64) -> Result<(), NoMemory>
         requires { IsFound heard.now.source self.old.nodes.table.entries src }
         ensures same { shown self.new ≡ shown self.old }
         ensures table { self.new.table ≡ self.old.table }
-        ensures number { OnOk result (HasRoomFor self.new.nodes src heard.now.number) }
+        ensures number { OnOk result (HasRoomFor self.new.nodes src heard.now.number now) }
         ensures announced { OnOk result
             (HasRoomToo self.new.nodes src heard.now.number heard.now.announced) }
         ensures free { heard.now.number ≡ None → heard.now.announced ≡ None
             → (IsOk result) × (self.new ≡ self.old) }
     {
-        let source = self.hold_source(src, heard)?;
-        self.hold_told(src, source, heard)
+        self.hold_source(src, heard, now)?;
+        self.hold_told(src, heard, now)
     }
 
     /// Gives up the room. Nothing that shows changes.
@@ -409,7 +410,7 @@ impl Core {
     // Hears the source of a frame under a number, if it is heard.
     fn hear(&mut self, port: Port, src: Mac, number: Option<Seq>, spot: Option<Spot>, now: u64)
         requires port { IsSome number → is_network port ≡ true }
-        requires held { HasRoomFor self.old.nodes src number }
+        requires held { HasRoomFor self.old.nodes src number now }
         ensures nodes { shown self.new ≡ record (shown self.old) {
           nodes = nodes_heard
               self.old.nodes.table port src number now;
@@ -442,7 +443,7 @@ impl Core {
     fn hear_all(&mut self, port: Port, src: Mac, heard: &Heard, now: u64)
         requires port { (IsSome heard.now.number → is_network port ≡ true)
             × (IsSome heard.now.announced → is_network port ≡ true) }
-        requires number { HasRoomFor self.old.nodes src heard.now.number }
+        requires number { HasRoomFor self.old.nodes src heard.now.number now }
         requires announced { HasRoomToo self.old.nodes src heard.now.number heard.now.announced }
         ensures nodes { shown self.new ≡ record (shown self.old) {
           nodes = nodes_told (nodes_heard self.old.nodes.table port src heard.now.number now) port
@@ -475,7 +476,7 @@ impl Core {
         requires room { Room self.old.out copies.old }
         requires network { (IsSome heard.now.number → is_network port ≡ true)
             × (IsSome heard.now.announced → is_network port ≡ true) }
-        requires number { HasRoomFor self.old.nodes header.now.src heard.now.number }
+        requires number { HasRoomFor self.old.nodes header.now.src heard.now.number now }
         requires announced { HasRoomToo self.old.nodes header.now.src heard.now.number
             heard.now.announced }
         ensures shown { shown self.new ≡ record (shown self.old) {

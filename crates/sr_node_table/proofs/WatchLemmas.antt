@@ -1,5 +1,5 @@
 -- The alarms and the late ports so far, entry by entry.
-use Rattle.std.proofs.Common.{◌≡◌, ℕ, suc, ◌+◌, ◌-◌, ◌≤◌, false, cond, List, [], ◌∷◌, ◌++◌, length, drop, Option, None, Some, refl, sym, ap, ◌∙◌, subst, append_assoc, append-nil, arith}
+use Rattle.std.proofs.Common.{◌≡◌, ℕ, suc, ◌+◌, ◌-◌, ◌≤◌, false, cond, List, [], ◌∷◌, ◌++◌, length, drop, Option, None, Some, is_some, if◌then◌else◌, refl, sym, ap, ◌∙◌, subst, append_assoc, append-nil, arith}
 use Rattle.std.specs.List.{filter_map, cons_option, IsDistinct, AllByRecursion}
 use Rattle.std.specs.Map.{lookup, keys_of}
 use Rattle.std.proofs.lemmas.List.{length-append, length-drop, drop-drop, drop-append-le}
@@ -9,7 +9,8 @@ use Rattle.sr_frame.specs.declared.ports.Port.{Port}
 use Rattle.sr_frame.specs.Addresses.{mac_eq}
 use Rattle.sr_slots.specs.EntryLemmas.{lookup-push}
 use Rattle.sr_aged_slots.specs.GatherLemmas.{cons_is}
-use Rattle.sr_node_table.specs.Watching.{found_late}
+use Rattle.sr_node_table.specs.Nodes.{Entry}
+use Rattle.sr_node_table.specs.Watching.{found_late, alarm_of}
 
 module _ {X : Type 0} where
   -- the last ones of the last ones and more are the last ones
@@ -31,6 +32,11 @@ module _ {X : Type 0} where
   -- where nothing is raised, the last ones stay
   pub keep_last_none : (n : ℕ) (xs : List X) → length xs ≤ n → keep_last n (xs ++ []) ≡ xs
   keep_last_none n xs few = ap (keep_last n) (append-nil xs) ∙ keep_last_all n xs few
+
+-- what was late before counts only where a port is late
+pub asked_where_late : (o late : Option Port) (mac : Mac) (e : Entry) (now : ℕ) → alarm_of (if is_some late then o else None) late mac e now ≡ alarm_of o late mac e now
+asked_where_late o None mac e now = refl
+asked_where_late o (Some port) mac e now = refl
 
 -- what a loop over the entries `all` has raised, once the `rest` is left
 pub record Raises {E X : Type 0} (f : E → Option X) (cap : ℕ) (start : List X) (all : List E) (items : List X) (rest : List E) : Type 0 where

@@ -243,6 +243,17 @@ impl NodeTable {
         Ok(Ready::Held)
     }
 
+    /// Whether a hearing of an address at this time would be answered `Full`: 1024 other nodes are live. Nothing that shows changes.
+    pub fn is_full_for(&mut self, mac: Mac, now: u64) -> bool
+        ensures full { (result ≡ true)
+            ↔ (length (live_others mac now self.old.table.entries) ≡ most_nodes) }
+        ensures same { self.new ≡ self.old }
+    {
+        // The length says that there are no more than 1024.
+        let _nodes = self.nodes.len();
+        self.nodes.is_full_now(now) && self.nodes.get(mac).is_none()
+    }
+
     /// Gives up all held places.
     pub fn release(&mut self)
         ensures table { self.new.table ≡ self.old.table }

@@ -1,5 +1,5 @@
 //! What a prune looks at: which ports are late, which nodes are gone.
-ghost use Rattle.std.specs.Prelude.{◌≡◌, ◌+◌, ◌≤◌, ◌<◌, ◌++◌, [], None, length};
+ghost use Rattle.std.specs.Prelude.{◌≡◌, ◌+◌, ◌≤◌, ◌<◌, ◌++◌, [], None, is_some, length, if◌then◌else◌};
 ghost use Rattle.std.specs.List.{cons_option};
 ghost use Rattle.std.specs.Map.{lookup};
 ghost use Rattle.circular_buffer.specs.Buffer.{buffer, keep_last};
@@ -54,6 +54,17 @@ fn was_late(before: Option<Port>, port: Port) -> bool
     ensures { result ≡ was_late before port }
 {
     before == Some(port)
+}
+
+// Which port of a node was found late before, where one is late now. For any other node it is not looked up.
+fn late_before(before: &LatePorts, late: Option<Port>, mac: Mac) -> Option<Port>
+    ensures { result
+        ≡ (if is_some late then lookup (mac_eq mac) before.now.ports else None) }
+{
+    if late.is_none() {
+        return None;
+    }
+    before.port(mac)
 }
 
 // The alarm of a node that is forgotten.
@@ -132,7 +143,8 @@ pub fn watch(
     let _room = alarms.capacity();
     for (mac, entry) in nodes.iter() {
         let late = late_port(entry, now);
-        raise(alarms, alarm_of(before.port(mac), late, mac, entry, now));
+        let before = late_before(before, late, mac);
+        raise(alarms, alarm_of(before, late, mac, entry, now));
         find(found, mac, late);
     }
 }

@@ -22,7 +22,7 @@ use itoa::Buffer;
 use sr_forwarding::{ReadFault, Role};
 use sr_frame::{Frame, FrameFault, Port, view};
 use sr_node::{Answer, Event, NodeOf, StepFault};
-use std::alloc::Global;
+use std::alloc::{AllocError, Global};
 
 /// What a refusal is called. None for want of memory.
 pub fn name_of(fault: StepFault) -> Option<&'static str>
@@ -40,6 +40,20 @@ pub fn name_of(fault: StepFault) -> Option<&'static str>
     }
 }
 
+/// Appends the line for an event that is refused, or as much of it as there is memory for.
+#[inline(always)]
+fn append_refused(text: &mut Vec<u8>, number: u64, name: &str) -> Result<(), AllocError>
+    ensures { OnOk result (text.new.items ≡ text.old.items ++ refusal_line number name.now) }
+{
+    let mut digits = Buffer::new();
+    text.extend_from_slice(b"refused ")?;
+    text.extend_from_slice(digits.format(number).as_bytes())?;
+    text.push(b' ')?;
+    text.extend_from_slice(name.as_bytes())?;
+    text.push(b'\n')?;
+    Ok(())
+}
+
 /// Appends the line for an event that is refused.
 ///
 /// # Errors
@@ -48,12 +62,7 @@ pub fn append_refusal(text: &mut Vec<u8>, number: u64, name: &str) -> Result<(),
     ensures ok { OnOk result (text.new.items ≡ text.old.items ++ refusal_line number name.now) }
     ensures err { IfErr result (λ word. word ≡ Word.Memory) }
 {
-    let mut digits = Buffer::new();
-    text.extend_from_slice(b"refused ")?;
-    text.extend_from_slice(digits.format(number).as_bytes())?;
-    text.extend_from_slice(b" ")?;
-    text.extend_from_slice(name.as_bytes())?;
-    text.extend_from_slice(b"\n")?;
+    append_refused(text, number, name)?;
     Ok(())
 }
 

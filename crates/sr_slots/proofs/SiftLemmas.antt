@@ -1,14 +1,14 @@
 -- Going over the places in turn, taking out what does not pass.
-use Rattle.std.proofs.Common.{◌≡◌, ℕ, ◌+◌, ◌<◌, ◌≤◌, ◌^◌, min, Bool, true, false, cond, List, [], ◌∷◌, ◌++◌, length, filter, Option, None, Some, refl, sym, ap, ◌∙◌, subst, append_assoc, append-nil, arith}
+use Rattle.std.proofs.Common.{◌≡◌, ℕ, ◌+◌, ◌<◌, ◌≤◌, ◌^◌, min, Bool, true, false, not, ◌&&◌, is_some, cond, List, [], ◌∷◌, ◌++◌, length, filter, Option, None, Some, refl, sym, ap, ◌∙◌, subst, append_assoc, append-nil, arith}
 use Rattle.std.specs.Map.{values_of}
 use Rattle.std.specs.List.{slice_get}
-use Rattle.std.specs.Option.{option_map}
 use Rattle.std.proofs.lemmas.List.{length-append}
 use Rattle.indexmap.specs.IndexMap.{set_value_at}
 use Rattle.sr_frame.specs.declared.fields.Mac.{Mac}
 use Rattle.sr_slots.specs.declared.places.Slot.{Slot}
 use Rattle.sr_slots.specs.Places.{entry_at, held_at, entries_of, held_of}
-use Rattle.sr_slots.specs.Calls.{passing, least_rank}
+use Rattle.sr_slots.specs.Calls.{passing, least_rank, rank_or_most}
+use Rattle.sr_slots.specs.EntryLemmas.{one_if, least_rank_le}
 use Rattle.sr_slots.proofs.PlaceLemmas.{entries-append, held-append, entries_le}
 
 module _ {X : Type 0} where
@@ -25,6 +25,38 @@ module _ {V : Type 0} where
   least_rank-push order [] m v fits = omega arith
   least_rank-push order (e ∷ es) m v fits = omega (arith, least_rank-push order es m v fits)
 
+  -- and of a place with a value or without
+  least_rank-at : (order : V → ℕ) (es : List (Mac × V)) (m : Mac) (r : Option V) → rank_or_most order r < 2 ^ 64
+      → least_rank order (es ++ entry_at m r) ≡ min (least_rank order es) (rank_or_most order r)
+  least_rank-at order es m None fits = omega (arith, ap (least_rank order) (append-nil es), least_rank_le order es)
+  least_rank-at order es m (Some v) fits = least_rank-push order es m v fits
+
+  length-at : (m : Mac) (r : Option V) → length (entry_at m r) ≡ one_if (is_some r)
+  length-at m None = refl
+  length-at m (Some v) = refl
+
+  no_rank : (order : V → ℕ) (was : Bool) (r : Option V) → (was && not (is_some r)) ≡ true → rank_or_most order r ≡ 18446744073709551615
+  no_rank order was None went = refl
+  no_rank order true (Some v) went = cc
+  no_rank order false (Some v) went = cc
+
+  -- what does not pass went
+  one_went : (test : V → Bool) (was is : Option V) (went : Bool) → is ≡ passing test was → went ≡ (is_some was && not (is_some is))
+      → one_if went + one_if (is_some is) ≡ one_if (is_some was)
+  one_went test None is went passes gone = by is passes went gone
+    where
+      by : (is : Option V) → is ≡ None → (went : Bool) → went ≡ false → one_if went + one_if (is_some is) ≡ 0
+      by None e false f = refl
+      by None e true f = cc
+      by (Some v) e went f = cc
+  one_went test (Some v) is went passes gone = by (test v) is passes went gone
+    where
+      by : (b : Bool) (is : Option V) → is ≡ cond b (Some v) None → (went : Bool) → went ≡ not (is_some is) → one_if went + one_if (is_some is) ≡ 1
+      by b None e true f = refl
+      by b (Some x) e false f = refl
+      by b None e false f = cc
+      by b (Some x) e true f = cc
+
   filter_first : (test : V → Bool) (m : Mac) (r : Option V) (ys : List (Mac × V)) → filter (λ e. test e.1) (entry_at m r ++ ys) ≡ entry_at m (passing test r) ++ filter (λ e. test e.1) ys
   filter_first test m None ys = refl
   filter_first test m (Some x) ys = by (test x)
@@ -34,20 +66,20 @@ module _ {V : Type 0} where
       by false = refl
 
   module _ (test : V → Bool) (order : V → ℕ) where
-    -- the first places are done: of them those are left that pass, and they are counted
-    pub record Sifted (old now : List (Mac × Slot V)) (index count least : ℕ) : Type 0 where
+    -- the first places are done: of them those are left that pass, and the others are counted
+    pub record Sifted (old now : List (Mac × Slot V)) (index gone least : ℕ) : Type 0 where
       pub done : List (Mac × Slot V)
       pub rest : List (Mac × Slot V)
       pub now_is : now ≡ done ++ rest
       pub at : length done ≡ index
       pub len : length now ≡ length old
-      pub counted : count ≡ length (entries_of done)
+      pub counted : gone + length (entries_of now) ≡ length (entries_of old)
       pub held : held_of now ≡ held_of old
       pub kept : entries_of done ++ filter (λ e. test e.1) (entries_of rest) ≡ filter (λ e. test e.1) (entries_of old)
       pub ranked : least ≡ least_rank order (entries_of done)
 
     pub none_done : (old : List (Mac × Slot V)) → Sifted old old 0 0 18446744073709551615
-    none_done old = record { done = []; rest = old; now_is = refl; at = refl; len = refl; counted = refl; held = refl; kept = refl; ranked = refl }
+    none_done old = record { done = []; rest = old; now_is = refl; at = refl; len = refl; counted = omega arith; held = refl; kept = refl; ranked = refl }
 
     -- the place that comes next
     record Next (rest : List (Mac × Slot V)) : Type 0 where
@@ -60,26 +92,26 @@ module _ {V : Type 0} where
     next_of done (e ∷ back) h = record { first = e; back = back; rest_is = refl }
 
     -- what all of it leaves
-    all_done : (old now : List (Mac × Slot V)) (index count least : ℕ) → index ≡ length old → (s : Sifted old now index count least) → s.rest ≡ []
-    all_done old now index count least end s = by s.rest refl
+    all_done : (old now : List (Mac × Slot V)) (index gone least : ℕ) → index ≡ length old → (s : Sifted old now index gone least) → s.rest ≡ []
+    all_done old now index gone least end s = by s.rest refl
       where
         by : (rest : List (Mac × Slot V)) → s.rest ≡ rest → s.rest ≡ []
         by [] e = e
         by (x ∷ rest) e = absurd (omega (arith, end, s.at, s.len, ap length s.now_is, length-append s.done s.rest, ap length e))
 
-    pub all_kept : (old now : List (Mac × Slot V)) (index count least : ℕ) → index ≡ length old → (s : Sifted old now index count least)
+    pub all_kept : (old now : List (Mac × Slot V)) (index gone least : ℕ) → index ≡ length old → (s : Sifted old now index gone least)
         → entries_of now ≡ filter (λ e. test e.1) (entries_of old)
-    all_kept old now index count least end s =
-        let over = all_done old now index count least end s in
+    all_kept old now index gone least end s =
+        let over = all_done old now index gone least end s in
         ap entries_of (s.now_is ∙ ap (λ l. s.done ++ l) over ∙ append-nil s.done)
         ∙ sym (append-nil (entries_of s.done))
         ∙ ap (λ l. entries_of s.done ++ filter (λ e. test e.1) (entries_of l)) (sym over)
         ∙ s.kept
 
-    pub all_is : (old now : List (Mac × Slot V)) (index count least : ℕ) → index ≡ length old → (s : Sifted old now index count least) → s.done ≡ now
-    all_is old now index count least end s = sym (s.now_is ∙ ap (λ l. s.done ++ l) (all_done old now index count least end s) ∙ append-nil s.done)
+    pub all_is : (old now : List (Mac × Slot V)) (index gone least : ℕ) → index ≡ length old → (s : Sifted old now index gone least) → s.done ≡ now
+    all_is old now index gone least end s = sym (s.now_is ∙ ap (λ l. s.done ++ l) (all_done old now index gone least end s) ∙ append-nil s.done)
 
-    module _ (old now : List (Mac × Slot V)) (index count least : ℕ) (s : Sifted old now index count least) (was w : Slot V)
+    module _ (old now : List (Mac × Slot V)) (index gone least : ℕ) (s : Sifted old now index gone least) (was w : Slot V)
         (there : slice_get (values_of now) index ≡ Some was) (held : w.held ≡ was.held)
         (passes : w.value ≡ passing test was.value) (within : index < length now) where
       next : Next s.rest
@@ -118,42 +150,43 @@ module _ {V : Type 0} where
           ∙ ap (λ l. entries_of s.done ++ filter (λ e. test e.1) (entries_of l)) (sym next.rest_is)
           ∙ s.kept
 
-      step : (count' least' : ℕ) → count' ≡ length (entries_of s.done ++ entry_at next.first.0 w.value)
-          → least' ≡ least_rank order (entries_of s.done ++ entry_at next.first.0 w.value) → Sifted old (set_value_at now index w) (index + 1) count' least'
-      step count' least' counted ranked = record {
+      -- how many values there are before and behind the place
+      length_with : (v : Slot V) → length (entries_of (s.done ++ (next.first.0, v) ∷ next.back))
+          ≡ length (entries_of s.done) + (one_if (is_some v.value) + length (entries_of next.back))
+      length_with v = omega (
+        arith,
+        ap length (entries-append s.done ((next.first.0, v) ∷ next.back)),
+        length-append (entries_of s.done) (entry_at next.first.0 v.value ++ entries_of next.back),
+        length-append (entry_at next.first.0 v.value) (entries_of next.back),
+        length-at next.first.0 v.value,
+      )
+
+      before : length (entries_of now) ≡ length (entries_of s.done) + (one_if (is_some was.value) + length (entries_of next.back))
+      before = ap (λ l. length (entries_of l)) now_at ∙ ap (λ v. length (entries_of (s.done ++ (next.first.0, v) ∷ next.back))) was_is ∙ length_with was
+
+      pub step : (went : Bool) (gone' : ℕ) → went ≡ (is_some was.value && not (is_some w.value)) → gone' ≡ gone + one_if went → rank_or_most order w.value < 2 ^ 64
+          → Sifted old (set_value_at now index w) (index + 1) gone' (min least (rank_or_most order w.value))
+      step went gone' went_is gone_is fits = record {
         done = s.done ++ (next.first.0, w) ∷ [];
         rest = next.back;
         now_is = written ∙ sym (append_assoc s.done ((next.first.0, w) ∷ []) next.back);
         at = omega (arith, length-append s.done ((next.first.0, w) ∷ []), s.at);
         len = omega (arith, ap length written, ap length now_at, length-append s.done ((next.first.0, w) ∷ next.back), length-append s.done (next.first ∷ next.back), s.len);
-        counted = counted ∙ ap length (sym done_entries);
+        counted = omega (arith, s.counted, before, ap (λ l. length (entries_of l)) written, length_with w, one_went test was.value w.value went passes went_is, gone_is);
         held = still_held;
         kept = still_kept;
-        ranked = ranked ∙ ap (least_rank order) (sym done_entries);
+        ranked =
+            ap (λ l. min l (rank_or_most order w.value)) s.ranked
+            ∙ sym (least_rank-at order (entries_of s.done) next.first.0 w.value fits)
+            ∙ ap (least_rank order) (sym done_entries);
       }
 
-      -- what is left has this rank, and where it has none it is nothing
-      pub step_none : None ≡ option_map order w.value → Sifted old (set_value_at now index w) (index + 1) count least
-      step_none ranked =
-          let none = nothing w.value ranked in
-          let same : entries_of s.done ≡ entries_of s.done ++ entry_at next.first.0 w.value = sym (ap (λ r. entries_of s.done ++ entry_at next.first.0 r) none ∙ append-nil (entries_of s.done)) in
-          step count least (s.counted ∙ ap length same) (s.ranked ∙ ap (least_rank order) same)
-        where
-          nothing : (r : Option V) → None ≡ option_map order r → r ≡ None
-          nothing None h = refl
-          nothing (Some v) h = cc
+      -- what went has no rank that counts
+      pub step_gone : (gone' : ℕ) → (is_some was.value && not (is_some w.value)) ≡ true → gone' ≡ gone + 1 → Sifted old (set_value_at now index w) (index + 1) gone' least
+      step_gone gone' went gone_is =
+          let none : rank_or_most order w.value ≡ 18446744073709551615 = no_rank order (is_some was.value) w.value went in
+          let same : min least (rank_or_most order w.value) ≡ least = omega (arith, none, s.ranked, least_rank_le order (entries_of s.done)) in
+          subst (Sifted old (set_value_at now index w) (index + 1) gone') same (step true gone' (sym went) gone_is (omega (arith, none)))
 
-      pub step_some : (n : ℕ) → Some n ≡ option_map order w.value → n < 2 ^ 64 → Sifted old (set_value_at now index w) (index + 1) (count + 1) (min least n)
-      step_some n ranked fits =
-          let h = ranked_value w.value ranked in
-          let v = h.0 in
-          let last : entries_of s.done ++ (next.first.0, v) ∷ [] ≡ entries_of s.done ++ entry_at next.first.0 w.value = ap (λ r. entries_of s.done ++ entry_at next.first.0 r) (sym h.1) in
-          step (count + 1) (min least n) (omega (arith, s.counted, length-append (entries_of s.done) ((next.first.0, v) ∷ []), ap length last))
-          ((λ j. min (s.ranked j) (h.2 j)) ∙ sym (least_rank-push order (entries_of s.done) next.first.0 v (subst (λ k. k < 2 ^ 64) h.2 fits)) ∙ ap (least_rank order) last)
-        where
-          ranked_value : (r : Option V) → Some n ≡ option_map order r → (v : V) × (r ≡ Some v) × (n ≡ order v)
-          ranked_value None h = cc
-          ranked_value (Some v) h = let same : n ≡ order v = cc in (v, refl, same)
-
-    pub few : (old now : List (Mac × Slot V)) (index count least : ℕ) → (s : Sifted old now index count least) → count ≤ index
-    few old now index count least s = omega (arith, s.counted, entries_le s.done, s.at)
+    pub few : (old now : List (Mac × Slot V)) (index gone least : ℕ) → (s : Sifted old now index gone least) → gone ≤ length old
+    few old now index gone least s = omega (arith, s.counted, entries_le old)

@@ -20,6 +20,11 @@ abbrev pub least_rank : {V : Type 0} → (V → ℕ) → List (Mac × V) → ℕ
 least_rank order [] = 18446744073709551615
 least_rank order (e ∷ es) = min (order e.1) (least_rank order es)
 
+-- the rank of a value, or the greatest number of 64 bits where there is none
+abbrev pub rank_or_most : {V : Type 0} → (V → ℕ) → Option V → ℕ
+rank_or_most order None = 18446744073709551615
+rank_or_most order (Some v) = order v
+
 -- the value, if it passes
 abbrev pub passing : {V : Type 0} → (V → Bool) → Option V → Option V
 passing test None = None

@@ -253,9 +253,9 @@ impl<V: Drop + Ranked> Slots<V> {
         ensures held { self.new.held ≡ self.old.held }
         ensures least { result ≡ least_rank V.rank_of self.new.entries }
     {
-        let left = places::sift(&mut self.map, limit);
-        self.count = left.count;
-        left.least
+        let sifted = places::sift(&mut self.map, limit);
+        self.count -= sifted.gone;
+        sifted.least
     }
 
     /// The least rank of a value, or the greatest number where there is none.

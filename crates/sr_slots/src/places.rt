@@ -1,5 +1,5 @@
 //! The map behind a table. A held place is an entry that may have no value.
-ghost use Rattle.std.specs.Prelude.{◌≡◌, ◌+◌, ◌^◌, ◌<◌, ◌≤◌, ◌++◌, ◌∷◌, ◌||◌, [], None, Some, true, false, not, Bool, is_some, length, filter, nat_le, IsOk, OnOk, OnErr, IfOk, IfSome, IfNone, if◌then◌else◌};
+ghost use Rattle.std.specs.Prelude.{◌≡◌, ◌+◌, ◌^◌, ◌<◌, ◌≤◌, ◌++◌, ◌∷◌, ◌||◌, ◌&&◌, [], None, Some, true, false, not, Bool, is_some, length, filter, nat_le, IsOk, OnOk, OnErr, IfOk, IfSome, IfNone, if◌then◌else◌};
 ghost use Rattle.std.specs.List.{list_any};
 ghost use Rattle.std.specs.Map.{lookup};
 ghost use Rattle.std.specs.Option.{option_copied, option_map};
@@ -292,50 +292,49 @@ pub fn release<V: Drop + Ranked>(map: &mut IndexMap<Mac, Slot<V>, Keys>)
     );
 }
 
-// Leaves the value of a place if its rank is not below the limit, and answers its rank then.
-fn sift_at<V: Drop + Ranked>(slot: &mut Slot<V>, limit: u64) -> Option<u64>
+// Takes the value of a place out if its rank is below the limit. Answers whether it went.
+fn sift_at<V: Drop + Ranked>(slot: &mut Slot<V>, limit: u64) -> bool
     ensures held { slot.new.held ≡ slot.old.held }
     ensures kept { slot.new.value ≡ passing (λ v. nat_le limit (V.rank_of v)) slot.old.value }
-    ensures ranked { result ≡ option_map V.rank_of slot.new.value }
+    ensures gone { result ≡ (is_some slot.old.value && not (is_some slot.new.value)) }
 {
-    let rank = slot.value.rank()?;
-    if rank < limit {
-        slot.value.clear();
-        return None;
-    }
-    Some(rank)
+    slot.value.clear_below(limit)
 }
 
-/// How many values are left, and the least rank among them.
+/// How many values went, and the least rank among those that are left.
 #[derive(Clone, Copy)]
-pub struct Left {
-    pub count: usize,
+pub struct Sifted {
+    pub gone: usize,
     pub least: u64,
 }
 
 /// Takes the values out whose rank is below the limit, and moves nothing. Held places stay held.
-pub fn sift<V: Drop + Ranked>(map: &mut IndexMap<Mac, Slot<V>, Keys>, limit: u64) -> Left
+pub fn sift<V: Drop + Ranked>(map: &mut IndexMap<Mac, Slot<V>, Keys>, limit: u64) -> Sifted
     ensures kept { entries_of map.new.entries
         ≡ filter (λ e. nat_le limit (V.rank_of e.1)) (entries_of map.old.entries) }
     ensures held { held_of map.new.entries ≡ held_of map.old.entries }
-    ensures count { result.count ≡ length (entries_of map.new.entries) }
+    ensures gone { result.gone + length (entries_of map.new.entries)
+        ≡ length (entries_of map.old.entries) }
     ensures least { result.least ≡ least_rank V.rank_of (entries_of map.new.entries) }
 {
     // The length is the bound of the places.
     let _places = map.len();
-    let mut left = Left {
-        count: 0,
+    let mut sifted = Sifted {
+        gone: 0,
         least: u64::MAX,
     };
     let mut index = 0;
     while let Some(slot) = map.get_index_mut(index) {
-        if let Some(rank) = sift_at(slot, limit) {
-            left.count += 1;
-            left.least = left.least.min(rank);
+        let went = sift_at(slot, limit);
+        let rank = slot.value.rank_or_most();
+        if went {
+            sifted.gone += 1;
+        } else {
+            sifted.least = sifted.least.min(rank);
         }
         index += 1;
     }
-    left
+    sifted
 }
 
 /// The least rank of a value, or the greatest number where there is none.
@@ -344,9 +343,7 @@ pub fn least_rank<V: Drop + Ranked>(map: &IndexMap<Mac, Slot<V>, Keys>) -> u64
 {
     let mut least = u64::MAX;
     for (_, slot) in map.iter() {
-        if let Some(rank) = slot.value.rank() {
-            least = least.min(rank);
-        }
+        least = least.min(slot.value.rank_or_most());
     }
     least
 }

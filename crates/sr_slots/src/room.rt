@@ -1,8 +1,9 @@
 //! A value behind a pointer: its memory is taken before there is a value, and it moves with no value. Its rank stands before the
 //! pointer.
-ghost use Rattle.std.specs.Prelude.{◌≡◌, None, Some, Option, is_some, IfOk, IfSome, IfNone};
+ghost use Rattle.std.specs.Prelude.{◌≡◌, None, Some, Option, is_some, nat_le, true, false, not, ◌&&◌, IfOk, IfSome, IfNone};
 ghost use Rattle.std.specs.Fn.{FnOnceReturnsAtMut};
-ghost use Rattle.std.specs.Option.{option_copied, option_map};
+ghost use Rattle.std.specs.Option.{option_copied};
+ghost use Rattle.sr_slots.specs.Calls.{rank_or_most, passing};
 
 use crate::ranked::Ranked;
 use sr_frame::NoMemory;
@@ -14,20 +15,21 @@ use std::marker::Model;
 #[derive(Drop)]
 pub struct Room<V: Drop + Ranked> {
     memory: Box<Option<V>>,
-    // That of the value, where there is one.
+    // That of the value, and the greatest number where there is none.
     rank: u64,
     is_used: bool,
 }
 
 impl<V: Drop + Ranked> Model for Room<V> {
-    ghost use Rattle.std.specs.Prelude.{◌≡◌, Option, None, Some, true, if◌then◌else◌};
-    ghost use Rattle.std.specs.Option.{option_map};
+    ghost use Rattle.std.specs.Prelude.{◌≡◌, Option, None, if◌then◌else◌};
+    ghost use Rattle.sr_slots.specs.Calls.{rank_or_most};
 
     ghost Value = { Option V };
 
     ghost view = { λ p. if p.is_used then p.memory.value else None };
 
-    ghost invariant = { λ p. p.is_used ≡ true → option_map V.rank_of p.memory.value ≡ Some p.rank };
+    ghost invariant = { λ p.
+        p.rank ≡ rank_or_most V.rank_of (if p.is_used then p.memory.value else None) };
 }
 
 impl<V: Drop + Ranked> Room<V> {
@@ -38,7 +40,7 @@ impl<V: Drop + Ranked> Room<V> {
         match Box::new(alloc, None) {
             Ok(memory) => Ok(Room {
                 memory,
-                rank: 0,
+                rank: u64::MAX,
                 is_used: false,
             }),
             Err(_) => Err(NoMemory),
@@ -56,11 +58,11 @@ impl<V: Drop + Ranked> Room<V> {
         }
     }
 
-    /// The rank of the value.
-    pub fn rank(&self) -> Option<u64>
-        ensures { result ≡ option_map V.rank_of self.now }
+    /// The rank of the value, or the greatest number where there is none.
+    pub fn rank_or_most(&self) -> u64
+        ensures { result ≡ rank_or_most V.rank_of self.now }
     {
-        if self.is_used { Some(self.rank) } else { None }
+        self.rank
     }
 
     /// Puts a value there, and takes no memory.
@@ -72,11 +74,18 @@ impl<V: Drop + Ranked> Room<V> {
         self.is_used = true;
     }
 
-    /// Takes the value out. Its memory stays.
-    pub fn clear(&mut self)
-        ensures { self.new ≡ None }
+    /// Takes the value out where its rank is below a limit, and answers whether it did. Its memory stays.
+    pub fn clear_below(&mut self, limit: u64) -> bool
+        ensures kept { self.new ≡ passing (λ v. nat_le limit (V.rank_of v)) self.old }
+        ensures gone { result ≡ (is_some self.old && not (is_some self.new)) }
     {
+        // Where there is no value, the rank is below no limit.
+        if self.rank >= limit {
+            return false;
+        }
+        self.rank = u64::MAX;
         self.is_used = false;
+        true
     }
 
     /// Changes the value. None: there is no value, and nothing changes.

@@ -25,6 +25,8 @@ enum Step {
     FillA(u16, u16, u64),
     Prune(u64, usize),
     Has(u16, u64, bool),
+    // Node, time, whether a hearing would find no room.
+    FullFor(u16, u64, bool),
     // Node, time, ages and numbers.
     Tells(u16, u64, Option<(u32, u32, u16, u16)>),
     RedBox(u16, u64, Option<u16>),
@@ -177,6 +179,7 @@ fn holds(table: &mut NodeTable, step: Step) -> bool {
         Step::FillA(first, count, now) => fills(table, first, count, now, false),
         Step::Prune(now, want) => table.prune(now) == want,
         Step::Has(node, now, want) => table.has(mac(node), now) == want,
+        Step::FullFor(node, now, want) => table.is_full_for(mac(node), now) == want,
         Step::Tells(node, now, want) => tells(table, node, now, want),
         Step::RedBox(node, now, want) => redbox_is(table, node, now, want),
         Step::Lists(now, want) => lists(table, now, want),
@@ -346,12 +349,17 @@ fn alarms_are_few(rt: HostRuntime) {
 #[test]
 fn a_full_table(rt: HostRuntime) {
     let steps = [
-        Step::Fill(1, 1024, 0),
+        Step::Fill(1, 1023, 0),
+        Step::FullFor(2000, 0, false),
+        Step::Fill(1024, 1, 0),
+        Step::FullFor(2000, 59999, true),
+        Step::FullFor(5, 59999, false),
         Step::Heard(2000, At::A, 1, 400, Learnt::Full),
         Step::Announce(2000, None, At::A, 59999, Learnt::Full),
         Step::Has(2000, 59999, false),
         Step::Counts(59999, 1024),
         Step::Alarms(0, None, None),
+        Step::FullFor(2000, 60000, false),
         Step::Heard(2000, At::A, 2, 60000, Learnt::Learned),
         Step::Tells(2000, 60000, Some((0, NEVER, 2, 0))),
         Step::Lists(60000, &[2000]),

@@ -1,38 +1,54 @@
-use Rattle.std.proofs.Common.{arith, sym, ◌<◌, refl, length}
+use Rattle.std.proofs.Common.{◌≡◌, ◌+◌, ◌∙◌, ap, arith, sym, ◌<◌, refl, length, inl, inr, false, true}
+use Rattle.std.proofs.lemmas.Bool.{cases_lt}
+use Rattle.std.proofs.lemmas.List.{length-append}
 use Rattle.indexmap.proofs.CallerLemmas.{index_map_len-with_value_at}
-use Rattle.sr_slots.proofs.SiftLemmas.{few, step_none, step_some}
-use Rattle.sr_slots.proofs.places.sift.Goals.{in-Some-sift_at, in_default-sift_at}
+use Rattle.sr_slots.specs.Places.{entries_of}
+use Rattle.sr_slots.specs.Calls.{least_rank}
+use Rattle.sr_slots.proofs.SiftLemmas.{few, step, step_gone, all_is}
+use Rattle.sr_slots.proofs.places.sift.Goals.{then-went, else-went}
 use Rattle.sr_slots.proofs.places.sift.Goals as goal
 
-pub overflow_add-left : goal.overflow_add-left
-overflow_add-left g c =
+pub overflow_add-sifted : goal.overflow_add-sifted
+overflow_add-sifted g c =
     let s = c.loop-slot.invariant.sifted in
-    let within : c.loop-slot.index < length c.loop-slot.map.entries = c.in-Some.ensures.found.0 refl in
-    omega (arith, few _ _ _ _ _ _ _ s, s.len, c.loop-slot.invariant.small)
-
-pub loop-slot-smaller : goal.loop-slot-smaller
-loop-slot-smaller g c =
-    let within : c.loop-slot.index < length c.loop-slot.map.entries = c.in-Some.ensures.found.0 refl in
-    omega (arith, index_map_len-with_value_at c.loop-slot.map c.loop-slot.index c.sift_at.new.slot)
+    omega (arith, few _ _ _ _ _ _ _ s, c.loop-slot.invariant.small)
 
 pub loop-slot-preserved : goal.loop-slot-preserved
 loop-slot-preserved g c =
     let s = c.loop-slot.invariant.sifted in
+    let order = g.V.Ranked.rank_of in
     let old = c.args.map.now.entries in
     let now = c.loop-slot.map.entries in
     let within : c.loop-slot.index < length now = c.in-Some.ensures.found.0 refl in
-    let small = c.loop-slot.invariant.small in
-    elim c.match-sift_at.branch [
-      | in-Some-sift_at w ↦
-          rw (w.left-is, w.min.ensures) (record {
-            sifted = step_some _ _ old now c.loop-slot.index c.loop-slot.left.count c.loop-slot.left.least s c.in-Some.slot.now c.sift_at.new.slot (sym c.in-Some.ensures.value)
-                c.sift_at.ensures.held c.sift_at.ensures.kept within w.in-Some-sift_at.rank w.in-Some-sift_at.ensures.ranked (omega arith);
-            small = small;
-          })
-      | in_default-sift_at w ↦
-          rw w.left-is (record {
-            sifted = step_none _ _ old now c.loop-slot.index c.loop-slot.left.count c.loop-slot.left.least s c.in-Some.slot.now c.sift_at.new.slot (sym c.in-Some.ensures.value)
-                c.sift_at.ensures.held c.sift_at.ensures.kept within w.in_default-sift_at.ensures.ranked;
-            small = small;
-          })
+    let was = c.in-Some.slot.now in
+    let is = c.sift_at-went.new.slot in
+    let there = sym c.in-Some.ensures.value in
+    let held = c.sift_at-went.ensures.held in
+    let kept = c.sift_at-went.ensures.kept in
+    elim c.if-went.branch [
+      | then-went w ↦ rw w.sifted-is (record {
+        sifted = step_gone _ order old now c.loop-slot.index c.loop-slot.sifted.gone c.loop-slot.sifted.least s was is there held kept within (c.loop-slot.sifted.gone + 1)
+            (sym c.sift_at-went.ensures.gone ∙ w.if-went.true) refl;
+        small = c.loop-slot.invariant.small;
+      })
+      | else-went w ↦ rw (w.sifted-is, w.min.ensures, c.rank_or_most-rank.ensures) (record {
+        sifted = step _ order old now c.loop-slot.index c.loop-slot.sifted.gone c.loop-slot.sifted.least s was is there held kept within false c.loop-slot.sifted.gone
+            (sym w.if-went.false ∙ c.sift_at-went.ensures.gone) (omega arith) (omega (arith, c.rank_or_most-rank.ensures));
+        small = c.loop-slot.invariant.small;
+      })
     ]
+
+pub loop-slot-smaller : goal.loop-slot-smaller
+loop-slot-smaller g c =
+    let within : c.loop-slot.index < length c.loop-slot.map.entries = c.in-Some.ensures.found.0 refl in
+    omega (arith, index_map_len-with_value_at c.loop-slot.map c.loop-slot.index c.sift_at-went.new.slot)
+
+pub returns-clause-least : goal.returns-clause-least
+returns-clause-least g c =
+    let s = c.loop-slot.invariant.sifted in
+    let end : c.loop-slot.index ≡ length c.args.map.now.entries =
+    elim (cases_lt c.loop-slot.index (length c.loop-slot.map.entries)) [
+      | inl within ↦ let bad : false ≡ true = c.in_default.ensures.found.1 within in cc
+      | inr over ↦ omega (arith, over, s.at, s.len, ap length s.now_is, length-append s.done s.rest)
+    ] in
+    s.ranked ∙ ap (λ l. least_rank g.V.Ranked.rank_of (entries_of l)) (all_is _ _ _ _ _ _ _ end s)
