@@ -6,8 +6,9 @@ mod node;
 mod sources;
 mod works;
 
-use node::NodeAtWork;
+use node::{NodeAtWork, OWN};
 use sources::SourcesAtWork;
+use sr_forwarding::{Danp, Role};
 use std::alloc::Global;
 use std::process::ExitCode;
 use std::rt::Env;
@@ -40,7 +41,11 @@ fn start<R: AllocGlobal + Env>(rt: &R) -> Option<Count> {
 /// Has a subject of this name do this work so many times.
 fn has_done(alloc: Global, subject: &str, work: Work, times: u32) -> Option<Count> {
     match subject {
-        "node" => Some(done(&mut NodeAtWork::new(alloc)?, work, times)),
+        "node" => {
+            let danp = Box::new(alloc, Danp::new(OWN)).ok()?;
+            let role: Box<dyn Role + Send> = danp;
+            Some(done(&mut NodeAtWork::new(alloc, role)?, work, times))
+        }
         "sources" => Some(done(&mut SourcesAtWork::new(alloc), work, times)),
         _ => None,
     }

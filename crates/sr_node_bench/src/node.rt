@@ -1,11 +1,14 @@
 //! A doubly attached node of a PRP network at work.
 
 use crate::works::{Outcome, Subject};
-use sr_forwarding::{Danp, PrpFraming, Role};
+use sr_forwarding::{PrpFraming, Role};
 use sr_frame::{Mac, Port};
 use sr_node::{Event, Node};
 use sr_prp_trailer::Lan;
 use std::alloc::Global;
+
+/// The address of the node.
+pub const OWN: Mac = Mac([2, 0, 0, 0, 0, 1]);
 
 /// The octets of a frame: addresses, type, 46 of payload, trailer.
 const FRAME_LEN: usize = 66;
@@ -26,10 +29,8 @@ fn sample() -> [u8; FRAME_LEN] {
 }
 
 impl NodeAtWork {
-    /// A new node. None where memory runs out.
-    pub fn new(alloc: Global) -> Option<NodeAtWork> {
-        let danp = Box::new(alloc, Danp::new(Mac([2, 0, 0, 0, 0, 1]))).ok()?;
-        let role: Box<dyn Role + Send> = danp;
+    /// A new node in a role. None where memory runs out.
+    pub fn new(alloc: Global, role: Box<dyn Role + Send>) -> Option<NodeAtWork> {
         Some(NodeAtWork {
             node: Node::new(alloc, role).ok()?,
             octets: sample(),

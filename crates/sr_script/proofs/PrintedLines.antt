@@ -1,15 +1,15 @@
 -- Lines of parcels that are taken one by one.
-use Rattle.std.proofs.Common.{◌≡◌, ℕ, List, [], ◌∷◌, ◌++◌, drop, Some, None, refl, sym, subst, ◌∙◌, ap, append_assoc, length, arith}
+use Rattle.std.proofs.Common.{◌≡◌, ℕ, List, [], ◌∷◌, ◌++◌, take, drop, Some, None, refl, sym, subst, ◌∙◌, ap, append_assoc, length, arith}
 use Rattle.std.proofs.lemmas.List.{append-nil}
 use Rattle.sr_frame.specs.declared.ports.Port.{Port}
 use Rattle.sr_frame.specs.declared.ports.Port.TheVariants.{H, A, B, C}
 use Rattle.sr_forwarding.specs.Parcels.{ParcelImage}
 use Rattle.sr_node.specs.Images.{State}
-use Rattle.sr_node.specs.Outboxes.{Outboxes, box_at, boxes_left, first_of}
+use Rattle.sr_node.specs.Outboxes.{Outboxes, box_at, first_of}
 use Rattle.sr_node.specs.PerPort.{with_at}
 use Rattle.sr_script.specs.declared.setups.RoleName.{RoleName}
 use Rattle.sr_script.specs.Texts.{IsLine, AreLines}
-use Rattle.sr_script.specs.Replies.{emptied}
+use Rattle.sr_script.specs.Replies.{left_at, emptied}
 
 -- what is to be printed of a queue, once this is printed of what is left of it
 abbrev pub Printed : RoleName → Port → List ParcelImage → List ParcelImage → List ℕ → List ℕ → Type 0
@@ -19,17 +19,24 @@ Printed role port whole left before text =
 pub printed_none : (role : RoleName) (port : Port) (whole : List ParcelImage) (before : List ℕ) → Printed role port whole whole before before
 printed_none role port whole before rest lines = (rest, lines, refl)
 
-first_and_rest : (role : RoleName) (port : Port) (q : List ParcelImage) (p : ParcelImage) (line rest : List ℕ)
-    → first_of q ≡ Some p → IsLine role port p line → AreLines role port (drop 1 q) rest → AreLines role port q (line ++ rest)
-first_and_rest role port [] p line rest e is more = absurd cc
-first_and_rest role port (x ∷ xs) p line rest e is more =
-    let same : p ≡ x = cc in (line, rest, subst (λ (v : ParcelImage). IsLine role port v line) same is, more, refl)
+-- the line of the first, if there is one, and then the lines of the others
+first_and_rest : (role : RoleName) (port : Port) (q : List ParcelImage) (line rest : List ℕ)
+    → AreLines role port (take 1 q) line → AreLines role port (drop 1 q) rest → AreLines role port q (line ++ rest)
+first_and_rest role port [] line rest e more = subst (λ (l : List ℕ). l ++ rest ≡ []) (sym e) more
+first_and_rest role port (x ∷ xs) line rest (l, none, is, e, same) more =
+    (l, rest, is, more, ap (λ (t : List ℕ). t ++ rest) (same ∙ ap (λ (t : List ℕ). l ++ t) e ∙ append-nil l))
 
-pub printed_more : (role : RoleName) (port : Port) (whole q : List ParcelImage) (p : ParcelImage) (before text line : List ℕ)
-    → first_of q ≡ Some p → IsLine role port p line → Printed role port whole q before text → Printed role port whole (drop 1 q) before (text ++ line)
-printed_more role port whole q p before text line e is so_far rest more =
-    let all = so_far (line ++ rest) (first_and_rest role port q p line rest e is more) in
+pub printed_more : (role : RoleName) (port : Port) (whole q : List ParcelImage) (before text line : List ℕ)
+    → AreLines role port (take 1 q) line → Printed role port whole q before text → Printed role port whole (drop 1 q) before (text ++ line)
+printed_more role port whole q before text line first so_far rest more =
+    let all = so_far (line ++ rest) (first_and_rest role port q line rest first more) in
     (all.0, all.1, append_assoc text line rest ∙ all.2)
+
+pub line_of_first : (role : RoleName) (port : Port) (q : List ParcelImage) (p : ParcelImage) (line : List ℕ)
+    → first_of q ≡ Some p → IsLine role port p line → AreLines role port (take 1 q) line
+line_of_first role port [] p line e is = absurd cc
+line_of_first role port (x ∷ xs) p line e is =
+    let same : p ≡ x = cc in (line, [], subst (λ (v : ParcelImage). IsLine role port v line) same is, refl, sym (append-nil line))
 
 nothing_left : (role : RoleName) (port : Port) (q : List ParcelImage) → first_of q ≡ None → AreLines role port q []
 nothing_left role port [] e = refl
@@ -39,10 +46,6 @@ pub printed_all : (role : RoleName) (port : Port) (whole q : List ParcelImage) (
     → first_of q ≡ None → Printed role port whole q before text → (lines : List ℕ) × AreLines role port whole lines × (text ≡ before ++ lines)
 printed_all role port whole q before text e so_far =
     let all = so_far [] (nothing_left role port q e) in (all.0, all.1, sym (append-nil text) ∙ all.2)
-
--- a state whose queue at a port lost its first parcel
-abbrev pub left_at : State → Port → State
-left_at s port = record s { core = record s.core { out = boxes_left s.core.out port } }
 
 pub box_left : (s : State) (port : Port) → box_at (left_at s port).core.out port ≡ drop 1 (box_at s.core.out port)
 box_left s H = refl
@@ -60,7 +63,7 @@ nothing_behind : (q : List ParcelImage) → first_of q ≡ None → drop 1 q ≡
 nothing_behind [] e = refl
 nothing_behind (x ∷ xs) e = absurd cc
 
-pub left_is_emptied : (s : State) (port : Port) → first_of (box_at s.core.out port) ≡ None → left_at s port ≡ emptied s port
+left_is_emptied : (s : State) (port : Port) → first_of (box_at s.core.out port) ≡ None → left_at s port ≡ emptied s port
 left_is_emptied s port e =
     ap (λ (q : List ParcelImage). record s { core = record s.core { out = with_at s.core.out port q } }) (nothing_behind (box_at s.core.out port) e)
 
@@ -84,12 +87,6 @@ is_emptied s port e =
     ap (λ (o : Outboxes). record s { core = record s.core { out = o } })
     (sym (same_box s port) ∙ ap (λ (q : List ParcelImage). with_at s.core.out port q) (unchanged (box_at s.core.out port) e))
     ∙ left_is_emptied s port e
-
-pub emptied_none : (role : RoleName) (port : Port) (s : State) → length (box_at s.core.out port) ≡ 0
-    → AreLines role port (box_at s.core.out port) [] × (s ≡ emptied s port)
-emptied_none role port s e =
-    let none = none_first (box_at s.core.out port) e in
-    (nothing_left role port (box_at s.core.out port) none, is_emptied s port none)
 
 pub four_parts : (t h a b c : List ℕ) → (((t ++ h) ++ a) ++ b) ++ c ≡ t ++ (h ++ (a ++ (b ++ c)))
 four_parts t h a b c = append_assoc ((t ++ h) ++ a) b c ∙ append_assoc (t ++ h) a (b ++ c) ∙ append_assoc t h (a ++ (b ++ c))

@@ -1,5 +1,5 @@
 -- What a node answers to the lines of a script.
-use Rattle.std.specs.Prelude.{◌≡◌, ℕ, List, [], ◌++◌, None, Some, ◌⊎◌}
+use Rattle.std.specs.Prelude.{◌≡◌, ℕ, List, [], ◌++◌, None, Some, ◌⊎◌, take}
 use Rattle.sr_frame.specs.declared.ports.Port.{Port}
 use Rattle.sr_frame.specs.declared.ports.Port.TheVariants.{H, A, B, C}
 use Rattle.sr_node.specs.declared.event.Event.{Event}
@@ -9,7 +9,7 @@ use Rattle.sr_node.specs.declared.fault.StepFault.{StepFault}
 use Rattle.sr_node.specs.Faults.{or_no_memory}
 use Rattle.sr_node.specs.Images.{State}
 use Rattle.sr_node.specs.Octets.{OctetsArrived, OctetsRefused}
-use Rattle.sr_node.specs.Outboxes.{box_at}
+use Rattle.sr_node.specs.Outboxes.{box_at, boxes_left}
 use Rattle.sr_node.specs.PerPort.{with_at}
 use Rattle.sr_node.specs.Steps.{Step, refusal_of}
 use Rattle.sr_script.specs.declared.reading.Command.{Command}
@@ -20,9 +20,17 @@ use Rattle.sr_script.specs.Runs.{Dialogue}
 use Rattle.sr_script.specs.Stations.{Station, framing_of}
 use Rattle.sr_script.specs.Texts.{AreLines, name_of, refusal_line}
 
+-- the node once the first parcel that waits at a port is taken, if one waits
+abbrev pub left_at : State → Port → State
+left_at s port = record s { core = record s.core { out = boxes_left s.core.out port } }
+
 -- the node once all that waits at a port is taken
 abbrev pub emptied : State → Port → State
 emptied s port = record s { core = record s.core { out = with_at s.core.out port [] } }
+
+-- the first parcel that waits at a port is taken and printed, if one waits
+abbrev pub FirstLeft : RoleName → Port → State → List ℕ → State → Type 0
+FirstLeft role port s text t = AreLines role port (take 1 (box_at s.core.out port)) text × (t ≡ left_at s port)
 
 -- all that waits at a port is taken and printed
 abbrev pub Emptied : RoleName → Port → State → List ℕ → State → Type 0

@@ -8,7 +8,7 @@ ghost use Rattle.sr_forwarding.specs.Parcels.{plain_of};
 ghost use Rattle.sr_script.specs.Commands.{letter_of};
 ghost use Rattle.sr_script.specs.Stations.{framing_of};
 ghost use Rattle.sr_script.specs.Texts.{frame_line, GoesAs, IsLine};
-ghost use Rattle.sr_script.specs.Replies.{Emptied, AllEmptied};
+ghost use Rattle.sr_script.specs.Replies.{FirstLeft, Emptied, AllEmptied};
 
 use crate::carriers::{Carrier, carrier_of};
 use crate::fault::Word;
@@ -152,30 +152,30 @@ fn append_parcel(
     Ok(())
 }
 
-/// Takes what waits at a port, one after the other, and appends a line for each frame. It stands apart, so that a port where
-/// nothing waits costs no call.
+/// Takes the first parcel that waits at a port, if one waits, and appends the line for its frame. It stands apart, so that a
+/// port where nothing waits costs no call.
 #[inline(never)]
-fn append_queue<R: Role>(
+fn append_first<R: Role>(
     role: RoleName,
     node: &mut NodeOf<R>,
     port: Port,
     frame: &mut Vec<u8>,
     text: &mut Vec<u8>,
 ) -> Result<(), Word>
-    ensures ok { OnOk result ((lines : List ℕ)
-        × Emptied role port (node_state (R.meaning node.old.role) node.old.core) lines
+    ensures ok { OnOk result ((line : List ℕ)
+        × FirstLeft role port (node_state (R.meaning node.old.role) node.old.core) line
         (node_state (R.meaning node.new.role) node.new.core)
-        × (text.new.items ≡ text.old.items ++ lines)) }
+        × (text.new.items ≡ text.old.items ++ line)) }
     ensures err { IfErr result (λ word. word ≡ Word.Memory) }
 {
-    while let Some(parcel) = node.front(port) {
+    if let Some(parcel) = node.front(port) {
         append_parcel(role, port, parcel, frame, text)?;
         node.drop_first(port);
     }
     Ok(())
 }
 
-/// Takes all that waits at a port, and appends a line for each frame. As a rule nothing waits, which is seen first.
+/// Takes all that waits at a port, one after the other, and appends a line for each frame. As a rule nothing waits.
 fn append_waiting<R: Role>(
     role: RoleName,
     node: &mut NodeOf<R>,
@@ -189,10 +189,10 @@ fn append_waiting<R: Role>(
         × (text.new.items ≡ text.old.items ++ lines)) }
     ensures err { IfErr result (λ word. word ≡ Word.Memory) }
 {
-    if node.waiting(port) == 0 {
-        return Ok(());
+    while node.waiting(port) > 0 {
+        append_first(role, node, port, frame, text)?;
     }
-    append_queue(role, node, port, frame, text)
+    Ok(())
 }
 
 /// Takes all that waits, outlet by outlet, and appends a line for each frame.

@@ -1,10 +1,31 @@
-use Rattle.std.proofs.Common.{[], sym, arith}
-use Rattle.std.proofs.lemmas.List.{append-nil}
-use Rattle.sr_node.specs.Images.{node_state}
-use Rattle.sr_script.proofs.PrintedLines.{emptied_none}
+use Rattle.std.proofs.Common.{◌≡◌, ℕ, List, drop, sym, subst, ap, ◌∙◌, arith}
+use Rattle.sr_forwarding.specs.Parcels.{ParcelImage}
+use Rattle.sr_node.specs.Images.{State, node_state}
+use Rattle.sr_node.specs.Outboxes.{box_at}
+use Rattle.sr_script.specs.Replies.{emptied}
+use Rattle.sr_script.proofs.PrintedLines.{Printed, printed_more, printed_all, box_left, emptied_left, is_emptied, none_first}
 use Rattle.sr_script.proofs.printing.append_waiting.Goals as goal
 
-pub returns-then-waiting-eq0-clause-ok : goal.returns-then-waiting-eq0-clause-ok
-returns-then-waiting-eq0-clause-ok g c =
-    let none = emptied_none c.args.role c.args.port (node_state (g.R.Role.meaning c.args.node.now.role) c.args.node.now.core) (omega arith) in
-    ([], none, sym (append-nil c.args.text.now.items))
+pub loop-role-preserved : goal.loop-role-preserved
+loop-role-preserved g c =
+    let s = node_state (g.R.Role.meaning c.loop-role.node.role) c.loop-role.node.core in
+    let port = c.args.port in
+    let whole = box_at c.args.node.now.core.out port in
+    let before = c.args.text.now.items in
+    let first = c.in_ok-append_first.ensures.ok in
+    let left : box_at c.append_first.new.node.core.out port ≡ drop 1 (box_at c.loop-role.node.core.out port) =
+    ap (λ (u : State). box_at u.core.out port) first.1.1 ∙ box_left s port in
+    let more = printed_more c.args.role port whole (box_at c.loop-role.node.core.out port) before c.loop-role.text.items first.0 first.1.0 c.loop-role.invariant.lines in
+    record {
+      lines = subst (λ (q : List ParcelImage). Printed c.args.role port whole q before c.append_first.new.text.items) (sym left)
+          (subst (λ (text : List ℕ). Printed c.args.role port whole (drop 1 (box_at c.loop-role.node.core.out port)) before text) (sym first.2) more);
+      node = ap (λ (u : State). emptied u port) first.1.1 ∙ emptied_left s port ∙ c.loop-role.invariant.node;
+    }
+
+pub returns-clause-ok : goal.returns-clause-ok
+returns-clause-ok g c =
+    let s = node_state (g.R.Role.meaning c.loop-role.node.role) c.loop-role.node.core in
+    let port = c.args.port in
+    let empty = none_first (box_at c.loop-role.node.core.out port) (omega arith) in
+    let all = printed_all c.args.role port (box_at c.args.node.now.core.out port) (box_at c.loop-role.node.core.out port) c.args.text.now.items c.loop-role.text.items empty c.loop-role.invariant.lines in
+    (all.0, (all.1, is_emptied s port empty ∙ c.loop-role.invariant.node), all.2)
