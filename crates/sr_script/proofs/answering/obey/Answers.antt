@@ -1,4 +1,4 @@
-use Rattle.std.proofs.Common.{inr}
+use Rattle.std.proofs.Common.{inr, rules}
 use Rattle.std.proofs.lemmas.Result.{on_ok_weaker}
 use Rattle.sr_script.proofs.answering.obey.Goals as goal
 
@@ -7,3 +7,6 @@ returns-in-Arrive-clause-ok g c =
     on_ok_weaker c.tell_refusal.result
     (λ told. rw c.in-Arrive.is (inr (c.in-Err.fault, told.0, c.in-Err.ensures.refused, told.1, told.2, c.in-Err.ensures.same)))
     c.tell_refusal.ensures.ok
+
+pub returns-in-Send-clause-ok : goal.returns-in-Send-clause-ok
+returns-in-Send-clause-ok g c = search rules

@@ -1,4 +1,4 @@
-use Rattle.std.proofs.Common.{arith, ap, not, eqb, ◌∙◌}
+use Rattle.std.proofs.Common.{arith, ap, not, eqb, ◌∙◌, rules}
 use Rattle.sr_script.proofs.Pieces.{goes_on, ends_at_feed, ends_at_end, BeginsLong-taken}
 use Rattle.sr_script.proofs.lines.next_line.Goals as goal
 
@@ -24,3 +24,15 @@ returns-in-End-clause-taken g c =
 pub returns-clause-long : goal.returns-clause-long
 returns-clause-long g c _ =
     BeginsLong-taken c.loop-reader.line.items _ _ c.loop-reader.invariant.unbroken (omega arith) c.loop-reader.invariant.took
+
+pub returns-clause-read : goal.returns-clause-read
+returns-clause-read g c = search rules
+
+pub take_piece-requires-clause-short : goal.take_piece-requires-clause-short
+take_piece-requires-clause-short g c = search rules
+
+pub returns-in_err-take_piece-clause-read : goal.returns-in_err-take_piece-clause-read
+returns-in_err-take_piece-clause-read g c = search rules
+
+pub returns-in-End-clause-short : goal.returns-in-End-clause-short
+returns-in-End-clause-short g c = search rules
