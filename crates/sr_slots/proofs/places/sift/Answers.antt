@@ -1,4 +1,4 @@
-use Rattle.std.proofs.Common.{◌≡◌, ◌+◌, ◌∙◌, ap, arith, sym, ◌<◌, refl, length, inl, inr, false, true}
+use Rattle.std.proofs.Common.{◌≡◌, ◌+◌, ◌∙◌, ap, arith, sym, ◌<◌, refl, length, inl, inr, false, true, rules}
 use Rattle.std.proofs.lemmas.Bool.{cases_lt}
 use Rattle.std.proofs.lemmas.List.{length-append}
 use Rattle.indexmap.proofs.CallerLemmas.{index_map_len-with_value_at}
@@ -52,3 +52,6 @@ returns-clause-least g c =
       | inr over ↦ omega (arith, over, s.at, s.len, ap length s.now_is, length-append s.done s.rest)
     ] in
     s.ranked ∙ ap (λ l. least_rank g.V.Ranked.rank_of (entries_of l)) (all_is _ _ _ _ _ _ _ end s)
+
+pub loop-slot-init : goal.loop-slot-init
+loop-slot-init g c = search rules

@@ -1,4 +1,4 @@
-use Rattle.std.proofs.Common.{◌∙◌, sym, ap, subst}
+use Rattle.std.proofs.Common.{◌∙◌, sym, ap, subst, rules}
 use Rattle.std.specs.List.{list_any}
 use Rattle.sr_frame.specs.Addresses.{mac_eq}
 use Rattle.sr_slots.specs.Places.{KeepsHeld}
@@ -15,3 +15,6 @@ returns-else-newly-clause-err g c =
     let first = subst (λ t. KeepsHeld c.args.self.now.held t.held c.args.key) (sym c.in-Err.ensures.err) c.in_ok-newly.ensures.others in
     let held = ap (λ t. list_any (mac_eq c.args.key) t.held) c.in-Err.ensures.err ∙ c.in_ok-newly.ensures.held in
     held_still c.args.self.now.held c.hold.new.self.held c.args.key (sym c.if-newly.false ∙ c.in_ok-newly.ensures.newly) first held
+
+pub returns-in-Ok-clause-held : goal.returns-in-Ok-clause-held
+returns-in-Ok-clause-held g c = search rules

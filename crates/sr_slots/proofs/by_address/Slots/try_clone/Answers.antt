@@ -1,4 +1,4 @@
-use Rattle.std.proofs.Common.{◌++◌, sym, ap, ◌∙◌, subst}
+use Rattle.std.proofs.Common.{◌++◌, sym, ap, ◌∙◌, subst, rules}
 use Rattle.std.specs.List.{IsDistinct}
 use Rattle.std.specs.Map.{keys_of}
 use Rattle.sr_frame.specs.Addresses.{mac_eq}
@@ -25,3 +25,6 @@ loop-key-preserved g c =
       together = ap (λ es. es ++ c.next.new.self) c.in_ok-append.ensures.entries ∙ one_more own c.args.self.now.entries c.next.new.self (c.in-Some.key, c.in-Some.value.now) parts;
       unique = c.loop-key.invariant.unique;
     }
+
+pub returns-clause-entries : goal.returns-clause-entries
+returns-clause-entries g c = search rules
