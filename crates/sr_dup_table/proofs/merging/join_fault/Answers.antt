@@ -1,4 +1,4 @@
-use Rattle.std.proofs.Common.{◌∙◌, ap, arith, length}
+use Rattle.std.proofs.Common.{◌∙◌, ap, arith, length, rules}
 use Rattle.sr_dup_table.specs.Sources.{live_at}
 use Rattle.sr_dup_table.specs.Joins.{lacking_in, first_apart}
 use Rattle.sr_dup_table.specs.Shown.{sources_of}
@@ -16,3 +16,6 @@ loop-src-init c =
       apart = ap (λ s. first_apart one (live_at c.args.now s)) e;
       few = omega (arith, lacking_le one all, length-live_le c.args.now c.args.table.now.sources, length-live_le c.args.now c.args.other.now.sources, c.requires.one.few, c.requires.other.few);
     }
+
+pub returns-then-tally-gt-MOST_SOURCES : goal.returns-then-tally-gt-MOST_SOURCES
+returns-then-tally-gt-MOST_SOURCES c = search rules

@@ -1,4 +1,4 @@
-use Rattle.std.proofs.Common.{◌≡◌, ◌≤◌, ◌∙◌, sym, ap, subst, refl, Some, None, length}
+use Rattle.std.proofs.Common.{◌≡◌, ◌≤◌, ◌∙◌, sym, ap, subst, refl, Some, None, length, rules}
 use Rattle.sr_dup_table.specs.Sources.{live_others}
 use Rattle.sr_dup_table.proofs.SourceLemmas.{full_where}
 use Rattle.sr_dup_table.proofs.table.DupTable.arrive_at.Goals as goal
@@ -15,3 +15,6 @@ returns-in-None-clause-exact c =
     let same = ap (λ t. length (live_others c.args.src c.args.now t.sources)) was in
     let exactly = full_where c.hear.new.self.sources c.args.src c.args.seq.0 c.args.lanes c.args.now few in
     (λ e. sym same ∙ exactly.0 ((rw e at c.begin.ensures.full) refl), λ e. c.begin.ensures.only_full (exactly.1 (same ∙ e)))
+
+pub returns-in-Some-clause-answer : goal.returns-in-Some-clause-answer
+returns-in-Some-clause-answer c = search rules

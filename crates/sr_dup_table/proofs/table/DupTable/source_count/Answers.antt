@@ -1,4 +1,5 @@
 use Rattle.std.proofs.Common.{sym, ap, subst, arith, length}
+use Rattle.std.proofs.lemmas.Grind.{common_steps}
 use Rattle.std.specs.List.{IsDistinct}
 use Rattle.sr_frame.specs.Addresses.{mac_eq}
 use Rattle.sr_dup_table.specs.Sources.{IsTable}
@@ -15,3 +16,6 @@ returns-clause-table c =
 pub returns-clause-live : goal.returns-clause-live
 returns-clause-live c now =
     omega (arith, length-live_le now c.args.self.now.sources, ap (λ t. length t.sources) c.self.view_is, c.len.ensures.few, length-shown c.self.inside.slots.entries)
+
+pub returns-clause-count : goal.returns-clause-count
+returns-clause-count c = grind (arith, common_steps)
