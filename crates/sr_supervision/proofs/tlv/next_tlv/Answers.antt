@@ -1,4 +1,5 @@
 use Rattle.std.proofs.Common.{arith, refl}
+use Rattle.std.proofs.lemmas.Grind.{common_steps}
 use Rattle.sr_supervision.proofs.TlvLemmas.{ends_empty, ends_at_zero, past_head, past_value}
 use Rattle.sr_supervision.proofs.tlv.next_tlv.Goals as goal
 
@@ -19,3 +20,6 @@ returns-in_default-split_at_checked-clause-past c = (
   refl,
   past_value c.args.octets.now c.in-Some.after.now c.in-Some-split_first.after.now c.in-Some.kind.now c.in-Some-split_first.len.now c.in-Some.ensures.cases.0 c.in-Some-split_first.ensures.cases.0 c.if-kind-eq-END_OF_TLVS.false (omega (arith, c.from.ensures, c.in_default-split_at_checked.ensures.cases)),
 )
+
+pub returns-clause-tlv : goal.returns-clause-tlv
+returns-clause-tlv c = grind (arith, common_steps)

@@ -1,0 +1,5 @@
+use Rattle.std.proofs.Common.{rules}
+use Rattle.sr_capture_script.proofs.scripting.reading_of.Goals as goal
+
+pub returns : goal.returns
+returns c = search rules
