@@ -20,3 +20,6 @@ steps-preserved g c =
     omega (arith, c.saturating_add-size.ensures, len) in
     passes_on c.args.track.now c.steps.track c.take_step.new.track (g.R.Read.remaining c.args.reader.now) (g.R.Read.remaining c.steps.reader) (g.R.Read.remaining c.take_step.new.reader)
     c.steps.size c.saturating_add-size.result c.steps.counter c.take_step.new.block.items c.steps.invariant t.0 t.1 sum
+
+pub returns-in-Err-clause-fault : goal.returns-in-Err-clause-fault
+returns-in-Err-clause-fault g c = search rules
