@@ -155,6 +155,14 @@ impl<V: Drop, const SPAN: u64, const MOST: usize> AgedSlots<V, SPAN, MOST> {
         self.slots.find(key)
     }
 
+    /// The value of an address, forgotten or not, which is looked for at a spot first, and where it is.
+    #[inline(always)]
+    pub fn find_at(&self, spot: Option<Spot>, key: Mac) -> Option<(Spot, &Aged<V>)>
+        ensures { option_map (λ found. found.1.now) result ≡ value_at self.now key }
+    {
+        self.slots.find_at(spot, key)
+    }
+
     /// The value of an address, forgotten or not, which is looked for at a spot first.
     pub fn get_at(&self, spot: Option<Spot>, key: Mac) -> Option<&Aged<V>>
         ensures value { option_copied result ≡ value_at self.now key }

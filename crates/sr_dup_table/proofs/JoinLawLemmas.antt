@@ -10,7 +10,7 @@ use Rattle.sr_frame.specs.AddressLemmas.{mac_same}
 use Rattle.sr_slots.specs.EntryLemmas.{lookup-passing}
 use Rattle.sr_slots.specs.Calls.{passing}
 use Rattle.sr_sequence.specs.Places.{steps}
-use Rattle.sr_dup_window.specs.Bitmaps.{IsWidth}
+use Rattle.sr_dup_window.specs.Spots.{IsWidth}
 use Rattle.sr_dup_window.specs.WindowLemmas.{merged-stands}
 use Rattle.sr_dup_window.specs.MergeLemmas.{merged-commutes, merged-self, merged-associates}
 use Rattle.sr_dup_window.specs.declared.record.Record.{Record}

@@ -1,6 +1,6 @@
 pub mod RowLemmas
-pub mod BitmapLemmas
 pub mod SpotLemmas
+pub mod PlaceLemmas
 pub mod ShowLemmas
 pub mod CallLemmas
 pub mod SameLemmas

@@ -1,5 +1,5 @@
 -- What a ring shows of the numbers up to a reference.
-use Rattle.std.proofs.Common.{◌≡◌, ℕ, ◌+◌, ◌*◌, ◌-◌, ◌%◌, ◌<◌, ◌≤◌, cond, eqb, ltb, leb, ◌||◌, List, length, get_or, arith, sym, ap, ◌∙◌, inl, inr}
+use Rattle.std.proofs.Common.{◌≡◌, ℕ, ◌+◌, ◌*◌, ◌-◌, ◌%◌, ◌<◌, ◌≤◌, false, cond, eqb, ltb, leb, ◌||◌, List, length, get_or, arith, sym, ap, ◌∙◌, inl, inr}
 use Rattle.std.proofs.lemmas.Bool.{cases_eq, cases_lt, eq-eqb, ne_eqb, lt-ltb, le-ltb, cond-true, cond-false}
 use Rattle.std.proofs.lemmas.List.{get_or-set_same, get_or-set_other, length-set}
 use Rattle.std.proofs.lemmas.List.FromFn.{fill_by_all}
@@ -8,14 +8,14 @@ use lib.Lanes.{zip2}
 use Rattle.sr_dup_window.specs.declared.lane_sets.Lanes.{Lanes}
 use Rattle.sr_dup_window.specs.declared.record.Record.{Record}
 use Rattle.sr_dup_window.specs.LaneSets.{none, union}
-use Rattle.sr_dup_window.specs.Bitmaps.{lanes_at, is_passed, IsWidth}
+use Rattle.sr_dup_window.specs.Spots.{lanes_at, is_passed, IsWidth}
 use Rattle.sr_dup_window.specs.Windows.{marks_of, no_marks, marks_with, marks_slid}
 use Rattle.sr_dup_window.specs.RecordLemmas.{marks-count, marks-at}
-use Rattle.sr_dup_window.specs.WindowLemmas.{width-most, length-no_marks, get_or-no_marks, length-slid, slid-new, slid-old}
-use Rattle.sr_dup_window.proofs.SpotLemmas.{spot, spot_inside, spot-eq, passed_spot, spot_kept}
+use Rattle.sr_dup_window.specs.WindowLemmas.{width-some, width-most, length-no_marks, get_or-no_marks, length-slid, slid-new, slid-old}
+use Rattle.sr_dup_window.proofs.PlaceLemmas.{spot, spot_inside, spot_zero, spot-eq, passed_spot, spot_kept}
 
 -- the places of the w numbers up to r have these lanes, newest first
-pub record Shows (w : ℕ) (rows : List (List ℕ)) (r : ℕ) (marks : List Lanes) : Type 0 where
+pub record Shows (w : ℕ) (rows : List (List Lanes)) (r : ℕ) (marks : List Lanes) : Type 0 where
   pub count : length marks ≡ w
   pub each : (k : ℕ) → k < w → lanes_at rows (spot w r k) ≡ get_or marks k none
 
@@ -28,7 +28,7 @@ unfolding marks_of
 marks_are {N} r marks s = sym (fill_by_all (λ k. lanes_at r.rows (spot (64 * N) r.reference.0 k)) marks (64 * N) none s.count (λ k h. sym (s.each k h)))
 
 -- more lanes at the place of one number
-pub marked_shows : (w : ℕ) (rows new : List (List ℕ)) (r : ℕ) (marks : List Lanes) (k place : ℕ) (lanes : Lanes) → IsWidth w → r < 65536 → k < w → spot w r k ≡ place → Shows w rows r marks → ((p : ℕ) → lanes_at new p ≡ cond (eqb p place) (union (lanes_at rows p) lanes) (lanes_at rows p)) → Shows w new r (marks_with marks k lanes)
+pub marked_shows : (w : ℕ) (rows new : List (List Lanes)) (r : ℕ) (marks : List Lanes) (k place : ℕ) (lanes : Lanes) → IsWidth w → r < 65536 → k < w → spot w r k ≡ place → Shows w rows r marks → ((p : ℕ) → lanes_at new p ≡ cond (eqb p place) (union (lanes_at rows p) lanes) (lanes_at rows p)) → Shows w new r (marks_with marks k lanes)
 marked_shows w rows new r marks k place lanes width h inside at s marks_new = record {
   count = length-set marks k (union (get_or marks k none) lanes) ∙ s.count;
   each = λ j g.
@@ -51,7 +51,7 @@ marked_shows w rows new r marks k place lanes width h inside at s marks_new = re
         ]
 
 -- the numbers between the reference and a later one passed over
-pub passed_shows : (w : ℕ) (rows new : List (List ℕ)) (r from later : ℕ) (marks : List Lanes) (a : ℕ) → IsWidth w → r < 65536 → a ≤ 65536 - w → r % w ≡ from → (r + a) % 65536 ≡ later → Shows w rows r marks → ((p : ℕ) → p < w → lanes_at new p ≡ cond (is_passed w from a p || leb w a) none (lanes_at rows p)) → Shows w new later (marks_slid w a marks)
+pub passed_shows : (w : ℕ) (rows new : List (List Lanes)) (r from later : ℕ) (marks : List Lanes) (a : ℕ) → IsWidth w → r < 65536 → a ≤ 65536 - w → r % w ≡ from → (r + a) % 65536 ≡ later → Shows w rows r marks → ((p : ℕ) → p < w → lanes_at new p ≡ cond (is_passed w from a p || leb w a) none (lanes_at rows p)) → Shows w new later (marks_slid w a marks)
 passed_shows w rows new r from later marks a width h most at to s passes = record {
   count = length-slid w a marks s.count;
   each = λ j g.
@@ -69,8 +69,53 @@ passed_shows w rows new r from later marks a width h most at to s passes = recor
       ]);
 }
 
+-- a later number noted, and those between passed over
+pub noted_shows : (w : ℕ) (rows mid new : List (List Lanes)) (r from later place : ℕ) (marks : List Lanes) (a : ℕ) (lanes : Lanes) → IsWidth w → r < 65536 → 0 < a → a ≤ 65536 - w → r % w ≡ from → (r + a) % 65536 ≡ later → later % w ≡ place → Shows w rows r marks → ((p : ℕ) → p < w → lanes_at mid p ≡ cond (is_passed w from (a - 1) p || leb w (a - 1)) none (lanes_at rows p)) → ((p : ℕ) → lanes_at new p ≡ cond (eqb p place) (union none lanes) (lanes_at mid p)) → Shows w new later (marks_with (marks_slid w a marks) 0 lanes)
+noted_shows w rows mid new r from later place marks a lanes width h some most at to there s passes puts = record {
+  count = length-set slid 0 (union (get_or slid 0 none) lanes) ∙ length-slid w a marks s.count;
+  each = λ j g. elim (cases_eq j 0) [ inl e ↦ newest j g e | inr ne ↦ before j g (omega (arith, ne)) ];
+}
+  where
+    slid : List Lanes
+    slid = marks_slid w a marks
+
+    one_less : (r a j : ℕ) → 0 < a → 0 < j → j ≤ 65536 → ((r + a) % 65536 + (65536 - j)) % 65536 ≡ ((r + (a - 1)) % 65536 + (65536 - (j - 1))) % 65536
+    one_less r a j h g i = omega arith
+
+    newest : (j : ℕ) → j < w → j ≡ 0 → lanes_at new (spot w later j) ≡ get_or (marks_with slid 0 lanes) j none
+    newest j g e =
+        let here : spot w later j ≡ place = ap (spot w later) e ∙ spot_zero w later (omega (arith, to)) ∙ there in
+        puts (spot w later j)
+        ∙ cond-true (eqb (spot w later j) place) (union none lanes) (lanes_at mid (spot w later j)) (eq-eqb (spot w later j) place here)
+        ∙ ap (λ x. union x lanes) (sym (slid-new w a marks 0 (width-some w width) some))
+        ∙ sym (get_or-set_same slid 0 (union (get_or slid 0 none) lanes) none (omega (arith, length-slid w a marks s.count, width-some w width)))
+        ∙ ap (λ i. get_or (marks_with slid 0 lanes) i none) (sym e)
+
+    before : (j : ℕ) → j < w → 0 < j → lanes_at new (spot w later j) ≡ get_or (marks_with slid 0 lanes) j none
+    before j g more =
+        let p = spot w ((r + a) % 65536) j in
+        let away : eqb (spot w later j) place ≡ false =
+        ap (eqb (spot w later j)) (sym there ∙ sym (spot_zero w later (omega (arith, to))))
+        ∙ spot-eq w later j 0 width (omega (arith, to)) g (width-some w width)
+        ∙ ne_eqb j 0 (λ e. absurd (omega (arith, e))) in
+        puts (spot w later j)
+        ∙ cond-false (eqb (spot w later j) place) (union none lanes) (lanes_at mid (spot w later j)) away
+        ∙ ap (λ n. lanes_at mid (spot w n j)) (sym to)
+        ∙ passes p (spot_inside w ((r + a) % 65536) j width)
+        ∙ ap (λ n. cond (is_passed w n (a - 1) p || leb w (a - 1)) none (lanes_at rows p)) (sym at)
+        ∙ ap (λ q. cond (is_passed w (r % w) (a - 1) q || leb w (a - 1)) none (lanes_at rows p)) (ap (λ n. n % w) (one_less r a j some more (omega (arith, width-most w width))))
+        ∙ ap (λ t. cond t none (lanes_at rows p)) (passed_spot w r (a - 1) (j - 1) width h (omega arith) (omega arith))
+        ∙ (elim (cases_lt j a) as (λ _. cond (ltb (j - 1) (a - 1)) none (lanes_at rows p) ≡ get_or slid j none) [
+          | inl less ↦ cond-true (ltb (j - 1) (a - 1)) none (lanes_at rows p) (lt-ltb (j - 1) (a - 1) (omega arith)) ∙ sym (slid-new w a marks j g less)
+          | inr later ↦ cond-false (ltb (j - 1) (a - 1)) none (lanes_at rows p) (le-ltb (j - 1) (a - 1) (omega arith))
+              ∙ ap (lanes_at rows) (spot_kept w r a j later (omega (arith, width-most w width)))
+              ∙ s.each (j - a) (omega arith)
+              ∙ sym (slid-old w a marks j g later)
+        ])
+        ∙ sym (get_or-set_other slid 0 j (union (get_or slid 0 none) lanes) none (λ e. absurd (omega (arith, e))))
+
 -- two rings together
-pub united_shows : (w : ℕ) (rows others new : List (List ℕ)) (r : ℕ) (marks other_marks : List Lanes) → IsWidth w → Shows w rows r marks → Shows w others r other_marks → ((p : ℕ) → p < w → lanes_at new p ≡ union (lanes_at rows p) (lanes_at others p)) → Shows w new r (zip2 union marks other_marks)
+pub united_shows : (w : ℕ) (rows others new : List (List Lanes)) (r : ℕ) (marks other_marks : List Lanes) → IsWidth w → Shows w rows r marks → Shows w others r other_marks → ((p : ℕ) → p < w → lanes_at new p ≡ union (lanes_at rows p) (lanes_at others p)) → Shows w new r (zip2 union marks other_marks)
 united_shows w rows others new r marks other_marks width s t unites = record {
   count = length-zip2 union marks other_marks (s.count ∙ sym t.count) ∙ s.count;
   each = λ k h.
@@ -81,7 +126,7 @@ united_shows w rows others new r marks other_marks width s t unites = record {
 }
 
 -- a ring with no place
-pub empty_shows : (w : ℕ) (rows : List (List ℕ)) (r : ℕ) → ((p : ℕ) → lanes_at rows p ≡ none) → Shows w rows r (no_marks w)
+pub empty_shows : (w : ℕ) (rows : List (List Lanes)) (r : ℕ) → ((p : ℕ) → lanes_at rows p ≡ none) → Shows w rows r (no_marks w)
 empty_shows w rows r empty = record {
   count = length-no_marks w;
   each = λ k h. empty (spot w r k) ∙ sym (get_or-no_marks w k h);

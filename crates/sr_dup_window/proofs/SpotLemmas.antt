@@ -1,77 +1,108 @@
--- Where the numbers of a window have their places.
-use Rattle.std.proofs.Common.{◌≡◌, ℕ, ◌+◌, ◌-◌, ◌%◌, ◌<◌, ◌≤◌, eqb, ltb, leb, ◌||◌, arith, sym, ap, ◌∙◌, inl, inr}
-use Rattle.std.proofs.lemmas.Bool.{cases_eq, eq-eqb, ne_eqb}
+-- Spots of rows.
+use Rattle.std.proofs.Common.{◌≡◌, ◌≢◌, ℕ, ◌+◌, ◌*◌, ◌-◌, ◌/◌, ◌%◌, ◌<◌, ◌≤◌, Bool, true, false, cond, eqb, ltb, leb, ◌||◌, ◌&&◌, ◌⊎◌, List, [], length, get_or, set, replicate, arith, refl, sym, ap, ◌∙◌, inl, inr}
 use Rattle.std.proofs.lemmas.Bool.Decides.{nat_tests}
-use Rattle.sr_dup_window.specs.Bitmaps.{is_passed, IsWidth}
-use Rattle.sr_dup_window.specs.WindowLemmas.{width-some}
+use Rattle.std.proofs.lemmas.Bool.{cases_eq, cases_lt, eq-eqb, ne_eqb, cond-true, cond-false}
+use Rattle.std.proofs.lemmas.List.{get_or-set_same, get_or-set_other, get_or_past, get_or-replicate, length-replicate}
+use Rattle.sr_dup_window.specs.declared.lane_sets.Lanes.{Lanes}
+use Rattle.sr_dup_window.specs.LaneSets.{none}
+use Rattle.sr_dup_window.specs.Spots.{lanes_in, lanes_at, way_round, is_passed, IsWidth}
+use Rattle.sr_dup_window.proofs.RowLemmas.{no_lanes}
 
--- the place of the number so many before a reference
-abbrev pub spot : ℕ → ℕ → ℕ → ℕ
-spot w r k = (r + (65536 - k)) % 65536 % w
-
-pub spot_inside : (w r k : ℕ) → IsWidth w → spot w r k < w
-spot_inside w r k width = omega (arith, width-some w width)
-
-pub spot_zero : (w r : ℕ) → r < 65536 → spot w r 0 ≡ r % w
-spot_zero w r h = ap (λ n. n % w) (same r h)
-  where
-    same : (r : ℕ) → r < 65536 → (r + (65536 - 0)) % 65536 ≡ r
-    same r h = omega arith
-
--- within the window each number has a place of its own
-apart_narrow : (r j k : ℕ) → r < 65536 → j < 1024 → k < 1024 → (r + (65536 - j)) % 65536 % 1024 ≡ (r + (65536 - k)) % 65536 % 1024 → j ≡ k
-apart_narrow r j k h a b s = omega arith
-
-apart_wide : (r j k : ℕ) → r < 65536 → j < 2048 → k < 2048 → (r + (65536 - j)) % 65536 % 2048 ≡ (r + (65536 - k)) % 65536 % 2048 → j ≡ k
-apart_wide r j k h a b s = omega arith
-
-spots_apart : (w r j k : ℕ) → IsWidth w → r < 65536 → j < w → k < w → spot w r j ≡ spot w r k → j ≡ k
-spots_apart w r j k (inl e) h a b s =
-    let a' : j < 1024 = omega arith in
-    let b' : k < 1024 = omega arith in
-    let s' : (r + (65536 - j)) % 65536 % 1024 ≡ (r + (65536 - k)) % 65536 % 1024 = rw e at s in
-    apart_narrow r j k h a' b' s'
-spots_apart w r j k (inr e) h a b s =
-    let a' : j < 2048 = omega arith in
-    let b' : k < 2048 = omega arith in
-    let s' : (r + (65536 - j)) % 65536 % 2048 ≡ (r + (65536 - k)) % 65536 % 2048 = rw e at s in
-    apart_wide r j k h a' b' s'
-
-pub spot-eq : (w r j k : ℕ) → IsWidth w → r < 65536 → j < w → k < w → eqb (spot w r j) (spot w r k) ≡ eqb j k
-spot-eq w r j k width h a b =
-    elim (cases_eq j k) [
-      | inl e ↦ eq-eqb (spot w r j) (spot w r k) (ap (spot w r) e) ∙ sym (eq-eqb j k e)
-      | inr ne ↦ ne_eqb (spot w r j) (spot w r k) (λ s. ne (spots_apart w r j k width h a b s)) ∙ sym (ne_eqb j k ne)
+-- the lanes at a spot after a row is written
+set_row : (rows : List (List Lanes)) (i : ℕ) (row : List Lanes) (p : ℕ) → i < length rows → lanes_at (set rows i row) p ≡ cond (eqb (p / 64) i) (lanes_in row (p % 64)) (lanes_at rows p)
+set_row rows i row p h =
+    elim (cases_eq (p / 64) i) [
+      | inl e ↦ ap (λ r. lanes_in r (p % 64)) (ap (λ k. get_or (set rows i row) k []) e ∙ get_or-set_same rows i row [] h)
+          ∙ sym (cond-true (eqb (p / 64) i) (lanes_in row (p % 64)) (lanes_at rows p) (eq-eqb (p / 64) i e))
+      | inr ne ↦ ap (λ r. lanes_in r (p % 64)) (get_or-set_other rows i (p / 64) row [] ne)
+          ∙ sym (cond-false (eqb (p / 64) i) (lanes_in row (p % 64)) (lanes_at rows p) (ne_eqb (p / 64) i ne))
     ]
 
--- after `a` steps ahead, the place of the number j before the new one is passed over just where that number is new
-passed_narrow : (r a j : ℕ) → r < 65536 → a ≤ 64512 → j < 1024 → (is_passed 1024 (r % 1024) a (((r + a) % 65536 + (65536 - j)) % 65536 % 1024) || leb 1024 a) ≡ ltb j a
-passed_narrow r a j h b g = grind (arith, nat_tests)
-
-passed_wide : (r a j : ℕ) → r < 65536 → a ≤ 63488 → j < 2048 → (is_passed 2048 (r % 2048) a (((r + a) % 65536 + (65536 - j)) % 65536 % 2048) || leb 2048 a) ≡ ltb j a
-passed_wide r a j h b g = grind (arith, nat_tests)
-
-pub passed_spot : (w r a j : ℕ) → IsWidth w → r < 65536 → a ≤ 65536 - w → j < w → (is_passed w (r % w) a (spot w ((r + a) % 65536) j) || leb w a) ≡ ltb j a
-passed_spot w r a j (inl e) h b g = rw e (passed_narrow r a j h (omega arith) (omega arith))
-passed_spot w r a j (inr e) h b g = rw e (passed_wide r a j h (omega arith) (omega arith))
-
--- a number that is not new keeps its place
-pub spot_kept : (w r a j : ℕ) → a ≤ j → j ≤ 65536 → spot w ((r + a) % 65536) j ≡ spot w r (j - a)
-spot_kept w r a j h g = ap (λ n. n % w) (same r a j h g)
+-- writing one place of a row writes one spot
+pub written_place : (rows : List (List Lanes)) (row : List Lanes) (f : Lanes → Lanes) (spot p : ℕ) → spot < 64 * length rows → ((b : ℕ) → lanes_in row b ≡ cond (eqb b (spot % 64)) (f (lanes_in (get_or rows (spot / 64) []) b)) (lanes_in (get_or rows (spot / 64) []) b)) → lanes_at (set rows (spot / 64) row) p ≡ cond (eqb p spot) (f (lanes_at rows p)) (lanes_at rows p)
+written_place rows row f spot p h writes =
+    set_row rows (spot / 64) row p (omega arith)
+    ∙ (elim (cases_eq (p / 64) (spot / 64)) as (λ _. cond (eqb (p / 64) (spot / 64)) (lanes_in row (p % 64)) (lanes_at rows p) ≡ cond (eqb p spot) (f (lanes_at rows p)) (lanes_at rows p)) [
+      | inl e ↦ cond-true (eqb (p / 64) (spot / 64)) (lanes_in row (p % 64)) (lanes_at rows p) (eq-eqb (p / 64) (spot / 64) e)
+          ∙ writes (p % 64)
+          ∙ ap (λ i. cond (eqb (p % 64) (spot % 64)) (f (lanes_in (get_or rows i []) (p % 64))) (lanes_in (get_or rows i []) (p % 64))) (sym e)
+          ∙ ap (λ t. cond t (f (lanes_at rows p)) (lanes_at rows p)) (same_test p spot e)
+      | inr ne ↦ cond-false (eqb (p / 64) (spot / 64)) (lanes_in row (p % 64)) (lanes_at rows p) (ne_eqb (p / 64) (spot / 64) ne)
+          ∙ sym (cond-false (eqb p spot) (f (lanes_at rows p)) (lanes_at rows p) (ne_eqb p spot (λ e. ne (ap (λ n. n / 64) e))))
+    ])
   where
-    same : (r a j : ℕ) → a ≤ j → j ≤ 65536 → ((r + a) % 65536 + (65536 - j)) % 65536 ≡ (r + (65536 - (j - a))) % 65536
-    same r a j h g = omega arith
+    same_test : (p spot : ℕ) → p / 64 ≡ spot / 64 → eqb (p % 64) (spot % 64) ≡ eqb p spot
+    same_test p spot e = grind (arith, nat_tests)
 
--- each place has a number of the window
-abbrev pub back_of : ℕ → ℕ → ℕ → ℕ
-back_of w r p = (r % w + (w - p)) % w
+-- clearing places of a row clears a run of spots
+pub cleared_run : (rows : List (List Lanes)) (row : List Lanes) (start count p : ℕ) → start < 64 * length rows → start % 64 + count ≤ 64 → ((b : ℕ) → lanes_in row b ≡ cond (leb (start % 64) b && ltb b (start % 64 + count)) none (lanes_in (get_or rows (start / 64) []) b)) → lanes_at (set rows (start / 64) row) p ≡ cond (leb start p && ltb p (start + count)) none (lanes_at rows p)
+cleared_run rows row start count p h within keeps =
+    set_row rows (start / 64) row p (omega arith)
+    ∙ (elim (cases_eq (p / 64) (start / 64)) as (λ _. cond (eqb (p / 64) (start / 64)) (lanes_in row (p % 64)) (lanes_at rows p) ≡ cond (leb start p && ltb p (start + count)) none (lanes_at rows p)) [
+      | inl e ↦ cond-true (eqb (p / 64) (start / 64)) (lanes_in row (p % 64)) (lanes_at rows p) (eq-eqb (p / 64) (start / 64) e)
+          ∙ keeps (p % 64)
+          ∙ ap (λ i. cond (leb (start % 64) (p % 64) && ltb (p % 64) (start % 64 + count)) none (lanes_in (get_or rows i []) (p % 64))) (sym e)
+          ∙ ap (λ t. cond t none (lanes_at rows p)) (same_test p start count e)
+      | inr ne ↦ cond-false (eqb (p / 64) (start / 64)) (lanes_in row (p % 64)) (lanes_at rows p) (ne_eqb (p / 64) (start / 64) ne)
+          ∙ sym (cond-false (leb start p && ltb p (start + count)) none (lanes_at rows p) (other_row p start count ne within))
+    ])
+  where
+    same_test : (p start count : ℕ) → p / 64 ≡ start / 64 → (leb (start % 64) (p % 64) && ltb (p % 64) (start % 64 + count)) ≡ (leb start p && ltb p (start + count))
+    same_test p start count e = grind (arith, nat_tests)
 
-pub place_back : (w r p : ℕ) → IsWidth w → r < 65536 → p < w → ((back_of w r p < w) × (spot w r (back_of w r p) ≡ p))
-place_back w r p (inl e) h g = rw e (narrow r p h (omega arith))
+    other_row : (p start count : ℕ) → p / 64 ≢ start / 64 → start % 64 + count ≤ 64 → (leb start p && ltb p (start + count)) ≡ false
+    other_row p start count ne h = grind (arith, nat_tests)
+
+-- one more run of the spots that are passed over
+run_narrow : (from done run start p : ℕ) → from < 1024 → done + run < 1024 → start < 1024 → run ≤ 64 - start % 64 → (start ≡ from + 1 + done) ⊎ (start + 1024 ≡ from + 1 + done) → p < 1024 → ((leb start p && ltb p (start + run)) || is_passed 1024 from done p) ≡ is_passed 1024 from (done + run) p
+run_narrow from done run start p h g i j (inl at) q = grind (arith, nat_tests)
+run_narrow from done run start p h g i j (inr at) q = grind (arith, nat_tests)
+
+run_wide : (from done run start p : ℕ) → from < 2048 → done + run < 2048 → start < 2048 → run ≤ 64 - start % 64 → (start ≡ from + 1 + done) ⊎ (start + 2048 ≡ from + 1 + done) → p < 2048 → ((leb start p && ltb p (start + run)) || is_passed 2048 from done p) ≡ is_passed 2048 from (done + run) p
+run_wide from done run start p h g i j (inl at) q = grind (arith, nat_tests)
+run_wide from done run start p h g i j (inr at) q = grind (arith, nat_tests)
+
+-- what is left to clear after one more run of spots
+pub run_cleared : (w from done run start : ℕ) (rows mid new : List (List Lanes)) → IsWidth w → from < w → done + run < w → start < w → run ≤ 64 - start % 64 → (start ≡ from + 1 + done) ⊎ (start + w ≡ from + 1 + done) → ((p : ℕ) → p < w → lanes_at mid p ≡ cond (is_passed w from done p) none (lanes_at rows p)) → ((p : ℕ) → lanes_at new p ≡ cond (leb start p && ltb p (start + run)) none (lanes_at mid p)) → (p : ℕ) → p < w → lanes_at new p ≡ cond (is_passed w from (done + run) p) none (lanes_at rows p)
+run_cleared w from done run start rows mid new width h g i j at before after p q =
+    after p
+    ∙ ap (λ x. cond (leb start p && ltb p (start + run)) none x) (before p q)
+    ∙ either (leb start p && ltb p (start + run)) (is_passed w from done p)
+    ∙ ap (λ t. cond t none (lanes_at rows p)) (one_more w from done run start p width h g i j at q)
   where
-    narrow : (r p : ℕ) → r < 65536 → p < 1024 → (((r % 1024 + (1024 - p)) % 1024 < 1024) × ((r + (65536 - (r % 1024 + (1024 - p)) % 1024)) % 65536 % 1024 ≡ p))
-    narrow r p h g = (omega arith, omega arith)
-place_back w r p (inr e) h g = rw e (wide r p h (omega arith))
+    either : (s t : Bool) → cond s none (cond t none (lanes_at rows p)) ≡ cond (s || t) none (lanes_at rows p)
+    either true t = refl
+    either false t = refl
+
+    one_more : (w from done run start p : ℕ) → IsWidth w → from < w → done + run < w → start < w → run ≤ 64 - start % 64 → (start ≡ from + 1 + done) ⊎ (start + w ≡ from + 1 + done) → p < w → ((leb start p && ltb p (start + run)) || is_passed w from done p) ≡ is_passed w from (done + run) p
+    one_more w from done run start p (inl e) h g i j at q =
+        let a : from < 1024 = omega arith in
+        let b : done + run < 1024 = omega arith in
+        let c : start < 1024 = omega arith in
+        let d : p < 1024 = omega arith in
+        rw e (run_narrow from done run start p a b c j (elim at [ inl k ↦ inl k | inr k ↦ inr (omega arith) ]) d)
+    one_more w from done run start p (inr e) h g i j at q =
+        let a : from < 2048 = omega arith in
+        let b : done + run < 2048 = omega arith in
+        let c : start < 2048 = omega arith in
+        let d : p < 2048 = omega arith in
+        rw e (run_wide from done run start p a b c j (elim at [ inl k ↦ inl k | inr k ↦ inr (omega arith) ]) d)
+
+-- nothing is passed over at first
+pub none_cleared : (w from : ℕ) (rows : List (List Lanes)) (p : ℕ) → lanes_at rows p ≡ cond (is_passed w from 0 p) none (lanes_at rows p)
+none_cleared w from rows p = ap (λ t. cond t none (lanes_at rows p)) (sym (no_step (way_round w from p)))
   where
-    wide : (r p : ℕ) → r < 65536 → p < 2048 → (((r % 2048 + (2048 - p)) % 2048 < 2048) × ((r + (65536 - (r % 2048 + (2048 - p)) % 2048)) % 65536 % 2048 ≡ p))
-    wide r p h g = (omega arith, omega arith)
+    no_step : (d : ℕ) → (ltb 0 d && leb d 0) ≡ false
+    no_step d = grind (arith, nat_tests)
+
+-- rows of no lanes have none at any spot
+pub cleared_place : (rows : List (List Lanes)) (n p : ℕ) → length rows ≡ n → ((k : ℕ) → k < n → get_or rows k [] ≡ replicate 64 none) → lanes_at rows p ≡ none
+cleared_place rows n p e empty =
+    elim (cases_lt (p / 64) n) [
+      | inl h ↦ ap (λ row. lanes_in row (p % 64)) (empty (p / 64) h) ∙ no_lanes 64 (p % 64)
+      | inr h ↦ ap (λ row. lanes_in row (p % 64)) (get_or_past rows (p / 64) [] (omega arith)) ∙ get_or_past [] (p % 64) none (omega arith)
+    ]
+
+-- so have those that `begin` makes
+pub empty_rows : (n p : ℕ) → lanes_at (replicate n (replicate 64 none)) p ≡ none
+empty_rows n p = cleared_place (replicate n (replicate 64 none)) n p (length-replicate n (replicate 64 none)) (λ k h. get_or-replicate n k (replicate 64 none) [] h)

@@ -61,7 +61,7 @@ use Rattle.sr_dup_window.specs.declared.lane_sets.Lane.{Lane}
 use Rattle.sr_dup_window.specs.declared.lane_sets.Lanes.{Lanes}
 use Rattle.sr_dup_window.specs.LaneSets.{has, none, union, is_empty}
 use Rattle.sr_dup_window.specs.LaneLemmas.{has-lanes_where, lanes_where-same}
-use Rattle.sr_dup_window.specs.Bitmaps.{IsWidth}
+use Rattle.sr_dup_window.specs.Spots.{IsWidth}
 use Rattle.sr_dup_window.specs.Windows.{
   Window,
   no_marks,
@@ -359,7 +359,7 @@ same-numbers w a b f g m n s t same =
     same-windows w a b f g m s (subst P top t) (λ lane k h. same lane (m -ℤ pos k))
 
 -- the test says whether two windows are one
-Decides-lanes : (a b : Lanes) → Decides (eqb a.0 b.0) (a ≡ b)
+pub Decides-lanes : (a b : Lanes) → Decides (eqb a.0 b.0) (a ≡ b)
 Decides-lanes a b = Decides-like (eqb a.0 b.0) (λ e. λ i. record { 0 = e i }) (λ e. ap (λ (l : Lanes). l.0) e) (Decides-eqb a.0 b.0)
 
 pub Decides-same_window : (a b : Window) → Decides (same_window a b) (a ≡ b)

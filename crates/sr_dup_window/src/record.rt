@@ -1,10 +1,11 @@
 //! The record of one source.
 ghost use Rattle.std.specs.Prelude.{◌≡◌, ◌==◌, ◌||◌, ◌*◌, ◌%◌, ◌<◌, IsTrue, false};
 ghost use Rattle.sr_dup_window.specs.LaneSets.{is_empty};
-ghost use Rattle.sr_dup_window.specs.Bitmaps.{AreRows, lanes_at};
+ghost use Rattle.sr_dup_window.specs.Spots.{AreRows, lanes_at};
 
-use crate::bitmaps::{clear_all, lanes_at, mark, pass, unite};
 use crate::lane_sets::{Lane, Lanes};
+use crate::rows::Row;
+use crate::spots::{clear_all, lanes_at, mark, pass, put, unite};
 use sr_sequence::{Distance, Seq, place};
 use thiserror::Error;
 
@@ -15,11 +16,11 @@ pub struct Apart;
 
 /// The numbers that one source has lately used, lane by lane: the greatest of them, its reference, and which of the
 /// `64 * N - 1` numbers before it. N is 16 or 32 (choice of this project). Number n stands at the spot `n mod 64N` of a
-/// bitmap that goes round, in which the six lanes' words of the same 64 numbers lie side by side.
+/// list that goes round, an octet for each number: so one load tells all its lanes.
 #[derive(Clone, Copy, PartialEq, Eq, Debug)]
 pub struct Record<const N: usize> {
     reference: Seq,
-    rows: [[u64; 6]; N],
+    rows: [Row; N],
     ghost width: { IsTrue (N == 16 || N == 32) },
     ghost carried: { reference.0 < 65536 },
     ghost whole: { AreRows N rows },
@@ -40,7 +41,7 @@ impl<const N: usize> Record<N> {
         ensures value { window_of result ≡ window_begun (64 * N) seq.0 lanes }
         ensures stands { Begins (64 * N) (window_of result) seq.0 lanes }
     {
-        let mut rows = [[0; 6]; N];
+        let mut rows = [[Lanes::NONE; 64]; N];
         mark(&mut rows, seq.0 as usize % (64 * N), lanes);
         Record {
             reference: seq,
@@ -117,8 +118,9 @@ impl<const N: usize> Record<N> {
             }
             Distance::Ahead(steps) => {
                 let from = self.reference.0 as usize % (64 * N);
-                pass(&mut self.rows, from, steps as usize);
-                mark(&mut self.rows, spot, lanes);
+                // The next number is the usual one: nothing lies between.
+                pass(&mut self.rows, from, steps as usize - 1);
+                put(&mut self.rows, spot, lanes);
                 self.reference = seq;
                 lanes.difference(Lanes::NONE)
             }

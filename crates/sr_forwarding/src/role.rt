@@ -11,7 +11,7 @@ use std::alloc::Global;
 
 /// The part of a node that decides where frames go, and for which addresses the node stands. All that it answers is a
 /// function of its image.
-pub trait Role: Send + Drop {
+pub trait Role: Drop {
     ghost use Rattle.sr_forwarding.specs.declared.role_image.RoleImage.{RoleImage};
 
     ghost meaning: { Self → RoleImage };

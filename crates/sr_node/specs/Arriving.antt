@@ -154,3 +154,8 @@ Arrived s port p now (answer.Passed outlets) t =
 Arrived s port p now (answer.Sent number) t = ⊥
 Arrived s port p now (answer.Ticked sources nodes proxies life) t = ⊥
 Arrived s port p now (answer.Taken given) t = ⊥
+
+-- what is answered to a frame that went to these outlets, or that is the node's own
+abbrev pub arrival_answer : Option Outlets → Answer
+arrival_answer None = answer.Own
+arrival_answer (Some outlets) = answer.Passed outlets

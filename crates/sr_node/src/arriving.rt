@@ -10,7 +10,7 @@ ghost use Rattle.sr_node.specs.Lanes.{is_host};
 ghost use Rattle.sr_forwarding.specs.Headers.{header_of};
 ghost use Rattle.sr_forwarding.specs.Proxies.{learned};
 ghost use Rattle.sr_forwarding.specs.Routes.{routes};
-ghost use Rattle.sr_node.specs.Arriving.{is_too_long, is_untagged, takes_unnumbered, header_told, wanted_at, going_on, number_at, next_at, goes, outlets_fault, arrive_refusal, Arrived, passed};
+ghost use Rattle.sr_node.specs.Arriving.{is_too_long, is_untagged, takes_unnumbered, header_told, wanted_at, going_on, number_at, next_at, goes, outlets_fault, arrive_refusal, Arrived, passed, arrival_answer};
 ghost use Rattle.sr_node.specs.Octets.{OctetsArrived, OctetsRefused};
 ghost use Rattle.sr_node.specs.Plans.{ArrivalIs, IsAdmitted, IsPassing, IsFoundBy};
 ghost use Rattle.sr_slots.specs.Places.{IsFound};
@@ -33,13 +33,8 @@ pub(crate) const MAX_PLAIN_LEN: usize = 1518;
 pub(crate) enum Admission {
     /// It is the node's own.
     Own,
-    /// It is a frame of another node.
-    Other {
-        /// What routes read of it as it goes on.
-        header: Header,
-        /// Where the role wants it.
-        wanted: Outlets,
-    },
+    /// It is a frame of another node, and this is where the role wants it.
+    Other(Outlets),
 }
 
 /// What an arrival that is not refused comes to.
@@ -49,8 +44,6 @@ pub(crate) enum Plan {
     Own,
     /// It passes.
     Pass {
-        /// What routes read of it as it goes on.
-        header: Header,
         /// Where the role wants it.
         wanted: Outlets,
         /// Of these, where it is new, and where it goes.
@@ -97,6 +90,16 @@ fn number(port: Port, parcel: &mut ParcelView<'_>, next: Seq)
     }
 }
 
+/// What is answered to a frame that went to these outlets, or that is the node's own.
+pub(crate) fn arrival_answer(outlets: Option<Outlets>) -> Answer
+    ensures { result ≡ arrival_answer outlets }
+{
+    match outlets {
+        Some(outlets) => Answer::Passed(outlets),
+        None => Answer::Own,
+    }
+}
+
 impl<R: Role> NodeOf<R> {
     /// Where a frame with this header is wanted.
     pub(crate) fn wanted(&self, header: &Header, inlet: Port, now: u64) -> Outlets
@@ -108,6 +111,7 @@ impl<R: Role> NodeOf<R> {
     }
 
     // The same at a node of this kind. The nodes are asked for the destination only where the role's routes read that.
+    #[inline(always)]
     fn wanted_by(&self, kind: RoleKind, header: &Header, inlet: Port, now: u64) -> Outlets
         requires { kind ≡ (R.meaning self.now.role).kind }
         ensures { result ≡ routes (R.meaning self.now.role)
@@ -135,10 +139,19 @@ impl<R: Role> NodeOf<R> {
         }
     }
 
-    // What an arrival at this moment is, or why it is refused before the table is asked.
-    fn admit(&self, port: Port, parcel: &ParcelView<'_>, now: u64) -> Result<Admission, StepFault>
+    // What an arrival with this header is at this moment, or why it is refused before the table is asked.
+    fn admit(
+        &self,
+        port: Port,
+        parcel: &ParcelView<'_>,
+        header: &Header,
+        now: u64,
+    ) -> Result<Admission, StepFault>
+        requires { header.now ≡ header_of
+            (going_on (node_state (R.meaning self.now.role) self.now.core) port parcel.now) }
         ensures admitted { IfOk result (λ a.
-            IsAdmitted (node_state (R.meaning self.now.role) self.now.core) port parcel.now now a) }
+            IsAdmitted (node_state (R.meaning self.now.role) self.now.core) port parcel.now now
+            header.now a) }
         ensures err { IfErr result (λ f.
             arrive_refusal (node_state (R.meaning self.now.role) self.now.core) port parcel.now
             now ≡ Some f) }
@@ -150,12 +163,10 @@ impl<R: Role> NodeOf<R> {
         if is_untagged(kind, port, parcel.form()) {
             return Err(StepFault::Untagged);
         }
-        if parcel.header().src == self.role.mac() {
+        if header.src == self.role.mac() {
             return Ok(Admission::Own);
         }
-        let header = self.header_on(port, parcel);
-        let wanted = self.wanted_by(kind, &header, port, now);
-        Ok(Admission::Other { header, wanted })
+        Ok(Admission::Other(self.wanted_by(kind, header, port, now)))
     }
 
     /// Why an arrival at this moment is refused, want of memory apart.
@@ -172,9 +183,10 @@ impl<R: Role> NodeOf<R> {
             arrive_refusal (node_state (R.meaning self.now.role) self.now.core) port parcel.now
             now ≡ Some f) }
     {
-        match self.admit(port, parcel, now)? {
+        let header = self.header_on(port, parcel);
+        match self.admit(port, parcel, &header, now)? {
             Admission::Own => Ok(()),
-            Admission::Other { header, wanted } => {
+            Admission::Other(wanted) => {
                 let Ok(outlets) = self.core.fresh(port, &header, wanted, now) else {
                     return Err(StepFault::TableFull);
                 };
@@ -183,33 +195,36 @@ impl<R: Role> NodeOf<R> {
         }
     }
 
-    // What an arrival at this moment comes to, or why it is refused. Nothing changes.
+    // What an arrival with this header comes to at this moment, or why it is refused. Nothing changes.
     fn plan_arrive(
         &mut self,
         port: Port,
         parcel: &ParcelView<'_>,
+        header: &Header,
         now: u64,
     ) -> Result<Plan, StepFault>
+        requires { header.now ≡ header_of
+            (going_on (node_state (R.meaning self.old.role) self.old.core) port parcel.now) }
         ensures plan { IfOk result (λ p.
-            ArrivalIs (node_state (R.meaning self.old.role) self.old.core) port parcel.now now p) }
+            ArrivalIs (node_state (R.meaning self.old.role) self.old.core) port parcel.now now
+            header.now p) }
         ensures ok { OnOk result
             (arrive_refusal (node_state (R.meaning self.old.role) self.old.core) port parcel.now
             now ≡ None) }
         ensures err { IfErr result (λ f.
             arrive_refusal (node_state (R.meaning self.old.role) self.old.core) port parcel.now
             now ≡ Some f) }
-        ensures found { IfOk result (IsFoundBy self.old.core.table.sources) }
+        ensures found { IfOk result (IsFoundBy self.old.core.table.sources header.now) }
         ensures same { (self.new.role ≡ self.old.role) × (self.new.core ≡ self.old.core) }
     {
-        match self.admit(port, parcel, now)? {
+        match self.admit(port, parcel, header, now)? {
             Admission::Own => Ok(Plan::Own),
-            Admission::Other { header, wanted } => {
-                let Ok((outlets, spot)) = self.core.look(port, &header, wanted, now) else {
+            Admission::Other(wanted) => {
+                let Ok((outlets, spot)) = self.core.look(port, header, wanted, now) else {
                     return Err(StepFault::TableFull);
                 };
                 self.core.room_for(outlets)?;
                 Ok(Plan::Pass {
-                    header,
                     wanted,
                     outlets,
                     spot,
@@ -219,6 +234,7 @@ impl<R: Role> NodeOf<R> {
     }
 
     // All growths of an arrival that passes. Where one is refused, nothing shows of the others.
+    #[inline(always)]
     fn grow(
         &mut self,
         port: Port,
@@ -259,10 +275,11 @@ impl<R: Role> NodeOf<R> {
     }
 
     // Lets an arrival pass: growths first, then changes.
+    #[inline(always)]
     fn pass(
         &mut self,
         port: Port,
-        mut parcel: ParcelView<'_>,
+        parcel: &mut ParcelView<'_>,
         header: &Header,
         now: u64,
         wanted: Outlets,
@@ -271,23 +288,23 @@ impl<R: Role> NodeOf<R> {
         said: Option<Supervision>,
     ) -> Result<(), NoMemory>
         requires passing { IsPassing (node_state (R.meaning self.old.role) self.old.core) port
-            parcel now header.now wanted outlets }
+            parcel.old now header.now wanted outlets }
         requires spot { IsFound spot self.old.core.table.sources header.now.src }
         ensures ok { OnOk result (node_state (R.meaning self.new.role) self.new.core
             ≡ passed (node_state (R.meaning self.old.role) self.old.core) port
-            (going_on (node_state (R.meaning self.old.role) self.old.core) port parcel.entry)
-            (next_at self.old.core.next port parcel.entry) now outlets said) }
+            (going_on (node_state (R.meaning self.old.role) self.old.core) port parcel.old)
+            (next_at self.old.core.next port parcel.old) now outlets said) }
         ensures err { OnErr result (node_state (R.meaning self.new.role) self.new.core
             ≡ node_state (R.meaning self.old.role) self.old.core) }
         ensures idle { IsIdle self.old.core → IsIdle self.new.core }
     {
-        let next = self.core.next_at(port, &parcel);
-        number(port, &mut parcel, self.core.next());
-        let heard = self.heard_in(port, header, wanted, said, now);
+        let next = self.core.next_at(port, parcel);
+        number(port, parcel, self.core.next());
+        let heard = self.heard_in(port, header, spot, wanted, said, now);
         let mut copies = no_copies();
         self.grow(
             port,
-            &parcel,
+            parcel,
             header,
             spot,
             &heard,
@@ -297,7 +314,7 @@ impl<R: Role> NodeOf<R> {
         )?;
         self.core.pass(
             port,
-            &parcel,
+            parcel,
             header,
             spot,
             &heard,
@@ -309,8 +326,36 @@ impl<R: Role> NodeOf<R> {
         Ok(())
     }
 
+    // The same for a frame that says something. It stands apart, so that what is said takes no room where nothing is.
+    #[inline(never)]
+    fn pass_said(
+        &mut self,
+        port: Port,
+        parcel: &mut ParcelView<'_>,
+        header: &Header,
+        now: u64,
+        wanted: Outlets,
+        outlets: Outlets,
+        spot: Option<Spot>,
+        said: Option<Supervision>,
+    ) -> Result<(), NoMemory>
+        requires passing { IsPassing (node_state (R.meaning self.old.role) self.old.core) port
+            parcel.old now header.now wanted outlets }
+        requires spot { IsFound spot self.old.core.table.sources header.now.src }
+        ensures ok { OnOk result (node_state (R.meaning self.new.role) self.new.core
+            ≡ passed (node_state (R.meaning self.old.role) self.old.core) port
+            (going_on (node_state (R.meaning self.old.role) self.old.core) port parcel.old)
+            (next_at self.old.core.next port parcel.old) now outlets said) }
+        ensures err { OnErr result (node_state (R.meaning self.new.role) self.new.core
+            ≡ node_state (R.meaning self.old.role) self.old.core) }
+        ensures idle { IsIdle self.old.core → IsIdle self.new.core }
+    {
+        self.pass(port, parcel, header, now, wanted, outlets, spot, said)
+    }
+
     /// Octets come in at a port, in the framing of the port: what decoding them, and then `step`, would answer, and
     /// with no more memory than for the copies that go out.
+    #[inline(always)]
     pub fn arrive(
         &mut self,
         framing: &dyn Framing,
@@ -330,42 +375,47 @@ impl<R: Role> NodeOf<R> {
         ensures idle { IsIdle self.old.core → IsIdle self.new.core }
     {
         let at = self.core.time_at(now);
-        let parcel = framing.read(octets)?;
-        self.take_in(port, parcel, at)
+        let mut parcel = framing.read(octets)?;
+        let outlets = self.take_in(port, &mut parcel, at)?;
+        Ok(arrival_answer(outlets))
     }
 
-    /// Takes a frame at this moment.
+    /// Takes a frame at this moment. The answer is the outlets that got it, or that it is the node's own.
     pub(crate) fn take_in(
         &mut self,
         port: Port,
-        parcel: ParcelView<'_>,
+        parcel: &mut ParcelView<'_>,
         now: u64,
-    ) -> Result<Answer, StepFault>
-        ensures step { IfOk result (λ a. Arrived
-            (node_state (R.meaning self.old.role) self.old.core) port parcel.entry now a
-            (node_state (R.meaning self.new.role) self.new.core)) }
+    ) -> Result<Option<Outlets>, StepFault>
+        ensures step { IfOk result (λ outlets. Arrived
+            (node_state (R.meaning self.old.role) self.old.core) port parcel.old now
+            (arrival_answer outlets) (node_state (R.meaning self.new.role) self.new.core)) }
         ensures ok { OnOk result (arrive_refusal
-            (node_state (R.meaning self.old.role) self.old.core) port parcel.entry now ≡ None) }
+            (node_state (R.meaning self.old.role) self.old.core) port parcel.old now ≡ None) }
         ensures err { IfErr result (λ f. f ≡ or_no_memory (arrive_refusal
-            (node_state (R.meaning self.old.role) self.old.core) port parcel.entry now)) }
+            (node_state (R.meaning self.old.role) self.old.core) port parcel.old now)) }
         ensures same { OnErr result (node_state (R.meaning self.new.role) self.new.core
             ≡ node_state (R.meaning self.old.role) self.old.core) }
         ensures idle { IsIdle self.old.core → IsIdle self.new.core }
     {
-        match self.plan_arrive(port, &parcel, now)? {
+        let header = self.header_on(port, parcel);
+        match self.plan_arrive(port, parcel, &header, now)? {
             Plan::Own => {
                 self.core.set_time(now);
-                Ok(Answer::Own)
+                Ok(None)
             }
             Plan::Pass {
-                header,
                 wanted,
                 outlets,
                 spot,
             } => {
-                let said = said_by(&parcel);
-                self.pass(port, parcel, &header, now, wanted, outlets, spot, said)?;
-                Ok(Answer::Passed(outlets))
+                match said_by(parcel) {
+                    None => self.pass(port, parcel, &header, now, wanted, outlets, spot, None)?,
+                    said => {
+                        self.pass_said(port, parcel, &header, now, wanted, outlets, spot, said)?
+                    }
+                }
+                Ok(Some(outlets))
             }
         }
     }

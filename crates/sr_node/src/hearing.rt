@@ -108,11 +108,14 @@ impl<R: Role> NodeOf<R> {
         }
     }
 
-    /// What a frame from this port makes known that is wanted there and says this.
+    /// What a frame from this port makes known that is wanted there and says this. The entry of its source is looked for at the
+    /// spot of its record first: as a rule both tables met their addresses in one order.
+    #[inline(always)]
     pub(crate) fn heard_in(
         &self,
         port: Port,
         header: &Header,
+        spot: Option<Spot>,
         wanted: Outlets,
         said: Option<Supervision>,
         now: u64,
@@ -128,7 +131,7 @@ impl<R: Role> NodeOf<R> {
     {
         let number = self.number_heard(port, header, wanted, now);
         let source = match number {
-            Some(_) => self.core.nodes().find(header.src),
+            Some(_) => self.core.nodes().find_at(spot, header.src),
             None => None,
         };
         let Some(said) = self.announced(port, header, said) else {
@@ -142,7 +145,7 @@ impl<R: Role> NodeOf<R> {
         let told = if said.mac == header.src && number.is_some() {
             source
         } else {
-            self.core.nodes().find(said.mac)
+            self.core.nodes().find_at(None, said.mac)
         };
         Heard {
             number,

@@ -8,6 +8,7 @@ ghost use Rattle.sr_node.specs.Images.{shown, node_state, begun, time_at, IsIdle
 ghost use Rattle.sr_node.specs.Taking.{Took};
 ghost use Rattle.sr_node.specs.Steps.{Step, IsTake, refusal_of};
 
+use crate::arriving::arrival_answer;
 use crate::{Answer, Core, Event, StepFault};
 use sr_forwarding::{Parcel, Role, RoleKind};
 use sr_frame::{Mac, NoMemory, Port};
@@ -66,7 +67,9 @@ impl<R: Role> NodeOf<R> {
         match event {
             Event::Arrive { port, parcel, now } => {
                 let at = self.core.time_at(*now);
-                self.take_in(*port, parcel.view(), at)
+                let mut view = parcel.view();
+                let outlets = self.take_in(*port, &mut view, at)?;
+                Ok(arrival_answer(outlets))
             }
             Event::Send { frame, now } => {
                 let at = self.core.time_at(*now);

@@ -100,7 +100,9 @@ impl Outbox {
         requires { IsSome copy.old → length self.old < 256 }
         ensures { self.new ≡ with_copy self.old copy.old }
     {
-        if let Some(parcel) = copy.take() {
+        if copy.is_some()
+            && let Some(parcel) = copy.take()
+        {
             self.queue.push_back_reserved(parcel);
         }
     }

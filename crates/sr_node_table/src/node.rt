@@ -64,38 +64,26 @@ fn later(time: Option<u64>, now: u64) -> u64
     }
 }
 
-// The port after a hearing there.
-fn heard_at(port: AtPort, told: Told, now: u64) -> AtPort
-    ensures { result ≡ port_after port told now }
+// Takes a hearing at a port up.
+fn hear_at(port: &mut AtPort, told: Told, now: u64)
+    ensures { port.new ≡ port_after port.old told now }
 {
-    AtPort {
-        time: Some(later(port.time, now)),
-        seq: match told {
-            Told::Numbered(seq) => seq.0,
-            Told::Announces(_) => port.seq,
-        },
+    port.time = Some(later(port.time, now));
+    if let Told::Numbered(seq) = told {
+        port.seq = seq.0;
     }
 }
 
-// The node after a hearing.
-fn heard(node: Node, port: Port, told: Told, now: u64) -> Node
-    ensures { result ≡ node_after node port told now }
+// Takes a hearing of a node up.
+fn hear_node(node: &mut Node, port: Port, told: Told, now: u64)
+    ensures { node.new ≡ node_after node.old port told now }
 {
-    let announced = match told {
-        Told::Numbered(_) => node.announced,
-        Told::Announces(announced) => Some(announced),
-    };
     match port {
-        Port::A => Node {
-            a: heard_at(node.a, told, now),
-            b: node.b,
-            announced,
-        },
-        _ => Node {
-            a: node.a,
-            b: heard_at(node.b, told, now),
-            announced,
-        },
+        Port::A => hear_at(&mut node.a, told, now),
+        _ => hear_at(&mut node.b, told, now),
+    }
+    if let Told::Announces(announced) = told {
+        node.announced = Some(announced);
     }
 }
 
@@ -103,7 +91,9 @@ fn heard(node: Node, port: Port, told: Told, now: u64) -> Node
 pub(crate) fn begun(port: Port, told: Told, now: u64) -> Node
     ensures { result ≡ begun_by port told now }
 {
-    heard(UNHEARD, port, told, now)
+    let mut node = UNHEARD;
+    hear_node(&mut node, port, told, now);
+    node
 }
 
 /// Whether the node is not forgotten.
@@ -120,7 +110,7 @@ pub(crate) fn hear(entry: &mut Aged<Node>, port: Port, told: Told, now: u64) -> 
 {
     if is_live(entry, now) {
         entry.time = entry.time.max(now);
-        entry.value = heard(entry.value, port, told, now);
+        hear_node(&mut entry.value, port, told, now);
         Learnt::Known
     } else {
         entry.time = now;

@@ -207,12 +207,13 @@ impl NodeTable {
         }
     }
 
-    /// Where the entry of a node is, forgotten or not, for the calls that look there first.
+    /// Where the entry of a node is, forgotten or not, for the calls that look there first. It is looked for at a spot first,
+    /// which may be that of another table: where both meet new addresses in one order, it is the same.
     #[inline(always)]
-    pub fn find(&self, mac: Mac) -> Option<Spot>
+    pub fn find_at(&self, spot: Option<Spot>, mac: Mac) -> Option<Spot>
         ensures { is_some result ≡ is_some (lookup (mac_eq mac) self.now.table.entries) }
     {
-        let (spot, _entry) = self.nodes.find(mac)?;
+        let (spot, _entry) = self.nodes.find_at(spot, mac)?;
         Some(spot)
     }
 

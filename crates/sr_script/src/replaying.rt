@@ -4,20 +4,21 @@ use crate::answering::answer;
 use crate::fault::Word;
 use crate::session::Session;
 use crate::setups::RoleName;
-use sr_node::Node;
+use sr_forwarding::Role;
+use sr_node::NodeOf;
 use std::alloc::Global;
 
 /// A node at work on a script.
 #[derive(Drop)]
-pub(crate) struct NodeSession {
+pub(crate) struct NodeSession<P: Role + Send> {
     pub(crate) alloc: Global,
     pub(crate) role: RoleName,
-    pub(crate) node: Node,
+    pub(crate) node: NodeOf<P>,
     // The octets of a line, in a list that is used again.
     pub(crate) octets: Vec<u8>,
 }
 
-impl Session for NodeSession {
+impl<P: Role + Send> Session for NodeSession<P> {
     ghost use Rattle.sr_node.specs.Images.{node_state};
     ghost use Rattle.sr_script.specs.Stations.{Station};
     ghost use Rattle.sr_script.specs.Replies.{replay_dialogue};
@@ -26,7 +27,7 @@ impl Session for NodeSession {
 
     ghost state = { λ s. record {
       role = s.role;
-      node = node_state ((Role-box s.node.role).meaning s.node.role.value) s.node.core;
+      node = node_state (P.meaning s.node.role) s.node.core;
     } };
 
     ghost dialogue = { replay_dialogue };

@@ -16,7 +16,7 @@ use crate::running::run_session;
 use crate::setups::{Report, RoleName, Setup};
 use crate::status::StatusSession;
 use sr_forwarding::{Danh, Danp, Role};
-use sr_node::Node;
+use sr_node::NodeOf;
 use sr_redbox::{HsrBox, HsrRouting, PrpBox, SanBox};
 use std::alloc::{AllocError, Global};
 use std::io::{BufRead, Write};
@@ -36,16 +36,16 @@ pub fn line_list(alloc: Global) -> Result<Vec<u8>, AllocError>
     Ok(line)
 }
 
-/// Has a new node over this role obey the script.
-fn run_over<R: BufRead, W: Write>(
+/// Has a new node over this role obey the script. It is compiled for each role, so that no frame asks which role it is.
+fn run_over<P: Role + Send, R: BufRead, W: Write>(
     alloc: Global,
     setup: &Setup,
-    role: Box<dyn Role + Send>,
+    role: P,
     report: Report,
     reader: &mut R,
     writer: &mut W,
 ) -> Result<(), Fault>
-    requires { meaning role ≡ role_of (kind_of setup.now.role) setup.now.mac }
+    requires { P.meaning role ≡ role_of (kind_of setup.now.role) setup.now.mac }
     ensures done { OnOk result (IfSome (R.remaining reader.old) (λ input.
         IsAnswered (dialogue_of report)
         (start_of setup.now) (lines_of input) (W.contents writer.old) (W.contents writer.new))) }
@@ -59,7 +59,7 @@ fn run_over<R: BufRead, W: Write>(
     let Ok(mut line) = line_list(alloc) else {
         return Err(NOT_BEGUN);
     };
-    let Ok(node) = Node::with_keys(alloc, role, setup.keys) else {
+    let Ok(node) = NodeOf::with_keys(alloc, role, setup.keys) else {
         return Err(NOT_BEGUN);
     };
     let mut session = NodeSession {
@@ -98,39 +98,24 @@ fn run_reported<R: BufRead, W: Write>(
 {
     match setup.role {
         RoleName::Danp => {
-            let Ok(danp) = Box::new(alloc, Danp::new(setup.mac)) else {
-                return Err(NOT_BEGUN);
-            };
-            let role: Box<dyn Role + Send> = danp;
-            run_over(alloc, setup, role, report, reader, writer)
+            let danp = Danp::new(setup.mac);
+            run_over(alloc, setup, danp, report, reader, writer)
         }
         RoleName::Danh => {
-            let Ok(danh) = Box::new(alloc, Danh::new(setup.mac)) else {
-                return Err(NOT_BEGUN);
-            };
-            let role: Box<dyn Role + Send> = danh;
-            run_over(alloc, setup, role, report, reader, writer)
+            let danh = Danh::new(setup.mac);
+            run_over(alloc, setup, danh, report, reader, writer)
         }
         RoleName::San => {
-            let Ok(san) = Box::new(alloc, SanBox::with_keys(alloc, setup.mac, setup.keys)) else {
-                return Err(NOT_BEGUN);
-            };
-            let role: Box<dyn Role + Send> = san;
-            run_over(alloc, setup, role, report, reader, writer)
+            let san = SanBox::with_keys(alloc, setup.mac, setup.keys);
+            run_over(alloc, setup, san, report, reader, writer)
         }
         RoleName::Prp(routing) => {
-            let Ok(prp) = Box::new(alloc, PrpBox::of(setup.mac, routing)) else {
-                return Err(NOT_BEGUN);
-            };
-            let role: Box<dyn Role + Send> = prp;
-            run_over(alloc, setup, role, report, reader, writer)
+            let prp = PrpBox::of(setup.mac, routing);
+            run_over(alloc, setup, prp, report, reader, writer)
         }
         RoleName::Hsr => {
-            let Ok(hsr) = Box::new(alloc, HsrBox::of(setup.mac, HsrRouting)) else {
-                return Err(NOT_BEGUN);
-            };
-            let role: Box<dyn Role + Send> = hsr;
-            run_over(alloc, setup, role, report, reader, writer)
+            let hsr = HsrBox::of(setup.mac, HsrRouting);
+            run_over(alloc, setup, hsr, report, reader, writer)
         }
     }
 }

@@ -5,12 +5,13 @@ use crate::noting::note;
 use crate::replaying::NodeSession;
 use crate::session::Session;
 use crate::status_lines::tell_status;
+use sr_forwarding::Role;
 
 /// A node at work on a script, whose frames are not printed.
 #[derive(Drop)]
-pub(crate) struct StatusSession(pub(crate) NodeSession);
+pub(crate) struct StatusSession<P: Role + Send>(pub(crate) NodeSession<P>);
 
-impl Session for StatusSession {
+impl<P: Role + Send> Session for StatusSession<P> {
     ghost use Rattle.sr_node.specs.Images.{node_state};
     ghost use Rattle.sr_script.specs.Stations.{Station};
     ghost use Rattle.sr_script.specs.Statuses.{status_dialogue};
@@ -19,7 +20,7 @@ impl Session for StatusSession {
 
     ghost state = { λ s. record {
       role = s.0.role;
-      node = node_state ((Role-box s.0.node.role).meaning s.0.node.role.value) s.0.node.core;
+      node = node_state (P.meaning s.0.node.role) s.0.node.core;
     } };
 
     ghost dialogue = { status_dialogue };

@@ -94,6 +94,16 @@ impl<V: Drop + Ranked> Slots<V> {
         Some((Spot { index }, value))
     }
 
+    /// The value at an address, which is looked for at a spot first, and where it is.
+    #[inline(always)]
+    pub fn find_at(&self, spot: Option<Spot>, key: Mac) -> Option<(Spot, &V)>
+        ensures { option_map (λ found. found.1.now) result ≡ value_at self.now key }
+    {
+        let first = spot.map(|spot| spot.index);
+        let (index, value) = places::find_at(&self.map, first, key)?;
+        Some((Spot { index }, value))
+    }
+
     /// The value at an address, which is looked for at a spot first.
     pub fn get_at(&self, spot: Option<Spot>, key: Mac) -> Option<&V>
         ensures { option_copied result ≡ value_at self.now key }

@@ -86,6 +86,22 @@ fn index_of<V: Drop + Ranked>(
     sought(map, key)
 }
 
+/// The value at an address, whose place is looked for at an index first, and the index of that place.
+#[inline(always)]
+pub fn find_at<V: Drop + Ranked>(
+    map: &IndexMap<Mac, Slot<V>, Keys>,
+    first: Option<usize>,
+    key: Mac,
+) -> Option<(usize, &V)>
+    ensures { option_map (λ found. found.1.now) result
+        ≡ lookup (mac_eq key) (entries_of map.now.entries) }
+{
+    let _places = map.len();
+    let index = index_of(map, first, key)?;
+    let (_, slot) = map.get_index(index)?;
+    Some((index, slot.value.get()?))
+}
+
 /// The value at an address, whose place is looked for at an index first.
 pub fn value_at<V: Drop + Ranked>(
     map: &IndexMap<Mac, Slot<V>, Keys>,
@@ -94,10 +110,8 @@ pub fn value_at<V: Drop + Ranked>(
 ) -> Option<&V>
     ensures { option_copied result ≡ lookup (mac_eq key) (entries_of map.now.entries) }
 {
-    let _places = map.len();
-    let index = index_of(map, first, key)?;
-    let (_, slot) = map.get_index(index)?;
-    slot.value.get()
+    let (_, value) = find_at(map, first, key)?;
+    Some(value)
 }
 
 /// Changes the value at an address in its place, which is looked for at an index first. With the answer it says whether a held place was used up.

@@ -23,7 +23,7 @@ returns-in-Err-clause-ok g c =
     loses t s a.port a.octets c.args.now c.in-Err.fault c.refused.result _ _ _ refused c.in-Err.ensures.same c.in_ok-reserve.ensures.items c.refused.ensures.ok
 
 pub take_out-a-requires-clause-few : goal.take_out-a-requires-clause-few
-take_out-a-requires-clause-few g c κs within =
+take_out-a-requires-clause-few g c =
     let s = node_state (g.R.Role.meaning c.args.node.now.role) c.args.node.now.core in
     let o = c.in_default.ensures.ok in
     arrived_few s c.args.arriving.now.port o.0 (time_at s c.args.now) c.in_default.field-0 (node_state (g.R.Role.meaning c.arrive.new.node.role) c.arrive.new.node.core) c.requires o.3

@@ -10,8 +10,8 @@ use Rattle.sr_plant.proofs.ActLemmas.{each_at, at_map, or_map, acted_is}
 use Rattle.sr_plant.proofs.OrderLemmas.{acts_in_order}
 use Rattle.sr_plant.proofs.plant.PlantOf.act.Goals as goal
 
-pub step_out-requires-after_bounds : goal.step_out-requires-after_bounds
-step_out-requires-after_bounds g c = λ κs at.
+pub step_out-requires : goal.step_out-requires
+step_out-requires g c =
     each_at IsEmptied (λ n. node_state (g.R.Role.meaning n.role) n.core) c.args.self.now.nodes.items c.args.node c.index_mut.result.now c.index_mut.ensures.value c.requires.there c.requires.in_order.emptied
 
 pub returns-in_err-given-clause-err : goal.returns-in_err-given-clause-err

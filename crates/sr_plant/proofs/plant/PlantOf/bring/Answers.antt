@@ -10,8 +10,8 @@ use Rattle.sr_plant.proofs.ActLemmas.{each_at, at_map, or_map, acted_is}
 use Rattle.sr_plant.proofs.CarryLemmas.{copy_within, receiver_within, carry_fails, taken_comes, taken_in_order, lost_goes, lost_in_order}
 use Rattle.sr_plant.proofs.plant.PlantOf.bring.Goals as goal
 
-pub arrive_out-requires-after_bounds : goal.arrive_out-requires-after_bounds
-arrive_out-requires-after_bounds g c = λ κs at.
+pub arrive_out-requires : goal.arrive_out-requires
+arrive_out-requires g c =
     let p = c.args.self.now in
     let s = plant_of p.topology (map (λ n. node_state (g.R.Role.meaning n.role) n.core) p.nodes.items) p.traffic (map (λ h. h.items) p.handed.items) in
     let within = receiver_within s c.args.place c.args.arriving.now c.requires.in_order c.requires.there in

@@ -19,6 +19,6 @@ returns-in_default-clause-step g c =
     none_goes s c.args.place t (subst (λ (o : Option Arriving). OneComesAs p.topology p.traffic.flight.copies c.args.place o) c.in_default.is c.in_ok-arriving.ensures) plant
 
 pub bring-requires-clause-there : goal.bring-requires-clause-there
-bring-requires-clause-there g c = λ κs at.
+bring-requires-clause-there g c =
     let p = c.args.self.now in
     subst (λ (o : Option Arriving). OneComesAs p.topology p.traffic.flight.copies c.args.place o) c.in-Some.is c.in_ok-arriving.ensures
