@@ -100,6 +100,7 @@ impl Outbox {
         requires { IsSome copy.old → length self.old < 256 }
         ensures { self.new ≡ with_copy self.old copy.old }
     {
+        // It is asked first, so that nothing is moved where there is none.
         if copy.is_some()
             && let Some(parcel) = copy.take()
         {
