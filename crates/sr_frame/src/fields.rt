@@ -1,6 +1,7 @@
 //! Addresses, and the fields of a frame.
 
-ghost use Rattle.std.specs.Prelude.{◌≡◌, ◌/◌, ◌%◌, IsTrue, ◌↔◌, length, slice_index};
+ghost use Rattle.std.specs.Prelude.{◌≡◌, ◌/◌, ◌%◌, IsTrue, ◌↔◌, length, slice_index, take, drop};
+ghost use Rattle.std.specs.Int.{w16, w32, from_le_bytes, to_le_bytes};
 ghost use Rattle.sr_frame.specs.Frame.{Fields, IsLegal};
 
 /// The most octets of a frame: 1518 of Ethernet, and 6 of a tag or trailer (IEC 62439-3, choice of this project).
@@ -24,6 +25,22 @@ pub const VLAN_KIND: u16 = 0x8100;
 #[derive(Clone, Copy, Debug, PartialOrd, Ord)]
 pub struct Mac(pub [u8; 6]);
 
+// The first four octets as a number.
+fn front(octets: [u8; 6]) -> u32
+    ensures value { result ≡ from_le_bytes w32 (take 4 octets) }
+    ensures spelled { to_le_bytes w32 result ≡ take 4 octets }
+{
+    u32::from_le_bytes([octets[0], octets[1], octets[2], octets[3]])
+}
+
+// The last two octets as a number.
+fn back(octets: [u8; 6]) -> u16
+    ensures value { result ≡ from_le_bytes w16 (drop 4 octets) }
+    ensures spelled { to_le_bytes w16 result ≡ drop 4 octets }
+{
+    u16::from_le_bytes([octets[4], octets[5]])
+}
+
 impl PartialEq for Mac {
     ghost use Rattle.std.specs.Cmp.Rules.{comparing};
     ghost use Rattle.std.proofs.Common.{rules};
@@ -33,15 +50,10 @@ impl PartialEq for Mac {
 
     ghost laws = { Prim.search (comparing, rules) };
 
-    // Without a branch: six compares cost less than a walk that stops at the first octet that differs.
+    // As two numbers: a walk over the octets would ask six questions.
+    #[inline(always)]
     fn eq(&self, other: &Mac) -> bool {
-        let (a, b) = (self.0, other.0);
-        (a[0] == b[0])
-            & (a[1] == b[1])
-            & (a[2] == b[2])
-            & (a[3] == b[3])
-            & (a[4] == b[4])
-            & (a[5] == b[5])
+        (front(self.0) == front(other.0)) & (back(self.0) == back(other.0))
     }
 }
 

@@ -1,6 +1,6 @@
 //! Octets written as hexadecimal digits, sixteen octets at a time.
 
-ghost use Rattle.std.specs.Prelude.{◌≡◌, ◌+◌, ◌*◌, ◌≤◌, ◌<◌, ◌++◌, length, OnOk, slice_index, ◌^◌};
+ghost use Rattle.std.specs.Prelude.{◌≡◌, ◌+◌, ◌*◌, ◌≤◌, ◌<◌, ◌++◌, length, OnOk, OnErr, slice_index, ◌^◌};
 ghost use Rattle.hex.specs.Hex.{encode_lower, lower_digits};
 ghost use Rattle.sr_hex.specs.Values.{AreWritten, AreKept};
 
@@ -79,7 +79,8 @@ fn write_pairs(octets: &[u8], digits: &mut [u8])
 /// Appends octets as hexadecimal digits of lower case, two each.
 pub fn append_hex(text: &mut Vec<u8>, octets: &[u8]) -> Result<(), AllocError>
     requires { length octets.now < 2 ^ 32 }
-    ensures { OnOk result (text.new.items ≡ text.old.items ++ encode_lower octets.now) }
+    ensures ok { OnOk result (text.new.items ≡ text.old.items ++ encode_lower octets.now) }
+    ensures same { OnErr result (text.new.items ≡ text.old.items) }
 {
     let start = text.len();
     text.resize(start + 2 * octets.len(), 0)?;

@@ -326,33 +326,6 @@ impl<R: Role> NodeOf<R> {
         Ok(())
     }
 
-    // The same for a frame that says something. It stands apart, so that what is said takes no room where nothing is.
-    #[inline(never)]
-    fn pass_said(
-        &mut self,
-        port: Port,
-        parcel: &mut ParcelView<'_>,
-        header: &Header,
-        now: u64,
-        wanted: Outlets,
-        outlets: Outlets,
-        spot: Option<Spot>,
-        said: Option<Supervision>,
-    ) -> Result<(), NoMemory>
-        requires passing { IsPassing (node_state (R.meaning self.old.role) self.old.core) port
-            parcel.old now header.now wanted outlets }
-        requires spot { IsFound spot self.old.core.table.sources header.now.src }
-        ensures ok { OnOk result (node_state (R.meaning self.new.role) self.new.core
-            ≡ passed (node_state (R.meaning self.old.role) self.old.core) port
-            (going_on (node_state (R.meaning self.old.role) self.old.core) port parcel.old)
-            (next_at self.old.core.next port parcel.old) now outlets said) }
-        ensures err { OnErr result (node_state (R.meaning self.new.role) self.new.core
-            ≡ node_state (R.meaning self.old.role) self.old.core) }
-        ensures idle { IsIdle self.old.core → IsIdle self.new.core }
-    {
-        self.pass(port, parcel, header, now, wanted, outlets, spot, said)
-    }
-
     /// Octets come in at a port, in the framing of the port: what decoding them, and then `step`, would answer, and
     /// with no more memory than for the copies that go out.
     #[inline(always)]
@@ -409,11 +382,10 @@ impl<R: Role> NodeOf<R> {
                 outlets,
                 spot,
             } => {
+                // The call stands twice, so that what is said takes no room where nothing is.
                 match said_by(parcel) {
                     None => self.pass(port, parcel, &header, now, wanted, outlets, spot, None)?,
-                    said => {
-                        self.pass_said(port, parcel, &header, now, wanted, outlets, spot, said)?
-                    }
+                    said => self.pass(port, parcel, &header, now, wanted, outlets, spot, said)?,
                 }
                 Ok(Some(outlets))
             }

@@ -21,6 +21,8 @@ struct PlantSession {
     network: Network,
     // The octets of a line, and then of frames that are handed up, in a list that is used again.
     octets: Vec<u8>,
+    // What is printed for a line, in a list that is used again.
+    printed: Vec<u8>,
 }
 
 impl Session for PlantSession {
@@ -34,14 +36,17 @@ impl Session for PlantSession {
     ghost dialogue = { plant_dialogue };
 
     fn answer(&mut self, number: u64, line: &[u8], text: &mut Vec<u8>) -> Result<(), Word> {
+        self.printed.clear();
         answer(
             self.alloc,
             &mut self.network,
             number,
             line,
             &mut self.octets,
-            text,
-        )
+            &mut self.printed,
+        )?;
+        text.extend_from_slice(&self.printed)?;
+        Ok(())
     }
 
     fn finish(&mut self, text: &mut Vec<u8>) -> Result<(), Word> {
@@ -88,7 +93,7 @@ pub fn run_plant<R: BufRead, W: Write>(
         alloc,
         network,
         octets: Vec::new(alloc),
+        printed: Vec::new(alloc),
     };
-    let mut text = Vec::new(alloc);
-    run_session(alloc, &mut session, &mut line, &mut text, reader, writer)
+    run_session(alloc, &mut session, &mut line, reader, writer)
 }

@@ -1,3 +1,4 @@
+pub mod Beginnings
 pub mod Places
 pub mod Pieces
 pub mod Digits

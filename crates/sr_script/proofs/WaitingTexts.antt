@@ -473,3 +473,9 @@ waits_kept {S} d s t k place lines text later marks more h e f =
 pub fill_within : {E : Type 0} (old : Option (List ℕ)) (limit : Option ℕ) (r : Result (Bor (List ℕ)) E) (s : Bor (List ℕ)) → r ≡ Ok s
     → IfSome old (λ _. IfOk r (λ b. IfSome limit (λ n. length b.now ≤ n))) → IfSome old (λ _. IfSome limit (λ n. length s.now ≤ n))
 fill_within {E} old limit r s e h = subst (λ (v : Result (Bor (List ℕ)) E). IfSome old (λ _. IfOk v (λ b. IfSome limit (λ n. length b.now ≤ n)))) e h
+
+-- a line with a text has a mark
+pub marked_there : (number end : ℕ) (text : List ℕ) → 0 < length text
+    → marked number end text [] ≡ record { line = number; end = end } ∷ []
+marked_there number end [] some = absurd (omega (arith, some))
+marked_there number end (b ∷ bs) some = refl

@@ -1,6 +1,10 @@
 -- Octets of a text.
 use Rattle.std.specs.Prelude.{◌≡◌, ◌≢◌, ◌<◌, ◌+◌, ℕ, List, [], ◌∷◌, ◌++◌, length, take, Option, None, Some}
 
+-- a text that begins with another
+abbrev pub Begins : List ℕ → List ℕ → Type 0
+Begins front text = (behind : List ℕ) × (text ≡ front ++ behind)
+
 -- no octet is this one
 abbrev pub Lacks : ℕ → List ℕ → Type 0
 Lacks octet [] = Unit {0}

@@ -8,6 +8,7 @@ ghost use Rattle.sr_node.specs.Images.{node_state};
 ghost use Rattle.sr_node.specs.Octets.{OctetsArrived, OctetsRefused};
 ghost use Rattle.sr_node.specs.Steps.{Step, refusal_of};
 ghost use Rattle.sr_script.specs.Lines.{IsOneOf};
+ghost use Rattle.sr_script.specs.Octets.{Begins};
 ghost use Rattle.sr_script.specs.Commands.{IsEventLine};
 ghost use Rattle.sr_script.specs.Stations.{framing_of};
 ghost use Rattle.sr_script.specs.Texts.{name_of, refusal_line};
@@ -43,7 +44,8 @@ pub fn name_of(fault: StepFault) -> Option<&'static str>
 /// Appends the line for an event that is refused, or as much of it as there is memory for.
 #[inline(always)]
 fn append_refused(text: &mut Vec<u8>, number: u64, name: &str) -> Result<(), AllocError>
-    ensures { OnOk result (text.new.items ≡ text.old.items ++ refusal_line number name.now) }
+    ensures ok { OnOk result (text.new.items ≡ text.old.items ++ refusal_line number name.now) }
+    ensures kept { OnErr result (Begins text.old.items text.new.items) }
 {
     let mut digits = Buffer::new();
     text.extend_from_slice(b"refused ")?;
@@ -57,9 +59,10 @@ fn append_refused(text: &mut Vec<u8>, number: u64, name: &str) -> Result<(), All
 /// Appends the line for an event that is refused.
 ///
 /// # Errors
-/// `Memory`.
+/// `Memory`: the list then has a part of the line, or nothing of it.
 pub fn append_refusal(text: &mut Vec<u8>, number: u64, name: &str) -> Result<(), Word>
     ensures ok { OnOk result (text.new.items ≡ text.old.items ++ refusal_line number name.now) }
+    ensures kept { OnErr result (Begins text.old.items text.new.items) }
     ensures err { IfErr result (λ word. word ≡ Word.Memory) }
 {
     append_refused(text, number, name)?;
@@ -114,9 +117,9 @@ fn send<R: Role>(
 
 /// Appends the line for an event that is refused for this reason.
 fn tell_refusal(text: &mut Vec<u8>, number: u64, fault: StepFault) -> Result<(), Word>
-    requires { text.old.items ≡ [] }
     ensures ok { OnOk result ((name : List ℕ) × (name_of fault ≡ Some name)
-        × (text.new.items ≡ refusal_line number name)) }
+        × (text.new.items ≡ text.old.items ++ refusal_line number name)) }
+    ensures kept { OnErr result (Begins text.old.items text.new.items) }
     ensures err { IfErr result (λ word. word ≡ Word.Memory) }
 {
     match name_of(fault) {
@@ -135,10 +138,11 @@ pub(crate) fn obey<R: Role>(
     octets: &mut Vec<u8>,
     text: &mut Vec<u8>,
 ) -> Result<(), Word>
-    requires { text.old.items ≡ [] }
-    ensures ok { OnOk result (Obeys role (node_state (R.meaning node.old.role) node.old.core) number
-        command octets.old.items
-        text.new.items (node_state (R.meaning node.new.role) node.new.core)) }
+    ensures ok { OnOk result ((told : List ℕ)
+        × Obeys role (node_state (R.meaning node.old.role) node.old.core) number
+        command octets.old.items told (node_state (R.meaning node.new.role) node.new.core)
+        × (text.new.items ≡ text.old.items ++ told)) }
+    ensures kept { OnErr result (Begins text.old.items text.new.items) }
     ensures err { IfErr result (λ word. word ≡ Word.Memory) }
 {
     match command {
@@ -158,7 +162,7 @@ pub(crate) fn obey<R: Role>(
     }
 }
 
-/// Has the node obey a line, then takes all that waits. `text` is then what to print for it.
+/// Has the node obey a line, then takes all that waits, and appends what to print for it.
 ///
 /// # Errors
 /// `Line` where the line is none of a script, whatever memory there is; `Memory`.
@@ -171,10 +175,11 @@ pub(crate) fn answer<R: Role>(
     octets: &mut Vec<u8>,
     text: &mut Vec<u8>,
 ) -> Result<(), Word>
-    requires { text.old.items ≡ [] }
-    ensures ok { OnOk result
-        (Replied role (node_state (R.meaning node.old.role) node.old.core) number line.now
-        text.new.items (node_state (R.meaning node.new.role) node.new.core)) }
+    ensures ok { OnOk result ((answer : List ℕ)
+        × Replied role (node_state (R.meaning node.old.role) node.old.core) number line.now
+        answer (node_state (R.meaning node.new.role) node.new.core)
+        × (text.new.items ≡ text.old.items ++ answer)) }
+    ensures kept { OnErr result (Begins text.old.items text.new.items) }
     ensures known { OnOk result (IsEventLine role line.now) }
     ensures bad { result ≡ Err Word.Line → IsEventLine role line.now → ⊥ }
     ensures memory { result ≡ Err Word.Memory → IsEventLine role line.now }

@@ -26,6 +26,7 @@ impl Framing for Carrier {
 
     ghost meaning = { carried };
 
+    #[inline(always)]
     fn read<'a>(&self, octets: &'a [u8]) -> Result<ParcelView<'a>, ReadFault> {
         match self {
             Carrier::Plain(framing) => framing.read(octets),

@@ -9,7 +9,25 @@ ghost use Rattle.hex.specs.Hex.{is_hex_digit};
 use crate::fault::Word;
 use sr_hex::are_digits;
 
-/// Gives a list so many octets. Where it has to grow, the digits are looked at first.
+/// Gives a list more octets than it has. Where memory has to grow for them, the digits are looked at first. It stands apart,
+/// so that octets that are no more than those of the line before cost no call.
+#[inline(never)]
+fn lengthen(digits: &[u8], octets: &mut Vec<u8>, count: usize) -> Result<(), Word>
+    ensures ok { OnOk result (length octets.new.items ≡ count) }
+    ensures bad { result ≡ Err Word.Line → AllPass is_hex_digit digits.now → ⊥ }
+    ensures memory { result ≡ Err Word.Memory → AllPass is_hex_digit digits.now }
+    ensures fault { IfErr result (λ word. IsOneOf word (Word.Line ∷ Word.Memory ∷ [])) }
+{
+    if octets.capacity() < count && !are_digits(digits) {
+        return Err(Word::Line);
+    }
+    match octets.resize(count, 0) {
+        Ok(()) => Ok(()),
+        Err(_) => Err(Word::Memory),
+    }
+}
+
+/// Gives a list so many octets.
 #[inline(always)]
 fn make_room(digits: &[u8], octets: &mut Vec<u8>, count: usize) -> Result<(), Word>
     ensures ok { OnOk result (length octets.new.items ≡ count) }
@@ -17,17 +35,11 @@ fn make_room(digits: &[u8], octets: &mut Vec<u8>, count: usize) -> Result<(), Wo
     ensures memory { result ≡ Err Word.Memory → AllPass is_hex_digit digits.now }
     ensures fault { IfErr result (λ word. IsOneOf word (Word.Line ∷ Word.Memory ∷ [])) }
 {
-    if octets.capacity() >= count {
-        octets.resize(count, 0).unwrap();
-        return Ok(());
+    if octets.len() < count {
+        return lengthen(digits, octets, count);
     }
-    if !are_digits(digits) {
-        return Err(Word::Line);
-    }
-    match octets.resize(count, 0) {
-        Ok(()) => Ok(()),
-        Err(_) => Err(Word::Memory),
-    }
+    octets.truncate(count);
+    Ok(())
 }
 
 /// Reads hexadecimal digits of either case, two an octet, into `octets`, in place of what it held.

@@ -1,9 +1,10 @@
 //! What a node does with a line where nothing that goes out is printed.
 
-ghost use Rattle.std.specs.Prelude.{◌≡◌, ◌∷◌, [], IfErr, OnOk, Err};
+ghost use Rattle.std.specs.Prelude.{◌≡◌, ◌∷◌, [], ◌++◌, ℕ, List, IfErr, OnOk, OnErr, Err};
 ghost use Rattle.sr_node.specs.Images.{node_state};
 ghost use Rattle.sr_script.specs.Commands.{IsEventLine};
 ghost use Rattle.sr_script.specs.Lines.{IsOneOf};
+ghost use Rattle.sr_script.specs.Octets.{Begins};
 ghost use Rattle.sr_script.specs.Replies.{emptied};
 ghost use Rattle.sr_script.specs.Statuses.{Noted, all_taken};
 
@@ -50,10 +51,11 @@ pub(crate) fn note<R: Role>(
     octets: &mut Vec<u8>,
     text: &mut Vec<u8>,
 ) -> Result<(), Word>
-    requires { text.old.items ≡ [] }
-    ensures ok { OnOk result
-        (Noted role (node_state (R.meaning node.old.role) node.old.core) number line.now
-        text.new.items (node_state (R.meaning node.new.role) node.new.core)) }
+    ensures ok { OnOk result ((answer : List ℕ)
+        × Noted role (node_state (R.meaning node.old.role) node.old.core) number line.now
+        answer (node_state (R.meaning node.new.role) node.new.core)
+        × (text.new.items ≡ text.old.items ++ answer)) }
+    ensures kept { OnErr result (Begins text.old.items text.new.items) }
     ensures known { OnOk result (IsEventLine role line.now) }
     ensures bad { result ≡ Err Word.Line → IsEventLine role line.now → ⊥ }
     ensures memory { result ≡ Err Word.Memory → IsEventLine role line.now }

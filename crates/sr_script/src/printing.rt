@@ -1,11 +1,12 @@
 //! What a node puts out, as text.
 
-ghost use Rattle.std.specs.Prelude.{◌≡◌, ◌++◌, ◌∷◌, [], ◌≤◌, ℕ, List, length, OnOk, IfErr, IfSome};
+ghost use Rattle.std.specs.Prelude.{◌≡◌, ◌++◌, ◌∷◌, [], ◌≤◌, ℕ, List, length, OnOk, OnErr, IfErr, IfSome};
 ghost use Rattle.hex.specs.Hex.{encode_lower};
 ghost use Rattle.sr_node.specs.Images.{node_state};
 ghost use Rattle.sr_forwarding.specs.Encoding.{IsWritten};
 ghost use Rattle.sr_forwarding.specs.Parcels.{plain_of};
 ghost use Rattle.sr_script.specs.Commands.{letter_of};
+ghost use Rattle.sr_script.specs.Octets.{Begins};
 ghost use Rattle.sr_script.specs.Stations.{framing_of};
 ghost use Rattle.sr_script.specs.Texts.{frame_line, GoesAs, IsLine};
 ghost use Rattle.sr_script.specs.Replies.{FirstLeft, Emptied, AllEmptied};
@@ -36,8 +37,9 @@ pub(crate) fn letter_of(port: Port) -> u8
 #[inline(always)]
 fn append_frame(text: &mut Vec<u8>, port: Port, frame: &[u8]) -> Result<(), AllocError>
     requires { length frame.now ≤ 1524 }
-    ensures { OnOk result (text.new.items ≡ text.old.items
+    ensures ok { OnOk result (text.new.items ≡ text.old.items
         ++ (letter_of port ++ (32 ∷ encode_lower frame.now)) ++ 10 ∷ []) }
+    ensures kept { OnErr result (Begins text.old.items text.new.items) }
 {
     text.extend_from_slice(&[letter_of(port), b' '])?;
     append_hex(text, frame)?;
@@ -132,6 +134,7 @@ fn in_place(role: RoleName, port: Port, parcel: &Parcel) -> Option<&[u8]>
 }
 
 /// Appends the line for a parcel that goes out at a port. The list is used again.
+#[inline(always)]
 fn append_parcel(
     role: RoleName,
     port: Port,
@@ -141,6 +144,7 @@ fn append_parcel(
 ) -> Result<(), Word>
     ensures ok { OnOk result ((line : List ℕ) × IsLine role port parcel.now line
         × (text.new.items ≡ text.old.items ++ line)) }
+    ensures kept { OnErr result (Begins text.old.items text.new.items) }
     ensures err { IfErr result (λ word. word ≡ Word.Memory) }
 {
     if let Some(octets) = in_place(role, port, parcel) {
@@ -166,6 +170,7 @@ fn append_first<R: Role>(
         × FirstLeft role port (node_state (R.meaning node.old.role) node.old.core) line
         (node_state (R.meaning node.new.role) node.new.core)
         × (text.new.items ≡ text.old.items ++ line)) }
+    ensures kept { OnErr result (Begins text.old.items text.new.items) }
     ensures err { IfErr result (λ word. word ≡ Word.Memory) }
 {
     if let Some(parcel) = node.front(port) {
@@ -187,6 +192,7 @@ fn append_waiting<R: Role>(
         × Emptied role port (node_state (R.meaning node.old.role) node.old.core) lines
         (node_state (R.meaning node.new.role) node.new.core)
         × (text.new.items ≡ text.old.items ++ lines)) }
+    ensures kept { OnErr result (Begins text.old.items text.new.items) }
     ensures err { IfErr result (λ word. word ≡ Word.Memory) }
 {
     while node.waiting(port) > 0 {
@@ -206,6 +212,7 @@ pub(crate) fn append_outlets<R: Role>(
         × AllEmptied role (node_state (R.meaning node.old.role) node.old.core) lines
         (node_state (R.meaning node.new.role) node.new.core)
         × (text.new.items ≡ text.old.items ++ lines)) }
+    ensures kept { OnErr result (Begins text.old.items text.new.items) }
     ensures err { IfErr result (λ word. word ≡ Word.Memory) }
 {
     append_waiting(role, node, Port::H, frame, text)?;

@@ -47,7 +47,6 @@ fn obey_line<S: Session>(
     session: &mut S,
     number: u64,
     line: &[u8],
-    text: &mut Vec<u8>,
     waiting: &mut Waiting,
 ) -> Result<(), Word>
     ensures ok { OnOk result (AddsAnswer S.dialogue (S.state session.old) number line.now
@@ -59,10 +58,15 @@ fn obey_line<S: Session>(
     ensures same { OnErr result ((waiting.new.text.items ≡ waiting.old.text.items)
         × (waiting.new.marks.items ≡ waiting.old.marks.items)) }
 {
-    text.clear();
-    session.answer(number, line, text)?;
-    waiting.add(number, text)?;
-    Ok(())
+    let start = waiting.text.len();
+    let answered = match session.answer(number, line, &mut waiting.text) {
+        Ok(()) => waiting.mark(number, start),
+        Err(word) => Err(word),
+    };
+    if answered.is_err() {
+        waiting.text.truncate(start);
+    }
+    answered
 }
 
 /// Has the session obey the whole lines at the front of octets, until enough waits to be written. `first` is the number of
@@ -71,7 +75,6 @@ fn obey_front<S: Session>(
     session: &mut S,
     first: u64,
     octets: &[u8],
-    text: &mut Vec<u8>,
     waiting: &mut Waiting,
 ) -> Front
     requires number { first ≤ 1000001 }
@@ -86,7 +89,7 @@ fn obey_front<S: Session>(
         let Some(line) = line_at(octets, used) else {
             break;
         };
-        if let Err(word) = obey_line(session, next, line, text, waiting) {
+        if let Err(word) = obey_line(session, next, line, waiting) {
             return Front {
                 used,
                 next,
@@ -108,7 +111,6 @@ fn obey_front<S: Session>(
 fn obey_at_hand<S: Session, R: BufRead, W: Write>(
     session: &mut S,
     first: u64,
-    text: &mut Vec<u8>,
     waiting: &mut Waiting,
     reader: &mut R,
     writer: &mut W,
@@ -133,7 +135,7 @@ fn obey_at_hand<S: Session, R: BufRead, W: Write>(
             word: Word::Read,
         });
     };
-    let front = obey_front(session, first, available, text, waiting);
+    let front = obey_front(session, first, available, waiting);
     reader.consume(front.used);
     if let Err(fault) = waiting.send(writer) {
         return Err(fault);
@@ -152,7 +154,6 @@ fn obey_next<S: Session, R: BufRead, W: Write>(
     session: &mut S,
     number: u64,
     line: &mut Vec<u8>,
-    text: &mut Vec<u8>,
     waiting: &mut Waiting,
     reader: &mut R,
     writer: &mut W,
@@ -177,7 +178,7 @@ fn obey_next<S: Session, R: BufRead, W: Write>(
         Ok(false) => return Ok(false),
         Err(word) => return Err(Fault { line: number, word }),
     }
-    if let Err(word) = obey_line(session, number, line, text, waiting) {
+    if let Err(word) = obey_line(session, number, line, waiting) {
         return Err(Fault { line: number, word });
     }
     if let Err(fault) = waiting.send(writer) {
@@ -190,7 +191,6 @@ fn obey_next<S: Session, R: BufRead, W: Write>(
 fn obey_lines<S: Session, R: BufRead, W: Write>(
     session: &mut S,
     line: &mut Vec<u8>,
-    text: &mut Vec<u8>,
     waiting: &mut Waiting,
     reader: &mut R,
     writer: &mut W,
@@ -205,17 +205,17 @@ fn obey_lines<S: Session, R: BufRead, W: Write>(
         EndsAt S.dialogue (S.state session.old) (lines_of input) fault (R.remaining reader.new)
         (W.contents writer.old) (W.contents writer.new))) }
 {
-    let mut number = match obey_at_hand(session, 1, text, waiting, reader, writer) {
+    let mut number = match obey_at_hand(session, 1, waiting, reader, writer) {
         Ok(next) => next,
         Err(fault) => return Err(fault),
     };
     while number <= MAX_LINES {
-        match obey_next(session, number, line, text, waiting, reader, writer) {
+        match obey_next(session, number, line, waiting, reader, writer) {
             Ok(true) => {}
             Ok(false) => return Ok(number),
             Err(fault) => return Err(fault),
         }
-        match obey_at_hand(session, number + 1, text, waiting, reader, writer) {
+        match obey_at_hand(session, number + 1, waiting, reader, writer) {
             Ok(next) => number = next,
             Err(fault) => return Err(fault),
         }
@@ -274,7 +274,7 @@ fn obey_script<S: Session, R: BufRead, W: Write>(
         EndsAt S.dialogue (S.state session.old) (lines_of input) fault (R.remaining reader.new)
         (W.contents writer.old) (W.contents writer.new))) }
 {
-    let number = obey_lines(session, line, text, waiting, reader, writer)?;
+    let number = obey_lines(session, line, waiting, reader, writer)?;
     match end(session, text, writer) {
         Ok(()) => Ok(()),
         Err(word) => Err(Fault { line: number, word }),
@@ -283,12 +283,11 @@ fn obey_script<S: Session, R: BufRead, W: Write>(
 
 /// Has the session obey the script that the reader has left, and writes what is to be printed for each line, and then at the
 /// end. Lines are counted from 1. What is printed for lines that the reader has at hand is written together, and flushed,
-/// before more is read, and before a fault. The two lists are used again for each line; `line` has room for the longest.
+/// before more is read, and before a fault. `line` has room for the longest line.
 pub fn run_session<S: Session, R: BufRead, W: Write>(
     alloc: Global,
     session: &mut S,
     line: &mut Vec<u8>,
-    text: &mut Vec<u8>,
     reader: &mut R,
     writer: &mut W,
 ) -> Result<(), Fault>
@@ -305,5 +304,6 @@ pub fn run_session<S: Session, R: BufRead, W: Write>(
         (W.contents writer.old) (W.contents writer.new))) }
 {
     let mut waiting = Waiting::new(alloc);
-    obey_script(session, line, text, &mut waiting, reader, writer)
+    let mut text = Vec::new(alloc);
+    obey_script(session, line, &mut text, &mut waiting, reader, writer)
 }

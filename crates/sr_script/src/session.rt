@@ -1,6 +1,7 @@
 //! What the lines of a script are for.
 
-ghost use Rattle.std.specs.Prelude.{◌≡◌, ◌∷◌, [], OnOk, IfErr, Err};
+ghost use Rattle.std.specs.Prelude.{◌≡◌, ◌∷◌, [], ◌++◌, ℕ, List, OnOk, OnErr, IfErr, Err};
+ghost use Rattle.sr_script.specs.Octets.{Begins};
 ghost use Rattle.sr_script.specs.Lines.{IsOneOf};
 
 use crate::fault::Word;
@@ -17,13 +18,15 @@ pub trait Session: Send + Drop {
     // Which lines it knows, what it answers to them, and what it says at the end.
     ghost dialogue: { Dialogue State };
 
-    /// Obeys the line with this number. `text` is then what is to be printed for it.
+    /// Obeys the line with this number. What is to be printed for it then stands behind what `text` held.
     ///
-    /// `Line` where the line is none that it knows, whatever memory there is; `Memory`.
+    /// `Line` where the line is none that it knows, whatever memory there is; `Memory`. What `text` held stands then too, and
+    /// what stands behind it says nothing.
     fn answer(&mut self, number: u64, line: &[u8], text: &mut Vec<u8>) -> Result<(), Word>
-        requires { text.old.items ≡ [] }
-        ensures ok { OnOk result
-            (dialogue.Replied (state self.old) number line.now text.new.items (state self.new)) }
+        ensures ok { OnOk result ((answer : List ℕ)
+            × dialogue.Replied (state self.old) number line.now answer (state self.new)
+            × (text.new.items ≡ text.old.items ++ answer)) }
+        ensures kept { OnErr result (Begins text.old.items text.new.items) }
         ensures known { OnOk result (dialogue.Knows (state self.old) line.now) }
         ensures bad { result ≡ Err Word.Line → dialogue.Knows (state self.old) line.now → ⊥ }
         ensures memory { result ≡ Err Word.Memory → dialogue.Knows (state self.old) line.now }

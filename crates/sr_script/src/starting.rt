@@ -68,12 +68,11 @@ fn run_over<P: Role + Send, R: BufRead, W: Write>(
         node,
         octets: Vec::new(alloc),
     };
-    let mut text = Vec::new(alloc);
     match report {
-        Report::Frames => run_session(alloc, &mut session, &mut line, &mut text, reader, writer),
+        Report::Frames => run_session(alloc, &mut session, &mut line, reader, writer),
         Report::Status => {
             let mut session = StatusSession(session);
-            run_session(alloc, &mut session, &mut line, &mut text, reader, writer)
+            run_session(alloc, &mut session, &mut line, reader, writer)
         }
     }
 }

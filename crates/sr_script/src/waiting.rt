@@ -1,11 +1,11 @@
 //! What is printed and not yet written.
 
-ghost use Rattle.std.specs.Prelude.{◌≡◌, ◌≤◌, ◌++◌, [], length, take, OnOk, OnErr, IfErr};
+ghost use Rattle.std.specs.Prelude.{◌≡◌, ◌≤◌, ◌++◌, [], length, take, drop, OnOk, OnErr, IfErr};
 ghost use Rattle.std.specs.Io.KnownBytes.{Appends};
 ghost use Rattle.sr_script.specs.Turns.{marked, line_of, IsCut};
 
 use crate::fault::{Fault, Word};
-use std::alloc::{AllocError, Global};
+use std::alloc::Global;
 use std::io::{ErrorKind, Write};
 
 /// Where the text of a line ends in what waits.
@@ -70,23 +70,26 @@ impl Waiting {
         }
     }
 
-    /// Adds the text of a line.
+    /// Marks what stands from a place on as the text of a line.
+    ///
+    /// # Errors
+    /// `Memory`.
     #[inline(always)]
-    pub(crate) fn add(&mut self, line: u64, text: &[u8]) -> Result<(), AllocError>
-        ensures text { OnOk result (self.new.text.items ≡ self.old.text.items ++ text.now) }
-        ensures marks { OnOk result (self.new.marks.items
-            ≡ self.old.marks.items ++ marked line (length self.new.text.items) text.now []) }
-        ensures same_text { OnErr result (self.new.text.items ≡ self.old.text.items) }
-        ensures same_marks { OnErr result (self.new.marks.items ≡ self.old.marks.items) }
+    pub(crate) fn mark(&mut self, line: u64, start: usize) -> Result<(), Word>
+        ensures text { self.new.text.items ≡ self.old.text.items }
+        ensures marks { OnOk result (self.new.marks.items ≡ self.old.marks.items
+            ++ marked line (length self.old.text.items) (drop start self.old.text.items) []) }
+        ensures same { OnErr result (self.new.marks.items ≡ self.old.marks.items) }
+        ensures err { IfErr result (λ word. word ≡ Word.Memory) }
     {
-        if text.is_empty() {
+        let end = self.text.len();
+        if end <= start {
             return Ok(());
         }
-        self.marks.reserve(1)?;
-        self.text.extend_from_slice(text)?;
-        let end = self.text.len();
-        self.marks.push(Mark { line, end }).unwrap();
-        Ok(())
+        match self.marks.push(Mark { line, end }) {
+            Ok(()) => Ok(()),
+            Err(_) => Err(Word::Memory),
+        }
     }
 
     /// Writes all that waits, and sees that it has gone out. Nothing waits then.

@@ -3,6 +3,7 @@ use Rattle.sr_forwarding.specs.Parcels.{ParcelImage}
 use Rattle.sr_node.specs.Images.{State, node_state}
 use Rattle.sr_node.specs.Outboxes.{box_at}
 use Rattle.sr_script.specs.Replies.{emptied}
+use Rattle.sr_script.proofs.Beginnings.{begins_further, on_err_so}
 use Rattle.sr_script.proofs.PrintedLines.{Printed, printed_more, printed_all, box_left, emptied_left, is_emptied, none_first}
 use Rattle.sr_script.proofs.printing.append_waiting.Goals as goal
 
@@ -19,8 +20,14 @@ loop-role-preserved g c =
     record {
       lines = subst (λ (q : List ParcelImage). Printed c.args.role port whole q before c.append_first.new.text.items) (sym left)
           (subst (λ (text : List ℕ). Printed c.args.role port whole (drop 1 (box_at c.loop-role.node.core.out port)) before text) (sym first.2) more);
+      kept = begins_further before c.loop-role.text.items c.append_first.new.text.items c.loop-role.invariant.kept (first.0, first.2);
       node = ap (λ (u : State). emptied u port) first.1.1 ∙ emptied_left s port ∙ c.loop-role.invariant.node;
     }
+
+pub returns-in_err-append_first-clause-kept : goal.returns-in_err-append_first-clause-kept
+returns-in_err-append_first-clause-kept g c =
+    on_err_so c.from_residual.result
+    (begins_further c.args.text.now.items c.loop-role.text.items c.append_first.new.text.items c.loop-role.invariant.kept c.in_err-append_first.ensures.kept)
 
 pub returns-clause-ok : goal.returns-clause-ok
 returns-clause-ok g c =

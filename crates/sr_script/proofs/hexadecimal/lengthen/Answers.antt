@@ -1,5 +1,5 @@
 use Rattle.std.proofs.Common.{rules}
-use Rattle.sr_script.proofs.hexadecimal.make_room.Goals as goal
+use Rattle.sr_script.proofs.hexadecimal.lengthen.Goals as goal
 
 pub returns-in-Err-clause-memory : goal.returns-in-Err-clause-memory
 returns-in-Err-clause-memory c = search rules
