@@ -1,13 +1,9 @@
--- Texts that begin with others.
-use Rattle.std.proofs.Common.{◌++◌, [], ℕ, List, sym, ap, ◌∙◌, append_assoc, Ok, Err}
+-- Texts that go on behind what they held.
+use Rattle.std.proofs.Common.{◌++◌, ℕ, List, ap, ◌∙◌, append_assoc, Ok, Err}
 use Rattle.std.specs.Prelude.{Result, OnErr}
-use Rattle.std.proofs.lemmas.List.{append-nil}
-use Rattle.sr_script.specs.Octets.{Begins}
+use Rattle.sr_script.specs.Octets.{StillHolds}
 
-pub begins_itself : (text : List ℕ) → Begins text text
-begins_itself text = ([], sym (append-nil text))
-
-pub begins_further : (front text longer : List ℕ) → Begins front text → Begins text longer → Begins front longer
+pub begins_further : (front text longer : List ℕ) → StillHolds front text → StillHolds text longer → StillHolds front longer
 begins_further front text longer (behind, e) (more, f) =
     (behind ++ more, f ∙ ap (λ (t : List ℕ). t ++ more) e ∙ append_assoc front behind more)
 

@@ -1,9 +1,9 @@
 -- Octets of a text.
 use Rattle.std.specs.Prelude.{◌≡◌, ◌≢◌, ◌<◌, ◌+◌, ℕ, List, [], ◌∷◌, ◌++◌, length, take, Option, None, Some}
 
--- a text that begins with another
-abbrev pub Begins : List ℕ → List ℕ → Type 0
-Begins front text = (behind : List ℕ) × (text ≡ front ++ behind)
+-- what a text held still stands at its front
+abbrev pub StillHolds : List ℕ → List ℕ → Type 0
+StillHolds before after = (behind : List ℕ) × (after ≡ before ++ behind)
 
 -- no octet is this one
 abbrev pub Lacks : ℕ → List ℕ → Type 0

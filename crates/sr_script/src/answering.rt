@@ -8,7 +8,7 @@ ghost use Rattle.sr_node.specs.Images.{node_state};
 ghost use Rattle.sr_node.specs.Octets.{OctetsArrived, OctetsRefused};
 ghost use Rattle.sr_node.specs.Steps.{Step, refusal_of};
 ghost use Rattle.sr_script.specs.Lines.{IsOneOf};
-ghost use Rattle.sr_script.specs.Octets.{Begins};
+ghost use Rattle.sr_script.specs.Octets.{StillHolds};
 ghost use Rattle.sr_script.specs.Commands.{IsEventLine};
 ghost use Rattle.sr_script.specs.Stations.{framing_of};
 ghost use Rattle.sr_script.specs.Texts.{name_of, refusal_line};
@@ -45,7 +45,7 @@ pub fn name_of(fault: StepFault) -> Option<&'static str>
 #[inline(always)]
 fn append_refused(text: &mut Vec<u8>, number: u64, name: &str) -> Result<(), AllocError>
     ensures ok { OnOk result (text.new.items ≡ text.old.items ++ refusal_line number name.now) }
-    ensures kept { OnErr result (Begins text.old.items text.new.items) }
+    ensures kept { OnErr result (StillHolds text.old.items text.new.items) }
 {
     let mut digits = Buffer::new();
     text.extend_from_slice(b"refused ")?;
@@ -62,7 +62,7 @@ fn append_refused(text: &mut Vec<u8>, number: u64, name: &str) -> Result<(), All
 /// `Memory`: the list then has a part of the line, or nothing of it.
 pub fn append_refusal(text: &mut Vec<u8>, number: u64, name: &str) -> Result<(), Word>
     ensures ok { OnOk result (text.new.items ≡ text.old.items ++ refusal_line number name.now) }
-    ensures kept { OnErr result (Begins text.old.items text.new.items) }
+    ensures kept { OnErr result (StillHolds text.old.items text.new.items) }
     ensures err { IfErr result (λ word. word ≡ Word.Memory) }
 {
     append_refused(text, number, name)?;
@@ -119,7 +119,7 @@ fn send<R: Role>(
 fn tell_refusal(text: &mut Vec<u8>, number: u64, fault: StepFault) -> Result<(), Word>
     ensures ok { OnOk result ((name : List ℕ) × (name_of fault ≡ Some name)
         × (text.new.items ≡ text.old.items ++ refusal_line number name)) }
-    ensures kept { OnErr result (Begins text.old.items text.new.items) }
+    ensures kept { OnErr result (StillHolds text.old.items text.new.items) }
     ensures err { IfErr result (λ word. word ≡ Word.Memory) }
 {
     match name_of(fault) {
@@ -142,7 +142,7 @@ pub(crate) fn obey<R: Role>(
         × Obeys role (node_state (R.meaning node.old.role) node.old.core) number
         command octets.old.items told (node_state (R.meaning node.new.role) node.new.core)
         × (text.new.items ≡ text.old.items ++ told)) }
-    ensures kept { OnErr result (Begins text.old.items text.new.items) }
+    ensures kept { OnErr result (StillHolds text.old.items text.new.items) }
     ensures err { IfErr result (λ word. word ≡ Word.Memory) }
 {
     match command {
@@ -179,7 +179,7 @@ pub(crate) fn answer<R: Role>(
         × Replied role (node_state (R.meaning node.old.role) node.old.core) number line.now
         answer (node_state (R.meaning node.new.role) node.new.core)
         × (text.new.items ≡ text.old.items ++ answer)) }
-    ensures kept { OnErr result (Begins text.old.items text.new.items) }
+    ensures kept { OnErr result (StillHolds text.old.items text.new.items) }
     ensures known { OnOk result (IsEventLine role line.now) }
     ensures bad { result ≡ Err Word.Line → IsEventLine role line.now → ⊥ }
     ensures memory { result ≡ Err Word.Memory → IsEventLine role line.now }

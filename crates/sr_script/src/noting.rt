@@ -4,7 +4,7 @@ ghost use Rattle.std.specs.Prelude.{◌≡◌, ◌∷◌, [], ◌++◌, ℕ, Lis
 ghost use Rattle.sr_node.specs.Images.{node_state};
 ghost use Rattle.sr_script.specs.Commands.{IsEventLine};
 ghost use Rattle.sr_script.specs.Lines.{IsOneOf};
-ghost use Rattle.sr_script.specs.Octets.{Begins};
+ghost use Rattle.sr_script.specs.Octets.{StillHolds};
 ghost use Rattle.sr_script.specs.Replies.{emptied};
 ghost use Rattle.sr_script.specs.Statuses.{Noted, all_taken};
 
@@ -55,7 +55,7 @@ pub(crate) fn note<R: Role>(
         × Noted role (node_state (R.meaning node.old.role) node.old.core) number line.now
         answer (node_state (R.meaning node.new.role) node.new.core)
         × (text.new.items ≡ text.old.items ++ answer)) }
-    ensures kept { OnErr result (Begins text.old.items text.new.items) }
+    ensures kept { OnErr result (StillHolds text.old.items text.new.items) }
     ensures known { OnOk result (IsEventLine role line.now) }
     ensures bad { result ≡ Err Word.Line → IsEventLine role line.now → ⊥ }
     ensures memory { result ≡ Err Word.Memory → IsEventLine role line.now }

@@ -6,7 +6,7 @@ ghost use Rattle.sr_node.specs.Images.{node_state};
 ghost use Rattle.sr_forwarding.specs.Encoding.{IsWritten};
 ghost use Rattle.sr_forwarding.specs.Parcels.{plain_of};
 ghost use Rattle.sr_script.specs.Commands.{letter_of};
-ghost use Rattle.sr_script.specs.Octets.{Begins};
+ghost use Rattle.sr_script.specs.Octets.{StillHolds};
 ghost use Rattle.sr_script.specs.Stations.{framing_of};
 ghost use Rattle.sr_script.specs.Texts.{frame_line, GoesAs, IsLine};
 ghost use Rattle.sr_script.specs.Replies.{FirstLeft, Emptied, AllEmptied};
@@ -39,7 +39,7 @@ fn append_frame(text: &mut Vec<u8>, port: Port, frame: &[u8]) -> Result<(), Allo
     requires { length frame.now ≤ 1524 }
     ensures ok { OnOk result (text.new.items ≡ text.old.items
         ++ (letter_of port ++ (32 ∷ encode_lower frame.now)) ++ 10 ∷ []) }
-    ensures kept { OnErr result (Begins text.old.items text.new.items) }
+    ensures kept { OnErr result (StillHolds text.old.items text.new.items) }
 {
     text.extend_from_slice(&[letter_of(port), b' '])?;
     append_hex(text, frame)?;
@@ -144,7 +144,7 @@ fn append_parcel(
 ) -> Result<(), Word>
     ensures ok { OnOk result ((line : List ℕ) × IsLine role port parcel.now line
         × (text.new.items ≡ text.old.items ++ line)) }
-    ensures kept { OnErr result (Begins text.old.items text.new.items) }
+    ensures kept { OnErr result (StillHolds text.old.items text.new.items) }
     ensures err { IfErr result (λ word. word ≡ Word.Memory) }
 {
     if let Some(octets) = in_place(role, port, parcel) {
@@ -170,7 +170,7 @@ fn append_first<R: Role>(
         × FirstLeft role port (node_state (R.meaning node.old.role) node.old.core) line
         (node_state (R.meaning node.new.role) node.new.core)
         × (text.new.items ≡ text.old.items ++ line)) }
-    ensures kept { OnErr result (Begins text.old.items text.new.items) }
+    ensures kept { OnErr result (StillHolds text.old.items text.new.items) }
     ensures err { IfErr result (λ word. word ≡ Word.Memory) }
 {
     if let Some(parcel) = node.front(port) {
@@ -192,7 +192,7 @@ fn append_waiting<R: Role>(
         × Emptied role port (node_state (R.meaning node.old.role) node.old.core) lines
         (node_state (R.meaning node.new.role) node.new.core)
         × (text.new.items ≡ text.old.items ++ lines)) }
-    ensures kept { OnErr result (Begins text.old.items text.new.items) }
+    ensures kept { OnErr result (StillHolds text.old.items text.new.items) }
     ensures err { IfErr result (λ word. word ≡ Word.Memory) }
 {
     while node.waiting(port) > 0 {
@@ -212,7 +212,7 @@ pub(crate) fn append_outlets<R: Role>(
         × AllEmptied role (node_state (R.meaning node.old.role) node.old.core) lines
         (node_state (R.meaning node.new.role) node.new.core)
         × (text.new.items ≡ text.old.items ++ lines)) }
-    ensures kept { OnErr result (Begins text.old.items text.new.items) }
+    ensures kept { OnErr result (StillHolds text.old.items text.new.items) }
     ensures err { IfErr result (λ word. word ≡ Word.Memory) }
 {
     append_waiting(role, node, Port::H, frame, text)?;

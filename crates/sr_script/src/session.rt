@@ -1,7 +1,7 @@
 //! What the lines of a script are for.
 
 ghost use Rattle.std.specs.Prelude.{◌≡◌, ◌∷◌, [], ◌++◌, ℕ, List, OnOk, OnErr, IfErr, Err};
-ghost use Rattle.sr_script.specs.Octets.{Begins};
+ghost use Rattle.sr_script.specs.Octets.{StillHolds};
 ghost use Rattle.sr_script.specs.Lines.{IsOneOf};
 
 use crate::fault::Word;
@@ -26,7 +26,7 @@ pub trait Session: Send + Drop {
         ensures ok { OnOk result ((answer : List ℕ)
             × dialogue.Replied (state self.old) number line.now answer (state self.new)
             × (text.new.items ≡ text.old.items ++ answer)) }
-        ensures kept { OnErr result (Begins text.old.items text.new.items) }
+        ensures kept { OnErr result (StillHolds text.old.items text.new.items) }
         ensures known { OnOk result (dialogue.Knows (state self.old) line.now) }
         ensures bad { result ≡ Err Word.Line → dialogue.Knows (state self.old) line.now → ⊥ }
         ensures memory { result ≡ Err Word.Memory → dialogue.Knows (state self.old) line.now }

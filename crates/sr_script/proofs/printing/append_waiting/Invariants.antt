@@ -1,7 +1,7 @@
 use Rattle.std.proofs.Common.{◌≡◌, length}
 use Rattle.sr_node.specs.Images.{node_state}
 use Rattle.sr_node.specs.Outboxes.{box_at}
-use Rattle.sr_script.specs.Octets.{Begins}
+use Rattle.sr_script.specs.Octets.{StillHolds}
 use Rattle.sr_script.specs.Replies.{emptied}
 use Rattle.sr_script.proofs.PrintedLines.{Printed}
 use Rattle.sr_script.proofs.printing.append_waiting.Given as goal
@@ -10,7 +10,7 @@ abbrev pub invariant-loop-role : goal.invariant-loop-role
 invariant-loop-role g l = record {
   lines : Printed l.role l.port (box_at (node_state (g.R.Role.meaning l.fn.node.role) l.fn.node.core).core.out l.port)
       (box_at (node_state (g.R.Role.meaning l.node.role) l.node.core).core.out l.port) l.fn.text.items l.text.items;
-  kept : Begins l.fn.text.items l.text.items;
+  kept : StillHolds l.fn.text.items l.text.items;
   node : emptied (node_state (g.R.Role.meaning l.node.role) l.node.core) l.port ≡ emptied (node_state (g.R.Role.meaning l.fn.node.role) l.fn.node.core) l.port;
 }
 
