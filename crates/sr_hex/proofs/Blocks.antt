@@ -1,12 +1,13 @@
 -- Blocks of sixteen octets and their thirty-two digits.
-use Rattle.std.proofs.Common.{◌≡◌, ℕ, suc, Bool, true, false, ◌&&◌, eqb, ltb, leb, eqb-true, ltb-true, leb-true, [], ◌∷◌, Option, Some, None, Result, Ok, Err, refl, ◌+◌, ◌-◌, ◌*◌, ◌<◌, ◌≤◌, ◌↔◌, List, ◌++◌, length, slice_index, sym, ap, ◌∙◌, subst, inl, inr, arith}
-use Rattle.std.specs.Prelude.{max, is_some, MatchBool, IsErr}
-use Rattle.std.proofs.lemmas.Bool.{cases_lt, and_parts}
-use Rattle.hex.specs.Hex.{decode_of, decode_pairs, hex_digit_value, pair_value}
+use Rattle.std.proofs.Common.{◌≡◌, ℕ, suc, Bool, true, false, eqb, eqb-true, [], ◌∷◌, unwrap_or, Result, Ok, Err, refl, ◌+◌, ◌-◌, ◌*◌, ◌<◌, ◌≤◌, ◌↔◌, List, ◌++◌, length, slice_index, sym, ap, ◌∙◌, subst, inl, inr, arith}
+use Rattle.std.specs.Prelude.{min, max, MatchBool, IsErr}
+use Rattle.std.proofs.lemmas.Bool.{cases_lt}
+use Rattle.hex.specs.Hex.{decode_of, decode_pairs, hex_digit_value, is_hex_digit}
 use Rattle.hex.proofs.HexLemmas.{decode_of-even, decode_of-ok}
 use Rattle.sr_hex.specs.Lanes.{HasLanes}
-use Rattle.sr_hex.specs.Values.{value_of, mark_of, octet_of, AreSpelled, AreDigits, AreKept, AreSmall}
-use Rattle.sr_hex.proofs.LaneLemmas.{joined, all_below, every_below}
+use Rattle.sr_hex.specs.Values.{value_of, octet_of, AreSpelled, AreDigits, AreKept, AreSmall}
+use Rattle.sr_hex.proofs.LaneLemmas.{joined, every_below}
+use Rattle.sr_hex.proofs.Digits.{digit_small, pair_spelled}
 
 -- a function of the octets that a load took
 pub through : (f g : ℕ → ℕ) (xs ys : List ℕ) → HasLanes xs g → HasLanes ys (λ i. f (slice_index xs i)) → HasLanes ys (λ i. f (g i))
@@ -28,19 +29,19 @@ block_spelled digits new first second block at h1 h2 hb stored i low high =
     let low_is = joined value (2 * at) first second h1 h2 (2 * k + 1) (omega arith) ∙ ap value e2 in
     ap (slice_index new) (sym e) ∙ stored k lt ∙ hb.each k lt ∙ (λ j. octet_of (high_is j) (low_is j))
 
--- marks of its digits
-pub block_marked : (digits first second : List ℕ) (at : ℕ)
-    → HasLanes first (λ i. mark_of (slice_index digits (2 * at + i))) → HasLanes second (λ i. mark_of (slice_index digits (2 * at + 16 + i)))
+-- the values of a block are small where all of its digits are digits
+pub block_small : (digits first second : List ℕ) (at : ℕ)
+    → HasLanes first (λ i. value_of (slice_index digits (2 * at + i))) → HasLanes second (λ i. value_of (slice_index digits (2 * at + 16 + i)))
     → (AreSmall first × AreSmall second) ↔ AreDigits digits (2 * at) (2 * (at + 16))
-block_marked digits first second at h1 h2 =
-    let mark = λ (p : ℕ). mark_of (slice_index digits p) in (
+block_small digits first second at h1 h2 =
+    let value = λ (p : ℕ). value_of (slice_index digits p) in (
       λ small k low high. elim (cases_lt (k - 2 * at) 16) [
         | inl l ↦
             let e : 2 * at + (k - 2 * at) ≡ k = omega arith in
-            subst (λ m. m < 16) (h1.each (k - 2 * at) l ∙ ap mark e) (small.0 (k - 2 * at) l)
+            subst (λ m. m < 16) (h1.each (k - 2 * at) l ∙ ap value e) (small.0 (k - 2 * at) l)
         | inr g ↦
             let e : 2 * at + 16 + (k - 2 * at - 16) ≡ k = omega arith in
-            subst (λ m. m < 16) (h2.each (k - 2 * at - 16) (omega arith) ∙ ap mark e) (small.1 (k - 2 * at - 16) (omega arith))
+            subst (λ m. m < 16) (h2.each (k - 2 * at - 16) (omega arith) ∙ ap value e) (small.1 (k - 2 * at - 16) (omega arith))
       ],
       λ all. (
         λ i h. subst (λ m. m < 16) (sym (h1.each i h)) (all (2 * at + i) (omega arith) (omega arith)),
@@ -55,49 +56,17 @@ both_small xs ys zs h = (
   λ parts i l. omega (arith, h.each i l, parts.0 i l, parts.1 i l),
 )
 
--- ---- marks and values, code by code
+-- ---- values, code by code
 
-abbrev by_value : (c : ℕ) → Option ℕ → Bool
-by_value c None = leb 16 (mark_of c)
-by_value c (Some v) = eqb (value_of c) v && (ltb (mark_of c) 16 && ltb v 16)
+-- a value and that of the code's digit are the same, or neither is below 16
+agrees : (c : ℕ) → c < 256 → min (value_of c) 16 ≡ min (unwrap_or (hex_digit_value c) 255) 16
+agrees c lt = eqb-true _ _ (every_below (λ k. eqb (min (value_of k) 16) (min (unwrap_or (hex_digit_value k) 255) 16)) 256 refl c lt)
 
-all_hold : all_below (λ c. by_value c (hex_digit_value c)) 256 ≡ true
-all_hold = refl
+value_is : (c : ℕ) → c < 256 → value_of c < 16 → value_of c ≡ unwrap_or (hex_digit_value c) 255
+value_is c lt small = omega (arith, agrees c lt)
 
-abbrev pub IsMarked : ℕ → Option ℕ → Type 0
-IsMarked c None = 16 ≤ mark_of c
-IsMarked c (Some v) = (value_of c ≡ v) × (mark_of c < 16) × (v < 16)
-
-told : (c : ℕ) (o : Option ℕ) → by_value c o ≡ true → IsMarked c o
-told c None h = leb-true _ _ h
-told c (Some v) h =
-    let parts = and_parts _ _ h in
-    let more = and_parts _ _ parts.1 in
-    (eqb-true _ _ parts.0, ltb-true _ _ more.0, ltb-true _ _ more.1)
-
-pub marked : (c : ℕ) → c < 256 → IsMarked c (hex_digit_value c)
-marked c lt = told c (hex_digit_value c) (every_below (λ k. by_value k (hex_digit_value k)) 256 all_hold c lt)
-
-digit_marked : (c : ℕ) (o : Option ℕ) → IsMarked c o → is_some o ≡ true → mark_of c < 16
-digit_marked c None h e = absurd cc
-digit_marked c (Some v) h e = h.1
-
-marked_digit : (c : ℕ) (o : Option ℕ) → IsMarked c o → mark_of c < 16 → is_some o ≡ true
-marked_digit c None h lt = absurd (omega arith)
-marked_digit c (Some v) h lt = refl
-
-pair_of : (a b i : ℕ) (oa ob : Option ℕ) → hex_digit_value a ≡ oa → hex_digit_value b ≡ ob → IsMarked a oa → IsMarked b ob → mark_of a < 16 → mark_of b < 16
-    → pair_value a b i ≡ Ok (octet_of (value_of a) (value_of b))
-pair_of a b i None ob ea eb ha hb la lb = absurd (omega arith)
-pair_of a b i (Some v) None ea eb ha hb la lb = absurd (omega arith)
-pair_of a b i (Some v) (Some w) ea eb ha hb la lb =
-    let value : octet_of (value_of a) (value_of b) ≡ v * 16 + w = omega (arith, ha.0, ha.2, hb.0, hb.2) in
-    let pair : pair_value a b i ≡ Ok (v * 16 + w) = rw (ea, eb) refl in
-    pair ∙ ap Ok (sym value)
-
--- two digits spell an octet
-pair_spelled : (a b i : ℕ) → a < 256 → b < 256 → mark_of a < 16 → mark_of b < 16 → pair_value a b i ≡ Ok (octet_of (value_of a) (value_of b))
-pair_spelled a b i pa pb la lb = pair_of a b i (hex_digit_value a) (hex_digit_value b) refl refl (marked a pa) (marked b pb) la lb
+value_small : (c : ℕ) → c < 256 → is_hex_digit c ≡ true → value_of c < 16
+value_small c lt is = omega (arith, agrees c lt, digit_small c (unwrap_or (hex_digit_value c) 255) refl is)
 
 -- ---- whole texts
 
@@ -111,7 +80,9 @@ decoded i [] (o ∷ os) fits twice digits spelled = absurd (omega arith)
 decoded i (a ∷ s) [] fits twice digits spelled = absurd (omega arith)
 decoded i (a ∷ []) (o ∷ os) fits twice digits spelled = absurd (omega arith)
 decoded i (a ∷ b ∷ s) (o ∷ os) fits twice digits spelled =
-    let first = pair_spelled a b i (fits 0) (fits 1) (digits 0 (omega arith) (omega arith)) (digits 1 (omega arith) (omega arith)) in
+    let high = digits 0 (omega arith) (omega arith) in
+    let low = digits 1 (omega arith) (omega arith) in
+    let first = pair_spelled a b (value_of a) (value_of b) i (value_is a (fits 0) high) (value_is b (fits 1) low) high low in
     let is : o ≡ octet_of (value_of a) (value_of b) = spelled 0 (omega arith) (omega arith) in
     let rest = decoded (i + 2) s os (λ k. fits (suc (suc k))) (omega arith) (λ k low high. digits (suc (suc k)) (omega arith) (omega arith))
     (λ k low high.
@@ -132,7 +103,7 @@ read_whole s out true fits twice spelled good = decode_of-even s (omega arith) �
 read_whole s out false fits twice spelled good =
     refused (decode_of s) (λ bytes e.
     let all = decode_of-ok s bytes e in
-    let is : false ≡ true = good.1 (λ k low high. digit_marked (slice_index s k) (hex_digit_value (slice_index s k)) (marked (slice_index s k) (fits k)) (all.1 k 0 high)) in
+    let is : false ≡ true = good.1 (λ k low high. value_small (slice_index s k) (fits k) (all.1 k 0 high)) in
     absurd cc)
 
 -- blocks up to a place, and then the last one

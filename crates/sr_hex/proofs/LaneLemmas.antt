@@ -147,3 +147,6 @@ joined f p xs ys hx hy k lt =
 
 pub lifted : (a b : ℕ) → a < 256 → b < 256 → (min a (255 - b) + b) % 256 ≡ min (a + b) 255
 lifted a b p q = omega arith
+
+pub sunk : (a b : ℕ) → a < 256 → b < 256 → (max a b + (256 - b)) % 256 ≡ a - b
+sunk a b p q = omega arith

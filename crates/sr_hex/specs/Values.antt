@@ -1,21 +1,18 @@
--- The values of hexadecimal digits, by their distances from `0` and from `a`, and the digits of numbers.
-use Rattle.std.specs.Prelude.{◌≡◌, ◌+◌, ◌*◌, ◌/◌, ◌%◌, ◌<◌, ◌≤◌, ℕ, List, slice_index, bit_or, min, nat_lt, if◌then◌else◌}
+-- The values of hexadecimal digits, by their distances from `9` and from `a`, and the digits of numbers.
+use Rattle.std.specs.Prelude.{◌≡◌, ◌+◌, ◌-◌, ◌*◌, ◌/◌, ◌%◌, ◌<◌, ◌≤◌, ℕ, List, slice_index, bit_or, min, nat_lt, if◌then◌else◌}
 
--- how far a code stands above that of `0`, modulo 256
-abbrev pub above_zero : ℕ → ℕ
-above_zero c = (c + 208) % 256
+-- the value of a code from `0` to `9`, and 16 or more for every other code: 198 more modulo 256, which is 255 for `9`,
+-- then 6 less, but no less than 0, and 16 more modulo 256
+abbrev pub decimal_value : ℕ → ℕ
+decimal_value c = ((c + 198) % 256 - 6 + 16) % 256
 
 -- ten more than a code in lower case stands above that of `a`, modulo 256, but no more than 255
 abbrev pub above_a : ℕ → ℕ
 above_a c = min ((bit_or c 32 + 159) % 256 + 10) 255
 
--- the value, where the code is one of a digit
+-- the value of a digit where the code is one, and 16 or more where it is none
 abbrev pub value_of : ℕ → ℕ
-value_of c = min (above_zero c) (above_a c)
-
--- less than 16 where the code is one of a digit, and there alone
-abbrev pub mark_of : ℕ → ℕ
-mark_of c = min (min (above_zero c + 6) 255) (above_a c)
+value_of c = min (decimal_value c) (above_a c)
 
 -- the octet of two values
 abbrev pub octet_of : ℕ → ℕ → ℕ
@@ -31,7 +28,7 @@ AreSpelled digits octets from to = (i : ℕ) → from ≤ i → i < to → slice
 
 -- the codes between two places are digits
 abbrev pub AreDigits : List ℕ → ℕ → ℕ → Type 0
-AreDigits digits from to = (k : ℕ) → from ≤ k → k < to → mark_of (slice_index digits k) < 16
+AreDigits digits from to = (k : ℕ) → from ≤ k → k < to → value_of (slice_index digits k) < 16
 
 -- the octets before a place are the same
 abbrev pub AreKept : List ℕ → List ℕ → ℕ → Type 0

@@ -2,7 +2,7 @@
 
 ghost use Rattle.std.specs.Prelude.{◌≡◌, ◌↔◌, ◌+◌, ◌-◌, ◌*◌, ◌/◌, ◌%◌, ◌≤◌, ◌<◌, ◌++◌, ℕ, IsTrue, length, slice_index, min, max};
 ghost use Rattle.sr_hex.specs.Lanes.{HasLanes};
-ghost use Rattle.sr_hex.specs.Values.{AreSmall, AreKept, above_zero, above_a, digit_of, octet_of};
+ghost use Rattle.sr_hex.specs.Values.{AreSmall, AreKept, decimal_value, above_a, digit_of, octet_of};
 
 use std::simd::prelude::*;
 
@@ -50,12 +50,21 @@ pub(crate) fn raised(a: u8x16, by: u8) -> u8x16
     a.simd_min(u8x16::splat(255 - by)) + u8x16::splat(by)
 }
 
-/// How far codes stand above that of `0`.
+/// So much less in each lane, but no less than 0.
+#[inline(always)]
+pub(crate) fn lowered(a: u8x16, by: u8) -> u8x16
+    ensures { HasLanes result (λ i. slice_index a i - by) }
+{
+    a.simd_max(u8x16::splat(by)) - u8x16::splat(by)
+}
+
+/// The values of codes from `0` to `9`; 16 or more for every other code.
 #[inline(always)]
 pub(crate) fn numbers(codes: u8x16) -> u8x16
-    ensures { HasLanes result (λ i. above_zero (slice_index codes i)) }
+    ensures { HasLanes result (λ i. decimal_value (slice_index codes i)) }
 {
-    codes - u8x16::splat(b'0')
+    // When lowered, these ten are 240 and more, and no other code is.
+    lowered(codes + u8x16::splat(255 - b'9'), 6) + u8x16::splat(16)
 }
 
 /// How far codes in lower case stand above that of `a`, and ten more.

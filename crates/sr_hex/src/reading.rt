@@ -4,25 +4,17 @@ ghost use Rattle.std.specs.Prelude.{◌≡◌, ◌↔◌, ◌+◌, ◌*◌, ◌�
 ghost use Rattle.std.specs.List.{AllPass};
 ghost use Rattle.hex.specs.Hex.{decode_of, hex_digit_value, is_hex_digit};
 ghost use Rattle.sr_hex.specs.Lanes.{HasLanes};
-ghost use Rattle.sr_hex.specs.Values.{AreSpelled, AreDigits, AreKept, AreSmall, value_of, mark_of};
+ghost use Rattle.sr_hex.specs.Values.{AreSpelled, AreDigits, AreKept, AreSmall, value_of};
 
-use crate::lanes::{are_small, larger, letters, load, numbers, octets_of, raised, smaller, store};
+use crate::lanes::{are_small, larger, letters, load, numbers, octets_of, smaller, store};
 use std::simd::prelude::*;
 
-/// The values of digits. What is no digit has one too.
+/// The values of digits; 16 or more where a code is none.
 #[inline(always)]
 fn values(codes: u8x16) -> u8x16
     ensures { HasLanes result (λ i. value_of (slice_index codes i)) }
 {
     smaller(numbers(codes), letters(codes))
-}
-
-/// Less than 16 where a code is one of a digit, and there alone.
-#[inline(always)]
-fn marks(codes: u8x16) -> u8x16
-    ensures { HasLanes result (λ i. mark_of (slice_index codes i)) }
-{
-    smaller(raised(numbers(codes), 6), letters(codes))
 }
 
 /// Small where both are.
@@ -33,7 +25,7 @@ fn both(a: u8x16, b: u8x16) -> u8x16
     larger(a, b)
 }
 
-/// Reads sixteen octets from a place on. The result is small where their digits are digits.
+/// Reads sixteen octets from a place on. The result is small where all of their digits are digits.
 #[inline(always)]
 fn read_block(digits: &[u8], at: usize, octets: &mut [u8]) -> u8x16
     requires pairs { length digits.now ≡ 2 * length octets.old }
@@ -41,12 +33,12 @@ fn read_block(digits: &[u8], at: usize, octets: &mut [u8]) -> u8x16
     ensures long { length octets.new ≡ length octets.old }
     ensures spelled { AreSpelled digits.now octets.new at (at + 16) }
     ensures kept { AreKept octets.old octets.new at }
-    ensures marked { AreSmall result ↔ AreDigits digits.now (2 * at) (2 * (at + 16)) }
+    ensures small { AreSmall result ↔ AreDigits digits.now (2 * at) (2 * (at + 16)) }
 {
-    let first = load(digits, 2 * at);
-    let second = load(digits, 2 * at + 16);
-    store(octets_of(values(first), values(second)), octets, at);
-    both(marks(first), marks(second))
+    let first = values(load(digits, 2 * at));
+    let second = values(load(digits, 2 * at + 16));
+    store(octets_of(first, second), octets, at);
+    both(first, second)
 }
 
 /// Reads sixteen octets or more, sixteen at a time. Of the last sixteen some may have been read before.

@@ -8,5 +8,5 @@ returns c =
     let last = length c.args.octets.now - 16 in
     all_read c.args.digits.now c.loop-at.octets c.read_block-2.new.octets c.loop-at.at last c.are_small.result (AreSmall c.loop-at.worst) (AreSmall c.read_block-2.result)
     (λ k. (c.type_inv.digits k).fits) (omega arith) (omega arith) (omega arith) (omega arith) c.loop-at.invariant.spelled c.read_block-2.ensures.spelled
-    c.read_block-2.ensures.kept c.loop-at.invariant.good c.read_block-2.ensures.marked
+    c.read_block-2.ensures.kept c.loop-at.invariant.good c.read_block-2.ensures.small
     (λ e. c.both.ensures.0 (c.are_small.ensures.0 e), λ h. c.are_small.ensures.1 (c.both.ensures.1 h))
