@@ -27,11 +27,11 @@ pub(crate) fn whole_frame(octets: &[u8], most: usize) -> Result<FrameView<'_>, R
 }
 
 // A frame without a number.
-pub(crate) fn unnumbered<'a>(octets: &'a [u8], frame: &FrameView<'a>) -> ParcelView<'a>
-    requires { IsFrame octets.now (fields_of frame.now) }
+pub(crate) fn unnumbered(octets: &[u8]) -> ParcelView<'_>
+    requires { HasFrameLength octets.now }
     ensures { IsPlainParcel octets.entry.now result }
 {
-    ParcelView::of_parts(Form::Plain, octets, *frame, None, 0, false)
+    ParcelView::of_parts(Form::Plain, octets, None, 0, false)
 }
 
 // Appends the octets of a parcel as they are.

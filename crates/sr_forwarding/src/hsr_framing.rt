@@ -27,10 +27,9 @@ fn read_tagged<'a>(octets: &'a [u8], frame: &FrameView<'a>) -> Result<ParcelView
     ensures err { IfErr result (λ e. IsUntagged octets.entry.now e) }
 {
     match untagged_view(frame) {
-        Ok((plain, tag)) => Ok(ParcelView::of_parts(
+        Ok((_plain, tag)) => Ok(ParcelView::of_parts(
             Form::Hsr,
             octets,
-            plain,
             Some(tag.seq),
             tag.path,
             false,

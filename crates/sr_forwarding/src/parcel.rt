@@ -1,21 +1,21 @@
 //! Parcels: frames on their way through a node.
 
-ghost use Rattle.std.specs.Prelude.{◌≡◌, ◌<◌, ℕ, Option, IfOk};
-ghost use Rattle.sr_frame.specs.Frame.{HasFrameLength};
+ghost use Rattle.std.specs.Prelude.{◌≡◌, ◌+◌, ◌<◌, ◌≤◌, ◌++◌, IfOk, length};
+ghost use Rattle.sr_frame.specs.Frame.{HasFrameLength, spelling};
 ghost use Rattle.sr_frame.specs.View.{fields_of};
-ghost use Rattle.sr_frame.specs.Frame.{spelling};
-ghost use Rattle.sr_sequence.specs.declared.Seq.{Seq};
 ghost use Rattle.sr_forwarding.specs.Headers.{header_of};
-ghost use Rattle.sr_forwarding.specs.Octets.{plain_in, without_tag, without_trailer};
-ghost use Rattle.sr_forwarding.specs.Parcels.{Carries, HasTag, HasTrailer, plain_of, plain_parcel, IsParcel};
+ghost use Rattle.sr_forwarding.specs.Parcels.{plain_of, plain_parcel, IsParcel};
 
 use crate::{Form, Header, ParcelView};
 use sr_frame::{Frame, FrameView, NoMemory};
-use sr_hsr_tag::untagged_view;
-use sr_prp_trailer::parted;
+use sr_hsr_tag::TAG_LEN;
+use sr_prp_trailer::TRAILER_LEN;
 use sr_sequence::Seq;
 use std::alloc::Global;
 use std::marker::Model;
+
+/// The octets of a type.
+const KIND_LEN: usize = 2;
 
 /// A frame on its way through a node. Its number and path are those that its octets carry.
 #[derive(Debug, PartialEq, Eq, Drop)]
@@ -61,36 +61,6 @@ impl Model for Parcel {
       path = p.path;
       wrong_lan = p.wrong_lan;
     } };
-}
-
-// The frame without its tag.
-fn untagged(frame: &Frame) -> FrameView<'_>
-    requires { (seq : Option Seq) × (path : ℕ) × HasTag frame.now seq path }
-    ensures { spelling (fields_of result) ≡ without_tag frame.now }
-{
-    let (plain, _) = untagged_view(&frame.view()).unwrap();
-    plain
-}
-
-// The frame without its trailer.
-fn stripped(frame: &Frame) -> FrameView<'_>
-    requires { (seq : Option Seq) × HasTrailer frame.now seq }
-    ensures { spelling (fields_of result) ≡ without_trailer frame.now }
-{
-    let (plain, _) = parted(&frame.view()).unwrap();
-    plain
-}
-
-// The frame without what carries its number in this form.
-fn plain_view(form: Form, frame: &Frame) -> FrameView<'_>
-    requires { (seq : Option Seq) × (path : ℕ) × Carries form frame.now seq path }
-    ensures { spelling (fields_of result) ≡ plain_in form frame.now }
-{
-    match form {
-        Form::Plain => frame.view(),
-        Form::Hsr => untagged(frame),
-        Form::Prp => stripped(frame),
-    }
 }
 
 impl Parcel {
@@ -197,11 +167,9 @@ impl Parcel {
     pub fn view(&self) -> ParcelView<'_>
         ensures { result ≡ self.now }
     {
-        let plain = plain_view(self.form, &self.octets);
         ParcelView::of_parts(
             self.form,
             self.octets.octets(),
-            plain,
             self.seq,
             self.path,
             self.wrong_lan,
@@ -212,13 +180,29 @@ impl Parcel {
     pub fn plain(&self) -> FrameView<'_>
         ensures { spelling (fields_of result) ≡ plain_of self.now }
     {
-        plain_view(self.form, &self.octets)
+        self.view().plain()
+    }
+
+    /// The frame without what carries its number, in two pieces, of which the second is empty but for HSR. Does not allocate.
+    pub fn plain_pieces(&self) -> (&[u8], &[u8])
+        ensures plain { result.0.now ++ result.1.now ≡ plain_of self.now }
+        ensures size { length result.0.now + length result.1.now ≤ 1524 }
+    {
+        let octets = self.octets.octets();
+        match self.form {
+            Form::Plain => (octets, &[]),
+            Form::Prp => (&octets[..octets.len() - TRAILER_LEN], &[]),
+            Form::Hsr => {
+                let kind = self.octets.view().header_len() - KIND_LEN;
+                (&octets[..kind], &octets[kind + TAG_LEN..])
+            }
+        }
     }
 
     /// What routes read of it. Whether the destination is known as a node is for the caller to say: here it is not.
     pub fn header(&self) -> Header
         ensures { result ≡ header_of self.now }
     {
-        Header::of(&self.plain(), self.seq, self.path)
+        self.view().header()
     }
 }

@@ -1,18 +1,22 @@
 //! Parcels that borrow their octets.
 
-ghost use Rattle.std.specs.Prelude.{◌≡◌, ◌<◌, ◌≤◌, ℕ, None, IfOk, IsOk, length, vec_capacity};
+ghost use Rattle.std.specs.Prelude.{◌≡◌, ◌<◌, ◌≤◌, ℕ, Option, None, IfOk, IsOk, length, vec_capacity};
 ghost use Rattle.sr_frame.specs.Frame.{HasFrameLength, IsFrame, spelling};
 ghost use Rattle.sr_frame.specs.View.{fields_of};
 ghost use Rattle.sr_hsr_tag.specs.Tagged.{IsTagged};
 ghost use Rattle.sr_prp_trailer.specs.Trailed.{IsTrailed};
 ghost use Rattle.sr_prp_trailer.specs.declared.trailer.Trailer.{Trailer};
 ghost use Rattle.sr_forwarding.specs.Headers.{header_of};
-ghost use Rattle.sr_forwarding.specs.Octets.{plain_in};
-ghost use Rattle.sr_forwarding.specs.Parcels.{plain_of, plain_parcel, as_plain, with_number, IsParcel};
+ghost use Rattle.sr_sequence.specs.declared.Seq.{Seq};
+ghost use Rattle.sr_forwarding.specs.Octets.{dst_in, src_in, plain_in, without_tag, without_trailer};
+ghost use Rattle.sr_forwarding.specs.Parcels.{Carries, HasTag, HasTrailer, plain_of, plain_parcel, as_plain, with_number, IsParcel};
 
 use crate::{Form, Header, Parcel};
-use sr_frame::{Frame, FrameView, NoMemory, append};
+use sr_frame::{Frame, FrameView, Mac, NoMemory, append, view};
+use sr_hsr_tag::untagged_view;
+use sr_prp_trailer::parted;
 use sr_sequence::Seq;
+use sr_supervision::SUPERVISION;
 use std::alloc::Global;
 use std::marker::Model;
 
@@ -21,17 +25,12 @@ use std::marker::Model;
 pub struct ParcelView<'a> {
     form: Form,
     octets: &'a [u8],
-    plain: FrameView<'a>,
     seq: Option<Seq>,
     path: u8,
     wrong_lan: bool,
 }
 
 impl<'a> Model for ParcelView<'a> {
-    ghost use Rattle.std.specs.Prelude.{◌≡◌};
-    ghost use Rattle.sr_frame.specs.Frame.{spelling};
-    ghost use Rattle.sr_frame.specs.View.{fields_of};
-    ghost use Rattle.sr_forwarding.specs.Octets.{plain_in};
     ghost use Rattle.sr_forwarding.specs.Parcels.{ParcelImage, IsParcel};
 
     ghost Value = { ParcelImage };
@@ -51,8 +50,60 @@ impl<'a> Model for ParcelView<'a> {
           seq = p.seq;
           path = p.path;
           wrong_lan = p.wrong_lan;
-        })
-        × (spelling (fields_of p.plain) ≡ plain_in p.form p.octets.now) };
+        }) };
+}
+
+// The fields, which the octets of a frame always have.
+fn frame_in(octets: &[u8]) -> FrameView<'_>
+    requires { HasFrameLength octets.now }
+    ensures { IsFrame octets.now (fields_of result) }
+{
+    view(octets).unwrap()
+}
+
+// The frame without its tag.
+fn untagged(octets: &[u8]) -> FrameView<'_>
+    requires frame { HasFrameLength octets.now }
+    requires tag { (seq : Option Seq) × (path : ℕ) × HasTag octets.now seq path }
+    ensures { spelling (fields_of result) ≡ without_tag octets.now }
+{
+    let (plain, _) = untagged_view(&frame_in(octets)).unwrap();
+    plain
+}
+
+// The frame without its trailer.
+fn stripped(octets: &[u8]) -> FrameView<'_>
+    requires frame { HasFrameLength octets.now }
+    requires trailer { (seq : Option Seq) × HasTrailer octets.now seq }
+    ensures { spelling (fields_of result) ≡ without_trailer octets.now }
+{
+    let (plain, _) = parted(&frame_in(octets)).unwrap();
+    plain
+}
+
+// The frame without what carries its number in this form.
+fn plain_view(form: Form, octets: &[u8]) -> FrameView<'_>
+    requires frame { HasFrameLength octets.now }
+    requires carries { (seq : Option Seq) × (path : ℕ) × Carries form octets.now seq path }
+    ensures { spelling (fields_of result) ≡ plain_in form octets.now }
+{
+    match form {
+        Form::Plain => frame_in(octets),
+        Form::Hsr => untagged(octets),
+        Form::Prp => stripped(octets),
+    }
+}
+
+// The destination and the source, which stand at the front in every form.
+#[inline(always)]
+fn addresses(octets: &[u8]) -> (Mac, Mac)
+    requires { 12 ≤ length octets.now }
+    ensures dst { result.0 ≡ dst_in octets.now }
+    ensures src { result.1 ≡ src_in octets.now }
+{
+    let (dst, behind) = octets.split_first_chunk::<6>().unwrap();
+    let src = behind.first_chunk::<6>().unwrap();
+    (Mac(*dst), Mac(*src))
 }
 
 impl<'a> ParcelView<'a> {
@@ -75,7 +126,7 @@ impl<'a> ParcelView<'a> {
     pub fn plain(&self) -> FrameView<'a>
         ensures { spelling (fields_of result) ≡ plain_of self.now }
     {
-        self.plain
+        plain_view(self.form, self.octets)
     }
 
     /// The number that its source gave it, where it has one.
@@ -104,7 +155,19 @@ impl<'a> ParcelView<'a> {
     pub fn header(&self) -> Header
         ensures { result ≡ header_of self.now }
     {
-        Header::of(&self.plain, self.seq, self.path)
+        let (dst, src) = addresses(self.octets);
+        // As a rule it is no supervision, and then nothing more is read.
+        if dst == SUPERVISION {
+            return Header::of(&self.plain(), self.seq, self.path);
+        }
+        Header {
+            dst,
+            src,
+            seq: self.seq,
+            path: self.path,
+            supervision: false,
+            dst_known: false,
+        }
     }
 
     /// A parcel with octets of its own that are copied once. `NoMemory` where the growth was refused.
@@ -130,8 +193,8 @@ impl<'a> ParcelView<'a> {
     pub fn to_plain_parcel(&self, alloc: Global) -> Result<Parcel, NoMemory>
         ensures { IfOk result (λ p. p ≡ as_plain self.now) }
     {
-        let mut octets = Vec::with_capacity(alloc, self.plain.frame_len())?;
-        append(&mut octets, &self.plain)?;
+        let mut octets = Vec::with_capacity(alloc, self.plain().frame_len())?;
+        append(&mut octets, &self.plain())?;
         Ok(Parcel::of_parts(
             Form::Plain,
             Frame::of(octets),
@@ -153,26 +216,24 @@ impl<'a> ParcelView<'a> {
     pub fn plain_with(frame: &'a Frame, seq: Option<Seq>) -> ParcelView<'a>
         ensures { result ≡ plain_parcel frame.entry.now seq }
     {
-        ParcelView::of_parts(Form::Plain, frame.octets(), frame.view(), seq, 0, false)
+        ParcelView::of_parts(Form::Plain, frame.octets(), seq, 0, false)
     }
 
     /// The parcel with these parts, which agree.
     pub(crate) fn of_parts(
         form: Form,
         octets: &'a [u8],
-        plain: FrameView<'a>,
         seq: Option<Seq>,
         path: u8,
         wrong_lan: bool,
     ) -> ParcelView<'a>
-        requires parcel { IsParcel (record {
+        requires { IsParcel (record {
           form = form;
           octets = octets.now;
           seq = seq;
           path = path;
           wrong_lan = wrong_lan;
         }) }
-        requires plain { spelling (fields_of plain) ≡ plain_in form octets.now }
         ensures { result ≡ record {
           form = form;
           octets = octets.entry.now;
@@ -184,7 +245,6 @@ impl<'a> ParcelView<'a> {
         ParcelView {
             form,
             octets,
-            plain,
             seq,
             path,
             wrong_lan,

@@ -57,8 +57,8 @@ impl Framing for PlainFraming {
 
     #[inline(always)]
     fn read<'a>(&self, octets: &'a [u8]) -> Result<ParcelView<'a>, ReadFault> {
-        let frame = whole_frame(octets, MAX_PLAIN_LEN)?;
-        Ok(unnumbered(octets, &frame))
+        let _ = whole_frame(octets, MAX_PLAIN_LEN)?;
+        Ok(unnumbered(octets))
     }
 
     fn write(&self, out: &mut Vec<u8>, parcel: &ParcelView<'_>) -> Result<(), ReadFault> {

@@ -57,11 +57,10 @@ fn read_trailed<'a>(
     ensures some { IfSome result (λ p. IsTrailedParcel lan net octets.entry.now p) }
     ensures none { IfNone result (HasNoTrailer octets.entry.now) }
 {
-    let (plain, trailer) = parted(frame)?;
+    let (_, trailer) = parted(frame)?;
     Some(ParcelView::of_parts(
         Form::Prp,
         octets,
-        plain,
         Some(trailer.seq),
         path_of(lan, net),
         !is_same(trailer.lan, lan),
@@ -96,7 +95,7 @@ impl Framing for PrpFraming {
         let frame = whole_frame(octets, MAX_FRAME_LEN)?;
         match read_trailed(self.lan, self.net, octets, &frame) {
             Some(parcel) => Ok(parcel),
-            None if self.net == 0 => Ok(unnumbered(octets, &frame)),
+            None if self.net == 0 => Ok(unnumbered(octets)),
             None => Err(ReadFault::Untagged),
         }
     }

@@ -5,6 +5,9 @@ use sr_sequence::Seq;
 /// The type of a frame with an HSR tag (IEC 62439-3, clause 5).
 pub const HSR_KIND: u16 = 0x892F;
 
+/// The octets of a tag: its type, path and size, and number.
+pub const TAG_LEN: usize = 6;
+
 /// An HSR tag, as IEC 62439-3 clause 5 lays it out.
 #[derive(Clone, Copy, Debug, PartialEq, Eq)]
 pub struct HsrTag {

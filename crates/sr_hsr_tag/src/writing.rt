@@ -6,13 +6,10 @@ ghost use Rattle.sr_frame.specs.Frame.{spelling, head_of, least_len, padded};
 ghost use Rattle.sr_frame.specs.View.{fields_of};
 ghost use Rattle.sr_hsr_tag.specs.Tagged.{IsTag, IsTagged, tag_octets, octets_behind_type};
 
-use crate::tag::{HSR_KIND, HsrTag};
+use crate::tag::{HSR_KIND, HsrTag, TAG_LEN};
 use sr_frame::{Frame, FrameFault, FrameView, MAX_FRAME_LEN, MIN_PAYLOAD_LEN, NoMemory, append};
 use sr_sequence::Seq;
 use std::alloc::Global;
-
-/// The octets of a tag: its type, path and size, and number.
-const TAG_LEN: usize = 6;
 
 /// The frame with octets of its own.
 pub(crate) fn frame_of(alloc: Global, frame: &FrameView<'_>) -> Result<Frame, NoMemory>

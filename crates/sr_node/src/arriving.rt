@@ -329,19 +329,19 @@ impl<R: Role> NodeOf<R> {
     /// Octets come in at a port, in the framing of the port: what decoding them, and then `step`, would answer, and
     /// with no more memory than for the copies that go out.
     #[inline(always)]
-    pub fn arrive(
+    pub fn arrive<F: Framing>(
         &mut self,
-        framing: &dyn Framing,
+        framing: &F,
         port: Port,
         octets: &[u8],
         now: u64,
     ) -> Result<Answer, StepFault>
         ensures step { IfOk result (λ a.
-            OctetsArrived ((⟦<dyn Framing as Framing>⟧ framing.now.0).meaning framing.now.1)
+            OctetsArrived (F.meaning framing.now)
             (node_state (R.meaning self.old.role) self.old.core) port octets.now now a
             (node_state (R.meaning self.new.role) self.new.core)) }
         ensures err { IfErr result (λ f.
-            OctetsRefused ((⟦<dyn Framing as Framing>⟧ framing.now.0).meaning framing.now.1)
+            OctetsRefused (F.meaning framing.now)
             (node_state (R.meaning self.old.role) self.old.core) port octets.now now f) }
         ensures same { OnErr result (node_state (R.meaning self.new.role) self.new.core
             ≡ node_state (R.meaning self.old.role) self.old.core) }
@@ -383,7 +383,7 @@ impl<R: Role> NodeOf<R> {
                 spot,
             } => {
                 // The call stands twice, so that what is said takes no room where nothing is.
-                match said_by(parcel) {
+                match said_by(parcel, &header) {
                     None => self.pass(port, parcel, &header, now, wanted, outlets, spot, None)?,
                     said => self.pass(port, parcel, &header, now, wanted, outlets, spot, said)?,
                 }

@@ -84,13 +84,15 @@ impl Outbox {
         self.queue.pop_front()
     }
 
-    // The first parcel goes; its list is the spare one then.
+    // The first parcel goes; its list is a spare one then, where there is room for one more.
     #[inline(always)]
-    fn drop_first(&mut self, spare: &mut Vec<u8>)
+    fn drop_first(&mut self, spare: &mut Vec<Vec<u8>>)
         ensures { self.new ≡ drop 1 self.old }
     {
         if let Some(parcel) = self.queue.pop_front() {
-            *spare = parcel.into_octets();
+            if spare.len() < spare.capacity() {
+                spare.push_reserved(parcel.into_octets());
+            }
         }
     }
 
@@ -163,9 +165,9 @@ impl PerPort<Outbox> {
         }
     }
 
-    /// The first parcel of a queue goes; its list is the spare one then.
+    /// The first parcel of a queue goes; its list is a spare one then, where there is room for one more.
     #[inline(always)]
-    pub(crate) fn drop_first(&mut self, port: Port, spare: &mut Vec<u8>)
+    pub(crate) fn drop_first(&mut self, port: Port, spare: &mut Vec<Vec<u8>>)
         ensures { self.new ≡ boxes_left self.old port }
     {
         match port {

@@ -39,6 +39,9 @@ const FIRST_NUMBER: Seq = Seq(64511);
 /// The first number of a node's life checks (as Linux begins).
 const FIRST_LIFE_NUMBER: Seq = Seq(32255);
 
+/// So many lists are kept for later copies: a frame has no more, one for each outlet.
+const MOST_SPARE: usize = 4;
+
 /// The time, the numbers to come, what is noted of each source, what waits, and the counts.
 #[derive(Drop)]
 pub struct Core {
@@ -50,8 +53,8 @@ pub struct Core {
     nodes: NodeTable,
     out: PerPort<Outbox>,
     wrong_lan: PerPort<u64>,
-    // A list that the next copy of a frame is made in.
-    spare: Vec<u8>,
+    // Lists that the next copies of frames are made in.
+    spare: Vec<Vec<u8>>,
     alloc: Global,
 }
 
@@ -113,7 +116,7 @@ impl Core {
                 b: 0,
                 c: 0,
             },
-            spare: Vec::new(alloc),
+            spare: Vec::with_capacity(alloc, MOST_SPARE)?,
             alloc,
         })
     }

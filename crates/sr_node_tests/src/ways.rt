@@ -85,7 +85,13 @@ pub fn ended(call: Result<Answer, StepFault>) -> Outcome {
 }
 
 // One call for all framings, so that no branch has the node's answer.
-fn read_by(framing: &dyn Framing, node: &mut Node, port: Port, octets: &[u8], now: u64) -> Outcome {
+fn read_by<F: Framing>(
+    framing: &F,
+    node: &mut Node,
+    port: Port,
+    octets: &[u8],
+    now: u64,
+) -> Outcome {
     ended(node.arrive(framing, port, octets, now))
 }
 

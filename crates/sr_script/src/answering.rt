@@ -14,7 +14,7 @@ ghost use Rattle.sr_script.specs.Stations.{framing_of};
 ghost use Rattle.sr_script.specs.Texts.{name_of, refusal_line};
 ghost use Rattle.sr_script.specs.Replies.{Obeys, Replied};
 
-use crate::carriers::carrier_of;
+use crate::carriers::{Carrier, carrier_of};
 use crate::fault::Word;
 use crate::printing::append_outlets;
 use crate::reading::{Command, command_of};
@@ -85,11 +85,17 @@ fn arrive<R: Role>(
     ensures same { OnErr result (node_state (R.meaning node.new.role) node.new.core
         ≡ node_state (R.meaning node.old.role) node.old.core) }
 {
-    let carrier = carrier_of(role, port);
-    node.arrive(&carrier, port, octets, time)
+    // The call stands at each kind, so that what is read goes into the node without a detour.
+    match carrier_of(role, port) {
+        Carrier::Plain(framing) => node.arrive(&framing, port, octets, time),
+        Carrier::Ring(framing) => node.arrive(&framing, port, octets, time),
+        Carrier::Network(framing) => node.arrive(&framing, port, octets, time),
+    }
 }
 
-/// The host sends octets. Their list becomes the frame, and is a new one then.
+/// The host sends octets. Their list becomes the frame, and is a new one then. It stands apart, as `tick` does, so that a frame
+/// that comes in clears no room for an event.
+#[inline(never)]
 fn send<R: Role>(
     alloc: Global,
     node: &mut NodeOf<R>,
@@ -113,6 +119,21 @@ fn send<R: Role>(
     }
     let frame = Frame::of(std::mem::replace(octets, Vec::new(alloc)));
     node.step(&Event::Send { frame, now: time })
+}
+
+/// Time passes.
+#[inline(never)]
+fn tick<R: Role>(node: &mut NodeOf<R>, now: u64) -> Result<Answer, StepFault>
+    ensures taken { IfOk result (λ a. Step (node_state (R.meaning node.old.role) node.old.core)
+        (event.Tick now) a (node_state (R.meaning node.new.role) node.new.core)) }
+    ensures ok { OnOk result (refusal_of (node_state (R.meaning node.old.role) node.old.core)
+        (event.Tick now) ≡ None) }
+    ensures refused { IfErr result (λ f. f ≡ or_no_memory
+        (refusal_of (node_state (R.meaning node.old.role) node.old.core) (event.Tick now))) }
+    ensures same { OnErr result (node_state (R.meaning node.new.role) node.new.core
+        ≡ node_state (R.meaning node.old.role) node.old.core) }
+{
+    node.step(&Event::Tick { now })
 }
 
 /// Appends the line for an event that is refused for this reason.
@@ -155,7 +176,7 @@ pub(crate) fn obey<R: Role>(
             Ok(_) => Ok(()),
             Err(fault) => tell_refusal(text, number, fault),
         },
-        Command::Tick(now) => match node.step(&Event::Tick { now }) {
+        Command::Tick(now) => match tick(node, now) {
             Ok(_) => Ok(()),
             Err(fault) => tell_refusal(text, number, fault),
         },
@@ -173,6 +194,7 @@ pub(crate) fn answer<R: Role>(
     number: u64,
     line: &[u8],
     octets: &mut Vec<u8>,
+    frame: &mut Vec<u8>,
     text: &mut Vec<u8>,
 ) -> Result<(), Word>
     ensures ok { OnOk result ((answer : List ℕ)
@@ -187,6 +209,6 @@ pub(crate) fn answer<R: Role>(
 {
     let command = command_of(role, line, octets)?;
     obey(alloc, role, node, number, command, octets, text)?;
-    append_outlets(role, node, octets, text)?;
+    append_outlets(role, node, frame, text)?;
     Ok(())
 }

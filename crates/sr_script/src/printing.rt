@@ -15,10 +15,9 @@ use crate::carriers::{Carrier, carrier_of};
 use crate::fault::Word;
 use crate::setups::RoleName;
 use sr_forwarding::{Form, Framing, Parcel, Role};
-use sr_frame::{Port, append};
+use sr_frame::Port;
 use sr_hex::append_hex;
 use sr_node::NodeOf;
-use sr_prp_trailer::TRAILER_LEN;
 use std::alloc::AllocError;
 
 /// The letter of a port.
@@ -57,10 +56,10 @@ pub fn write_plain(parcel: &Parcel, frame: &mut Vec<u8>) -> Result<(), Word>
     ensures size { OnOk result (length frame.new.items ≤ 1524) }
     ensures err { IfErr result (λ word. word ≡ Word.Memory) }
 {
-    match append(frame, &parcel.plain()) {
-        Ok(()) => Ok(()),
-        Err(_) => Err(Word::Memory),
-    }
+    let (front, behind) = parcel.plain_pieces();
+    frame.extend_from_slice(front)?;
+    frame.extend_from_slice(behind)?;
+    Ok(())
 }
 
 /// Writes a parcel by the framing of a port into an empty list.
@@ -95,17 +94,13 @@ fn write_frame(role: RoleName, port: Port, parcel: &Parcel, frame: &mut Vec<u8>)
     }
 }
 
-/// The plain form of a parcel, where it is a front of its octets.
+/// The plain form of a parcel, where it stands in one piece among its octets.
 fn plain_in_place(parcel: &Parcel) -> Option<&[u8]>
     ensures plain { IfSome result (λ octets. octets.now ≡ plain_of parcel.now) }
     ensures size { IfSome result (λ octets. length octets.now ≤ 1524) }
 {
-    let octets = parcel.octets();
-    match parcel.form() {
-        Form::Plain => Some(octets),
-        Form::Prp => Some(&octets[..octets.len() - TRAILER_LEN]),
-        Form::Hsr => None,
-    }
+    let (front, behind) = parcel.plain_pieces();
+    if behind.is_empty() { Some(front) } else { None }
 }
 
 /// The octets of a parcel, where the framing of a port writes them as they are.

@@ -16,6 +16,8 @@ pub(crate) struct NodeSession<P: Role + Send> {
     pub(crate) node: NodeOf<P>,
     // The octets of a line, in a list that is used again.
     pub(crate) octets: Vec<u8>,
+    // A frame that is written anew, in a list that is used again.
+    pub(crate) frame: Vec<u8>,
 }
 
 impl<P: Role + Send> Session for NodeSession<P> {
@@ -40,6 +42,7 @@ impl<P: Role + Send> Session for NodeSession<P> {
             number,
             line,
             &mut self.octets,
+            &mut self.frame,
             text,
         )
     }

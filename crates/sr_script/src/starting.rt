@@ -67,6 +67,7 @@ fn run_over<P: Role + Send, R: BufRead, W: Write>(
         role: setup.role,
         node,
         octets: Vec::new(alloc),
+        frame: Vec::new(alloc),
     };
     match report {
         Report::Frames => run_session(alloc, &mut session, &mut line, reader, writer),
