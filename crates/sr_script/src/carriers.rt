@@ -26,7 +26,6 @@ impl Framing for Carrier {
 
     ghost meaning = { carried };
 
-    #[inline(always)]
     fn read<'a>(&self, octets: &'a [u8]) -> Result<ParcelView<'a>, ReadFault> {
         match self {
             Carrier::Plain(framing) => framing.read(octets),
