@@ -90,9 +90,10 @@ impl Hasher for KeyedHasher {
         spread ((((h.keys.factor * h.word) % 2 ^ 128 + h.keys.addend) % 2 ^ 128) / 2 ^ 64) };
 
     fn write(&mut self, octets: &[u8]) {
-        for octet in octets {
-            self.word = self.word.wrapping_mul(256).wrapping_add(*octet as u64);
-        }
+        self.word = match octets {
+            [a, b, c, d, e, f] => after_address(self.word, [*a, *b, *c, *d, *e, *f]),
+            _ => after_each(self.word, octets),
+        };
     }
 
     // Over all keys, the numbers of any two different words are a uniform pair: so is the upper half of
@@ -105,6 +106,26 @@ impl Hasher for KeyedHasher {
             .wrapping_add(self.keys.addend);
         spread((sum >> 64) as u64)
     }
+}
+
+// The last eight octets, as a number, when these were written after those of a word.
+fn after_each(mut word: u64, octets: &[u8]) -> u64
+    ensures { result ≡ fold (λ w octet. (w * 256 + octet) % 2 ^ 64) word octets.now }
+{
+    for octet in octets {
+        word = word.wrapping_mul(256).wrapping_add(*octet as u64);
+    }
+    word
+}
+
+// The same of an address, which is what a table looks up: two numbers in place of six steps.
+fn after_address(word: u64, octets: [u8; 6]) -> u64
+    ensures { result ≡ fold (λ w octet. (w * 256 + octet) % 2 ^ 64) word octets }
+{
+    let front = u32::from_be_bytes([octets[0], octets[1], octets[2], octets[3]]);
+    let back = u16::from_be_bytes([octets[4], octets[5]]);
+    word.wrapping_mul(0x1_0000_0000_0000)
+        .wrapping_add(front as u64 * 65536 + back as u64)
 }
 
 // One to one, so that words of one step do not stay in step where a factor is unlucky.

@@ -1,6 +1,6 @@
 use Rattle.std.proofs.Common.{arith}
 use Rattle.std.proofs.lemmas.Grind.{common_steps}
-use Rattle.sr_slots.proofs.keys.KeyedHasherHasher.write.Goals as goal
+use Rattle.sr_slots.proofs.keys.after_each.Goals as goal
 
 pub loop-octet-preserved : goal.loop-octet-preserved
 loop-octet-preserved c = grind (arith, common_steps)
