@@ -1,11 +1,16 @@
 -- Blocks of sixteen octets and their thirty-two digits.
-use Rattle.std.proofs.Common.{◌≡◌, ℕ, suc, Bool, true, false, eqb, eqb-true, [], ◌∷◌, unwrap_or, Result, Ok, Err, refl, ◌+◌, ◌-◌, ◌*◌, ◌<◌, ◌≤◌, ◌↔◌, List, ◌++◌, length, slice_index, sym, ap, ◌∙◌, subst, inl, inr, arith}
-use Rattle.std.specs.Prelude.{min, max, MatchBool, IsErr}
+use Rattle.std.proofs.Common.{◌≡◌, ℕ, suc, Bool, true, false, eqb, eqb-true, [], ◌∷◌, unwrap_or, Option, Some, None, Result, Ok, Err, refl, ◌+◌, ◌-◌, ◌*◌, ◌/◌, ◌<◌, ◌≤◌, take, ◌↔◌, List, ◌++◌, length, slice_index, sym, ap, ◌∙◌, subst, inl, inr, arith}
+use Rattle.std.specs.Prelude.{is_some, min, max, MatchBool, IsErr}
+use Rattle.std.specs.List.{AllPass}
+use Rattle.std.proofs.lemmas.List.Elements.{All-from_get_or}
+use lib.Seq.{get_or-take}
+use Rattle.std.proofs.Common.{length-take}
 use Rattle.std.proofs.lemmas.Bool.{cases_lt}
+use Rattle.std.proofs.lemmas.List.{get_or_past}
 use Rattle.hex.specs.Hex.{decode_of, decode_pairs, hex_digit_value, is_hex_digit}
 use Rattle.hex.proofs.HexLemmas.{decode_of-even, decode_of-ok}
-use Rattle.sr_hex.specs.Lanes.{HasLanes}
-use Rattle.sr_hex.specs.Values.{value_of, octet_of, AreSpelled, AreDigits, AreKept, AreSmall}
+use Rattle.sr_hex.specs.Lanes.{HasLanes, IsSmallFront}
+use Rattle.sr_hex.specs.Values.{value_of, octet_of, AreSpelled, AreDigits, AreKept, AreSmall, IsDigitFront}
 use Rattle.sr_hex.proofs.LaneLemmas.{joined, every_below}
 use Rattle.sr_hex.proofs.Digits.{digit_small, pair_spelled}
 
@@ -47,6 +52,37 @@ block_small digits first second at h1 h2 =
         λ i h. subst (λ m. m < 16) (sym (h1.each i h)) (all (2 * at + i) (omega arith) (omega arith)),
         λ i h. subst (λ m. m < 16) (sym (h2.each i h)) (all (2 * at + 16 + i) (omega arith) (omega arith)),
       ),
+    )
+
+-- so many codes are digits, up to the first that is none
+abbrev pub IsFrontAt : List ℕ → ℕ → ℕ → Type 0
+IsFrontAt text from count = AreDigits text from (from + count) × (count < 32 → 16 ≤ value_of (slice_index text (from + count)))
+
+pub front_in_first : (text first : List ℕ) (from count : ℕ) → HasLanes first (λ i. value_of (slice_index text (from + i)))
+    → IsSmallFront first count → count < 16 → IsFrontAt text from count
+front_in_first text first from count h1 front lt = (
+  λ k low high.
+      let e : from + (k - from) ≡ k = omega arith in
+      subst (λ m. m < 16) (h1.each (k - from) (omega arith) ∙ ap (λ p. value_of (slice_index text p)) e) (front.small (k - from) (omega arith)),
+  λ _. subst (λ m. 16 ≤ m) (h1.each count lt) (front.large lt),
+)
+
+pub front_in_second : (text first second : List ℕ) (from all count : ℕ) → HasLanes first (λ i. value_of (slice_index text (from + i)))
+    → HasLanes second (λ i. value_of (slice_index text (from + 16 + i))) → IsSmallFront first all → 16 ≤ all → IsSmallFront second count
+    → IsFrontAt text from (16 + count)
+front_in_second text first second from all count h1 h2 front whole behind =
+    let value = λ (p : ℕ). value_of (slice_index text p) in (
+      λ k low high. elim (cases_lt (k - from) 16) [
+        | inl l ↦
+            let e : from + (k - from) ≡ k = omega arith in
+            subst (λ m. m < 16) (h1.each (k - from) l ∙ ap value e) (front.small (k - from) (omega arith))
+        | inr g ↦
+            let e : from + 16 + (k - from - 16) ≡ k = omega arith in
+            subst (λ m. m < 16) (h2.each (k - from - 16) (omega (arith, behind.within)) ∙ ap value e) (behind.small (k - from - 16) (omega arith))
+      ],
+      λ short.
+          let e : from + 16 + count ≡ from + (16 + count) = omega arith in
+          subst (λ m. 16 ≤ m) (h2.each count (omega arith) ∙ ap value e) (behind.large (omega arith)),
     )
 
 -- the larger of two is small where both are
@@ -124,3 +160,67 @@ all_read s before out at last good small block fits twice long past near so_far 
       ],
       λ all. is.1 (front.1 (λ k low high. all k low (omega arith)), back.1 (λ k low high. all k (omega arith) (omega arith))),
     )
+
+-- ---- digits at the front of a text
+
+-- a code whose value is small is a digit, and no other code is one
+small_is_digit : (c : ℕ) → c < 256 → value_of c < 16 → is_hex_digit c ≡ true
+small_is_digit c lt small = some_value (hex_digit_value c) (subst (λ v. v < 16) (value_is c lt small) small)
+  where
+    some_value : (o : Option ℕ) → unwrap_or o 255 < 16 → is_some o ≡ true
+    some_value None h = absurd (omega arith)
+    some_value (Some v) h = refl
+
+large_is_none : (c : ℕ) → c < 256 → 16 ≤ value_of c → is_hex_digit c ≡ false
+large_is_none c lt large = by_case (is_hex_digit c) refl
+  where
+    by_case : (t : Bool) → is_hex_digit c ≡ t → t ≡ false
+    by_case false e = refl
+    by_case true e = absurd (let small = value_small c lt e in omega arith)
+
+pub front_digits : (s : List ℕ) (n : ℕ) → Octets s → AreDigits s 0 n → AllPass is_hex_digit (take n s)
+front_digits s n fits digits =
+    All-from_get_or (λ c. is_hex_digit c ≡ true) (take n s) 0 (λ k inside.
+    let lt : k < n = omega (arith, length-take n s) in
+    subst (λ c. is_hex_digit c ≡ true) (sym (get_or-take n s k 0 lt)) (small_is_digit (slice_index s k) (fits k) (digits k (omega arith) lt)))
+
+pub digits_on : (s : List ℕ) (at count : ℕ) → AreDigits s 0 (2 * at) → AreDigits s (2 * at) (2 * at + count) → AreDigits s 0 (2 * at + count)
+digits_on s at count before here k low high = elim (cases_lt k (2 * at)) [
+  | inl l ↦ before k low l
+  | inr g ↦ here k g high
+]
+
+-- the digits go on for so many octets from a place that they reached
+pub front_ends : (s : List ℕ) (at count : ℕ) → Octets s → 2 * at + count < length s → AreDigits s 0 (2 * at) → AreDigits s (2 * at) (2 * at + count)
+    → 16 ≤ value_of (slice_index s (2 * at + count)) → IsDigitFront s (2 * at + count)
+front_ends s at count fits inside before here end = record {
+  within = inside;
+  digits = front_digits s (2 * at + count) fits (digits_on s at count before here);
+  end = large_is_none (slice_index s (2 * at + count)) (fits (2 * at + count)) end;
+}
+
+pub spelled_on : (s old new : List ℕ) (at : ℕ) → AreSpelled s old 0 at → AreSpelled s new at (at + 16) → AreKept old new at → AreSpelled s new 0 (at + 16)
+spelled_on s old new at before here kept i low high = elim (cases_lt i at) [
+  | inl l ↦ kept i l ∙ before i low l
+  | inr g ↦ here i g high
+]
+
+-- so many octets are what the digits at the front spell
+pub front_spelled : (s out : List ℕ) (m : ℕ) → Octets s → 2 * m ≤ length s → m ≤ length out → AreDigits s 0 (2 * m) → AreSpelled s out 0 m
+    → decode_of (take (2 * m) s) ≡ Ok (take m out)
+front_spelled s out m fits inside room digits spelled =
+    let long : length (take (2 * m) s) ≡ 2 * m = omega (arith, length-take (2 * m) s) in
+    let wide : length (take m out) ≡ m = omega (arith, length-take m out) in
+    let code : (k : ℕ) → k < 2 * m → slice_index (take (2 * m) s) k ≡ slice_index s k = λ k lt. get_or-take (2 * m) s k 0 lt in
+    decode_of-even (take (2 * m) s) (omega arith)
+    ∙ decoded 0 (take (2 * m) s) (take m out) (Octets-take s (2 * m) fits) (omega arith)
+    (λ k low high. let lt : k < 2 * m = omega arith in subst (λ c. value_of c < 16) (sym (code k lt)) (digits k low lt))
+    (λ i low high.
+    let lt : i < m = omega arith in
+    get_or-take m out i 0 lt ∙ spelled i low lt ∙ (λ j. octet_of (value_of (sym (code (2 * i) (omega arith)) j)) (value_of (sym (code (2 * i + 1) (omega arith)) j))))
+  where
+    Octets-take : (s : List ℕ) (n : ℕ) → Octets s → Octets (take n s)
+    Octets-take s n fits k = elim (cases_lt k (length (take n s))) [
+      | inl l ↦ subst (λ c. c < 256) (sym (get_or-take n s k 0 (omega (arith, length-take n s)))) (fits k)
+      | inr g ↦ let past = get_or_past (take n s) k 0 g in omega (arith, past)
+    ]

@@ -1,12 +1,13 @@
 -- What the operations on vectors of sixteen octets hold at each lane.
-use Rattle.std.proofs.Common.{◌≡◌, ℕ, zero, suc, ◌+◌, ◌-◌, ◌%◌, ◌^◌, ◌<◌, ◌↔◌, Bool, true, false, ◌&&◌, cond, eqb, ltb, leb, List, [], ◌∷◌, ◌++◌, map, length, get_or, replicate, refl, sym, ap, ◌∙◌, inl, inr, arith, w8, Fits, eqb-true, eq-eqb, leb-false, leb-true, ltb-true, ltb-false}
+use Rattle.std.proofs.Common.{◌≡◌, ℕ, zero, suc, ◌+◌, ◌-◌, ◌%◌, ◌^◌, ◌<◌, ◌↔◌, Bool, true, false, not, ◌&&◌, cond, eqb, ltb, leb, List, [], ◌∷◌, ◌++◌, map, length, get_or, replicate, refl, sym, ap, ◌∙◌, inl, inr, arith, w8, Fits, eqb-true, eq-eqb, leb-false, leb-true, ltb-true, ltb-false}
 use Rattle.std.specs.Prelude.{min, max}
-use Rattle.std.proofs.lemmas.Bool.{cases_lt, and_parts}
+use Rattle.std.proofs.lemmas.Bool.{cases_lt, and_parts, not-true, not-false}
 use Rattle.std.proofs.lemmas.List.{get_or_append_left, get_or-append_right, length-map, get_or_past, get_or-map}
-use Rattle.std.proofs.lemmas.Simd.{get_or-zip2, get_or-replicate, length-zip2, tops_compared, length-sel_l, get_or-sel_l, mask_l-mod}
-use Rattle.std.specs.List.{range_with_len}
+use Rattle.std.proofs.lemmas.Simd.{get_or-zip2, get_or-replicate, length-zip2, tops_compared, length-sel_l, get_or-sel_l, mask_l-mod, first_set_mask_l}
+use Rattle.std.proofs.lemmas.List.Sums.{prefix_len-le-length, prefix_len_passes, prefix_len_stops}
+use Rattle.std.specs.List.{range_with_len, prefix_len}
 use lib.Lanes.{zip2, sel_l, mask_l, top, Each1}
-use Rattle.sr_hex.specs.Lanes.{HasLanes}
+use Rattle.sr_hex.specs.Lanes.{HasLanes, first_set, IsSmallFront}
 use Rattle.sr_hex.specs.Values.{AreSmall}
 
 pub lane_fits : (v : List ℕ) (i : ℕ) → Each1 (Fits w8) v → get_or v i 0 < 256
@@ -108,6 +109,36 @@ pub small_of_mask : (xs : List ℕ) → length xs ≡ 16 → (eqb (mask_l (map (
 small_of_mask xs long =
     let e = mask_small at_least (replicate 16 16) xs refl long ∙ ap (λ n. mask_l (map (top 7) (zip2 at_least (replicate n 16) xs))) (sym long) in
     (λ t i l. (none_large xs).0 (sym e ∙ eqb-true _ _ t) i, λ z. eq-eqb _ _ (e ∙ (none_large xs).1 (past_small xs long z)))
+
+-- ---- the first lane that is 16 or more
+
+abbrev is_large : ℕ → Bool
+is_large x = top 7 (at_least 16 x)
+
+large_is : (x : ℕ) → is_large x ≡ leb 16 x
+large_is x = go (leb 16 x)
+  where
+    go : (t : Bool) → top 7 (cond t 255 0) ≡ t
+    go true = refl
+    go false = refl
+
+large_lanes : (xs : List ℕ) → map (top 7) (zip2 at_least (replicate (length xs) 16) xs) ≡ map is_large xs
+large_lanes [] = refl
+large_lanes (x ∷ xs) = ap (λ r. is_large x ∷ r) (large_lanes xs)
+
+pub small_front_of_mask : (xs : List ℕ) (r : ℕ) → length xs ≡ 16 → r ≡ first_set (mask_l (map (top 7) (zip2 at_least (replicate 16 16) xs)) % 2 ^ 64)
+    → IsSmallFront xs r
+small_front_of_mask xs r long found =
+    let mask = mask_small at_least (replicate 16 16) xs refl long ∙ ap (λ n. mask_l (map (top 7) (zip2 at_least (replicate n 16) xs))) (sym long)
+    ∙ ap mask_l (large_lanes xs) in
+    let counted : r ≡ prefix_len (λ x. not (is_large x)) xs = found ∙ ap first_set mask ∙ first_set_mask_l is_large xs 16 long (omega arith) in
+    record {
+      within = omega (arith, counted, long, prefix_len-le-length (λ x. not (is_large x)) xs);
+      small = λ i h. leb-false _ _ (sym (large_is (get_or xs i 0)) ∙ not-true _ (prefix_len_passes (λ x. not (is_large x)) xs i 0 (omega (arith, counted))));
+      large = λ h.
+          leb-true _ _ (sym (large_is (get_or xs r 0)) ∙ ap (λ k. is_large (get_or xs k 0)) counted
+          ∙ not-false _ (prefix_len_stops (λ x. not (is_large x)) xs 0 (omega (arith, counted, long))));
+    }
 
 -- ---- sixteen lanes, one by one
 

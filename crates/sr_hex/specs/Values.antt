@@ -1,5 +1,8 @@
 -- The values of hexadecimal digits, by their distances from `9` and from `a`, and the digits of numbers.
-use Rattle.std.specs.Prelude.{◌≡◌, ◌+◌, ◌-◌, ◌*◌, ◌/◌, ◌%◌, ◌<◌, ◌≤◌, ℕ, List, slice_index, bit_or, min, nat_lt, if◌then◌else◌}
+use Rattle.std.specs.Prelude.{◌≡◌, ◌+◌, ◌-◌, ◌*◌, ◌/◌, ◌%◌, ◌<◌, ◌≤◌, ℕ, List, length, take, slice_index, bit_or, min, nat_lt}
+use Rattle.std.specs.Prelude.{if◌then◌else◌, false}
+use Rattle.std.specs.List.{AllPass}
+use Rattle.hex.specs.Hex.{is_hex_digit}
 
 -- the value of a code from `0` to `9`, and 16 or more for every other code: 198 more modulo 256, which is 255 for `9`,
 -- then 6 less, but no less than 0, and 16 more modulo 256
@@ -47,3 +50,9 @@ abbrev pub AreWritten : List ℕ → List ℕ → ℕ → ℕ → Type 0
 AreWritten octets digits from to = (i : ℕ) → from ≤ i → i < to
     → (slice_index digits (2 * i) ≡ digit_of (slice_index octets i / 16))
     × (slice_index digits (2 * i + 1) ≡ digit_of (slice_index octets i % 16))
+
+-- so many octets at the front of a text are digits, and the next one is none
+pub record IsDigitFront (text : List ℕ) (count : ℕ) : Type 0 where
+  pub within : count < length text
+  pub digits : AllPass is_hex_digit (take count text)
+  pub end : is_hex_digit (slice_index text count) ≡ false

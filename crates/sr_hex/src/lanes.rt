@@ -2,6 +2,7 @@
 
 ghost use Rattle.std.specs.Prelude.{◌≡◌, ◌↔◌, ◌+◌, ◌-◌, ◌*◌, ◌/◌, ◌%◌, ◌≤◌, ◌<◌, ◌++◌, ℕ, IsTrue, length, slice_index, min, max};
 ghost use Rattle.sr_hex.specs.Lanes.{HasLanes};
+ghost use Rattle.sr_hex.specs.Lanes.{first_set, IsSmallFront};
 ghost use Rattle.sr_hex.specs.Values.{AreSmall, AreKept, decimal_value, above_a, digit_of, octet_of};
 
 use std::simd::prelude::*;
@@ -98,6 +99,26 @@ pub(crate) fn are_small(v: u8x16) -> bool
     ensures { IsTrue result ↔ AreSmall v }
 {
     v.simd_ge(u8x16::splat(16)).to_bitmask() == 0
+}
+
+/// The place of the lowest bit that is set; 16 where none is.
+#[inline(always)]
+fn first_set(mask: u64) -> usize
+    ensures { result ≡ first_set mask }
+{
+    if mask == 0 {
+        16
+    } else {
+        mask.trailing_zeros() as usize
+    }
+}
+
+/// How many lanes stand before the first that is 16 or more: all sixteen where none is.
+#[inline(always)]
+pub(crate) fn small_front(v: u8x16) -> usize
+    ensures { IsSmallFront v result }
+{
+    first_set(v.simd_ge(u8x16::splat(16)).to_bitmask())
 }
 
 /// The upper four bits of octets.

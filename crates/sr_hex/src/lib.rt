@@ -5,5 +5,5 @@ mod lanes;
 mod reading;
 mod writing;
 
-pub use reading::{are_digits, read_hex};
-pub use writing::append_hex;
+pub use reading::{are_digits, read_front, read_hex};
+pub use writing::{append_hex, write_hex};

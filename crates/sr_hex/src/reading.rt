@@ -1,12 +1,14 @@
 //! Octets read from hexadecimal digits, thirty-two digits at a time.
 
-ghost use Rattle.std.specs.Prelude.{◌≡◌, ◌↔◌, ◌+◌, ◌*◌, ◌≤◌, ◌<◌, ℕ, IsTrue, IsErr, MatchBool, length, slice_index, unwrap_or};
+ghost use Rattle.std.specs.Prelude.{◌≡◌, ◌↔◌, ◌+◌, ◌*◌, ◌/◌, ◌≤◌, ◌<◌, ℕ, IsTrue, IsErr, IfSome, MatchBool, length, slice_index, take, min, unwrap_or};
 ghost use Rattle.std.specs.List.{AllPass};
 ghost use Rattle.hex.specs.Hex.{decode_of, hex_digit_value, is_hex_digit};
 ghost use Rattle.sr_hex.specs.Lanes.{HasLanes};
-ghost use Rattle.sr_hex.specs.Values.{AreSpelled, AreDigits, AreKept, AreSmall, value_of};
+ghost use Rattle.sr_hex.specs.Values.{AreSpelled, AreDigits, AreKept, AreSmall, IsDigitFront, value_of};
 
-use crate::lanes::{are_small, larger, letters, load, numbers, octets_of, smaller, store};
+use crate::lanes::{
+    are_small, larger, letters, load, numbers, octets_of, small_front, smaller, store,
+};
 use std::simd::prelude::*;
 
 /// The values of digits; 16 or more where a code is none.
@@ -25,9 +27,26 @@ fn both(a: u8x16, b: u8x16) -> u8x16
     larger(a, b)
 }
 
+/// Reads sixteen octets from a place on. The results are the values of their digits.
+#[inline(always)]
+fn read_block(digits: &[u8], at: usize, octets: &mut [u8]) -> (u8x16, u8x16)
+    requires whole { 2 * at + 32 ≤ length digits.now }
+    requires within { at + 16 ≤ length octets.old }
+    ensures long { length octets.new ≡ length octets.old }
+    ensures spelled { AreSpelled digits.now octets.new at (at + 16) }
+    ensures kept { AreKept octets.old octets.new at }
+    ensures first { HasLanes result.0 (λ i. value_of (slice_index digits.now (2 * at + i))) }
+    ensures second { HasLanes result.1 (λ i. value_of (slice_index digits.now (2 * at + 16 + i))) }
+{
+    let first = values(load(digits, 2 * at));
+    let second = values(load(digits, 2 * at + 16));
+    store(octets_of(first, second), octets, at);
+    (first, second)
+}
+
 /// Reads sixteen octets from a place on. The result is small where all of their digits are digits.
 #[inline(always)]
-fn read_block(digits: &[u8], at: usize, octets: &mut [u8]) -> u8x16
+fn read_digits(digits: &[u8], at: usize, octets: &mut [u8]) -> u8x16
     requires pairs { length digits.now ≡ 2 * length octets.old }
     requires within { at + 16 ≤ length octets.old }
     ensures long { length octets.new ≡ length octets.old }
@@ -35,10 +54,32 @@ fn read_block(digits: &[u8], at: usize, octets: &mut [u8]) -> u8x16
     ensures kept { AreKept octets.old octets.new at }
     ensures small { AreSmall result ↔ AreDigits digits.now (2 * at) (2 * (at + 16)) }
 {
-    let first = values(load(digits, 2 * at));
-    let second = values(load(digits, 2 * at + 16));
-    store(octets_of(first, second), octets, at);
+    let (first, second) = read_block(digits, at, octets);
     both(first, second)
+}
+
+/// Reads sixteen octets from a place on. The result is how many octets of the text from there on are digits, up to the first that
+/// is none: all thirty-two where none of them is that.
+#[inline(always)]
+fn read_up_to(text: &[u8], at: usize, octets: &mut [u8]) -> usize
+    requires whole { 2 * at + 32 ≤ length text.now }
+    requires within { at + 16 ≤ length octets.old }
+    ensures long { length octets.new ≡ length octets.old }
+    ensures spelled { AreSpelled text.now octets.new at (at + 16) }
+    ensures kept { AreKept octets.old octets.new at }
+    ensures count { result ≤ 32 }
+    ensures digits { AreDigits text.now (2 * at) (2 * at + result) }
+    ensures end { result < 32 → 16 ≤ value_of (slice_index text.now (2 * at + result)) }
+{
+    let (first, second) = read_block(text, at, octets);
+    if are_small(both(first, second)) {
+        return 32;
+    }
+    let count = small_front(first);
+    if count < 16 {
+        return count;
+    }
+    16 + small_front(second)
 }
 
 /// Reads sixteen octets or more, sixteen at a time. Of the last sixteen some may have been read before.
@@ -52,10 +93,10 @@ fn read_blocks(digits: &[u8], octets: &mut [u8]) -> bool
     let mut worst = u8x16::splat(0);
     let mut at = 0;
     while at < last {
-        worst = both(worst, read_block(digits, at, octets));
+        worst = both(worst, read_digits(digits, at, octets));
         at += 16;
     }
-    are_small(both(worst, read_block(digits, last, octets)))
+    are_small(both(worst, read_digits(digits, last, octets)))
 }
 
 /// The value of a digit of either case; 255 where it is none.
@@ -87,6 +128,31 @@ fn read_few(digits: &[u8], octets: &mut [u8]) -> bool
         octets[i] = high.wrapping_mul(16).wrapping_add(low);
     }
     worst < 16
+}
+
+/// Writes the octets that the digits at the front of a text spell, two digits each, up to the first octet of the text that is no
+/// digit. The answer is how many octets stand before that; a last digit without a second one spells nothing.
+///
+/// The text is read in steps of thirty-two octets, of which as many are read as are whole and `octets` has room for. None where
+/// all octets of these steps are digits.
+pub fn read_front(text: &[u8], octets: &mut [u8]) -> Option<usize>
+    ensures long { length octets.new ≡ length octets.old }
+    ensures found { IfSome result (λ count. IsDigitFront text.now count) }
+    ensures spelled { IfSome result (λ count. decode_of (take (2 * (count / 2)) text.now)
+        ≡ Ok (take (count / 2) octets.new)) }
+    ensures room { IfSome result (λ count. count / 2 ≤ length octets.new) }
+    ensures none { result ≡ None → AllPass is_hex_digit
+        (take (32 * min (length text.now / 32) (length octets.old / 16)) text.now) }
+{
+    let mut at = 0;
+    while text.len() / 2 >= at + 16 && octets.len() >= at + 16 {
+        let count = read_up_to(text, at, octets);
+        if count < 32 {
+            return Some(2 * at + count);
+        }
+        at += 16;
+    }
+    None
 }
 
 /// Whether all octets are hexadecimal digits of either case.

@@ -64,8 +64,8 @@ fn write_few(octets: &[u8], digits: &mut [u8])
     }
 }
 
-/// Writes the digits of octets, two each.
-fn write_pairs(octets: &[u8], digits: &mut [u8])
+/// Writes the digits of octets in lower case, two each.
+pub fn write_hex(octets: &[u8], digits: &mut [u8])
     requires { length digits.old ≡ 2 * length octets.now }
     ensures { digits.new ≡ encode_lower octets.now }
 {
@@ -84,6 +84,6 @@ pub fn append_hex(text: &mut Vec<u8>, octets: &[u8]) -> Result<(), AllocError>
 {
     let start = text.len();
     text.resize(start + 2 * octets.len(), 0)?;
-    write_pairs(octets, &mut text[start..]);
+    write_hex(octets, &mut text[start..]);
     Ok(())
 }

@@ -15,6 +15,7 @@ use crate::refusing::tell_refusal;
 use crate::sending::{send_refusal, sent_frame};
 use sr_plant::PlantEvent;
 use sr_script::Word;
+use sr_text::Text;
 use std::alloc::Global;
 
 /// The event at a place or a link.
@@ -38,12 +39,12 @@ fn send(
     node: usize,
     receiver: Receiver,
     octets: &mut Vec<u8>,
-    text: &mut Vec<u8>,
+    text: &mut Text,
 ) -> Result<(), Word>
-    requires { text.old.items ≡ [] }
+    requires { text.old ≡ [] }
     ensures ok { OnOk result (Sends network.old number node receiver octets.old.items
         (send_refusal (length network.old.nodes) node receiver (length octets.old.items))
-        text.new.items network.new) }
+        text.new network.new) }
     ensures err { IfErr result (λ word. word ≡ Word.Memory) }
 {
     if let Some(fault) = send_refusal(network.node_count(), node, receiver, octets) {
@@ -66,11 +67,11 @@ fn obey(
     number: u64,
     command: Command,
     octets: &mut Vec<u8>,
-    text: &mut Vec<u8>,
+    text: &mut Text,
 ) -> Result<(), Word>
-    requires { text.old.items ≡ [] }
+    requires { text.old ≡ [] }
     ensures ok { OnOk result
-        (Obeys network.old number command octets.old.items text.new.items network.new) }
+        (Obeys network.old number command octets.old.items text.new network.new) }
     ensures err { IfErr result (λ word. word ≡ Word.Memory) }
 {
     match command {
@@ -100,10 +101,10 @@ pub(crate) fn answer(
     number: u64,
     line: &[u8],
     octets: &mut Vec<u8>,
-    text: &mut Vec<u8>,
+    text: &mut Text,
 ) -> Result<(), Word>
-    requires { text.old.items ≡ [] }
-    ensures ok { OnOk result (Replied network.old number line.now text.new.items network.new) }
+    requires { text.old ≡ [] }
+    ensures ok { OnOk result (Replied network.old number line.now text.new network.new) }
     ensures known { OnOk result (IsPlantLine line.now) }
     ensures bad { result ≡ Err Word.Line → IsPlantLine line.now → ⊥ }
     ensures memory { result ≡ Err Word.Memory → IsPlantLine line.now }

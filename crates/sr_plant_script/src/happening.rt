@@ -9,14 +9,15 @@ use crate::printing::{append_all_ups, append_flow};
 use crate::refusing::tell_refusal;
 use sr_plant::PlantEvent;
 use sr_script::Word;
+use sr_text::Text;
 
 /// The most carries of one flow.
 const MAX_CARRIES: usize = 100_000;
 
 /// What was handed up is printed and let go.
-fn take_up(network: &mut Network, frame: &mut Vec<u8>, text: &mut Vec<u8>) -> Result<(), Word>
-    ensures told { OnOk result (text.new.items
-        ≡ text.old.items ++ all_up_lines 0 network.old.handed) }
+fn take_up(network: &mut Network, frame: &mut Vec<u8>, text: &mut Text) -> Result<(), Word>
+    ensures told { OnOk result (text.new
+        ≡ text.old ++ all_up_lines 0 network.old.handed) }
     ensures left { OnOk result (network.new ≡ taken_up network.old) }
     ensures err { IfErr result (λ word. word ≡ Word.Memory) }
 {
@@ -32,11 +33,11 @@ pub(crate) fn happen(
     number: u64,
     event: &PlantEvent,
     frame: &mut Vec<u8>,
-    text: &mut Vec<u8>,
+    text: &mut Text,
 ) -> Result<(), Word>
     ensures ok { OnOk result ((told : List ℕ)
         × Happens network.old number event.now told network.new
-        × (text.new.items ≡ text.old.items ++ told)) }
+        × (text.new ≡ text.old ++ told)) }
     ensures err { IfErr result (λ word. word ≡ Word.Memory) }
 {
     if let Err(fault) = network.apply(event) {
@@ -50,10 +51,10 @@ pub(crate) fn flow(
     network: &mut Network,
     number: u64,
     frame: &mut Vec<u8>,
-    text: &mut Vec<u8>,
+    text: &mut Text,
 ) -> Result<(), Word>
     ensures ok { OnOk result ((told : List ℕ) × Flows network.old number told network.new
-        × (text.new.items ≡ text.old.items ++ told)) }
+        × (text.new ≡ text.old ++ told)) }
     ensures err { IfErr result (λ word. word ≡ Word.Memory) }
 {
     for carries in 0..MAX_CARRIES {

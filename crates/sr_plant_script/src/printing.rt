@@ -7,39 +7,39 @@ ghost use Rattle.sr_plant_script.specs.Texts.{up_line, up_lines, all_up_lines, f
 
 use itoa::Buffer;
 use sr_forwarding::Parcel;
-use sr_hex::append_hex;
 use sr_script::{Word, write_plain};
+use sr_text::Text;
 use std::alloc::AllocError;
 
 /// Appends the digits of a number.
-fn append_number(text: &mut Vec<u8>, number: usize) -> Result<(), AllocError>
-    ensures { OnOk result (text.new.items ≡ text.old.items ++ decimal number) }
+fn append_number(text: &mut Text, number: usize) -> Result<(), AllocError>
+    ensures { OnOk result (text.new ≡ text.old ++ decimal number) }
 {
     let mut digits = Buffer::new();
     text.extend_from_slice(digits.format(number).as_bytes())
 }
 
 /// Appends the line for a frame that a node hands up.
-fn append_up(text: &mut Vec<u8>, node: usize, frame: &[u8]) -> Result<(), AllocError>
+fn append_up(text: &mut Text, node: usize, frame: &[u8]) -> Result<(), AllocError>
     requires { length frame.now ≤ 1524 }
-    ensures { OnOk result (text.new.items ≡ text.old.items ++ up_line node frame.now) }
+    ensures { OnOk result (text.new ≡ text.old ++ up_line node frame.now) }
 {
     text.extend_from_slice(b"up ")?;
     append_number(text, node)?;
     text.push(b' ')?;
-    append_hex(text, frame)?;
+    text.append_hex(frame)?;
     text.push(b'\n')?;
     Ok(())
 }
 
 /// Appends the line for a parcel that a node hands up. The list for its frame is used again.
 fn append_parcel(
-    text: &mut Vec<u8>,
+    text: &mut Text,
     node: usize,
     parcel: &Parcel,
     frame: &mut Vec<u8>,
 ) -> Result<(), Word>
-    ensures ok { OnOk result (text.new.items ≡ text.old.items
+    ensures ok { OnOk result (text.new ≡ text.old
         ++ up_line node (plain_of parcel.now)) }
     ensures err { IfErr result (λ word. word ≡ Word.Memory) }
 {
@@ -51,12 +51,12 @@ fn append_parcel(
 
 /// Appends the lines for what a node hands up.
 fn append_ups(
-    text: &mut Vec<u8>,
+    text: &mut Text,
     node: usize,
     parcels: &[Parcel],
     frame: &mut Vec<u8>,
 ) -> Result<(), Word>
-    ensures ok { OnOk result (text.new.items ≡ text.old.items ++ up_lines node parcels.now) }
+    ensures ok { OnOk result (text.new ≡ text.old ++ up_lines node parcels.now) }
     ensures err { IfErr result (λ word. word ≡ Word.Memory) }
 {
     for parcel in parcels {
@@ -67,11 +67,11 @@ fn append_ups(
 
 /// Appends the lines for what all nodes hand up, node by node.
 pub(crate) fn append_all_ups(
-    text: &mut Vec<u8>,
+    text: &mut Text,
     handed: &[Vec<Parcel>],
     frame: &mut Vec<u8>,
 ) -> Result<(), Word>
-    ensures ok { OnOk result (text.new.items ≡ text.old.items
+    ensures ok { OnOk result (text.new ≡ text.old
         ++ all_up_lines 0 (map (λ l. l.items) handed.now)) }
     ensures err { IfErr result (λ word. word ≡ Word.Memory) }
 {
@@ -82,8 +82,8 @@ pub(crate) fn append_all_ups(
 }
 
 /// Appends the line behind a flow of so many carries.
-pub(crate) fn append_flow(text: &mut Vec<u8>, carries: usize) -> Result<(), Word>
-    ensures ok { OnOk result (text.new.items ≡ text.old.items ++ flow_line carries) }
+pub(crate) fn append_flow(text: &mut Text, carries: usize) -> Result<(), Word>
+    ensures ok { OnOk result (text.new ≡ text.old ++ flow_line carries) }
     ensures err { IfErr result (λ word. word ≡ Word.Memory) }
 {
     text.extend_from_slice(b"flow ")?;
@@ -98,7 +98,8 @@ pub(crate) fn append_flight(text: &mut Vec<u8>, copies: usize) -> Result<(), Wor
     ensures err { IfErr result (λ word. word ≡ Word.Memory) }
 {
     text.extend_from_slice(b"flight ")?;
-    append_number(text, copies)?;
+    let mut digits = Buffer::new();
+    text.extend_from_slice(digits.format(copies).as_bytes())?;
     text.extend_from_slice(b"\n")?;
     Ok(())
 }

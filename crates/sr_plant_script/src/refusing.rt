@@ -7,6 +7,7 @@ ghost use Rattle.sr_plant_script.specs.Texts.{fault_name};
 
 use sr_plant::PlantFault;
 use sr_script::{Word, append_refusal, name_of};
+use sr_text::Text;
 
 // A refusal that has no name: the plant or a node wanted memory.
 #[derive(Clone, Copy)]
@@ -37,9 +38,9 @@ fn fault_name(fault: PlantFault) -> Option<&'static str>
 }
 
 /// Appends the line for an event that is refused for this reason.
-pub(crate) fn tell_refusal(text: &mut Vec<u8>, number: u64, fault: PlantFault) -> Result<(), Word>
+pub(crate) fn tell_refusal(text: &mut Text, number: u64, fault: PlantFault) -> Result<(), Word>
     ensures ok { OnOk result ((name : List ℕ) × (fault_name fault ≡ Some name)
-        × (text.new.items ≡ text.old.items ++ refusal_line number name)) }
+        × (text.new ≡ text.old ++ refusal_line number name)) }
     ensures err { IfErr result (λ word. word ≡ Word.Memory) }
 {
     append_refusal(text, number, fault_name(fault).ok_or(Nameless)?)

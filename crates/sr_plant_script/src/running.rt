@@ -11,6 +11,7 @@ use crate::network::Network;
 use crate::printing::append_flight;
 use crate::setup::PlantSetup;
 use sr_script::{Fault, NOT_BEGUN, Session, Word, line_list, run_session};
+use sr_text::Text;
 use std::alloc::Global;
 use std::io::{BufRead, Write};
 
@@ -22,7 +23,7 @@ struct PlantSession {
     // The octets of a line, and then of frames that are handed up, in a list that is used again.
     octets: Vec<u8>,
     // What is printed for a line, in a list that is used again.
-    printed: Vec<u8>,
+    printed: Text,
 }
 
 impl Session for PlantSession {
@@ -35,8 +36,8 @@ impl Session for PlantSession {
 
     ghost dialogue = { plant_dialogue };
 
-    fn answer(&mut self, number: u64, line: &[u8], text: &mut Vec<u8>) -> Result<(), Word> {
-        self.printed.clear();
+    fn answer(&mut self, number: u64, line: &[u8], text: &mut Text) -> Result<(), Word> {
+        self.printed.truncate(0);
         answer(
             self.alloc,
             &mut self.network,
@@ -45,7 +46,7 @@ impl Session for PlantSession {
             &mut self.octets,
             &mut self.printed,
         )?;
-        text.extend_from_slice(&self.printed)?;
+        text.extend_from_slice(self.printed.as_slice())?;
         Ok(())
     }
 
@@ -93,7 +94,7 @@ pub fn run_plant<R: BufRead, W: Write>(
         alloc,
         network,
         octets: Vec::new(alloc),
-        printed: Vec::new(alloc),
+        printed: Text::new(alloc),
     };
     run_session(alloc, &mut session, &mut line, reader, writer)
 }

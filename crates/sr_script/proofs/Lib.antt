@@ -7,5 +7,6 @@ pub mod Spellings
 pub mod Going
 pub mod PrintedLines
 pub mod WaitingTexts
+pub mod Arrivals
 pub mod StatusLines
 pub mod BegunRuns

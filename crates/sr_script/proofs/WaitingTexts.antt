@@ -12,7 +12,8 @@ use Rattle.sr_script.specs.declared.fault.Word.TheVariants as word
 use Rattle.sr_script.specs.declared.waiting.Mark.{Mark}
 use Rattle.sr_script.specs.Lines.{lines_of, IsOneOf, TakesLine, TakesPart, BeginsLong}
 use Rattle.sr_script.specs.Runs.{Dialogue, HasPlace, Replies, HasFault, HeldSince, EndsFrom}
-use Rattle.sr_script.specs.Turns.{marked, line_of, Waits, AddsAnswer, IsCut, StopsSo, BeginsWith, IsLineAt, TakesLines, AreObeyed}
+use Rattle.sr_script.specs.Turns.{marked, line_of, Waits, AddsAnswer, IsCut, StopsSo, BeginsWith, TakesLines, AreObeyed}
+use Rattle.sr_script.specs.Fronts.{IsFrontLine, FrontFails}
 use Rattle.sr_script.specs.Octets.{Lacks, IsPlaceOf}
 use Rattle.sr_script.proofs.Pieces.{lines_line}
 use Rattle.sr_script.proofs.Places.{around_place}
@@ -304,39 +305,46 @@ drop_line (b ∷ bs) rest (suc n) e =
     let later : suc n + 1 ≡ suc (n + 1) = omega arith in
     rw later (drop_line bs rest n (omega arith))
 
--- what a search near a place finds
-pub line_found : (octets rest : List ℕ) (from m at : ℕ) → from ≤ length octets → rest ≡ drop from octets → m ≤ 8001 → IsPlaceOf 10 (take m rest) (Some at)
-    → IsLineAt octets from (take at (take m rest))
-line_found octets rest from m at le e small h =
-    let near = take m rest in
-    let line = take at near in
-    let long : length line ≡ at = length-take-le at near (omega (arith, h.2)) in
-    let behind = drop (at + 1) near ++ drop m rest in
-    let whole : drop from octets ≡ line ++ 10 ∷ behind =
-    sym e ∙ sym (take-append-drop m rest) ∙ ap (λ (l : List ℕ). l ++ drop m rest) (around_place 10 near at h.1) ∙ append_assoc line (10 ∷ drop (at + 1) near) (drop m rest) in
-    let left : behind ≡ drop (from + (length line + 1)) octets =
-    sym (drop_line line behind (length line) refl) ∙ ap (drop (length line + 1)) (sym whole) ∙ drop-drop (length line + 1) from octets in
-    let fits : length near ≤ m = omega (arith, length-take m rest) in
-    let counted : length (drop from octets) ≡ length line + suc (length behind) = ap length whole ∙ length-append line (10 ∷ behind) in
+-- a line and the LF behind it
+pub placed : (text line behind : List ℕ) → text ≡ line ++ 10 ∷ behind → Lacks 10 line → length line ≤ 8000 → IsFrontLine text line
+placed text line behind whole lacks short =
+    let left : behind ≡ drop (length line + 1) text = sym (drop_line line behind (length line) refl) ∙ ap (drop (length line + 1)) (sym whole) in
     record {
-      unbroken = h.0;
-      short = omega (arith, long, h.2, fits);
+      unbroken = lacks;
+      short = short;
       parts = whole ∙ ap (λ (l : List ℕ). line ++ 10 ∷ l) left;
-      within = omega (arith, counted, length-drop from octets);
+      within = omega (arith, ap length whole, length-append line (10 ∷ behind));
     }
 
+-- what a search at the front finds
+pub line_found : (octets : List ℕ) (m at : ℕ) → m ≤ 8001 → IsPlaceOf 10 (take m octets) (Some at) → IsFrontLine octets (take at (take m octets))
+line_found octets m at small h =
+    let near = take m octets in
+    let line = take at near in
+    let behind = drop (at + 1) near ++ drop m octets in
+    let whole : octets ≡ line ++ 10 ∷ behind =
+    sym (take-append-drop m octets) ∙ ap (λ (l : List ℕ). l ++ drop m octets) (around_place 10 near at h.1) ∙ append_assoc line (10 ∷ drop (at + 1) near) (drop m octets) in
+    placed octets line behind whole h.0 (omega (arith, h.2, length-take-le at near (omega (arith, h.2)), length-take m octets))
+
+-- a line more of those at the front
+pub begins_front : (octets : List ℕ) (at : ℕ) (lines : List (List ℕ)) (line : List ℕ) → BeginsWith octets at lines → IsFrontLine (drop at octets) line
+    → BeginsWith octets (at + (length line + 1)) (lines ++ line ∷ [])
+begins_front octets at lines line h front =
+    begins_more octets at (at + (length line + 1)) lines line h front.unbroken
+    (front.parts ∙ ap (λ (l : List ℕ). line ++ 10 ∷ l) (drop-drop (length line + 1) at octets))
+
 -- why the lines stop at a line
-pub front_stops : {S : Type 0} (d : Dialogue S) (u t : S) (octets line : List ℕ) (from n : ℕ) (w : Word) → n ≤ 1000000 → IsLineAt octets from line
-    → IsOneOf w (word.Line ∷ word.Memory ∷ []) → (w ≡ word.Line → d.Knows u line → ⊥) → (w ≡ word.Memory → d.Knows u line)
-    → StopsSo d u n (drop from octets) (Some w) t
-front_stops d u t octets line from n w count at one bad memory =
-    let behind = drop (from + (length line + 1)) octets in (
-      one,
+pub front_stops : {S : Type 0} (d : Dialogue S) (u t : S) (octets : List ℕ) (n : ℕ) (w : Word) → n ≤ 1000000 → FrontFails d u octets w → StopsSo d u n octets (Some w) t
+front_stops d u t octets n w count fails =
+    let line = fails.1 in
+    let at = fails.2 in
+    let behind = drop (length line + 1) octets in (
+      fails.0,
       line,
       record { count = count; short = at.short },
       λ more. (lines_of (behind ++ more), ap (λ (l : List ℕ). lines_of (l ++ more)) at.parts ∙ ap lines_of (append_assoc line (10 ∷ behind) more) ∙ lines_line line (behind ++ more) at.unbroken),
-      bad,
-      memory,
+      fails.3,
+      fails.4,
     )
 
 -- ---- what a reader has at hand

@@ -8,6 +8,7 @@ pub mod Stations
 pub mod Texts
 pub mod Runs
 pub mod Turns
+pub mod Fronts
 pub mod Replies
 pub mod StatusTexts
 pub mod Statuses

@@ -15,6 +15,10 @@ pub record Station : Type 0 where
   pub role : RoleName
   pub node : State
 
+-- a node of this role that came to this state
+abbrev pub at_work : RoleName → State → Station
+at_work role s = record { role = role; node = s }
+
 abbrev pub kind_of : RoleName → RoleKind
 kind_of Danp = kind.Danp
 kind_of Danh = kind.Danh

@@ -7,9 +7,8 @@ use Rattle.sr_script.specs.declared.fault.Word.{Word}
 use Rattle.sr_script.specs.declared.fault.Word.TheVariants as word
 use Rattle.sr_script.specs.declared.waiting.Mark.{Mark}
 use Rattle.sr_script.specs.declared.running.Front.{Front}
-use Rattle.sr_script.specs.Limits.{longest_line, most_lines}
+use Rattle.sr_script.specs.Limits.{most_lines}
 use Rattle.sr_script.specs.Lines.{lines_of, IsOneOf, TakesLine}
-use Rattle.sr_script.specs.Octets.{Lacks}
 use Rattle.sr_script.specs.Runs.{Dialogue, HasPlace, Replies}
 
 -- before other marks, that of a line whose text ends there; a line without text has none
@@ -47,13 +46,6 @@ abbrev pub TakesLines : List (List ℕ) → Option (List ℕ) → Option (List �
 TakesLines lines None new = Unit {0}
 TakesLines lines (Some xs) None = ⊥
 TakesLines lines (Some xs) (Some ys) = lines_of xs ≡ lines ++ lines_of ys
-
--- a line that is not too long, and the LF that ends it, stand at a place
-pub record IsLineAt (octets : List ℕ) (from : ℕ) (line : List ℕ) : Type 0 where
-  pub unbroken : Lacks 10 line
-  pub short : length line ≤ longest_line
-  pub parts : drop from octets ≡ line ++ 10 ∷ drop (from + (length line + 1)) octets
-  pub within : from + length line < length octets
 
 -- the octets begin with these whole lines, which end at this place
 abbrev pub BeginsWith : List ℕ → ℕ → List (List ℕ) → Type 0

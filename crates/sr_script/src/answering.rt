@@ -10,19 +10,21 @@ ghost use Rattle.sr_node.specs.Steps.{Step, refusal_of};
 ghost use Rattle.sr_script.specs.Lines.{IsOneOf};
 ghost use Rattle.sr_script.specs.Octets.{StillHolds};
 ghost use Rattle.sr_script.specs.Commands.{IsEventLine};
-ghost use Rattle.sr_script.specs.Stations.{framing_of};
+ghost use Rattle.sr_script.specs.Fronts.{AnswersFront, KnowsFront};
+ghost use Rattle.sr_script.specs.Stations.{framing_of, at_work};
 ghost use Rattle.sr_script.specs.Texts.{name_of, refusal_line};
-ghost use Rattle.sr_script.specs.Replies.{Obeys, Replied};
+ghost use Rattle.sr_script.specs.Replies.{ArrivesSo, Obeys, Replied, replay_dialogue};
 
 use crate::carriers::{Carrier, carrier_of};
 use crate::fault::Word;
 use crate::printing::append_outlets;
-use crate::reading::{Command, command_of};
+use crate::reading::{Command, arrival_at, command_of};
 use crate::setups::RoleName;
 use itoa::Buffer;
 use sr_forwarding::{ReadFault, Role};
 use sr_frame::{Frame, FrameFault, Port, view};
 use sr_node::{Answer, Event, NodeOf, StepFault};
+use sr_text::Text;
 use std::alloc::{AllocError, Global};
 
 /// What a refusal is called. None for want of memory.
@@ -43,9 +45,9 @@ pub fn name_of(fault: StepFault) -> Option<&'static str>
 
 /// Appends the line for an event that is refused, or as much of it as there is memory for.
 #[inline(always)]
-fn append_refused(text: &mut Vec<u8>, number: u64, name: &str) -> Result<(), AllocError>
-    ensures ok { OnOk result (text.new.items ≡ text.old.items ++ refusal_line number name.now) }
-    ensures kept { OnErr result (StillHolds text.old.items text.new.items) }
+fn append_refused(text: &mut Text, number: u64, name: &str) -> Result<(), AllocError>
+    ensures ok { OnOk result (text.new ≡ text.old ++ refusal_line number name.now) }
+    ensures kept { OnErr result (StillHolds text.old text.new) }
 {
     let mut digits = Buffer::new();
     text.extend_from_slice(b"refused ")?;
@@ -60,9 +62,9 @@ fn append_refused(text: &mut Vec<u8>, number: u64, name: &str) -> Result<(), All
 ///
 /// # Errors
 /// `Memory`: the list then has a part of the line, or nothing of it.
-pub fn append_refusal(text: &mut Vec<u8>, number: u64, name: &str) -> Result<(), Word>
-    ensures ok { OnOk result (text.new.items ≡ text.old.items ++ refusal_line number name.now) }
-    ensures kept { OnErr result (StillHolds text.old.items text.new.items) }
+pub fn append_refusal(text: &mut Text, number: u64, name: &str) -> Result<(), Word>
+    ensures ok { OnOk result (text.new ≡ text.old ++ refusal_line number name.now) }
+    ensures kept { OnErr result (StillHolds text.old text.new) }
     ensures err { IfErr result (λ word. word ≡ Word.Memory) }
 {
     append_refused(text, number, name)?;
@@ -70,18 +72,19 @@ pub fn append_refusal(text: &mut Vec<u8>, number: u64, name: &str) -> Result<(),
 }
 
 /// Octets come in at a port.
+#[inline(always)]
 fn arrive<R: Role>(
     role: RoleName,
     node: &mut NodeOf<R>,
     port: Port,
-    octets: &mut Vec<u8>,
+    octets: &[u8],
     time: u64,
 ) -> Result<Answer, StepFault>
     ensures taken { IfOk result (λ a. OctetsArrived (framing_of role port)
-        (node_state (R.meaning node.old.role) node.old.core) port octets.old.items time a
+        (node_state (R.meaning node.old.role) node.old.core) port octets.now time a
         (node_state (R.meaning node.new.role) node.new.core)) }
     ensures refused { IfErr result (λ f. OctetsRefused (framing_of role port)
-        (node_state (R.meaning node.old.role) node.old.core) port octets.old.items time f) }
+        (node_state (R.meaning node.old.role) node.old.core) port octets.now time f) }
     ensures same { OnErr result (node_state (R.meaning node.new.role) node.new.core
         ≡ node_state (R.meaning node.old.role) node.old.core) }
 {
@@ -137,15 +140,39 @@ fn tick<R: Role>(node: &mut NodeOf<R>, now: u64) -> Result<Answer, StepFault>
 }
 
 /// Appends the line for an event that is refused for this reason.
-fn tell_refusal(text: &mut Vec<u8>, number: u64, fault: StepFault) -> Result<(), Word>
+fn tell_refusal(text: &mut Text, number: u64, fault: StepFault) -> Result<(), Word>
     ensures ok { OnOk result ((name : List ℕ) × (name_of fault ≡ Some name)
-        × (text.new.items ≡ text.old.items ++ refusal_line number name)) }
-    ensures kept { OnErr result (StillHolds text.old.items text.new.items) }
+        × (text.new ≡ text.old ++ refusal_line number name)) }
+    ensures kept { OnErr result (StillHolds text.old text.new) }
     ensures err { IfErr result (λ word. word ≡ Word.Memory) }
 {
     match name_of(fault) {
         Some(name) => append_refusal(text, number, name),
         None => Err(Word::Memory),
+    }
+}
+
+/// Has the node obey an arrival of the line with this number, and appends a line where it refuses.
+#[inline(always)]
+fn obey_arrival<R: Role>(
+    role: RoleName,
+    node: &mut NodeOf<R>,
+    number: u64,
+    port: Port,
+    octets: &[u8],
+    time: u64,
+    text: &mut Text,
+) -> Result<(), Word>
+    ensures ok { OnOk result ((told : List ℕ)
+        × ArrivesSo role (node_state (R.meaning node.old.role) node.old.core) number
+        port time octets.now told (node_state (R.meaning node.new.role) node.new.core)
+        × (text.new ≡ text.old ++ told)) }
+    ensures kept { OnErr result (StillHolds text.old text.new) }
+    ensures err { IfErr result (λ word. word ≡ Word.Memory) }
+{
+    match arrive(role, node, port, octets, time) {
+        Ok(_) => Ok(()),
+        Err(fault) => tell_refusal(text, number, fault),
     }
 }
 
@@ -157,21 +184,20 @@ pub(crate) fn obey<R: Role>(
     number: u64,
     command: Command,
     octets: &mut Vec<u8>,
-    text: &mut Vec<u8>,
+    text: &mut Text,
 ) -> Result<(), Word>
     ensures ok { OnOk result ((told : List ℕ)
         × Obeys role (node_state (R.meaning node.old.role) node.old.core) number
         command octets.old.items told (node_state (R.meaning node.new.role) node.new.core)
-        × (text.new.items ≡ text.old.items ++ told)) }
-    ensures kept { OnErr result (StillHolds text.old.items text.new.items) }
+        × (text.new ≡ text.old ++ told)) }
+    ensures kept { OnErr result (StillHolds text.old text.new) }
     ensures err { IfErr result (λ word. word ≡ Word.Memory) }
 {
     match command {
         Command::Skip => Ok(()),
-        Command::Arrive(port, time) => match arrive(role, node, port, octets, time) {
-            Ok(_) => Ok(()),
-            Err(fault) => tell_refusal(text, number, fault),
-        },
+        Command::Arrive(port, time) => {
+            obey_arrival(role, node, number, port, octets, time, text)
+        }
         Command::Send(time) => match send(alloc, node, octets, time) {
             Ok(_) => Ok(()),
             Err(fault) => tell_refusal(text, number, fault),
@@ -195,13 +221,13 @@ pub(crate) fn answer<R: Role>(
     line: &[u8],
     octets: &mut Vec<u8>,
     frame: &mut Vec<u8>,
-    text: &mut Vec<u8>,
+    text: &mut Text,
 ) -> Result<(), Word>
     ensures ok { OnOk result ((answer : List ℕ)
         × Replied role (node_state (R.meaning node.old.role) node.old.core) number line.now
         answer (node_state (R.meaning node.new.role) node.new.core)
-        × (text.new.items ≡ text.old.items ++ answer)) }
-    ensures kept { OnErr result (StillHolds text.old.items text.new.items) }
+        × (text.new ≡ text.old ++ answer)) }
+    ensures kept { OnErr result (StillHolds text.old text.new) }
     ensures known { OnOk result (IsEventLine role line.now) }
     ensures bad { result ≡ Err Word.Line → IsEventLine role line.now → ⊥ }
     ensures memory { result ≡ Err Word.Memory → IsEventLine role line.now }
@@ -211,4 +237,44 @@ pub(crate) fn answer<R: Role>(
     obey(alloc, role, node, number, command, octets, text)?;
     append_outlets(role, node, frame, text)?;
     Ok(())
+}
+
+/// Has the node obey the arrival at the front of a text, then takes all that waits, and appends what to print for its line. The
+/// answer is how many octets the line has, without its LF. None where no arrival can be read there: nothing is done then.
+///
+/// # Errors
+/// `Memory`.
+#[inline(always)]
+pub(crate) fn answer_front<R: Role>(
+    role: RoleName,
+    node: &mut NodeOf<R>,
+    number: u64,
+    front: &[u8],
+    octets: &mut [u8],
+    frame: &mut Vec<u8>,
+    text: &mut Text,
+) -> Result<Option<usize>, Word>
+    ensures ok { IfOk result (λ length. AnswersFront replay_dialogue
+        (at_work role (node_state (R.meaning node.old.role) node.old.core)) number front.now length
+        text.old text.new
+        (at_work role (node_state (R.meaning node.new.role) node.new.core))) }
+    ensures kept { OnErr result (StillHolds text.old text.new) }
+    ensures known { OnErr result (KnowsFront replay_dialogue
+        (at_work role (node_state (R.meaning node.old.role) node.old.core)) front.now) }
+    ensures err { IfErr result (λ word. word ≡ Word.Memory) }
+{
+    let Some(arrival) = arrival_at(role, front, octets) else {
+        return Ok(None);
+    };
+    obey_arrival(
+        role,
+        node,
+        number,
+        arrival.port,
+        &octets[..arrival.count],
+        arrival.time,
+        text,
+    )?;
+    append_outlets(role, node, frame, text)?;
+    Ok(Some(arrival.length))
 }

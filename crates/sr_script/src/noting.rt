@@ -15,6 +15,7 @@ use crate::setups::RoleName;
 use sr_forwarding::Role;
 use sr_frame::Port;
 use sr_node::NodeOf;
+use sr_text::Text;
 use std::alloc::Global;
 
 /// Takes all that waits at a port, and keeps none of it.
@@ -49,13 +50,13 @@ pub(crate) fn note<R: Role>(
     number: u64,
     line: &[u8],
     octets: &mut Vec<u8>,
-    text: &mut Vec<u8>,
+    text: &mut Text,
 ) -> Result<(), Word>
     ensures ok { OnOk result ((answer : List ℕ)
         × Noted role (node_state (R.meaning node.old.role) node.old.core) number line.now
         answer (node_state (R.meaning node.new.role) node.new.core)
-        × (text.new.items ≡ text.old.items ++ answer)) }
-    ensures kept { OnErr result (StillHolds text.old.items text.new.items) }
+        × (text.new ≡ text.old ++ answer)) }
+    ensures kept { OnErr result (StillHolds text.old text.new) }
     ensures known { OnOk result (IsEventLine role line.now) }
     ensures bad { result ≡ Err Word.Line → IsEventLine role line.now → ⊥ }
     ensures memory { result ≡ Err Word.Memory → IsEventLine role line.now }

@@ -16,8 +16,8 @@ use crate::fault::Word;
 use crate::setups::RoleName;
 use sr_forwarding::{Form, Framing, Parcel, Role};
 use sr_frame::Port;
-use sr_hex::append_hex;
 use sr_node::NodeOf;
+use sr_text::Text;
 use std::alloc::AllocError;
 
 /// The letter of a port.
@@ -34,14 +34,14 @@ pub(crate) fn letter_of(port: Port) -> u8
 
 /// Appends the line for a frame that goes out at a port.
 #[inline(always)]
-fn append_frame(text: &mut Vec<u8>, port: Port, frame: &[u8]) -> Result<(), AllocError>
+fn append_frame(text: &mut Text, port: Port, frame: &[u8]) -> Result<(), AllocError>
     requires { length frame.now ≤ 1524 }
-    ensures ok { OnOk result (text.new.items ≡ text.old.items
+    ensures ok { OnOk result (text.new ≡ text.old
         ++ (letter_of port ++ (32 ∷ encode_lower frame.now)) ++ 10 ∷ []) }
-    ensures kept { OnErr result (StillHolds text.old.items text.new.items) }
+    ensures kept { OnErr result (StillHolds text.old text.new) }
 {
     text.extend_from_slice(&[letter_of(port), b' '])?;
-    append_hex(text, frame)?;
+    text.append_hex(frame)?;
     text.push(b'\n')?;
     Ok(())
 }
@@ -135,11 +135,11 @@ fn append_parcel(
     port: Port,
     parcel: &Parcel,
     frame: &mut Vec<u8>,
-    text: &mut Vec<u8>,
+    text: &mut Text,
 ) -> Result<(), Word>
     ensures ok { OnOk result ((line : List ℕ) × IsLine role port parcel.now line
-        × (text.new.items ≡ text.old.items ++ line)) }
-    ensures kept { OnErr result (StillHolds text.old.items text.new.items) }
+        × (text.new ≡ text.old ++ line)) }
+    ensures kept { OnErr result (StillHolds text.old text.new) }
     ensures err { IfErr result (λ word. word ≡ Word.Memory) }
 {
     if let Some(octets) = in_place(role, port, parcel) {
@@ -159,13 +159,13 @@ fn append_first<R: Role>(
     node: &mut NodeOf<R>,
     port: Port,
     frame: &mut Vec<u8>,
-    text: &mut Vec<u8>,
+    text: &mut Text,
 ) -> Result<(), Word>
     ensures ok { OnOk result ((line : List ℕ)
         × FirstLeft role port (node_state (R.meaning node.old.role) node.old.core) line
         (node_state (R.meaning node.new.role) node.new.core)
-        × (text.new.items ≡ text.old.items ++ line)) }
-    ensures kept { OnErr result (StillHolds text.old.items text.new.items) }
+        × (text.new ≡ text.old ++ line)) }
+    ensures kept { OnErr result (StillHolds text.old text.new) }
     ensures err { IfErr result (λ word. word ≡ Word.Memory) }
 {
     if let Some(parcel) = node.front(port) {
@@ -181,13 +181,13 @@ fn append_waiting<R: Role>(
     node: &mut NodeOf<R>,
     port: Port,
     frame: &mut Vec<u8>,
-    text: &mut Vec<u8>,
+    text: &mut Text,
 ) -> Result<(), Word>
     ensures ok { OnOk result ((lines : List ℕ)
         × Emptied role port (node_state (R.meaning node.old.role) node.old.core) lines
         (node_state (R.meaning node.new.role) node.new.core)
-        × (text.new.items ≡ text.old.items ++ lines)) }
-    ensures kept { OnErr result (StillHolds text.old.items text.new.items) }
+        × (text.new ≡ text.old ++ lines)) }
+    ensures kept { OnErr result (StillHolds text.old text.new) }
     ensures err { IfErr result (λ word. word ≡ Word.Memory) }
 {
     while node.waiting(port) > 0 {
@@ -197,17 +197,18 @@ fn append_waiting<R: Role>(
 }
 
 /// Takes all that waits, outlet by outlet, and appends a line for each frame.
+#[inline(always)]
 pub(crate) fn append_outlets<R: Role>(
     role: RoleName,
     node: &mut NodeOf<R>,
     frame: &mut Vec<u8>,
-    text: &mut Vec<u8>,
+    text: &mut Text,
 ) -> Result<(), Word>
     ensures ok { OnOk result ((lines : List ℕ)
         × AllEmptied role (node_state (R.meaning node.old.role) node.old.core) lines
         (node_state (R.meaning node.new.role) node.new.core)
-        × (text.new.items ≡ text.old.items ++ lines)) }
-    ensures kept { OnErr result (StillHolds text.old.items text.new.items) }
+        × (text.new ≡ text.old ++ lines)) }
+    ensures kept { OnErr result (StillHolds text.old text.new) }
     ensures err { IfErr result (λ word. word ≡ Word.Memory) }
 {
     append_waiting(role, node, Port::H, frame, text)?;

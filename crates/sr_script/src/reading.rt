@@ -4,13 +4,16 @@ ghost use Rattle.std.specs.Prelude.{◌≡◌, ◌↔◌, ◌<◌, ◌^◌, ℕ,
 ghost use Rattle.std.specs.Fmt.{decimal};
 ghost use Rattle.sr_script.specs.Lines.{IsOneOf};
 ghost use Rattle.sr_script.specs.Commands.{Says, IsEventLine, HasInterlink, spaced, IsComment, IsInlet, IsHex, letter_of, IsTimed, IsArrival, IsSending, IsTick};
+ghost use Rattle.sr_script.specs.Fronts.{StandsAtFront};
 
 use crate::fault::Word;
 use crate::hexadecimal::read_hex;
+use crate::lines::MAX_LINE;
 use crate::numbers::number_of;
 use crate::setups::RoleName;
 use crate::words::split_word;
 use sr_frame::Port;
+use sr_hex::read_front;
 
 /// What a line asks for. Its octets stand beside it.
 #[derive(Clone, Copy, Debug)]
@@ -175,4 +178,40 @@ pub(crate) fn command_of(role: RoleName, line: &[u8], octets: &mut Vec<u8>) -> R
         Some(time) => Ok(Command::Tick(time)),
         None => Err(Word::Line),
     }
+}
+
+/// A frame that arrives, of which the whole line stands at the front of a text.
+#[derive(Clone, Copy, Debug)]
+pub(crate) struct FrontArrival {
+    /// Where it comes in.
+    pub(crate) port: Port,
+    /// The time in milliseconds.
+    pub(crate) time: u64,
+    /// How many octets it has.
+    pub(crate) count: usize,
+    /// How many octets the line has, without the LF that ends it.
+    pub(crate) length: usize,
+}
+
+/// The arrival at the front of a text, whose line ends where its digits end: nobody has to look for the LF. The octets that it names
+/// are then the first ones of `octets`. None where the front is to be read line by line: it is another line, or has a fault, or its
+/// end is too near to that of the text.
+#[inline(always)]
+pub(crate) fn arrival_at(role: RoleName, text: &[u8], octets: &mut [u8]) -> Option<FrontArrival>
+    ensures { IfSome result (λ a. StandsAtFront role text.now a octets.new) }
+{
+    let (port, rest) = split_inlet(role, behind_in(text)?)?;
+    let (time, rest) = split_word(rest)?;
+    let time = number_of(time)?;
+    let digits = read_front(rest, octets)?;
+    let length = text.len() - rest.len() + digits;
+    if rest[digits] != b'\n' || digits == 0 || digits % 2 != 0 || length > MAX_LINE {
+        return None;
+    }
+    Some(FrontArrival {
+        port,
+        time,
+        count: digits / 2,
+        length,
+    })
 }

@@ -1,11 +1,12 @@
 //! A script of events at a node: what it hands out and puts out is printed.
 
-use crate::answering::answer;
+use crate::answering::{answer, answer_front};
 use crate::fault::Word;
 use crate::session::Session;
 use crate::setups::RoleName;
 use sr_forwarding::Role;
 use sr_node::NodeOf;
+use sr_text::Text;
 use std::alloc::Global;
 
 /// A node at work on a script.
@@ -16,6 +17,8 @@ pub(crate) struct NodeSession<P: Role + Send> {
     pub(crate) node: NodeOf<P>,
     // The octets of a line, in a list that is used again.
     pub(crate) octets: Vec<u8>,
+    // The octets of a frame that arrives, at the front of a list with room for those of the longest line.
+    pub(crate) arriving: Vec<u8>,
     // A frame that is written anew, in a list that is used again.
     pub(crate) frame: Vec<u8>,
 }
@@ -34,7 +37,7 @@ impl<P: Role + Send> Session for NodeSession<P> {
 
     ghost dialogue = { replay_dialogue };
 
-    fn answer(&mut self, number: u64, line: &[u8], text: &mut Vec<u8>) -> Result<(), Word> {
+    fn answer(&mut self, number: u64, line: &[u8], text: &mut Text) -> Result<(), Word> {
         answer(
             self.alloc,
             self.role,
@@ -42,6 +45,23 @@ impl<P: Role + Send> Session for NodeSession<P> {
             number,
             line,
             &mut self.octets,
+            &mut self.frame,
+            text,
+        )
+    }
+
+    fn answer_front(
+        &mut self,
+        number: u64,
+        front: &[u8],
+        text: &mut Text,
+    ) -> Result<Option<usize>, Word> {
+        answer_front(
+            self.role,
+            &mut self.node,
+            number,
+            front,
+            &mut self.arriving,
             &mut self.frame,
             text,
         )

@@ -4,7 +4,8 @@ ghost use Rattle.std.specs.Prelude.{◌≡◌, ◌≤◌, ◌<◌, ◌++◌, ◌
 ghost use Rattle.std.specs.Io.KnownBytes.{Appends};
 ghost use Rattle.sr_script.specs.Lines.{lines_of, IsOneOf};
 ghost use Rattle.sr_script.specs.Runs.{IsAnswered, EndsAt, EndsFrom, HeldSince, HasFault};
-ghost use Rattle.sr_script.specs.Turns.{IsLineAt, AddsAnswer, IsFront, AreObeyed, Turned, AllAnswered};
+ghost use Rattle.sr_script.specs.Fronts.{IsFrontLine, AddsFront, FrontFails};
+ghost use Rattle.sr_script.specs.Turns.{AddsAnswer, IsFront, AreObeyed, Turned, AllAnswered};
 
 use crate::fault::{Fault, Word};
 use crate::lines::{MAX_LINE, is_at_end, next_line};
@@ -31,13 +32,11 @@ struct Front {
     fault: Option<Word>,
 }
 
-/// The whole line, of no more than 8000 octets, that begins at a place. None where there is none.
-fn line_at(octets: &[u8], from: usize) -> Option<&[u8]>
-    requires { from ≤ length octets.now }
-    ensures whole { IfSome result (λ line. IsLineAt octets.now from line.now) }
+/// The whole line, of no more than 8000 octets, at the front of octets. None where there is none.
+fn front_line(octets: &[u8]) -> Option<&[u8]>
+    ensures whole { IfSome result (λ line. IsFrontLine octets.now line.now) }
 {
-    let rest = &octets[from..];
-    let near = &rest[..rest.len().min(MAX_LINE + 1)];
+    let near = &octets[..octets.len().min(MAX_LINE + 1)];
     let at = place_of(b'\n', near)?;
     Some(&near[..at])
 }
@@ -50,12 +49,12 @@ fn obey_line<S: Session>(
     waiting: &mut Waiting,
 ) -> Result<(), Word>
     ensures ok { OnOk result (AddsAnswer S.dialogue (S.state session.old) number line.now
-        waiting.old.text.items waiting.old.marks.items
-        waiting.new.text.items waiting.new.marks.items (S.state session.new)) }
+        waiting.old.text waiting.old.marks.items
+        waiting.new.text waiting.new.marks.items (S.state session.new)) }
     ensures bad { result ≡ Err Word.Line → S.dialogue.Knows (S.state session.old) line.now → ⊥ }
     ensures memory { result ≡ Err Word.Memory → S.dialogue.Knows (S.state session.old) line.now }
     ensures fault { IfErr result (λ word. IsOneOf word (Word.Line ∷ Word.Memory ∷ [])) }
-    ensures same { OnErr result ((waiting.new.text.items ≡ waiting.old.text.items)
+    ensures same { OnErr result ((waiting.new.text ≡ waiting.old.text)
         × (waiting.new.marks.items ≡ waiting.old.marks.items)) }
 {
     let start = waiting.text.len();
@@ -64,7 +63,62 @@ fn obey_line<S: Session>(
         Err(word) => Err(word),
     };
     if answered.is_err() {
-        waiting.text.truncate(start);
+        waiting.cut(start);
+    }
+    answered
+}
+
+/// Looks for the end of the line at the front of octets, and has the session obey the line. The answer is how many octets it has,
+/// without its LF; None where there is no whole line. It stands apart, so that a line whose end is not looked for costs no call.
+#[inline(never)]
+fn obey_sought<S: Session>(
+    session: &mut S,
+    number: u64,
+    octets: &[u8],
+    waiting: &mut Waiting,
+) -> Result<Option<usize>, Word>
+    ensures ok { IfOk result (λ found. AddsFront S.dialogue (S.state session.old) number octets.now
+        found waiting.old.text waiting.old.marks.items waiting.new.text
+        waiting.new.marks.items (S.state session.new)) }
+    ensures within { IfOk result (λ found. IfSome found (λ n. n < length octets.now)) }
+    ensures fails { IfErr result (FrontFails S.dialogue (S.state session.old) octets.now) }
+    ensures same { OnErr result ((waiting.new.text ≡ waiting.old.text)
+        × (waiting.new.marks.items ≡ waiting.old.marks.items)) }
+{
+    let Some(line) = front_line(octets) else {
+        return Ok(None);
+    };
+    obey_line(session, number, line, waiting)?;
+    Ok(Some(line.len()))
+}
+
+/// Has the session obey the whole line at the front of octets. The answer is how many octets it has, without its LF; None where
+/// there is no whole line.
+fn obey_whole<S: Session>(
+    session: &mut S,
+    number: u64,
+    octets: &[u8],
+    waiting: &mut Waiting,
+) -> Result<Option<usize>, Word>
+    ensures ok { IfOk result (λ found. AddsFront S.dialogue (S.state session.old) number octets.now
+        found waiting.old.text waiting.old.marks.items waiting.new.text
+        waiting.new.marks.items (S.state session.new)) }
+    ensures within { IfOk result (λ found. IfSome found (λ n. n < length octets.now)) }
+    ensures fails { IfErr result (FrontFails S.dialogue (S.state session.old) octets.now) }
+    ensures same { OnErr result ((waiting.new.text ≡ waiting.old.text)
+        × (waiting.new.marks.items ≡ waiting.old.marks.items)) }
+{
+    let from = waiting.text.len();
+    let answered = match session.answer_front(number, octets, &mut waiting.text) {
+        Ok(None) => return obey_sought(session, number, octets, waiting),
+        Ok(Some(length)) => match waiting.mark(number, from) {
+            Ok(()) => Ok(Some(length)),
+            Err(word) => Err(word),
+        },
+        Err(word) => Err(word),
+    };
+    if answered.is_err() {
+        waiting.cut(from);
     }
     answered
 }
@@ -78,26 +132,28 @@ fn obey_front<S: Session>(
     waiting: &mut Waiting,
 ) -> Front
     requires number { first ≤ 1000001 }
-    requires text { waiting.old.text.items ≡ [] }
+    requires text { waiting.old.text ≡ [] }
     requires marks { waiting.old.marks.items ≡ [] }
-    ensures { IsFront S.dialogue (S.state session.old) first octets.now waiting.new.text.items
+    ensures { IsFront S.dialogue (S.state session.old) first octets.now waiting.new.text
         waiting.new.marks.items result (S.state session.new) }
 {
     let mut used = 0;
     let mut next = first;
     while next <= MAX_LINES && waiting.text.len() < MOST_WAITING {
-        let Some(line) = line_at(octets, used) else {
-            break;
-        };
-        if let Err(word) = obey_line(session, next, line, waiting) {
-            return Front {
-                used,
-                next,
-                fault: Some(word),
-            };
+        match obey_whole(session, next, &octets[used..], waiting) {
+            Ok(Some(length)) => {
+                used += length + 1;
+                next += 1;
+            }
+            Ok(None) => break,
+            Err(word) => {
+                return Front {
+                    used,
+                    next,
+                    fault: Some(word),
+                };
+            }
         }
-        used += line.len() + 1;
-        next += 1;
     }
     Front {
         used,
@@ -116,14 +172,14 @@ fn obey_at_hand<S: Session, R: BufRead, W: Write>(
     writer: &mut W,
 ) -> Result<u64, Fault>
     requires number { first ≤ 1000001 }
-    requires text { waiting.old.text.items ≡ [] }
+    requires text { waiting.old.text ≡ [] }
     requires marks { waiting.old.marks.items ≡ [] }
     ensures obeyed { IfOk result (λ n. AreObeyed S.dialogue (S.state session.old) first n
         (R.remaining reader.old) (R.remaining reader.new)
         (W.contents writer.old) (W.contents writer.new) (S.state session.new)) }
     ensures count { IfOk result (λ n. n ≤ 1000001) }
     ensures ahead { IfOk result (λ n. first ≤ n) }
-    ensures text { OnOk result (waiting.new.text.items ≡ []) }
+    ensures text { OnOk result (waiting.new.text ≡ []) }
     ensures marks { OnOk result (waiting.new.marks.items ≡ []) }
     ensures ended { IfErr result (λ fault. IfSome (R.remaining reader.old) (λ input.
         EndsFrom S.dialogue (S.state session.old) first (lines_of input) fault
@@ -160,14 +216,14 @@ fn obey_next<S: Session, R: BufRead, W: Write>(
 ) -> Result<bool, Fault>
     requires number { number ≤ 1000000 }
     requires room { 8001 ≤ vec_capacity line.old }
-    requires text { waiting.old.text.items ≡ [] }
+    requires text { waiting.old.text ≡ [] }
     requires marks { waiting.old.marks.items ≡ [] }
     ensures turned { IfOk result (λ more.
         Turned S.dialogue more number (R.remaining reader.old) (R.remaining reader.new)
         (W.contents writer.old) (W.contents writer.new) (S.state session.old)
         (S.state session.new)) }
     ensures room { vec_capacity line.old ≤ vec_capacity line.new }
-    ensures text { OnOk result (waiting.new.text.items ≡ []) }
+    ensures text { OnOk result (waiting.new.text ≡ []) }
     ensures marks { OnOk result (waiting.new.marks.items ≡ []) }
     ensures ended { IfErr result (λ fault. IfSome (R.remaining reader.old) (λ input.
         EndsFrom S.dialogue (S.state session.old) number (lines_of input) fault
@@ -196,7 +252,7 @@ fn obey_lines<S: Session, R: BufRead, W: Write>(
     writer: &mut W,
 ) -> Result<u64, Fault>
     requires room { 8001 ≤ vec_capacity line.old }
-    requires text { waiting.old.text.items ≡ [] }
+    requires text { waiting.old.text ≡ [] }
     requires marks { waiting.old.marks.items ≡ [] }
     ensures done { IfOk result (λ n. IfSome (R.remaining reader.old) (λ input.
         AllAnswered S.dialogue (S.state session.old) (lines_of input) (W.contents writer.old)
@@ -265,7 +321,7 @@ fn obey_script<S: Session, R: BufRead, W: Write>(
     writer: &mut W,
 ) -> Result<(), Fault>
     requires room { 8001 ≤ vec_capacity line.old }
-    requires text { waiting.old.text.items ≡ [] }
+    requires text { waiting.old.text ≡ [] }
     requires marks { waiting.old.marks.items ≡ [] }
     ensures done { OnOk result (IfSome (R.remaining reader.old) (λ input.
         IsAnswered S.dialogue (S.state session.old) (lines_of input) (W.contents writer.old)

@@ -62,11 +62,16 @@ fn run_over<P: Role + Send, R: BufRead, W: Write>(
     let Ok(node) = NodeOf::with_keys(alloc, role, setup.keys) else {
         return Err(NOT_BEGUN);
     };
+    let mut arriving = Vec::new(alloc);
+    if arriving.resize(MAX_LINE / 2, 0).is_err() {
+        return Err(NOT_BEGUN);
+    }
     let mut session = NodeSession {
         alloc,
         role: setup.role,
         node,
         octets: Vec::new(alloc),
+        arriving,
         frame: Vec::new(alloc),
     };
     match report {

@@ -6,6 +6,7 @@ use crate::replaying::NodeSession;
 use crate::session::Session;
 use crate::status_lines::tell_status;
 use sr_forwarding::Role;
+use sr_text::Text;
 
 /// A node at work on a script, whose frames are not printed.
 #[derive(Drop)]
@@ -25,7 +26,7 @@ impl<P: Role + Send> Session for StatusSession<P> {
 
     ghost dialogue = { status_dialogue };
 
-    fn answer(&mut self, number: u64, line: &[u8], text: &mut Vec<u8>) -> Result<(), Word> {
+    fn answer(&mut self, number: u64, line: &[u8], text: &mut Text) -> Result<(), Word> {
         let at_work = &mut self.0;
         note(
             at_work.alloc,

@@ -5,6 +5,7 @@ ghost use Rattle.std.specs.Io.KnownBytes.{Appends};
 ghost use Rattle.sr_script.specs.Turns.{marked, line_of, IsCut};
 
 use crate::fault::{Fault, Word};
+use sr_text::Text;
 use std::alloc::Global;
 use std::io::{ErrorKind, Write};
 
@@ -53,7 +54,7 @@ fn line_of(marks: &[Mark], place: usize) -> u64
 #[derive(Drop)]
 pub(crate) struct Waiting {
     /// The octets.
-    pub(crate) text: Vec<u8>,
+    pub(crate) text: Text,
     /// The lines that have a text, in order.
     pub(crate) marks: Vec<Mark>,
 }
@@ -61,13 +62,22 @@ pub(crate) struct Waiting {
 impl Waiting {
     /// Nothing waits yet.
     pub(crate) fn new(alloc: Global) -> Waiting
-        ensures text { result.text.items ≡ [] }
+        ensures text { result.text ≡ [] }
         ensures marks { result.marks.items ≡ [] }
     {
         Waiting {
-            text: Vec::new(alloc),
+            text: Text::new(alloc),
             marks: Vec::new(alloc),
         }
+    }
+
+    /// Takes back what stands from a place on.
+    #[inline(always)]
+    pub(crate) fn cut(&mut self, start: usize)
+        ensures text { self.new.text ≡ take start self.old.text }
+        ensures marks { self.new.marks.items ≡ self.old.marks.items }
+    {
+        self.text.truncate(start);
     }
 
     /// Marks what stands from a place on as the text of a line.
@@ -76,9 +86,9 @@ impl Waiting {
     /// `Memory`.
     #[inline(always)]
     pub(crate) fn mark(&mut self, line: u64, start: usize) -> Result<(), Word>
-        ensures text { self.new.text.items ≡ self.old.text.items }
+        ensures text { self.new.text ≡ self.old.text }
         ensures marks { OnOk result (self.new.marks.items ≡ self.old.marks.items
-            ++ marked line (length self.old.text.items) (drop start self.old.text.items) []) }
+            ++ marked line (length self.old.text) (drop start self.old.text) []) }
         ensures same { OnErr result (self.new.marks.items ≡ self.old.marks.items) }
         ensures err { IfErr result (λ word. word ≡ Word.Memory) }
     {
@@ -98,17 +108,17 @@ impl Waiting {
     /// `Write` at the line whose text holds the first octet that the writer did not take; at the last where it took all.
     pub(crate) fn send<W: Write>(&mut self, writer: &mut W) -> Result<(), Fault>
         ensures sent { OnOk result
-            (Appends (W.contents writer.old) (W.contents writer.new) self.old.text.items) }
-        ensures text { OnOk result (self.new.text.items ≡ []) }
+            (Appends (W.contents writer.old) (W.contents writer.new) self.old.text) }
+        ensures text { OnOk result (self.new.text ≡ []) }
         ensures marks { OnOk result (self.new.marks.items ≡ []) }
-        ensures cut { IfErr result (λ fault. IsCut self.old.text.items self.old.marks.items fault
+        ensures cut { IfErr result (λ fault. IsCut self.old.text self.old.marks.items fault
             (W.contents writer.old) (W.contents writer.new)) }
     {
         if self.text.is_empty() {
             self.marks.clear();
             return Ok(());
         }
-        let taken = write_out(writer, &self.text);
+        let taken = write_out(writer, self.text.as_slice());
         if taken < self.text.len() || writer.flush().is_err() {
             let place = taken.min(self.text.len() - 1);
             return Err(Fault {
@@ -116,7 +126,7 @@ impl Waiting {
                 word: Word::Write,
             });
         }
-        self.text.clear();
+        self.text.truncate(0);
         self.marks.clear();
         Ok(())
     }

@@ -1,12 +1,7 @@
 use Rattle.sr_hex.specs.Values.{value_of}
-use Rattle.sr_hex.proofs.Blocks.{through, block_spelled, block_small}
+use Rattle.sr_hex.proofs.Blocks.{through, block_spelled}
 use Rattle.sr_hex.proofs.reading.read_block.Goals as goal
 
 pub returns-clause-spelled : goal.returns-clause-spelled
 returns-clause-spelled c =
     block_spelled c.args.digits.now _ _ _ _ c.args.at (through value_of _ _ _ c.load.ensures c.values-first.ensures) (through value_of _ _ _ c.load-2.ensures c.values-second.ensures) c.octets_of.ensures c.store.ensures.stored
-
-pub returns-clause-small : goal.returns-clause-small
-returns-clause-small c =
-    let parts = block_small c.args.digits.now _ _ c.args.at (through value_of _ _ _ c.load.ensures c.values-first.ensures) (through value_of _ _ _ c.load-2.ensures c.values-second.ensures) in
-    (λ h. parts.0 (c.both.ensures.0 h), λ all. c.both.ensures.1 (parts.1 all))

@@ -4,4 +4,4 @@ use Rattle.sr_plant_script.proofs.happening.flow.Given as goal
 
 -- so many carries so far, and their lines
 abbrev pub invariant-loop-carries : goal.invariant-loop-carries
-invariant-loop-carries l = (ups : List ℕ) × Carries l.fn.network l.carries ups l.network × (l.text.items ≡ l.fn.text.items ++ ups)
+invariant-loop-carries l = (ups : List ℕ) × Carries l.fn.network l.carries ups l.network × (l.text ≡ l.fn.text ++ ups)

@@ -3,5 +3,5 @@ use Rattle.sr_plant_script.proofs.printing.append_ups.Goals as goal
 
 pub loop-parcel-preserved : goal.loop-parcel-preserved
 loop-parcel-preserved c =
-    ups_behind c.args.node c.args.parcels.now c.loop-parcel.parcel-index c.parcel-item.result c.args.text.now.items c.loop-parcel.text.items
-    c.append_parcel.new.text.items c.loop-parcel-test.true c.parcel-item.is c.loop-parcel.invariant c.in_ok-append_parcel.ensures.ok
+    ups_behind c.args.node c.args.parcels.now c.loop-parcel.parcel-index c.parcel-item.result c.args.text.now c.loop-parcel.text
+    c.append_parcel.new.text c.loop-parcel-test.true c.parcel-item.is c.loop-parcel.invariant c.in_ok-append_parcel.ensures.ok

@@ -4,4 +4,4 @@ use Rattle.sr_plant_script.proofs.printing.append_ups.Given as goal
 
 -- the lines of those that were passed
 abbrev pub invariant-loop-parcel : goal.invariant-loop-parcel
-invariant-loop-parcel l = l.text.items ≡ l.fn.text.items ++ up_lines l.node (take l.parcel-index l.parcels)
+invariant-loop-parcel l = l.text ≡ l.fn.text ++ up_lines l.node (take l.parcel-index l.parcels)

@@ -2,39 +2,28 @@ use Rattle.std.proofs.Common.{[], inl, inr, refl, sym}
 use Rattle.std.proofs.lemmas.List.{append-nil}
 use Rattle.std.proofs.lemmas.Result.{on_ok_weaker}
 use Rattle.sr_script.specs.Texts.{refusal_line}
-use Rattle.sr_script.proofs.answering.obey.Goals.{in-Ok, in-Err, in-Ok-send, in-Err-send, in-Ok-tick, in-Err-tick}
+use Rattle.sr_script.proofs.answering.obey.Goals.{in-Ok, in-Err, in-Ok-tick, in-Err-tick}
 use Rattle.sr_script.proofs.answering.obey.Goals as goal
 
-pub returns-after-arrive-clause-ok : goal.returns-after-arrive-clause-ok
-returns-after-arrive-clause-ok g c = elim c.match-arrive.branch [
+pub returns-in-Arrive-clause-ok : goal.returns-in-Arrive-clause-ok
+returns-in-Arrive-clause-ok g c = rw (c.in-Arrive.is, sym c.deref.ensures.value) c.obey_arrival.ensures.ok
+
+pub returns-after-send-clause-ok : goal.returns-after-send-clause-ok
+returns-after-send-clause-ok g c = elim c.match-send.branch [
   | in-Ok w ↦
-      rw (w.result-is, w.text-is) ([], rw c.in-Arrive.is (inl (w.in-Ok.field-0, w.in-Ok.ensures.taken, refl)), sym (append-nil c.args.text.now.items))
+      rw (w.result-is, w.text-is) (
+        [],
+        rw c.in-Send.is (inl (w.in-Ok.field-0, (w.in-Ok.ensures.ok, w.in-Ok.ensures.taken), refl)),
+        sym (append-nil c.args.text.now),
+      )
   | in-Err w ↦
       rw (w.result-is, w.text-is) (on_ok_weaker w.tell_refusal.result
       (λ told. (
         refusal_line c.args.number told.0,
-        rw c.in-Arrive.is (inr (w.in-Err.fault, told.0, w.in-Err.ensures.refused, told.1, refl, w.in-Err.ensures.same)),
+        rw c.in-Send.is (inr (w.in-Err.fault, told.0, w.in-Err.ensures.refused, told.1, refl, w.in-Err.ensures.same)),
         told.2,
       ))
       w.tell_refusal.ensures.ok)
-]
-
-pub returns-after-send-clause-ok : goal.returns-after-send-clause-ok
-returns-after-send-clause-ok g c = elim c.match-send.branch [
-  | in-Ok-send w ↦
-      rw (w.result-is, w.text-is) (
-        [],
-        rw c.in-Send.is (inl (w.in-Ok-send.field-0, (w.in-Ok-send.ensures.ok, w.in-Ok-send.ensures.taken), refl)),
-        sym (append-nil c.args.text.now.items),
-      )
-  | in-Err-send w ↦
-      rw (w.result-is, w.text-is) (on_ok_weaker w.tell_refusal-in-Err-send.result
-      (λ told. (
-        refusal_line c.args.number told.0,
-        rw c.in-Send.is (inr (w.in-Err-send.fault, told.0, w.in-Err-send.ensures.refused, told.1, refl, w.in-Err-send.ensures.same)),
-        told.2,
-      ))
-      w.tell_refusal-in-Err-send.ensures.ok)
 ]
 
 pub returns-after-tick-clause-ok : goal.returns-after-tick-clause-ok
@@ -43,7 +32,7 @@ returns-after-tick-clause-ok g c = elim c.match-tick.branch [
       rw (w.result-is, w.text-is) (
         [],
         rw c.in-Tick.is (inl (w.in-Ok-tick.field-0, (w.in-Ok-tick.ensures.ok, w.in-Ok-tick.ensures.taken), refl)),
-        sym (append-nil c.args.text.now.items),
+        sym (append-nil c.args.text.now),
       )
   | in-Err-tick w ↦
       rw (w.result-is, w.text-is) (on_ok_weaker w.tell_refusal-in-Err-tick.result

@@ -15,5 +15,5 @@ returns-clause-ok g c =
     let text =
     d.2
     ∙ ap (λ (t : List ℕ). t ++ d.0) (b.2 ∙ ap (λ (t : List ℕ). t ++ b.0) (a.2 ∙ ap (λ (t : List ℕ). t ++ a.0) h.2))
-    ∙ four_parts c.args.text.now.items h.0 a.0 b.0 d.0 in
+    ∙ four_parts c.args.text.now h.0 a.0 b.0 d.0 in
     (h.0 ++ (a.0 ++ (b.0 ++ d.0)), (h.0, a.0, b.0, d.0, u, v, w, h.1, a.1, b.1, d.1, refl), text)

@@ -9,8 +9,8 @@ use Rattle.sr_script.proofs.printing.append_waiting.Given as goal
 abbrev pub invariant-loop-role : goal.invariant-loop-role
 invariant-loop-role g l = record {
   lines : Printed l.role l.port (box_at (node_state (g.R.Role.meaning l.fn.node.role) l.fn.node.core).core.out l.port)
-      (box_at (node_state (g.R.Role.meaning l.node.role) l.node.core).core.out l.port) l.fn.text.items l.text.items;
-  kept : StillHolds l.fn.text.items l.text.items;
+      (box_at (node_state (g.R.Role.meaning l.node.role) l.node.core).core.out l.port) l.fn.text l.text;
+  kept : StillHolds l.fn.text l.text;
   node : emptied (node_state (g.R.Role.meaning l.node.role) l.node.core) l.port ≡ emptied (node_state (g.R.Role.meaning l.fn.node.role) l.fn.node.core) l.port;
 }
 

@@ -25,7 +25,7 @@ returns-in-None-clause-obeyed g c =
     let within = fill_within _ _ _ c.in-Ok.available c.in-Ok.is filled.1 in
     let stays = rw c.in-None.is at front.stops in (
       front.lines,
-      c.obey_front-front.new.waiting.text.items,
+      c.obey_front-front.new.waiting.text,
       hand_took _ _ _ _ c.in-Ok.available.now c.obey_front-front.result.used front.lines filled.0 within c.in-Ok.ensures.front c.consume.ensures.bytes front.within front.whole,
       rw stays replies,
       front.next,

@@ -7,7 +7,7 @@ invariant-loop-next g l = record {
   count : l.next ≤ 1000001;
   within : l.used ≤ length l.octets;
   obeyed : (lines : List (List ℕ)) × BeginsWith l.octets l.used lines
-      × Waits g.S.Session.dialogue (g.S.Session.state l.fn.session) l.first 0 lines l.waiting.text.items l.waiting.marks.items (g.S.Session.state l.session)
+      × Waits g.S.Session.dialogue (g.S.Session.state l.fn.session) l.first 0 lines l.waiting.text l.waiting.marks.items (g.S.Session.state l.session)
       × (l.next ≡ l.first + length lines);
 }
 

@@ -6,7 +6,7 @@ abbrev pub invariant-loop-number : goal.invariant-loop-number
 invariant-loop-number g l = record {
   count : l.number ≤ 1000001;
   room : 8001 ≤ vec_capacity l.line;
-  text : l.waiting.text.items ≡ [];
+  text : l.waiting.text ≡ [];
   marks : l.waiting.marks.items ≡ [];
   going : Going g.S.Session.dialogue (g.S.Session.state l.fn.session) (g.R.Read.remaining l.fn.reader) (g.R.Read.remaining l.reader)
       (g.W.Write.contents l.fn.writer) (g.W.Write.contents l.writer) (g.S.Session.state l.session) l.number;

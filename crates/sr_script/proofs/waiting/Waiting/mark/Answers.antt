@@ -7,7 +7,7 @@ use Rattle.sr_script.proofs.waiting.Waiting.mark.Goals as goal
 
 pub returns-in-Ok-clause-marks : goal.returns-in-Ok-clause-marks
 returns-in-Ok-clause-marks c =
-    let text = c.args.self.now.text.items in
+    let text = c.args.self.now.text in
     let marks = c.args.self.now.marks.items in
     let here = drop c.args.start text in
     let some : 0 < length here = omega (arith, length-drop c.args.start text) in

@@ -1,0 +1,50 @@
+-- The whole line at the front of a text, and what is done with it.
+use Rattle.std.specs.Prelude.{◌≡◌, ℕ, ◌+◌, ◌≤◌, ◌<◌, Option, None, Some, List, ◌∷◌, ◌++◌, [], length, take, drop}
+use Rattle.sr_script.specs.declared.fault.Word.{Word}
+use Rattle.sr_script.specs.declared.fault.Word.TheVariants as word
+use Rattle.sr_script.specs.declared.reading.FrontArrival.{FrontArrival}
+use Rattle.sr_script.specs.declared.reading.Command.TheVariants.{Arrive}
+use Rattle.sr_script.specs.declared.setups.RoleName.{RoleName}
+use Rattle.sr_script.specs.declared.waiting.Mark.{Mark}
+use Rattle.sr_script.specs.Commands.{Says}
+use Rattle.sr_script.specs.Limits.{longest_line}
+use Rattle.sr_script.specs.Lines.{IsOneOf}
+use Rattle.sr_script.specs.Octets.{Lacks}
+use Rattle.sr_script.specs.Runs.{Dialogue}
+use Rattle.sr_script.specs.Turns.{AddsAnswer}
+
+-- a line that is not too long stands at the front of a text, and then the LF that ends it
+pub record IsFrontLine (text line : List ℕ) : Type 0 where
+  pub unbroken : Lacks 10 line
+  pub short : length line ≤ longest_line
+  pub parts : text ≡ line ++ 10 ∷ drop (length line + 1) text
+  pub within : length line < length text
+
+-- the line at the front says that a frame arrives, of which the octets are the first of these
+pub record StandsAtFront (role : RoleName) (text : List ℕ) (a : FrontArrival) (octets : List ℕ) : Type 0 where
+  pub line : List ℕ
+  pub front : IsFrontLine text line
+  pub long : a.length ≡ length line
+  pub count : a.count ≤ length octets
+  pub says : Says role line (Arrive a.port a.time) (take a.count octets)
+
+-- The line at the front, of this length, is known and answered, and the answer stands behind a text. Without a length nothing is done.
+abbrev pub AnswersFront : {S : Type 0} → Dialogue S → S → ℕ → List ℕ → Option ℕ → List ℕ → List ℕ → S → Type 0
+AnswersFront d s number front None text later t = (later ≡ text) × (t ≡ s)
+AnswersFront d s number front (Some n) text later t = (line answer : List ℕ) × IsFrontLine front line × (n ≡ length line)
+    × d.Knows s line × d.Replied s number line answer t × (later ≡ text ++ answer)
+
+-- the line at the front is known
+abbrev pub KnowsFront : {S : Type 0} → Dialogue S → S → List ℕ → Type 0
+KnowsFront d s front = (line : List ℕ) × IsFrontLine front line × d.Knows s line
+
+-- The line at the front, of this length, is known and answered, and its text waits behind what waited. Without a length nothing is done.
+abbrev pub AddsFront : {S : Type 0} → Dialogue S → S → ℕ → List ℕ → Option ℕ → List ℕ → List Mark → List ℕ → List Mark → S → Type 0
+AddsFront d s number front None text marks later more t = (later ≡ text) × (more ≡ marks) × (t ≡ s)
+AddsFront d s number front (Some n) text marks later more t = (line : List ℕ) × IsFrontLine front line × (n ≡ length line)
+    × AddsAnswer d s number line text marks later more t
+
+-- why the line at the front is not answered
+abbrev pub FrontFails : {S : Type 0} → Dialogue S → S → List ℕ → Word → Type 0
+FrontFails d s front w = IsOneOf w (word.Line ∷ word.Memory ∷ []) × (line : List ℕ) × IsFrontLine front line
+    × (w ≡ word.Line → d.Knows s line → ⊥) × (w ≡ word.Memory → d.Knows s line)

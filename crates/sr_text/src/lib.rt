@@ -1,0 +1,6 @@
+//! Text that grows at its end, in memory that is used again.
+#![tactic(auto)]
+
+mod text;
+
+pub use text::Text;
