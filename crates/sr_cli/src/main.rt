@@ -24,6 +24,9 @@ const RUN_FAILED: u8 = 1;
 /// The exit status of a fault of the command line.
 const NOT_STARTED: u8 = 2;
 
+/// How many octets of a script are read at once: as many as a pipe holds. What is printed for their lines is then written at once.
+const READ_AHEAD: usize = 64 * 1024;
+
 fn main(rt: HostRuntime) -> ExitCode {
     let progress = if rt.stderr().is_terminal() {
         Progress::Told
@@ -77,7 +80,7 @@ fn run_node<R: AllocGlobal + Print + Input + RandomSource>(
             word: Word::Read,
         });
     };
-    let Ok(mut reader) = BufReader::new(rt.alloc(), rt.reader()) else {
+    let Ok(mut reader) = BufReader::with_capacity(rt.alloc(), READ_AHEAD, rt.reader()) else {
         return Err(NOT_BEGUN);
     };
     let setup = Setup { keys, ..*setup };
@@ -90,7 +93,7 @@ fn run_node<R: AllocGlobal + Print + Input + RandomSource>(
 
 /// Runs the script on standard input on a new plant, and writes what comes of it to standard output.
 fn play<R: AllocGlobal + Print + Input>(rt: &R, setup: &PlantSetup) -> Result<(), Fault> {
-    let Ok(mut reader) = BufReader::new(rt.alloc(), rt.reader()) else {
+    let Ok(mut reader) = BufReader::with_capacity(rt.alloc(), READ_AHEAD, rt.reader()) else {
         return Err(NOT_BEGUN);
     };
     run_plant(rt.alloc(), setup, &mut reader, &mut io::writer(rt))

@@ -10,7 +10,7 @@ use Rattle.std.proofs.lemmas.List.{get_or_past}
 use Rattle.hex.specs.Hex.{decode_of, decode_pairs, hex_digit_value, is_hex_digit}
 use Rattle.hex.proofs.HexLemmas.{decode_of-even, decode_of-ok}
 use Rattle.sr_hex.specs.Lanes.{HasLanes, IsSmallFront}
-use Rattle.sr_hex.specs.Values.{value_of, octet_of, AreSpelled, AreDigits, AreKept, AreSmall, IsDigitFront}
+use Rattle.sr_hex.specs.Values.{value_of, octet_of, AreSpelled, AreDigits, AreKept, AreSmall, IsDigitFront, IsEndAt}
 use Rattle.sr_hex.proofs.LaneLemmas.{joined, every_below}
 use Rattle.sr_hex.proofs.Digits.{digit_small, pair_spelled}
 
@@ -54,36 +54,40 @@ block_small digits first second at h1 h2 =
       ),
     )
 
--- so many codes are digits, up to the first that is none
-abbrev pub IsFrontAt : List ℕ → ℕ → ℕ → Type 0
-IsFrontAt text from count = AreDigits text from (from + count) × (count < 32 → 16 ≤ value_of (slice_index text (from + count)))
-
+-- the end of digits in the first sixteen codes, or else in the second
 pub front_in_first : (text first : List ℕ) (from count : ℕ) → HasLanes first (λ i. value_of (slice_index text (from + i)))
-    → IsSmallFront first count → count < 16 → IsFrontAt text from count
-front_in_first text first from count h1 front lt = (
-  λ k low high.
+    → IsSmallFront first count → count < 16 → IsEndAt text from (from + count)
+front_in_first text first from count h1 front lt = record {
+  past = omega arith;
+  near = omega arith;
+  digits = λ k low high.
       let e : from + (k - from) ≡ k = omega arith in
-      subst (λ m. m < 16) (h1.each (k - from) (omega arith) ∙ ap (λ p. value_of (slice_index text p)) e) (front.small (k - from) (omega arith)),
-  λ _. subst (λ m. 16 ≤ m) (h1.each count lt) (front.large lt),
-)
+      subst (λ m. m < 16) (h1.each (k - from) (omega arith) ∙ ap (λ p. value_of (slice_index text p)) e) (front.small (k - from) (omega arith));
+  none = subst (λ m. 16 ≤ m) (h1.each count lt) (front.large lt);
+}
 
 pub front_in_second : (text first second : List ℕ) (from all count : ℕ) → HasLanes first (λ i. value_of (slice_index text (from + i)))
     → HasLanes second (λ i. value_of (slice_index text (from + 16 + i))) → IsSmallFront first all → 16 ≤ all → IsSmallFront second count
-    → IsFrontAt text from (16 + count)
-front_in_second text first second from all count h1 h2 front whole behind =
-    let value = λ (p : ℕ). value_of (slice_index text p) in (
-      λ k low high. elim (cases_lt (k - from) 16) [
+    → (AreSmall first × AreSmall second → ⊥) → IsEndAt text from (from + 16 + count)
+front_in_second text first second from all count h1 h2 front whole behind not =
+    let value = λ (p : ℕ). value_of (slice_index text p) in
+    let lt : count < 16 = elim (cases_lt count 16) [
+      | inl l ↦ l
+      | inr g ↦ absurd (not (λ i h. front.small i (omega arith), λ i h. behind.small i (omega arith)))
+    ] in
+    record {
+      past = omega arith;
+      near = omega arith;
+      digits = λ k low high. elim (cases_lt (k - from) 16) [
         | inl l ↦
             let e : from + (k - from) ≡ k = omega arith in
             subst (λ m. m < 16) (h1.each (k - from) l ∙ ap value e) (front.small (k - from) (omega arith))
         | inr g ↦
             let e : from + 16 + (k - from - 16) ≡ k = omega arith in
-            subst (λ m. m < 16) (h2.each (k - from - 16) (omega (arith, behind.within)) ∙ ap value e) (behind.small (k - from - 16) (omega arith))
-      ],
-      λ short.
-          let e : from + 16 + count ≡ from + (16 + count) = omega arith in
-          subst (λ m. 16 ≤ m) (h2.each count (omega arith) ∙ ap value e) (behind.large (omega arith)),
-    )
+            subst (λ m. m < 16) (h2.each (k - from - 16) (omega arith) ∙ ap value e) (behind.small (k - from - 16) (omega arith))
+      ];
+      none = subst (λ m. 16 ≤ m) (h2.each count lt) (behind.large lt);
+    }
 
 -- the larger of two is small where both are
 pub both_small : (xs ys zs : List ℕ) → HasLanes zs (λ i. max (slice_index xs i) (slice_index ys i)) → AreSmall zs ↔ (AreSmall xs × AreSmall ys)
@@ -184,19 +188,17 @@ front_digits s n fits digits =
     let lt : k < n = omega (arith, length-take n s) in
     subst (λ c. is_hex_digit c ≡ true) (sym (get_or-take n s k 0 lt)) (small_is_digit (slice_index s k) (fits k) (digits k (omega arith) lt)))
 
-pub digits_on : (s : List ℕ) (at count : ℕ) → AreDigits s 0 (2 * at) → AreDigits s (2 * at) (2 * at + count) → AreDigits s 0 (2 * at + count)
-digits_on s at count before here k low high = elim (cases_lt k (2 * at)) [
+pub digits_on : (s : List ℕ) (from to : ℕ) → AreDigits s 0 from → AreDigits s from to → AreDigits s 0 to
+digits_on s from to before here k low high = elim (cases_lt k from) [
   | inl l ↦ before k low l
   | inr g ↦ here k g high
 ]
 
--- the digits go on for so many octets from a place that they reached
-pub front_ends : (s : List ℕ) (at count : ℕ) → Octets s → 2 * at + count < length s → AreDigits s 0 (2 * at) → AreDigits s (2 * at) (2 * at + count)
-    → 16 ≤ value_of (slice_index s (2 * at + count)) → IsDigitFront s (2 * at + count)
-front_ends s at count fits inside before here end = record {
-  within = inside;
-  digits = front_digits s (2 * at + count) fits (digits_on s at count before here);
-  end = large_is_none (slice_index s (2 * at + count)) (fits (2 * at + count)) end;
+pub front_ends : (s : List ℕ) (from end : ℕ) → Octets s → from + 32 ≤ length s → AreDigits s 0 from → IsEndAt s from end → IsDigitFront s end
+front_ends s from end fits inside before here = record {
+  within = omega (arith, here.near);
+  digits = front_digits s end fits (digits_on s from end before here.digits);
+  end = large_is_none (slice_index s end) (fits end) here.none;
 }
 
 pub spelled_on : (s old new : List ℕ) (at : ℕ) → AreSpelled s old 0 at → AreSpelled s new at (at + 16) → AreKept old new at → AreSpelled s new 0 (at + 16)
@@ -206,7 +208,7 @@ spelled_on s old new at before here kept i low high = elim (cases_lt i at) [
 ]
 
 -- so many octets are what the digits at the front spell
-pub front_spelled : (s out : List ℕ) (m : ℕ) → Octets s → 2 * m ≤ length s → m ≤ length out → AreDigits s 0 (2 * m) → AreSpelled s out 0 m
+front_spelled : (s out : List ℕ) (m : ℕ) → Octets s → 2 * m ≤ length s → m ≤ length out → AreDigits s 0 (2 * m) → AreSpelled s out 0 m
     → decode_of (take (2 * m) s) ≡ Ok (take m out)
 front_spelled s out m fits inside room digits spelled =
     let long : length (take (2 * m) s) ≡ 2 * m = omega (arith, length-take (2 * m) s) in
@@ -224,3 +226,13 @@ front_spelled s out m fits inside room digits spelled =
       | inl l ↦ subst (λ c. c < 256) (sym (get_or-take n s k 0 (omega (arith, length-take n s)))) (fits k)
       | inr g ↦ let past = get_or_past (take n s) k 0 g in omega (arith, past)
     ]
+
+-- what was read up to the end is what stands before it
+pub end_spelled : (s old new : List ℕ) (at end : ℕ) → Octets s → 2 * at + 32 ≤ length s → at + 16 ≤ length new → AreDigits s 0 (2 * at)
+    → AreSpelled s old 0 at → AreSpelled s new at (at + 16) → AreKept old new at → IsEndAt s (2 * at) end
+    → decode_of (take (2 * (end / 2)) s) ≡ Ok (take (end / 2) new)
+end_spelled s old new at end fits inside room digits before here kept ends =
+    let all = digits_on s (2 * at) end digits ends.digits in
+    let spelled = spelled_on s old new at before here kept in
+    front_spelled s new (end / 2) fits (omega (arith, ends.near)) (omega (arith, ends.near)) (λ k low high. all k low (omega arith))
+    (λ i low high. spelled i low (omega (arith, ends.near)))

@@ -33,6 +33,13 @@ AreSpelled digits octets from to = (i : ℕ) → from ≤ i → i < to → slice
 abbrev pub AreDigits : List ℕ → ℕ → ℕ → Type 0
 AreDigits digits from to = (k : ℕ) → from ≤ k → k < to → value_of (slice_index digits k) < 16
 
+-- the codes from a place on are digits up to the end, where none stands, before thirty-two are over
+pub record IsEndAt (text : List ℕ) (from end : ℕ) : Type 0 where
+  pub past : from ≤ end
+  pub near : end < from + 32
+  pub digits : AreDigits text from end
+  pub none : 16 ≤ value_of (slice_index text end)
+
 -- the octets before a place are the same
 abbrev pub AreKept : List ℕ → List ℕ → ℕ → Type 0
 AreKept old new before = (k : ℕ) → k < before → slice_index new k ≡ slice_index old k

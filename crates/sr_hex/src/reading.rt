@@ -4,7 +4,7 @@ ghost use Rattle.std.specs.Prelude.{◌≡◌, ◌↔◌, ◌+◌, ◌*◌, ◌/
 ghost use Rattle.std.specs.List.{AllPass};
 ghost use Rattle.hex.specs.Hex.{decode_of, hex_digit_value, is_hex_digit};
 ghost use Rattle.sr_hex.specs.Lanes.{HasLanes};
-ghost use Rattle.sr_hex.specs.Values.{AreSpelled, AreDigits, AreKept, AreSmall, IsDigitFront, value_of};
+ghost use Rattle.sr_hex.specs.Values.{AreSpelled, AreDigits, AreKept, AreSmall, IsDigitFront, IsEndAt, value_of};
 
 use crate::lanes::{
     are_small, larger, letters, load, numbers, octets_of, small_front, smaller, store,
@@ -58,28 +58,27 @@ fn read_digits(digits: &[u8], at: usize, octets: &mut [u8]) -> u8x16
     both(first, second)
 }
 
-/// Reads sixteen octets from a place on. The result is how many octets of the text from there on are digits, up to the first that
-/// is none: all thirty-two where none of them is that.
+/// Reads sixteen octets from a place on. The result is the place of the first octet of the text from there on that is no digit;
+/// None where all thirty-two are digits.
 #[inline(always)]
-fn read_up_to(text: &[u8], at: usize, octets: &mut [u8]) -> usize
+fn read_up_to(text: &[u8], at: usize, octets: &mut [u8]) -> Option<usize>
     requires whole { 2 * at + 32 ≤ length text.now }
     requires within { at + 16 ≤ length octets.old }
     ensures long { length octets.new ≡ length octets.old }
     ensures spelled { AreSpelled text.now octets.new at (at + 16) }
     ensures kept { AreKept octets.old octets.new at }
-    ensures count { result ≤ 32 }
-    ensures digits { AreDigits text.now (2 * at) (2 * at + result) }
-    ensures end { result < 32 → 16 ≤ value_of (slice_index text.now (2 * at + result)) }
+    ensures end { IfSome result (λ end. IsEndAt text.now (2 * at) end) }
+    ensures none { result ≡ None → AreDigits text.now (2 * at) (2 * (at + 16)) }
 {
     let (first, second) = read_block(text, at, octets);
     if are_small(both(first, second)) {
-        return 32;
+        return None;
     }
     let count = small_front(first);
     if count < 16 {
-        return count;
+        return Some(2 * at + count);
     }
-    16 + small_front(second)
+    Some(2 * at + 16 + small_front(second))
 }
 
 /// Reads sixteen octets or more, sixteen at a time. Of the last sixteen some may have been read before.
@@ -145,12 +144,19 @@ pub fn read_front(text: &[u8], octets: &mut [u8]) -> Option<usize>
         (take (32 * min (length text.now / 32) (length octets.old / 16)) text.now) }
 {
     let mut at = 0;
-    while text.len() / 2 >= at + 16 && octets.len() >= at + 16 {
-        let count = read_up_to(text, at, octets);
-        if count < 32 {
-            return Some(2 * at + count);
+
+    // Two steps a turn, since what they compare with is had once for both.
+    while text.len() / 2 >= at + 32 && octets.len() >= at + 32 {
+        if let Some(end) = read_up_to(text, at, octets) {
+            return Some(end);
         }
-        at += 16;
+        if let Some(end) = read_up_to(text, at + 16, octets) {
+            return Some(end);
+        }
+        at += 32;
+    }
+    if text.len() / 2 >= at + 16 && octets.len() >= at + 16 {
+        return read_up_to(text, at, octets);
     }
     None
 }

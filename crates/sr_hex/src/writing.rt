@@ -23,6 +23,34 @@ fn write_block(octets: &[u8], at: usize, digits: &mut [u8])
     store(in_turn_last(high, low), digits, 2 * at + 16);
 }
 
+/// Writes the digits of eight octets from a place on.
+#[inline(always)]
+fn write_half(octets: &[u8], at: usize, digits: &mut [u8])
+    requires pairs { length digits.old ≡ 2 * length octets.now }
+    requires within { at + 8 ≤ length octets.now }
+    ensures long { length digits.new ≡ length digits.old }
+    ensures written { AreWritten octets.now digits.new at (at + 8) }
+    ensures kept { AreKept digits.old digits.new (2 * at) }
+{
+    let mut half = [0; 16];
+    half[..8].copy_from_slice(&octets[at..at + 8]);
+    let block = load(&half, 0);
+    let high = digits_of(upper(block));
+    let low = digits_of(lower(block));
+    store(in_turn_first(high, low), digits, 2 * at);
+}
+
+/// Writes the digits of eight to sixteen octets, of eight at a time. Those of the last eight may be written twice.
+fn write_halves(octets: &[u8], digits: &mut [u8])
+    requires pairs { length digits.old ≡ 2 * length octets.now }
+    requires enough { 8 ≤ length octets.now }
+    requires few { length octets.now ≤ 16 }
+    ensures { digits.new ≡ encode_lower octets.now }
+{
+    write_half(octets, 0, digits);
+    write_half(octets, octets.len() - 8, digits);
+}
+
 /// Writes the digits of sixteen octets or more, of sixteen at a time. Those of the last sixteen may be written twice.
 fn write_blocks(octets: &[u8], digits: &mut [u8])
     requires pairs { length digits.old ≡ 2 * length octets.now }
@@ -31,7 +59,14 @@ fn write_blocks(octets: &[u8], digits: &mut [u8])
 {
     let last = octets.len() - 16;
     let mut at = 0;
-    while at < last {
+
+    // Two blocks a turn, since what they compare with is had once for both.
+    while at + 16 < last {
+        write_block(octets, at, digits);
+        write_block(octets, at + 16, digits);
+        at += 32;
+    }
+    if at < last {
         write_block(octets, at, digits);
         at += 16;
     }
@@ -69,10 +104,10 @@ pub fn write_hex(octets: &[u8], digits: &mut [u8])
     requires { length digits.old ≡ 2 * length octets.now }
     ensures { digits.new ≡ encode_lower octets.now }
 {
-    if octets.len() < 16 {
-        write_few(octets, digits);
-    } else {
-        write_blocks(octets, digits);
+    match octets.len() {
+        0..8 => write_few(octets, digits),
+        8..16 => write_halves(octets, digits),
+        _ => write_blocks(octets, digits),
     }
 }
 

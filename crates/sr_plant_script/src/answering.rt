@@ -31,19 +31,19 @@ fn event_on(verb: Verb, place: usize) -> PlantEvent
     }
 }
 
-/// The host of a node sends the octets, or is refused. Their list is then used for what is handed up.
+/// The host of a node sends the octets, or is refused.
 fn send(
     alloc: Global,
     network: &mut Network,
     number: u64,
     node: usize,
     receiver: Receiver,
-    octets: &mut Vec<u8>,
+    octets: &[u8],
     text: &mut Text,
 ) -> Result<(), Word>
     requires { text.old ≡ [] }
-    ensures ok { OnOk result (Sends network.old number node receiver octets.old.items
-        (send_refusal (length network.old.nodes) node receiver (length octets.old.items))
+    ensures ok { OnOk result (Sends network.old number node receiver octets.now
+        (send_refusal (length network.old.nodes) node receiver (length octets.now))
         text.new network.new) }
     ensures err { IfErr result (λ word. word ≡ Word.Memory) }
 {
@@ -51,13 +51,7 @@ fn send(
         return tell_refusal(text, number, fault);
     }
     let frame = sent_frame(alloc, node, receiver, octets)?;
-    happen(
-        network,
-        number,
-        &PlantEvent::Send { node, frame },
-        octets,
-        text,
-    )
+    happen(network, number, &PlantEvent::Send { node, frame }, text)
 }
 
 /// Has the plant obey a command of the line with this number.
@@ -66,28 +60,22 @@ fn obey(
     network: &mut Network,
     number: u64,
     command: Command,
-    octets: &mut Vec<u8>,
+    octets: &[u8],
     text: &mut Text,
 ) -> Result<(), Word>
     requires { text.old ≡ [] }
     ensures ok { OnOk result
-        (Obeys network.old number command octets.old.items text.new network.new) }
+        (Obeys network.old number command octets.now text.new network.new) }
     ensures err { IfErr result (λ word. word ≡ Word.Memory) }
 {
     match command {
         Command::Skip => Ok(()),
         Command::Send(node, receiver) => send(alloc, network, number, node, receiver, octets, text),
-        Command::On(verb, place) => happen(network, number, &event_on(verb, place), octets, text),
+        Command::On(verb, place) => happen(network, number, &event_on(verb, place), text),
         Command::Tick(node, now) => {
-            happen(
-                network,
-                number,
-                &PlantEvent::Tick { node, now },
-                octets,
-                text,
-            )
+            happen(network, number, &PlantEvent::Tick { node, now }, text)
         }
-        Command::Flow => flow(network, number, octets, text),
+        Command::Flow => flow(network, number, text),
     }
 }
 

@@ -15,24 +15,22 @@ use sr_text::Text;
 const MAX_CARRIES: usize = 100_000;
 
 /// What was handed up is printed and let go.
-fn take_up(network: &mut Network, frame: &mut Vec<u8>, text: &mut Text) -> Result<(), Word>
+fn take_up(network: &mut Network, text: &mut Text) -> Result<(), Word>
     ensures told { OnOk result (text.new
         ≡ text.old ++ all_up_lines 0 network.old.handed) }
     ensures left { OnOk result (network.new ≡ taken_up network.old) }
     ensures err { IfErr result (λ word. word ≡ Word.Memory) }
 {
-    append_all_ups(text, network.handed(), frame)?;
+    append_all_ups(text, network.handed())?;
     network.let_go();
     Ok(())
 }
 
 /// An event of the line with this number happens, and what is handed up is printed; or it is refused, which is printed too.
-/// The list for a frame is used again.
 pub(crate) fn happen(
     network: &mut Network,
     number: u64,
     event: &PlantEvent,
-    frame: &mut Vec<u8>,
     text: &mut Text,
 ) -> Result<(), Word>
     ensures ok { OnOk result ((told : List ℕ)
@@ -43,16 +41,11 @@ pub(crate) fn happen(
     if let Err(fault) = network.apply(event) {
         return tell_refusal(text, number, fault);
     }
-    take_up(network, frame, text)
+    take_up(network, text)
 }
 
 /// The first copy is carried, again and again, until none is in flight or a flow has no carries left.
-pub(crate) fn flow(
-    network: &mut Network,
-    number: u64,
-    frame: &mut Vec<u8>,
-    text: &mut Text,
-) -> Result<(), Word>
+pub(crate) fn flow(network: &mut Network, number: u64, text: &mut Text) -> Result<(), Word>
     ensures ok { OnOk result ((told : List ℕ) × Flows network.old number told network.new
         × (text.new ≡ text.old ++ told)) }
     ensures err { IfErr result (λ word. word ≡ Word.Memory) }
@@ -64,7 +57,7 @@ pub(crate) fn flow(
         if let Err(fault) = network.apply(&PlantEvent::Carry(0)) {
             return tell_refusal(text, number, fault);
         }
-        take_up(network, frame, text)?;
+        take_up(network, text)?;
     }
     append_flow(text, MAX_CARRIES)
 }

@@ -1,13 +1,13 @@
 //! What is printed of a plant.
 
-ghost use Rattle.std.specs.Prelude.{◌≡◌, ◌++◌, ◌≤◌, ℕ, List, length, map, OnOk, IfErr};
+ghost use Rattle.std.specs.Prelude.{◌≡◌, ◌++◌, map, OnOk, IfErr};
 ghost use Rattle.std.specs.Fmt.{decimal};
 ghost use Rattle.sr_forwarding.specs.Parcels.{plain_of};
 ghost use Rattle.sr_plant_script.specs.Texts.{up_line, up_lines, all_up_lines, flow_line, flight_line};
 
 use itoa::Buffer;
 use sr_forwarding::Parcel;
-use sr_script::{Word, write_plain};
+use sr_script::Word;
 use sr_text::Text;
 use std::alloc::AllocError;
 
@@ -19,64 +19,32 @@ fn append_number(text: &mut Text, number: usize) -> Result<(), AllocError>
     text.extend_from_slice(digits.format(number).as_bytes())
 }
 
-/// Appends the line for a frame that a node hands up.
-fn append_up(text: &mut Text, node: usize, frame: &[u8]) -> Result<(), AllocError>
-    requires { length frame.now ≤ 1524 }
-    ensures { OnOk result (text.new ≡ text.old ++ up_line node frame.now) }
+/// Appends the line for a parcel that a node hands up.
+fn append_up(text: &mut Text, node: usize, parcel: &Parcel) -> Result<(), AllocError>
+    ensures { OnOk result (text.new ≡ text.old ++ up_line node (plain_of parcel.now)) }
 {
     text.extend_from_slice(b"up ")?;
     append_number(text, node)?;
-    text.push(b' ')?;
-    text.append_hex(frame)?;
-    text.push(b'\n')?;
-    Ok(())
-}
-
-/// Appends the line for a parcel that a node hands up. The list for its frame is used again.
-fn append_parcel(
-    text: &mut Text,
-    node: usize,
-    parcel: &Parcel,
-    frame: &mut Vec<u8>,
-) -> Result<(), Word>
-    ensures ok { OnOk result (text.new ≡ text.old
-        ++ up_line node (plain_of parcel.now)) }
-    ensures err { IfErr result (λ word. word ≡ Word.Memory) }
-{
-    frame.clear();
-    write_plain(parcel, frame)?;
-    append_up(text, node, frame)?;
-    Ok(())
+    let (front, behind) = parcel.plain_pieces();
+    text.append_hex_line(b" ", front, behind)
 }
 
 /// Appends the lines for what a node hands up.
-fn append_ups(
-    text: &mut Text,
-    node: usize,
-    parcels: &[Parcel],
-    frame: &mut Vec<u8>,
-) -> Result<(), Word>
-    ensures ok { OnOk result (text.new ≡ text.old ++ up_lines node parcels.now) }
-    ensures err { IfErr result (λ word. word ≡ Word.Memory) }
+fn append_ups(text: &mut Text, node: usize, parcels: &[Parcel]) -> Result<(), AllocError>
+    ensures { OnOk result (text.new ≡ text.old ++ up_lines node parcels.now) }
 {
     for parcel in parcels {
-        append_parcel(text, node, parcel, frame)?;
+        append_up(text, node, parcel)?;
     }
     Ok(())
 }
 
 /// Appends the lines for what all nodes hand up, node by node.
-pub(crate) fn append_all_ups(
-    text: &mut Text,
-    handed: &[Vec<Parcel>],
-    frame: &mut Vec<u8>,
-) -> Result<(), Word>
-    ensures ok { OnOk result (text.new ≡ text.old
-        ++ all_up_lines 0 (map (λ l. l.items) handed.now)) }
-    ensures err { IfErr result (λ word. word ≡ Word.Memory) }
+pub(crate) fn append_all_ups(text: &mut Text, handed: &[Vec<Parcel>]) -> Result<(), AllocError>
+    ensures { OnOk result (text.new ≡ text.old ++ all_up_lines 0 (map (λ l. l.items) handed.now)) }
 {
     for node in 0..handed.len() {
-        append_ups(text, node, &handed[node], frame)?;
+        append_ups(text, node, &handed[node])?;
     }
     Ok(())
 }

@@ -20,7 +20,7 @@ use std::io::{BufRead, Write};
 struct PlantSession {
     alloc: Global,
     network: Network,
-    // The octets of a line, and then of frames that are handed up, in a list that is used again.
+    // The octets of a line, in a list that is used again.
     octets: Vec<u8>,
     // What is printed for a line, in a list that is used again.
     printed: Text,

@@ -5,7 +5,7 @@ use Rattle.std.specs.Io.KnownBytes.{Appends, Keeps}
 use Rattle.std.proofs.KnownBytes.{Appends-nil, Appends-trans, Keeps-refl}
 use Rattle.std.proofs.lemmas.Bool.{cases_lt}
 use Rattle.std.proofs.lemmas.Bool.Decides.{nat_tests}
-use Rattle.std.proofs.lemmas.List.{append-nil, length-append, length-drop, length-take, length-take-le, take-append-drop, drop_more, drop_all, drop-drop, drop-append-le}
+use Rattle.std.proofs.lemmas.List.{append-nil, length-append, length-take, length-take-le, take-append-drop, drop_more, drop_all, drop-drop, drop-append-le}
 use Rattle.sr_script.specs.declared.fault.Fault.{Fault}
 use Rattle.sr_script.specs.declared.fault.Word.{Word}
 use Rattle.sr_script.specs.declared.fault.Word.TheVariants as word

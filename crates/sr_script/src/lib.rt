@@ -24,7 +24,6 @@ pub use answering::{append_refusal, name_of};
 pub use fault::{Fault, Word};
 pub use hexadecimal::read_hex;
 pub use numbers::number_of;
-pub use printing::write_plain;
 pub use reading::{behind_send, is_comment};
 pub use running::run_session;
 pub use session::Session;

@@ -1,14 +1,13 @@
 //! What a node puts out, as text.
 
-ghost use Rattle.std.specs.Prelude.{◌≡◌, ◌++◌, ◌∷◌, [], ◌≤◌, ℕ, List, length, OnOk, OnErr, IfErr, IfSome};
-ghost use Rattle.hex.specs.Hex.{encode_lower};
+ghost use Rattle.std.specs.Prelude.{◌≡◌, ◌+◌, ◌++◌, ◌∷◌, [], ◌≤◌, ℕ, List, length, OnOk, OnErr, IfErr, IfSome};
 ghost use Rattle.sr_node.specs.Images.{node_state};
 ghost use Rattle.sr_forwarding.specs.Encoding.{IsWritten};
 ghost use Rattle.sr_forwarding.specs.Parcels.{plain_of};
 ghost use Rattle.sr_script.specs.Commands.{letter_of};
 ghost use Rattle.sr_script.specs.Octets.{StillHolds};
 ghost use Rattle.sr_script.specs.Stations.{framing_of};
-ghost use Rattle.sr_script.specs.Texts.{frame_line, GoesAs, IsLine};
+ghost use Rattle.sr_script.specs.Texts.{frame_line, IsLine};
 ghost use Rattle.sr_script.specs.Replies.{FirstLeft, Emptied, AllEmptied};
 
 use crate::carriers::{Carrier, carrier_of};
@@ -32,34 +31,14 @@ pub(crate) fn letter_of(port: Port) -> u8
     }
 }
 
-/// Appends the line for a frame that goes out at a port.
+/// Appends the line for a frame that goes out at a port, of the frame in two pieces.
 #[inline(always)]
-fn append_frame(text: &mut Text, port: Port, frame: &[u8]) -> Result<(), AllocError>
-    requires { length frame.now ≤ 1524 }
-    ensures ok { OnOk result (text.new ≡ text.old
-        ++ (letter_of port ++ (32 ∷ encode_lower frame.now)) ++ 10 ∷ []) }
-    ensures kept { OnErr result (StillHolds text.old text.new) }
+fn append_frame(text: &mut Text, port: Port, front: &[u8], behind: &[u8]) -> Result<(), AllocError>
+    requires { length front.now + length behind.now ≤ 1524 }
+    ensures ok { OnOk result (text.new ≡ text.old ++ frame_line port (front.now ++ behind.now)) }
+    ensures same { OnErr result (text.new ≡ text.old) }
 {
-    text.extend_from_slice(&[letter_of(port), b' '])?;
-    text.append_hex(frame)?;
-    text.push(b'\n')?;
-    Ok(())
-}
-
-/// Writes the plain form of a parcel into an empty list.
-///
-/// # Errors
-/// `Memory`.
-pub fn write_plain(parcel: &Parcel, frame: &mut Vec<u8>) -> Result<(), Word>
-    requires { frame.old.items ≡ [] }
-    ensures ok { OnOk result (frame.new.items ≡ plain_of parcel.now) }
-    ensures size { OnOk result (length frame.new.items ≤ 1524) }
-    ensures err { IfErr result (λ word. word ≡ Word.Memory) }
-{
-    let (front, behind) = parcel.plain_pieces();
-    frame.extend_from_slice(front)?;
-    frame.extend_from_slice(behind)?;
-    Ok(())
+    text.append_hex_line(&[letter_of(port), b' '], front, behind)
 }
 
 /// Writes a parcel by the framing of a port into an empty list.
@@ -81,28 +60,6 @@ fn write_framed(
     }
 }
 
-/// Writes a parcel as the frame that it goes out as at a port, in place of what the list held.
-fn write_frame(role: RoleName, port: Port, parcel: &Parcel, frame: &mut Vec<u8>) -> Result<(), Word>
-    ensures ok { OnOk result (GoesAs role port parcel.now frame.new.items) }
-    ensures size { OnOk result (length frame.new.items ≤ 1524) }
-    ensures err { IfErr result (λ word. word ≡ Word.Memory) }
-{
-    frame.clear();
-    match port {
-        Port::H => write_plain(parcel, frame),
-        Port::A | Port::B | Port::C => write_framed(role, port, parcel, frame),
-    }
-}
-
-/// The plain form of a parcel, where it stands in one piece among its octets.
-fn plain_in_place(parcel: &Parcel) -> Option<&[u8]>
-    ensures plain { IfSome result (λ octets. octets.now ≡ plain_of parcel.now) }
-    ensures size { IfSome result (λ octets. length octets.now ≤ 1524) }
-{
-    let (front, behind) = parcel.plain_pieces();
-    if behind.is_empty() { Some(front) } else { None }
-}
-
 /// The octets of a parcel, where the framing of a port writes them as they are.
 fn framed_in_place(role: RoleName, port: Port, parcel: &Parcel) -> Option<&[u8]>
     ensures written { IfSome result (λ octets.
@@ -117,15 +74,29 @@ fn framed_in_place(role: RoleName, port: Port, parcel: &Parcel) -> Option<&[u8]>
     }
 }
 
-/// The octets that a parcel goes out as at a port, where they stand among its own.
-fn in_place(role: RoleName, port: Port, parcel: &Parcel) -> Option<&[u8]>
-    ensures goes { IfSome result (λ octets. GoesAs role port parcel.now octets.now) }
-    ensures size { IfSome result (λ octets. length octets.now ≤ 1524) }
+/// Appends the line for a parcel that goes out at another port than the host's. The list is used again.
+#[inline(always)]
+fn append_framed(
+    role: RoleName,
+    port: Port,
+    parcel: &Parcel,
+    frame: &mut Vec<u8>,
+    text: &mut Text,
+) -> Result<(), Word>
+    ensures ok { OnOk result ((octets : List ℕ)
+        × IsWritten (framing_of role port) parcel.now.form parcel.now octets
+        × (text.new ≡ text.old ++ frame_line port octets)) }
+    ensures kept { OnErr result (StillHolds text.old text.new) }
+    ensures err { IfErr result (λ word. word ≡ Word.Memory) }
 {
-    match port {
-        Port::H => plain_in_place(parcel),
-        Port::A | Port::B | Port::C => framed_in_place(role, port, parcel),
+    if let Some(octets) = framed_in_place(role, port, parcel) {
+        append_frame(text, port, octets, &[])?;
+        return Ok(());
     }
+    frame.clear();
+    write_framed(role, port, parcel, frame)?;
+    append_frame(text, port, frame, &[])?;
+    Ok(())
 }
 
 /// Appends the line for a parcel that goes out at a port. The list is used again.
@@ -142,19 +113,19 @@ fn append_parcel(
     ensures kept { OnErr result (StillHolds text.old text.new) }
     ensures err { IfErr result (λ word. word ≡ Word.Memory) }
 {
-    if let Some(octets) = in_place(role, port, parcel) {
-        append_frame(text, port, octets)?;
-        return Ok(());
+    match port {
+        Port::H => {
+            let (front, behind) = parcel.plain_pieces();
+            append_frame(text, Port::H, front, behind)?;
+            Ok(())
+        }
+        Port::A | Port::B | Port::C => append_framed(role, port, parcel, frame, text),
     }
-    write_frame(role, port, parcel, frame)?;
-    append_frame(text, port, frame)?;
-    Ok(())
 }
 
-/// Takes the first parcel that waits at a port, if one waits, and appends the line for its frame. It stands apart, so that a
-/// port where nothing waits costs no call.
-#[inline(never)]
-fn append_first<R: Role>(
+/// Takes the first parcel that waits at a port, if one waits, and appends the line for its frame.
+#[inline(always)]
+fn append_first_at<R: Role>(
     role: RoleName,
     node: &mut NodeOf<R>,
     port: Port,
@@ -173,6 +144,31 @@ fn append_first<R: Role>(
         node.drop_first(port);
     }
     Ok(())
+}
+
+/// The same, apart, so that a port where nothing waits costs no call. It is asked once which port it is, and in each of the four
+/// answers that is known where the code is made.
+#[inline(never)]
+fn append_first<R: Role>(
+    role: RoleName,
+    node: &mut NodeOf<R>,
+    port: Port,
+    frame: &mut Vec<u8>,
+    text: &mut Text,
+) -> Result<(), Word>
+    ensures ok { OnOk result ((line : List ℕ)
+        × FirstLeft role port (node_state (R.meaning node.old.role) node.old.core) line
+        (node_state (R.meaning node.new.role) node.new.core)
+        × (text.new ≡ text.old ++ line)) }
+    ensures kept { OnErr result (StillHolds text.old text.new) }
+    ensures err { IfErr result (λ word. word ≡ Word.Memory) }
+{
+    match port {
+        Port::H => append_first_at(role, node, Port::H, frame, text),
+        Port::A => append_first_at(role, node, Port::A, frame, text),
+        Port::B => append_first_at(role, node, Port::B, frame, text),
+        Port::C => append_first_at(role, node, Port::C, frame, text),
+    }
 }
 
 /// Takes all that waits at a port, one after the other, and appends a line for each frame. As a rule nothing waits.

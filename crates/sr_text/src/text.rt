@@ -1,6 +1,6 @@
 //! Text in a list that is never shortened.
 
-ghost use Rattle.std.specs.Prelude.{◌≡◌, ◌+◌, ◌<◌, ◌^◌, ◌↔◌, ◌≤◌, ◌++◌, ◌∷◌, [], length, take, IsTrue, OnOk, OnErr, vec_len};
+ghost use Rattle.std.specs.Prelude.{◌≡◌, ◌+◌, ◌*◌, ◌<◌, ◌^◌, ◌↔◌, ◌≤◌, ◌++◌, ◌∷◌, [], length, take, IsTrue, OnOk, OnErr, vec_len};
 ghost use Rattle.hex.specs.Hex.{encode_lower};
 
 use sr_hex::write_hex;
@@ -52,6 +52,35 @@ fn make_room(octets: &mut Vec<u8>, len: usize, more: usize) -> Result<(), AllocE
         return lengthen(octets, len, more);
     }
     Ok(())
+}
+
+// Writes octets from a place on. The result is the place behind them.
+#[inline(always)]
+fn put(list: &mut Vec<u8>, at: usize, octets: &[u8]) -> usize
+    requires { at + length octets.now ≤ vec_len list.old }
+    ensures long { vec_len list.new ≡ vec_len list.old }
+    ensures end { result ≡ at + length octets.now }
+    ensures put { take result list.new.items ≡ take at list.old.items ++ octets.now }
+{
+    let end = at + octets.len();
+    list[at..end].copy_from_slice(octets);
+    end
+}
+
+// Writes the digits of octets from a place on. The result is the place behind them.
+#[inline(always)]
+fn put_hex(list: &mut Vec<u8>, at: usize, octets: &[u8]) -> usize
+    requires { at + 2 * length octets.now ≤ vec_len list.old }
+    ensures long { vec_len list.new ≡ vec_len list.old }
+    ensures end { result ≡ at + 2 * length octets.now }
+    ensures put { take result list.new.items ≡ take at list.old.items ++ encode_lower octets.now }
+{
+    if octets.is_empty() {
+        return at;
+    }
+    let end = at + 2 * octets.len();
+    write_hex(octets, &mut list[at..end]);
+    end
 }
 
 impl Text {
@@ -119,24 +148,30 @@ impl Text {
         ensures same { OnErr result (self.new ≡ self.old) }
     {
         make_room(&mut self.octets, self.len, octets.len())?;
-        let end = self.len + octets.len();
-        self.octets[self.len..end].copy_from_slice(octets);
-        self.len = end;
+        self.len = put(&mut self.octets, self.len, octets);
         Ok(())
     }
 
-    /// Appends octets as hexadecimal digits of lower case, two each. An error: no memory was had for them, and the text is what it
-    /// was.
+    /// Appends a line: octets as they are, then others, which stand in two pieces, as hexadecimal digits of lower case, two each, and
+    /// a line feed. An error: no memory was had for it, and the text is what it was.
     #[inline(always)]
-    pub fn append_hex(&mut self, octets: &[u8]) -> Result<(), AllocError>
-        requires { length octets.now < 2 ^ 32 }
-        ensures ok { OnOk result (self.new ≡ self.old ++ encode_lower octets.now) }
+    pub fn append_hex_line(
+        &mut self,
+        start: &[u8],
+        front: &[u8],
+        behind: &[u8],
+    ) -> Result<(), AllocError>
+        requires { length start.now + length front.now + length behind.now < 2 ^ 32 }
+        ensures ok { OnOk result (self.new
+            ≡ self.old ++ (start.now ++ encode_lower (front.now ++ behind.now) ++ 10 ∷ [])) }
         ensures same { OnErr result (self.new ≡ self.old) }
     {
-        make_room(&mut self.octets, self.len, 2 * octets.len())?;
-        let end = self.len + 2 * octets.len();
-        write_hex(octets, &mut self.octets[self.len..end]);
-        self.len = end;
+        let more = start.len() + 2 * (front.len() + behind.len()) + 1;
+        make_room(&mut self.octets, self.len, more)?;
+        let at = put(&mut self.octets, self.len, start);
+        let at = put_hex(&mut self.octets, at, front);
+        let at = put_hex(&mut self.octets, at, behind);
+        self.len = put(&mut self.octets, at, b"\n");
         Ok(())
     }
 }

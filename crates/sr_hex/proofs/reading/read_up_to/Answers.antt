@@ -1,23 +1,16 @@
-use Rattle.std.proofs.Common.{◌*◌, arith}
+use Rattle.std.proofs.Common.{◌*◌}
 use Rattle.sr_hex.proofs.Blocks.{block_small, front_in_first, front_in_second}
 use Rattle.sr_hex.proofs.reading.read_up_to.Goals as goal
 
-pub returns-then-are_small-clause-digits : goal.returns-then-are_small-clause-digits
-returns-then-are_small-clause-digits c k low high =
-    (block_small c.args.text.now _ _ c.args.at c.read_block.ensures.first c.read_block.ensures.second).0 (c.both.ensures.0 (c.are_small.ensures.0 c.if-are_small.true)) k low (omega arith)
-
-pub returns-then-count-lt16-clause-digits : goal.returns-then-count-lt16-clause-digits
-returns-then-count-lt16-clause-digits c =
-    (front_in_first c.args.text.now _ (2 * c.args.at) _ c.read_block.ensures.first c.small_front-count.ensures c.if-count-lt16.true).0
+pub returns-then-are_small-clause-none : goal.returns-then-are_small-clause-none
+returns-then-are_small-clause-none c _ =
+    (block_small c.args.text.now _ _ c.args.at c.read_block.ensures.first c.read_block.ensures.second).0 (c.both.ensures.0 (c.are_small.ensures.0 c.if-are_small.true))
 
 pub returns-then-count-lt16-clause-end : goal.returns-then-count-lt16-clause-end
 returns-then-count-lt16-clause-end c =
-    (front_in_first c.args.text.now _ (2 * c.args.at) _ c.read_block.ensures.first c.small_front-count.ensures c.if-count-lt16.true).1
-
-pub returns-clause-digits : goal.returns-clause-digits
-returns-clause-digits c =
-    (front_in_second c.args.text.now _ _ (2 * c.args.at) _ _ c.read_block.ensures.first c.read_block.ensures.second c.small_front-count.ensures c.if-count-lt16.false c.small_front.ensures).0
+    front_in_first c.args.text.now _ (2 * c.args.at) _ c.read_block.ensures.first c.small_front-count.ensures c.if-count-lt16.true
 
 pub returns-clause-end : goal.returns-clause-end
 returns-clause-end c =
-    (front_in_second c.args.text.now _ _ (2 * c.args.at) _ _ c.read_block.ensures.first c.read_block.ensures.second c.small_front-count.ensures c.if-count-lt16.false c.small_front.ensures).1
+    front_in_second c.args.text.now _ _ (2 * c.args.at) _ _ c.read_block.ensures.first c.read_block.ensures.second c.small_front-count.ensures c.if-count-lt16.false c.small_front.ensures
+    (λ small. let is = c.are_small.ensures.1 (c.both.ensures.1 small) in let not = c.if-are_small.false in absurd cc)

@@ -8,4 +8,4 @@ pub loop-node-preserved : goal.loop-node-preserved
 loop-node-preserved c =
     all_ups_behind c.args.handed.now (λ h. h.items) c.loop-node.node c.index-handed-node.result c.args.text.now c.loop-node.text
     c.append_ups.new.text c.loop-node-test.true c.index-handed-node.is c.loop-node.invariant
-    (c.in_ok-append_ups.ensures.ok ∙ ap (λ (ps : List ParcelImage). c.loop-node.text ++ up_lines c.loop-node.node ps) c.deref.ensures.value)
+    (c.in_ok-append_ups.ensures ∙ ap (λ (ps : List ParcelImage). c.loop-node.text ++ up_lines c.loop-node.node ps) c.deref.ensures.value)

@@ -1,4 +1,4 @@
-use Rattle.std.proofs.Common.{◌≡◌, ◌++◌, ℕ, List, Result, Ok, Err, take, ap, refl, ◌∙◌, append_assoc}
+use Rattle.std.proofs.Common.{◌++◌, ℕ, List, Result, Ok, Err, take, ap, refl, ◌∙◌, append_assoc}
 use Rattle.std.specs.Prelude.{OnErr}
 use Rattle.sr_node.specs.Images.{node_state}
 use Rattle.sr_script.specs.declared.reading.Command.TheVariants.{Arrive}
