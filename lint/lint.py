@@ -175,7 +175,7 @@ def names_twice(root):
 
 # Where want of memory is made all the same: the fault of a script of which no line was read yet, and that of a line whose
 # refusal has no name.
-MADE = {"crates/sr_script/src/starting.rt", "crates/sr_script/src/answering.rt"}
+MADE = {"crates/sr_session/src/fault.rt", "crates/sr_script/src/answering.rt"}
 
 
 def makes_lack(code):

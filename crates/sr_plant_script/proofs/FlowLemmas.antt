@@ -6,11 +6,10 @@ use Rattle.sr_script.specs.Texts.{refusal_line}
 use Rattle.sr_plant.specs.declared.event.PlantEvent.{PlantEvent}
 use Rattle.sr_plant.specs.declared.event.PlantEvent.TheVariants as event
 use Rattle.sr_plant.specs.declared.fault.PlantFault.{PlantFault}
-use Rattle.sr_plant.specs.Copies.{Copy}
 use Rattle.sr_plant.specs.Plants.{Plant}
 use Rattle.sr_plant.specs.Steps.{PlantStep, PlantRefuses, plant_refusal}
 use Rattle.sr_plant_script.specs.Texts.{all_up_lines, fault_name, flow_line}
-use Rattle.sr_plant_script.specs.Happenings.{taken_up, IsTaken, IsTold, Happens, Carries, Flows, most_carries}
+use Rattle.sr_plant_script.specs.Happenings.{taken_up, IsTaken, Happens, Carries, Flows, most_carries}
 
 -- the line of a refusal stands behind a text
 abbrev pub Tells : ℕ → PlantFault → List ℕ → List ℕ → Type 0

@@ -5,12 +5,10 @@ use Rattle.std.specs.Fmt.{decimal}
 use Rattle.std.specs.Int.{IsInRange}
 use Rattle.std.specs.Str.Parse.{AllDigits}
 use Rattle.std.proofs.lemmas.Str.Parse.{digit_from_value}
-use Rattle.sr_script.specs.Octets.{Lacks}
-use Rattle.sr_script.proofs.Numerals.{all_decimal}
-use Rattle.sr_script.proofs.Spellings.{decimal_lacks}
+use Rattle.sr_session.specs.Octets.{Lacks}
+use Rattle.sr_words.specs.WordLemmas.{all_decimal, decimal_lacks}
 use Rattle.sr_plant_script.specs.declared.command.Receiver.{Receiver}
 use Rattle.sr_plant_script.specs.declared.command.Receiver.TheVariants.{All, Node}
-use Rattle.sr_plant_script.specs.declared.command.Verb.{Verb}
 use Rattle.sr_plant_script.specs.declared.command.Verb.TheVariants.{Carry, Drop, Repeat, Cut, Mend}
 use Rattle.sr_plant_script.specs.declared.command.Command.{Command}
 use Rattle.sr_plant_script.specs.declared.command.Command.TheVariants.{Skip, Send, On, Tick, Flow}

@@ -1,7 +1,8 @@
 -- What a line of a script for a plant asks for.
 use Rattle.std.specs.Prelude.{◌≡◌, ℕ, ◌<◌, ◌^◌, List, [], ◌∷◌, codes, ◌⊎◌}
 use Rattle.std.specs.Fmt.{decimal}
-use Rattle.sr_script.specs.Commands.{spaced, IsComment, IsHex}
+use Rattle.sr_session.specs.Octets.{spaced}
+use Rattle.sr_words.specs.Words.{IsComment, IsHex}
 use Rattle.sr_plant_script.specs.declared.command.Receiver.{Receiver}
 use Rattle.sr_plant_script.specs.declared.command.Receiver.TheVariants.{All, Node}
 use Rattle.sr_plant_script.specs.declared.command.Verb.{Verb}

@@ -1,6 +1,6 @@
 -- What comes of the lines of a script for a plant.
 use Rattle.std.specs.Prelude.{◌≡◌, ℕ, List, [], length, Option, None, Some}
-use Rattle.sr_script.specs.Runs.{Dialogue}
+use Rattle.sr_session.specs.Runs.{Dialogue}
 use Rattle.sr_plant.specs.declared.event.PlantEvent.TheVariants as event
 use Rattle.sr_plant.specs.declared.fault.PlantFault.{PlantFault}
 use Rattle.sr_plant.specs.Plants.{Plant}

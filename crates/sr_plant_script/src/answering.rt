@@ -1,7 +1,7 @@
 //! What a plant does with a line.
 
 ghost use Rattle.std.specs.Prelude.{◌≡◌, ◌∷◌, [], ℕ, List, length, OnOk, IfErr, Err};
-ghost use Rattle.sr_script.specs.Lines.{IsOneOf};
+ghost use Rattle.sr_session.specs.Lines.{IsOneOf};
 ghost use Rattle.sr_plant_script.specs.Commands.{IsPlantLine};
 ghost use Rattle.sr_plant_script.specs.Sendings.{send_refusal};
 ghost use Rattle.sr_plant_script.specs.Happenings.{event_on};
@@ -14,7 +14,7 @@ use crate::reading::command_of;
 use crate::refusing::tell_refusal;
 use crate::sending::{send_refusal, sent_frame};
 use sr_plant::PlantEvent;
-use sr_script::Word;
+use sr_session::Word;
 use sr_text::Text;
 use std::alloc::Global;
 

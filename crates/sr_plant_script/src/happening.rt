@@ -8,7 +8,7 @@ use crate::network::Network;
 use crate::printing::{append_all_ups, append_flow};
 use crate::refusing::tell_refusal;
 use sr_plant::PlantEvent;
-use sr_script::Word;
+use sr_session::Word;
 use sr_text::Text;
 
 /// The most carries of one flow.

@@ -7,7 +7,7 @@ ghost use Rattle.sr_plant_script.specs.Texts.{up_line, up_lines, all_up_lines, f
 
 use itoa::Buffer;
 use sr_forwarding::Parcel;
-use sr_script::Word;
+use sr_session::Word;
 use sr_text::Text;
 use std::alloc::AllocError;
 

@@ -2,11 +2,12 @@
 
 ghost use Rattle.std.specs.Prelude.{◌≡◌, ◌↔◌, IsTrue, ◌<◌, ◌^◌, ◌++◌, ◌∷◌, [], ℕ, List, codes, Some, IfSome, IfOk, IfErr, MatchResult, Err};
 ghost use Rattle.std.specs.Fmt.{decimal};
-ghost use Rattle.sr_script.specs.Lines.{IsOneOf};
+ghost use Rattle.sr_session.specs.Lines.{IsOneOf};
 ghost use Rattle.sr_plant_script.specs.Commands.{word_of, IsReceiver, IsPlaced, AreNumbers, IsTick, IsSending, Says, IsPlantLine};
 
 use crate::command::{Command, Receiver, Verb};
-use sr_script::{Word, behind_send, is_comment, number_of, read_hex, split_word};
+use sr_session::Word;
+use sr_words::{behind_send, is_comment, number_of, read_hex, split_word};
 
 /// The number that a word spells, by the rules of a time.
 fn count_of(word: &[u8]) -> Option<usize>

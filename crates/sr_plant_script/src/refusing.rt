@@ -6,7 +6,8 @@ ghost use Rattle.sr_script.specs.Texts.{refusal_line};
 ghost use Rattle.sr_plant_script.specs.Texts.{fault_name};
 
 use sr_plant::PlantFault;
-use sr_script::{Word, append_refusal, name_of};
+use sr_script::{append_refusal, name_of};
+use sr_session::Word;
 use sr_text::Text;
 
 // A refusal that has no name: the plant or a node wanted memory.
@@ -14,7 +15,7 @@ use sr_text::Text;
 struct Nameless;
 
 impl From<Nameless> for Word {
-    ghost use Rattle.sr_script.specs.declared.fault.Word.TheVariants.{Memory};
+    ghost use Rattle.sr_session.specs.declared.fault.Word.TheVariants.{Memory};
 
     ghost from_gives = { λ _ word. word ≡ Memory };
 

@@ -1,8 +1,8 @@
 //! A script of what happens to a plant: what is handed up is printed.
 
 ghost use Rattle.std.specs.Prelude.{◌≡◌, ◌⊎◌, IfErr, OnOk, IfSome};
-ghost use Rattle.sr_script.specs.Lines.{lines_of};
-ghost use Rattle.sr_script.specs.Runs.{IsAnswered, EndsAt, IsNotBegun};
+ghost use Rattle.sr_session.specs.Lines.{lines_of};
+ghost use Rattle.sr_session.specs.Runs.{IsAnswered, EndsAt, IsNotBegun};
 ghost use Rattle.sr_plant_script.specs.Members.{start_of};
 ghost use Rattle.sr_plant_script.specs.Replies.{plant_dialogue};
 
@@ -10,7 +10,7 @@ use crate::answering::answer;
 use crate::network::Network;
 use crate::printing::append_flight;
 use crate::setup::PlantSetup;
-use sr_script::{Fault, NOT_BEGUN, Session, Word, line_list, run_session};
+use sr_session::{Fault, NOT_BEGUN, Session, Word, run_session};
 use sr_text::Text;
 use std::alloc::Global;
 use std::io::{BufRead, Write};
@@ -57,15 +57,15 @@ impl Session for PlantSession {
 
 /// Runs the script that the reader has left on a new plant, and writes what comes of it.
 ///
-/// Lines are counted from 1. What is to be printed for a line is written, and flushed, before the next line is read: a
-/// line `up I HEX` for each frame that node I hands up to its host, in plain form; a line `flow C` behind a flow of C
-/// carries; a line `refused N Name` where the event of line N is refused. At the end a line `flight K` tells how many
-/// copies are in flight.
+/// Lines are counted from 1. For each line is printed a line `up I HEX` for each frame that node I hands up to its host, in
+/// plain form; a line `flow C` behind a flow of C carries; a line `refused N Name` where the event of line N is refused. At
+/// the end a line `flight K` tells how many copies are in flight. What is printed for the lines that the reader has at hand
+/// is written together, and flushed, before more is read, and before a fault.
 ///
 /// # Errors
 /// `Line` and `Long` come at the first line that is none of a script, whatever memory there is. `Read`, `Write` and
 /// `Memory` come where the reader, the writer or the allocator fails, and at no such line. What stands before the line of
-/// the fault is answered, and unless the writer failed nothing else is written.
+/// the fault is answered, and nothing else is written; where the writer failed, a part of the text of that line may be.
 pub fn run_plant<R: BufRead, W: Write>(
     alloc: Global,
     setup: &PlantSetup,
@@ -84,9 +84,6 @@ pub fn run_plant<R: BufRead, W: Write>(
         EndsAt plant_dialogue (start_of setup.now) (lines_of input) fault
         (R.remaining reader.new) (W.contents writer.old) (W.contents writer.new))) }
 {
-    let Ok(mut line) = line_list(alloc) else {
-        return Err(NOT_BEGUN);
-    };
     let Ok(network) = Network::new(alloc, setup) else {
         return Err(NOT_BEGUN);
     };
@@ -96,5 +93,5 @@ pub fn run_plant<R: BufRead, W: Write>(
         octets: Vec::new(alloc),
         printed: Text::new(alloc),
     };
-    run_session(alloc, &mut session, &mut line, reader, writer)
+    run_session(alloc, &mut session, reader, writer)
 }

@@ -2,7 +2,7 @@
 //! of memory.
 
 use sr_plant_script::{PlantSetup, Topology, run_plant};
-use sr_script::{Fault, Word};
+use sr_session::{Fault, Word};
 use std::alloc::{AllocError, Global};
 
 /// A text, in parts.

@@ -2,7 +2,7 @@
 
 use crate::runs::{Text, is_refused, is_run, is_taken_up};
 use sr_plant_script::Topology;
-use sr_script::Word;
+use sr_session::Word;
 use std::alloc::Global;
 use std::process::Abort;
 

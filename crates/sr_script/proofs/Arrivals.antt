@@ -9,12 +9,14 @@ use Rattle.sr_frame.specs.declared.ports.Port.{Port}
 use Rattle.sr_frame.specs.declared.ports.Port.TheVariants.{H, A, B, C}
 use Rattle.sr_hex.specs.Values.{IsDigitFront}
 use Rattle.sr_script.specs.declared.setups.RoleName.{RoleName}
-use Rattle.sr_script.specs.Commands.{IsHex, IsInlet, letter_of, spaced}
-use Rattle.sr_script.specs.Fronts.{StandsAtFront}
-use Rattle.sr_script.specs.Octets.{Lacks}
-use Rattle.sr_script.proofs.Places.{Lacks-append}
-use Rattle.sr_script.proofs.Spellings.{decimal_unbroken}
-use Rattle.sr_script.proofs.WaitingTexts.{placed}
+use Rattle.sr_session.specs.Octets.{spaced}
+use Rattle.sr_words.specs.Words.{IsHex}
+use Rattle.sr_script.specs.Commands.{IsInlet, letter_of}
+use Rattle.sr_script.specs.FrontArrivals.{StandsAtFront}
+use Rattle.sr_session.specs.Octets.{Lacks}
+use Rattle.sr_session.specs.OctetLemmas.{Lacks-append}
+use Rattle.sr_words.specs.WordLemmas.{decimal_unbroken}
+use Rattle.sr_session.specs.FrontLemmas.{placed}
 
 other_than_feed : (n : ℕ) → 10 < n → n ≡ 10 → ⊥
 other_than_feed n lt e = omega arith

@@ -1,7 +1,7 @@
 -- Texts that go on behind what they held.
 use Rattle.std.proofs.Common.{◌++◌, ℕ, List, ap, ◌∙◌, append_assoc, Ok, Err}
 use Rattle.std.specs.Prelude.{Result, OnErr}
-use Rattle.sr_script.specs.Octets.{StillHolds}
+use Rattle.sr_session.specs.Octets.{StillHolds}
 
 pub begins_further : (front text longer : List ℕ) → StillHolds front text → StillHolds text longer → StillHolds front longer
 begins_further front text longer (behind, e) (more, f) =

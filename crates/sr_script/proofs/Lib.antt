@@ -1,12 +1,5 @@
 pub mod Beginnings
-pub mod Places
-pub mod Pieces
-pub mod Digits
-pub mod Numerals
-pub mod Spellings
-pub mod Going
 pub mod PrintedLines
-pub mod WaitingTexts
 pub mod Arrivals
 pub mod StatusLines
 pub mod BegunRuns

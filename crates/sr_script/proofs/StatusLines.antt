@@ -1,6 +1,6 @@
 -- Words that are appended in parts.
 use Rattle.std.proofs.Common.{◌≡◌, ℕ, List, [], ◌∷◌, ◌++◌, refl, sym, ap, append_assoc, ◌∙◌}
-use Rattle.sr_script.specs.Commands.{spaced}
+use Rattle.sr_session.specs.Octets.{spaced}
 
 -- behind words with spaces between them stand more, and a space
 spaced_more : (word : List ℕ) (words : List (List ℕ)) (next : List ℕ) (more : List (List ℕ))

@@ -1,18 +1,14 @@
 -- What a line of a script asks for.
-use Rattle.std.specs.Prelude.{◌≡◌, ℕ, ◌<◌, ◌^◌, List, [], ◌∷◌, length, codes, All, slice_index, ◌⊎◌, Ok}
-use Rattle.std.specs.List.{join_with_byte}
+use Rattle.std.specs.Prelude.{◌≡◌, ℕ, ◌<◌, ◌^◌, List, [], ◌∷◌, codes, ◌⊎◌}
 use Rattle.std.specs.Fmt.{decimal}
-use Rattle.hex.specs.Hex.{decode_of}
 use Rattle.sr_frame.specs.declared.ports.Port.{Port}
 use Rattle.sr_frame.specs.declared.ports.Port.TheVariants.{H, A, B, C}
 use Rattle.sr_script.specs.declared.setups.RoleName.{RoleName}
 use Rattle.sr_script.specs.declared.setups.RoleName.TheVariants as role
 use Rattle.sr_script.specs.declared.reading.Command.{Command}
 use Rattle.sr_script.specs.declared.reading.Command.TheVariants.{Skip, Arrive, Send, Tick}
-
--- words with single spaces between them
-abbrev pub spaced : List (List ℕ) → List ℕ
-spaced words = join_with_byte 32 words
+use Rattle.sr_session.specs.Octets.{spaced}
+use Rattle.sr_words.specs.Words.{IsHex, IsComment}
 
 -- the letter of a port, as a word
 abbrev pub letter_of : Port → List ℕ
@@ -35,14 +31,6 @@ IsInlet r H = ⊥
 IsInlet r A = Unit {0}
 IsInlet r B = Unit {0}
 IsInlet r C = HasInterlink r
-
--- hexadecimal digits of either case, two an octet, of at least one octet
-abbrev pub IsHex : List ℕ → List ℕ → Type 0
-IsHex digits octets = (decode_of digits ≡ Ok octets) × (0 < length octets)
-
--- a line that begins with `#`, and is ASCII
-abbrev pub IsComment : List ℕ → Type 0
-IsComment line = (slice_index line 0 ≡ 35) × All (λ octet. octet < 128) line
 
 -- time passes
 abbrev pub IsTick : List ℕ → ℕ → Type 0

@@ -1,14 +1,8 @@
-pub mod Limits
-pub mod Octets
-pub mod Lines
 pub mod Commands
-pub mod FaultTexts
+pub mod FrontArrivals
 pub mod Carriers
 pub mod Stations
 pub mod Texts
-pub mod Runs
-pub mod Turns
-pub mod Fronts
 pub mod Replies
 pub mod StatusTexts
 pub mod Statuses

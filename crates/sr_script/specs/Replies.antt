@@ -16,7 +16,7 @@ use Rattle.sr_script.specs.declared.reading.Command.{Command}
 use Rattle.sr_script.specs.declared.reading.Command.TheVariants.{Skip, Arrive, Send, Tick}
 use Rattle.sr_script.specs.declared.setups.RoleName.{RoleName}
 use Rattle.sr_script.specs.Commands.{Says, IsEventLine}
-use Rattle.sr_script.specs.Runs.{Dialogue}
+use Rattle.sr_session.specs.Runs.{Dialogue}
 use Rattle.sr_script.specs.Stations.{Station, framing_of}
 use Rattle.sr_script.specs.Texts.{AreLines, name_of, refusal_line}
 

@@ -2,7 +2,7 @@
 use Rattle.sr_script.specs.declared.setups.Report.{Report}
 use Rattle.sr_script.specs.declared.setups.Report.TheVariants.{Frames, Status}
 use Rattle.sr_script.specs.Replies.{replay_dialogue}
-use Rattle.sr_script.specs.Runs.{Dialogue}
+use Rattle.sr_session.specs.Runs.{Dialogue}
 use Rattle.sr_script.specs.Stations.{Station}
 use Rattle.sr_script.specs.Statuses.{status_dialogue}
 

@@ -9,7 +9,8 @@ use Rattle.sr_node_table.specs.declared.alarm.Alarm.{Alarm}
 use Rattle.sr_node_table.specs.declared.alarm.Alarm.TheVariants.{RingError, NodeDown}
 use Rattle.sr_node_table.specs.declared.status.Status.{Status}
 use Rattle.sr_node_table.specs.Stating.{listed_at, status_at}
-use Rattle.sr_script.specs.Commands.{spaced, letter_of}
+use Rattle.sr_session.specs.Octets.{spaced}
+use Rattle.sr_script.specs.Commands.{letter_of}
 use Rattle.sr_script.specs.Texts.{printed}
 
 -- what follows where a node stands behind a RedBox

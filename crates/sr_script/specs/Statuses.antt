@@ -6,7 +6,7 @@ use Rattle.sr_script.specs.declared.reading.Command.{Command}
 use Rattle.sr_script.specs.declared.setups.RoleName.{RoleName}
 use Rattle.sr_script.specs.Commands.{Says, IsEventLine}
 use Rattle.sr_script.specs.Replies.{Obeys}
-use Rattle.sr_script.specs.Runs.{Dialogue}
+use Rattle.sr_session.specs.Runs.{Dialogue}
 use Rattle.sr_script.specs.Stations.{Station}
 use Rattle.sr_script.specs.StatusTexts.{status_text}
 

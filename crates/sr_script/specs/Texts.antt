@@ -10,7 +10,8 @@ use Rattle.sr_forwarding.specs.Parcels.{ParcelImage, plain_of}
 use Rattle.sr_node.specs.declared.fault.StepFault.{StepFault}
 use Rattle.sr_node.specs.declared.fault.StepFault.TheVariants as fault
 use Rattle.sr_script.specs.declared.setups.RoleName.{RoleName}
-use Rattle.sr_script.specs.Commands.{spaced, letter_of}
+use Rattle.sr_session.specs.Octets.{spaced}
+use Rattle.sr_script.specs.Commands.{letter_of}
 use Rattle.sr_script.specs.Stations.{framing_of}
 
 -- words as a line of their own

@@ -7,16 +7,15 @@ ghost use Rattle.sr_node.specs.Faults.{or_no_memory};
 ghost use Rattle.sr_node.specs.Images.{node_state};
 ghost use Rattle.sr_node.specs.Octets.{OctetsArrived, OctetsRefused};
 ghost use Rattle.sr_node.specs.Steps.{Step, refusal_of};
-ghost use Rattle.sr_script.specs.Lines.{IsOneOf};
-ghost use Rattle.sr_script.specs.Octets.{StillHolds};
+ghost use Rattle.sr_session.specs.Lines.{IsOneOf};
+ghost use Rattle.sr_session.specs.Octets.{StillHolds};
 ghost use Rattle.sr_script.specs.Commands.{IsEventLine};
-ghost use Rattle.sr_script.specs.Fronts.{AnswersFront, KnowsFront};
+ghost use Rattle.sr_session.specs.Fronts.{AnswersFront, KnowsFront};
 ghost use Rattle.sr_script.specs.Stations.{framing_of, at_work};
 ghost use Rattle.sr_script.specs.Texts.{name_of, refusal_line};
 ghost use Rattle.sr_script.specs.Replies.{ArrivesSo, Obeys, Replied, replay_dialogue};
 
 use crate::carriers::{Carrier, carrier_of};
-use crate::fault::Word;
 use crate::printing::append_outlets;
 use crate::reading::{Command, arrival_at, command_of};
 use crate::setups::RoleName;
@@ -24,6 +23,7 @@ use itoa::Buffer;
 use sr_forwarding::{ReadFault, Role};
 use sr_frame::{Frame, FrameFault, Port, view};
 use sr_node::{Answer, Event, NodeOf, StepFault};
+use sr_session::Word;
 use sr_text::Text;
 use std::alloc::{AllocError, Global};
 

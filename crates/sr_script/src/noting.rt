@@ -3,18 +3,18 @@
 ghost use Rattle.std.specs.Prelude.{◌≡◌, ◌∷◌, [], ◌++◌, ℕ, List, IfErr, OnOk, OnErr, Err};
 ghost use Rattle.sr_node.specs.Images.{node_state};
 ghost use Rattle.sr_script.specs.Commands.{IsEventLine};
-ghost use Rattle.sr_script.specs.Lines.{IsOneOf};
-ghost use Rattle.sr_script.specs.Octets.{StillHolds};
+ghost use Rattle.sr_session.specs.Lines.{IsOneOf};
+ghost use Rattle.sr_session.specs.Octets.{StillHolds};
 ghost use Rattle.sr_script.specs.Replies.{emptied};
 ghost use Rattle.sr_script.specs.Statuses.{Noted, all_taken};
 
 use crate::answering::obey;
-use crate::fault::Word;
 use crate::reading::command_of;
 use crate::setups::RoleName;
 use sr_forwarding::Role;
 use sr_frame::Port;
 use sr_node::NodeOf;
+use sr_session::Word;
 use sr_text::Text;
 use std::alloc::Global;
 

@@ -5,17 +5,17 @@ ghost use Rattle.sr_node.specs.Images.{node_state};
 ghost use Rattle.sr_forwarding.specs.Encoding.{IsWritten};
 ghost use Rattle.sr_forwarding.specs.Parcels.{plain_of};
 ghost use Rattle.sr_script.specs.Commands.{letter_of};
-ghost use Rattle.sr_script.specs.Octets.{StillHolds};
+ghost use Rattle.sr_session.specs.Octets.{StillHolds};
 ghost use Rattle.sr_script.specs.Stations.{framing_of};
 ghost use Rattle.sr_script.specs.Texts.{frame_line, IsLine};
 ghost use Rattle.sr_script.specs.Replies.{FirstLeft, Emptied, AllEmptied};
 
 use crate::carriers::{Carrier, carrier_of};
-use crate::fault::Word;
 use crate::setups::RoleName;
 use sr_forwarding::{Form, Framing, Parcel, Role};
 use sr_frame::Port;
 use sr_node::NodeOf;
+use sr_session::Word;
 use sr_text::Text;
 use std::alloc::AllocError;
 

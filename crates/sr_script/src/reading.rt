@@ -2,18 +2,17 @@
 
 ghost use Rattle.std.specs.Prelude.{◌≡◌, ◌↔◌, ◌<◌, ◌^◌, ℕ, List, codes, IfOk, IfErr, OnOk, IfSome, IsSomeAnd, IsTrue, ◌++◌, MatchResult, Err, ◌∷◌, []};
 ghost use Rattle.std.specs.Fmt.{decimal};
-ghost use Rattle.sr_script.specs.Lines.{IsOneOf};
-ghost use Rattle.sr_script.specs.Commands.{Says, IsEventLine, HasInterlink, spaced, IsComment, IsInlet, IsHex, letter_of, IsTimed, IsArrival, IsSending, IsTick};
-ghost use Rattle.sr_script.specs.Fronts.{StandsAtFront};
+ghost use Rattle.sr_session.specs.Lines.{IsOneOf};
+ghost use Rattle.sr_session.specs.Octets.{spaced};
+ghost use Rattle.sr_words.specs.Words.{IsComment, IsHex};
+ghost use Rattle.sr_script.specs.Commands.{Says, IsEventLine, HasInterlink, IsInlet, letter_of, IsTimed, IsArrival, IsSending, IsTick};
+ghost use Rattle.sr_script.specs.FrontArrivals.{StandsAtFront};
 
-use crate::fault::Word;
-use crate::hexadecimal::read_hex;
-use crate::lines::MAX_LINE;
-use crate::numbers::number_of;
 use crate::setups::RoleName;
-use crate::words::split_word;
 use sr_frame::Port;
 use sr_hex::read_front;
+use sr_session::{MAX_LINE, Word};
+use sr_words::{behind_send, is_comment, number_of, read_hex, split_word};
 
 /// What a line asks for. Its octets stand beside it.
 #[derive(Clone, Copy, Debug)]
@@ -28,13 +27,6 @@ pub(crate) enum Command {
     Tick(u64),
 }
 
-/// Whether a line begins with `#`, and is ASCII.
-pub fn is_comment(line: &[u8]) -> bool
-    ensures { IsTrue result ↔ IsComment line.now }
-{
-    !line.is_empty() && line[0] == b'#' && line.iter().all(|octet| *octet < 128)
-}
-
 /// What stands behind the word `in` and a space.
 fn behind_in(line: &[u8]) -> Option<&[u8]>
     ensures found { IfSome result (λ rest. line.now ≡ codes "in " ++ rest.now) }
@@ -43,18 +35,6 @@ fn behind_in(line: &[u8]) -> Option<&[u8]>
 {
     match line {
         [b'i', b'n', b' ', rest @ ..] => Some(rest),
-        _ => None,
-    }
-}
-
-/// What stands behind the word `send` and a space.
-pub fn behind_send(line: &[u8]) -> Option<&[u8]>
-    ensures found { IfSome result (λ rest. line.now ≡ codes "send " ++ rest.now) }
-    ensures only { (rest : List ℕ) → line.now ≡ codes "send " ++ rest
-        → IsSomeAnd result (λ r. r.now ≡ rest) }
-{
-    match line {
-        [b's', b'e', b'n', b'd', b' ', rest @ ..] => Some(rest),
         _ => None,
     }
 }

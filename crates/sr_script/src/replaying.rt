@@ -1,11 +1,10 @@
 //! A script of events at a node: what it hands out and puts out is printed.
 
 use crate::answering::{answer, answer_front};
-use crate::fault::Word;
-use crate::session::Session;
 use crate::setups::RoleName;
 use sr_forwarding::Role;
 use sr_node::NodeOf;
+use sr_session::{Session, Word};
 use sr_text::Text;
 use std::alloc::Global;
 

@@ -1,39 +1,53 @@
 //! Runs that begin with a new node.
 
-ghost use Rattle.std.specs.Prelude.{◌≡◌, ◌⊎◌, IfOk, IfErr, OnOk, IfSome, ◌≤◌, vec_capacity};
+ghost use Rattle.std.specs.Prelude.{◌≡◌, ◌⊎◌, IfOk, IfErr, OnOk, IfSome};
 ghost use Rattle.sr_forwarding.specs.RoleImages.{role_of};
-ghost use Rattle.sr_script.specs.Lines.{lines_of};
+ghost use Rattle.sr_session.specs.Lines.{lines_of};
 ghost use Rattle.sr_script.specs.Replies.{replay_dialogue};
-ghost use Rattle.sr_script.specs.Runs.{IsAnswered, EndsAt, IsNotBegun};
-ghost use Rattle.sr_script.specs.Stations.{kind_of, start_of};
+ghost use Rattle.sr_session.specs.Runs.{IsAnswered, EndsAt, IsNotBegun};
+ghost use Rattle.sr_node.specs.Images.{node_state};
+ghost use Rattle.sr_script.specs.Stations.{at_work, kind_of, start_of};
 ghost use Rattle.sr_script.specs.Statuses.{status_dialogue};
 ghost use Rattle.sr_script.specs.Reports.{dialogue_of};
 
-use crate::fault::{Fault, Word};
-use crate::lines::MAX_LINE;
 use crate::replaying::NodeSession;
-use crate::running::run_session;
 use crate::setups::{Report, RoleName, Setup};
 use crate::status::StatusSession;
 use sr_forwarding::{Danh, Danp, Role};
+use sr_frame::NoMemory;
 use sr_node::NodeOf;
 use sr_redbox::{HsrBox, HsrRouting, PrpBox, SanBox};
+use sr_session::{Fault, MAX_LINE, NOT_BEGUN, run_session};
 use std::alloc::{AllocError, Global};
 use std::io::{BufRead, Write};
 
-/// Memory was refused before the first line was read.
-pub const NOT_BEGUN: Fault = Fault {
-    line: 1,
-    word: Word::Memory,
-};
+/// A list of so many octets. It stands apart, so that no proof works out a list of thousands.
+fn list_of(alloc: Global, count: usize) -> Result<Vec<u8>, AllocError> {
+    let mut octets = Vec::new(alloc);
+    octets.resize(count, 0)?;
+    Ok(octets)
+}
 
-/// A list with room for the longest line. An error where its growth was refused.
-pub fn line_list(alloc: Global) -> Result<Vec<u8>, AllocError>
-    ensures { IfOk result (λ line. 8001 ≤ vec_capacity line) }
+/// A new node over this role, ready for a script. An error where memory was refused.
+fn session_of<P: Role + Send>(
+    alloc: Global,
+    setup: &Setup,
+    role: P,
+) -> Result<NodeSession<P>, NoMemory>
+    requires { P.meaning role ≡ role_of (kind_of setup.now.role) setup.now.mac }
+    ensures { IfOk result (λ s. at_work s.role (node_state (P.meaning s.node.role) s.node.core)
+        ≡ start_of setup.now) }
 {
-    let mut line = Vec::new(alloc);
-    line.reserve(MAX_LINE + 1)?;
-    Ok(line)
+    let node = NodeOf::with_keys(alloc, role, setup.keys)?;
+    let arriving = list_of(alloc, MAX_LINE / 2)?;
+    Ok(NodeSession {
+        alloc,
+        role: setup.role,
+        node,
+        octets: Vec::new(alloc),
+        arriving,
+        frame: Vec::new(alloc),
+    })
 }
 
 /// Has a new node over this role obey the script. It is compiled for each role, so that no frame asks which role it is.
@@ -56,30 +70,12 @@ fn run_over<P: Role + Send, R: BufRead, W: Write>(
         EndsAt (dialogue_of report) (start_of setup.now) (lines_of input) fault
         (R.remaining reader.new) (W.contents writer.old) (W.contents writer.new))) }
 {
-    let Ok(mut line) = line_list(alloc) else {
+    let Ok(mut session) = session_of(alloc, setup, role) else {
         return Err(NOT_BEGUN);
-    };
-    let Ok(node) = NodeOf::with_keys(alloc, role, setup.keys) else {
-        return Err(NOT_BEGUN);
-    };
-    let mut arriving = Vec::new(alloc);
-    if arriving.resize(MAX_LINE / 2, 0).is_err() {
-        return Err(NOT_BEGUN);
-    }
-    let mut session = NodeSession {
-        alloc,
-        role: setup.role,
-        node,
-        octets: Vec::new(alloc),
-        arriving,
-        frame: Vec::new(alloc),
     };
     match report {
-        Report::Frames => run_session(alloc, &mut session, &mut line, reader, writer),
-        Report::Status => {
-            let mut session = StatusSession(session);
-            run_session(alloc, &mut session, &mut line, reader, writer)
-        }
+        Report::Frames => run_session(alloc, &mut session, reader, writer),
+        Report::Status => run_session(alloc, &mut StatusSession(session), reader, writer),
     }
 }
 

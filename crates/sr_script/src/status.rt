@@ -1,11 +1,10 @@
 //! A script of events at a node: at the end it is told what the node knows of other nodes.
 
-use crate::fault::Word;
 use crate::noting::note;
 use crate::replaying::NodeSession;
-use crate::session::Session;
 use crate::status_lines::tell_status;
 use sr_forwarding::Role;
+use sr_session::{Session, Word};
 use sr_text::Text;
 
 /// A node at work on a script, whose frames are not printed.

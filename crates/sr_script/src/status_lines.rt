@@ -4,14 +4,15 @@ ghost use Rattle.std.specs.Prelude.{◌≡◌, ◌++◌, ◌∷◌, [], OnOk, If
 ghost use Rattle.std.specs.List.{flat_map};
 ghost use Rattle.sr_node.specs.Images.{shown};
 ghost use Rattle.sr_node_table.specs.Stating.{status_at};
-ghost use Rattle.sr_script.specs.Commands.{letter_of, spaced};
+ghost use Rattle.sr_session.specs.Octets.{spaced};
+ghost use Rattle.sr_script.specs.Commands.{letter_of};
 ghost use Rattle.sr_script.specs.StatusTexts.{redbox_part, age_words, number_words, node_line, alarm_line, status_line, status_text};
 
-use crate::fault::Word;
 use sr_forwarding::Role;
 use sr_frame::{Mac, Port};
 use sr_node::NodeOf;
 use sr_node_table::{Alarm, Status};
+use sr_session::Word;
 use std::io::Write;
 
 /// Appends the end of a node's line, with the RedBox that it stands behind.

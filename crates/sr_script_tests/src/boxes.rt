@@ -4,7 +4,7 @@ use crate::runs::At;
 use crate::steps::{Step, expect_steps};
 use crate::texts::Part::{These, Times};
 use sr_prp_trailer::Lan;
-use sr_script::Word;
+use sr_session::Word;
 
 /// The digits of an octet 0.
 const ZERO: &[u8] = b"00";

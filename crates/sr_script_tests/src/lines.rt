@@ -4,7 +4,7 @@ use crate::runs::Told::{Frames, Status};
 use crate::steps::{Step, expect_steps};
 use crate::texts::Part::{These, Times};
 use crate::texts::Text;
-use sr_script::Word;
+use sr_session::Word;
 use std::io::ErrorKind;
 
 // Each line is obeyed, so that its frame of one octet is refused, or skipped, or it is the fault of line 3.

@@ -5,7 +5,8 @@ use crate::failing::{Broken, EmptyLines, Interrupted, Narrow, Recorder, Sparse, 
 use crate::texts::{Text, joined};
 use sr_frame::Mac;
 use sr_prp_trailer::Lan;
-use sr_script::{Fault, PrpRouting, RoleName, Setup, Word, run, run_status};
+use sr_script::{PrpRouting, RoleName, Setup, run, run_status};
+use sr_session::{Fault, Word};
 use sr_slots::Keys;
 use std::alloc::Global;
 use std::io::{BufRead, BufReader, ErrorKind, Read, Write};

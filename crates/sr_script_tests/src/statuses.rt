@@ -3,7 +3,7 @@
 use crate::runs::At;
 use crate::steps::{Step, expect_steps};
 use crate::texts::Part::{Each, These, Times};
-use sr_script::Word;
+use sr_session::Word;
 
 /// The digits of an octet 0.
 const ZERO: &[u8] = b"00";

@@ -5,7 +5,7 @@ use crate::runs::{
     is_run_at, is_run_to, is_sparse, is_stuck, is_taken_up, is_unflushed, leaves,
 };
 use crate::texts::{Part, Text};
-use sr_script::Word;
+use sr_session::Word;
 use std::alloc::Global;
 use std::io::ErrorKind;
 use std::process::Abort;

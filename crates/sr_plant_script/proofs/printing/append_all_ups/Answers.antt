@@ -1,4 +1,4 @@
-use Rattle.std.proofs.Common.{◌≡◌, ◌++◌, List, ℕ, ap, ◌∙◌}
+use Rattle.std.proofs.Common.{◌++◌, List, ap, ◌∙◌}
 use Rattle.sr_forwarding.specs.Parcels.{ParcelImage}
 use Rattle.sr_plant_script.specs.Texts.{up_lines}
 use Rattle.sr_plant_script.proofs.UpLines.{all_ups_behind}

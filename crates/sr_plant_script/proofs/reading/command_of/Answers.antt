@@ -1,6 +1,6 @@
 use Rattle.std.proofs.Common.{◌≡◌, ◌++◌, ℕ, List, Err, ap, sym, ◌∙◌}
 use Rattle.std.specs.Prelude.{codes}
-use Rattle.sr_script.specs.declared.fault.Word.TheVariants as word
+use Rattle.sr_session.specs.declared.fault.Word.TheVariants as word
 use Rattle.sr_plant_script.specs.declared.command.Receiver.{Receiver}
 use Rattle.sr_plant_script.specs.declared.command.Command.TheVariants.{Send}
 use Rattle.sr_plant_script.proofs.Words.{sent_only}

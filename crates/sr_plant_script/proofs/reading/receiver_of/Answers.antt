@@ -1,4 +1,4 @@
-use Rattle.std.proofs.Common.{◌≡◌, sym, ap, refl, ◌∙◌}
+use Rattle.std.proofs.Common.{sym, refl, ◌∙◌}
 use Rattle.sr_plant_script.specs.declared.command.Receiver.TheVariants.{All, Node}
 use Rattle.sr_plant_script.proofs.Words.{all_is_no_number}
 use Rattle.sr_plant_script.proofs.reading.receiver_of.Goals as goal

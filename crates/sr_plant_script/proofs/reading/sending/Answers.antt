@@ -1,8 +1,8 @@
 use Rattle.std.proofs.Common.{◌≡◌, ◌++◌, ◌∷◌, ℕ, List, Err, rules, sym, ap, subst, ◌∙◌}
 use Rattle.std.specs.Fmt.{decimal}
-use Rattle.sr_script.specs.Commands.{IsHex}
-use Rattle.sr_script.specs.declared.fault.Word.TheVariants as word
-use Rattle.sr_script.proofs.Spellings.{decimal_lacks, one_hex}
+use Rattle.sr_words.specs.Words.{IsHex}
+use Rattle.sr_session.specs.declared.fault.Word.TheVariants as word
+use Rattle.sr_words.specs.WordLemmas.{decimal_lacks, one_hex}
 use Rattle.sr_plant_script.specs.Commands.{IsReceiver}
 use Rattle.sr_plant_script.proofs.Words.{receiver_lacks}
 use Rattle.sr_plant_script.proofs.reading.sending.Goals as goal

@@ -1,6 +1,5 @@
-use Rattle.std.proofs.Common.{◌≡◌, ℕ, sym, ap, ◌∙◌}
 use Rattle.std.specs.Fmt.{decimal}
-use Rattle.sr_script.proofs.Spellings.{decimal_lacks}
+use Rattle.sr_words.specs.WordLemmas.{decimal_lacks}
 use Rattle.sr_plant_script.proofs.reading.two_numbers.Goals as goal
 
 pub returns-in_default-clause-only : goal.returns-in_default-clause-only

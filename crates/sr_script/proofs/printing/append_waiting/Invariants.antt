@@ -1,7 +1,7 @@
 use Rattle.std.proofs.Common.{◌≡◌, length}
 use Rattle.sr_node.specs.Images.{node_state}
 use Rattle.sr_node.specs.Outboxes.{box_at}
-use Rattle.sr_script.specs.Octets.{StillHolds}
+use Rattle.sr_session.specs.Octets.{StillHolds}
 use Rattle.sr_script.specs.Replies.{emptied}
 use Rattle.sr_script.proofs.PrintedLines.{Printed}
 use Rattle.sr_script.proofs.printing.append_waiting.Given as goal

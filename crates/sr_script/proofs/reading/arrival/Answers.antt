@@ -1,6 +1,6 @@
 use Rattle.std.proofs.Common.{◌≡◌, ◌++◌, ◌∷◌, ℕ, List, Err, ap, ◌∙◌}
 use Rattle.std.specs.Fmt.{decimal}
-use Rattle.sr_script.specs.declared.fault.Word.TheVariants as word
+use Rattle.sr_session.specs.declared.fault.Word.TheVariants as word
 use Rattle.sr_script.specs.Commands.{letter_of}
 use Rattle.sr_script.proofs.reading.arrival.Goals as goal
 

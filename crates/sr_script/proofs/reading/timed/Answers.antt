@@ -1,7 +1,7 @@
 use Rattle.std.proofs.Common.{ℕ, List, sym, subst}
 use Rattle.std.specs.Fmt.{decimal}
-use Rattle.sr_script.specs.Commands.{IsHex}
-use Rattle.sr_script.proofs.Spellings.{decimal_lacks, one_hex}
+use Rattle.sr_words.specs.Words.{IsHex}
+use Rattle.sr_words.specs.WordLemmas.{decimal_lacks, one_hex}
 use Rattle.sr_script.proofs.reading.timed.Goals as goal
 
 pub returns-in_default-clause-only : goal.returns-in_default-clause-only

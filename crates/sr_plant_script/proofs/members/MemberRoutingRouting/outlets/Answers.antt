@@ -1,4 +1,3 @@
-use Rattle.std.proofs.Common.{◌≡◌}
 use Rattle.sr_plant_script.proofs.members.MemberRoutingRouting.outlets.Goals as goal
 
 pub returns-in-Ring : goal.returns-in-Ring

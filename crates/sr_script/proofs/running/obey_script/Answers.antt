@@ -1,8 +1,0 @@
-use Rattle.sr_script.specs.declared.fault.Fault.{Fault}
-use Rattle.sr_script.proofs.Going.{ends_behind, behind_fault}
-use Rattle.sr_script.proofs.running.obey_script.Goals as goal
-
-pub returns-in-Err-clause-ended : goal.returns-in-Err-clause-ended
-returns-in-Err-clause-ended g c =
-    let f : Fault = record { line = c.in_ok-number.number; word = c.in-Err.word } in
-    ends_behind g.S.Session.dialogue _ _ _ _ _ _ _ f c.in_ok-number.ensures.done (c.in-Err.ensures.kept c.in_ok-number.number) (behind_fault g.S.Session.dialogue _ _ _ _ c.in-Err.ensures.failed)

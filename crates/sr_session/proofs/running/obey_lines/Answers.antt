@@ -1,0 +1,43 @@
+use Rattle.std.proofs.Common.{Ok, ap, refl, arith, lit<}
+use Rattle.sr_session.specs.declared.fault.Word.TheVariants as word
+use Rattle.sr_session.specs.declared.fault.Fault.{Fault}
+use Rattle.sr_session.proofs.Going.{going_from, going_more, ends_later, ends_too_many}
+use Rattle.sr_session.proofs.running.obey_lines.Goals as goal
+
+pub returns-in-Err-clause-ended : goal.returns-in-Err-clause-ended
+returns-in-Err-clause-ended g c =
+    ends_later g.S.Session.dialogue _ _ _ _ _ _ _ _ 1 c.in-Err.fault (going_from g.S.Session.dialogue _ _ _) c.in-Err.ensures.ended
+
+pub loop-number-init : goal.loop-number-init
+loop-number-init g c = record {
+  count = c.in-Ok.ensures.count;
+  room = c.requires.room;
+  text = c.in-Ok.ensures.text;
+  marks = c.in-Ok.ensures.marks;
+  going = going_more g.S.Session.dialogue _ _ _ _ _ _ _ _ _ 1 c.in-Ok.next (going_from g.S.Session.dialogue _ _ _) c.in-Ok.ensures.obeyed;
+}
+
+pub returns-in-Err-obey_next-clause-ended : goal.returns-in-Err-obey_next-clause-ended
+returns-in-Err-obey_next-clause-ended g c =
+    ends_later g.S.Session.dialogue _ _ _ _ _ _ _ _ c.loop-number.number c.in-Err-obey_next.fault c.loop-number.invariant.going c.in-Err-obey_next.ensures.ended
+
+pub returns-in-Err-obey_at_hand-clause-ended : goal.returns-in-Err-obey_at_hand-clause-ended
+returns-in-Err-obey_at_hand-clause-ended g c =
+    let going = going_more g.S.Session.dialogue _ _ _ _ _ _ _ _ _ c.loop-number.number _ c.loop-number.invariant.going (rw c.in-Ok-true.field-0-test at c.in-Ok-true.ensures.turned) in
+    ends_later g.S.Session.dialogue _ _ _ _ _ _ _ _ _ c.in-Err-obey_at_hand.fault going c.in-Err-obey_at_hand.ensures.ended
+
+pub loop-number-preserved : goal.loop-number-preserved
+loop-number-preserved g c =
+    let going = going_more g.S.Session.dialogue _ _ _ _ _ _ _ _ _ c.loop-number.number _ c.loop-number.invariant.going (rw c.in-Ok-true.field-0-test at c.in-Ok-true.ensures.turned) in
+    record {
+      count = c.in-Ok-obey_at_hand.ensures.count;
+      room = omega (arith, c.in-Ok-true.ensures.room, c.loop-number.invariant.room);
+      text = c.in-Ok-obey_at_hand.ensures.text;
+      marks = c.in-Ok-obey_at_hand.ensures.marks;
+      going = going_more g.S.Session.dialogue _ _ _ _ _ _ _ _ _ _ c.in-Ok-obey_at_hand.next going c.in-Ok-obey_at_hand.ensures.obeyed;
+    }
+
+pub returns-in-Ok-false-is_at_end-clause-ended : goal.returns-in-Ok-false-is_at_end-clause-ended
+returns-in-Ok-false-is_at_end-clause-ended g c =
+    let f : Fault = record { line = 1000001; word = word.Long } in
+    ends_too_many g.S.Session.dialogue _ _ _ _ _ _ _ c.loop-number.number f (omega arith) (lit< tt) refl c.loop-number.invariant.going (c.in-Ok-false-is_at_end.ensures.more (ap Ok c.in-Ok-false-is_at_end.field-0-test))

@@ -1,0 +1,9 @@
+pub mod Limits
+pub mod Octets
+pub mod OctetLemmas
+pub mod Lines
+pub mod FaultTexts
+pub mod Runs
+pub mod Turns
+pub mod Fronts
+pub mod FrontLemmas

@@ -1,0 +1,92 @@
+-- What a run of a script writes, and where it ends, whatever the lines are for.
+use Rattle.std.specs.Prelude.{◌≡◌, ℕ, ◌+◌, ◌<◌, ◌≤◌, List, [], ◌∷◌, ◌++◌, length, Option, None, Some, ◌⊎◌}
+use Rattle.std.specs.Io.KnownBytes.{Appends, Keeps}
+use Rattle.sr_session.specs.declared.fault.Fault.{Fault}
+use Rattle.sr_session.specs.declared.fault.Word.{Word}
+use Rattle.sr_session.specs.declared.fault.Word.TheVariants as word
+use Rattle.sr_session.specs.Limits.{longest_line, most_lines}
+use Rattle.sr_session.specs.Lines.{lines_of}
+use Rattle.sr_session.specs.Octets.{Lacks}
+
+-- What a session does, over its states: which lines it knows at a state; from a state, a line with this number may be answered with
+-- this text, and leave a state; at a state, this may be printed at the end of the script.
+pub record Dialogue (S : Type 0) : Type 1 where
+  pub Knows : S → List ℕ → Type 0
+  pub Replied : S → ℕ → List ℕ → List ℕ → S → Type 0
+  pub Ends : S → List ℕ → Type 0
+
+-- a line of a length and at a place that a script may have
+pub record HasPlace (number : ℕ) (line : List ℕ) : Type 0 where
+  pub count : number ≤ most_lines
+  pub short : length line ≤ longest_line
+
+-- the lines, of which the first has this number, are lines of a script; the session answers them with this text, and comes to t
+abbrev pub Replies : {S : Type 0} → Dialogue S → S → ℕ → List (List ℕ) → List ℕ → S → Type 0
+Replies d s number [] text t = (text ≡ []) × (t ≡ s)
+Replies d s number (line ∷ lines) text t = (first : List ℕ) × (u : _) × (rest : List ℕ) × HasPlace number line
+    × d.Replied s number line first u × Replies d u (number + 1) lines rest t × (text ≡ first ++ rest)
+
+-- all lines are answered, then the end is printed, and what is held grew by that
+abbrev pub IsAnswered : {S : Type 0} → Dialogue S → S → List (List ℕ) → Option (List ℕ) → Option (List ℕ) → Type 0
+IsAnswered d start lines held now = (text : List ℕ) × (t : _) × (last : List ℕ) × Replies d start 1 lines text t × d.Ends t last
+    × Appends held now (text ++ last)
+
+-- the lines, of which the first has this number, are answered, which came to t, and what is held grew by the answers
+abbrev pub AreAnswered : {S : Type 0} → Dialogue S → S → ℕ → List (List ℕ) → Option (List ℕ) → Option (List ℕ) → S → Type 0
+AreAnswered d start first lines held now t = (text : List ℕ) × Replies d start first lines text t × Appends held now text
+
+-- of the first of the lines that are left, the reader gave no more octets than a line may have, and no end
+abbrev pub IsWithinLine : List (List ℕ) → Option (List ℕ) → Type 0
+IsWithinLine left None = ⊥
+IsWithinLine left (Some rest) = (part : List ℕ) × (left ≡ lines_of (part ++ rest)) × Lacks 10 part × (length part ≤ longest_line)
+
+-- the fault of the first of the lines that are left, at the state t, the reader having this left: where it is `read`, the line was
+-- not read, and where it is `write` or `memory`, the line is none of those that are `line` or `long`
+abbrev pub HasFault : {S : Type 0} → Dialogue S → S → ℕ → Word → List (List ℕ) → Option (List ℕ) → Type 0
+HasFault d t number word.Line [] rest = ⊥
+HasFault d t number word.Line (line ∷ lines) rest = HasPlace number line × (d.Knows t line → ⊥)
+HasFault d t number word.Long [] rest = ⊥
+HasFault d t number word.Long (line ∷ lines) rest = (most_lines < number) ⊎ (longest_line < length line)
+HasFault d t number word.Read left rest = IsWithinLine left rest
+HasFault d t number word.Write [] rest = Unit {0}
+HasFault d t number word.Write (line ∷ lines) rest = HasPlace number line × d.Knows t line
+HasFault d t number word.Memory [] rest = Unit {0}
+HasFault d t number word.Memory (line ∷ lines) rest = HasPlace number line × d.Knows t line
+
+-- an answer to the first of the lines that are left, or where none is left what is said at the end
+abbrev pub IsNextText : {S : Type 0} → Dialogue S → S → ℕ → List (List ℕ) → List ℕ → Type 0
+IsNextText d t number [] text = d.Ends t text
+IsNextText d t number (line ∷ lines) text = (u : _) × d.Replied t number line text u
+
+-- what is held stays; where a write failed it grew by the front of what was to be written next
+abbrev pub HeldSince : {S : Type 0} → Dialogue S → S → ℕ → Word → List (List ℕ) → Option (List ℕ) → Option (List ℕ) → Type 0
+HeldSince d t number word.Line left held now = Keeps held now
+HeldSince d t number word.Long left held now = Keeps held now
+HeldSince d t number word.Read left held now = Keeps held now
+HeldSince d t number word.Write left held now = (part rest : List ℕ) × Appends held now part × IsNextText d t number left (part ++ rest)
+HeldSince d t number word.Memory left held now = Keeps held now
+
+-- A run over lines, of which the first has this number, came to the line of the fault: those before it are answered, and then nothing more
+-- is written, but for a part of the text of that line where a write failed.
+pub record EndsFrom {S : Type 0} (d : Dialogue S) (start : S) (first : ℕ) (lines : List (List ℕ)) (fault : Fault)
+    (rest held now : Option (List ℕ)) : Type 0 where
+  pub before : List (List ℕ)
+  pub left : List (List ℕ)
+  pub parted : lines ≡ before ++ left
+  pub number : fault.line ≡ first + length before
+  pub then_held : Option (List ℕ)
+  pub reached : S
+  pub answered : AreAnswered d start first before held then_held reached
+  pub kept : HeldSince d reached fault.line fault.word left then_held now
+  pub reason : HasFault d reached fault.line fault.word left rest
+
+-- the same of a whole run, whose first line is line 1
+abbrev pub EndsAt : {S : Type 0} → Dialogue S → S → List (List ℕ) → Fault → Option (List ℕ) → Option (List ℕ) → Option (List ℕ) → Type 0
+EndsAt d start lines fault rest held now = EndsFrom d start 1 lines fault rest held now
+
+-- memory was refused before the first line was read
+pub record IsNotBegun (fault : Fault) (left rest held now : Option (List ℕ)) : Type 0 where
+  pub line : fault.line ≡ 1
+  pub word_is : fault.word ≡ word.Memory
+  pub read : Keeps left rest
+  pub written : Keeps held now

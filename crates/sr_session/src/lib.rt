@@ -1,0 +1,13 @@
+//! Scripts of lines, read from any reader, obeyed by any session, answered to any writer.
+#![tactic(auto)]
+
+mod fault;
+mod lines;
+mod running;
+mod session;
+mod waiting;
+
+pub use fault::{Fault, NOT_BEGUN, Word};
+pub use lines::MAX_LINE;
+pub use running::run_session;
+pub use session::Session;

@@ -1,0 +1,391 @@
+//! A run of a script. It knows no node: what the lines are for is the session's.
+
+ghost use Rattle.std.specs.Prelude.{◌≡◌, ◌⊎◌, ◌≤◌, ◌<◌, ◌++◌, ◌∷◌, [], ℕ, List, IfOk, IfErr, OnOk, OnErr, Err, IfSome, length, vec_capacity};
+ghost use Rattle.std.specs.Io.KnownBytes.{Appends};
+ghost use Rattle.sr_session.specs.Lines.{lines_of, IsOneOf};
+ghost use Rattle.sr_session.specs.Runs.{IsAnswered, IsNotBegun, EndsAt, EndsFrom, HeldSince, HasFault};
+ghost use Rattle.sr_session.specs.Fronts.{IsFrontLine, AddsFront, FrontFails};
+ghost use Rattle.sr_session.specs.Turns.{AddsAnswer, IsFront, AreObeyed, Turned, AllAnswered};
+
+use crate::fault::{Fault, NOT_BEGUN, Word};
+use crate::lines::{MAX_LINE, is_at_end, line_list, next_line, place_of};
+use crate::session::Session;
+use crate::waiting::{Waiting, write_out};
+use std::alloc::Global;
+use std::io::{BufRead, Write};
+
+/// The most lines of a script.
+const MAX_LINES: u64 = 1_000_000;
+
+/// So many octets that wait are written before another line is obeyed.
+const MOST_WAITING: usize = 65536;
+
+/// How far the lines at hand are obeyed.
+#[derive(Clone, Copy, Debug)]
+struct Front {
+    // The octets of the lines that are.
+    used: usize,
+    // The number of the line behind them.
+    next: u64,
+    // What is wrong with that line.
+    fault: Option<Word>,
+}
+
+/// The whole line, of no more than 8000 octets, at the front of octets. None where there is none.
+fn front_line(octets: &[u8]) -> Option<&[u8]>
+    ensures whole { IfSome result (λ line. IsFrontLine octets.now line.now) }
+{
+    let near = &octets[..octets.len().min(MAX_LINE + 1)];
+    let at = place_of(b'\n', near)?;
+    Some(&near[..at])
+}
+
+/// Has the session obey a line. What is to be printed for it waits then, behind what waited.
+fn obey_line<S: Session>(
+    session: &mut S,
+    number: u64,
+    line: &[u8],
+    waiting: &mut Waiting,
+) -> Result<(), Word>
+    ensures ok { OnOk result (AddsAnswer S.dialogue (S.state session.old) number line.now
+        waiting.old.text waiting.old.marks.items
+        waiting.new.text waiting.new.marks.items (S.state session.new)) }
+    ensures bad { result ≡ Err Word.Line → S.dialogue.Knows (S.state session.old) line.now → ⊥ }
+    ensures memory { result ≡ Err Word.Memory → S.dialogue.Knows (S.state session.old) line.now }
+    ensures fault { IfErr result (λ word. IsOneOf word (Word.Line ∷ Word.Memory ∷ [])) }
+    ensures same { OnErr result ((waiting.new.text ≡ waiting.old.text)
+        × (waiting.new.marks.items ≡ waiting.old.marks.items)) }
+{
+    let start = waiting.text.len();
+    let answered = match session.answer(number, line, &mut waiting.text) {
+        Ok(()) => waiting.mark(number, start),
+        Err(word) => Err(word),
+    };
+    if answered.is_err() {
+        waiting.cut(start);
+    }
+    answered
+}
+
+/// Looks for the end of the line at the front of octets, and has the session obey the line. The answer is how many octets it has,
+/// without its LF; None where there is no whole line. It stands apart, so that a line whose end is not looked for costs no call.
+#[inline(never)]
+fn obey_sought<S: Session>(
+    session: &mut S,
+    number: u64,
+    octets: &[u8],
+    waiting: &mut Waiting,
+) -> Result<Option<usize>, Word>
+    ensures ok { IfOk result (λ found. AddsFront S.dialogue (S.state session.old) number octets.now
+        found waiting.old.text waiting.old.marks.items waiting.new.text
+        waiting.new.marks.items (S.state session.new)) }
+    ensures within { IfOk result (λ found. IfSome found (λ n. n < length octets.now)) }
+    ensures fails { IfErr result (FrontFails S.dialogue (S.state session.old) octets.now) }
+    ensures same { OnErr result ((waiting.new.text ≡ waiting.old.text)
+        × (waiting.new.marks.items ≡ waiting.old.marks.items)) }
+{
+    let Some(line) = front_line(octets) else {
+        return Ok(None);
+    };
+    obey_line(session, number, line, waiting)?;
+    Ok(Some(line.len()))
+}
+
+/// Has the session obey the whole line at the front of octets. The answer is how many octets it has, without its LF; None where
+/// there is no whole line.
+fn obey_whole<S: Session>(
+    session: &mut S,
+    number: u64,
+    octets: &[u8],
+    waiting: &mut Waiting,
+) -> Result<Option<usize>, Word>
+    ensures ok { IfOk result (λ found. AddsFront S.dialogue (S.state session.old) number octets.now
+        found waiting.old.text waiting.old.marks.items waiting.new.text
+        waiting.new.marks.items (S.state session.new)) }
+    ensures within { IfOk result (λ found. IfSome found (λ n. n < length octets.now)) }
+    ensures fails { IfErr result (FrontFails S.dialogue (S.state session.old) octets.now) }
+    ensures same { OnErr result ((waiting.new.text ≡ waiting.old.text)
+        × (waiting.new.marks.items ≡ waiting.old.marks.items)) }
+{
+    let from = waiting.text.len();
+    let answered = match session.answer_front(number, octets, &mut waiting.text) {
+        Ok(None) => return obey_sought(session, number, octets, waiting),
+        Ok(Some(length)) => match waiting.mark(number, from) {
+            Ok(()) => Ok(Some(length)),
+            Err(word) => Err(word),
+        },
+        Err(word) => Err(word),
+    };
+    if answered.is_err() {
+        waiting.cut(from);
+    }
+    answered
+}
+
+/// Has the session obey the whole lines at the front of octets, until enough waits to be written. `first` is the number of
+/// the first.
+fn obey_front<S: Session>(
+    session: &mut S,
+    first: u64,
+    octets: &[u8],
+    waiting: &mut Waiting,
+) -> Front
+    requires number { first ≤ 1000001 }
+    requires text { waiting.old.text ≡ [] }
+    requires marks { waiting.old.marks.items ≡ [] }
+    ensures { IsFront S.dialogue (S.state session.old) first octets.now waiting.new.text
+        waiting.new.marks.items result (S.state session.new) }
+{
+    let mut used = 0;
+    let mut next = first;
+    while next <= MAX_LINES && waiting.text.len() < MOST_WAITING {
+        match obey_whole(session, next, &octets[used..], waiting) {
+            Ok(Some(length)) => {
+                used += length + 1;
+                next += 1;
+            }
+            Ok(None) => break,
+            Err(word) => {
+                return Front {
+                    used,
+                    next,
+                    fault: Some(word),
+                };
+            }
+        }
+    }
+    Front {
+        used,
+        next,
+        fault: None,
+    }
+}
+
+/// Has the session obey the whole lines that the reader has at hand, and writes what is to be printed for them. `first` is
+/// the number of the first; the answer is the number behind them.
+fn obey_at_hand<S: Session, R: BufRead, W: Write>(
+    session: &mut S,
+    first: u64,
+    waiting: &mut Waiting,
+    reader: &mut R,
+    writer: &mut W,
+) -> Result<u64, Fault>
+    requires number { first ≤ 1000001 }
+    requires text { waiting.old.text ≡ [] }
+    requires marks { waiting.old.marks.items ≡ [] }
+    ensures obeyed { IfOk result (λ n. AreObeyed S.dialogue (S.state session.old) first n
+        (R.remaining reader.old) (R.remaining reader.new)
+        (W.contents writer.old) (W.contents writer.new) (S.state session.new)) }
+    ensures count { IfOk result (λ n. n ≤ 1000001) }
+    ensures ahead { IfOk result (λ n. first ≤ n) }
+    ensures text { OnOk result (waiting.new.text ≡ []) }
+    ensures marks { OnOk result (waiting.new.marks.items ≡ []) }
+    ensures ended { IfErr result (λ fault. IfSome (R.remaining reader.old) (λ input.
+        EndsFrom S.dialogue (S.state session.old) first (lines_of input) fault
+        (R.remaining reader.new) (W.contents writer.old) (W.contents writer.new))) }
+{
+    let Ok(available) = reader.fill_buf() else {
+        return Err(Fault {
+            line: first,
+            word: Word::Read,
+        });
+    };
+    let front = obey_front(session, first, available, waiting);
+    reader.consume(front.used);
+    if let Err(fault) = waiting.send(writer) {
+        return Err(fault);
+    }
+    match front.fault {
+        Some(word) => Err(Fault {
+            line: front.next,
+            word,
+        }),
+        None => Ok(front.next),
+    }
+}
+
+/// Reads the next line, however it comes, has the session obey it, and writes what is to be printed for it. False at the end.
+fn obey_next<S: Session, R: BufRead, W: Write>(
+    session: &mut S,
+    number: u64,
+    line: &mut Vec<u8>,
+    waiting: &mut Waiting,
+    reader: &mut R,
+    writer: &mut W,
+) -> Result<bool, Fault>
+    requires number { number ≤ 1000000 }
+    requires room { 8001 ≤ vec_capacity line.old }
+    requires text { waiting.old.text ≡ [] }
+    requires marks { waiting.old.marks.items ≡ [] }
+    ensures turned { IfOk result (λ more.
+        Turned S.dialogue more number (R.remaining reader.old) (R.remaining reader.new)
+        (W.contents writer.old) (W.contents writer.new) (S.state session.old)
+        (S.state session.new)) }
+    ensures room { vec_capacity line.old ≤ vec_capacity line.new }
+    ensures text { OnOk result (waiting.new.text ≡ []) }
+    ensures marks { OnOk result (waiting.new.marks.items ≡ []) }
+    ensures ended { IfErr result (λ fault. IfSome (R.remaining reader.old) (λ input.
+        EndsFrom S.dialogue (S.state session.old) number (lines_of input) fault
+        (R.remaining reader.new) (W.contents writer.old) (W.contents writer.new))) }
+{
+    match next_line(reader, line) {
+        Ok(true) => {}
+        Ok(false) => return Ok(false),
+        Err(word) => return Err(Fault { line: number, word }),
+    }
+    if let Err(word) = obey_line(session, number, line, waiting) {
+        return Err(Fault { line: number, word });
+    }
+    if let Err(fault) = waiting.send(writer) {
+        return Err(fault);
+    }
+    Ok(true)
+}
+
+/// Has the session obey the lines that the reader has left. The answer is the number behind them.
+fn obey_lines<S: Session, R: BufRead, W: Write>(
+    session: &mut S,
+    line: &mut Vec<u8>,
+    waiting: &mut Waiting,
+    reader: &mut R,
+    writer: &mut W,
+) -> Result<u64, Fault>
+    requires room { 8001 ≤ vec_capacity line.old }
+    requires text { waiting.old.text ≡ [] }
+    requires marks { waiting.old.marks.items ≡ [] }
+    ensures done { IfOk result (λ n. IfSome (R.remaining reader.old) (λ input.
+        AllAnswered S.dialogue (S.state session.old) (lines_of input) (W.contents writer.old)
+        (W.contents writer.new) (S.state session.new) n)) }
+    ensures ended { IfErr result (λ fault. IfSome (R.remaining reader.old) (λ input.
+        EndsAt S.dialogue (S.state session.old) (lines_of input) fault (R.remaining reader.new)
+        (W.contents writer.old) (W.contents writer.new))) }
+{
+    let mut number = match obey_at_hand(session, 1, waiting, reader, writer) {
+        Ok(next) => next,
+        Err(fault) => return Err(fault),
+    };
+    while number <= MAX_LINES {
+        match obey_next(session, number, line, waiting, reader, writer) {
+            Ok(true) => {}
+            Ok(false) => return Ok(number),
+            Err(fault) => return Err(fault),
+        }
+        match obey_at_hand(session, number + 1, waiting, reader, writer) {
+            Ok(next) => number = next,
+            Err(fault) => return Err(fault),
+        }
+    }
+    let line = MAX_LINES + 1;
+    match is_at_end(reader) {
+        Ok(true) => Ok(line),
+        Ok(false) => Err(Fault {
+            line,
+            word: Word::Long,
+        }),
+        Err(word) => Err(Fault { line, word }),
+    }
+}
+
+/// Writes what the session says at the end.
+fn end<S: Session, W: Write>(
+    session: &mut S,
+    text: &mut Vec<u8>,
+    writer: &mut W,
+) -> Result<(), Word>
+    ensures ended { OnOk result ((last : List ℕ) × S.dialogue.Ends (S.state session.old) last
+        × Appends (W.contents writer.old) (W.contents writer.new) last) }
+    ensures failed { IfErr result (λ word. IsOneOf word (Word.Write ∷ Word.Memory ∷ [])) }
+    ensures kept { IfErr result (λ word. (number : ℕ)
+        → HeldSince S.dialogue (S.state session.old) number word [] (W.contents writer.old)
+        (W.contents writer.new)) }
+{
+    text.clear();
+    session.finish(text)?;
+    if text.is_empty() {
+        return Ok(());
+    }
+    if write_out(writer, text) < text.len() || writer.flush().is_err() {
+        return Err(Word::Write);
+    }
+    Ok(())
+}
+
+/// Has the session obey the script that the reader has left, where nothing waits yet.
+fn obey_script<S: Session, R: BufRead, W: Write>(
+    session: &mut S,
+    line: &mut Vec<u8>,
+    text: &mut Vec<u8>,
+    waiting: &mut Waiting,
+    reader: &mut R,
+    writer: &mut W,
+) -> Result<(), Fault>
+    requires room { 8001 ≤ vec_capacity line.old }
+    requires text { waiting.old.text ≡ [] }
+    requires marks { waiting.old.marks.items ≡ [] }
+    ensures done { OnOk result (IfSome (R.remaining reader.old) (λ input.
+        IsAnswered S.dialogue (S.state session.old) (lines_of input) (W.contents writer.old)
+        (W.contents writer.new))) }
+    ensures ended { IfErr result (λ fault. IfSome (R.remaining reader.old) (λ input.
+        EndsAt S.dialogue (S.state session.old) (lines_of input) fault (R.remaining reader.new)
+        (W.contents writer.old) (W.contents writer.new))) }
+{
+    let number = obey_lines(session, line, waiting, reader, writer)?;
+    match end(session, text, writer) {
+        Ok(()) => Ok(()),
+        Err(word) => Err(Fault { line: number, word }),
+    }
+}
+
+/// The same, where nothing waits at all.
+fn run_with<S: Session, R: BufRead, W: Write>(
+    alloc: Global,
+    session: &mut S,
+    line: &mut Vec<u8>,
+    reader: &mut R,
+    writer: &mut W,
+) -> Result<(), Fault>
+    requires room { 8001 ≤ vec_capacity line.old }
+    ensures done { OnOk result (IfSome (R.remaining reader.old) (λ input.
+        IsAnswered S.dialogue (S.state session.old) (lines_of input) (W.contents writer.old)
+        (W.contents writer.new))) }
+    ensures ended { IfErr result (λ fault. IfSome (R.remaining reader.old) (λ input.
+        EndsAt S.dialogue (S.state session.old) (lines_of input) fault (R.remaining reader.new)
+        (W.contents writer.old) (W.contents writer.new))) }
+{
+    let mut waiting = Waiting::new(alloc);
+    let mut text = Vec::new(alloc);
+    obey_script(session, line, &mut text, &mut waiting, reader, writer)
+}
+
+/// Has the session obey the script that the reader has left, and writes what is to be printed for each line, and then at the
+/// end. Lines are counted from 1. What is printed for lines that the reader has at hand is written together, and flushed,
+/// before more is read, and before a fault.
+///
+/// # Errors
+/// `Line` and `Long` come at the first line that is none of a script, whatever memory there is. `Read`, `Write` and
+/// `Memory` come where the reader, the writer or the allocator fails, and at no such line. What stands before the line of
+/// the fault is answered, and nothing else is written; where the writer failed, a part of the text of that line may be.
+pub fn run_session<S: Session, R: BufRead, W: Write>(
+    alloc: Global,
+    session: &mut S,
+    reader: &mut R,
+    writer: &mut W,
+) -> Result<(), Fault>
+    // All lines are lines of a script, and what is written is the answers to them, and then the end.
+    ensures done { OnOk result (IfSome (R.remaining reader.old) (λ input.
+        IsAnswered S.dialogue (S.state session.old) (lines_of input) (W.contents writer.old)
+        (W.contents writer.new))) }
+
+    // Memory was refused before anything was read. Or the lines before that of the fault are answered, and that line has this fault.
+    ensures ended { IfErr result (λ fault.
+        IsNotBegun fault (R.remaining reader.old) (R.remaining reader.new) (W.contents writer.old)
+        (W.contents writer.new)
+        ⊎ IfSome (R.remaining reader.old) (λ input.
+        EndsAt S.dialogue (S.state session.old) (lines_of input) fault (R.remaining reader.new)
+        (W.contents writer.old) (W.contents writer.new))) }
+{
+    let Ok(mut line) = line_list(alloc) else {
+        return Err(NOT_BEGUN);
+    };
+    run_with(alloc, session, &mut line, reader, writer)
+}

@@ -1,0 +1,62 @@
+//! What the lines of a script are for.
+
+ghost use Rattle.std.specs.Prelude.{◌≡◌, ◌∷◌, [], ◌++◌, ℕ, List, IfOk, OnOk, OnErr, IfErr, Err};
+ghost use Rattle.sr_session.specs.Octets.{StillHolds};
+ghost use Rattle.sr_session.specs.Lines.{IsOneOf};
+
+use crate::fault::Word;
+use sr_text::Text;
+
+/// What obeys the lines of a script, and says what is printed for each and at the end. It knows no reader and no writer.
+pub trait Session: Send + Drop {
+    ghost use Rattle.sr_session.specs.Runs.{Dialogue};
+    ghost use Rattle.sr_session.specs.Fronts.{AnswersFront, KnowsFront};
+
+    // What clauses see of it.
+    ghost State: { Type 0 };
+
+    ghost state: { Self → State };
+
+    // Which lines it knows, what it answers to them, and what it says at the end.
+    ghost dialogue: { Dialogue State };
+
+    /// Obeys the line with this number. What is to be printed for it then stands behind what `text` held.
+    ///
+    /// `Line` where the line is none that it knows, whatever memory there is; `Memory`. What `text` held stands then too, and
+    /// what stands behind it says nothing.
+    fn answer(&mut self, number: u64, line: &[u8], text: &mut Text) -> Result<(), Word>
+        ensures ok { OnOk result ((answer : List ℕ)
+            × dialogue.Replied (state self.old) number line.now answer (state self.new)
+            × (text.new ≡ text.old ++ answer)) }
+        ensures kept { OnErr result (StillHolds text.old text.new) }
+        ensures known { OnOk result (dialogue.Knows (state self.old) line.now) }
+        ensures bad { result ≡ Err Word.Line → dialogue.Knows (state self.old) line.now → ⊥ }
+        ensures memory { result ≡ Err Word.Memory → dialogue.Knows (state self.old) line.now }
+        ensures fault { IfErr result (λ word. IsOneOf word (Word.Line ∷ Word.Memory ∷ [])) };
+
+    /// Obeys the line at the front of a text where the session can tell on the way where that ends. The answer is how many octets the
+    /// line has, without the LF that ends it. What is to be printed for it then stands behind what `text` held. None where the end of
+    /// the line has to be looked for: nothing is done then, and `answer` obeys the line.
+    ///
+    /// `Memory`. What `text` held stands then too, and what stands behind it says nothing.
+    fn answer_front(
+        &mut self,
+        number: u64,
+        front: &[u8],
+        text: &mut Text,
+    ) -> Result<Option<usize>, Word>
+        ensures ok { IfOk result (λ length. AnswersFront dialogue (state self.old) number front.now
+            length text.old text.new (state self.new)) }
+        ensures kept { OnErr result (StillHolds text.old text.new) }
+        ensures known { OnErr result (KnowsFront dialogue (state self.old) front.now) }
+        ensures err { IfErr result (λ word. word ≡ Word.Memory) }
+    {
+        Ok(None)
+    }
+
+    /// What is to be printed at the end of the script.
+    fn finish(&mut self, text: &mut Vec<u8>) -> Result<(), Word>
+        requires { text.old.items ≡ [] }
+        ensures ok { OnOk result (dialogue.Ends (state self.old) text.new.items) }
+        ensures err { IfErr result (λ word. word ≡ Word.Memory) };
+}
