@@ -161,19 +161,28 @@ fn cloned(alloc: Global, table: &DupTable) -> Option<DupTable> {
     }
 }
 
-// Whether a clone is equal to its table until it hears more, and a table with the same sources in another order is not.
-fn clones_are_equal(alloc: Global) -> bool {
+// A table of these sources, heard in this order.
+fn heard_in_order(alloc: Global, numbers: &[u16]) -> DupTable {
     let mut table = DupTable::new(alloc);
-    let mut turned = DupTable::new(alloc);
-    for number in 1..4 {
-        hear(&mut table, number, 0);
-        hear(&mut turned, 4 - number, 0);
+    for number in numbers {
+        hear(&mut table, *number, 0);
     }
-    let Some(mut own) = cloned(alloc, &table) else {
-        return false;
-    };
-    let was_equal = own == table && turned != table && turned.source_count() == 3;
-    was_equal && hear(&mut own, 2, 1) == Answer::Known && own != table
+    table
+}
+
+// Whether a clone is equal to its table until it hears more, and a table with the same sources in another order is not.
+fn is_clone(own: &mut DupTable, table: &DupTable, turned: &DupTable) -> bool {
+    let was_equal = *own == *table && *turned != *table && turned.source_count() == 3;
+    was_equal && hear(own, 2, 1) == Answer::Known && *own != *table
+}
+
+fn clones_are_equal(alloc: Global) -> bool {
+    let table = heard_in_order(alloc, [1, 2, 3].as_slice());
+    let turned = heard_in_order(alloc, [3, 2, 1].as_slice());
+    match cloned(alloc, &table) {
+        Some(mut own) => is_clone(&mut own, &table, &turned),
+        None => false,
+    }
 }
 
 #[test]
