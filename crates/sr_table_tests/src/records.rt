@@ -151,13 +151,17 @@ fn joins(wanted: Record<16>, a: u16, b: u16, c: u16) -> bool {
     merged(front, begun(c)) == Some(wanted) && merged(begun(a), back) == Some(wanted)
 }
 
-// What is apart changes nothing.
-fn merges(three: &mut Three, into: Which, from: Which) -> bool {
+// Whether a record took in the other. None where they are apart and it changed all the same.
+fn merges(three: &mut Three, into: Which, from: Which) -> Option<bool> {
     let before = three.of(into);
     let mut own = before;
     let is_merged = own.merge(&three.of(from)).is_ok();
     three.set(into, own);
-    is_merged || own != before
+    if is_merged || own == before {
+        Some(is_merged)
+    } else {
+        None
+    }
 }
 
 fn notes(three: &mut Three, which: Which, seq: u16) -> bool {
@@ -172,7 +176,7 @@ fn holds(three: &mut Three, step: Step) -> bool {
         Step::Begin(which, seq) => three.set(which, begun(seq)),
         Step::Copy(which, from) => three.set(which, three.of(from)),
         Step::Note(which, seq) => return notes(three, which, seq),
-        Step::Merge(into, from, answer) => return merges(three, into, from) == answer,
+        Step::Merge(into, from, answer) => return merges(three, into, from) == Some(answer),
         Step::Has(which, lane, seq, answer) => {
             return three.of(which).has(lane, Seq(seq)) == answer;
         }
