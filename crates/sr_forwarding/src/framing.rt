@@ -48,7 +48,7 @@ pub(crate) fn append_as_it_is(out: &mut Vec<u8>, parcel: &ParcelView<'_>) -> Res
 }
 
 /// How a port carries frames: what octets are which parcel, and back.
-pub trait Framing: Send + Drop {
+pub trait Framing: Drop {
     ghost use Rattle.sr_forwarding.specs.Framings.{FramingImage};
 
     ghost meaning: { Self → FramingImage };

@@ -9,7 +9,7 @@ use sr_frame::{Learnt, Mac, NoMemory, Port};
 use std::alloc::Global;
 
 /// Where the frames go of a role that stands for its own address alone.
-pub trait Routing: Send + Drop {
+pub trait Routing: Drop {
     ghost use Rattle.sr_forwarding.specs.declared.role_image.RoleKind.{RoleKind as Kind};
     ghost use Rattle.sr_forwarding.specs.OwnRoles.{StandsAlone};
 

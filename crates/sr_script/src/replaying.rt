@@ -10,7 +10,7 @@ use std::alloc::Global;
 
 /// A node at work on a script.
 #[derive(Drop)]
-pub(crate) struct NodeSession<P: Role + Send> {
+pub(crate) struct NodeSession<P: Role> {
     pub(crate) alloc: Global,
     pub(crate) role: RoleName,
     pub(crate) node: NodeOf<P>,
@@ -22,7 +22,7 @@ pub(crate) struct NodeSession<P: Role + Send> {
     pub(crate) frame: Vec<u8>,
 }
 
-impl<P: Role + Send> Session for NodeSession<P> {
+impl<P: Role> Session for NodeSession<P> {
     ghost use Rattle.sr_node.specs.Images.{node_state};
     ghost use Rattle.sr_script.specs.Stations.{Station};
     ghost use Rattle.sr_script.specs.Replies.{replay_dialogue};

@@ -29,7 +29,7 @@ fn list_of(alloc: Global, count: usize) -> Result<Vec<u8>, AllocError> {
 }
 
 /// A new node over this role, ready for a script. An error where memory was refused.
-fn session_of<P: Role + Send>(
+fn session_of<P: Role>(
     alloc: Global,
     setup: &Setup,
     role: P,
@@ -51,7 +51,7 @@ fn session_of<P: Role + Send>(
 }
 
 /// Has a new node over this role obey the script. It is compiled for each role, so that no frame asks which role it is.
-fn run_over<P: Role + Send, R: BufRead, W: Write>(
+fn run_over<P: Role, R: BufRead, W: Write>(
     alloc: Global,
     setup: &Setup,
     role: P,

@@ -9,9 +9,9 @@ use sr_text::Text;
 
 /// A node at work on a script, whose frames are not printed.
 #[derive(Drop)]
-pub(crate) struct StatusSession<P: Role + Send>(pub(crate) NodeSession<P>);
+pub(crate) struct StatusSession<P: Role>(pub(crate) NodeSession<P>);
 
-impl<P: Role + Send> Session for StatusSession<P> {
+impl<P: Role> Session for StatusSession<P> {
     ghost use Rattle.sr_node.specs.Images.{node_state};
     ghost use Rattle.sr_script.specs.Stations.{Station};
     ghost use Rattle.sr_script.specs.Statuses.{status_dialogue};

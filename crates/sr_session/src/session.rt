@@ -8,7 +8,7 @@ use crate::fault::Word;
 use sr_text::Text;
 
 /// What obeys the lines of a script, and says what is printed for each and at the end. It knows no reader and no writer.
-pub trait Session: Send + Drop {
+pub trait Session: Drop {
     ghost use Rattle.sr_session.specs.Runs.{Dialogue};
     ghost use Rattle.sr_session.specs.Fronts.{AnswersFront, KnowsFront};
 
