@@ -17,7 +17,7 @@ pub enum Extent {
 }
 
 /// What the head of a packet says.
-#[derive(Clone, Copy, Debug)]
+#[derive(Clone, Copy)]
 pub(crate) struct Head {
     /// When it was captured, in nanoseconds since 1970.
     pub time: u64,

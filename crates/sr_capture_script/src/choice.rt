@@ -55,7 +55,7 @@ pub struct Interfaces {
 }
 
 /// How a file is read.
-#[derive(Clone, Copy, Debug)]
+#[derive(Clone, Copy)]
 pub(crate) struct Reading {
     /// Which interface is wanted.
     pub wanted: Wanted,

@@ -6,7 +6,7 @@ ghost use Rattle.sr_capture_script.specs.Flaws.{flaw_by, counted, name_of};
 use sr_capture::{Extent, MAX_KEPT, Packet};
 
 /// Why a packet is not used.
-#[derive(Clone, Copy, Debug)]
+#[derive(Clone, Copy)]
 pub(crate) enum Flaw {
     /// The snap length cut it.
     Cut,
@@ -17,7 +17,7 @@ pub(crate) enum Flaw {
 }
 
 /// How many packets of a file are not used, for each reason.
-#[derive(Clone, Copy, Debug)]
+#[derive(Clone, Copy)]
 pub(crate) struct FlawCounts {
     pub cut: u64,
     pub long: u64,

@@ -8,7 +8,7 @@ use sr_pcapng::Track;
 use std::io::BufRead;
 
 /// A kind of file, and what is known of it.
-#[derive(Clone, Copy, Debug)]
+#[derive(Clone, Copy)]
 pub(crate) enum Format {
     /// A pcap file, and what its header says.
     Pcap(Form),

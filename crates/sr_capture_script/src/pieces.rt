@@ -72,7 +72,7 @@ fn time_since(base: u64, moment: u64) -> u64
 }
 
 /// Where a packet stands: its inlet, its number there, its moment.
-#[derive(Clone, Copy, Debug)]
+#[derive(Clone, Copy)]
 pub(crate) struct Place {
     pub inlet: Inlet,
     pub number: u64,

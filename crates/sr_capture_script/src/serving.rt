@@ -14,7 +14,7 @@ use crate::source::Source;
 use std::io::{BufRead, Write};
 
 /// Where times are counted from, in nanoseconds, and the last time that was printed, in milliseconds.
-#[derive(Clone, Copy, Debug)]
+#[derive(Clone, Copy)]
 pub(crate) struct Clock {
     pub base: Option<u64>,
     pub last: Option<u64>,

@@ -18,7 +18,7 @@ const MAX_LEN: u32 = 0x100_0000;
 const SECTION_HEADER: u32 = 0x0A0D_0D0A;
 
 /// What a block is.
-#[derive(Clone, Copy, Debug, PartialEq, Eq)]
+#[derive(Clone, Copy, PartialEq, Eq)]
 pub(crate) enum Kind {
     /// It begins a section.
     Section,

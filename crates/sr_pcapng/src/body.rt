@@ -53,7 +53,7 @@ pub(crate) fn interface_of(
 }
 
 /// What of a packet is held in its block.
-#[derive(Clone, Copy, Debug)]
+#[derive(Clone, Copy)]
 pub(crate) struct Body {
     /// Where its octets begin.
     pub at: usize,

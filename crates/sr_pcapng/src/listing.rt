@@ -11,7 +11,7 @@ use sr_capture::{ByteOrder, Listed, Reason, half_at};
 use std::io::BufRead;
 
 /// The interfaces that are listed, and how many were described.
-#[derive(Clone, Copy, Debug)]
+#[derive(Clone, Copy)]
 pub(crate) struct Listing {
     pub listed: u64,
     pub count: u32,

@@ -50,7 +50,7 @@ fn fits(code: u16, len: u16) -> bool
 }
 
 /// What stands at the front of options.
-#[derive(Clone, Copy, Debug, PartialEq, Eq)]
+#[derive(Clone, Copy, PartialEq, Eq)]
 enum Front {
     /// Their end is told.
     End,

@@ -12,7 +12,7 @@ use sr_capture::{ByteOrder, CaptureFault, Packet, Reason};
 use std::io::BufRead;
 
 /// What came of a block.
-#[derive(Clone, Copy, Debug, PartialEq, Eq)]
+#[derive(Clone, Copy, PartialEq, Eq)]
 enum Step {
     /// There was none.
     End,

@@ -1,7 +1,7 @@
 //! What a line of a script asks for.
 
 /// Whom a frame is for.
-#[derive(Clone, Copy, Debug)]
+#[derive(Clone, Copy)]
 pub(crate) enum Receiver {
     /// All nodes.
     All,
@@ -10,7 +10,7 @@ pub(crate) enum Receiver {
 }
 
 /// What is done to the copy at a place, or to a link.
-#[derive(Clone, Copy, Debug)]
+#[derive(Clone, Copy)]
 pub(crate) enum Verb {
     /// The copy comes to its receiver.
     Carry,
@@ -25,7 +25,7 @@ pub(crate) enum Verb {
 }
 
 /// What a line asks for. Its octets stand beside it.
-#[derive(Clone, Copy, Debug)]
+#[derive(Clone, Copy)]
 pub(crate) enum Command {
     /// Nothing: the line is empty or begins with `#`.
     Skip,

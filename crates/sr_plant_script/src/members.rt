@@ -8,7 +8,7 @@ use sr_frame::Mac;
 use sr_plant::Topology;
 
 /// Where frames go at a node of a plant: as at a doubly attached node of what the plant is.
-#[derive(Clone, Copy, Debug, Drop)]
+#[derive(Clone, Copy, Drop)]
 pub(crate) struct MemberRouting {
     pub(crate) topology: Topology,
 }

@@ -11,7 +11,7 @@ use sr_frame::Port;
 use sr_prp_trailer::Lan;
 
 /// The framing of a port.
-#[derive(Clone, Copy, Debug)]
+#[derive(Clone, Copy)]
 pub(crate) enum Carrier {
     /// Ordinary frames.
     Plain(PlainFraming),

@@ -15,7 +15,7 @@ use sr_session::{MAX_LINE, Word};
 use sr_words::{behind_send, is_comment, number_of, read_hex, split_word};
 
 /// What a line asks for. Its octets stand beside it.
-#[derive(Clone, Copy, Debug)]
+#[derive(Clone, Copy)]
 pub(crate) enum Command {
     /// Nothing: the line is empty or begins with `#`.
     Skip,
@@ -161,7 +161,7 @@ pub(crate) fn command_of(role: RoleName, line: &[u8], octets: &mut Vec<u8>) -> R
 }
 
 /// A frame that arrives, of which the whole line stands at the front of a text.
-#[derive(Clone, Copy, Debug)]
+#[derive(Clone, Copy)]
 pub(crate) struct FrontArrival {
     /// Where it comes in.
     pub(crate) port: Port,

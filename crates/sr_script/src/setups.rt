@@ -31,7 +31,7 @@ pub struct Setup {
 }
 
 /// What is printed of the node that a script is run on.
-#[derive(Clone, Copy, Debug)]
+#[derive(Clone, Copy)]
 pub(crate) enum Report {
     /// The frames that it puts out.
     Frames,
