@@ -1,0 +1,32 @@
+//! How a run of a script ends, and the answers that it writes.
+
+use sr_session::{Fault, Word};
+
+/// How a run has to end: with the fault of a line, or well.
+pub type Ending = Option<(u64, Word)>;
+
+/// Whether a run ends so. None for want of memory.
+pub fn is_ended(outcome: Result<(), Fault>, ending: Ending) -> Option<bool> {
+    match outcome {
+        Ok(()) => Some(ending.is_none()),
+        Err(
+            Fault {
+                word: Word::Memory,
+                ..
+            },
+        ) => None,
+        Err(Fault { line, word }) => Some(ending == Some((line, word))),
+    }
+}
+
+/// Whether these are the first answers, so many.
+pub fn are_answers(written: &[u8], answers: &[&[u8]], count: usize) -> bool {
+    let mut rest = written;
+    for answer in answers.iter().take(count) {
+        match rest.strip_prefix(*answer) {
+            Some(behind) => rest = behind,
+            None => return false,
+        }
+    }
+    rest.is_empty()
+}

@@ -1,0 +1,8 @@
+//! Tests of `sr_plant`, above it, so that its own functions are proved once; and of the words of all faults below it.
+
+mod faults;
+mod frames;
+mod makers;
+mod refusals;
+mod steps;
+mod traffic;
