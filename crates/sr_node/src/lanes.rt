@@ -1,7 +1,8 @@
 //! On which lanes an arrival is noted, and to which outlets a new one goes.
 
-ghost use Rattle.std.specs.Prelude.{◌≡◌, false};
-ghost use Rattle.sr_dup_window.specs.LaneSets.{lanes_where, is_empty};
+ghost use Rattle.std.specs.Prelude.{◌≡◌, ◌&&◌, false};
+ghost use Rattle.sr_dup_window.specs.LaneSets.{has as has_lane, lanes_where, is_empty};
+ghost use Rattle.sr_forwarding.specs.Outlets.{has};
 ghost use Rattle.sr_node.specs.Lanes.{is_host};
 ghost use Rattle.sr_node.specs.Lanes.{lane_at, is_wanted_on, came_in_on, lanes_noted, outlets_on};
 
@@ -63,22 +64,28 @@ pub(crate) fn lanes_noted(port: Port, wanted: Outlets) -> Lanes
     lanes_of(wanted).union(came_in_on(port))
 }
 
+// Whether an outlet is wanted, and its lane is among these.
+fn is_new_at(outlet: Port, fresh: Lanes, wanted: Outlets) -> bool
+    ensures { result ≡ (has wanted outlet && has_lane fresh (lane_at outlet)) }
+{
+    wanted.has(outlet) && fresh.has(lane_at(outlet))
+}
+
 /// Of the wanted outlets, those whose lane is among these.
 pub(crate) fn outlets_on(fresh: Lanes, wanted: Outlets) -> Outlets
     ensures { result ≡ outlets_on fresh wanted }
 {
-    let is_new = |outlet: Port| wanted.has(outlet) && fresh.has(lane_at(outlet));
     let mut outlets = Outlets::none();
-    if is_new(Port::H) {
+    if is_new_at(Port::H, fresh, wanted) {
         outlets = outlets.union(Outlets::H);
     }
-    if is_new(Port::A) {
+    if is_new_at(Port::A, fresh, wanted) {
         outlets = outlets.union(Outlets::A);
     }
-    if is_new(Port::B) {
+    if is_new_at(Port::B, fresh, wanted) {
         outlets = outlets.union(Outlets::B);
     }
-    if is_new(Port::C) {
+    if is_new_at(Port::C, fresh, wanted) {
         outlets = outlets.union(Outlets::C);
     }
     outlets
