@@ -305,6 +305,13 @@ module _ {V : Type 0} where
       by true h ih = refl
       by false h ih = ap (λ l. e ∷ l) (ih h)
 
+  -- and at one that has none adds it last
+  insert-absent : (m : Mac) (w : Slot V) (es : List (Mac × Slot V)) → lookup (mac_eq m) es ≡ None → insert_entry mac_eq es m w ≡ es ++ (m, w) ∷ []
+  insert-absent m w [] h = refl
+  insert-absent m w (e ∷ es) h =
+      let d = head_differs (mac_eq m e.0) e.1 (lookup (mac_eq m) es) h in
+      ap (λ b. cond b ((e.0, w) ∷ es) (e ∷ insert_entry mac_eq es m w)) d.0 ∙ ap (λ l. e ∷ l) (insert-absent m w es d.1)
+
   pub held_there : (m : Mac) (s : Slot V) (es new : List (Mac × Slot V)) → lookup (mac_eq m) es ≡ Some s → new ≡ insert_entry mac_eq es m (slot_of s.value true) → IsHeld m s.held es new
   held_there m s es new there is =
       let w = slot_of s.value true in
@@ -316,8 +323,9 @@ module _ {V : Type 0} where
         others = λ q other. ap (λ l. list_any (mac_eq q) (held_of l)) set ∙ held-set_others m w es q other;
       }
 
-  pub held_last : (m : Mac) (es new : List (Mac × Slot V)) → new ≡ es ++ (m, slot_of None true) ∷ [] → IsHeld m false es new
-  held_last m es new is =
+  pub held_last : (m : Mac) (es new : List (Mac × Slot V)) → lookup (mac_eq m) es ≡ None → new ≡ insert_entry mac_eq es m (slot_of None true) → IsHeld m false es new
+  held_last m es new absent is_new =
+      let is : new ≡ es ++ (m, slot_of None true) ∷ [] = is_new ∙ insert-absent m (slot_of None true) es absent in
       let held : held_of new ≡ held_of es ++ m ∷ [] = added_held m (slot_of None true) es new is in
       record {
         entries = added_entries m (slot_of None true) es new is ∙ append-nil (entries_of es);
@@ -428,16 +436,27 @@ module _ {V : Type 0} where
         ∙ ap (λ b. b || list_any (mac_eq m) (held_of r.back)) (held_absent m r.front r.before)
         ∙ held_absent m r.back (absent_after_split m s r.front r.back (subst (λ l. IsDistinct mac_eq (keys_of l)) r.is unique))
 
-    pub put_moved : IsDistinct mac_eq (keys_of es) → s.value ≡ None → {w : V} → v ≡ slot_of (Some w) false → IsPutLast m w s.held es new
-    put_moved unique none is_v = record {
-      entries = last_entries none ∙ ap (λ u. entries_of es ++ entry_at m u.value) is_v;
-      len = length-last_held ∙ ap (λ u. length (held_of es) + one_if u.held) is_v ∙ omega arith;
+    put_moved : IsDistinct mac_eq (keys_of es) → lookup (mac_eq m) (entries_of es) ≡ None → {w : V} → v ≡ slot_of (Some w) false → {was : Bool} → was ≡ s.held → IsPutLast m w was es new
+    put_moved unique absent is_v was_is = record {
+      entries = last_entries (sym (found_value m s es unique there) ∙ absent) ∙ ap (λ u. entries_of es ++ entry_at m u.value) is_v;
+      len = ap (λ b. length (held_of new) + one_if b) was_is ∙ length-last_held ∙ ap (λ u. length (held_of es) + one_if u.held) is_v ∙ omega arith;
       others = last_held;
       free = last_free unique (ap (λ u. u.held) is_v);
     }
 
-  pub put_new : (m : Mac) (w : V) (es new : List (Mac × Slot V)) → lookup (mac_eq m) es ≡ None → new ≡ es ++ (m, slot_of (Some w) false) ∷ [] → IsPutLast m w false es new
-  put_new m w es new absent is =
+  -- where its place has no value, and takes one and is moved to the end
+  pub put_there : (m : Mac) {w : V} (s v : Slot V) {was : Bool} (es new written : List (Mac × Slot V)) {index n : ℕ}
+      → IsDistinct mac_eq (keys_of es) → lookup (mac_eq m) (entries_of es) ≡ None → n ≡ length es → lookup (mac_eq m) es ≡ Some s → v ≡ slot_of (Some w) false → was ≡ s.held
+      → written ≡ insert_entry mac_eq es m v → index ≡ position_or_len (mac_eq m) (keys_of es) → new ≡ move_index written index (n - 1)
+      → IsPutLast m w was es new
+  put_there m s v es new written {n = n} unique absent n_is there is_v was_is written_is index_is is =
+      put_moved m s es there v (n - 1) (ap (λ k. k - 1) n_is) new (is ∙ (λ j. move_index (written_is j) (index_is j) (n - 1))) unique absent is_v was_is
+
+  -- and where it has no place, and takes one
+  pub put_new : (m : Mac) {w : V} (v : Slot V) (es : List (Mac × Slot V)) {new : List (Mac × Slot V)} → lookup (mac_eq m) es ≡ None → v ≡ slot_of (Some w) false → new ≡ insert_entry mac_eq es m v
+      → IsPutLast m w false es new
+  put_new m {w} v es {new} absent is_v is_new =
+      let is : new ≡ es ++ (m, slot_of (Some w) false) ∷ [] = is_new ∙ insert-absent m v es absent ∙ ap (λ u. es ++ (m, u) ∷ []) is_v in
       let held : held_of new ≡ held_of es = added_held m (slot_of (Some w) false) es new is ∙ append-nil (held_of es) in
       record {
         entries = added_entries m (slot_of (Some w) false) es new is;
