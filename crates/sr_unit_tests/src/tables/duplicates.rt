@@ -161,12 +161,16 @@ fn cloned(alloc: Global, table: &DupTable) -> Option<DupTable> {
     }
 }
 
-// A table of these sources, heard in this order.
+// These sources are heard, in this order.
+fn hear_in_order(table: &mut DupTable, numbers: &[u16]) {
+    for number in numbers {
+        hear(table, *number, 0);
+    }
+}
+
 fn heard_in_order(alloc: Global, numbers: &[u16]) -> DupTable {
     let mut table = DupTable::new(alloc);
-    for number in numbers {
-        hear(&mut table, *number, 0);
-    }
+    hear_in_order(&mut table, numbers);
     table
 }
 

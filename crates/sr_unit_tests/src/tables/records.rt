@@ -326,7 +326,48 @@ impl<const N: usize> Both<N> {
     }
 }
 
-// The step of a run of random notes and merges at which the two kinds of record disagree.
+// A random note or merge of two such pairs, with this number, and whether each agrees within itself.
+fn moves<const N: usize>(
+    chances: &mut Chances,
+    first: &mut Both<N>,
+    second: &mut Both<N>,
+    seq: Seq,
+) -> Result<bool, Fail> {
+    match chances.next() % 16 {
+        0 => first.merge(second),
+        1 => second.merge(first),
+        2..6 => second.note(seq, chances.lanes()),
+        _ => first.note(seq, chances.lanes()),
+    }
+}
+
+// The same with a random number, and at another one after it.
+fn agrees_on<const N: usize>(
+    chances: &mut Chances,
+    first: &mut Both<N>,
+    second: &mut Both<N>,
+) -> Result<bool, Fail> {
+    let seq = chances.near(first.fast.reference());
+    let agree = moves(chances, first, second, seq)?;
+    let other = chances.near(seq);
+    Ok(agree && first.agree_at(other) && second.agree_at(other))
+}
+
+// The step of a run of them at which the two kinds of record disagree.
+fn first_disagreement<const N: usize>(
+    chances: &mut Chances,
+    first: &mut Both<N>,
+    second: &mut Both<N>,
+) -> Result<Option<u64>, Fail> {
+    for step in 0..100 {
+        if !agrees_on(chances, first, second)? {
+            return Ok(Some(step));
+        }
+    }
+    Ok(None)
+}
+
+// The same of two new pairs.
 fn disagreement<const N: usize>(alloc: Global, seed: u64) -> Result<Option<u64>, Fail>
     requires { (N ≡ 16) ⊎ (N ≡ 32) }
 {
@@ -334,20 +375,7 @@ fn disagreement<const N: usize>(alloc: Global, seed: u64) -> Result<Option<u64>,
     let mut first = Both::<N>::begin(alloc, Seq((chances.next() % 65536) as u16))?;
     let start = chances.near(first.fast.reference());
     let mut second = Both::<N>::begin(alloc, start)?;
-    for step in 0..100 {
-        let seq = chances.near(first.fast.reference());
-        let agree = match chances.next() % 16 {
-            0 => first.merge(&second)?,
-            1 => second.merge(&first)?,
-            2..6 => second.note(seq, chances.lanes())?,
-            _ => first.note(seq, chances.lanes())?,
-        };
-        let other = chances.near(seq);
-        if !(agree && first.agree_at(other) && second.agree_at(other)) {
-            return Ok(Some(step));
-        }
-    }
-    Ok(None)
+    first_disagreement(&mut chances, &mut first, &mut second)
 }
 
 #[test]
