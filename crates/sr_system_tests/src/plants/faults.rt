@@ -11,6 +11,7 @@ use sr_prp_trailer::StripFault;
 use sr_supervision::SupFault;
 use std::alloc::Global;
 use std::fmt::Display;
+use std::process::Abort;
 
 /// Whether a fault is told so. None for want of memory.
 fn is_told_once<D: Display>(alloc: Global, fault: &D, words: &str) -> Option<bool> {
@@ -111,21 +112,25 @@ fn first_wrong<D: Display>(alloc: Global, faults: &[(D, &str)]) -> Option<usize>
     None
 }
 
+/// Fails the test at the place of the first fault of a list, which is named, that is told otherwise.
+fn expect_words<D: Display, R: Abort + AllocGlobal>(rt: &R, list: &str, faults: &[(D, &str)]) {
+    assert_eq!(rt; first_wrong(rt.alloc(), faults), None, "{list}");
+}
+
 #[test]
 fn words_of_faults(rt: HostRuntime) {
-    let alloc = rt.alloc();
-    assert_eq!(rt; first_wrong(alloc, &[(NoMemory, "out of memory")]), None);
-    assert_eq!(rt; first_wrong(alloc, FRAMES), None);
-    assert_eq!(rt; first_wrong(alloc, TAGS), None);
-    assert_eq!(rt; first_wrong(alloc, UNTAGS), None);
-    assert_eq!(rt; first_wrong(alloc, STRIPS), None);
-    assert_eq!(rt; first_wrong(alloc, SUPERVISIONS), None);
-    assert_eq!(rt; first_wrong(alloc, READS), None);
+    expect_words(&rt, "memory", &[(NoMemory, "out of memory")]);
+    expect_words(&rt, "frames", FRAMES);
+    expect_words(&rt, "tags", TAGS);
+    expect_words(&rt, "untags", UNTAGS);
+    expect_words(&rt, "strips", STRIPS);
+    expect_words(&rt, "supervisions", SUPERVISIONS);
+    expect_words(&rt, "reads", READS);
     let apart = "the greatest numbers are 32768 apart";
-    assert_eq!(rt; first_wrong(alloc, &[(Apart, apart)]), None);
+    expect_words(&rt, "apart", &[(Apart, apart)]);
     let full = "the duplicate table is full";
-    assert_eq!(rt; first_wrong(alloc, &[(TableFull, full)]), None);
-    assert_eq!(rt; first_wrong(alloc, TABLES), None);
-    assert_eq!(rt; first_wrong(alloc, STEPS), None);
-    assert_eq!(rt; first_wrong(alloc, PLANTS), None);
+    expect_words(&rt, "full", &[(TableFull, full)]);
+    expect_words(&rt, "tables", TABLES);
+    expect_words(&rt, "steps", STEPS);
+    expect_words(&rt, "plants", PLANTS);
 }
