@@ -11,14 +11,14 @@ ghost use Rattle.sr_node_table.specs.Watching.{after_prune};
 ghost use Rattle.sr_node.specs.Hearing.{is_network, HasRoomFor, HasRoomToo, KeepsRoom, IsReadyFor, nodes_heard, nodes_told};
 ghost use Rattle.sr_node.specs.Lanes.{is_host, new_outlets, sources_after};
 ghost use Rattle.sr_node.specs.Outboxes.{box_at, boxes_left, first_full, first_of};
-ghost use Rattle.sr_node.specs.Copies.{Room, no_copies, copies_for, put_copies};
+ghost use Rattle.sr_node.specs.Copies.{Room, no_copies, copies_for, put_copies, put_at};
 ghost use Rattle.sr_node.specs.LifeChecks.{is_due};
 ghost use Rattle.sr_node.specs.Images.{shown, node_state, start, with_time, after, IsReady, IsIdle};
 ghost use Rattle.sr_node.specs.NodeImages.{state_of};
 ghost use Rattle.sr_node.specs.Absorbing.{Absorbed, absorb_fault};
 ghost use Rattle.sr_node.specs.Arriving.{is_plain_at_interlink, number_at, next_at, wrong_lan_after, full_fault};
 
-use crate::copies::{Copies, copies_for, put_copies};
+use crate::copies::{Copies, copies_for, no_copies, put_copies};
 use crate::hearing::Heard;
 use crate::lanes::{lanes_noted, outlets_on};
 use crate::life_checks::is_due;
@@ -102,21 +102,25 @@ impl Core {
         ensures shown { IfOk result (λ c. shown c ≡ start) }
         ensures idle { IfOk result IsIdle }
     {
+        // What costs least to let go comes first.
+        let spare = Vec::with_capacity(alloc, MOST_SPARE)?;
+        let out = PerPort::empty(alloc)?;
+        let nodes = NodeTable::with_keys(alloc, keys)?;
         Ok(Core {
             time: 0,
             next: FIRST_NUMBER,
             next_life: FIRST_LIFE_NUMBER,
             life_at: None,
             table: DupTable::with_keys(alloc, keys),
-            nodes: NodeTable::with_keys(alloc, keys)?,
-            out: PerPort::empty(alloc)?,
+            nodes,
+            out,
             wrong_lan: PerPort {
                 h: 0,
                 a: 0,
                 b: 0,
                 c: 0,
             },
-            spare: Vec::with_capacity(alloc, MOST_SPARE)?,
+            spare,
             alloc,
         })
     }
@@ -163,19 +167,31 @@ impl Core {
         Ok(())
     }
 
+    // Both tables again. NoMemory: a growth was refused.
+    fn tables(&self) -> Result<(DupTable, NodeTable), NoMemory>
+        ensures sources { IfOk result (λ t. t.0.sources ≡ self.now.table.sources) }
+        ensures nodes { IfOk result (λ t. t.1.table ≡ self.now.nodes.table) }
+    {
+        let nodes = self.nodes.try_clone()?;
+        let sources = self.table.try_clone(self.alloc)?;
+        Ok((sources, nodes))
+    }
+
     /// All of it as data, beside this role. NoMemory: a growth was refused.
     pub(crate) fn image(&self, role: RoleImage) -> Result<NodeImage, NoMemory>
         ensures { IfOk result (λ i. state_of i ≡ node_state role self.now) }
     {
+        let outboxes = self.out.to_lists(self.alloc)?;
+        let (sources, nodes) = self.tables()?;
         Ok(NodeImage {
             role,
             time: self.time,
             next: self.next,
             next_life: self.next_life,
             life_at: self.life_at,
-            sources: self.table.try_clone(self.alloc)?,
-            nodes: self.nodes.try_clone()?,
-            outboxes: self.out.to_lists(self.alloc)?,
+            sources,
+            nodes,
+            outboxes,
             wrong_lan: self.wrong_lan,
         })
     }
@@ -538,6 +554,29 @@ impl Core {
         put_copies(&mut self.out, copies);
         self.next = self.next.next();
         self.time = now;
+    }
+
+    /// Sends a frame of the node to these outlets under the next number: first the growths, then the changes.
+    pub(crate) fn send_to(
+        &mut self,
+        outlets: Outlets,
+        parcel: &ParcelView<'_>,
+        now: u64,
+    ) -> Result<(), NoMemory>
+        requires { first_full self.old.out outlets ≡ None }
+        ensures shown { OnOk result (shown self.new ≡ record (shown self.old) {
+          time = now;
+          next = after self.old.next;
+          out = put_at self.old.out outlets parcel.now;
+        }) }
+        ensures same { OnErr result (self.new ≡ self.old) }
+        ensures held { self.new.table ≡ self.old.table }
+        ensures nodes { self.new.nodes ≡ self.old.nodes }
+    {
+        let mut copies = no_copies();
+        self.copies(outlets, parcel, &mut copies)?;
+        self.send(&mut copies, now);
+        Ok(())
     }
 
     /// Counts a life check that went out.
