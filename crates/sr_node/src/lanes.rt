@@ -65,6 +65,7 @@ pub(crate) fn lanes_noted(port: Port, wanted: Outlets) -> Lanes
 }
 
 // Whether an outlet is wanted, and its lane is among these.
+#[inline(always)]
 fn is_new_at(outlet: Port, fresh: Lanes, wanted: Outlets) -> bool
     ensures { result ≡ (has wanted outlet && has_lane fresh (lane_at outlet)) }
 {

@@ -557,6 +557,7 @@ impl Core {
     }
 
     /// Sends a frame of the node to these outlets under the next number: first the growths, then the changes.
+    #[inline(always)]
     pub(crate) fn send_to(
         &mut self,
         outlets: Outlets,
