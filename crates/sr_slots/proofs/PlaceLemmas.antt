@@ -3,10 +3,12 @@ use Rattle.std.proofs.Common.{◌≡◌, ℕ, suc, ◌+◌, ◌-◌, ◌≤◌, 
 use Rattle.std.specs.Map.{lookup, set_value, keys_of}
 use Rattle.std.specs.Map.Calls.{RetainsPairs}
 use Rattle.std.specs.List.{list_any, IsDistinct, AllByRecursion, position_or_len, insert, remove, slice_get}
-use Rattle.std.specs.Prelude.{option_to_list}
-use Rattle.std.specs.Borrow.{Bor}
+use Rattle.std.specs.Prelude.{option_to_list, IfSome, IfNone}
+use Rattle.std.specs.Borrow.{Bor, MutBor}
+use Rattle.std.specs.Fn.{Once, FnOnceReturnsAtMut}
 use Rattle.std.specs.Option.{option_copied, option_map_or}
 use Rattle.std.proofs.Math.Bool.{or-true}
+use Rattle.std.proofs.lemmas.Map.{length-set_value}
 use Rattle.std.proofs.lemmas.Bool.{not-true, not-false}
 use Rattle.std.proofs.lemmas.List.Folds.{list_any-append}
 use Rattle.std.proofs.lemmas.List.{take_all, drop_all, length-append}
@@ -15,6 +17,7 @@ use Rattle.sr_frame.specs.declared.fields.Mac.{Mac}
 use Rattle.sr_slots.specs.declared.places.Slot.{Slot}
 use Rattle.sr_frame.specs.Addresses.{mac_eq}
 use Rattle.sr_slots.specs.Places.{entry_at, held_at, entries_of, held_of, slot_of, IsLast, KeepsHeld, KeepsAllHeld}
+use Rattle.sr_slots.specs.Effects.{HoldsPlace, PutsLast, ChangesPlace}
 use Rattle.sr_frame.specs.AddressLemmas.{mac_same, mac_refl}
 use Rattle.sr_slots.specs.EntryLemmas.{one_if, head_differs}
 
@@ -288,13 +291,6 @@ module _ {V : Type 0} where
   pub added_held : (m : Mac) (s : Slot V) (es new : List (Mac × Slot V)) → new ≡ es ++ (m, s) ∷ [] → held_of new ≡ held_of es ++ held_at m s.held
   added_held m s es new is = ap held_of is ∙ held-append es ((m, s) ∷ []) ∙ ap (λ l. held_of es ++ l) (append-nil (held_at m s.held))
 
-  -- a place of the address is held now, and was held before or not; nothing else changed
-  pub record IsHeld (m : Mac) (was_held : Bool) (es new : List (Mac × Slot V)) : Type 0 where
-    pub entries : entries_of new ≡ entries_of es
-    pub own : list_any (mac_eq m) (held_of new) ≡ true
-    pub len : length (held_of new) ≡ length (held_of es) + one_if (not was_held)
-    pub others : KeepsHeld (held_of es) (held_of new) m
-
   -- `insert` at an address that has a place writes it
   insert-there : (m : Mac) (s w : Slot V) (es : List (Mac × Slot V)) → lookup (mac_eq m) es ≡ Some s → insert_entry mac_eq es m w ≡ set_value (mac_eq m) es w
   insert-there m s w [] h = cc
@@ -312,34 +308,30 @@ module _ {V : Type 0} where
       let d = head_differs (mac_eq m e.0) e.1 (lookup (mac_eq m) es) h in
       ap (λ b. cond b ((e.0, w) ∷ es) (e ∷ insert_entry mac_eq es m w)) d.0 ∙ ap (λ l. e ∷ l) (insert-absent m w es d.1)
 
-  pub held_there : (m : Mac) (s : Slot V) (es new : List (Mac × Slot V)) → lookup (mac_eq m) es ≡ Some s → new ≡ insert_entry mac_eq es m (slot_of s.value true) → IsHeld m s.held es new
-  held_there m s es new there is =
+  pub held_there : (m : Mac) (s : Slot V) (es new : List (Mac × Slot V)) → IsDistinct mac_eq (keys_of es) → lookup (mac_eq m) es ≡ Some s
+      → new ≡ insert_entry mac_eq es m (slot_of s.value true) → HoldsPlace m (not s.held) es new
+  held_there m s es new unique there is =
       let w = slot_of s.value true in
       let set : new ≡ set_value (mac_eq m) es w = is ∙ insert-there m s w es there in
       record {
         entries = ap entries_of set ∙ entries-set_same m s.value true es (ap value_in there);
-        own = ap (λ l. list_any (mac_eq m) (held_of l)) set ∙ held-set_own m w es (ap is_some there) refl;
+        held = ap (λ l. list_any (mac_eq m) (held_of l)) set ∙ held-set_own m w es (ap is_some there) refl;
         len = ap (λ l. length (held_of l)) set ∙ one_more s.held _ _ (length-held-set m s w es there);
+        newly_is = sym (ap not (held_of_own m s es unique there));
         others = λ q other. ap (λ l. list_any (mac_eq q) (held_of l)) set ∙ held-set_others m w es q other;
       }
 
-  pub held_last : (m : Mac) (es new : List (Mac × Slot V)) → lookup (mac_eq m) es ≡ None → new ≡ insert_entry mac_eq es m (slot_of None true) → IsHeld m false es new
+  pub held_last : (m : Mac) (es new : List (Mac × Slot V)) → lookup (mac_eq m) es ≡ None → new ≡ insert_entry mac_eq es m (slot_of None true) → HoldsPlace m true es new
   held_last m es new absent is_new =
       let is : new ≡ es ++ (m, slot_of None true) ∷ [] = is_new ∙ insert-absent m (slot_of None true) es absent in
       let held : held_of new ≡ held_of es ++ m ∷ [] = added_held m (slot_of None true) es new is in
       record {
         entries = added_entries m (slot_of None true) es new is ∙ append-nil (entries_of es);
-        own = ap (list_any (mac_eq m)) held ∙ any_behind m (held_of es) (m ∷ []) (ap (λ b. b || false) (mac_refl m));
+        held = ap (list_any (mac_eq m)) held ∙ any_behind m (held_of es) (m ∷ []) (ap (λ b. b || false) (mac_refl m));
         len = ap length held ∙ length-append (held_of es) (m ∷ []);
+        newly_is = sym (ap not (held_absent m es absent));
         others = λ q other. ap (list_any (mac_eq q)) held ∙ any_held q m true (held_of es) [] other ∙ ap (list_any (mac_eq q)) (append-nil (held_of es));
       }
-
-  -- the address has this value, which stands last, and its place was held before or not; nothing else changed
-  pub record IsPutLast (m : Mac) (w : V) (was_held : Bool) (es new : List (Mac × Slot V)) : Type 0 where
-    pub entries : entries_of new ≡ entries_of es ++ (m, w) ∷ []
-    pub len : length (held_of new) + one_if was_held ≡ length (held_of es)
-    pub others : KeepsHeld (held_of es) (held_of new) m
-    pub free : list_any (mac_eq m) (held_of new) ≡ false
 
   -- the places round the one of an address
   pub record Split (m : Mac) (s : Slot V) (es : List (Mac × Slot V)) : Type 0 where
@@ -436,34 +428,82 @@ module _ {V : Type 0} where
         ∙ ap (λ b. b || list_any (mac_eq m) (held_of r.back)) (held_absent m r.front r.before)
         ∙ held_absent m r.back (absent_after_split m s r.front r.back (subst (λ l. IsDistinct mac_eq (keys_of l)) r.is unique))
 
-    put_moved : IsDistinct mac_eq (keys_of es) → lookup (mac_eq m) (entries_of es) ≡ None → {w : V} → v ≡ slot_of (Some w) false → {was : Bool} → was ≡ s.held → IsPutLast m w was es new
+    put_moved : IsDistinct mac_eq (keys_of es) → lookup (mac_eq m) (entries_of es) ≡ None → {w : V} → v ≡ slot_of (Some w) false → {was : Bool} → was ≡ s.held → PutsLast m w was es new
     put_moved unique absent is_v was_is = record {
       entries = last_entries (sym (found_value m s es unique there) ∙ absent) ∙ ap (λ u. entries_of es ++ entry_at m u.value) is_v;
-      len = ap (λ b. length (held_of new) + one_if b) was_is ∙ length-last_held ∙ ap (λ u. length (held_of es) + one_if u.held) is_v ∙ omega arith;
+      held = ap (λ b. length (held_of new) + one_if b) was_is ∙ length-last_held ∙ ap (λ u. length (held_of es) + one_if u.held) is_v ∙ omega arith;
       others = last_held;
-      free = last_free unique (ap (λ u. u.held) is_v);
+      used = last_free unique (ap (λ u. u.held) is_v);
     }
 
   -- where its place has no value, and takes one and is moved to the end
   pub put_there : (m : Mac) {w : V} (s v : Slot V) {was : Bool} (es new written : List (Mac × Slot V)) {index n : ℕ}
       → IsDistinct mac_eq (keys_of es) → lookup (mac_eq m) (entries_of es) ≡ None → n ≡ length es → lookup (mac_eq m) es ≡ Some s → v ≡ slot_of (Some w) false → was ≡ s.held
       → written ≡ insert_entry mac_eq es m v → index ≡ position_or_len (mac_eq m) (keys_of es) → new ≡ move_index written index (n - 1)
-      → IsPutLast m w was es new
+      → PutsLast m w was es new
   put_there m s v es new written {n = n} unique absent n_is there is_v was_is written_is index_is is =
       put_moved m s es there v (n - 1) (ap (λ k. k - 1) n_is) new (is ∙ (λ j. move_index (written_is j) (index_is j) (n - 1))) unique absent is_v was_is
 
   -- and where it has no place, and takes one
   pub put_new : (m : Mac) {w : V} (v : Slot V) (es : List (Mac × Slot V)) {new : List (Mac × Slot V)} → lookup (mac_eq m) es ≡ None → v ≡ slot_of (Some w) false → new ≡ insert_entry mac_eq es m v
-      → IsPutLast m w false es new
+      → PutsLast m w false es new
   put_new m {w} v es {new} absent is_v is_new =
       let is : new ≡ es ++ (m, slot_of (Some w) false) ∷ [] = is_new ∙ insert-absent m v es absent ∙ ap (λ u. es ++ (m, u) ∷ []) is_v in
       let held : held_of new ≡ held_of es = added_held m (slot_of (Some w) false) es new is ∙ append-nil (held_of es) in
       record {
         entries = added_entries m (slot_of (Some w) false) es new is;
-        len = ap (λ l. length l + 0) held ∙ omega arith;
+        held = ap (λ l. length l + 0) held ∙ omega arith;
         others = λ q other. ap (list_any (mac_eq q)) held;
-        free = ap (list_any (mac_eq m)) held ∙ held_absent m es absent;
+        used = ap (list_any (mac_eq m)) held ∙ held_absent m es absent;
       }
+
+  -- what a change in the place of an address leaves
+  module _ {F R : Type 0} (g : Once F (MutBor V × Unit {0}) (R × (MutBor V × Unit {0}))) (f : F) (m : Mac) (s left : Slot V) (es new : List (Mac × Slot V))
+      (unique : IsDistinct mac_eq (keys_of es)) (there : lookup (mac_eq m) es ≡ Some s) (is_new : new ≡ set_value (mac_eq m) es left) where
+    found : lookup (mac_eq m) (entries_of es) ≡ s.value
+    found = found_value m s es unique there
+
+    -- the change had an answer
+    pub place_changed : (was is : V) (answer : R) (was_held : Bool) → s.value ≡ Some was → left ≡ slot_of (Some is) false → FnOnceReturnsAtMut g f was answer is → was_held ≡ s.held
+        → ChangesPlace g f m answer was_held es new
+    place_changed was is answer was_held is_was is_left called is_held =
+        let written : entries_of new ≡ set_value (mac_eq m) (entries_of es) is =
+        ap entries_of (is_new ∙ ap (set_value (mac_eq m) es) is_left) ∙ entries-set m is false es (ap (λ o. is_some (value_in o)) there ∙ ap is_some is_was) in
+        record {
+          changed = record { was = was; is = is; found = found ∙ is_was; called = called; written = written };
+          len = ap length written ∙ length-set_value (mac_eq m) (entries_of es) is;
+          held = omega (arith, ap (λ l. length (held_of l)) is_new, length-held-set m s left es there, ap (λ u. one_if u.held) is_left, ap one_if is_held);
+          others = λ q other. ap (λ l. list_any (mac_eq q) (held_of l)) is_new ∙ held-set_others m left es q other;
+          used = ap (λ l. list_any (mac_eq m) (held_of l)) is_new ∙ held-set_free m left es unique (ap (λ u. u.held) is_left) (ap is_some there);
+        }
+
+    -- it had one or none
+    module _ (r : Option (R × Bool)) (none : IfNone r ((s.value ≡ None) × (left ≡ s)))
+        (some : IfSome r (λ a. (was : V) × (is : V) × (s.value ≡ Some was) × (left ≡ slot_of (Some is) false) × FnOnceReturnsAtMut g f was a.0 is × (a.1 ≡ s.held))) where
+      pub change_found : is_some r ≡ is_some (lookup (mac_eq m) (entries_of es))
+      change_found = by r none some
+        where
+          by : (r : Option (R × Bool)) → IfNone r ((s.value ≡ None) × (left ≡ s))
+              → IfSome r (λ a. (was : V) × (is : V) × (s.value ≡ Some was) × (left ≡ slot_of (Some is) false) × FnOnceReturnsAtMut g f was a.0 is × (a.1 ≡ s.held))
+              → is_some r ≡ is_some (lookup (mac_eq m) (entries_of es))
+          by None n s = sym (ap is_some (found ∙ n.0))
+          by (Some a) n s = sym (ap is_some (found ∙ s.2))
+
+      pub change_none : IfNone r (new ≡ es)
+      change_none = by r none
+        where
+          by : (r : Option (R × Bool)) → IfNone r ((s.value ≡ None) × (left ≡ s)) → IfNone r (new ≡ es)
+          by None n = is_new ∙ ap (set_value (mac_eq m) es) n.1 ∙ set_value_same (mac_eq m) es s there
+          by (Some a) n = tt
+
+      pub change_some : IfSome r (λ a. ChangesPlace g f m a.0 a.1 es new)
+      change_some = by r some
+        where
+          by : (r : Option (R × Bool))
+              → IfSome r (λ a. (was : V) × (is : V) × (s.value ≡ Some was) × (left ≡ slot_of (Some is) false) × FnOnceReturnsAtMut g f was a.0 is × (a.1 ≡ s.held))
+              → IfSome r (λ a. ChangesPlace g f m a.0 a.1 es new)
+          by None s = tt
+          by (Some a) s = place_changed s.0 s.1 a.0 a.1 s.2 s.3 s.4 s.5
 
   -- `pop_held`: where the last place is held and has no value it goes
   pub record Pops (es new : List (Mac × Slot V)) (went : Bool) : Type 0 where

@@ -1,4 +1,5 @@
 pub mod Places
 pub mod Calls
+pub mod Effects
 pub mod EntryLemmas
 pub mod Keyed

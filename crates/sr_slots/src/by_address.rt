@@ -300,14 +300,22 @@ impl<V: Drop + Ranked + Copy> Slots<V> {
         ensures entries { IfOk result (λ own. own.entries ≡ self.now.entries) }
         ensures held { IfOk result (λ own. own.held ≡ []) }
     {
-        // The length says too that no two addresses are equal.
-        let values = self.len();
         let mut own = Slots::with_keys(alloc, *self.map.hasher());
-        own.reserve(values)?;
-        for (key, value) in self.iter() {
-            own.append(key, *value)?;
-        }
+        own.copy_from(self)?;
         own.release();
         Ok(own)
+    }
+
+    // Takes the entries of another table into an empty one.
+    fn copy_from(&mut self, other: &Slots<V>) -> Result<(), NoMemory>
+        requires { self.old.entries ≡ [] }
+        ensures { OnOk result (self.new.entries ≡ other.now.entries) }
+    {
+        // The length says too that no two addresses are equal.
+        self.reserve(other.len())?;
+        for (key, value) in other.iter() {
+            self.append(key, *value)?;
+        }
+        Ok(())
     }
 }

@@ -2,11 +2,13 @@
 ghost use Rattle.std.specs.Prelude.{◌≡◌, ◌+◌, ◌^◌, ◌<◌, ◌≤◌, ◌++◌, ◌∷◌, ◌||◌, ◌&&◌, [], None, Some, true, false, not, Bool, is_some, length, filter, nat_le, IsOk, OnOk, OnErr, IfOk, IfSome, IfNone, if◌then◌else◌};
 ghost use Rattle.std.specs.List.{list_any};
 ghost use Rattle.std.specs.Map.{lookup};
+ghost use Rattle.std.specs.Fn.{FnOnceReturnsAtMut};
 ghost use Rattle.std.specs.Option.{option_copied, option_map};
 ghost use Rattle.indexmap.specs.IndexMap.{values};
 ghost use Rattle.sr_frame.specs.Addresses.{mac_eq};
 ghost use Rattle.sr_slots.specs.Places.{entries_of, held_of, slot_of, IsLast, StandsAt, KeepsHeld};
-ghost use Rattle.sr_slots.specs.Calls.{ChangesAt, least_rank, passing};
+ghost use Rattle.sr_slots.specs.Effects.{HoldsPlace, PutsLast, ChangesPlace};
+ghost use Rattle.sr_slots.specs.Calls.{least_rank, passing};
 
 use crate::keys::Keys;
 use crate::ranked::Ranked;
@@ -114,6 +116,23 @@ pub fn value_at<V: Drop + Ranked>(
     Some(value)
 }
 
+// Changes the value of a place, which is not held any more. With the answer it says whether it was.
+fn change_in<V: Drop + Ranked, R, F: FnOnce(&mut V) -> R>(
+    slot: &mut Slot<V>,
+    change: F,
+) -> Option<(R, bool)>
+    requires { F.IsAlwaysCallable change }
+    ensures none { IfNone result ((slot.old.value ≡ None) × (slot.new ≡ slot.old)) }
+    ensures some { IfSome result (λ r. (was is : V) × (slot.old.value ≡ Some was)
+        × (slot.new ≡ slot_of (Some is) false) × FnOnceReturnsAtMut F.FnOnce change was r.0 is
+        × (r.1 ≡ slot.old.held)) }
+{
+    let answer = slot.value.change(change)?;
+    let was_held = slot.held;
+    slot.held = false;
+    Some((answer, was_held))
+}
+
 /// Changes the value at an address in its place, which is looked for at an index first. With the answer it says whether a held place was used up.
 pub fn change_at<V: Drop + Ranked, R, F: FnOnce(&mut V) -> R>(
     map: &mut IndexMap<Mac, Slot<V>, Keys>,
@@ -123,24 +142,14 @@ pub fn change_at<V: Drop + Ranked, R, F: FnOnce(&mut V) -> R>(
 ) -> Option<(R, bool)>
     requires { F.IsAlwaysCallable change }
     ensures found { is_some result ≡ is_some (lookup (mac_eq key) (entries_of map.old.entries)) }
-    ensures changed { IfSome result (λ r. ChangesAt F.FnOnce change key (entries_of map.old.entries)
-        r.0 (entries_of map.new.entries)) }
-    ensures len { IfSome result (λ r.
-        length (entries_of map.new.entries) ≡ length (entries_of map.old.entries)) }
-    ensures held { IfSome result (λ r. length (held_of map.new.entries) + (if r.1 then 1 else 0)
-        ≡ length (held_of map.old.entries)) }
-    ensures others { IfSome result (λ r.
-        KeepsHeld (held_of map.old.entries) (held_of map.new.entries) key) }
-    ensures used { IfSome result (λ r. list_any (mac_eq key) (held_of map.new.entries) ≡ false) }
+    ensures some { IfSome result (λ r.
+        ChangesPlace F.FnOnce change key r.0 r.1 map.old.entries map.new.entries) }
     ensures none { IfNone result (map.new.entries ≡ map.old.entries) }
 {
     let _places = map.len();
     let index = index_of(map, first, key)?;
     let slot = map.get_index_mut(index)?;
-    let answer = slot.value.change(change)?;
-    let was_held = slot.held;
-    slot.held = false;
-    Some((answer, was_held))
+    change_in(slot, change)
 }
 
 // Puts a value into a place, and answers whether that was held.
@@ -174,13 +183,8 @@ pub fn put_last<V: Drop + Ranked>(
     value: V,
 ) -> Result<bool, NoMemory>
     requires { lookup (mac_eq key) (entries_of map.old.entries) ≡ None }
-    ensures entries { OnOk result (entries_of map.new.entries
-        ≡ entries_of map.old.entries ++ (key, value) ∷ []) }
-    ensures held { IfOk result (λ was_held. length (held_of map.new.entries)
-        + (if was_held then 1 else 0) ≡ length (held_of map.old.entries)) }
-    ensures others { OnOk result
-        (KeepsHeld (held_of map.old.entries) (held_of map.new.entries) key) }
-    ensures used { OnOk result (list_any (mac_eq key) (held_of map.new.entries) ≡ false) }
+    ensures put { IfOk result (λ was_held.
+        PutsLast key value was_held map.old.entries map.new.entries) }
     ensures reserved { list_any (mac_eq key) (held_of map.old.entries) ≡ true → IsOk result }
     ensures fits { length (entries_of map.old.entries) < 2 ^ 63 }
     ensures err { OnErr result (map.new.entries ≡ map.old.entries) }
@@ -202,22 +206,15 @@ pub fn put_last<V: Drop + Ranked>(
     }
 }
 
-/// Holds a place for an address. Answers whether it was not held before.
+/// HoldsPlace a place for an address. Answers whether it was not held before.
 pub fn hold<V: Drop + Ranked>(
     map: &mut IndexMap<Mac, Slot<V>, Keys>,
     alloc: Global,
     key: Mac,
 ) -> Result<bool, NoMemory>
-    ensures entries { entries_of map.new.entries ≡ entries_of map.old.entries }
-    ensures held { OnOk result (list_any (mac_eq key) (held_of map.new.entries) ≡ true) }
-    ensures len { IfOk result (λ newly. length (held_of map.new.entries)
-        ≡ length (held_of map.old.entries) + (if newly then 1 else 0)) }
+    ensures held { IfOk result (λ newly. HoldsPlace key newly map.old.entries map.new.entries) }
     ensures again { list_any (mac_eq key) (held_of map.old.entries) ≡ true → IsOk result }
-    ensures newly { IfOk result (λ newly.
-        newly ≡ not (list_any (mac_eq key) (held_of map.old.entries))) }
     ensures fits { length (held_of map.old.entries) < 2 ^ 63 }
-    ensures others { OnOk result
-        (KeepsHeld (held_of map.old.entries) (held_of map.new.entries) key) }
     ensures err { OnErr result (map.new.entries ≡ map.old.entries) }
 {
     // The length is the bound of the places.

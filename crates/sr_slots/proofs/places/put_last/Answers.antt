@@ -3,7 +3,7 @@ use Rattle.std.specs.Map.{lookup}
 use Rattle.indexmap.specs.declared.map.entry.Entry.TheVariants.{Occupied}
 use Rattle.indexmap.specs.Entry.{entry_value, entry_index, entry_map_ref, map_with_value}
 use Rattle.sr_frame.specs.Addresses.{mac_eq}
-use Rattle.sr_slots.proofs.PlaceLemmas.{IsPutLast, put_there, put_new, held_absent, entries_le}
+use Rattle.sr_slots.proofs.PlaceLemmas.{put_there, put_new, held_absent, entries_le}
 use Rattle.sr_slots.proofs.places.put_last.Goals as goal
 
 pub returns-in_default-clause-reserved : goal.returns-in_default-clause-reserved
@@ -27,20 +27,19 @@ returns-in_err-filled-in-Vacant-clause-fits g c = omega (arith, entries_le c.arg
 pub returns-in_err-filled-in-Vacant-clause-reserved : goal.returns-in_err-filled-in-Vacant-clause-reserved
 unfolding entry_value
 returns-in_err-filled-in-Vacant-clause-reserved g c held =
-    let absent : lookup (mac_eq c.args.key) c.args.map.now.entries ≡ None = sym c.in-Ok.ensures.value ∙ ap entry_value c.in-Vacant.is in
-    let bad : true ≡ false = sym held ∙ held_absent c.args.key c.args.map.now.entries absent in
+    let bad : true ≡ false = sym held ∙ held_absent c.args.key c.args.map.now.entries (sym c.in-Ok.ensures.value ∙ ap entry_value c.in-Vacant.is) in
     cc
 
-pub returns-in-Occupied-clause-entries : goal.returns-in-Occupied-clause-entries
-returns-in-Occupied-clause-entries g c =
+pub returns-in-Occupied-clause-put : goal.returns-in-Occupied-clause-put
+returns-in-Occupied-clause-put g c =
     let is = c.in-Occupied.is in
     let slot = c.fill-was_held.new.slot in
-    let put : IsPutLast c.args.key c.args.value c.fill-was_held.result c.args.map.now.entries c.move_index.new.self.0.entries = put_there
+    put_there
     c.args.key
     c.get_mut.result.now
     slot
     c.args.map.now.entries
-    c.move_index.new.self.0.entries
+    _
     (map_with_value (Occupied c.in-Occupied.entry) slot).entries
     c.len-places.ensures.unique
     c.requires
@@ -50,127 +49,16 @@ returns-in-Occupied-clause-entries g c =
     c.fill-was_held.ensures.held
     (ap (λ e. (map_with_value e slot).entries) (sym is) ∙ c.in-Ok.ensures.update.1 slot)
     ((c.get_mut.ensures.written slot).7 ∙ ap entry_index (sym is) ∙ c.in-Ok.ensures.index)
-    c.move_index.ensures.entries in
-    let name = sym c.in-Ok.ensures.same_map ∙ ap (λ e. (entry_map_ref e).ghost_name) is in
-    grind (arith, put.entries, name)
+    (grind (arith, c.move_index.ensures.entries, sym c.in-Ok.ensures.same_map ∙ ap (λ e. (entry_map_ref e).ghost_name) is))
 
-pub returns-in-Occupied-clause-held : goal.returns-in-Occupied-clause-held
-returns-in-Occupied-clause-held g c =
-    let is = c.in-Occupied.is in
-    let slot = c.fill-was_held.new.slot in
-    let put : IsPutLast c.args.key c.args.value c.fill-was_held.result c.args.map.now.entries c.move_index.new.self.0.entries = put_there
-    c.args.key
-    c.get_mut.result.now
-    slot
-    c.args.map.now.entries
-    c.move_index.new.self.0.entries
-    (map_with_value (Occupied c.in-Occupied.entry) slot).entries
-    c.len-places.ensures.unique
-    c.requires
-    c.len-places.ensures.len
-    (sym c.in-Ok.ensures.value ∙ ap entry_value is ∙ c.get_mut.ensures.value)
-    c.fill-was_held.ensures.slot
-    c.fill-was_held.ensures.held
-    (ap (λ e. (map_with_value e slot).entries) (sym is) ∙ c.in-Ok.ensures.update.1 slot)
-    ((c.get_mut.ensures.written slot).7 ∙ ap entry_index (sym is) ∙ c.in-Ok.ensures.index)
-    c.move_index.ensures.entries in
-    let name = sym c.in-Ok.ensures.same_map ∙ ap (λ e. (entry_map_ref e).ghost_name) is in
-    grind (arith, put.len, name)
-
-pub returns-in-Occupied-clause-others : goal.returns-in-Occupied-clause-others
-returns-in-Occupied-clause-others g c other apart =
-    let is = c.in-Occupied.is in
-    let slot = c.fill-was_held.new.slot in
-    let put : IsPutLast c.args.key c.args.value c.fill-was_held.result c.args.map.now.entries c.move_index.new.self.0.entries = put_there
-    c.args.key
-    c.get_mut.result.now
-    slot
-    c.args.map.now.entries
-    c.move_index.new.self.0.entries
-    (map_with_value (Occupied c.in-Occupied.entry) slot).entries
-    c.len-places.ensures.unique
-    c.requires
-    c.len-places.ensures.len
-    (sym c.in-Ok.ensures.value ∙ ap entry_value is ∙ c.get_mut.ensures.value)
-    c.fill-was_held.ensures.slot
-    c.fill-was_held.ensures.held
-    (ap (λ e. (map_with_value e slot).entries) (sym is) ∙ c.in-Ok.ensures.update.1 slot)
-    ((c.get_mut.ensures.written slot).7 ∙ ap entry_index (sym is) ∙ c.in-Ok.ensures.index)
-    c.move_index.ensures.entries in
-    let name = sym c.in-Ok.ensures.same_map ∙ ap (λ e. (entry_map_ref e).ghost_name) is in
-    grind (arith, put.others other apart, name)
-
-pub returns-in-Occupied-clause-used : goal.returns-in-Occupied-clause-used
-returns-in-Occupied-clause-used g c =
-    let is = c.in-Occupied.is in
-    let slot = c.fill-was_held.new.slot in
-    let put : IsPutLast c.args.key c.args.value c.fill-was_held.result c.args.map.now.entries c.move_index.new.self.0.entries = put_there
-    c.args.key
-    c.get_mut.result.now
-    slot
-    c.args.map.now.entries
-    c.move_index.new.self.0.entries
-    (map_with_value (Occupied c.in-Occupied.entry) slot).entries
-    c.len-places.ensures.unique
-    c.requires
-    c.len-places.ensures.len
-    (sym c.in-Ok.ensures.value ∙ ap entry_value is ∙ c.get_mut.ensures.value)
-    c.fill-was_held.ensures.slot
-    c.fill-was_held.ensures.held
-    (ap (λ e. (map_with_value e slot).entries) (sym is) ∙ c.in-Ok.ensures.update.1 slot)
-    ((c.get_mut.ensures.written slot).7 ∙ ap entry_index (sym is) ∙ c.in-Ok.ensures.index)
-    c.move_index.ensures.entries in
-    let name = sym c.in-Ok.ensures.same_map ∙ ap (λ e. (entry_map_ref e).ghost_name) is in
-    grind (arith, put.free, name)
-
-pub returns-in_ok-filled-in-Vacant-clause-entries : goal.returns-in_ok-filled-in-Vacant-clause-entries
+pub returns-in_ok-filled-in-Vacant-clause-put : goal.returns-in_ok-filled-in-Vacant-clause-put
 unfolding entry_value
-returns-in_ok-filled-in-Vacant-clause-entries g c =
+returns-in_ok-filled-in-Vacant-clause-put g c =
     let slot = c.in_ok-filled-in-Vacant.field-0 in
-    let put : IsPutLast c.args.key c.args.value false c.args.map.now.entries (map_with_value c.in-Ok.entry slot).entries = put_new
+    put_new
     c.args.key
     slot
     c.args.map.now.entries
     (sym c.in-Ok.ensures.value ∙ ap entry_value c.in-Vacant.is)
     c.in_ok-filled-in-Vacant.ensures
-    (c.in-Ok.ensures.update.1 slot) in
-    grind (arith, put.entries, c.in-Ok.ensures.same_map, c.in-Vacant.is)
-
-pub returns-in_ok-filled-in-Vacant-clause-held : goal.returns-in_ok-filled-in-Vacant-clause-held
-unfolding entry_value
-returns-in_ok-filled-in-Vacant-clause-held g c =
-    let slot = c.in_ok-filled-in-Vacant.field-0 in
-    let put : IsPutLast c.args.key c.args.value false c.args.map.now.entries (map_with_value c.in-Ok.entry slot).entries = put_new
-    c.args.key
-    slot
-    c.args.map.now.entries
-    (sym c.in-Ok.ensures.value ∙ ap entry_value c.in-Vacant.is)
-    c.in_ok-filled-in-Vacant.ensures
-    (c.in-Ok.ensures.update.1 slot) in
-    grind (arith, put.len, c.in-Ok.ensures.same_map, c.in-Vacant.is)
-
-pub returns-in_ok-filled-in-Vacant-clause-others : goal.returns-in_ok-filled-in-Vacant-clause-others
-unfolding entry_value
-returns-in_ok-filled-in-Vacant-clause-others g c other apart =
-    let slot = c.in_ok-filled-in-Vacant.field-0 in
-    let put : IsPutLast c.args.key c.args.value false c.args.map.now.entries (map_with_value c.in-Ok.entry slot).entries = put_new
-    c.args.key
-    slot
-    c.args.map.now.entries
-    (sym c.in-Ok.ensures.value ∙ ap entry_value c.in-Vacant.is)
-    c.in_ok-filled-in-Vacant.ensures
-    (c.in-Ok.ensures.update.1 slot) in
-    grind (arith, put.others other apart, c.in-Ok.ensures.same_map, c.in-Vacant.is)
-
-pub returns-in_ok-filled-in-Vacant-clause-used : goal.returns-in_ok-filled-in-Vacant-clause-used
-unfolding entry_value
-returns-in_ok-filled-in-Vacant-clause-used g c =
-    let slot = c.in_ok-filled-in-Vacant.field-0 in
-    let put : IsPutLast c.args.key c.args.value false c.args.map.now.entries (map_with_value c.in-Ok.entry slot).entries = put_new
-    c.args.key
-    slot
-    c.args.map.now.entries
-    (sym c.in-Ok.ensures.value ∙ ap entry_value c.in-Vacant.is)
-    c.in_ok-filled-in-Vacant.ensures
-    (c.in-Ok.ensures.update.1 slot) in
-    grind (arith, put.free, c.in-Ok.ensures.same_map, c.in-Vacant.is)
+    (grind (arith, c.in-Ok.ensures.update.1 slot, c.in-Ok.ensures.same_map, c.in-Vacant.is))
