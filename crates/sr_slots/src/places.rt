@@ -117,6 +117,7 @@ pub fn value_at<V: Drop + Ranked>(
 }
 
 // Changes the value of a place, which is not held any more. With the answer it says whether it was.
+#[inline(always)]
 fn change_in<V: Drop + Ranked, R, F: FnOnce(&mut V) -> R>(
     slot: &mut Slot<V>,
     change: F,
