@@ -207,7 +207,7 @@ pub fn put_last<V: Drop + Ranked>(
     }
 }
 
-/// HoldsPlace a place for an address. Answers whether it was not held before.
+/// Holds a place for an address. Answers whether it was not held before.
 pub fn hold<V: Drop + Ranked>(
     map: &mut IndexMap<Mac, Slot<V>, Keys>,
     alloc: Global,
