@@ -29,11 +29,7 @@ fn list_of(alloc: Global, count: usize) -> Result<Vec<u8>, AllocError> {
 }
 
 /// A new node over this role, ready for a script. An error where memory was refused.
-fn session_of<P: Role>(
-    alloc: Global,
-    setup: &Setup,
-    role: P,
-) -> Result<NodeSession<P>, NoMemory>
+fn session_of<P: Role>(alloc: Global, setup: &Setup, role: P) -> Result<NodeSession<P>, NoMemory>
     requires { P.meaning role ≡ role_of (kind_of setup.now.role) setup.now.mac }
     ensures { IfOk result (λ s. at_work s.role (node_state (P.meaning s.node.role) s.node.core)
         ≡ start_of setup.now) }
