@@ -15,7 +15,7 @@ use std::alloc::{AllocError, Global};
 use std::fmt;
 
 /// Why the command line is refused.
-#[derive(Debug, Drop)]
+#[derive(Drop)]
 pub enum Refused {
     /// For what the parser says: a call for help and want of memory are among it.
     Parser(Error),
@@ -82,55 +82,61 @@ fn net_option<'a>(alloc: Global) -> Arg<'a> {
         .help("The number of the PRP network at the interlink, of role prp")
 }
 
+/// A command with one option more, if it was made. A command is large: what holds one where memory may be refused is this and `with`.
+pub fn with_arg<'a>(
+    command: Result<Command<'a>, AllocError>,
+    arg: Arg<'a>,
+) -> Result<Command<'a>, AllocError> {
+    command?.arg(arg)
+}
+
+/// A command with one subcommand more, if both were made.
+fn with<'a>(
+    command: Result<Command<'a>, AllocError>,
+    subcommand: Result<Command<'a>, AllocError>,
+) -> Result<Command<'a>, AllocError> {
+    let subcommand = subcommand?;
+    command?.subcommand(subcommand)
+}
+
 /// A subcommand that runs a script on a node.
 fn node_command<'a>(
     alloc: Global,
     name: &'a str,
     about: &'a str,
 ) -> Result<Command<'a>, AllocError> {
-    Command::new(alloc, name)
-        .about(about)
-        .arg(role_option(alloc))?
-        .arg(mac_option(alloc))?
-        .arg(lan_option(alloc))?
-        .arg(net_option(alloc))
+    let command = Ok(Command::new(alloc, name).about(about));
+    let command = with_arg(command, role_option(alloc));
+    let command = with_arg(command, mac_option(alloc));
+    let command = with_arg(command, lan_option(alloc));
+    with_arg(command, net_option(alloc))
 }
 
 /// The program without its subcommands.
 fn program<'a>(alloc: Global) -> Result<Command<'a>, AllocError> {
-    let program = Command::new(alloc, "seamless").bin_name("seamless")?;
-    Ok(
-        program
-            .about("Runs a script of events on a node of a redundant network")
-            .subcommand_required(true),
-    )
-}
-
-/// A command with one subcommand more, if that was made. A command is large: what holds two of them at once is this alone.
-fn with<'a>(
-    command: Command<'a>,
-    subcommand: Result<Command<'a>, AllocError>,
-) -> Result<Command<'a>, AllocError> {
-    command.subcommand(subcommand?)
+    Command::new(alloc, "seamless")
+        .about("Runs a script of events on a node of a redundant network")
+        .subcommand_required(true)
+        .bin_name("seamless")
 }
 
 /// What the parser knows.
 fn command<'a>(alloc: Global) -> Result<Command<'a>, AllocError> {
     let replay = node_command(alloc, "replay", "Prints the frames that the node hands out");
-    let command = with(program(alloc)?, replay)?;
+    let command = with(program(alloc), replay);
     let status = node_command(
         alloc,
         "status",
         "Prints what the node knows of other nodes at the end, and its alarms",
     );
-    let command = with(command, status)?;
-    let command = with(command, script_command(alloc))?;
+    let command = with(command, status);
+    let command = with(command, script_command(alloc));
     let ring = plant_command(
         alloc,
         "ring",
         "Runs a script on a ring of doubly attached nodes",
     );
-    let command = with(command, ring)?;
+    let command = with(command, ring);
     let lan = plant_command(
         alloc,
         "lan",
@@ -194,7 +200,7 @@ fn setup_of(node: &ArgMatches<'_>) -> Result<Setup, Refused> {
 }
 
 /// What is printed of a node that a script is run on.
-#[derive(Clone, Copy, Debug)]
+#[derive(Clone, Copy)]
 pub enum Report {
     /// The frames that it hands out.
     Frames,
@@ -203,7 +209,7 @@ pub enum Report {
 }
 
 /// What the program is to do.
-#[derive(Clone, Copy, Debug)]
+#[derive(Clone, Copy)]
 pub enum Task<'a> {
     /// Run a script on a node.
     Run(Report, Setup),
@@ -213,12 +219,8 @@ pub enum Task<'a> {
     Plant(PlantSetup),
 }
 
-/// What the words of the command line ask for.
-///
-/// # Errors
-/// `Mac` where the address alone is wrong, else `Parser`.
-pub fn task_of<'a>(alloc: Global, words: &'a [String]) -> Result<Task<'a>, Refused> {
-    let matches = command(alloc)?.try_get_matches_from(words)?;
+/// What the words that the parser let through ask for.
+fn task_in<'a>(matches: &ArgMatches<'a>) -> Result<Task<'a>, Refused> {
     if let Some(script) = matches.subcommand_matches("script") {
         return match script_task(script) {
             Ok(task) => Ok(Task::Script(task)),
@@ -238,4 +240,13 @@ pub fn task_of<'a>(alloc: Global, words: &'a [String]) -> Result<Task<'a>, Refus
         Some(status) => Ok(Task::Run(Report::Status, setup_of(status)?)),
         None => Err(Refused::Mac),
     }
+}
+
+/// What the words of the command line ask for.
+///
+/// # Errors
+/// `Mac` where the address alone is wrong, else `Parser`.
+pub fn task_of<'a>(alloc: Global, words: &'a [String]) -> Result<Task<'a>, Refused> {
+    let matches = command(alloc)?.try_get_matches_from(words)?;
+    task_in(&matches)
 }

@@ -6,7 +6,7 @@ use std::io::{self, Read};
 const LARGE: u64 = 10_000_000;
 
 /// Whether progress is told.
-#[derive(Clone, Copy, Debug, PartialEq, Eq)]
+#[derive(Clone, Copy, PartialEq, Eq)]
 pub enum Progress {
     /// Standard error is a terminal.
     Told,

@@ -1,12 +1,13 @@
 //! The words behind `seamless script`.
 
+use crate::command_line::with_arg;
 use clap::{Arg, ArgMatches, Command};
 use sr_capture_script::{Choice, Interfaces, Options, delays_of};
 use sr_pcapng::Wanted;
 use std::alloc::{AllocError, Global};
 
 /// What `seamless script` is to do: a path for each inlet that has a file, and how.
-#[derive(Clone, Copy, Debug)]
+#[derive(Clone, Copy)]
 pub struct ScriptTask<'a> {
     pub a: Option<&'a str>,
     pub b: Option<&'a str>,
@@ -22,45 +23,39 @@ fn option<'a>(alloc: Global, name: &'a str, help: &'a str) -> Arg<'a> {
         .help(help)
 }
 
+/// A command with one such option more, if it was made.
+fn with_option<'a>(
+    alloc: Global,
+    command: Result<Command<'a>, AllocError>,
+    name: &'a str,
+    help: &'a str,
+) -> Result<Command<'a>, AllocError> {
+    with_arg(command, option(alloc, name, help))
+}
+
 /// What the parser knows of the subcommand.
 pub fn script_command<'a>(alloc: Global) -> Result<Command<'a>, AllocError> {
-    Command::new(alloc, "script")
-        .about("Prints a script of the packets of up to three captures")
-        .arg(option(
-            alloc,
-            "a",
-            "The capture of LAN A: FILE, or FILE:INTERFACE of a pcapng file",
-        ))?
-        .arg(option(alloc, "b", "The capture of LAN B"))?
-        .arg(option(alloc, "c", "The capture of the interlink"))?
-        .arg(option(
-            alloc,
-            "shift-a",
-            "Milliseconds that are added to the times of A",
-        ))?
-        .arg(option(
-            alloc,
-            "shift-b",
-            "Milliseconds that are added to the times of B",
-        ))?
-        .arg(option(
-            alloc,
-            "shift-c",
-            "Milliseconds that are added to the times of C",
-        ))?
-        .arg(option(
-            alloc,
-            "fcs",
-            "The octets of check sequence, where a file does not tell",
-        )
-        .value_parser(["4"].as_slice()))?
-        .arg(option(alloc, "from", "The first time of a line, in milliseconds"))?
-        .arg(option(alloc, "to", "The last time of a line, in milliseconds"))?
-        .arg(option(
-            alloc,
-            "tick",
-            "Adds ticks at most so many milliseconds apart",
-        ))
+    let about = "Prints a script of the packets of up to three captures";
+    let command = Ok(Command::new(alloc, "script").about(about));
+    let a = "The capture of LAN A: FILE, or FILE:INTERFACE of a pcapng file";
+    let command = with_option(alloc, command, "a", a);
+    let command = with_option(alloc, command, "b", "The capture of LAN B");
+    let command = with_option(alloc, command, "c", "The capture of the interlink");
+    let shift = "Milliseconds that are added to the times of A";
+    let command = with_option(alloc, command, "shift-a", shift);
+    let shift = "Milliseconds that are added to the times of B";
+    let command = with_option(alloc, command, "shift-b", shift);
+    let shift = "Milliseconds that are added to the times of C";
+    let command = with_option(alloc, command, "shift-c", shift);
+    let fcs = "The octets of check sequence, where a file does not tell";
+    let fcs = option(alloc, "fcs", fcs).value_parser(["4"].as_slice());
+    let command = with_arg(command, fcs);
+    let from = "The first time of a line, in milliseconds";
+    let command = with_option(alloc, command, "from", from);
+    let to = "The last time of a line, in milliseconds";
+    let command = with_option(alloc, command, "to", to);
+    let tick = "Adds ticks at most so many milliseconds apart";
+    with_option(alloc, command, "tick", tick)
 }
 
 /// A file, and which of its interfaces is wanted.

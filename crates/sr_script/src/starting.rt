@@ -17,7 +17,7 @@ use sr_forwarding::{Danh, Danp, Role};
 use sr_frame::NoMemory;
 use sr_node::NodeOf;
 use sr_redbox::{HsrBox, HsrRouting, PrpBox, SanBox};
-use sr_session::{Fault, MAX_LINE, NOT_BEGUN, run_session};
+use sr_session::{Fault, MAX_LINE, NOT_BEGUN, Session, run_session};
 use std::alloc::{AllocError, Global};
 use std::io::{BufRead, Write};
 
@@ -34,8 +34,8 @@ fn session_of<P: Role>(alloc: Global, setup: &Setup, role: P) -> Result<NodeSess
     ensures { IfOk result (λ s. at_work s.role (node_state (P.meaning s.node.role) s.node.core)
         ≡ start_of setup.now) }
 {
-    let node = NodeOf::with_keys(alloc, role, setup.keys)?;
     let arriving = list_of(alloc, MAX_LINE / 2)?;
+    let node = NodeOf::with_keys(alloc, role, setup.keys)?;
     Ok(NodeSession {
         alloc,
         role: setup.role,
@@ -44,6 +44,25 @@ fn session_of<P: Role>(alloc: Global, setup: &Setup, role: P) -> Result<NodeSess
         arriving,
         frame: Vec::new(alloc),
     })
+}
+
+/// Has a session obey the script, and lets it go. It is over any session, so that its proof doesn't go through what a node lets go.
+fn run_owned<S: Session + Drop, R: BufRead, W: Write>(
+    alloc: Global,
+    mut session: S,
+    reader: &mut R,
+    writer: &mut W,
+) -> Result<(), Fault>
+    ensures done { OnOk result (IfSome (R.remaining reader.old) (λ input. IsAnswered S.dialogue
+        (S.state session) (lines_of input) (W.contents writer.old) (W.contents writer.new))) }
+    ensures ended { IfErr result (λ fault.
+        IsNotBegun fault (R.remaining reader.old) (R.remaining reader.new) (W.contents writer.old)
+        (W.contents writer.new)
+        ⊎ IfSome (R.remaining reader.old) (λ input.
+        EndsAt S.dialogue (S.state session) (lines_of input) fault (R.remaining reader.new)
+        (W.contents writer.old) (W.contents writer.new))) }
+{
+    run_session(alloc, &mut session, reader, writer)
 }
 
 /// Has a new node over this role obey the script. It is compiled for each role, so that no frame asks which role it is.
@@ -66,12 +85,12 @@ fn run_over<P: Role, R: BufRead, W: Write>(
         EndsAt (dialogue_of report) (start_of setup.now) (lines_of input) fault
         (R.remaining reader.new) (W.contents writer.old) (W.contents writer.new))) }
 {
-    let Ok(mut session) = session_of(alloc, setup, role) else {
-        return Err(NOT_BEGUN);
-    };
-    match report {
-        Report::Frames => run_session(alloc, &mut session, reader, writer),
-        Report::Status => run_session(alloc, &mut StatusSession(session), reader, writer),
+    match session_of(alloc, setup, role) {
+        Ok(session) => match report {
+            Report::Frames => run_owned(alloc, session, reader, writer),
+            Report::Status => run_owned(alloc, StatusSession(session), reader, writer),
+        },
+        Err(NoMemory) => Err(NOT_BEGUN),
     }
 }
 
