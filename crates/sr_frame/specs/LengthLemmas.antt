@@ -27,10 +27,11 @@ use Rattle.std.proofs.Common.{
   eqb,
   ◌&&◌,
 }
+use Rattle.std.specs.Prelude.{replicate, max}
 use Rattle.std.specs.Int.{w16, to_be_bytes}
 use Rattle.std.proofs.lemmas.Bool.{cases_Bool, and_parts, eqb-true, false_from_ne_true}
-use Rattle.std.proofs.lemmas.List.{length-append, get_or_append_left, get_or-append_right}
-use Rattle.sr_frame.specs.Frame.{Fields, IsLegal, HasFrameLength, least_len, tag_of, head_of, spelling}
+use Rattle.std.proofs.lemmas.List.{length-append, length-replicate, get_or_append_left, get_or-append_right}
+use Rattle.sr_frame.specs.Frame.{Fields, IsLegal, HasFrameLength, least_len, tag_of, head_of, spelling, padded}
 use Rattle.sr_frame.specs.FrameLemmas.{regrouped}
 
 -- the octets before the payload
@@ -109,3 +110,12 @@ IsLegal-shorter f payload legal short = record {
   untagged = legal.untagged;
   size = omega (arith, legal.size, length-spelling f, length-spelling (with_payload f payload));
 }
+
+-- how long a frame is once it is padded
+pub length-padded : (f : Fields) (n : ℕ) → IsLegal f → n ≡ max (length f.payload) 46 →
+    least_len (spelling f) + n ≡ length (padded (spelling f))
+length-padded f n legal n_is =
+    let s = spelling f in
+    let zeros : List ℕ = replicate (least_len s + 46 - length s) 0 in
+    let zeros_len = length-replicate {A = ℕ} (least_len s + 46 - length s) 0 in
+    omega (arith, n_is, zeros_len, length-append s zeros, length-spelling f, least_len-spelling f legal)

@@ -2,10 +2,9 @@
 use Rattle.std.proofs.Common.{◌≡◌, ℕ, ◌+◌, ◌-◌, ◌<◌, ◌≤◌, ◌^◌, List, ◌++◌, length, take, drop, sym, ap, refl, ◌∙◌, arith}
 use Rattle.std.specs.Prelude.{replicate, max}
 use Rattle.std.proofs.lemmas.List.{append_assoc, length-append, take-append-drop, length-take}
-use Rattle.std.proofs.lemmas.List.{length-replicate}
 use Rattle.sr_frame.specs.Frame.{Fields, IsLegal, least_len, spelling, padded}
 use Rattle.sr_frame.specs.FrameLemmas.{same_parts}
-use Rattle.sr_frame.specs.LengthLemmas.{header_of, with_payload, least_len_more, least_len_bounds, least_len-spelling, length-spelling, HasFrameLength-spelling, IsLegal-shorter}
+use Rattle.sr_frame.specs.LengthLemmas.{header_of, with_payload, least_len_more, least_len_bounds, least_len-spelling, length-spelling, HasFrameLength-spelling, IsLegal-shorter, length-padded}
 use Rattle.sr_sequence.specs.declared.Seq.{Seq}
 use Rattle.sr_prp_trailer.specs.declared.trailer.Trailer.{Trailer}
 use Rattle.sr_prp_trailer.specs.declared.trailer.Lan.{Lan}
@@ -65,13 +64,6 @@ IsTrailed-padded f octets t legal parts most seq size =
       size = omega (arith, size, same, frame.least, longer, whole);
       seq = seq;
     }
-
--- how long a frame is once it is padded
-pub length-padded : (f : Fields) (n : ℕ) → IsLegal f → n ≡ max (length f.payload) 46 → least_len (spelling f) + n ≡ length (padded (spelling f))
-length-padded f n legal n_is =
-    let s = spelling f in
-    let zeros : List ℕ = replicate (least_len s + 46 - length s) 0 in
-    omega (arith, n_is, length-replicate {A = ℕ} (least_len s + 46 - length s) 0, length-append s zeros, length-spelling f, least_len-spelling f legal)
 
 -- what is written behind a padded frame, by the number of octets counted before it is written
 pub appended_is : (f : Fields) (own : List ℕ) (seq : Seq) (lan : Lan) (n : ℕ) → IsLegal f → n ≡ max (length f.payload) 46 → least_len (spelling f) + n + 6 ≤ 1524 → seq.0 < 2 ^ 16 → own ≡ padded (spelling f) ++ trailer_octets (record { seq = seq; lan = lan; size = n + 6 }) → IsTrailed own (padded (spelling f)) (record { seq = seq; lan = lan; size = length own - least_len (padded (spelling f)) })

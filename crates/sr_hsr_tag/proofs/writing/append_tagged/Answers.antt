@@ -1,9 +1,10 @@
-use Rattle.std.proofs.Common.{◌≡◌, ℕ, ◌+◌, ◌-◌, List, ◌++◌, length, take, ap, refl, ◌∙◌, arith}
+use Rattle.std.proofs.Common.{◌≡◌, ℕ, ◌+◌, ◌-◌, List, ◌++◌, length, take, ap, refl, ◌∙◌, arith, rules}
 use Rattle.std.specs.Prelude.{replicate, if◌then◌else◌}
 use Rattle.std.specs.Result.{is_ok}
 use Rattle.std.specs.Int.{w16, to_be_bytes}
 use Rattle.sr_frame.specs.Frame.{head_of}
 use Rattle.sr_frame.specs.View.{fields_of}
+use Rattle.sr_frame.specs.LengthLemmas.{length-padded}
 use Rattle.sr_hsr_tag.specs.Tagged.{tag_octets}
 use Rattle.sr_hsr_tag.specs.declared.tag.HsrTag.{HsrTag}
 use Rattle.sr_hsr_tag.proofs.Written.{resized_is_tagged, resized_behind, length-tagged}
@@ -29,4 +30,18 @@ returns-clause-ok c =
           ∙ resized_behind old whole end len v.len (omega (arith, c.len.ensures)) (omega (arith, length-tagged f tag legal, c.header_len.ensures, c.max-payload_len.ensures)) (v.ok.0 ∙ ap length written),
       resized_is_tagged f own whole c.args.path n c.header_len.result c.args.seq legal c.header_len.ensures
           (omega (arith, c.max-payload_len.ensures)) (omega (arith, c.if-len-gt-MAX_FRAME_LEN.false)) c.requires (omega arith) refl refl,
+    )
+
+pub returns-then-len-gt-MAX_FRAME_LEN-clause-long : goal.returns-then-len-gt-MAX_FRAME_LEN-clause-long
+returns-then-len-gt-MAX_FRAME_LEN-clause-long c =
+    let len = length-padded (fields_of c.args.frame.now) c.max-payload_len.result c.args.frame.now.legal c.max-payload_len.ensures in (
+      λ _. omega (arith, len, c.header_len.ensures, c.if-len-gt-MAX_FRAME_LEN.true),
+      λ _. refl,
+    )
+
+pub returns-in_err-reserve-clause-long : goal.returns-in_err-reserve-clause-long
+returns-in_err-reserve-clause-long c =
+    let len = length-padded (fields_of c.args.frame.now) c.max-payload_len.result c.args.frame.now.legal c.max-payload_len.ensures in (
+      λ e. search rules,
+      λ lt. absurd (omega (arith, len, lt, c.header_len.ensures, c.if-len-gt-MAX_FRAME_LEN.false)),
     )
