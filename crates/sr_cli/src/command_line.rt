@@ -7,6 +7,7 @@ use crate::script_line::{ScriptTask, script_command, script_task};
 use clap::{Arg, ArgMatches, Command, Error};
 use hex::FromHex;
 use sr_frame::Mac;
+use sr_node::{Mode, Settings};
 use sr_plant_script::{PlantSetup, Topology};
 use sr_prp_trailer::Lan;
 use sr_script::{PrpRouting, RoleName, Setup};
@@ -82,6 +83,23 @@ fn net_option<'a>(alloc: Global) -> Arg<'a> {
         .help("The number of the PRP network at the interlink, of role prp")
 }
 
+/// The mode of each node: `[--mode h|x]`.
+pub fn mode_option<'a>(alloc: Global) -> Arg<'a> {
+    Arg::new(alloc, "mode")
+        .long("mode")
+        .default_value("h")
+        .value_parser(["h", "x"].as_slice())
+        .help("Whether a frame goes on where a copy of it came in: h, it does; x, it does not")
+}
+
+/// The settings that the parser let through.
+pub fn settings_of(matches: &ArgMatches<'_>) -> Settings {
+    match matches.get_str("mode") {
+        Some("x") => Settings { mode: Mode::X },
+        _ => Settings { mode: Mode::H },
+    }
+}
+
 /// A command with one option more, if it was made. A command is large: what holds one where memory may be refused is this and `with`.
 pub fn with_arg<'a>(
     command: Result<Command<'a>, AllocError>,
@@ -109,7 +127,8 @@ fn node_command<'a>(
     let command = with_arg(command, role_option(alloc));
     let command = with_arg(command, mac_option(alloc));
     let command = with_arg(command, lan_option(alloc));
-    with_arg(command, net_option(alloc))
+    let command = with_arg(command, net_option(alloc));
+    with_arg(command, mode_option(alloc))
 }
 
 /// The program without its subcommands.
@@ -193,6 +212,7 @@ fn setup_of(node: &ArgMatches<'_>) -> Result<Setup, Refused> {
         Some(mac) => Ok(Setup {
             role: role_of(node),
             mac,
+            settings: settings_of(node),
             keys: Keys::FIXED,
         }),
         None => Err(Refused::Mac),

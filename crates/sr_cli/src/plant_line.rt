@@ -3,6 +3,7 @@
 ghost use Rattle.std.specs.Prelude.{◌≤◌};
 ghost use Rattle.sr_plant.specs.Limits.{fewest_nodes, most_nodes};
 
+use crate::command_line::{mode_option, settings_of, with_arg};
 use clap::{Arg, ArgMatches, Command};
 use sr_plant_script::{PlantSetup, Topology};
 use std::alloc::{AllocError, Global};
@@ -21,7 +22,8 @@ pub fn plant_command<'a>(
         ]
         .as_slice())
         .help("How many nodes there are");
-    Command::new(alloc, name).about(about).arg(nodes)
+    let command = Command::new(alloc, name).about(about).arg(nodes);
+    with_arg(command, mode_option(alloc))
 }
 
 /// How many nodes there are, by a word that the parser let through.
@@ -38,5 +40,9 @@ fn count_of(word: &str) -> usize
 /// The plant that the subcommand asks for.
 pub fn plant_of(topology: Topology, matches: &ArgMatches<'_>) -> PlantSetup {
     let nodes = matches.get_str("nodes").map_or(2, count_of);
-    PlantSetup { topology, nodes }
+    PlantSetup {
+        topology,
+        nodes,
+        settings: settings_of(matches),
+    }
 }

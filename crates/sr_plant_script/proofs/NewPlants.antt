@@ -7,38 +7,39 @@ use Rattle.std.proofs.lemmas.Bool.Decides.{nat_tests}
 use Rattle.sr_plant.specs.declared.topology.Topology.{Topology}
 use Rattle.sr_plant.specs.declared.topology.Topology.TheVariants.{Ring, TwinLan}
 use Rattle.sr_plant.specs.Building.{is_plant}
+use Rattle.sr_node.specs.declared.mode.Settings.{Settings}
 use Rattle.sr_node.specs.Images.{State}
 use Rattle.sr_plant_script.specs.Members.{new_node, new_nodes}
 
 -- so many nodes make a plant, or are fewer than two
-abbrev is_made : Topology → ℕ → Bool
-is_made t n = nat_lt n 2 || is_plant t (new_nodes t n)
+abbrev is_made : Topology → Settings → ℕ → Bool
+is_made t x n = nat_lt n 2 || is_plant t (new_nodes t x n)
 
-abbrev are_made_below : Topology → ℕ → Bool
-are_made_below t zero = true
-are_made_below t (suc n) = is_made t n && are_made_below t n
+abbrev are_made_below : Topology → Settings → ℕ → Bool
+are_made_below t x zero = true
+are_made_below t x (suc n) = is_made t x n && are_made_below t x n
 
-made_below : (t : Topology) (n k : ℕ) → are_made_below t n ≡ true → k < n → is_made t k ≡ true
-made_below t zero k h lt = absurd (omega arith)
-made_below t (suc n) k h lt =
-    let parts = and_parts (is_made t n) (are_made_below t n) h in
+made_below : (t : Topology) (x : Settings) (n k : ℕ) → are_made_below t x n ≡ true → k < n → is_made t x k ≡ true
+made_below t x zero k h lt = absurd (omega arith)
+made_below t x (suc n) k h lt =
+    let parts = and_parts (is_made t x n) (are_made_below t x n) h in
     elim (cases_lt k n) [
-      | inl below ↦ made_below t n k parts.1 below
+      | inl below ↦ made_below t x n k parts.1 below
       | inr top ↦ let e : k ≡ n = omega arith in rw e parts.0
     ]
 
-all_made : (t : Topology) → are_made_below t 17 ≡ true
-all_made Ring = refl
-all_made TwinLan = refl
+all_made : (t : Topology) (x : Settings) → are_made_below t x 17 ≡ true
+all_made Ring x = refl
+all_made TwinLan x = refl
 
 two_or_more : (n : ℕ) (b : Bool) → 2 ≤ n → (nat_lt n 2 || b) ≡ true → b ≡ true
 two_or_more n b h e = grind (arith, nat_tests)
 
-pub makes_plant : (t : Topology) (n : ℕ) → 2 ≤ n → n ≤ 16 → is_plant t (new_nodes t n) ≡ true
-makes_plant t n least most = two_or_more n (is_plant t (new_nodes t n)) least (made_below t 17 n (all_made t) (omega arith))
+pub makes_plant : (t : Topology) (x : Settings) (n : ℕ) → 2 ≤ n → n ≤ 16 → is_plant t (new_nodes t x n) ≡ true
+makes_plant t x n least most = two_or_more n (is_plant t (new_nodes t x n)) least (made_below t x 17 n (all_made t x) (omega arith))
 
 -- one node more
-pub nodes_more : {N : Type 0} (ns : List N) (f : N → State) (t : Topology) (n : ℕ) (m : N) → map f ns ≡ new_nodes t n → f m ≡ new_node t n
-    → map f (ns ++ m ∷ []) ≡ new_nodes t (n + 1)
-nodes_more {N} ns f t n m so_far is =
-    rw add-one (map-append f ns (m ∷ []) ∙ ap (λ (l : List State). l ++ f m ∷ []) so_far ∙ ap (λ (s : State). new_nodes t n ++ s ∷ []) is)
+pub nodes_more : {N : Type 0} (ns : List N) (f : N → State) (t : Topology) (x : Settings) (n : ℕ) (m : N) → map f ns ≡ new_nodes t x n → f m ≡ new_node t x n
+    → map f (ns ++ m ∷ []) ≡ new_nodes t x (n + 1)
+nodes_more {N} ns f t x n m so_far is =
+    rw add-one (map-append f ns (m ∷ []) ∙ ap (λ (l : List State). l ++ f m ∷ []) so_far ∙ ap (λ (s : State). new_nodes t x n ++ s ∷ []) is)

@@ -2,6 +2,7 @@
 use Rattle.std.specs.Prelude.{ℕ, zero, suc, List, [], ◌∷◌, ◌++◌}
 use Rattle.sr_frame.specs.declared.fields.Mac.{Mac}
 use Rattle.sr_forwarding.specs.RoleImages.{role_of}
+use Rattle.sr_node.specs.declared.mode.Settings.{Settings}
 use Rattle.sr_node.specs.Images.{State, begun}
 use Rattle.sr_plant.specs.declared.topology.Topology.{Topology}
 use Rattle.sr_plant.specs.Topologies.{kind_of}
@@ -17,14 +18,14 @@ abbrev pub mac_of : ℕ → Mac
 mac_of node = record { 0 = octets_of node }
 
 -- a new node of a plant of this topology
-abbrev pub new_node : Topology → ℕ → State
-new_node t node = begun (role_of (kind_of t) (mac_of node))
+abbrev pub new_node : Topology → Settings → ℕ → State
+new_node t settings node = begun (role_of (kind_of t) (mac_of node)) settings
 
 -- the first nodes, so many
-abbrev pub new_nodes : Topology → ℕ → List State
-new_nodes t zero = []
-new_nodes t (suc n) = new_nodes t n ++ new_node t n ∷ []
+abbrev pub new_nodes : Topology → Settings → ℕ → List State
+new_nodes t settings zero = []
+new_nodes t settings (suc n) = new_nodes t settings n ++ new_node t settings n ∷ []
 
 -- the plant with which a script begins
 abbrev pub start_of : PlantSetup → Plant
-start_of setup = opening setup.topology (new_nodes setup.topology setup.nodes)
+start_of setup = opening setup.topology (new_nodes setup.topology setup.settings setup.nodes)

@@ -14,7 +14,7 @@ use crate::members::{Member, MemberRouting, mac_of};
 use crate::setup::PlantSetup;
 use sr_forwarding::{OwnRole, Parcel};
 use sr_frame::NoMemory;
-use sr_node::NodeOf;
+use sr_node::{NodeOf, Settings};
 use sr_plant::{PlantEvent, PlantFault, PlantOf, Topology};
 use std::alloc::Global;
 use std::marker::Model;
@@ -49,17 +49,18 @@ impl Model for Network {
 fn new_nodes(
     alloc: Global,
     topology: Topology,
+    settings: Settings,
     count: usize,
 ) -> Result<Vec<NodeOf<Member>>, NoMemory>
     requires { count ≤ most_nodes }
     ensures { IfOk result (λ ns.
         map (λ m. node_state (role_of (kind_of m.role.routing.topology) m.role.mac) m.core) ns.items
-        ≡ new_nodes topology count) }
+        ≡ new_nodes topology settings count) }
 {
     let mut nodes = Vec::with_capacity(alloc, count)?;
     for number in 0..count {
         let role = OwnRole::of(mac_of(number), MemberRouting { topology });
-        nodes.push_reserved(NodeOf::new(alloc, role)?);
+        nodes.push_reserved(NodeOf::with(alloc, role, settings)?);
     }
     Ok(nodes)
 }
@@ -79,7 +80,7 @@ impl Network {
         ensures made { IfOk result (λ n. n ≡ start_of setup.now) }
         ensures lack { IfErr result (λ fault. fault ≡ PlantFault.NoMemory) }
     {
-        let nodes = new_nodes(alloc, setup.topology, setup.nodes)?;
+        let nodes = new_nodes(alloc, setup.topology, setup.settings, setup.nodes)?;
         let plant = PlantOf::new(alloc, setup.topology, nodes)?;
         Ok(Network { plant })
     }

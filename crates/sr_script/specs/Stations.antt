@@ -33,4 +33,4 @@ framing_of role port = unwrap_or (framing_at (kind_of role) port) Ordinary
 
 -- a new node of this role and address
 abbrev pub start_of : Setup → Station
-start_of setup = record { role = setup.role; node = begun (role_of (kind_of setup.role) setup.mac) }
+start_of setup = record { role = setup.role; node = begun (role_of (kind_of setup.role) setup.mac) setup.settings }

@@ -1,6 +1,7 @@
 //! What a run is told beside its script.
 
 use sr_frame::Mac;
+use sr_node::Settings;
 use sr_redbox::PrpRouting;
 use sr_slots::Keys;
 
@@ -26,6 +27,8 @@ pub struct Setup {
     pub role: RoleName,
     /// The address of the node.
     pub mac: Mac,
+    /// Its mode.
+    pub settings: Settings,
     /// The keys of its tables. Nothing that is printed depends on them.
     pub keys: Keys,
 }

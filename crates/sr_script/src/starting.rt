@@ -35,7 +35,7 @@ fn session_of<P: Role>(alloc: Global, setup: &Setup, role: P) -> Result<NodeSess
         ≡ start_of setup.now) }
 {
     let arriving = list_of(alloc, MAX_LINE / 2)?;
-    let node = NodeOf::with_keys(alloc, role, setup.keys)?;
+    let node = NodeOf::with_keys(alloc, role, setup.settings, setup.keys)?;
     Ok(NodeSession {
         alloc,
         role: setup.role,

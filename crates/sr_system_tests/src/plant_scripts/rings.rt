@@ -85,6 +85,52 @@ fn frames_to_one(rt: HostRuntime) {
     expect_steps(&rt, TO_ONE);
 }
 
+// In mode X a frame goes on to no port at which it came in.
+const IN_MODE_X: &[Step] = &[
+    Step::RingX(
+        4,
+        &[b"send 0 all 01\nflow\n"],
+        &[
+            b"up 3 ",
+            TO_ALL,
+            ZEROS,
+            b"\nup 1 ",
+            TO_ALL,
+            ZEROS,
+            b"\nup 2 ",
+            TO_ALL,
+            ZEROS,
+            b"\nflow 5\nflight 0\n",
+        ],
+    ),
+    Step::RingX(
+        4,
+        &[b"cut 1\nsend 0 all 01\nflow\n"],
+        &[
+            b"up 3 ",
+            TO_ALL,
+            ZEROS,
+            b"\nup 1 ",
+            TO_ALL,
+            ZEROS,
+            b"\nup 2 ",
+            TO_ALL,
+            ZEROS,
+            b"\nflow 3\nflight 0\n",
+        ],
+    ),
+    Step::RingX(
+        4,
+        &[b"send 0 2 01\nrepeat 1\nflow\n"],
+        &[b"up 2 ", TO_2, ZEROS, b"\nflow 5\nflight 0\n"],
+    ),
+];
+
+#[test]
+fn frames_in_mode_x(rt: HostRuntime) {
+    expect_steps(&rt, IN_MODE_X);
+}
+
 // Copies are lost and doubled by their places; a link that is cut loses what is on it, and may be cut and mended again; a
 // life check goes both ways.
 const PLACES: &[Step] = &[

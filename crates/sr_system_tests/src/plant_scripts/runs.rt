@@ -2,6 +2,7 @@
 //! of memory.
 
 use crate::answers::{Ending, are_answers, is_ended};
+use sr_node::Settings;
 use sr_plant_script::{PlantSetup, Topology, run_plant};
 use sr_session::{Fault, Word};
 use std::alloc::{AllocError, Global};
@@ -10,11 +11,15 @@ use std::alloc::{AllocError, Global};
 pub type Text = &'static [&'static [u8]];
 
 /// So many nodes of a plant. None where there is no such plant.
-fn setup_of(topology: Topology, nodes: usize) -> Option<PlantSetup> {
+fn setup_of(topology: Topology, nodes: usize, settings: Settings) -> Option<PlantSetup> {
     if nodes < 2 || nodes > 16 {
         return None;
     }
-    Some(PlantSetup { topology, nodes })
+    Some(PlantSetup {
+        topology,
+        nodes,
+        settings,
+    })
 }
 
 /// Appends a text so many times.
@@ -46,6 +51,7 @@ pub fn is_run(
     alloc: Global,
     topology: Topology,
     nodes: usize,
+    settings: Settings,
     script: (Text, usize, Text, Text),
     wanted: Text,
     ending: Ending,
@@ -57,7 +63,7 @@ pub fn is_run(
     append(&mut octets, last, 1).ok()?;
     let mut text = Vec::new(alloc);
     append(&mut text, wanted, 1).ok()?;
-    writes(alloc, &setup_of(topology, nodes)?, &octets, &text, ending)
+    writes(alloc, &setup_of(topology, nodes, settings)?, &octets, &text, ending)
 }
 
 /// Whether a line is none of a script, behind one that is answered so.
@@ -65,7 +71,7 @@ pub fn is_refused(alloc: Global, before: Text, line: &[u8], answer: &[u8]) -> Op
     let mut octets = Vec::new(alloc);
     append(&mut octets, before, 1).ok()?;
     octets.extend_from_slice(line).ok()?;
-    let setup = setup_of(Topology::Ring, 2)?;
+    let setup = setup_of(Topology::Ring, 2, Settings::PLAIN)?;
     writes(alloc, &setup, &octets, answer, Some((2, Word::Line)))
 }
 
@@ -91,7 +97,7 @@ pub fn is_taken_up(
     script: &[u8],
     answers: &[&[u8]],
 ) -> Option<bool> {
-    let setup = setup_of(topology, nodes)?;
+    let setup = setup_of(topology, nodes, Settings::PLAIN)?;
     let mut written: Vec<u8> = Vec::new(alloc);
     written.reserve(1000).ok()?;
     let mut reader = script;

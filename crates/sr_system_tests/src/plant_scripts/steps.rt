@@ -1,6 +1,7 @@
 //! One driver for all tests: it makes the runs of a table, and answers at which one it differs.
 
 use super::runs::{Text, is_refused, is_run, is_taken_up};
+use sr_node::{Mode, Settings};
 use sr_plant_script::Topology;
 use sr_session::Word;
 use std::alloc::Global;
@@ -11,6 +12,8 @@ use std::process::Abort;
 pub enum Step {
     /// A script on a ring of so many nodes, and what is written.
     Ring(usize, Text, Text),
+    /// The same in mode X.
+    RingX(usize, Text, Text),
     /// The same on the nodes of two LANs.
     Lan(usize, Text, Text),
     /// A script on a ring, whose line in the middle comes so many times, and what is written.
@@ -30,21 +33,24 @@ fn plain(
     alloc: Global,
     topology: Topology,
     nodes: usize,
+    settings: Settings,
     script: Text,
     wanted: Text,
 ) -> Option<bool> {
-    is_run(alloc, topology, nodes, (script, 0, &[], &[]), wanted, None)
+    is_run(alloc, topology, nodes, settings, (script, 0, &[], &[]), wanted, None)
 }
 
 /// Whether a run comes to what it has to. None for want of memory.
 fn comes(alloc: Global, step: Step) -> Option<bool> {
     match step {
-        Step::Ring(nodes, script, wanted) => plain(alloc, Topology::Ring, nodes, script, wanted),
-        Step::Lan(nodes, script, wanted) => plain(alloc, Topology::TwinLan, nodes, script, wanted),
+        Step::Ring(nodes, script, wanted) => plain(alloc, Topology::Ring, nodes, Settings::PLAIN, script, wanted),
+        Step::RingX(nodes, script, wanted) => plain(alloc, Topology::Ring, nodes, Settings { mode: Mode::X }, script, wanted),
+        Step::Lan(nodes, script, wanted) => plain(alloc, Topology::TwinLan, nodes, Settings::PLAIN, script, wanted),
         Step::Long(nodes, first, times, middle, last, wanted) => is_run(
             alloc,
             Topology::Ring,
             nodes,
+            Settings::PLAIN,
             (first, times, middle, last),
             wanted,
             None,

@@ -5,6 +5,7 @@ use super::failing::{Broken, EmptyLines, Interrupted, Narrow, Recorder, Sparse, 
 use super::texts::{Text, joined};
 use crate::answers::{Ending, are_answers, is_ended};
 use sr_frame::Mac;
+use sr_node::Settings;
 use sr_prp_trailer::Lan;
 use sr_script::{PrpRouting, RoleName, Setup, run, run_status};
 use sr_session::{Fault, Word};
@@ -66,6 +67,7 @@ fn node_of(role: RoleName) -> Setup {
         role,
         mac: Mac([2, 0, 0, 0, 0, 1]),
         keys: Keys::FIXED,
+        settings: Settings::PLAIN,
     }
 }
 

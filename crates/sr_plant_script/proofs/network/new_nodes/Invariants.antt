@@ -8,7 +8,7 @@ use Rattle.sr_plant_script.proofs.network.new_nodes.Given as goal
 -- so many nodes so far, with room for all
 abbrev pub invariant-loop-number : goal.invariant-loop-number
 invariant-loop-number l = record {
-  nodes : map (λ m. node_state (role_of (kind_of m.role.routing.topology) m.role.mac) m.core) l.nodes.items ≡ new_nodes l.topology l.number;
+  nodes : map (λ m. node_state (role_of (kind_of m.role.routing.topology) m.role.mac) m.core) l.nodes.items ≡ new_nodes l.topology l.settings l.number;
   length : l.nodes.len ≡ l.number;
   room : l.count ≤ l.nodes.cap;
 }

@@ -11,4 +11,4 @@ returns-in_err-plant-clause-lack c =
     let e = err_from_is_err_and c.from_residual-in_err-plant.result c.from_residual-in_err-plant.ensures.1 in
     rw e.1 (e.2 ∙ c.in_err-plant.ensures.err
     ∙ ap (λ (ns : List State). plant_fault (is_plant setup.topology ns)) c.in_ok-nodes.ensures
-    ∙ ap plant_fault (makes_plant setup.topology setup.nodes setup.enough setup.few))
+    ∙ ap plant_fault (makes_plant setup.topology setup.settings setup.nodes setup.enough setup.few))
