@@ -251,10 +251,11 @@ def untested_examples(root):
 
 
 def untested_lines(root):
-    """A line that README shows indented, spaces apart and shortened by `..`, stands in a file of examples/ or in `check`,
-    which compares it with what the program prints; commands and what stands between fences are left out."""
+    """A line that README shows indented, spaces apart and shortened by `..`, stands in a file of examples/, in a case or in
+    `check`, which compares it with what the program prints; commands and what stands between fences are left out."""
     squashed = lambda text: "".join(text.split())
     files = [path for path in sorted(root.glob("examples/*")) if path.suffix in (".script", ".expected", ".status")]
+    files += [path for name in ("stdin", "stdout") for path in sorted(root.glob(f"examples/cases/*/{name}"))]
     lines = [squashed(line) for path in files for line in path.read_text().split("\n")]
     if (root / "check").exists():
         lines += [squashed(line.replace("echo ", "", 1)) for _, line in numbered(root / "check")]

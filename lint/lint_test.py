@@ -162,6 +162,8 @@ class Lint(unittest.TestCase):
         files = {"examples/one.script": "in A 0 0200\n", "examples/one.expected": "H 02005300fb\nH 02\n"}
         self.assertEqual(self.findings({"README.md": shown, **files}), [])
         self.assertEqual(self.findings({"README.md": shown, "check": "    echo H 0200530fb\n"}), [])
+        for name in ["stdin", "stdout"]:
+            self.assertEqual(self.findings({"README.md": shown, f"examples/cases/one/{name}": "H 0200530fb\n"}), [])
         for changes in [{}, {"examples/one.expected": "H 02005300fa\n"}, {"examples/one.md": "H 02005300fb\n"}]:
             self.assertEqual(self.findings({"README.md": shown, **changes}), ["README.md:8: shows a line that no example has"])
 
