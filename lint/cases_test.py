@@ -93,6 +93,8 @@ class Cases(unittest.TestCase):
         ]:
             self.assert_failed([difference], {"stderr": None, **parts})
         self.assert_failed(["stderr: has no 'three'"], {"stderr-has": "three\n"})
+        wrong = "stderr, line 2, from column 1: wanted nothing, got 'and a line\\n'"
+        self.assert_failed([wrong], {"stderr": "[one][two words]\n", "stderr-has": "two\n"})
 
     def test_status(self):
         self.assert_failed(["status: wanted 2, got 3"], {"status": "2\n"})
