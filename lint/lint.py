@@ -1,7 +1,7 @@
 #!/usr/bin/env python3
 """Looks for what no proof refuses: lines that are too wide, what is public without a comment, limits without a name, one
 name for two things, want of memory that nobody met, keys that go no further, documents that name what is not there or
-show what is not compiled.
+show what is not compiled or run.
 Prints a line for each finding, and exits with 1 where there is one.
 
 lint.py [ROOT]: of the repository at ROOT, this one where none is given."""
@@ -251,10 +251,11 @@ def untested_examples(root):
 
 
 def untested_lines(root):
-    """A line that README shows indented, spaces apart and shortened by `..`, stands in a file of examples/ or in `check`,
-    which compares it with what the program prints; commands and what stands between fences are left out."""
+    """A line that README shows indented, spaces apart and shortened by `..`, stands in a file of examples/, in a case or in
+    `check`, which compares it with what the program prints; commands and what stands between fences are left out."""
     squashed = lambda text: "".join(text.split())
     files = [path for path in sorted(root.glob("examples/*")) if path.suffix in (".script", ".expected", ".status")]
+    files += [path for name in ("stdin", "stdout") for path in sorted(root.glob(f"examples/cases/*/{name}"))]
     lines = [squashed(line) for path in files for line in path.read_text().split("\n")]
     if (root / "check").exists():
         lines += [squashed(line.replace("echo ", "", 1)) for _, line in numbered(root / "check")]
@@ -266,6 +267,18 @@ def untested_lines(root):
         shown = re.compile(".*".join(re.escape(squashed(part)) for part in line.split("..")) + "$")
         if not any(shown.match(there) for there in lines):
             yield root / "README.md", number, "shows a line that no example has"
+
+
+def untested_commands(root):
+    """A command of the program that README shows, but for pipes, is a case: its arguments and the file of its input."""
+    folders = [path.parent for path in sorted(root.glob("examples/cases/*/args"))]
+    cases = [((folder / "args").read_text().splitlines(), (folder / "stdin").resolve()) for folder in folders]
+    command = re.compile(r"(?:^    |`)\./seamless ([^`|<]+?)(?: < ([^`|]+))?(?:`|$)")
+    for number, line in numbered(root / "README.md"):
+        for arguments, source in command.findall(line):
+            wanted = arguments.split()
+            if not any(args == wanted and (not source or stdin == (root / source).resolve()) for args, stdin in cases):
+                yield root / "README.md", number, f"shows `{arguments}`, which is no case"
 
 
 RULES = [
@@ -280,6 +293,7 @@ RULES = [
     crate_tables,
     untested_examples,
     untested_lines,
+    untested_commands,
 ]
 
 

@@ -158,12 +158,24 @@ class Lint(unittest.TestCase):
         )
 
     def test_untested_lines(self):
-        shown = "See [the map](docs/ARCHITECTURE.md).\n\n```\n    a drawing\n```\n\n    ./seamless replay\n    H 0200 53..fb\n"
+        shown = "See [the map](docs/ARCHITECTURE.md).\n\n```\n    a drawing\n```\n\n    ./seamless a | ./seamless b\n    H 0200 53..fb\n"
         files = {"examples/one.script": "in A 0 0200\n", "examples/one.expected": "H 02005300fb\nH 02\n"}
         self.assertEqual(self.findings({"README.md": shown, **files}), [])
         self.assertEqual(self.findings({"README.md": shown, "check": "    echo H 0200530fb\n"}), [])
+        for name in ["stdin", "stdout"]:
+            self.assertEqual(self.findings({"README.md": shown, f"examples/cases/one/{name}": "H 0200530fb\n"}), [])
         for changes in [{}, {"examples/one.expected": "H 02005300fa\n"}, {"examples/one.md": "H 02005300fb\n"}]:
             self.assertEqual(self.findings({"README.md": shown, **changes}), ["README.md:8: shows a line that no example has"])
+
+    def test_untested_commands(self):
+        folder = "examples/cases/one"
+        case = {f"{folder}/args": "ring\n--nodes\n4\n", f"{folder}/stdin": "flow\n"}
+        text = IN_ORDER["README.md"]
+        for command in [f"`./seamless ring --nodes 4 < {folder}/stdin`", "\n    ./seamless ring --nodes 4", "`./seamless a | b`"]:
+            self.assertEqual(self.findings({**case, "README.md": text + command}), [], command)
+        for arguments, source in [("ring --nodes 3", ""), ("ring --nodes 4", f" < {folder}/args")]:
+            found = self.findings({**case, "README.md": f"{text}`./seamless {arguments}{source}`"})
+            self.assertEqual(found, [f"README.md:2: shows `{arguments}`, which is no case"])
 
     def test_each_rule_has_a_test(self):
         for rule in lint.RULES:
