@@ -66,7 +66,6 @@ HARMLESS = {
     "adds_nothing": ("    ensures { result ≡ n }", "    ensures { n ≡ result }"),
 }
 UNUSABLE = {
-    "does_not_compile": ("    step(doubled)", "    step(nothing)"),
     "stands_twice": ("    requires { n ≤ 100 }", "    requires { n ≤ 101 }"),
     "stands_nowhere": ("    n - n", "    n"),
 }
@@ -100,9 +99,10 @@ class Rounds(unittest.TestCase):
                 self.assertEqual(said.get(name), verdict, f"{name} in\n{whole}")
         self.assertEqual((status, last), (1, f"{len(WRONG)} passed, {len(HARMLESS) + len(UNUSABLE)} failed"))
 
-    def test_all_refused(self):
-        said, status, last, whole = self.tried({"doubles_nothing": WRONG["doubles_nothing"]})
-        self.assertEqual((said, status, last), ({"doubles_nothing": "refused"}, 0, "1 passed, 0 failed"), whole)
+    def test_one_that_does_not_compile(self):
+        said, status, last, whole = self.tried({"steps_nowhere": ("    step(doubled)", "    step(nothing)"), "doubles_nothing": WRONG["doubles_nothing"]})
+        self.assertEqual(said, {"steps_nowhere": "BAD EDIT", "doubles_nothing": "refused"}, whole)
+        self.assertEqual((status, last), (1, "1 passed, 1 failed"))
 
     def test_a_crate_that_is_not_proved(self):
         broken = SOURCE.replace("    n + n", "    n + 1 + n")
