@@ -79,6 +79,36 @@ def silent_items(root):
                 yield path, number, f"`{found[2]}` has no doc comment"
 
 
+def planned(root):
+    """The crates that the map says are planned."""
+    behind = (root / "docs/ARCHITECTURE.md").read_text().split("## What is planned")[1:]
+    return set(re.findall(r"`(\w+)`", behind[0].split("\n## ")[0])) if behind else set()
+
+
+# Files beside the crates that have names of which documents speak.
+NAMING = ["crates.txt", "check", "seamless", "bench/run", "lint/*.py", "lint/*.txt"]
+
+
+def missing_names(root):
+    """A name in the form of code that a document gives, such as `next_of` or `IsFrame`, is a word of a source, a definition or
+    a script, or a crate that is planned. Of the rows of the glossary the words of the standard and of Linux are left out."""
+    name = re.compile(r"`([A-Za-z]\w*(?:(?:::|\.)\w+)*)(?:\(\))?`")
+    coined = re.compile(r"\w_\w|[a-z][A-Z]")
+    files = [path for ending in ("rt", "antt") for path in root.glob(f"crates/*/*/**/*.{ending}")]
+    files += [path for pattern in NAMING for path in root.glob(pattern)]
+    words = {word for path in files if "/out/" not in path.as_posix() for word in re.findall(r"\w+", path.read_text())}
+    words |= planned(root)
+    for path in documents(root):
+        for number, line in numbered(path):
+            cells = line.split("|")
+            if path.name == "MODEL.md" and len(cells) == 7:
+                line = "|".join(cells[:2] + cells[4:])
+            for found in name.findall(line):
+                part = re.split(r"::|\.", found)[-1]
+                if coined.search(part) and part not in words and part not in FILE_ENDINGS:
+                    yield path, number, f"names `{found}`, which no source has"
+
+
 def anchors(text):
     """The names by which a link can lead to a heading of a document."""
     heads = re.findall(r"^#+ (.*)$", text, re.MULTILINE)
@@ -388,6 +418,7 @@ RULES = [
     made_lacks,
     dropped_keys,
     missing_files,
+    missing_names,
     crate_tables,
     untested_examples,
     untested_lines,

@@ -136,6 +136,18 @@ class Lint(unittest.TestCase):
                 [f"README.md:2: names the heading `{link.split('#')[1]}s`, which is not there"],
             )
 
+    def test_missing_names(self):
+        source = {"crates/sr_one/src/lib.rt": "// one_two IsOne\n"}
+        for text in ["`one_two`", "`IsOne`", "`One::one_two`", "`one_two()`", "`One`", "`two`", "one_three", "`./seamless one_three`"]:
+            self.assertEqual(self.findings({**source, "docs/ONE.md": text + "\n"}), [], text)
+        for name in ["one_three", "IsTwo", "One::one_three"]:
+            found = self.findings({**source, "docs/ONE.md": f"one\n`{name}`\n"})
+            self.assertEqual(found, [f"docs/ONE.md:2: names `{name}`, which no source has"])
+        row = "| one | `one_std` | `hsr_one` | what it is | `NAME` |\n"
+        self.assertEqual(self.findings({**source, "docs/MODEL.md": row.replace("NAME", "one_two")}), [])
+        found = self.findings({**source, "docs/MODEL.md": row.replace("NAME", "one_three")})
+        self.assertEqual(found, ["docs/MODEL.md:1: names `one_three`, which no source has"])
+
     def test_crate_tables(self):
         self.assertEqual(
             self.findings({"crates/sr_two/src/lib.rt": ""}), ["crates.txt:1: `sr_two` has no line or no folder"]
@@ -145,7 +157,7 @@ class Lint(unittest.TestCase):
             ["crates.txt:1: `sr_one_tests` has no line or no folder"],
         )
         self.assertEqual(
-            self.findings({"docs/ARCHITECTURE.md": "```\nsr_one sr_one_tests\n```\n| `sr_one` | `lib.rt` |\n| `sr_two` |\n"}),
+            self.findings({"docs/ARCHITECTURE.md": "```\nsr_one sr_one_tests\n```\n| `sr_one` | `lib.rt` |\n| `sr_two` |\n## What is planned\n`sr_two`\n"}),
             [
                 f"docs/ARCHITECTURE.md:1: `{name}` stands in crates.txt or in the table of crates, and not in both"
                 for name in ["sr_one_tests", "sr_two"]
