@@ -11,7 +11,9 @@ through where its function is proved. One that stands outside of functions, in a
 the constant; where none does it is tried alone, over the whole crate.
 
 The libraries below a crate have to be built as `rt ci` or `rt check` leaves them. Prints a line for each wrong body, with the
-goal that refused it, and exits with 1 where one was not refused. The last line is 'N passed, M failed'."""
+goal that refused it, and exits with 1 where one was not refused. The last line is 'N passed, M failed'. What the prover says of
+each round goes to the folder that the environment names as ROUNDS_SAID, where it does."""
+import functools
 import os
 import re
 import resource
@@ -216,7 +218,9 @@ def strangers(said, crate, functions, edited):
 # Trying.
 
 
+@functools.lru_cache(maxsize=None)
 def kit():
+    """Where the toolchain stands."""
     said = subprocess.run(["rt", "doc"], capture_output=True, text=True, check=True).stdout
     return Path(said.strip().split("\n")[-1]).parent
 
