@@ -11,7 +11,9 @@ through where its function is proved. One that stands outside of functions, in a
 the constant; where none does it is tried alone, over the whole crate.
 
 The libraries below a crate have to be built as `rt ci` or `rt check` leaves them. Prints a line for each wrong body, with the
-goal that refused it, and exits with 1 where one was not refused. The last line is 'N passed, M failed'."""
+goal that refused it, and exits with 1 where one was not refused. The last line is 'N passed, M failed'. What the prover says of
+each round goes to the folder that the environment names as ROUNDS_SAID, where it does."""
+import functools
 import os
 import re
 import resource
@@ -216,7 +218,9 @@ def strangers(said, crate, functions, edited):
 # Trying.
 
 
+@functools.lru_cache(maxsize=None)
 def kit():
+    """Where the toolchain stands."""
     said = subprocess.run(["rt", "doc"], capture_output=True, text=True, check=True).stdout
     return Path(said.strip().split("\n")[-1]).parent
 
@@ -263,9 +267,7 @@ class Crate:
 
     def check(self, edits):
         """What the prover says of the crate with these wrong bodies."""
-        texts = {it.file: (self.folder / it.file).read_text() for it in edits}
-        for edit in edits:
-            texts[edit.file] = texts[edit.file].replace(edit.old, edit.new)
+        texts = {file: edited((self.folder / file).read_text(), [it for it in edits if it.file == file]) for file in {it.file for it in edits}}
         only = sorted({it.path for edit in edits for it in edit.functions})
         for file, text in texts.items():
             (self.room / file).write_text(text)
@@ -281,6 +283,14 @@ class Crate:
         if os.environ.get("ROUNDS_SAID"):
             Path(os.environ["ROUNDS_SAID"], f"{self.name}-{self.checks}.out").write_text(ran.stdout)
         return ran.stdout
+
+
+def edited(text, edits):
+    """The text with these wrong bodies in it: each in its own place, whatever the others bring."""
+    places = sorted(((text.index(it.old), it) for it in edits), key=lambda it: it[0], reverse=True)
+    for at, edit in places:
+        text = text[:at] + edit.new + text[at + len(edit.old) :]
+    return text
 
 
 def link_or_copy(one, other):

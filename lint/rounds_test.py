@@ -7,6 +7,8 @@ import tempfile
 import unittest
 from pathlib import Path
 
+import rounds
+
 HERE = Path(__file__).resolve().parent
 SOURCE = """//! A crate to put wrong bodies into.
 #![tactic(auto)]
@@ -103,6 +105,11 @@ class Rounds(unittest.TestCase):
         said, status, last, whole = self.tried({"steps_nowhere": ("    step(doubled)", "    step(nothing)"), "doubles_nothing": WRONG["doubles_nothing"]})
         self.assertEqual(said, {"steps_nowhere": "BAD EDIT", "doubles_nothing": "refused"}, whole)
         self.assertEqual((status, last), (1, "1 passed, 1 failed"))
+
+    def test_each_in_its_own_place(self):
+        one = rounds.Edit("one", "src/lib.rt", "clear()", "sum()")
+        other = rounds.Edit("other", "src/lib.rt", "len()", "clear(); len()")
+        self.assertEqual(rounds.edited("a.clear() a.len()", [other, one]), "a.sum() a.clear(); len()")
 
     def test_a_crate_that_is_not_proved(self):
         broken = SOURCE.replace("    n + n", "    n + 1 + n")
