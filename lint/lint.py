@@ -9,6 +9,8 @@ import re
 import sys
 from pathlib import Path
 
+from cases import place
+
 WIDEST_DEFINITION = 140
 WIDEST_CLAUSE = 100
 DOCUMENTS = ["README.md", "CONTRIBUTING.md", "docs/*.md", "bench/*.md", "crates/*/README.md"]
@@ -272,12 +274,12 @@ def untested_lines(root):
 def untested_commands(root):
     """A command of the program that README shows, but for pipes, is a case: its arguments and the file of its input."""
     folders = [path.parent for path in sorted(root.glob("examples/cases/*/args"))]
-    cases = [((folder / "args").read_text().splitlines(), (folder / "stdin").resolve()) for folder in folders]
+    cases = [((folder / "args").read_text().splitlines(), place(root, folder, "stdin")) for folder in folders]
     command = re.compile(r"(?:^    |`)\./seamless ([^`|<]+?)(?: < ([^`|]+))?(?:`|$)")
     for number, line in numbered(root / "README.md"):
         for arguments, source in command.findall(line):
             wanted = arguments.split()
-            if not any(args == wanted and (not source or stdin == (root / source).resolve()) for args, stdin in cases):
+            if not any(args == wanted and (not source or stdin == root / source) for args, stdin in cases):
                 yield root / "README.md", number, f"shows `{arguments}`, which is no case"
 
 
