@@ -11,6 +11,7 @@ A case is a folder that is named for what it shows. Of its files only `args` has
     stderr-begins   its first lines, where the rest is not looked at
     stderr-has      texts, one a line, that stand in it somewhere
     status          the exit status; 0 where there is no such file
+    stdin-is, stdout-is   in place of `stdin` and `stdout`: the path of the file, where a document or another case has it too
     *.pcap, *.pcapng   captures that `args` names
 
 cases.py [--program PATH] [NAME..]: the cases of these names, all where none is given, of the program at PATH, ./seamless
@@ -23,14 +24,20 @@ import sys
 from pathlib import Path
 
 ROOT = Path(__file__).resolve().parent.parent
-FILES = {"args", "stdin", "stdout", "stderr", "stderr-begins", "stderr-has", "status"}
+FILES = {"args", "stdin", "stdin-is", "stdout", "stdout-is", "stderr", "stderr-begins", "stderr-has", "status"}
 CAPTURES = {".pcap", ".pcapng"}
 MOST_SECONDS = 60
 # How much of a line is shown before and behind the first octet that differs: a frame has up to 3000 digits.
 SHOWN = 50
 
 
-def flaws(folder):
+def place(root, folder, name):
+    """Where a file of a case lies: in its folder, or where a file beside says."""
+    elsewhere = folder / f"{name}-is"
+    return root / elsewhere.read_text().strip() if elsewhere.exists() else folder / name
+
+
+def flaws(root, folder):
     """What is wrong with the folder of a case itself."""
     if not folder.is_dir():
         yield "is no folder of examples/cases"
@@ -42,12 +49,13 @@ def flaws(folder):
         if name not in FILES and Path(name).suffix not in CAPTURES:
             yield f"`{name}` is no file of a case"
         elif not (folder / name).is_file():
-            yield f"`{name}` is not there or no file"
+            yield f"`{name}` is no file"
+        elif name.endswith("-is") and (name.removesuffix("-is") in names or not place(root, folder, name.removesuffix("-is")).is_file()):
+            yield f"`{name}` names no file, or the file is here too"
 
 
-def octets(folder, name):
+def octets(path):
     """What a file of a case holds; nothing where it is not there."""
-    path = folder / name
     return path.read_bytes() if path.exists() else b""
 
 
@@ -58,10 +66,10 @@ def lines(text):
 
 def run(program, root, folder):
     """The standard output, standard error and exit status of a run; `TimeoutExpired` where it does not end."""
-    stdin = folder / "stdin"
+    stdin = place(root, folder, "stdin")
     with open(stdin if stdin.exists() else os.devnull, "rb") as source, subprocess.Popen(
         # The name by which the parser's text speaks of the program.
-        ["seamless", *lines(octets(folder, "args"))],
+        ["seamless", *lines(octets(folder / "args"))],
         executable=program,
         cwd=root,
         stdin=source,
@@ -97,13 +105,13 @@ def differences(program, root, folder):
     except subprocess.TimeoutExpired:
         yield f"does not end within {MOST_SECONDS} seconds"
         return
-    wanted = octets(folder, "status").decode().strip() or "0"
+    wanted = octets(folder / "status").decode().strip() or "0"
     if wanted != str(status):
         yield f"status: wanted {wanted}, got {status}"
-    yield from difference("stdout", octets(folder, "stdout"), printed)
-    begins, has = octets(folder, "stderr-begins"), octets(folder, "stderr-has")
+    yield from difference("stdout", octets(place(root, folder, "stdout")), printed)
+    begins, has = octets(folder / "stderr-begins"), octets(folder / "stderr-has")
     if (folder / "stderr").exists() or not begins + has:
-        yield from difference("stderr", octets(folder, "stderr"), said)
+        yield from difference("stderr", octets(folder / "stderr"), said)
     yield from difference("stderr", begins, said[: len(begins)])
     for text in lines(has):
         if text.encode() not in said:
@@ -115,7 +123,7 @@ def run_cases(program, root, names):
     passed = failed = 0
     for name in names:
         folder = root / "examples/cases" / name
-        found = list(flaws(folder)) or list(differences(program, root, folder))
+        found = list(flaws(root, folder)) or list(differences(program, root, folder))
         passed, failed = (passed, failed + 1) if found else (passed + 1, failed)
         print(f"check: case {name} ... {'FAILED' if found else 'ok'}", flush=True)
         for text in found:

@@ -37,9 +37,7 @@ class Cases(unittest.TestCase):
             case = root / "examples/cases/a_case"
             case.mkdir(parents=True)
             for name, text in {**IN_ORDER, **changes}.items():
-                if isinstance(text, Path):
-                    (case / name).symlink_to(text)
-                elif text is not None:
+                if text is not None:
                     (case / name).write_text(text)
             printed = io.StringIO()
             with contextlib.redirect_stdout(printed):
@@ -61,6 +59,13 @@ class Cases(unittest.TestCase):
         program = "#!/bin/sh\ncat \"$1\"\n"
         case = {"args": "examples/cases/a_case/lan.pcap\n", "lan.pcap": "octets", "stdout": "octets"}
         self.assertEqual(self.outcome({**case, "stderr": None, "status": None}, program), OK)
+
+    def test_elsewhere(self):
+        case = {"stdin": None, "stdin-is": "examples/cases/a_case/lan.pcap\n", "lan.pcap": "first\nsecond\n"}
+        self.assertEqual(self.outcome(case), OK)
+        self.assertEqual(self.outcome({**case, "stdout": None, "stdout-is": "examples/cases/a_case/lan.pcap\n"}), OK)
+        wrong = "stdout, line 1, from column 1: wanted '#!/bin/sh\\n', got 'first\\n'"
+        self.assertEqual(self.outcome({**case, "stdout": None, "stdout-is": "program\n"})[1][:60], "    " + wrong[:56])
 
     def test_stdout(self):
         for text, difference in [
@@ -113,8 +118,8 @@ class Cases(unittest.TestCase):
             ({"args": None}, "has no `args`"),
             (dict.fromkeys(IN_ORDER), "has no `args`"),
             ({"stdour": ""}, "`stdour` is no file of a case"),
-            ({"stdin": Path("../../gone")}, "`stdin` is not there or no file"),
-            ({"stdin": Path("..")}, "`stdin` is not there or no file"),
+            ({"stdin": None, "stdin-is": "examples/gone\n"}, "`stdin-is` names no file, or the file is here too"),
+            ({"stdin-is": "program\n"}, "`stdin-is` names no file, or the file is here too"),
         ]:
             self.assert_failed([flaw], changes)
 

@@ -9,6 +9,8 @@ import re
 import sys
 from pathlib import Path
 
+from cases import place
+
 WIDEST_DEFINITION = 140
 WIDEST_CLAUSE = 100
 MOST_README_WORDS = 1000
@@ -326,13 +328,13 @@ def untested_commands(root):
     """A command of the program that a page on the program shows, but for pipes, is a case: its arguments and the file of its
     input."""
     folders = [path.parent for path in sorted(root.glob("examples/cases/*/args"))]
-    cases = [((folder / "args").read_text().splitlines(), (folder / "stdin").resolve()) for folder in folders]
+    cases = [((folder / "args").read_text().splitlines(), place(root, folder, "stdin")) for folder in folders]
     command = re.compile(r"(?:^    |`)\./seamless ([^`|<]+?)(?: <\s*([^`|]+))?(?:`|$)")
     for page in program_pages(root):
         for number, line in numbered(page):
             for arguments, source in command.findall(line):
                 wanted = arguments.split()
-                if not any(args == wanted and (not source or stdin == (root / source).resolve()) for args, stdin in cases):
+                if not any(args == wanted and (not source or stdin == root / source) for args, stdin in cases):
                     yield page, number, f"shows `{arguments}`, which is no case"
 
 
