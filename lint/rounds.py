@@ -46,6 +46,12 @@ class Function:
     first: int
     last: int
 
+    def proofs(self):
+        """The folders of its proof, and of those of its closures, which the prover keeps below a folder `fn` of the module."""
+        parts = self.path.split("::")
+        inside = sum(part[0].islower() for part in parts[:-1])
+        return "proofs/" + "/".join(parts) + "/", "proofs/" + "/".join([*parts[:inside], "fn", *parts[inside:]]) + "/"
+
 
 @dataclass(eq=False)
 class Edit:
@@ -177,13 +183,13 @@ def line_of(said, crate, function):
 
 def open_goal(said, function):
     """The first goal of the function that stays open, as the prover names it. A proof that only names what is gone is none."""
-    folder = "proofs/" + function.path.replace("::", "/") + "/"
+    own, closures = function.proofs()
     for line in said.split("\n"):
         inside = re.match(r"note: (src/\S+?):(\d+):\d+: (.*)", line)
         if inside and inside[1] == function.file and function.first <= int(inside[2]) <= function.last and "not proved" in inside[3]:
             return named_in(inside[3])
         answer = re.match(r"(?:\./)?(proofs/\S+/)\w+\.antt:\d+:\d+: error: (.*)", line)
-        if answer and answer[1] == folder and not GONE.search(answer[2]):
+        if answer and (answer[1] == own or answer[1].startswith(closures)) and not GONE.search(answer[2]):
             return named_in(answer[2])
     return None
 
