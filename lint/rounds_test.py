@@ -111,6 +111,14 @@ class Rounds(unittest.TestCase):
         other = rounds.Edit("other", "src/lib.rt", "len()", "clear(); len()")
         self.assertEqual(rounds.edited("a.clear() a.len()", [other, one]), "a.sum() a.clear(); len()")
 
+    def test_goals_of_a_closure(self):
+        function = rounds.Function("table::Slots::update", "src/table.rt", 3, 9)
+        for folder in ("table/Slots/update", "table/fn/Slots/update/update"):
+            said = f"./proofs/{folder}/Answers.antt:5:15: error: `returns`: `search`: no proof"
+            self.assertEqual(rounds.open_goal(said, function), "`returns`")
+        for said in ("./proofs/table/Slots/other/Answers.antt:5:15: error: `returns`: no proof", "note: src/table.rt:10:1: it is not proved (`returns`)"):
+            self.assertIsNone(rounds.open_goal(said, function))
+
     def test_a_crate_that_is_not_proved(self):
         broken = SOURCE.replace("    n + n", "    n + 1 + n")
         said, status, _, whole = self.tried({"steps_twice": WRONG["steps_twice"]}, broken)
