@@ -1,7 +1,7 @@
 #!/usr/bin/env python3
 """Looks for what no proof refuses: lines that are too wide, what is public without a comment, limits without a name, one
-name for two things, want of memory that nobody met, keys that go no further, documents that name what is not there or
-show what is not compiled.
+name for two things, want of memory that nobody met, keys that go no further; documents that name what is not there, show
+what is not compiled or run, lack a law or a crate, are too long, or have two wordings for one thing.
 Prints a line for each finding, and exits with 1 where there is one.
 
 lint.py [ROOT]: of the repository at ROOT, this one where none is given."""
@@ -9,9 +9,14 @@ import re
 import sys
 from pathlib import Path
 
+from cases import place
+
 WIDEST_DEFINITION = 140
 WIDEST_CLAUSE = 100
-DOCUMENTS = ["README.md", "CONTRIBUTING.md", "docs/*.md", "bench/*.md", "crates/*/README.md"]
+MOST_README_WORDS = 1000
+DOCUMENTS = ["README.md", "CHANGELOG.md", "CONTRIBUTING.md", "docs/*.md", "bench/*.md", "crates/*/README.md"]
+# The documents that show the program by example.
+PROGRAM_PAGES = ["README.md", "docs/PROGRAM.md"]
 FILE_ENDINGS = ("rt", "antt", "md", "script", "expected", "status", "pcap", "pcapng", "edit", "txt")
 
 
@@ -76,21 +81,61 @@ def silent_items(root):
                 yield path, number, f"`{found[2]}` has no doc comment"
 
 
+def planned(root):
+    """The crates that the map says are planned."""
+    behind = (root / "docs/ARCHITECTURE.md").read_text().split("## What is planned")[1:]
+    return set(re.findall(r"`(\w+)`", behind[0].split("\n## ")[0])) if behind else set()
+
+
+# Files beside the crates that have names of which documents speak.
+NAMING = ["crates.txt", "check", "seamless", "bench/run", "lint/*.py", "lint/*.txt"]
+
+
+def missing_names(root):
+    """A name in the form of code that a document gives, such as `next_of` or `IsFrame`, is a word of a source, a definition or
+    a script, or a crate that is planned. Of the rows of the glossary the words of the standard and of Linux are left out."""
+    name = re.compile(r"`([A-Za-z]\w*(?:(?:::|\.)\w+)*)(?:\(\))?`")
+    coined = re.compile(r"\w_\w|[a-z][A-Z]")
+    files = [path for ending in ("rt", "antt") for path in root.glob(f"crates/*/*/**/*.{ending}")]
+    files += [path for pattern in NAMING for path in root.glob(pattern)]
+    words = {word for path in files if "/out/" not in path.as_posix() for word in re.findall(r"\w+", path.read_text())}
+    words |= planned(root)
+    for path in documents(root):
+        for number, line in numbered(path):
+            cells = line.split("|")
+            if path.name == "MODEL.md" and len(cells) == 7:
+                line = "|".join(cells[:2] + cells[4:])
+            for found in name.findall(line):
+                part = re.split(r"::|\.", found)[-1]
+                if coined.search(part) and part not in words and part not in FILE_ENDINGS:
+                    yield path, number, f"names `{found}`, which no source has"
+
+
+def anchors(text):
+    """The names by which a link can lead to a heading of a document."""
+    heads = re.findall(r"^#+ (.*)$", text, re.MULTILINE)
+    return {re.sub(r"[^\w -]", "", head.lower()).strip().replace(" ", "-") for head in heads}
+
+
 def missing_files(root):
-    """A file that a document names is there: from the root, beside the document, or in some crate."""
-    name = re.compile(r"`([\w./-]+\.(?:%s))`|\]\(([^)#:]+)\)" % "|".join(FILE_ENDINGS))
+    """A file that a document names is there: from the root, beside the document, or in some crate. So is the heading that a
+    link names."""
+    name = re.compile(r"`([\w./-]+\.(?:%s))`|\]\(([^):#]*)(?:#([^):]*))?\)" % "|".join(FILE_ENDINGS))
     known = [path.as_posix() for path in root.glob("**/*") if "/out/" not in path.as_posix()]
     for path in documents(root):
         for number, line in numbered(path):
-            for in_code, linked in name.findall(line):
+            for in_code, linked, anchor in name.findall(line):
                 wanted = in_code or linked
-                beside = (path.parent / wanted).exists()
-                if not beside and not any(there.endswith("/" + wanted) for there in known):
+                beside = path.parent / wanted if wanted else path
+                if not beside.exists() and not any(there.endswith("/" + wanted) for there in known):
                     yield path, number, f"names `{wanted}`, which is not there"
+                elif anchor and beside.is_file() and anchor not in anchors(beside.read_text()):
+                    yield path, number, f"names the heading `{anchor}`, which is not there"
 
 
 def crate_tables(root):
-    """Each crate that is no crate of tests has a README under its name, the map lists all, and each that it lists is there."""
+    """Each crate that is no crate of tests has a README under its name; the map draws and lists all, and each that it lists
+    is there."""
     wanted = crates(root)
     folders = sorted(path.name for path in root.glob("crates/*") if (path / "src").is_dir())
     for name in sorted(set(folders) ^ set(wanted)):
@@ -100,6 +145,10 @@ def crate_tables(root):
     listed = re.findall(r"^\| `(\w+)` \|", here, re.MULTILINE)
     for name in sorted(set(wanted) ^ set(listed)):
         yield architecture, 1, f"`{name}` stands in crates.txt or in the table of crates, and not in both"
+    drawing = (re.findall(r"^```\n(.*?)^```", here, re.MULTILINE | re.DOTALL) or [""])[0]
+    for name in wanted:
+        if not re.search(rf"\b{name}\b", drawing):
+            yield architecture, 1, f"`{name}` is not in the drawing"
     for name in wanted:
         readme = root / "crates" / name / "README.md"
         if name.endswith("_tests"):
@@ -250,22 +299,116 @@ def untested_examples(root):
                 yield path, text.count("\n", 0, shown.start()) + 1, "shows Rust that no crate of tests has"
 
 
+def program_pages(root):
+    return [root / name for name in PROGRAM_PAGES if (root / name).exists()]
+
+
 def untested_lines(root):
-    """A line that README shows indented, spaces apart and shortened by `..`, stands in a file of examples/ or in `check`,
-    which compares it with what the program prints; commands and what stands between fences are left out."""
+    """A line that a page on the program shows indented, spaces apart and shortened by `..`, stands in a file of examples/, in
+    a case or in `check`, which compares it with what the program prints; commands and what stands between fences are left
+    out."""
     squashed = lambda text: "".join(text.split())
     files = [path for path in sorted(root.glob("examples/*")) if path.suffix in (".script", ".expected", ".status")]
+    files += [path for name in ("stdin", "stdout", "stderr") for path in sorted(root.glob(f"examples/cases/*/{name}"))]
     lines = [squashed(line) for path in files for line in path.read_text().split("\n")]
     if (root / "check").exists():
         lines += [squashed(line.replace("echo ", "", 1)) for _, line in numbered(root / "check")]
-    fenced = False
-    for number, line in numbered(root / "README.md"):
-        fenced = fenced != line.startswith("```")
-        if fenced or not line.startswith("    ") or line.lstrip().startswith("./"):
+    for page in program_pages(root):
+        fenced = False
+        for number, line in numbered(page):
+            fenced = fenced != line.startswith("```")
+            if fenced or not line.startswith("    ") or line.lstrip().startswith("./"):
+                continue
+            shown = re.compile(".*".join(re.escape(squashed(part)) for part in line.split("..")) + "$")
+            if not any(shown.match(there) for there in lines):
+                yield page, number, "shows a line that no example has"
+
+
+def untested_commands(root):
+    """A command of the program that a page on the program shows, but for pipes, is a case: its arguments and the file of its
+    input."""
+    folders = [path.parent for path in sorted(root.glob("examples/cases/*/args"))]
+    cases = [((folder / "args").read_text().splitlines(), place(root, folder, "stdin")) for folder in folders]
+    command = re.compile(r"(?:^    |`)\./seamless ([^`|<]+?)(?: <\s*([^`|]+))?(?:`|$)")
+    for page in program_pages(root):
+        for number, line in numbered(page):
+            for arguments, source in command.findall(line):
+                wanted = arguments.split()
+                if not any(args == wanted and (not source or stdin == root / source) for args, stdin in cases):
+                    yield page, number, f"shows `{arguments}`, which is no case"
+
+
+def long_readme(root):
+    """README has at most 1000 words, so that reading it aloud takes five minutes."""
+    words = len((root / "README.md").read_text().split())
+    if words > MOST_README_WORDS:
+        yield root / "README.md", 1, f"has {words} words, more than {MOST_README_WORDS}"
+
+
+def laws(root):
+    """The laws in the code, by crate and name, each with file and line: public functions that take and answer nothing, and
+    have a clause."""
+    law = re.compile(r"^pub fn (\w+)(?:<[^>\n]*>)?\(\)\n((?:[ ]+.*\n)*?)\{", re.MULTILINE)
+    found = {}
+    for path in sorted(root.glob("crates/*/src/**/*.rt")):
+        crate = path.relative_to(root).parts[1]
+        if crate.endswith("_tests"):
             continue
-        shown = re.compile(".*".join(re.escape(squashed(part)) for part in line.split("..")) + "$")
-        if not any(shown.match(there) for there in lines):
-            yield root / "README.md", number, "shows a line that no example has"
+        text = path.read_text()
+        for function in law.finditer(text):
+            if re.search(r"^ +ensures\b", function[2], re.MULTILINE):
+                found[crate, function[1]] = path, text.count("\n", 0, function.start()) + 1
+    return found
+
+
+def untold_laws(root):
+    """docs/LAWS.md has a row for each law in the code, with its name and its crate, and each law of which it has a row is in
+    the code."""
+    page = root / "docs/LAWS.md"
+    row = re.compile(r"^\| `(\w+)` \| `(\w+)` \|")
+    rows = [(row.match(line), number) for number, line in numbered(page)] if page.exists() else []
+    told = {(found[2], found[1]): number for found, number in rows if found}
+    there = laws(root)
+    for crate, name in sorted(set(there) - set(told)):
+        path, number = there[crate, name]
+        yield path, number, f"`{name}` of {crate} has no row in docs/LAWS.md"
+    for crate, name in sorted(set(told) - set(there)):
+        yield page, told[crate, name], f"`{name}` is no law of {crate}"
+
+
+# The one wording is "allocation failed", in whatever tense.
+OTHER_FAILED_ALLOCATIONS = re.compile(
+    r"(want|lack|shortage) of memory"
+    r"|memory (\w+ )?(ran|runs|run|running) (out|short)|(ran|runs|run|running) out of memory|out of memory"
+    r"|(memory|growths?|allocations?) (that )?(is|was|are|were|be|being|may be|might be|has been|gets|got)( \w+)? (refused|denied|missing|lacking)"
+    r"|(memory|growth|allocation) refused|refus(ed|es|ing) (a |an |the |one |each )?(growths?|memory|allocations?)",
+    re.IGNORECASE,
+)
+
+
+def failed_allocations(root):
+    """Documents have one wording for an allocation that failed."""
+    for path in documents(root):
+        text = path.read_text()
+        for found in OTHER_FAILED_ALLOCATIONS.finditer(text):
+            yield path, text.count("\n", 0, found.start()) + 1, f"says `{found[0]}` for a failed allocation"
+
+
+def decision_keys(root):
+    """Each entry of docs/DECISIONS.md has a key of its own, and each key that a document or a source names is there."""
+    page = root / "docs/DECISIONS.md"
+    keys = {}
+    for number, line in numbered(page) if page.exists() else []:
+        for key in re.findall(r"^\*\*(D-[a-z0-9-]+)\.\*\*", line):
+            if key in keys:
+                yield page, number, f"`{key}` is the key of line {keys[key]}"
+            keys.setdefault(key, number)
+    sources = [path for ending in ("rt", "antt") for path in sorted(root.glob(f"crates/*/*/**/*.{ending}"))]
+    for path in documents(root) + sources:
+        for number, line in numbered(path):
+            for key in re.findall(r"(?<![\w-])D-[a-z0-9]+(?:-[a-z0-9]+)*", line):
+                if key not in keys:
+                    yield path, number, f"names `{key}`, which is no decision"
 
 
 RULES = [
@@ -277,9 +420,15 @@ RULES = [
     made_lacks,
     dropped_keys,
     missing_files,
+    missing_names,
     crate_tables,
     untested_examples,
     untested_lines,
+    untested_commands,
+    long_readme,
+    untold_laws,
+    failed_allocations,
+    decision_keys,
 ]
 
 

@@ -9,7 +9,8 @@ import lint
 IN_ORDER = {
     "crates.txt": "# Each crate.\nsr_one:\nsr_one_tests: sr_one\n",
     "README.md": "See [the map](docs/ARCHITECTURE.md).\n",
-    "docs/ARCHITECTURE.md": "| `sr_one` | `lib.rt` |\n| `sr_one_tests` | tests |\n## What is planned\n| `sr_two` |\n",
+    "docs/ARCHITECTURE.md": "```\nsr_one sr_one_tests\n```\n"
+    "| `sr_one` | `lib.rt` |\n| `sr_one_tests` | tests |\n## What is planned\n| `sr_two` |\n",
     "crates/sr_one/README.md": "# sr_one\n",
     "crates/sr_one/src/lib.rt": "/// What it does.\n#[inline]\npub fn one() {}\nfn own() {}\n",
     "crates/sr_one/specs/Ones.antt": "one = 1\n",
@@ -127,6 +128,25 @@ class Lint(unittest.TestCase):
             self.assertEqual(
                 self.findings({"README.md": text + name}), [f"README.md:2: names `{wanted}`, which is not there"]
             )
+        for link in ["docs/ARCHITECTURE.md#what-is-planned", "#one-and-two"]:
+            head = "# `One` and two\n"
+            self.assertEqual(self.findings({"README.md": head + f"[there]({link})"}), [], link)
+            self.assertEqual(
+                self.findings({"README.md": head + f"[there]({link}s)"}),
+                [f"README.md:2: names the heading `{link.split('#')[1]}s`, which is not there"],
+            )
+
+    def test_missing_names(self):
+        source = {"crates/sr_one/src/lib.rt": "// one_two IsOne\n"}
+        for text in ["`one_two`", "`IsOne`", "`One::one_two`", "`one_two()`", "`One`", "`two`", "one_three", "`./seamless one_three`"]:
+            self.assertEqual(self.findings({**source, "docs/ONE.md": text + "\n"}), [], text)
+        for name in ["one_three", "IsTwo", "One::one_three"]:
+            found = self.findings({**source, "docs/ONE.md": f"one\n`{name}`\n"})
+            self.assertEqual(found, [f"docs/ONE.md:2: names `{name}`, which no source has"])
+        row = "| one | `one_std` | `hsr_one` | what it is | `NAME` |\n"
+        self.assertEqual(self.findings({**source, "docs/MODEL.md": row.replace("NAME", "one_two")}), [])
+        found = self.findings({**source, "docs/MODEL.md": row.replace("NAME", "one_three")})
+        self.assertEqual(found, ["docs/MODEL.md:1: names `one_three`, which no source has"])
 
     def test_crate_tables(self):
         self.assertEqual(
@@ -137,11 +157,15 @@ class Lint(unittest.TestCase):
             ["crates.txt:1: `sr_one_tests` has no line or no folder"],
         )
         self.assertEqual(
-            self.findings({"docs/ARCHITECTURE.md": "| `sr_one` | `lib.rt` |\n| `sr_two` |\n"}),
+            self.findings({"docs/ARCHITECTURE.md": "```\nsr_one sr_one_tests\n```\n| `sr_one` | `lib.rt` |\n| `sr_two` |\n## What is planned\n`sr_two`\n"}),
             [
                 f"docs/ARCHITECTURE.md:1: `{name}` stands in crates.txt or in the table of crates, and not in both"
                 for name in ["sr_one_tests", "sr_two"]
             ],
+        )
+        undrawn = IN_ORDER["docs/ARCHITECTURE.md"].replace("sr_one sr_one_tests\n", "sr_one_tests\n")
+        self.assertEqual(
+            self.findings({"docs/ARCHITECTURE.md": undrawn}), ["docs/ARCHITECTURE.md:1: `sr_one` is not in the drawing"]
         )
         for text in [None, "# sr_two\n"]:
             self.assertEqual(
@@ -158,12 +182,88 @@ class Lint(unittest.TestCase):
         )
 
     def test_untested_lines(self):
-        shown = "See [the map](docs/ARCHITECTURE.md).\n\n```\n    a drawing\n```\n\n    ./seamless replay\n    H 0200 53..fb\n"
+        shown = "See the map.\n\n```\n    a drawing\n```\n\n    ./seamless a | ./seamless b\n    H 0200 53..fb\n"
         files = {"examples/one.script": "in A 0 0200\n", "examples/one.expected": "H 02005300fb\nH 02\n"}
-        self.assertEqual(self.findings({"README.md": shown, **files}), [])
-        self.assertEqual(self.findings({"README.md": shown, "check": "    echo H 0200530fb\n"}), [])
-        for changes in [{}, {"examples/one.expected": "H 02005300fa\n"}, {"examples/one.md": "H 02005300fb\n"}]:
-            self.assertEqual(self.findings({"README.md": shown, **changes}), ["README.md:8: shows a line that no example has"])
+        for page in ["README.md", "docs/PROGRAM.md"]:
+            self.assertEqual(self.findings({page: shown, **files}), [])
+            self.assertEqual(self.findings({page: shown, "check": "    echo H 0200530fb\n"}), [])
+            for name in ["stdin", "stdout", "stderr"]:
+                self.assertEqual(self.findings({page: shown, f"examples/cases/one/{name}": "H 0200530fb\n"}), [])
+            for changes in [{}, {"examples/one.expected": "H 02005300fa\n"}, {"examples/one.md": "H 02005300fb\n"}]:
+                self.assertEqual(self.findings({page: shown, **changes}), [f"{page}:8: shows a line that no example has"])
+
+    def test_untested_commands(self):
+        folder = "examples/cases/one"
+        case = {f"{folder}/args": "ring\n--nodes\n4\n", f"{folder}/stdin": "flow\n"}
+        text = "See the map.\n"
+        for page in ["README.md", "docs/PROGRAM.md"]:
+            for command in [
+                f"`./seamless ring --nodes 4 < {folder}/stdin`",
+                f"\n    ./seamless ring --nodes 4 <{folder}/stdin",
+                "\n    ./seamless ring --nodes 4",
+                "`./seamless a | b`",
+            ]:
+                self.assertEqual(self.findings({**case, page: text + command}), [], command)
+            for arguments, source in [("ring --nodes 3", ""), ("ring --nodes 4", f" < {folder}/args"), ("ring --nodes 4", f" <{folder}/args")]:
+                found = self.findings({**case, page: f"{text}`./seamless {arguments}{source}`"})
+                self.assertEqual(found, [f"{page}:2: shows `{arguments}`, which is no case"])
+
+    def test_long_readme(self):
+        self.assertEqual(self.findings({"README.md": "one\n" * 1000}), [])
+        self.assertEqual(self.findings({"README.md": "one\n" * 1001}), ["README.md:1: has 1001 words, more than 1000"])
+
+    def test_untold_laws(self):
+        source, page = "crates/sr_one/src/laws.rt", "docs/LAWS.md"
+        law = "/// One is one.\npub fn one_is_one()\n    ensures { OneIsOne }\n{}\n"
+        row = "| Name | Crate |\n|---|---|\n| `one_is_one` | `sr_one` | nothing | One is one. |\n"
+        self.assertEqual(self.findings({source: law, page: row}), [])
+        untold = [f"{source}:2: `one_is_one` of sr_one has no row in docs/LAWS.md"]
+        for text in [None, "`one_is_one` of `sr_one`\n", row.replace("sr_one", "sr_two")]:
+            self.assertEqual(self.findings({source: law, page: text})[:1], untold, text)
+        for other in [
+            law.replace("one_is_one()", "one_is_one<const N: usize>()"),
+            law.replace("{}", "{\n    two_is_two();\n}"),
+            law.replace("    ensures", "    requires { One }\n    ensures"),
+        ]:
+            self.assertEqual(self.findings({source: other, page: row}), [], other)
+        lost = [f"{page}:3: `one_is_one` is no law of sr_one"]
+        for other in [
+            law.replace("one_is_one()", "one_is_one(n: u8)"),
+            law.replace("one_is_one()", "one_is_one() -> u8"),
+            law.replace("    ensures { OneIsOne }\n", ""),
+            law.replace("pub fn", "pub(crate) fn"),
+        ]:
+            self.assertEqual(self.findings({source: other, page: row}), lost, other)
+        self.assertEqual(self.findings({"crates/sr_one_tests/src/laws.rt": law}), [])
+
+    def test_failed_allocations(self):
+        for text in [
+            "want of memory",
+            "where memory ran out",
+            "Memory runs out",
+            "an allocation is refused",
+            "a growth was refused",
+            "where memory is refused",
+            "a refused growth",
+            "it refuses one allocation after the other",
+            "memory that was refused",
+        ]:
+            found = self.findings({"docs/ONE.md": f"one\n{text}\n"})
+            self.assertEqual(len(found), 1, text)
+            self.assertRegex(found[0], r"^docs/ONE.md:2: says `.*` for a failed allocation$")
+        for text in ["an allocation failed", "where an allocation fails", "a refused event", "growths come first", "takes memory"]:
+            self.assertEqual(self.findings({"docs/ONE.md": text + "\n"}), [], text)
+
+    def test_decision_keys(self):
+        page = "docs/DECISIONS.md"
+        entry = "**D-one-name.** One name.\n"
+        cited = {"crates/sr_one/src/laws.rt": "// speed: D-one-name\n", "docs/ONE.md": "See D-one-name, and AND-GATE.\n"}
+        self.assertEqual(self.findings({page: entry, **cited}), [])
+        self.assertEqual(self.findings({page: entry + entry}), [f"{page}:2: `D-one-name` is the key of line 1"])
+        self.assertEqual(
+            self.findings(cited),
+            [f"{path}:1: names `D-one-name`, which is no decision" for path in ["docs/ONE.md", "crates/sr_one/src/laws.rt"]],
+        )
 
     def test_each_rule_has_a_test(self):
         for rule in lint.RULES:

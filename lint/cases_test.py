@@ -1,0 +1,135 @@
+#!/usr/bin/env python3
+"""A run that is as its case says passes, and each thing that can be wrong is found out."""
+import contextlib
+import io
+import tempfile
+import time
+import unittest
+from pathlib import Path
+from unittest import mock
+
+import cases
+
+# Prints its input, says its arguments, each in brackets, and ends with 3.
+PROGRAM = """#!/bin/sh
+cat
+printf '[%s]' "$@" >&2
+printf '\\nand a line\\n' >&2
+exit 3
+"""
+IN_ORDER = {
+    "args": "one\ntwo words\n",
+    "stdin": "first\nsecond\n",
+    "stdout": "first\nsecond\n",
+    "stderr": "[one][two words]\nand a line\n",
+    "status": "3\n",
+}
+OK = ["check: case a_case ... ok"]
+
+
+class Cases(unittest.TestCase):
+    def outcome(self, changes, program=PROGRAM, names=("a_case",)):
+        """What is printed of a case where these files are changed, but for the last line; of None, a file is gone."""
+        with tempfile.TemporaryDirectory() as folder:
+            root = Path(folder)
+            (root / "program").write_text(program)
+            (root / "program").chmod(0o755)
+            case = root / "examples/cases/a_case"
+            case.mkdir(parents=True)
+            for name, text in {**IN_ORDER, **changes}.items():
+                if text is not None:
+                    (case / name).write_text(text)
+            printed = io.StringIO()
+            with contextlib.redirect_stdout(printed):
+                passed = cases.run_cases(root / "program", root, names)
+        lines = printed.getvalue().splitlines()
+        self.assertEqual(lines[-1], "1 passed, 0 failed" if passed else "0 passed, 1 failed")
+        return lines[:-1]
+
+    def assert_failed(self, found, *arguments):
+        self.assertEqual(self.outcome(*arguments), ["check: case a_case ... FAILED", *["    " + text for text in found]])
+
+    def test_in_order(self):
+        self.assertEqual(self.outcome({}), OK)
+        self.assertEqual(self.outcome({"lan.pcap": "octets", "lans.pcapng": "octets"}), OK)
+        silent = {"args": "", **dict.fromkeys(["stdin", "stdout", "stderr", "status"])}
+        self.assertEqual(self.outcome(silent, "#!/bin/sh\ncat\nexit $#\n"), OK)
+
+    def test_from_the_top(self):
+        program = "#!/bin/sh\ncat \"$1\"\n"
+        case = {"args": "examples/cases/a_case/lan.pcap\n", "lan.pcap": "octets", "stdout": "octets"}
+        self.assertEqual(self.outcome({**case, "stderr": None, "status": None}, program), OK)
+
+    def test_elsewhere(self):
+        case = {"stdin": None, "stdin-is": "examples/cases/a_case/lan.pcap\n", "lan.pcap": "first\nsecond\n"}
+        self.assertEqual(self.outcome(case), OK)
+        self.assertEqual(self.outcome({**case, "stdout": None, "stdout-is": "examples/cases/a_case/lan.pcap\n"}), OK)
+        wrong = "stdout, line 1, from column 1: wanted '#!/bin/sh\\n', got 'first\\n'"
+        self.assertEqual(self.outcome({**case, "stdout": None, "stdout-is": "program\n"})[1][:60], "    " + wrong[:56])
+
+    def test_stdout(self):
+        for text, difference in [
+            ("first\nthird\n", "line 2, from column 1: wanted 'third\\n', got 'second\\n'"),
+            ("first\n", "line 2, from column 1: wanted nothing, got 'second\\n'"),
+            ("first\nsecond\nthird\n", "line 3, from column 1: wanted 'third\\n', got nothing"),
+            ("first\nsecond", "line 2, from column 1: wanted 'second', got 'second\\n'"),
+            (None, "line 1, from column 1: wanted nothing, got 'first\\n'"),
+        ]:
+            self.assert_failed([f"stdout, {difference}"], {"stdout": text})
+        lines = {"stdin": "0" * 3000 + "1" * 3000, "stdout": "0" * 6000}
+        shown = "line 1, from column 2951: wanted '{}', got '{}'".format("0" * 100, "0" * 50 + "1" * 50)
+        self.assert_failed([f"stdout, {shown}"], lines)
+
+    def test_stderr(self):
+        wrong = "stderr, line 1, from column 1: wanted {}, got '[one][two words]\\n'"
+        self.assert_failed([wrong.format("'[one]\\n'")], {"stderr": "[one]\n"})
+        self.assert_failed([wrong.format("nothing")], {"stderr": None})
+
+    def test_parts_of_stderr(self):
+        for parts in [
+            {"stderr-begins": "[one][two words]\n"},
+            {"stderr-has": "two\nline\n"},
+            {"stderr-begins": "[one]", "stderr-has": "two\n"},
+        ]:
+            self.assertEqual(self.outcome({"stderr": None, **parts}), OK)
+        for parts, difference in [
+            ({"stderr-begins": "and a line\n"}, "stderr, line 1, from column 1: wanted 'and a line\\n', got '[one][two w'"),
+            ({"stderr-has": "two\nthree\n"}, "stderr: has no 'three'"),
+        ]:
+            self.assert_failed([difference], {"stderr": None, **parts})
+        self.assert_failed(["stderr: has no 'three'"], {"stderr-has": "three\n"})
+        wrong = "stderr, line 2, from column 1: wanted nothing, got 'and a line\\n'"
+        self.assert_failed([wrong], {"stderr": "[one][two words]\n", "stderr-has": "two\n"})
+
+    def test_status(self):
+        self.assert_failed(["status: wanted 2, got 3"], {"status": "2\n"})
+        self.assert_failed(["status: wanted 0, got 3"], {"status": None})
+        killed = {"args": "", **dict.fromkeys(["stdin", "stdout", "stderr", "status"])}
+        self.assert_failed(["status: wanted 0, got -9"], killed, "#!/bin/sh\nkill -9 $$\n")
+
+    def test_a_hanging_program(self):
+        begun = time.monotonic()
+        with mock.patch.object(cases, "MOST_SECONDS", 0.5):
+            self.assert_failed(["does not end within 0.5 seconds"], {}, "#!/bin/sh\nsleep 30\n")
+        self.assertLess(time.monotonic() - begun, 20)
+
+    def test_the_folder(self):
+        for changes, flaw in [
+            ({"args": None}, "has no `args`"),
+            (dict.fromkeys(IN_ORDER), "has no `args`"),
+            ({"stdour": ""}, "`stdour` is no file of a case"),
+            ({"stdin": None, "stdin-is": "examples/gone\n"}, "`stdin-is` names no file, or the file is here too"),
+            ({"stdin-is": "program\n"}, "`stdin-is` names no file, or the file is here too"),
+        ]:
+            self.assert_failed([flaw], changes)
+
+    def test_no_such_case(self):
+        found = ["check: case another ... FAILED", "    is no folder of examples/cases"]
+        self.assertEqual(self.outcome({}, PROGRAM, ["another"]), found)
+
+    def test_no_case_at_all(self):
+        self.assertEqual(self.outcome({}, PROGRAM, []), ["check: there is a case ... FAILED"])
+
+
+if __name__ == "__main__":
+    unittest.main()

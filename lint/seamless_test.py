@@ -1,0 +1,75 @@
+#!/usr/bin/env python3
+"""./seamless builds each crate once, whoever calls it and however often, and a build that was broken off is in nobody's way."""
+import os
+import shutil
+import signal
+import subprocess
+import tempfile
+import unittest
+from pathlib import Path
+
+SCRIPT = Path(__file__).resolve().parent.parent / "seamless"
+# In place of the toolchain: writes down which crate it builds, takes a moment, and makes a program that prints its arguments.
+TOOLCHAIN = """#!/usr/bin/env bash
+name=$(basename "$PWD")
+echo "$name" >>../../built
+sleep 0.5
+mkdir -p out
+if [ "$name" = sr_cli ]; then
+    printf '#!/bin/sh\\necho "$@"\\n' >out/sr_cli
+    chmod +x out/sr_cli
+fi
+"""
+
+
+class Seamless(unittest.TestCase):
+    def setUp(self):
+        self.top = Path(tempfile.mkdtemp())
+        self.addCleanup(shutil.rmtree, self.top)
+        (self.top / "crates.txt").write_text("sr_low:\nsr_cli: sr_low\n")
+        for name in ("sr_low", "sr_cli"):
+            (self.top / "crates" / name / "src").mkdir(parents=True)
+            (self.top / "crates" / name / "src" / "lib.rt").write_text("")
+        (self.top / "tools").mkdir()
+        (self.top / "tools" / "rt").write_text(TOOLCHAIN)
+        (self.top / "tools" / "rt").chmod(0o755)
+        shutil.copy(SCRIPT, self.top / "seamless")
+
+    def call(self, *arguments, script="seamless"):
+        tools = {**os.environ, "PATH": f"{self.top / 'tools'}:{os.environ['PATH']}"}
+        pipes = {"stdin": subprocess.DEVNULL, "stdout": subprocess.PIPE, "stderr": subprocess.PIPE}
+        return subprocess.Popen([self.top / script, *arguments], env=tools, text=True, start_new_session=True, **pipes)
+
+    def built(self):
+        return (self.top / "built").read_text().split()
+
+    def test_two_at_once(self):
+        calls = [self.call("first"), self.call("second")]
+        ended = [call.communicate(timeout=30) for call in calls]
+        self.assertEqual([out for out, _ in ended], ["first\n", "second\n"])
+        self.assertEqual(self.built(), ["sr_low", "sr_cli"])
+        self.assertEqual(sum("waiting for it" in err for _, err in ended), 1)
+
+    def test_nothing_to_build(self):
+        self.call().communicate(timeout=30)
+        self.assertEqual(self.call("again").communicate(timeout=30), ("again\n", ""))
+        self.assertEqual(self.built(), ["sr_low", "sr_cli"])
+
+    def test_broken_off(self):
+        call = self.call()
+        while not (self.top / "built").exists():
+            self.assertIsNone(call.poll())
+        os.killpg(call.pid, signal.SIGTERM)
+        call.communicate(timeout=30)
+        out, err = self.call("then").communicate(timeout=30)
+        self.assertEqual(out, "then\n")
+        self.assertNotIn("waiting for it", err)
+        self.assertEqual(self.built(), ["sr_low", "sr_low", "sr_cli"])
+
+    def test_through_a_link(self):
+        (self.top / "tools" / "seamless").symlink_to(self.top / "seamless")
+        self.assertEqual(self.call("linked", script="tools/seamless").communicate(timeout=30)[0], "linked\n")
+
+
+if __name__ == "__main__":
+    unittest.main()
