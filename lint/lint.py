@@ -263,8 +263,8 @@ def made_lacks(root):
 
 
 def dropped_keys(root):
-    """Keys that are given go on: a `with_keys` hands them to each table that it makes, and fixed ones stand in a `new` alone.
-    No clause can see them, since no answer depends on them."""
+    """Keys that are given go on: a `with_keys` hands them to each table that it makes, and fixed ones stand in a `new` or
+    a `with` alone. No clause can see them, since no answer depends on them."""
     sources = [path for path in sorted(root.glob("crates/*/src/**/*.rt")) if path.name != "tests.rt"]
     sources = [path for path in sources if not path.relative_to(root).parts[1].endswith("_tests")]
     keyed = {name for path in sources for name in re.findall(r"\b(\w+)::with_keys\(", path.read_text())}
@@ -279,10 +279,10 @@ def dropped_keys(root):
                 function, begun, hands_on = found[1], number, found[1] != "with_keys"
             elif function == "with_keys":
                 hands_on = hands_on or re.search(r"\bkeys\b", code) is not None
-                if any(name in keyed for name in re.findall(r"\b(\w+)::new\(", code)):
+                if any(name in keyed for name in re.findall(r"\b(\w+)::(?:new|with)\(", code)):
                     yield path, number, "makes a table without the keys that it is given"
-            if re.search(r"with_keys\(.*Keys::FIXED", code) and function != "new":
-                yield path, number, "makes a table with fixed keys outside a `new`"
+            if re.search(r"with_keys\(.*Keys::FIXED", code) and function not in ("new", "with"):
+                yield path, number, "makes a table with fixed keys outside a `new` or a `with`"
 
 
 def stripped(text):

@@ -116,7 +116,8 @@ class Lint(unittest.TestCase):
         for call, number, text in [
             ("Two::with_keys(two)", 4, "drops the keys that it is given"),
             ("keys, One::new()", 5, "makes a table without the keys that it is given"),
-            ("keys, Two::with_keys(Keys::FIXED)", 5, "makes a table with fixed keys outside a `new`"),
+            ("keys, One::with(two)", 5, "makes a table without the keys that it is given"),
+            ("keys, Two::with_keys(Keys::FIXED)", 5, "makes a table with fixed keys outside a `new` or a `with`"),
         ]:
             found = self.findings({source: given.replace("CALL", call)})
             self.assertEqual(found, [f"{source}:{number}: {text}"], call)

@@ -2,12 +2,12 @@
 
 use super::calls::{Absorbed, absorb, arrive_of_many};
 use super::frames::{OTHER, OWN, Sent, octets_of};
-use super::makers::danp;
+use super::makers::{danh, danp};
 use super::steps::Outcome;
 use sr_dup_table::DupFault;
 use sr_forwarding::{Danh, Danp, Role, RoleKind};
 use sr_frame::{Mac, Port};
-use sr_node::Node;
+use sr_node::{Node, Settings};
 use std::alloc::Global;
 
 /// Whether the node hands a role of another address back.
@@ -75,12 +75,23 @@ pub fn becomes(alloc: Global, node: &mut Node, kind: RoleKind) -> bool {
 }
 
 fn hears(node: &mut Node, sent: Sent, now: u64) -> bool {
-    arrive_of_many(node, Port::A, &octets_of(sent), now) == Outcome::Up
+    matches!(
+        arrive_of_many(node, Port::A, &octets_of(sent), now),
+        Outcome::Up | Outcome::UpAndB
+    )
+}
+
+/// A new node that reads this frame. None for want of memory.
+fn reader_of(alloc: Global, sent: Sent) -> Option<Node> {
+    match sent {
+        Sent::Tagged(..) => danh(alloc, Settings::PLAIN),
+        _ => danp(alloc),
+    }
 }
 
 /// Another node of the address, which heard this frame. None for want of memory.
 fn hearer(alloc: Global, sent: Sent, now: u64) -> Option<Node> {
-    let mut other = danp(alloc)?;
+    let mut other = reader_of(alloc, sent)?;
     if hears(&mut other, sent, now) {
         Some(other)
     } else {

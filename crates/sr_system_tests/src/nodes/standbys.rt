@@ -1,7 +1,9 @@
 //! Nodes that take over what others have noted.
 
-use super::frames::{OTHER, Sent};
-use super::steps::{Outcome, Step, Told, expect_steps};
+use super::frames::{EVERYONE, OTHER, Sent};
+use super::steps::{
+    Outcome, Step, Told, expect_ring_steps, expect_ring_steps_in_mode_x, expect_steps,
+};
 use sr_dup_table::DupFault;
 use sr_frame::Port;
 use sr_node_table::GREATEST_AGE;
@@ -41,6 +43,30 @@ const NOTHING_NOTED: &[Step] = &[
 #[test]
 fn a_new_node_takes_over(rt: HostRuntime) {
     expect_steps(&rt, NOTHING_NOTED);
+}
+
+// A node in mode X sends no copy back where the other node had the frame, though that one was in mode H; one in mode H
+// does.
+const HEARD_AT_A: Step = Step::Absorb(Sent::Tagged(EVERYONE, OTHER, 0, 7), 0, None);
+
+const COPY_AT_B: Sent = Sent::Tagged(EVERYONE, OTHER, 1, 7);
+
+#[test]
+fn a_standby_keeps_its_mode(rt: HostRuntime) {
+    expect_ring_steps_in_mode_x(
+        &rt,
+        &[
+            HEARD_AT_A,
+            Step::In(Port::B, COPY_AT_B, 0, Outcome::Nowhere),
+        ],
+    );
+    expect_ring_steps(
+        &rt,
+        &[
+            HEARD_AT_A,
+            Step::In(Port::B, COPY_AT_B, 0, Outcome::To(Port::A)),
+        ],
+    );
 }
 
 // Of numbers that are half of all apart, neither is ahead: the node stays as it is.

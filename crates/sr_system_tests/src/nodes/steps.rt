@@ -12,7 +12,7 @@ use super::taken::takes;
 use sr_dup_table::DupFault;
 use sr_forwarding::RoleKind;
 use sr_frame::{Mac, Port};
-use sr_node::{Node, StepFault};
+use sr_node::{Mode, Node, Settings, StepFault};
 use sr_node_table::Alarm;
 use sr_sequence::Seq;
 use std::alloc::Global;
@@ -102,7 +102,7 @@ pub enum Step {
     Time(u64),
     /// The node gets another role of its address, of this kind.
     Become(RoleKind),
-    /// The node takes over what a new node of its address has noted that heard this frame at port A at this time, or why not.
+    /// The node takes over what a new node of its address has noted, in mode H, that heard this frame at port A at this time, or why not.
     Absorb(Sent, u64, Option<DupFault>),
     /// So many frames of one node come in at port A at this time, under the numbers from 0 on, and each goes up.
     Fill(u16, u64),
@@ -200,8 +200,8 @@ fn first_wrong_of_danp(alloc: Global, steps: &[Step]) -> Option<usize> {
 }
 
 /// So for a new node of a ring.
-fn first_wrong_of_danh(alloc: Global, steps: &[Step]) -> Option<usize> {
-    match danh(alloc) {
+fn first_wrong_of_danh(alloc: Global, settings: Settings, steps: &[Step]) -> Option<usize> {
+    match danh(alloc, settings) {
         Some(mut node) => first_wrong_of(alloc, &mut node, steps),
         None => Some(steps.len()),
     }
@@ -217,10 +217,10 @@ fn wrong_danp(alloc: Global, steps: &[Step]) -> Option<usize> {
     }
 }
 
-fn wrong_danh(alloc: Global, steps: &[Step]) -> Option<usize> {
-    let wrong = first_wrong_of_danh(alloc, steps);
+fn wrong_danh(alloc: Global, settings: Settings, steps: &[Step]) -> Option<usize> {
+    let wrong = first_wrong_of_danh(alloc, settings, steps);
     if wrong == Some(steps.len()) {
-        first_wrong_of_danh(alloc, steps)
+        first_wrong_of_danh(alloc, settings, steps)
     } else {
         wrong
     }
@@ -234,6 +234,12 @@ pub fn expect_steps<R: Abort + AllocGlobal>(rt: &R, steps: &[Step]) {
 
 /// So for a new node of a ring.
 pub fn expect_ring_steps<R: Abort + AllocGlobal>(rt: &R, steps: &[Step]) {
-    let wrong = wrong_danh(rt.alloc(), steps);
+    let wrong = wrong_danh(rt.alloc(), Settings::PLAIN, steps);
+    assert_eq!(rt; wrong, None);
+}
+
+/// So for a new node of a ring in mode X.
+pub fn expect_ring_steps_in_mode_x<R: Abort + AllocGlobal>(rt: &R, steps: &[Step]) {
+    let wrong = wrong_danh(rt.alloc(), Settings { mode: Mode::X }, steps);
     assert_eq!(rt; wrong, None);
 }

@@ -5,7 +5,9 @@ ghost use Rattle.sr_plant.specs.Images.{plant_state};
 ghost use Rattle.sr_plant.specs.Plants.{IsInOrder};
 
 use super::frames::{KIND, To, destination, mac_of, octets_of};
-use super::makers::{danhs, danhs_of_which_one_is_crowded, danps, new_lans, new_ring};
+use super::makers::{
+    danhs, danhs_of_both_modes, danhs_of_which_one_is_crowded, danps, new_lans, new_ring,
+};
 use sr_forwarding::{Parcel, Role};
 use sr_frame::{Frame, FrameFault};
 use sr_plant::{PlantEvent, PlantFault, PlantOf};
@@ -36,6 +38,8 @@ pub enum Network {
     Ring(u8),
     /// The same, whose node 1 has no room for another source.
     CrowdedRing(u8),
+    /// A ring of so many nodes, of which those with an odd number are in mode X.
+    MixedRing(u8),
     /// Two LANs of so many nodes.
     TwinLan(u8),
 }
@@ -216,6 +220,11 @@ fn first_wrong_of(alloc: Global, network: Network, steps: &[Step]) -> Option<usi
         Network::CrowdedRing(count) => first_wrong(
             alloc,
             new_ring(alloc, danhs_of_which_one_is_crowded(alloc, count)),
+            steps,
+        ),
+        Network::MixedRing(count) => first_wrong(
+            alloc,
+            new_ring(alloc, danhs_of_both_modes(alloc, count)),
             steps,
         ),
         Network::TwinLan(count) => first_wrong(alloc, new_lans(alloc, danps(alloc, count)), steps),

@@ -174,6 +174,29 @@ fn crowded_rings(rt: HostRuntime) {
     expect_steps(&rt, rt.alloc(), Network::CrowdedRing(4), CROWDED);
 }
 
+// Of nodes in mode H and in mode X in turn, those in mode X send no copy back; each other node hands one up.
+const MIXED: &[Step] = &[
+    Step::Does(Act::Send(0, To::All)),
+    Step::Flow(6),
+    Step::Does(Act::Send(1, To::All)),
+    Step::Flow(6),
+    Step::Up(0, &[(1, To::All)]),
+    Step::Up(1, &[(0, To::All)]),
+    Step::Up(2, &[(0, To::All), (1, To::All)]),
+    Step::Up(3, &[(0, To::All), (1, To::All)]),
+    Step::Does(Act::Cut(1)),
+    Step::Does(Act::Send(0, To::All)),
+    Step::Flow(3),
+    Step::Up(1, &[(0, To::All), (0, To::All)]),
+    Step::Up(2, &[(0, To::All), (1, To::All), (0, To::All)]),
+    Step::Up(3, &[(0, To::All), (1, To::All), (0, To::All)]),
+];
+
+#[test]
+fn rings_of_both_modes(rt: HostRuntime) {
+    expect_steps(&rt, rt.alloc(), Network::MixedRing(4), MIXED);
+}
+
 // A copy goes to each other node in each LAN.
 const WHOLE_LANS: &[Step] = &[
     Step::Does(Act::Send(0, To::All)),

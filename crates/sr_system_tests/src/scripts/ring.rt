@@ -289,6 +289,54 @@ fn frames_go_round_the_ring_once(rt: HostRuntime) {
     expect_steps(&rt, ROUND);
 }
 
+// In mode X no copy goes back where one came in.
+const STOPPED: &[Step] = &[Step::At(
+    At::DanhX,
+    &[
+        These(b"in A 0 "),
+        These(FROM_THERE),
+        These(b"892f0034fbff0800"),
+        Times(46, ZERO),
+        These(b"\nin B 0 "),
+        These(FROM_THERE),
+        These(b"892f1034fbff0800"),
+        Times(46, ZERO),
+        These(b"\nin B 1 "),
+        These(FROM_THERE),
+        These(b"892f1034fc000800"),
+        Times(46, ZERO),
+        These(b"\nin A 1 "),
+        These(FROM_THERE),
+        These(b"892f0034fc000800"),
+        Times(46, ZERO),
+    ],
+    &[
+        These(b"H "),
+        These(FROM_THERE),
+        These(b"0800"),
+        Times(46, ZERO),
+        These(b"\nB "),
+        These(FROM_THERE),
+        These(b"892f0034fbff0800"),
+        Times(46, ZERO),
+        These(b"\nH "),
+        These(FROM_THERE),
+        These(b"0800"),
+        Times(46, ZERO),
+        These(b"\nA "),
+        These(FROM_THERE),
+        These(b"892f1034fc000800"),
+        Times(46, ZERO),
+        These(b"\n"),
+    ],
+    None,
+)];
+
+#[test]
+fn copies_stop_in_mode_x(rt: HostRuntime) {
+    expect_steps(&rt, STOPPED);
+}
+
 // With the Nth allocation refused, for any N.
 const TAKEN_UP: &[Step] = &[Step::TakenUp(
     At::Danh,

@@ -5,7 +5,7 @@ use super::failing::{Broken, EmptyLines, Interrupted, Narrow, Recorder, Sparse, 
 use super::texts::{Text, joined};
 use crate::answers::{Ending, are_answers, is_ended};
 use sr_frame::Mac;
-use sr_node::Settings;
+use sr_node::{Mode, Settings};
 use sr_prp_trailer::Lan;
 use sr_script::{PrpRouting, RoleName, Setup, run, run_status};
 use sr_session::{Fault, Word};
@@ -18,6 +18,8 @@ use std::io::{BufRead, BufReader, ErrorKind, Read, Write};
 pub enum At {
     Danp,
     Danh,
+    /// A node of a ring in mode X.
+    DanhX,
     San,
     /// At a LAN of the network of this number.
     Prp(Lan, u8),
@@ -49,7 +51,7 @@ fn run_as<R: BufRead, W: Write>(
 fn role_of(at: At) -> Option<RoleName> {
     Some(match at {
         At::Danp => RoleName::Danp,
-        At::Danh => RoleName::Danh,
+        At::Danh | At::DanhX => RoleName::Danh,
         At::San => RoleName::San,
         At::Prp(lan, net) => {
             if net == 0 || net > 6 {
@@ -61,19 +63,32 @@ fn role_of(at: At) -> Option<RoleName> {
     })
 }
 
+/// The settings of a node.
+fn settings_of(at: At) -> Settings {
+    match at {
+        At::DanhX => Settings { mode: Mode::X },
+        _ => Settings::PLAIN,
+    }
+}
+
 /// A node of this role with the address 02:00:00:00:00:01.
-fn node_of(role: RoleName) -> Setup {
+fn node_of(role: RoleName, settings: Settings) -> Setup {
     Setup {
         role,
         mac: Mac([2, 0, 0, 0, 0, 1]),
+        settings,
         keys: Keys::FIXED,
-        settings: Settings::PLAIN,
     }
+}
+
+/// The node of a run. None for a network that no path can name.
+fn setup_of(at: At) -> Option<Setup> {
+    Some(node_of(role_of(at)?, settings_of(at)))
 }
 
 /// A doubly attached node of a PRP network with that address.
 fn danp() -> Setup {
-    node_of(RoleName::Danp)
+    node_of(RoleName::Danp, Settings::PLAIN)
 }
 
 /// Whether a run writes this and ends so.
@@ -105,7 +120,7 @@ pub fn is_run_at(
     writes(
         told,
         alloc,
-        &node_of(role_of(at)?),
+        &setup_of(at)?,
         &script,
         &wanted,
         ending,
@@ -247,7 +262,7 @@ pub fn is_taken_up(
     script: &[u8],
     answers: &[&[u8]],
 ) -> Option<bool> {
-    let setup = node_of(role_of(at)?);
+    let setup = setup_of(at)?;
     let mut written: Vec<u8> = Vec::new(alloc);
     written.reserve(1000).ok()?;
     let mut reader = script;
