@@ -78,11 +78,6 @@ same_trailed lan net p octets has w most same =
     trailed_again lan net octets has.plain has.trailer p (subst (λ o. IsTrailed o has.plain has.trailer) (sym w) has.trailed) most has.seq_is
     (sym (without_trailer_is p.octets has.plain has.trailer has.trailed) ∙ same)
 
--- ordinary octets that were padded
-new_plain : (p : ParcelImage) (octets : List ℕ) → IsParcel p → octets ≡ padded_plain p → length octets ≤ 1518 → padded_plain p ≡ plain_written Ordinary p.form p → IsReadAgain Ordinary p octets
-new_plain p octets is w most same =
-    plain_again octets p (subst HasFrameLength (sym w) (padded_frame (plain_of p) (plain_frame p is) (omega (arith, ap length w, most)))) most (w ∙ same)
-
 again : (f : FramingImage) (form : Form) (p : ParcelImage) (octets : List ℕ) → form ≡ p.form → IsParcel p → IsWritten f form p octets → length octets ≤ longest f → IsReadAgain f p octets
 again (Tagged path) Plain p octets e is w most = new_tagged path path p octets is w (ap (λ g. plain_written (Tagged path) g p) e)
 again (Tagged path) Hsr p octets e is w most =
@@ -94,11 +89,9 @@ again (Trailed lan net) Hsr p octets e is w most = new_trailed lan net p octets 
 again (Trailed lan net) Prp p octets e is w most =
     same_trailed lan net p octets (subst (λ g. Carries g p.octets p.seq p.path) (sym e) is.carries) w most
     (ap (λ g. plain_in g p.octets) e ∙ ap (λ g. plain_written (Trailed lan net) g p) e)
-again Ordinary Plain p octets e is w most =
-    plain_again octets p (subst HasFrameLength (sym w) is.frame) most
-    (w ∙ ap (λ g. plain_in g p.octets) e ∙ ap (λ g. plain_written Ordinary g p) e)
-again Ordinary Hsr p octets e is w most = new_plain p octets is w most (ap (λ g. plain_written Ordinary g p) e)
-again Ordinary Prp p octets e is w most = new_plain p octets is w most (ap (λ g. plain_written Ordinary g p) e)
+again Ordinary form p octets e is w most =
+    let same : octets ≡ plain_of p = w ∙ ap (λ g. plain_in g p.octets) e in
+    plain_again octets p (subst HasFrameLength (sym same) (plain_frame p is)) most same
 
 pub read_again : (f : FramingImage) (p : ParcelImage) (octets : List ℕ) → IsParcel p → IsWritten f p.form p octets → length octets ≤ longest f → IsReadAgain f p octets
 read_again f p octets is w most = again f p.form p octets refl is w most

@@ -4,3 +4,4 @@ pub mod CarriageLemmas
 pub mod ReadingLemmas
 pub mod AgainLemmas
 pub mod OwnLemmas
+pub mod WritingLemmas

@@ -51,7 +51,7 @@ copy_for port.A p = p
 copy_for port.B p = p
 copy_for port.C p = p
 
--- what stands in what is written, without what carries the number: the plain form as it was where the octets stay, else padded
+-- what stands in what is written, without what carries the number: the plain form, padded where a tag or a trailer is new
 abbrev pub plain_written : FramingImage → Form → ParcelImage → List ℕ
 plain_written (Tagged path) form.Plain p = padded_plain p
 plain_written (Tagged path) form.Hsr p = plain_of p
@@ -59,9 +59,7 @@ plain_written (Tagged path) form.Prp p = padded_plain p
 plain_written (Trailed lan net) form.Plain p = padded_plain p
 plain_written (Trailed lan net) form.Hsr p = padded_plain p
 plain_written (Trailed lan net) form.Prp p = plain_of p
-plain_written Ordinary form.Plain p = plain_of p
-plain_written Ordinary form.Hsr p = padded_plain p
-plain_written Ordinary form.Prp p = padded_plain p
+plain_written Ordinary form p = plain_of p
 
 -- a tag and a trailer carry the number on
 abbrev pub KeepsNumber : FramingImage → ParcelImage → ParcelImage → Type 0

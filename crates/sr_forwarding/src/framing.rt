@@ -1,6 +1,6 @@
 //! How a port carries frames.
 
-ghost use Rattle.std.specs.Prelude.{◌≡◌, ◌≤◌, length, None, IfOk, OnOk, IfErr, OnErr};
+ghost use Rattle.std.specs.Prelude.{◌≡◌, ◌≢◌, ◌+◌, ◌≤◌, length, vec_len, vec_capacity, None, IfOk, OnOk, IfErr, OnErr, IsOk};
 ghost use Rattle.sr_frame.specs.Frame.{HasFrameLength, IsFrame};
 ghost use Rattle.sr_frame.specs.View.{fields_of};
 ghost use Rattle.sr_forwarding.specs.Decoding.{IsPlainParcel, IsNoFrame, IsRead, IsUnread, IsUndecoded};
@@ -40,6 +40,8 @@ pub(crate) fn append_as_it_is(out: &mut Vec<u8>, parcel: &ParcelView<'_>) -> Res
         (Grows (λ octets. octets ≡ parcel.now.octets) out.old.items out.new.items) }
     ensures err { IfErr result (λ e. e ≡ ReadFault.NoMemory) }
     ensures same { OnErr result (out.new.items ≡ out.old.items) }
+    ensures room { vec_len out.old + MAX_FRAME_LEN ≤ vec_capacity out.old → IsOk result }
+    ensures capacity { vec_capacity out.old ≤ vec_capacity out.new }
 {
     match out.extend_from_slice(parcel.octets()) {
         Ok(()) => Ok(()),
@@ -62,7 +64,7 @@ pub trait Framing: Drop {
         ensures ok { IfOk result (λ p. IsRead (meaning self.now) octets.now p) }
         ensures err { IfErr result (λ e. IsUnread (meaning self.now) octets.now e) };
 
-    /// Appends the octets that a parcel is written as to a list. A list with room for them takes no memory.
+    /// Appends the octets that a parcel is written as to a list. A list with room for 1524 octets takes no memory.
     ///
     /// `Untagged` where the parcel has no number and the port's form needs one, `TooLong` where more than 1524 octets would
     /// come of it, `NoMemory` where a growth was refused: the list then stays as it was.
@@ -72,7 +74,10 @@ pub trait Framing: Drop {
         ensures ok { OnOk result (write_fault (meaning self.now) parcel.now ≡ None) }
         ensures err { IfErr result (λ e.
             e ≡ or_no_memory (write_fault (meaning self.now) parcel.now)) }
-        ensures same { OnErr result (out.new.items ≡ out.old.items) };
+        ensures same { OnErr result (out.new.items ≡ out.old.items) }
+        ensures room { vec_len out.old + MAX_FRAME_LEN ≤ vec_capacity out.old
+            → result ≢ Err ReadFault.NoMemory }
+        ensures capacity { vec_capacity out.old ≤ vec_capacity out.new };
 
     /// The parcel that octets at the port are, with octets of its own that are copied once.
     ///

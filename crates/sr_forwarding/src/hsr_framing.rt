@@ -1,6 +1,6 @@
 //! Ports of an HSR ring: frames have a tag (IEC 62439-3 clause 5).
 
-ghost use Rattle.std.specs.Prelude.{◌≡◌, ◌<◌, None, IfOk, OnOk, IfErr, OnErr};
+ghost use Rattle.std.specs.Prelude.{◌≡◌, ◌≢◌, ◌+◌, ◌<◌, ◌≤◌, vec_len, vec_capacity, None, IfOk, OnOk, IfErr, OnErr};
 ghost use Rattle.sr_frame.specs.Frame.{IsFrame};
 ghost use Rattle.sr_frame.specs.View.{fields_of};
 ghost use Rattle.sr_forwarding.specs.Decoding.{IsTaggedParcel, IsUntagged};
@@ -49,6 +49,9 @@ fn write_tagged(out: &mut Vec<u8>, parcel: &ParcelView<'_>, path: u8) -> Result<
     ensures ok { OnOk result (number_fault parcel.now parcel.now.seq ≡ None) }
     ensures err { IfErr result (λ e. e ≡ or_no_memory (number_fault parcel.now parcel.now.seq)) }
     ensures same { OnErr result (out.new.items ≡ out.old.items) }
+    ensures room { vec_len out.old + MAX_FRAME_LEN ≤ vec_capacity out.old
+        → result ≢ Err ReadFault.NoMemory }
+    ensures capacity { vec_capacity out.old ≤ vec_capacity out.new }
 {
     let Some(seq) = parcel.seq() else {
         return Err(ReadFault::Untagged);

@@ -26,8 +26,9 @@ pub use framing::Framing;
 pub use header::Header;
 pub use hsr_framing::HsrFraming;
 pub use laws::{
-    readings_are_unique, routes_never_have_the_inlet, what_is_wanted_is_written,
-    what_is_written_is_read_again,
+    readings_are_unique, routes_never_have_the_inlet, want_of_memory_is_no_fault_of_a_parcel,
+    what_is_read_keeps_its_octets, what_is_wanted_is_written, what_is_written_is_read_again,
+    writings_are_unique,
 };
 pub use outlets::Outlets;
 pub use own_role::{OwnRole, Routing};

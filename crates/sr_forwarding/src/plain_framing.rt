@@ -1,13 +1,12 @@
 //! Ports of ordinary frames.
 
-ghost use Rattle.std.specs.Prelude.{◌≡◌, ◌+◌, ◌≤◌, ◌++◌, length, vec_len, vec_capacity, OnOk, IfErr, OnErr};
-ghost use Rattle.sr_frame.specs.Frame.{padded, spelling};
-ghost use Rattle.sr_frame.specs.View.{fields_of};
-ghost use Rattle.sr_forwarding.specs.Encoding.{Grows, padded_plain};
+ghost use Rattle.std.specs.Prelude.{◌≡◌, ◌+◌, ◌≤◌, vec_len, vec_capacity, OnOk, IfErr, OnErr, IsOk};
+ghost use Rattle.sr_forwarding.specs.Encoding.{Grows};
+ghost use Rattle.sr_forwarding.specs.Parcels.{plain_of};
 
 use crate::framing::{append_as_it_is, unnumbered, whole_frame};
 use crate::{Form, Framing, ParcelView, ReadFault};
-use sr_frame::{FrameView, MIN_PAYLOAD_LEN, NoMemory, append};
+use sr_frame::{MAX_FRAME_LEN, append};
 
 /// The most octets of a plain frame: 1518, which leaves room for a tag or a trailer.
 pub const MAX_PLAIN_LEN: usize = 1518;
@@ -16,37 +15,16 @@ pub const MAX_PLAIN_LEN: usize = 1518;
 #[derive(Clone, Copy, Debug)]
 pub struct PlainFraming;
 
-// Appends a frame, padded to `len`, to a list that has room for it.
-fn put_padded(out: &mut Vec<u8>, frame: &FrameView<'_>, len: usize)
-    requires len { len ≡ length (padded (spelling (fields_of frame.now))) }
-    requires room { vec_len out.old + len ≤ vec_capacity out.old }
-    ensures { out.new.items ≡ out.old.items ++ padded (spelling (fields_of frame.now)) }
-{
-    let end = out.len() + len;
-    append(out, frame).unwrap();
-    out.resize(end, 0).unwrap();
-}
-
-// Appends a frame, padded.
-fn append_padded(out: &mut Vec<u8>, frame: &FrameView<'_>) -> Result<(), NoMemory>
-    ensures ok { OnOk result (out.new.items ≡ out.old.items
-        ++ padded (spelling (fields_of frame.now))) }
-    ensures same { OnErr result (out.new.items ≡ out.old.items) }
-{
-    let len = frame.header_len() + frame.payload.len().max(MIN_PAYLOAD_LEN);
-    out.reserve(len)?;
-    put_padded(out, frame, len);
-    Ok(())
-}
-
-// Appends the plain form of a parcel, padded.
+// Appends the plain form of a parcel.
 fn write_plain(out: &mut Vec<u8>, parcel: &ParcelView<'_>) -> Result<(), ReadFault>
     ensures written { OnOk result
-        (Grows (λ octets. octets ≡ padded_plain parcel.now) out.old.items out.new.items) }
+        (Grows (λ octets. octets ≡ plain_of parcel.now) out.old.items out.new.items) }
     ensures err { IfErr result (λ e. e ≡ ReadFault.NoMemory) }
     ensures same { OnErr result (out.new.items ≡ out.old.items) }
+    ensures room { vec_len out.old + MAX_FRAME_LEN ≤ vec_capacity out.old → IsOk result }
+    ensures capacity { vec_capacity out.old ≤ vec_capacity out.new }
 {
-    append_padded(out, &parcel.plain())?;
+    append(out, &parcel.plain())?;
     Ok(())
 }
 

@@ -4,7 +4,7 @@ use Rattle.std.specs.Prelude.{replicate, max}
 use Rattle.std.specs.Int.{w16, to_be_bytes}
 use Rattle.std.proofs.lemmas.List.{append_assoc, length-append, take_all, length-replicate}
 use Rattle.sr_frame.specs.Frame.{Fields, IsLegal, head_of, spelling, least_len, padded}
-use Rattle.sr_frame.specs.LengthLemmas.{header_of, length-spelling, least_len-spelling}
+use Rattle.sr_frame.specs.LengthLemmas.{header_of, length-spelling, least_len-spelling, least_len_more, least_len_bounds}
 use Rattle.sr_sequence.specs.declared.Seq.{Seq}
 use Rattle.sr_hsr_tag.specs.declared.tag.HsrTag.{HsrTag}
 use Rattle.sr_hsr_tag.specs.Tagged.{IsTagged, tag_octets, octets_behind_type}
@@ -27,7 +27,7 @@ legal_tagged f payload legal most = record {
 }
 
 -- what is written, resized to its size, is the padded frame with the tag in it
-pub resized_is_tagged : (f : Fields) (own written : List ℕ) (path n h : ℕ) (seq : Seq) → IsLegal f → h ≡ least_len (spelling f) → n ≡ max (length f.payload) 46 + 6 → h + n ≤ 1524 → path < 16 → seq.0 < 2 ^ 16 → written ≡ head_of f ++ to_be_bytes w16 0x892F ++ (tag_octets (tag path n seq f.kind) ++ f.payload) → own ≡ take (h + n) written ++ replicate (h + n - length written) 0 → IsTagged own (padded (spelling f)) (tag path (octets_behind_type own) seq f.kind)
+pub resized_is_tagged : (f : Fields) (own written : List ℕ) (path n h : ℕ) (seq : Seq) → IsLegal f → h ≡ least_len (spelling f) → n ≡ max (length f.payload) 46 + 6 → h + n ≤ 1524 → path < 16 → seq.0 < 2 ^ 16 → written ≡ head_of f ++ to_be_bytes w16 0x892F ++ (tag_octets (tag path n seq f.kind) ++ f.payload) → own ≡ take (h + n) written ++ replicate (h + n - length written) 0 → IsTagged own (padded (spelling f)) (tag path (octets_behind_type own) seq f.kind) × (least_len own ≡ least_len (padded (spelling f)))
 resized_is_tagged f own written path n h seq legal h_is n_is most path_fits seq_fits written_is own_is =
     let t = tag path n seq f.kind in
     let head_len : length (head_of f) + 2 ≡ h = omega (arith, length-append (head_of f) (to_be_bytes w16 f.kind), least_len-spelling f legal, h_is) in
@@ -60,7 +60,8 @@ resized_is_tagged f own written path n h seq legal h_is n_is most path_fits seq_
       tag = record { path = path_fits; size = omega (arith, most); seq = seq_fits; inner = legal.kind };
     } in
     let Sized : ℕ → Type 0 = λ s. IsTagged own (padded (spelling f)) (tag path s seq f.kind) in
-    subst Sized size is
+    let behind : least_len (padded (spelling f)) ≡ least_len (spelling f) = least_len_more (spelling f) zeros (omega (arith, whole_len, h_is, least_len_bounds (spelling f))) in
+    (subst Sized size is, least ∙ h_is ∙ sym behind)
 
 -- a list that is resized behind an old part
 pub resized_behind : (old whole : List ℕ) (end n len : ℕ) → end ≡ length old + n → length whole ≤ n → len ≡ length (old ++ whole) → take end (old ++ whole) ++ replicate (end - len) 0 ≡ old ++ (take n whole ++ replicate (n - length whole) 0)

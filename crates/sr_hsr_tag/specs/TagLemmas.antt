@@ -1,10 +1,10 @@
 -- A tag at the front of a payload, and a tag in a whole frame.
-use Rattle.std.proofs.Common.{◌≡◌, ℕ, ◌+◌, ◌*◌, ◌<◌, ◌≤◌, ◌^◌, List, [], ◌++◌, length, take, drop, sym, ap, subst, refl, ◌∙◌, arith}
+use Rattle.std.proofs.Common.{◌≡◌, ℕ, ◌+◌, ◌*◌, ◌≤◌, List, [], ◌++◌, length, take, drop, sym, ap, subst, refl, ◌∙◌, arith}
 use Rattle.std.specs.Int.{w16, to_be_bytes}
 use Rattle.std.proofs.lemmas.List.{length-append, take-append-drop}
 use Rattle.sr_frame.specs.Frame.{Fields, IsLegal, head_of, least_len, spelling}
 use Rattle.sr_frame.specs.LengthLemmas.{header_of, length-spelling, least_len-spelling}
-use Rattle.sr_frame.specs.FrameLemmas.{same_parts, number_and_rest, spelled_once}
+use Rattle.sr_frame.specs.FrameLemmas.{same_parts, number_once, number_and_rest, spelled_once}
 use Rattle.sr_hsr_tag.specs.declared.tag.HsrTag.{HsrTag}
 use Rattle.sr_hsr_tag.specs.Tagged.{IsTag, IsTagged, tag_octets, with_type, octets_behind_type}
 
@@ -97,3 +97,32 @@ tagged_spelled_once octets others plain t a b sized_a sized_b =
     ∙ ap (λ (r : List ℕ). whole (head_of f) (tag_octets t ++ r) 0x892F) rests.1 ∙ ap
     (λ (h : List ℕ). whole h (tag_octets t ++ b.rest) 0x892F) heads.0
     ∙ sym (b.spelled ∙ ap (λ (k : ℕ). whole (head_of g) g.payload k) b.kind ∙ ap (λ (p : List ℕ). whole (head_of g) p 0x892F) b.payload)
+
+-- tags before the type of one frame, at one place, have one inner type
+placed_once : (octets others plain : List ℕ) (s t : HsrTag) → IsTagged octets plain s → IsTagged others plain t →
+    least_len octets ≡ least_len others → s.inner ≡ t.inner
+placed_once octets others plain s t a b place =
+    let f = a.fields in
+    let g = b.fields in
+    let la = lengths octets plain s a in
+    let lb = lengths others plain t b in
+    let one = to_be_bytes w16 s.inner in
+    let other = to_be_bytes w16 t.inner in
+    let heads_len : length (head_of f) ≡ length (head_of g) = omega (arith, la.1, lb.1, place) in
+    let fronts_len : length (head_of f ++ one)
+    ≡ length (head_of g ++ other) = omega (arith, length-append (head_of f) one, length-append (head_of g) other, heads_len) in
+    let rests = same_parts (head_of f ++ one) (head_of g ++ other) a.rest b.rest fronts_len (sym a.plain_is ∙ b.plain_is) in
+    let heads = same_parts (head_of f) (head_of g) one other heads_len rests.0 in
+    number_once s.inner t.inner a.tag.inner b.tag.inner heads.1
+
+-- a frame gets a tag of this path and number, of the right size, at its type's place in one way
+pub tagged_anew_once : (octets others plain : List ℕ) (s t : HsrTag) → IsTagged octets plain s → IsTagged others plain t →
+    s.path ≡ t.path → s.seq.0 ≡ t.seq.0 → least_len octets ≡ least_len others →
+    s.size ≡ octets_behind_type octets → t.size ≡ octets_behind_type others → octets ≡ others
+tagged_anew_once octets others plain s t a b path seq place sized_a sized_b =
+    let la = lengths octets plain s a in
+    let lb = lengths others plain t b in
+    let size : s.size ≡ t.size = omega (arith, la.0, lb.0, place, sized_a, sized_b) in
+    let same : s ≡ t = same_made s.path s.size s.seq.0 s.inner t.path t.size t.seq.0 t.inner path size seq
+    (placed_once octets others plain s t a b place) in
+    tagged_spelled_once octets others plain t (subst (λ u. IsTagged octets plain u) same a) b (sym size ∙ sized_a) sized_b

@@ -70,7 +70,7 @@ fn put_tagged(out: &mut Vec<u8>, frame: &FrameView<'_>, tag: HsrTag)
 /// Appends the frame to a list, with a tag before its type. A list with room for them takes no memory.
 ///
 /// A payload of fewer than 46 octets is padded with zeros, so that the tagged frame has 66 octets, or 70 with a
-/// VLAN tag. The tag's size counts the octets behind the type 0x892F to the end. `TooLong` where more than 1524
+/// VLAN tag. The tag stands where the frame's type does, behind a VLAN tag; its size counts the octets behind the type 0x892F to the end. `TooLong` where more than 1524
 /// octets would come of it; `NoMemory` where the growth was refused: the list then stays as it was.
 pub fn append_tagged(
     out: &mut Vec<u8>,
@@ -86,11 +86,14 @@ pub fn append_tagged(
           size = octets_behind_type own;
           seq = seq;
           inner = frame.now.kind;
-        }))) }
+        }) × (least_len own ≡ least_len plain))) }
     ensures err { OnErr result (out.new.items ≡ out.old.items) }
     ensures long { IsErrOf result FrameFault.TooLong
         ↔ (MAX_FRAME_LEN < length (padded (spelling (fields_of frame.now))) + 6) }
     ensures not_short { result ≢ Err FrameFault.TooShort }
+    ensures room { vec_len out.old + MAX_FRAME_LEN ≤ vec_capacity out.old
+        → result ≢ Err FrameFault.NoMemory }
+    ensures capacity { vec_capacity out.old ≤ vec_capacity out.new }
 {
     let payload_len = frame.payload.len().max(MIN_PAYLOAD_LEN);
     // Behind the tag's type stand its other four octets and the inner type, which are as many.
@@ -123,7 +126,7 @@ pub fn tagged(alloc: Global, frame: &FrameView<'_>, path: u8, seq: Seq) -> Resul
           size = octets_behind_type own;
           seq = seq;
           inner = frame.now.kind;
-        })) }
+        }) × (least_len own ≡ least_len plain)) }
     ensures long { IsErrOf result FrameFault.TooLong
         ↔ (MAX_FRAME_LEN < length (padded (spelling (fields_of frame.now))) + 6) }
     ensures not_short { result ≢ Err FrameFault.TooShort }

@@ -50,3 +50,13 @@ trailed_frame octets plain t is most =
     let same : least_len octets ≡ least_len plain = ap least_len is.spelled ∙ least_len_more plain (trailer_octets t)
     (omega (arith, least_len_bounds plain, long)) in
     record { least = omega (arith, same, long, ap length is.spelled, length-append plain (trailer_octets t)); most = most }
+
+-- a frame gets a trailer of this number and network in one way
+pub trailed_anew_once : (octets others plain : List ℕ) (s t : Trailer) → IsTrailed octets plain s → IsTrailed others plain t →
+    s.seq ≡ t.seq → s.lan ≡ t.lan → octets ≡ others
+trailed_anew_once octets others plain s t a b seq lan =
+    let long : length octets ≡ length plain + 6 = ap (λ (o : List ℕ). length o) a.spelled ∙ length-append plain (trailer_octets s) in
+    let along : length others ≡ length plain + 6 = ap (λ (o : List ℕ). length o) b.spelled ∙ length-append plain (trailer_octets t) in
+    let size : s.size ≡ t.size = omega (arith, long, along, a.size, b.size) in
+    let same : s ≡ t = λ j. record { seq = seq j; lan = lan j; size = size j } in
+    a.spelled ∙ ap (λ (u : Trailer). plain ++ trailer_octets u) same ∙ sym b.spelled

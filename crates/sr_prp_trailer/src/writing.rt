@@ -24,7 +24,8 @@ fn id_of(lan: Lan) -> u16
 fn put_trailer(out: &mut Vec<u8>, trailer: Trailer)
     requires small { trailer.size < 4096 }
     requires room { vec_len out.old + TRAILER_LEN ≤ vec_capacity out.old }
-    ensures { out.new.items ≡ out.old.items ++ trailer_octets trailer }
+    ensures items { out.new.items ≡ out.old.items ++ trailer_octets trailer }
+    ensures capacity { vec_capacity out.old ≤ vec_capacity out.new }
 {
     let word = id_of(trailer.lan) * 4096 + trailer.size;
     out.extend_from_slice(&trailer.seq.0.to_be_bytes()).unwrap();
@@ -66,6 +67,9 @@ pub fn append_trailed(
     ensures long { IsErrOf result FrameFault.TooLong
         ↔ (MAX_FRAME_LEN < length (padded (spelling (fields_of frame.now))) + TRAILER_LEN) }
     ensures not_short { result ≢ Err FrameFault.TooShort }
+    ensures room { vec_len out.old + MAX_FRAME_LEN ≤ vec_capacity out.old
+        → result ≢ Err FrameFault.NoMemory }
+    ensures capacity { vec_capacity out.old ≤ vec_capacity out.new }
 {
     let payload_len = frame.payload.len().max(MIN_PAYLOAD_LEN);
     let len = frame.header_len() + payload_len;

@@ -3,3 +3,4 @@ pub mod PrintedLines
 pub mod Arrivals
 pub mod StatusLines
 pub mod BegunRuns
+pub mod HostLines

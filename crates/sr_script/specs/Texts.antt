@@ -3,10 +3,9 @@ use Rattle.std.specs.Prelude.{◌≡◌, ℕ, List, [], ◌∷◌, ◌++◌, cod
 use Rattle.std.specs.Fmt.{decimal}
 use Rattle.hex.specs.Hex.{encode_lower}
 use Rattle.sr_frame.specs.declared.ports.Port.{Port}
-use Rattle.sr_frame.specs.declared.ports.Port.TheVariants.{H, A, B, C}
 use Rattle.sr_forwarding.specs.declared.fault.ReadFault.TheVariants as read
 use Rattle.sr_forwarding.specs.Encoding.{IsWritten}
-use Rattle.sr_forwarding.specs.Parcels.{ParcelImage, plain_of}
+use Rattle.sr_forwarding.specs.Parcels.{ParcelImage}
 use Rattle.sr_node.specs.declared.fault.StepFault.{StepFault}
 use Rattle.sr_node.specs.declared.fault.StepFault.TheVariants as fault
 use Rattle.sr_script.specs.declared.setups.RoleName.{RoleName}
@@ -22,12 +21,9 @@ printed words = spaced words ++ 10 ∷ []
 abbrev pub frame_line : Port → List ℕ → List ℕ
 frame_line port octets = printed (letter_of port ∷ encode_lower octets ∷ [])
 
--- the octets that a parcel goes out as: the host gets the plain form, every other outlet what its framing writes
+-- the octets that a parcel goes out as: what the framing of the port writes, at the host's port too
 abbrev pub GoesAs : RoleName → Port → ParcelImage → List ℕ → Type 0
-GoesAs role H p octets = octets ≡ plain_of p
-GoesAs role A p octets = IsWritten (framing_of role A) p.form p octets
-GoesAs role B p octets = IsWritten (framing_of role B) p.form p octets
-GoesAs role C p octets = IsWritten (framing_of role C) p.form p octets
+GoesAs role port p octets = IsWritten (framing_of role port) p.form p octets
 
 -- the line of a parcel
 abbrev pub IsLine : RoleName → Port → ParcelImage → List ℕ → Type 0

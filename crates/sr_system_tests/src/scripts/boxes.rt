@@ -45,6 +45,22 @@ fn interlinks_of_roles(rt: HostRuntime) {
     expect_steps(&rt, INLETS);
 }
 
+// A short frame of the ring goes out at an interlink of ordinary frames as short as it came, as it goes up.
+const SHORT: &[Step] = &[Step::At(
+    At::San,
+    &[These(b"in A 0 ffffffffffff020000000002892f000600050800")],
+    &[These(
+        b"H ffffffffffff0200000000020800\nB ffffffffffff020000000002892f000600050800\n\
+            C ffffffffffff0200000000020800\n",
+    )],
+    None,
+)];
+
+#[test]
+fn short_frames_at_an_interlink(rt: HostRuntime) {
+    expect_steps(&rt, SHORT);
+}
+
 // What is read at the interlink: any frame; one with a trailer; one with a tag. Elsewhere it takes a tag.
 const FORMS: &[Step] = &[
     Step::At(

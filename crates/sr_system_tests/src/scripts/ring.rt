@@ -206,6 +206,56 @@ fn longest_frames(rt: HostRuntime) {
     expect_steps(&rt, LONGEST);
 }
 
+// A tag goes behind the first VLAN tag, whatever type stands there, a second VLAN tag too; a frame in a VLAN is sent on as
+// it came, and handed up without its tag.
+const IN_A_VLAN: &[Step] = &[
+    Step::Ring(
+        &[
+            These(b"send 0 "),
+            These(FROM_HERE),
+            These(b"810000058100000600080000"),
+            Times(41, ZERO),
+        ],
+        &[
+            These(b"A "),
+            These(FROM_HERE),
+            These(b"81000005892f0034fbff8100000600080000"),
+            Times(41, ZERO),
+            These(b"\nB "),
+            These(FROM_HERE),
+            These(b"81000005892f1034fbff8100000600080000"),
+            Times(41, ZERO),
+            These(b"\n"),
+        ],
+        None,
+    ),
+    Step::Ring(
+        &[
+            These(b"in A 0 "),
+            These(FROM_THERE),
+            These(b"81000005892f003400078100000600080000"),
+            Times(41, ZERO),
+        ],
+        &[
+            These(b"H "),
+            These(FROM_THERE),
+            These(b"810000058100000600080000"),
+            Times(41, ZERO),
+            These(b"\nB "),
+            These(FROM_THERE),
+            These(b"81000005892f003400078100000600080000"),
+            Times(41, ZERO),
+            These(b"\n"),
+        ],
+        None,
+    ),
+];
+
+#[test]
+fn a_tag_stands_behind_a_vlan_tag(rt: HostRuntime) {
+    expect_steps(&rt, IN_A_VLAN);
+}
+
 // 13 octets are no frame, 14 are one without a tag; with a VLAN tag 17 and 18. A tag is cut off below 20 octets; the host
 // then gets the frame of 14 as it is.
 const SHORTEST: &[Step] = &[

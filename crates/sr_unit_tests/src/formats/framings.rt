@@ -45,10 +45,10 @@ fn is_copied_plain(alloc: Global, parcel: &Parcel, plain: &[u8]) -> Result<bool,
     Ok(own.octets() == plain)
 }
 
-// Whether it goes up to a host whole, with any padding behind it.
+// Whether it goes up to a host whole, with nothing behind it.
 fn goes_up(alloc: Global, parcel: &Parcel, plain: &[u8]) -> Result<bool, ReadFault> {
     let sent = PlainFraming.encode(alloc, parcel)?;
-    Ok(sent.octets().starts_with(plain))
+    Ok(sent.octets() == plain)
 }
 
 /// What a framing reads, and whether the plain form is this one.

@@ -13,7 +13,7 @@ returns-clause-ok c =
     let trailer = trailer_octets (record { seq = c.args.seq; lan = c.args.lan; size = c.max-payload_len.result + 6 }) in
     let own = padded (spelling f) ++ trailer in (
       own,
-      c.put_trailer.ensures ∙ ap (λ (l : List ℕ). l ++ trailer) (c.put_padded.ensures.items ∙ ap (λ (l : List ℕ). l ++ padded (spelling f)) c.in_ok-reserve.ensures.items) ∙ append_assoc c.args.out.now.items (padded (spelling f)) trailer,
+      c.put_trailer.ensures.items ∙ ap (λ (l : List ℕ). l ++ trailer) (c.put_padded.ensures.items ∙ ap (λ (l : List ℕ). l ++ padded (spelling f)) c.in_ok-reserve.ensures.items) ∙ append_assoc c.args.out.now.items (padded (spelling f)) trailer,
       appended_is f own c.args.seq c.args.lan c.max-payload_len.result c.args.frame.now.legal c.max-payload_len.ensures (omega (arith, c.header_len.ensures, c.if-len-gt-MAX_FRAME_LEN.false)) (omega arith) refl,
     )
 
