@@ -63,7 +63,13 @@ pub fn is_run(
     append(&mut octets, last, 1).ok()?;
     let mut text = Vec::new(alloc);
     append(&mut text, wanted, 1).ok()?;
-    writes(alloc, &setup_of(topology, nodes, settings)?, &octets, &text, ending)
+    writes(
+        alloc,
+        &setup_of(topology, nodes, settings)?,
+        &octets,
+        &text,
+        ending,
+    )
 }
 
 /// Whether a line is none of a script, behind one that is answered so.

@@ -37,15 +37,44 @@ fn plain(
     script: Text,
     wanted: Text,
 ) -> Option<bool> {
-    is_run(alloc, topology, nodes, settings, (script, 0, &[], &[]), wanted, None)
+    is_run(
+        alloc,
+        topology,
+        nodes,
+        settings,
+        (script, 0, &[], &[]),
+        wanted,
+        None,
+    )
 }
 
 /// Whether a run comes to what it has to. None for want of memory.
 fn comes(alloc: Global, step: Step) -> Option<bool> {
     match step {
-        Step::Ring(nodes, script, wanted) => plain(alloc, Topology::Ring, nodes, Settings::PLAIN, script, wanted),
-        Step::RingX(nodes, script, wanted) => plain(alloc, Topology::Ring, nodes, Settings { mode: Mode::X }, script, wanted),
-        Step::Lan(nodes, script, wanted) => plain(alloc, Topology::TwinLan, nodes, Settings::PLAIN, script, wanted),
+        Step::Ring(nodes, script, wanted) => plain(
+            alloc,
+            Topology::Ring,
+            nodes,
+            Settings::PLAIN,
+            script,
+            wanted,
+        ),
+        Step::RingX(nodes, script, wanted) => plain(
+            alloc,
+            Topology::Ring,
+            nodes,
+            Settings { mode: Mode::X },
+            script,
+            wanted,
+        ),
+        Step::Lan(nodes, script, wanted) => plain(
+            alloc,
+            Topology::TwinLan,
+            nodes,
+            Settings::PLAIN,
+            script,
+            wanted,
+        ),
         Step::Long(nodes, first, times, middle, last, wanted) => is_run(
             alloc,
             Topology::Ring,

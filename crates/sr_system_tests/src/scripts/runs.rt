@@ -117,14 +117,7 @@ pub fn is_run_at(
 ) -> Option<bool> {
     let script = joined(alloc, script)?;
     let wanted = joined(alloc, wanted)?;
-    writes(
-        told,
-        alloc,
-        &setup_of(at)?,
-        &script,
-        &wanted,
-        ending,
-    )
+    writes(told, alloc, &setup_of(at)?, &script, &wanted, ending)
 }
 
 /// Whether a run of a script with a last line writes this and ends so.
