@@ -27,7 +27,7 @@ use Rattle.sr_plant_laws.specs.RingLaws.{RingPremises}
 use Rattle.sr_plant_laws.specs.Examples.{mode_x_events, quiet_ring, CopiesStopInModeX}
 
 -- in mode X the table is asked also where copies came in
-is_asked : Handling → Lane → Bool
+abbrev is_asked : Handling → Lane → Bool
 is_asked d lane.H = d.wanted H
 is_asked d lane.A = d.wanted A
 is_asked d lane.B = d.wanted B
@@ -35,7 +35,7 @@ is_asked d lane.C = d.wanted C || is_at C d.inlet
 is_asked d lane.GotA = true
 is_asked d lane.GotB = true
 
-lanes_asked : Handling → Lanes
+abbrev lanes_asked : Handling → Lanes
 lanes_asked d = lanes_where (is_asked d)
 
 asked_of : (d : Handling) → is_empty (lanes_asked d) ≡ false → AreAsked each_one d (lanes_asked d)
@@ -71,13 +71,13 @@ second_b = copy_to 1 B (1 ∷ [])
 
 abbrev ring_run : PlantRun (ring 3) mode_x_events quiet_ring
 ring_run = (
-  on_its_way (second_b ∷ []),
+  on_its_way (second_a ∷ []),
   (
-    on_its_way (second_a ∷ second_b ∷ []),
+    on_its_way (second_b ∷ second_a ∷ []),
     (
-      on_its_way (first_b ∷ second_a ∷ []),
+      on_its_way (first_a ∷ second_b ∷ []),
       (
-        on_its_way (first_a ∷ first_b ∷ []),
+        on_its_way (first_b ∷ first_a ∷ []),
         (
           opening,
           refl,
@@ -88,41 +88,41 @@ ring_run = (
           ),
         ),
         (
-          first_a,
-          first_b ∷ [],
-          record { before = []; behind = first_b ∷ []; index = refl; whole = refl; left = refl },
+          first_b,
+          first_a ∷ [],
+          record { before = []; behind = first_a ∷ []; index = refl; whole = refl; left = refl },
           inr (inr (
-            first_copy danh_routes 1 A,
+            first_copy danh_routes 2 B,
             record { foreign = refl; inlet = refl; node = refl; port = refl; frame = refl; time = refl; says = refl; after = refl },
           )),
         ),
       ),
       (
-        first_b,
-        second_a ∷ [],
-        record { before = []; behind = second_a ∷ []; index = refl; whole = refl; left = refl },
+        first_a,
+        second_b ∷ [],
+        record { before = []; behind = second_b ∷ []; index = refl; whole = refl; left = refl },
         inr (inr (
-          first_copy danh_routes 2 B,
+          first_copy danh_routes 1 A,
           record { foreign = refl; inlet = refl; node = refl; port = refl; frame = refl; time = refl; says = refl; after = refl },
         )),
       ),
     ),
     (
-      second_a,
-      second_b ∷ [],
-      record { before = []; behind = second_b ∷ []; index = refl; whole = refl; left = refl },
+      second_b,
+      second_a ∷ [],
+      record { before = []; behind = second_a ∷ []; index = refl; whole = refl; left = refl },
       inr (inr (
-        second_copy danh_routes 2 A,
+        second_copy danh_routes 1 B,
         record { foreign = refl; inlet = refl; node = refl; port = refl; frame = refl; time = refl; says = refl; after = refl },
       )),
     ),
   ),
   (
-    second_b,
+    second_a,
     [],
     record { before = []; behind = []; index = refl; whole = refl; left = refl },
     inr (inr (
-      second_copy danh_routes 1 B,
+      second_copy danh_routes 2 A,
       record { foreign = refl; inlet = refl; node = refl; port = refl; frame = refl; time = refl; says = refl; after = refl },
     )),
   ),
@@ -226,34 +226,34 @@ ring_noted zero = (
   inl ((refl, tt), refl),
 )
 ring_noted (suc zero) = (
-  table_after (first_copy danh_routes 1 A),
+  after_both_1,
   (
     table_after (first_copy danh_routes 1 A),
     (
-      table_after (first_copy danh_routes 1 A),
+      [],
+      ([], ([], refl, inl ((refl, tt), refl)), inl ((refl, tt), refl)),
+      inr (inr (first_noted (first_copy danh_routes 1 A) 1 refl refl refl first_goes_1)),
+    ),
+    inr (inr second_noted_1),
+  ),
+  inl ((refl, tt), refl),
+)
+ring_noted (suc (suc zero)) = (
+  table_after (first_copy danh_routes 2 B),
+  (
+    table_after (first_copy danh_routes 2 B),
+    (
+      table_after (first_copy danh_routes 2 B),
       (
         [],
         ([], refl, inl ((refl, tt), refl)),
-        inr (inr (first_noted (first_copy danh_routes 1 A) 1 refl refl refl first_goes_1)),
+        inr (inr (first_noted (first_copy danh_routes 2 B) 2 refl refl refl first_goes_2)),
       ),
       inl ((refl, tt), refl),
     ),
     inl ((refl, tt), refl),
   ),
-  inr (inr second_noted_1),
-)
-ring_noted (suc (suc zero)) = (
-  after_both_2,
-  (
-    table_after (first_copy danh_routes 2 B),
-    (
-      [],
-      ([], ([], refl, inl ((refl, tt), refl)), inl ((refl, tt), refl)),
-      inr (inr (first_noted (first_copy danh_routes 2 B) 2 refl refl refl first_goes_2)),
-    ),
-    inr (inr second_noted_2),
-  ),
-  inl ((refl, tt), refl),
+  inr (inr second_noted_2),
 )
 ring_noted (suc (suc (suc k))) = (
   [],
@@ -261,12 +261,12 @@ ring_noted (suc (suc (suc k))) = (
     [],
     (
       [],
-      ([], ([], refl, inl ((refl, tt), refl)), inl ((is_none_of k 1 (omega arith), tt), refl)),
-      inl ((is_none_of k 2 (omega arith), tt), refl),
+      ([], ([], refl, inl ((refl, tt), refl)), inl ((is_none_of k 2 (omega arith), tt), refl)),
+      inl ((is_none_of k 1 (omega arith), tt), refl),
     ),
-    inl ((is_none_of k 2 (omega arith), tt), refl),
+    inl ((is_none_of k 1 (omega arith), tt), refl),
   ),
-  inl ((is_none_of k 1 (omega arith), tt), refl),
+  inl ((is_none_of k 2 (omega arith), tt), refl),
 )
 
 ring_premises : RingPremises 3 mac each_one lanes_noted mode_x_events quiet_ring
@@ -296,15 +296,15 @@ ring_premises = record {
   limits = (
     (
       (
-        ((tt, tt, few 0 (sent ∷ []) (omega arith)), (omega arith, omega arith), few 0 (first_copy danh_routes 1 A ∷ sent ∷ []) (omega arith)),
+        ((tt, tt, few 0 (sent ∷ []) (omega arith)), (omega arith, omega arith), few 0 (first_copy danh_routes 2 B ∷ sent ∷ []) (omega arith)),
         (omega arith, omega arith),
-        few 0 (first_copy danh_routes 2 B ∷ first_copy danh_routes 1 A ∷ sent ∷ []) (omega arith),
+        few 0 (first_copy danh_routes 1 A ∷ first_copy danh_routes 2 B ∷ sent ∷ []) (omega arith),
       ),
       (omega arith, omega arith),
-      few 0 (second_copy danh_routes 2 A ∷ first_copy danh_routes 2 B ∷ first_copy danh_routes 1 A ∷ sent ∷ []) (omega arith),
+      few 0 (second_copy danh_routes 1 B ∷ first_copy danh_routes 1 A ∷ first_copy danh_routes 2 B ∷ sent ∷ []) (omega arith),
     ),
     (omega arith, omega arith),
-    few 0 (second_copy danh_routes 1 B ∷ second_copy danh_routes 2 A ∷ first_copy danh_routes 2 B ∷ first_copy danh_routes 1 A ∷ sent ∷ []) (omega arith),
+    few 0 (second_copy danh_routes 2 A ∷ second_copy danh_routes 1 B ∷ first_copy danh_routes 1 A ∷ first_copy danh_routes 2 B ∷ sent ∷ []) (omega arith),
   );
 }
 
@@ -321,9 +321,9 @@ copies_stop_in_mode_x = record {
 }
   where
     unsent : WasPut 2 B f (done_in mode_x_events) → ⊥
-    unsent (inl put) = let node : suc zero ≡ suc (suc zero) = put.0 in omega (arith, node)
-    unsent (inr (inl put)) = let went : false ≡ true = put.2 in true≢false (sym went)
-    unsent (inr (inr (inl put))) = let went : false ≡ true = put.2 in true≢false (sym went)
-    unsent (inr (inr (inr (inl put)))) = let node : suc zero ≡ suc (suc zero) = put.0 in omega (arith, node)
+    unsent (inl put) = let went : false ≡ true = put.2 in true≢false (sym went)
+    unsent (inr (inl put)) = let node : suc zero ≡ suc (suc zero) = put.0 in omega (arith, node)
+    unsent (inr (inr (inl put))) = let node : suc zero ≡ suc (suc zero) = put.0 in omega (arith, node)
+    unsent (inr (inr (inr (inl put)))) = let went : false ≡ true = put.2 in true≢false (sym went)
     unsent (inr (inr (inr (inr (inl put))))) = let node : zero ≡ suc (suc zero) = put.0 in omega (arith, node)
     unsent (inr (inr (inr (inr (inr none))))) = none

@@ -1,0 +1,73 @@
+-- In an unbroken network each frame is handed up exactly once.
+use Rattle.std.proofs.Common.{ℕ, ◌<◌, length, refl, sym, subst, arith}
+use Rattle.sr_frame.specs.declared.ports.Port.TheVariants.{A}
+use Rattle.sr_plant_laws.specs.LanLaws.{LanRun, HasWholeCopy, LansHandUpOnce, LansHandUpTheIdeal, LansLoseNothing}
+use Rattle.sr_plant_laws.specs.Ledger.{made_in}
+use Rattle.sr_plant_laws.specs.PlantEvents.{done_in}
+use Rattle.sr_plant_laws.specs.PlantEvents as law
+use Rattle.sr_plant_laws.specs.RingLaws.{RingRun, HasWholeArc, RingHandsUpOnce, RingHandsUpTheIdeal, RingLosesNothing}
+use Rattle.sr_plant_laws.specs.RingParts.{Way, IsWhole}
+use Rattle.sr_plant_laws.specs.Rings.{ring, ring_part}
+use Rattle.sr_plant_laws.specs.TwinLans.{twin_lans, other_members, in_lan_a, in_lan_b}
+use Rattle.sr_plant_laws.proofs.LedgerLemmas.{put_makes}
+use Rattle.sr_plant.specs.declared.topology.Topology.TheVariants.{Ring, TwinLan}
+use Rattle.sr_plant_runs.specs.Histories.{mac_at, in_mode_x}
+use Rattle.sr_plant_runs.specs.Once.{HandsUpEachOnce}
+use Rattle.sr_plant_runs.proofs.FrameLemmas.{address_at}
+use Rattle.sr_plant_runs.proofs.HistoryRunLemmas.{run_told, made, have_tables, members_of, routed_of, sound_of, history_of}
+use Rattle.sr_plant_runs.proofs.OnceLemmas.{each_once}
+use Rattle.sr_plant_runs.proofs.RefusalLemmas.{unrefused}
+use Rattle.sr_plant_runs.proofs.TableLemmas.{lanes_of}
+use Rattle.sr_plant_runs.proofs.UnbrokenLemmas.{loses_nothing, ideal_for, open_all, arc, member_of, hop_of}
+
+pub rings_each_once : RingHandsUpTheIdeal → RingHandsUpOnce → RingLosesNothing → HandsUpEachOnce Ring
+rings_each_once ideal once loses starts turns s run own limits whole none j role ps at there =
+    let n = length starts in
+    let r = run_told Ring starts own turns s run in
+    let happened : RingRun (length starts) r.history r.plant = record {
+      run = r.run;
+      members = members_of Ring starts (done_in r.history) r.good;
+      routed = routed_of Ring starts (done_in r.history) r.good;
+      sound = sound_of Ring starts (done_in r.history) r.good;
+    } in
+    let tables = have_tables Ring starts own turns s (made Ring starts turns s run) run r in
+    let all = loses n (mac_at starts) (in_mode_x starts) lanes_of r.history r.plant (record { happened = happened; tables = tables; limits = r.limits limits }) ((history_of Ring starts turns s run r).quiet none) in
+    let up = each_once starts turns j ps (done_in r.history) r.sends (ideal n r.history r.plant happened j)
+    (once n (mac_at starts) (in_mode_x starts) lanes_of r.history r.plant (record { happened = happened; tables = tables; limits = r.limits limits }) j) (r.like.up j ps there) in
+    let kept = loses_nothing Ring starts turns s run r.history r.plant r.run r.told whole (unrefused Ring starts turns s run own) in (
+      up.0,
+      up.1,
+      up.2,
+      λ w frame seq sent other meant host. (let found = r.finds w frame seq sent in
+          let f = found.0 in
+          let way = arc n f (law.turns r.history) (open_all (ring n) r.history r.plant f kept) w.node j other
+          (subst (λ k. k < n) found.1.source found.1.shows.member) (address_at starts j role at).1 in
+          let whole_arc : HasWholeArc n r.history f j = subst (λ k. (w : Way) × (m : ℕ) × IsWhole (ring n) (ring_part n) f (law.turns r.history) w k m j) (sym found.1.source) way in
+          up.3 w f (all.1 f j (ideal_for starts w.node j role frame seq f (done_in r.history) found.1 other at meant host) whole_arc) found.1.source found.2),
+    )
+
+pub lans_each_once : LansHandUpTheIdeal → LansHandUpOnce → LansLoseNothing → HandsUpEachOnce TwinLan
+lans_each_once ideal once loses starts turns s run own limits whole none j role ps at there =
+    let n = length starts in
+    let r = run_told TwinLan starts own turns s run in
+    let happened : LanRun (length starts) r.history r.plant = record {
+      run = r.run;
+      members = members_of TwinLan starts (done_in r.history) r.good;
+      routed = routed_of TwinLan starts (done_in r.history) r.good;
+      sound = sound_of TwinLan starts (done_in r.history) r.good;
+    } in
+    let tables = have_tables TwinLan starts own turns s (made TwinLan starts turns s run) run r in
+    let all = loses n (mac_at starts) (in_mode_x starts) lanes_of r.history r.plant (record { happened = happened; tables = tables; limits = r.limits limits }) ((history_of TwinLan starts turns s run r).quiet none) in
+    let up = each_once starts turns j ps (done_in r.history) r.sends (ideal n r.history r.plant happened j)
+    (once n (mac_at starts) (in_mode_x starts) lanes_of r.history r.plant (record { happened = happened; tables = tables; limits = r.limits limits }) j) (r.like.up j ps there) in
+    let kept = loses_nothing TwinLan starts turns s run r.history r.plant r.run r.told whole (unrefused TwinLan starts turns s run own) in (
+      up.0,
+      up.1,
+      up.2,
+      λ w frame seq sent other meant host. (let found = r.finds w frame seq sent in
+          let f = found.0 in
+          let made : 0 < made_in (twin_lans n) (in_lan_a j) f (law.turns r.history) =
+          put_makes (twin_lans n) (law.turns r.history) w.node A (in_lan_a j) f refl found.1.put (hop_of A 0 w.node j (other_members n w.node) (member_of n w.node j (address_at starts j role at).1 other)) in
+          let whole_copy : HasWholeCopy n r.history f j = λ same. (let a = kept.lost (in_lan_a j) f in let b = kept.lost (in_lan_b j) f in omega (arith, same, a, b, made)) in
+          up.3 w f (all.1 f j (ideal_for starts w.node j role frame seq f (done_in r.history) found.1 other at meant host) whole_copy) found.1.source found.2),
+    )
