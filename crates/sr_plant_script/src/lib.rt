@@ -4,6 +4,7 @@
 mod answering;
 mod command;
 mod happening;
+mod laws;
 mod members;
 mod network;
 mod printing;
@@ -13,6 +14,7 @@ mod running;
 mod sending;
 mod setup;
 
+pub use laws::setups_make_plants;
 pub use running::run_plant;
 pub use setup::PlantSetup;
 pub use sr_plant::Topology;

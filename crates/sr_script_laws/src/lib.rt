@@ -1,0 +1,6 @@
+//! Laws over whole scripts of networks.
+#![tactic(auto)]
+
+mod laws;
+
+pub use laws::plant_scripts_are_runs;
