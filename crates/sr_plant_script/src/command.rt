@@ -1,8 +1,8 @@
 //! What a line of a script asks for.
 
 /// Whom a frame is for.
-#[derive(Clone, Copy)]
-pub(crate) enum Receiver {
+#[derive(Clone, Copy, Debug)]
+pub enum Receiver {
     /// All nodes.
     All,
     /// The node of this number.
@@ -10,8 +10,8 @@ pub(crate) enum Receiver {
 }
 
 /// What is done to the copy at a place, or to a link.
-#[derive(Clone, Copy)]
-pub(crate) enum Verb {
+#[derive(Clone, Copy, Debug)]
+pub enum Verb {
     /// The copy comes to its receiver.
     Carry,
     /// The copy is lost.
@@ -25,8 +25,8 @@ pub(crate) enum Verb {
 }
 
 /// What a line asks for. Its octets stand beside it.
-#[derive(Clone, Copy)]
-pub(crate) enum Command {
+#[derive(Clone, Copy, Debug)]
+pub enum Command {
     /// Nothing: the line is empty or begins with `#`.
     Skip,
     /// The host of the node of this number sends its octets there.

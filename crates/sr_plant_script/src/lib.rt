@@ -14,6 +14,7 @@ mod running;
 mod sending;
 mod setup;
 
+pub use command::{Command, Receiver, Verb};
 pub use laws::setups_make_plants;
 pub use running::run_plant;
 pub use setup::PlantSetup;
