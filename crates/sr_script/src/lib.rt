@@ -13,6 +13,7 @@ mod status;
 mod status_lines;
 
 pub use answering::{append_refusal, name_of};
+pub use reading::Command;
 pub use setups::{RoleName, Setup};
 pub use sr_redbox::PrpRouting;
 pub use starting::{run, run_status};

@@ -15,8 +15,8 @@ use sr_session::{MAX_LINE, Word};
 use sr_words::{behind_send, is_comment, number_of, read_hex, split_word};
 
 /// What a line asks for. Its octets stand beside it.
-#[derive(Clone, Copy)]
-pub(crate) enum Command {
+#[derive(Clone, Copy, Debug)]
+pub enum Command {
     /// Nothing: the line is empty or begins with `#`.
     Skip,
     /// Octets that arrive at a port, at a time in milliseconds.

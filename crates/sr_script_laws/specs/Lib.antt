@@ -1,1 +1,2 @@
+pub mod NodeScripts
 pub mod PlantScripts

@@ -1,9 +1,30 @@
 //! What a script does is a run.
 
+ghost use Rattle.sr_script_laws.specs.NodeScripts.{NodeScriptsAreRuns, ScriptsPrintEachOnce};
 ghost use Rattle.sr_script_laws.specs.PlantScripts.{PlantScriptsAreRuns};
 
+use sr_node_runs::each_frame_goes_out_once;
 use sr_plant_runs::runs_with_all_taken_are_runs;
 use sr_plant_script::setups_make_plants;
+
+/// What comes of the lines of a script of a node, as `run` answers them, is a run of the node. Its turns are the events that
+/// the lines ask for and the node takes, and after each the takes of all that waits, outlet by outlet. What is printed is,
+/// piece by piece, of each parcel that was taken out at an outlet a line with the octets that the outlet's framing writes,
+/// and the lines that tell refusals. At the end nothing waits.
+///
+/// It holds for every numbering: whichever whole numbers the 16 bits of the frames that came in stand for. All is said along
+/// the answers to the lines, so that nothing in it is left open.
+pub fn node_scripts_are_runs()
+    ensures { NodeScriptsAreRuns }
+{}
+
+/// So what a script prints at each outlet is, in order, what came in and is wanted there, each pair of source and number
+/// once: where the numbering makes the run steady.
+pub fn scripts_print_each_frame_once()
+    ensures { ScriptsPrintEachOnce }
+{
+    each_frame_goes_out_once();
+}
 
 /// What comes of the lines of a script of a network, as `run_plant` answers them, is a run of the network from which what
 /// nodes handed up is taken away after each event, and of which all that was ever handed up is what a run hands up from

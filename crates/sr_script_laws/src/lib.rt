@@ -1,6 +1,6 @@
-//! Laws over whole scripts of networks.
+//! Laws over whole scripts of nodes and of networks.
 #![tactic(auto)]
 
 mod laws;
 
-pub use laws::plant_scripts_are_runs;
+pub use laws::{node_scripts_are_runs, plant_scripts_are_runs, scripts_print_each_frame_once};

@@ -1,0 +1,5 @@
+use Rattle.sr_script_laws.proofs.NodeLemmas.{node_scripts_are_runs}
+use Rattle.sr_script_laws.proofs.laws.node_scripts_are_runs.Goals as goal
+
+pub returns : goal.returns
+returns c = node_scripts_are_runs
