@@ -48,10 +48,10 @@ use Rattle.sr_script_laws.specs.NodeScripts.{
 }
 
 -- from these turns on there is a run to these others, of which this text tells in these pieces, and which leaves this node
-record Leads (start : Start) (role : RoleName) (turns after : List Turn) (pieces : List Piece) (text : List ℕ) (t : State) : Type 0 where
-  run : Run start after t
-  out : (o : Port) → taken o after ≡ taken o turns ++ outward_at o pieces
-  printed : ArePrinted role pieces text
+pub record Leads (start : Start) (role : RoleName) (turns after : List Turn) (pieces : List Piece) (text : List ℕ) (t : State) : Type 0 where
+  pub run : Run start after t
+  pub out : (o : Port) → taken o after ≡ taken o turns ++ outward_at o pieces
+  pub printed : ArePrinted role pieces text
 
 outward_more : (o : Port) (a b : List Piece) → outward_at o (a ++ b) ≡ outward_at o a ++ outward_at o b
 outward_more o [] b = refl
@@ -124,7 +124,7 @@ tick_on start role turns s number time text u run (inl (a, stepped, none)) =
 tick_on start role turns s number time text u run (inr (fault, name, why, named, line, same)) =
     refuses start role turns s u number name text run line same
 
-obeys_on : (start : Start) (role : RoleName) (turns : List Turn) (s : State) (number : ℕ) (command : Command) (octets text : List ℕ) (u : State)
+pub obeys_on : (start : Start) (role : RoleName) (turns : List Turn) (s : State) (number : ℕ) (command : Command) (octets text : List ℕ) (u : State)
     (n : ℤ) → Run start turns s → (h : Obeys role s number command octets text u) →
     Leads start role turns (command_turns role s number command octets text u n h turns) (command_pieces role s number command octets text u h) text u
 obeys_on start role turns s number Skip octets text u n run (none, same) =
@@ -156,7 +156,7 @@ box_twice o C ps qs = refl
 abbrev with_boxes : State → Outboxes → State
 with_boxes s o = record s { core = record s.core { out = o } }
 
-taken_out : (start : Start) (s : State) (port : Port) (ps : List ParcelImage) (turns : List Turn) → Run start turns s →
+pub taken_out : (start : Start) (s : State) (port : Port) (ps : List ParcelImage) (turns : List Turn) → Run start turns s →
     ps ≡ box_at s.core.out port → Run start (takes_all s port ps turns) (emptied s port)
 taken_out start s port [] turns run none =
     subst (Run start turns) (ap (with_boxes s) (sym (own_box s.core.out port) ∙ ap (with_at s.core.out port) (sym none))) run

@@ -1,2 +1,3 @@
 pub mod NodeScripts
+pub mod StatusScripts
 pub mod PlantScripts

@@ -83,7 +83,8 @@ emptied_turns role s text t (h, a, b, c, u, v, w, at_h, at_a, at_b, at_c, parts)
 
 abbrev pub emptied_pieces : (role : RoleName) (s : State) (text : List ℕ) (t : State) → AllEmptied role s text t → List Piece
 emptied_pieces role s text t (h, a, b, c, u, v, w, at_h, at_a, at_b, at_c, parts) =
-    outward H (box_at s.core.out H) ∷ outward A (box_at u.core.out A) ∷ outward B (box_at v.core.out B) ∷ outward C (box_at w.core.out C) ∷ []
+    outward H (box_at s.core.out H)
+    ∷ (outward A (box_at u.core.out A) ∷ (outward B (box_at v.core.out B) ∷ (outward C (box_at w.core.out C) ∷ [])))
 
 -- a line: what it asks for, and then all that waits is taken out
 abbrev pub line_turns : (role : RoleName) (s : State) (number : ℕ) (line text : List ℕ) (t : State) → ℤ →

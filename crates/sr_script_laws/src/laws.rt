@@ -2,8 +2,9 @@
 
 ghost use Rattle.sr_script_laws.specs.NodeScripts.{NodeScriptsAreRuns, ScriptsPrintEachOnce};
 ghost use Rattle.sr_script_laws.specs.PlantScripts.{PlantScriptsAreRuns};
+ghost use Rattle.sr_script_laws.specs.StatusScripts.{StatusScriptsAreRuns, StatusesTellWhatWasHeard};
 
-use sr_node_runs::each_frame_goes_out_once;
+use sr_node_runs::{each_frame_goes_out_once, status_is_of_what_was_heard};
 use sr_plant_runs::runs_with_all_taken_are_runs;
 use sr_plant_script::setups_make_plants;
 
@@ -24,6 +25,19 @@ pub fn scripts_print_each_frame_once()
     ensures { ScriptsPrintEachOnce }
 {
     each_frame_goes_out_once();
+}
+
+/// What comes of the lines of a script of a node at whose end the status is told, as `run_status` answers them, is a run of
+/// the node, with the same turns.
+pub fn status_scripts_are_runs()
+    ensures { StatusScriptsAreRuns }
+{}
+
+/// So what such a script tells of each address is what the node heard of it in that run since its last silence.
+pub fn statuses_tell_what_was_heard()
+    ensures { StatusesTellWhatWasHeard }
+{
+    status_is_of_what_was_heard();
 }
 
 /// What comes of the lines of a script of a network, as `run_plant` answers them, is a run of the network from which what
