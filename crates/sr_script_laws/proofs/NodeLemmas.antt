@@ -1,26 +1,25 @@
 -- What a script of a node does is a run, step by step along the answers to its lines.
-use Rattle.std.proofs.Common.{◌≡◌, ℕ, ◌+◌, ℤ, Bool, true, false, List, [], ◌∷◌, ◌++◌, Some, inl, inr, refl, sym, ap, subst, ◌∙◌}
-use Rattle.std.specs.Prelude.{pos, drop, if◌then◌else◌}
+use Rattle.std.proofs.Common.{◌≡◌, ℕ, ◌+◌, ℤ, List, [], ◌∷◌, ◌++◌, inl, inr, refl, sym, ap, subst, ◌∙◌}
+use Rattle.std.specs.Prelude.{if◌then◌else◌}
 use Rattle.std.proofs.lemmas.List.{append-nil, append_assoc}
 use Rattle.sr_frame.specs.declared.ports.Port.{Port}
 use Rattle.sr_frame.specs.declared.ports.Port.TheVariants.{H, A, B, C}
 use Rattle.sr_forwarding.specs.Parcels.{ParcelImage}
 use Rattle.sr_node.specs.declared.event.Event.{Event}
 use Rattle.sr_node.specs.declared.event.Event.TheVariants as event
-use Rattle.sr_node.specs.declared.event.Answer.TheVariants as answer
 use Rattle.sr_node.specs.Images.{State}
-use Rattle.sr_node.specs.Outboxes.{Outboxes, box_at, boxes_left, first_of}
-use Rattle.sr_node.specs.PerPort.{at, with_at}
+use Rattle.sr_node.specs.Outboxes.{box_at}
 use Rattle.sr_node.specs.Starts.{Start}
 use Rattle.sr_node_runs.specs.NodeRuns.{Turn, happened, Run}
 use Rattle.sr_node_runs.specs.Brought.{is_at, parcels_of, taken, went}
+use Rattle.sr_node_runs.specs.Emptying.{takes_all, EmptiesOutlets, TakesWhatWaits}
 use Rattle.sr_node_runs.specs.NodeLaws.{EachOnce}
 use Rattle.sr_session.specs.Runs.{Replies}
 use Rattle.sr_script.specs.declared.reading.Command.{Command}
 use Rattle.sr_script.specs.declared.reading.Command.TheVariants.{Skip, Arrive, Send, Tick}
 use Rattle.sr_script.specs.declared.setups.RoleName.{RoleName}
 use Rattle.sr_script.specs.declared.setups.Setup.{Setup}
-use Rattle.sr_script.specs.Replies.{left_at, emptied, Emptied, AllEmptied, ArrivesSo, StepsSo, Obeys, Replied, replay_dialogue}
+use Rattle.sr_script.specs.Replies.{emptied, Emptied, AllEmptied, ArrivesSo, StepsSo, Obeys, Replied, replay_dialogue}
 use Rattle.sr_script.specs.Stations.{Station, start_of}
 use Rattle.sr_script.specs.Texts.{refusal_line}
 use Rattle.sr_script_laws.specs.NodeScripts.{
@@ -34,7 +33,6 @@ use Rattle.sr_script_laws.specs.NodeScripts.{
   step_pieces,
   command_turns,
   command_pieces,
-  takes_all,
   emptied_turns,
   emptied_pieces,
   line_turns,
@@ -133,80 +131,28 @@ obeys_on start role turns s number (Arrive port time) octets text u n run h = ar
 obeys_on start role turns s number (Send time) octets text u n run h = send_on start role turns s number octets time text u run h
 obeys_on start role turns s number (Tick time) octets text u n run h = tick_on start role turns s number time text u run h
 
--- queues
-own_box : (o : Outboxes) (port : Port) → with_at o port (at o port) ≡ o
-own_box o H = refl
-own_box o A = refl
-own_box o B = refl
-own_box o C = refl
-
-box_there : (o : Outboxes) (port : Port) (ps : List ParcelImage) → at (with_at o port ps) port ≡ ps
-box_there o H ps = refl
-box_there o A ps = refl
-box_there o B ps = refl
-box_there o C ps = refl
-
-box_twice : (o : Outboxes) (port : Port) (ps qs : List ParcelImage) → with_at (with_at o port ps) port qs ≡ with_at o port qs
-box_twice o H ps qs = refl
-box_twice o A ps qs = refl
-box_twice o B ps qs = refl
-box_twice o C ps qs = refl
-
--- the node with these queues
-abbrev with_boxes : State → Outboxes → State
-with_boxes s o = record s { core = record s.core { out = o } }
-
-pub taken_out : (start : Start) (s : State) (port : Port) (ps : List ParcelImage) (turns : List Turn) → Run start turns s →
-    ps ≡ box_at s.core.out port → Run start (takes_all s port ps turns) (emptied s port)
-taken_out start s port [] turns run none =
-    subst (Run start turns) (ap (with_boxes s) (sym (own_box s.core.out port) ∙ ap (with_at s.core.out port) (sym none))) run
-taken_out start s port (p ∷ ps) turns run some =
-    let next : Run start (happened s (event.Take port) (answer.Taken (Some p)) (pos 0) ∷ turns) (left_at s port) =
-    (run, refl, (ap first_of some, refl)) in
-    let rest : ps ≡ box_at (left_at s port).core.out port =
-    ap (λ (x : List ParcelImage). drop 1 x) some ∙ sym (box_there s.core.out port (drop 1 (at s.core.out port))) in
-    subst (Run start (takes_all (left_at s port) port ps (happened s (event.Take port) (answer.Taken (Some p)) (pos 0) ∷ turns)))
-    (ap (with_boxes s) (box_twice s.core.out port (drop 1 (at s.core.out port)) []))
-    (taken_out start (left_at s port) port ps (happened s (event.Take port) (answer.Taken (Some p)) (pos 0) ∷ turns) next rest)
-
-one_more : (b : Bool) (qs ps : List ParcelImage) (p : ParcelImage) →
-    (qs ++ (if b then p ∷ [] else [])) ++ (if b then ps else []) ≡ qs ++ (if b then p ∷ ps else [])
-one_more true qs ps p = append_assoc qs (p ∷ []) ps
-one_more false qs ps p = ap (λ (x : List ParcelImage). x ++ []) (append-nil qs)
-
-none_more : (b : Bool) (qs : List ParcelImage) → qs ≡ qs ++ (if b then [] else [])
-none_more true qs = sym (append-nil qs)
-none_more false qs = sym (append-nil qs)
-
-taken_more : (o : Port) (s : State) (port : Port) (ps : List ParcelImage) (turns : List Turn) →
-    taken o (takes_all s port ps turns) ≡ taken o turns ++ (if is_at o port then ps else [])
-taken_more o s port [] turns = none_more (is_at o port) (taken o turns)
-taken_more o s port (p ∷ ps) turns =
-    taken_more o (left_at s port) port ps (happened s (event.Take port) (answer.Taken (Some p)) (pos 0) ∷ turns)
-    ∙ one_more (is_at o port) (taken o turns) ps p
-
 -- an outlet is emptied
-empties_on : (start : Start) (role : RoleName) (turns : List Turn) (s : State) (port : Port) (text : List ℕ) (u : State) → Run start turns s →
+empties_on : EmptiesOutlets → TakesWhatWaits → (start : Start) (role : RoleName) (turns : List Turn) (s : State) (port : Port) (text : List ℕ) (u : State) → Run start turns s →
     Emptied role port s text u →
     Leads start role turns (takes_all s port (box_at s.core.out port) turns) (outward port (box_at s.core.out port) ∷ []) text u
-empties_on start role turns s port text u run (are, same) = record {
-  run = subst (Run start (takes_all s port (box_at s.core.out port) turns)) (sym same) (taken_out start s port (box_at s.core.out port) turns run refl);
-  out = λ o. taken_more o s port (box_at s.core.out port) turns
+empties_on empty grows start role turns s port text u run (are, same) = record {
+  run = subst (Run start (takes_all s port (box_at s.core.out port) turns)) (sym same) (empty start turns s port run);
+  out = λ o. grows o s port (box_at s.core.out port) turns
       ∙ ap (λ (x : List ParcelImage). taken o turns ++ x) (sym (append-nil (if is_at o port then box_at s.core.out port else [])));
   printed = (text, [], are, refl, sym (append-nil text));
 }
 
-all_on : (start : Start) (role : RoleName) (turns : List Turn) (s : State) (text : List ℕ) (t : State) → Run start turns s →
+all_on : EmptiesOutlets → TakesWhatWaits → (start : Start) (role : RoleName) (turns : List Turn) (s : State) (text : List ℕ) (t : State) → Run start turns s →
     (h : AllEmptied role s text t) → Leads start role turns (emptied_turns role s text t h turns) (emptied_pieces role s text t h) text t
-all_on start role turns s text t run (h, a, b, c, u, v, w, at_h, at_a, at_b, at_c, parts) =
+all_on empty grows start role turns s text t run (h, a, b, c, u, v, w, at_h, at_a, at_b, at_c, parts) =
     let from_h = takes_all s H (box_at s.core.out H) turns in
     let from_a = takes_all u A (box_at u.core.out A) from_h in
     let from_b = takes_all v B (box_at v.core.out B) from_a in
     let from_c = takes_all w C (box_at w.core.out C) from_b in
-    let l_h = empties_on start role turns s H h u run at_h in
-    let l_a = empties_on start role from_h u A a v l_h.run at_a in
-    let l_b = empties_on start role from_a v B b w l_a.run at_b in
-    let l_c = empties_on start role from_b w C c t l_b.run at_c in
+    let l_h = empties_on empty grows start role turns s H h u run at_h in
+    let l_a = empties_on empty grows start role from_h u A a v l_h.run at_a in
+    let l_b = empties_on empty grows start role from_a v B b w l_a.run at_b in
+    let l_c = empties_on empty grows start role from_b w C c t l_b.run at_c in
     let bc = then start role from_a from_b from_c (outward B (box_at v.core.out B) ∷ []) (outward C (box_at w.core.out C) ∷ []) b c w t l_b l_c in
     let abc = then start role from_h from_a from_c (outward A (box_at u.core.out A) ∷ [])
     (outward B (box_at v.core.out B) ∷ outward C (box_at w.core.out C) ∷ []) a (b ++ c) v t l_a bc in
@@ -215,33 +161,33 @@ all_on start role turns s text t run (h, a, b, c, u, v, w, at_h, at_a, at_b, at_
     (then start role turns from_h from_c (outward H (box_at s.core.out H) ∷ [])
     (outward A (box_at u.core.out A) ∷ outward B (box_at v.core.out B) ∷ outward C (box_at w.core.out C) ∷ []) h (a ++ (b ++ c)) u t l_h abc)
 
-replied_on : (start : Start) (role : RoleName) (turns : List Turn) (s : State) (number : ℕ) (line text : List ℕ) (t : State) (n : ℤ) →
+replied_on : EmptiesOutlets → TakesWhatWaits → (start : Start) (role : RoleName) (turns : List Turn) (s : State) (number : ℕ) (line text : List ℕ) (t : State) (n : ℤ) →
     Run start turns s → (h : Replied role s number line text t) →
     Leads start role turns (line_turns role s number line text t n h turns) (line_pieces role s number line text t h) text t
-replied_on start role turns s number line text t n run (command, octets, says, told, u, obeys, lines, empty, parts) =
+replied_on empty grows start role turns s number line text t n run (command, octets, says, told, u, obeys, lines, all, parts) =
     let mid = command_turns role s number command octets told u n obeys turns in
     let first = obeys_on start role turns s number command octets told u n run obeys in
-    let second = all_on start role mid u lines t first.run empty in
-    subst (λ (x : List ℕ). Leads start role turns (emptied_turns role u lines t empty mid) (command_pieces role s number command octets told u obeys ++ emptied_pieces role u lines t empty) x t)
+    let second = all_on empty grows start role mid u lines t first.run all in
+    subst (λ (x : List ℕ). Leads start role turns (emptied_turns role u lines t all mid) (command_pieces role s number command octets told u obeys ++ emptied_pieces role u lines t all) x t)
     (sym parts)
-    (then start role turns mid (emptied_turns role u lines t empty mid) (command_pieces role s number command octets told u obeys)
-    (emptied_pieces role u lines t empty) told lines u t first second)
+    (then start role turns mid (emptied_turns role u lines t all mid) (command_pieces role s number command octets told u obeys)
+    (emptied_pieces role u lines t all) told lines u t first second)
 
-lines_on : (start : Start) (numbers : ℕ → ℤ) (turns : List Turn) (s : Station) (number : ℕ) (lines : List (List ℕ)) (text : List ℕ) (t : Station) →
+lines_on : EmptiesOutlets → TakesWhatWaits → (start : Start) (numbers : ℕ → ℤ) (turns : List Turn) (s : Station) (number : ℕ) (lines : List (List ℕ)) (text : List ℕ) (t : Station) →
     Run start turns s.node → (h : Replies replay_dialogue s number lines text t) →
     Leads start s.role turns (script_turns numbers s number lines text t h turns) (script_pieces s number lines text t h) text t.node
-lines_on start numbers turns s number [] text t run (none, same) = record {
+lines_on empty grows start numbers turns s number [] text t run (none, same) = record {
   run = subst (λ (x : Station). Run start turns x.node) (sym same) run;
   out = λ o. sym (append-nil (taken o turns));
   printed = none;
 }
-lines_on start numbers turns s number (line ∷ lines) text t run (front, u, rest, place, (role, replied), replies, parts) =
+lines_on empty grows start numbers turns s number (line ∷ lines) text t run (front, u, rest, place, (role, replied), replies, parts) =
     let mid = line_turns s.role s.node number line front u.node (numbers number) replied turns in
     let after = script_turns numbers u (number + 1) lines rest t replies mid in
     let a = line_pieces s.role s.node number line front u.node replied in
     let b = script_pieces u (number + 1) lines rest t replies in
-    let first = replied_on start s.role turns s.node number line front u.node (numbers number) run replied in
-    let second = lines_on start numbers mid u (number + 1) lines rest t first.run replies in
+    let first = replied_on empty grows start s.role turns s.node number line front u.node (numbers number) run replied in
+    let second = lines_on empty grows start numbers mid u (number + 1) lines rest t first.run replies in
     let same_role = subst (λ (r : RoleName). Leads start r mid after b rest t.node) role second in
     subst (λ (x : List ℕ). Leads start s.role turns after (a ++ b) x t.node) (sym parts)
     (then start s.role turns mid after a b front rest u.node t.node first same_role)
@@ -271,10 +217,10 @@ lines_empty s number (line ∷ lines) text t empty
     (front, u, rest, place, (role, (command, octets, says, told, v, obeys, printed, all, parts)), replies, more) =
     lines_empty u (number + 1) lines rest t (all_empty s.role v printed u.node all) replies
 
-pub node_scripts_are_runs : NodeScriptsAreRuns
+pub node_scripts_are_runs : EmptiesOutlets → TakesWhatWaits → NodeScriptsAreRuns
 unfolding AreEmpty
-node_scripts_are_runs setup numbers lines text t replies =
-    let leads = lines_on (node_start setup) numbers [] (start_of setup) 1 lines text t refl replies in
+node_scripts_are_runs empty grows setup numbers lines text t replies =
+    let leads = lines_on empty grows (node_start setup) numbers [] (start_of setup) 1 lines text t refl replies in
     record {
       run = leads.run;
       out = leads.out;
@@ -288,9 +234,9 @@ node_scripts_are_runs setup numbers lines text t replies =
     none B = refl
     none C = refl
 
-pub scripts_print_each_once : EachOnce → ScriptsPrintEachOnce
-scripts_print_each_once each setup numbers lines text t replies o steady =
-    let is = node_scripts_are_runs setup numbers lines text t replies in
+pub scripts_print_each_once : EmptiesOutlets → TakesWhatWaits → EachOnce → ScriptsPrintEachOnce
+scripts_print_each_once empty grows each setup numbers lines text t replies o steady =
+    let is = node_scripts_are_runs empty grows setup numbers lines text t replies in
     let turns = script_turns numbers (start_of setup) 1 lines text t replies [] in
     sym (is.out o) ∙ sym (append-nil (taken o turns)) ∙ ap (λ (x : List ParcelImage). taken o turns ++ x) (sym (is.left o))
     ∙ each (node_start setup) turns t.node o is.run steady

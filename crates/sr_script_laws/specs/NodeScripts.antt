@@ -1,5 +1,5 @@
 -- What a script of a node is: a run of the node.
-use Rattle.std.specs.Prelude.{◌≡◌, ℕ, ◌+◌, ℤ, pos, List, [], ◌∷◌, ◌++◌, Some, if◌then◌else◌}
+use Rattle.std.specs.Prelude.{◌≡◌, ℕ, ◌+◌, ℤ, pos, List, [], ◌∷◌, ◌++◌, if◌then◌else◌}
 use Rattle.std.proofs.Common.{inl, inr}
 use Rattle.sr_frame.specs.declared.ports.Port.{Port}
 use Rattle.sr_frame.specs.declared.ports.Port.TheVariants.{H, A, B, C}
@@ -7,19 +7,19 @@ use Rattle.sr_forwarding.specs.Parcels.{ParcelImage}
 use Rattle.sr_forwarding.specs.RoleImages.{role_of}
 use Rattle.sr_node.specs.declared.event.Event.{Event}
 use Rattle.sr_node.specs.declared.event.Event.TheVariants as event
-use Rattle.sr_node.specs.declared.event.Answer.TheVariants as answer
 use Rattle.sr_node.specs.Images.{State}
 use Rattle.sr_node.specs.Outboxes.{box_at}
 use Rattle.sr_node.specs.Starts.{Start}
 use Rattle.sr_node_runs.specs.NodeRuns.{Turn, happened, Run}
 use Rattle.sr_node_runs.specs.Brought.{is_at, parcels_of, taken, went}
+use Rattle.sr_node_runs.specs.Emptying.{takes_all}
 use Rattle.sr_node_runs.specs.SteadyNodes.{IsSteady}
 use Rattle.sr_session.specs.Runs.{Replies}
 use Rattle.sr_script.specs.declared.reading.Command.{Command}
 use Rattle.sr_script.specs.declared.reading.Command.TheVariants.{Skip, Arrive, Send, Tick}
 use Rattle.sr_script.specs.declared.setups.RoleName.{RoleName}
 use Rattle.sr_script.specs.declared.setups.Setup.{Setup}
-use Rattle.sr_script.specs.Replies.{left_at, AllEmptied, ArrivesSo, StepsSo, Obeys, Replied, replay_dialogue}
+use Rattle.sr_script.specs.Replies.{AllEmptied, ArrivesSo, StepsSo, Obeys, Replied, replay_dialogue}
 use Rattle.sr_script.specs.Stations.{Station, kind_of, start_of}
 use Rattle.sr_script.specs.Texts.{AreLines, refusal_line}
 
@@ -68,12 +68,6 @@ command_pieces role s number Skip octets text u obeys = []
 command_pieces role s number (Arrive port time) octets text u obeys = arrival_pieces role s number port time octets text u obeys
 command_pieces role s number (Send time) octets text u obeys = step_pieces s number (event.Send octets time) text u obeys
 command_pieces role s number (Tick time) octets text u obeys = step_pieces s number (event.Tick time) text u obeys
-
--- these parcels, which wait at an outlet, are taken out one by one
-abbrev pub takes_all : State → Port → List ParcelImage → List Turn → List Turn
-takes_all s port [] turns = turns
-takes_all s port (p ∷ ps) turns =
-    takes_all (left_at s port) port ps (happened s (event.Take port) (answer.Taken (Some p)) (pos 0) ∷ turns)
 
 -- all that waits is taken out, outlet by outlet
 abbrev pub emptied_turns : (role : RoleName) (s : State) (text : List ℕ) (t : State) → AllEmptied role s text t → List Turn → List Turn

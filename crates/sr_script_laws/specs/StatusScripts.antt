@@ -1,25 +1,16 @@
 -- What a script does at whose end the status is told: a run of the node.
 use Rattle.std.specs.Prelude.{ℕ, ◌+◌, ℤ, List, [], ◌∷◌}
-use Rattle.sr_frame.specs.declared.ports.Port.TheVariants.{H, A, B, C}
 use Rattle.sr_node.specs.Images.{State}
-use Rattle.sr_node.specs.Outboxes.{box_at}
 use Rattle.sr_node_runs.specs.NodeRuns.{Turn, Run}
+use Rattle.sr_node_runs.specs.Emptying.{takes_everywhere}
 use Rattle.sr_node_runs.specs.Heard.{HappenIn, TellsOf}
 use Rattle.sr_node_table.specs.Hearings as nodes
 use Rattle.sr_session.specs.Runs.{Replies}
 use Rattle.sr_script.specs.declared.setups.RoleName.{RoleName}
 use Rattle.sr_script.specs.declared.setups.Setup.{Setup}
-use Rattle.sr_script.specs.Replies.{emptied}
 use Rattle.sr_script.specs.Stations.{Station, start_of}
 use Rattle.sr_script.specs.Statuses.{Noted, status_dialogue}
-use Rattle.sr_script_laws.specs.NodeScripts.{node_start, command_turns, takes_all}
-
--- all that waits is taken out, outlet by outlet
-abbrev pub takes_everywhere : State → List Turn → List Turn
-takes_everywhere s turns =
-    takes_all (emptied (emptied (emptied s H) A) B) C (box_at s.core.out C)
-      (takes_all (emptied (emptied s H) A) B (box_at s.core.out B)
-        (takes_all (emptied s H) A (box_at s.core.out A) (takes_all s H (box_at s.core.out H) turns)))
+use Rattle.sr_script_laws.specs.NodeScripts.{node_start, command_turns}
 
 -- a line: what it asks for, and then all that waits is taken out
 abbrev pub noted_turns : (role : RoleName) (s : State) (number : ℕ) (line text : List ℕ) (t : State) → ℤ →
@@ -33,7 +24,7 @@ abbrev pub status_turns : (ℕ → ℤ) → (s : Station) (number : ℕ) (lines 
 status_turns numbers s number [] text t replies turns = turns
 status_turns numbers s number (line ∷ lines) text t (first, u, rest, place, (role, noted), replies, parts) turns =
     status_turns numbers u (number + 1) lines rest t replies
-      (noted_turns s.role s.node number line first u.node (numbers number) noted turns)
+    (noted_turns s.role s.node number line first u.node (numbers number) noted turns)
 
 abbrev pub StatusScriptsAreRuns : Type 0
 StatusScriptsAreRuns =

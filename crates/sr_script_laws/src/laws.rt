@@ -4,7 +4,9 @@ ghost use Rattle.sr_script_laws.specs.NodeScripts.{NodeScriptsAreRuns, ScriptsPr
 ghost use Rattle.sr_script_laws.specs.PlantScripts.{PlantScriptsAreRuns};
 ghost use Rattle.sr_script_laws.specs.StatusScripts.{StatusScriptsAreRuns, StatusesTellWhatWasHeard};
 
-use sr_node_runs::{each_frame_goes_out_once, status_is_of_what_was_heard};
+use sr_node_runs::{
+    each_frame_goes_out_once, status_is_of_what_was_heard, what_waits_can_be_taken,
+};
 use sr_plant_runs::runs_with_all_taken_are_runs;
 use sr_plant_script::setups_make_plants;
 
@@ -17,13 +19,16 @@ use sr_plant_script::setups_make_plants;
 /// the answers to the lines, so that nothing in it is left open.
 pub fn node_scripts_are_runs()
     ensures { NodeScriptsAreRuns }
-{}
+{
+    what_waits_can_be_taken();
+}
 
 /// So what a script prints at each outlet is, in order, what came in and is wanted there, each pair of source and number
 /// once: where the numbering makes the run steady.
 pub fn scripts_print_each_frame_once()
     ensures { ScriptsPrintEachOnce }
 {
+    what_waits_can_be_taken();
     each_frame_goes_out_once();
 }
 
@@ -31,12 +36,15 @@ pub fn scripts_print_each_frame_once()
 /// the node, with the same turns.
 pub fn status_scripts_are_runs()
     ensures { StatusScriptsAreRuns }
-{}
+{
+    what_waits_can_be_taken();
+}
 
 /// So what such a script tells of each address is what the node heard of it in that run since its last silence.
 pub fn statuses_tell_what_was_heard()
     ensures { StatusesTellWhatWasHeard }
 {
+    what_waits_can_be_taken();
     status_is_of_what_was_heard();
 }
 

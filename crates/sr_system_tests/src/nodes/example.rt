@@ -1,4 +1,4 @@
-//! The example of README: the two copies of a frame come in by both LANs, and the host gets it once.
+//! The example of docs/PROGRAM.md: the two copies of a frame come in by both LANs, and the host gets it once.
 
 use super::frames::{OTHER, OWN, Sent, octets_of};
 use sr_forwarding::{Danp, PrpFraming};
