@@ -90,10 +90,13 @@ step_on empty k s (Tick i now) v acts n start turns so_far = acts_on empty k s i
 
 nodes_run_to : EmptiesNodes → (t : Topology) (starts : List Start) (turns : List Turn) (s : Plant) (run : PlantRun t starts turns s) (k : ℕ) (numbers : ℕ → ℤ)
     (start : Start) → slice_get starts k ≡ Some start → RunsAt k start (node_turns k numbers t starts turns s run) s.nodes
-nodes_run_to empty t starts [] s run k numbers start is m at =
-    let begun : m ≡ begun_as start =
-    begun_there starts k start m is (ap (λ (x : Plant). slice_get x.nodes k) (sym run.1) ∙ at) in
-    record { run = begun; quiet = ap (λ (x : State). x.core.out) begun }
+nodes_run_to empty t starts [] s run k numbers start is = first
+  where
+    first : RunsAt k start [] s.nodes
+    first m at =
+        let begun : m ≡ begun_as start =
+        begun_there starts k start m is (ap (λ (x : Plant). slice_get x.nodes k) (sym run.1) ∙ at) in
+        record { run = begun; quiet = ap (λ (x : State). x.core.out) begun }
 nodes_run_to empty t starts (turn ∷ before) s run k numbers start is =
     step_on empty k turn.before turn.event s run.2 (numbers (length before)) start (node_turns k numbers t starts before turn.before run.0)
     (nodes_run_to empty t starts before turn.before run.0 k numbers start is)
