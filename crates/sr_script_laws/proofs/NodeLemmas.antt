@@ -79,9 +79,9 @@ stays : (start : Start) (role : RoleName) (turns : List Turn) (s : State) → Ru
 stays start role turns s run = record { run = run; out = λ o. sym (append-nil (taken o turns)); printed = refl }
 
 -- one behind the other
-then : (start : Start) (role : RoleName) (turns mid after : List Turn) (a b : List Piece) (front last : List ℕ) (u t : State) →
+followed : (start : Start) (role : RoleName) (turns mid after : List Turn) (a b : List Piece) (front last : List ℕ) (u t : State) →
     Leads start role turns mid a front u → Leads start role mid after b last t → Leads start role turns after (a ++ b) (front ++ last) t
-then start role turns mid after a b front last u t first second = record {
+followed start role turns mid after a b front last u t first second = record {
   run = second.run;
   out = λ o. second.out o ∙ ap (λ (x : List ParcelImage). x ++ outward_at o b) (first.out o)
       ∙ append_assoc (taken o turns) (outward_at o a) (outward_at o b)
@@ -153,12 +153,12 @@ all_on empty grows start role turns s text t run (h, a, b, c, u, v, w, at_h, at_
     let l_a = empties_on empty grows start role from_h u A a v l_h.run at_a in
     let l_b = empties_on empty grows start role from_a v B b w l_a.run at_b in
     let l_c = empties_on empty grows start role from_b w C c t l_b.run at_c in
-    let bc = then start role from_a from_b from_c (outward B (box_at v.core.out B) ∷ []) (outward C (box_at w.core.out C) ∷ []) b c w t l_b l_c in
-    let abc = then start role from_h from_a from_c (outward A (box_at u.core.out A) ∷ [])
+    let bc = followed start role from_a from_b from_c (outward B (box_at v.core.out B) ∷ []) (outward C (box_at w.core.out C) ∷ []) b c w t l_b l_c in
+    let abc = followed start role from_h from_a from_c (outward A (box_at u.core.out A) ∷ [])
     (outward B (box_at v.core.out B) ∷ outward C (box_at w.core.out C) ∷ []) a (b ++ c) v t l_a bc in
     subst (λ (x : List ℕ). Leads start role turns from_c (outward H (box_at s.core.out H) ∷ outward A (box_at u.core.out A) ∷ outward B (box_at v.core.out B) ∷ outward C (box_at w.core.out C) ∷ []) x t)
     (sym parts)
-    (then start role turns from_h from_c (outward H (box_at s.core.out H) ∷ [])
+    (followed start role turns from_h from_c (outward H (box_at s.core.out H) ∷ [])
     (outward A (box_at u.core.out A) ∷ outward B (box_at v.core.out B) ∷ outward C (box_at w.core.out C) ∷ []) h (a ++ (b ++ c)) u t l_h abc)
 
 replied_on : EmptiesOutlets → TakesWhatWaits → (start : Start) (role : RoleName) (turns : List Turn) (s : State) (number : ℕ) (line text : List ℕ) (t : State) (n : ℤ) →
@@ -170,7 +170,7 @@ replied_on empty grows start role turns s number line text t n run (command, oct
     let second = all_on empty grows start role mid u lines t first.run all in
     subst (λ (x : List ℕ). Leads start role turns (emptied_turns role u lines t all mid) (command_pieces role s number command octets told u obeys ++ emptied_pieces role u lines t all) x t)
     (sym parts)
-    (then start role turns mid (emptied_turns role u lines t all mid) (command_pieces role s number command octets told u obeys)
+    (followed start role turns mid (emptied_turns role u lines t all mid) (command_pieces role s number command octets told u obeys)
     (emptied_pieces role u lines t all) told lines u t first second)
 
 lines_on : EmptiesOutlets → TakesWhatWaits → (start : Start) (numbers : ℕ → ℤ) (turns : List Turn) (s : Station) (number : ℕ) (lines : List (List ℕ)) (text : List ℕ) (t : Station) →
@@ -190,7 +190,7 @@ lines_on empty grows start numbers turns s number (line ∷ lines) text t run (f
     let second = lines_on empty grows start numbers mid u (number + 1) lines rest t first.run replies in
     let same_role = subst (λ (r : RoleName). Leads start r mid after b rest t.node) role second in
     subst (λ (x : List ℕ). Leads start s.role turns after (a ++ b) x t.node) (sym parts)
-    (then start s.role turns mid after a b front rest u.node t.node first same_role)
+    (followed start s.role turns mid after a b front rest u.node t.node first same_role)
 
 -- nothing waits
 AreEmpty : State → Type 0

@@ -95,9 +95,9 @@ stays : (t : Topology) (starts : List Start) (w : Where) (s : Plant) → IsRunTo
 stays t starts w s run at = record { run = run; left = at; printed = refl }
 
 -- one behind the other
-then : (t : Topology) (starts : List Start) (w : Where) (a b : List Deed) (front last : List ℕ) (u v : Plant) → Leads t starts w a front u →
+followed : (t : Topology) (starts : List Start) (w : Where) (a b : List Deed) (front last : List ℕ) (u v : Plant) → Leads t starts w a front u →
     Leads t starts (on w a) b last v → Leads t starts w (a ++ b) (front ++ last) v
-then t starts w a b front last u v first second = record {
+followed t starts w a b front last u v first second = record {
   run = subst (IsRunTo t starts) (sym (on_more w a b)) second.run;
   left = second.left ∙ ap (λ (x : Where). taken_away x.plant) (sym (on_more w a b));
   printed = ap (λ (x : List ℕ). x ++ last) first.printed ∙ ap (λ (x : List ℕ). printed_for a ++ x) second.printed ∙ sym (printed_more a b);
@@ -138,7 +138,7 @@ carries_on t starts w s (suc n) text u run at (v, front, last, carries, taken, p
     let first = carries_on t starts w s n front v run at carries in
     let second = takes_one t starts (on w (done_by_carries s n front v carries)) v (event.Carry 0) last u first.run first.left taken in
     subst (λ (x : List ℕ). Leads t starts w (done_by_carries s n front v carries ++ took (record { before = v; event = event.Carry 0 }) taken.after ∷ []) x u) (sym parts)
-    (then t starts w (done_by_carries s n front v carries) (took (record { before = v; event = event.Carry 0 }) taken.after ∷ []) front last v u first second)
+    (followed t starts w (done_by_carries s n front v carries) (took (record { before = v; event = event.Carry 0 }) taken.after ∷ []) front last v u first second)
 
 over_on : (t : Topology) (starts : List Start) (w : Where) (s : Plant) (number n : ℕ) (text : List ℕ) (u : Plant) → IsRunTo t starts w →
     s ≡ taken_away w.plant → IsOver s number n text u → Leads t starts w (told text ∷ []) text u
@@ -151,7 +151,7 @@ flows_on t starts w s number text u run at (n, v, ups, last, most, carries, over
     let first = carries_on t starts w s n ups v run at carries in
     let second = over_on t starts (on w (done_by_carries s n ups v carries)) v number n last u first.run first.left over in
     subst (λ (x : List ℕ). Leads t starts w (done_by_carries s n ups v carries ++ told last ∷ []) x u) (sym parts)
-    (then t starts w (done_by_carries s n ups v carries) (told last ∷ []) ups last v u first second)
+    (followed t starts w (done_by_carries s n ups v carries) (told last ∷ []) ups last v u first second)
 
 obeys_on : (t : Topology) (starts : List Start) (w : Where) (s : Plant) (number : ℕ) (command : Command) (octets text : List ℕ) (u : Plant) →
     IsRunTo t starts w → s ≡ taken_away w.plant → (h : Obeys s number command octets text u) →
@@ -175,7 +175,7 @@ lines_on t starts w s number (line ∷ lines) text u run at (front, v, last, pla
     let first = replied_on t starts w s number line front v run at replied in
     let second = lines_on t starts (on w (done_at_line s number line front v replied)) v (number + 1) lines last u first.run first.left replies in
     subst (λ (x : List ℕ). Leads t starts w (done_at_line s number line front v replied ++ done_in_script v (number + 1) lines last u replies) x u) (sym parts)
-    (then t starts w (done_at_line s number line front v replied) (done_in_script v (number + 1) lines last u replies) front last v u first second)
+    (followed t starts w (done_at_line s number line front v replied) (done_in_script v (number + 1) lines last u replies) front last v u first second)
 
 -- the plant begins with the nodes that begin so
 begun_nodes : (t : Topology) (x : Settings) (n : ℕ) → map begun_as (starts_below t x n) ≡ new_nodes t x n
