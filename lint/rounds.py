@@ -175,6 +175,10 @@ def compiles(said):
     return not re.search(r"\berror\[[\w-]+\]", said)
 
 
+# Of a function without answers of its own: the goal that the search of the crate's tactic left open.
+UNFOUND = re.compile(r"no proof: expected answers in .*; `search` did not prove `([^`]+)`")
+
+
 def line_of(said, crate, function):
     """What is said of the function as a whole."""
     found = re.search(rf"^fn {crate}::{re.escape(function.path)}: (.*)$", said, re.M)
@@ -203,6 +207,9 @@ def named_in(text):
 def verdict_on(said, crate, function):
     """What the prover's words come to for a wrong body in this function, and why."""
     whole, goal = line_of(said, crate, function), open_goal(said, function)
+    unfound = UNFOUND.match(whole)
+    if unfound and not goal:
+        goal = f"`{unfound[1]}`"
     if goal and not whole.startswith("proved"):
         return REFUSED, f"{goal} of {function.path}"
     if whole.startswith("proved"):

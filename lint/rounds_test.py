@@ -119,6 +119,13 @@ class Rounds(unittest.TestCase):
         for said in ("./proofs/table/Slots/other/Answers.antt:5:15: error: `returns`: no proof", "note: src/table.rt:10:1: it is not proved (`returns`)"):
             self.assertIsNone(rounds.open_goal(said, function))
 
+    def test_a_goal_of_a_function_without_answers(self):
+        function = rounds.Function("state::Core::with_keys", "src/state.rt", 10, 20)
+        said = "fn sr_one::state::Core::with_keys: no proof: expected answers in ./proofs/Answers.antt; `search` did not prove `returns-clause-shown`"
+        self.assertEqual(rounds.verdict_on(said, "sr_one", function), (rounds.REFUSED, "`returns-clause-shown` of state::Core::with_keys"))
+        said = "fn sr_one::state::Core::with_keys: no proof: expected answers in ./proofs/Answers.antt"
+        self.assertEqual(rounds.verdict_on(said, "sr_one", function)[0], rounds.UNKNOWN)
+
     def test_a_crate_that_is_not_proved(self):
         broken = SOURCE.replace("    n + n", "    n + 1 + n")
         said, status, _, whole = self.tried({"steps_twice": WRONG["steps_twice"]}, broken)
