@@ -4,10 +4,7 @@ use Rattle.sr_node.specs.declared.fault.StepFault.{StepFault}
 use Rattle.sr_node.specs.declared.fault.StepFault.TheVariants.{NoMemory}
 use Rattle.sr_ports.specs.declared.fault.EnterFault.{EnterFault}
 use Rattle.sr_ports.specs.declared.fault.EnterFault.TheVariants.{Step, JournalFull}
-
--- the most entries of a journal (choice of this project)
-abbrev pub most_entries : ℕ
-most_entries = 1000000
+use Rattle.sr_ports.specs.Limits.{most_entries}
 
 -- a journal takes no more entries: it has as many as it may have, or all journals together have as many as the book can say
 abbrev pub is_journal_full : ℕ → ℕ → Bool

@@ -93,6 +93,23 @@ impl<R: Role, L: Ledger> Kept<R, L> {
         };
         Ok((kept, passes))
     }
+
+    /// The sum of the five counts, which is the number of entries of all journals.
+    pub fn audit(&mut self, passes: Passes<L>) -> u64
+        requires five { L.parts ≡ 5 }
+        ensures counts { result ≡ passes.a.count + passes.b.count + passes.c.count
+            + passes.ager.count + passes.host.count }
+        ensures entries { result ≡ self.old.closed + vec_len self.old.journal }
+        ensures node { self.new.node ≡ self.old.node }
+        ensures journal { self.new.journal ≡ self.old.journal }
+        ensures opening { self.new.opening ≡ self.old.opening }
+        ensures closed { self.new.closed ≡ self.old.closed }
+        ensures book { self.new.book.total ≡ self.old.book.total }
+    {
+        let mut all = share_of(passes);
+        self.book.audit(&mut all);
+        self.closed + self.journal.len() as u64
+    }
 }
 
 impl<R: Role, L: Ledger> SharedNode<R, L> {
@@ -121,24 +138,5 @@ impl<R: Role, L: Ledger> SharedNode<R, L> {
     /// What lies under the lock, out of it.
     pub fn into_kept(self) -> Kept<R, L> {
         self.kept.into_inner()
-    }
-}
-
-impl<R: Role, L: Ledger> Kept<R, L> {
-    /// The sum of the five counts, which is the number of entries of all journals.
-    pub fn audit(&mut self, passes: Passes<L>) -> u64
-        requires five { L.parts ≡ 5 }
-        ensures counts { result ≡ passes.a.count + passes.b.count + passes.c.count
-            + passes.ager.count + passes.host.count }
-        ensures entries { result ≡ self.old.closed + vec_len self.old.journal }
-        ensures node { self.new.node ≡ self.old.node }
-        ensures journal { self.new.journal ≡ self.old.journal }
-        ensures opening { self.new.opening ≡ self.old.opening }
-        ensures closed { self.new.closed ≡ self.old.closed }
-        ensures book { self.new.book.total ≡ self.old.book.total }
-    {
-        let mut all = share_of(passes);
-        self.book.audit(&mut all);
-        self.closed + self.journal.len() as u64
     }
 }

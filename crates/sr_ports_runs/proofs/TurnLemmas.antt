@@ -17,8 +17,17 @@ use Rattle.sr_ports.specs.Histories.{Steps}
 use Rattle.sr_ports.specs.Parts.{entries_in}
 use Rattle.sr_ports.specs.Settling.{Follows, AreWhole}
 use Rattle.sr_ports_runs.specs.Turns.{AreTurns, AreTurnsBehind, AreTurnsOfAll, state_behind, handed_out}
-use Rattle.sr_ports_runs.specs.JournalLaws.{HistoriesHaveTurns, HistoriesHappenOneWay, HistoriesAreRuns, SwapsAreTurns}
-use Rattle.sr_ports_runs.specs.JournalLaws.{SegmentsHaveTurns, SegmentsHappenOneWay, SegmentsAreRuns, EnteredOnce, EnteredOnceInAll}
+use Rattle.sr_ports_runs.specs.JournalLaws.{
+  HistoriesHaveTurns,
+  HistoriesHappenOneWay,
+  HistoriesAreRuns,
+  SwapsAreTurns,
+  SegmentsHaveTurns,
+  SegmentsHappenOneWay,
+  SegmentsAreRuns,
+  EnteredOnce,
+  EnteredOnceInAll,
+}
 use Rattle.sr_ports_runs.proofs.StepLemmas.{AreUnique, step_one}
 
 -- the turn of an entry
@@ -107,8 +116,7 @@ runs_behind start number before s [] turns run follow are = subst (λ x. Run sta
 runs_behind start number before s (g ∷ gs) turns run follow are =
     let here : Run start (swapped s g.opening.role ∷ before) (state_of g.opening) = swaps_are_turns start before s (state_of g.opening) run follow.0 in
     let through : Run start are.0 (state_of g.closing) =
-      are_runs start number (swapped s g.opening.role ∷ before) (state_of g.opening) (state_of g.closing) g.entries.items are.0 here are.1
-    in
+    are_runs start number (swapped s g.opening.role ∷ before) (state_of g.opening) (state_of g.closing) g.entries.items are.0 here are.1 in
     runs_behind start number are.0 (state_of g.closing) gs turns through follow.1 are.2
 
 -- one place further
@@ -154,18 +162,16 @@ taken_behind_all o number before s [] turns are = ap (λ l. taken o l) are ∙ s
 taken_behind_all o number before s (g ∷ gs) turns are =
     let swap : Turn = swapped s g.opening.role in
     let first : taken o are.0 ≡ taken o before ++ handed_out o g.entries.items =
-      taken_behind o number (swap ∷ before) (state_of g.opening) (state_of g.closing) g.entries.items are.0 are.1
-      ∙ ap (λ l. l ++ handed_out o g.entries.items) (append-nil (taken o before))
-    in
+    taken_behind o number (swap ∷ before) (state_of g.opening) (state_of g.closing) g.entries.items are.0 are.1
+    ∙ ap (λ l. l ++ handed_out o g.entries.items) (append-nil (taken o before)) in
     joined_behind o before are.0 turns g.entries.items (entries_in gs) first
     (taken_behind_all o number are.0 (state_of g.closing) gs turns are.2)
 
 pub entered_once_in_all : EachOnce → EnteredOnceInAll
 entered_once_in_all once start number g gs turns o opens whole are steady =
     let took : taken o turns ≡ handed_out o (entries_in (g ∷ gs)) =
-      joined_behind o [] are.0 turns g.entries.items (entries_in gs)
-      (taken_behind o number [] (state_of g.opening) (state_of g.closing) g.entries.items are.0 are.1)
-      (taken_behind_all o number are.0 (state_of g.closing) gs turns are.2)
-    in
+    joined_behind o [] are.0 turns g.entries.items (entries_in gs)
+    (taken_behind o number [] (state_of g.opening) (state_of g.closing) g.entries.items are.0 are.1)
+    (taken_behind_all o number are.0 (state_of g.closing) gs turns are.2) in
     ap (λ l. l ++ box_at (state_behind (state_of g.closing) gs).core.out o) (sym took)
     ∙ once start turns (state_behind (state_of g.closing) gs) o (segments_are_runs start number g gs turns opens whole are) steady

@@ -1,8 +1,6 @@
 //! The laws over runs of a node hold of histories that one thread could have made.
 
-ghost use Rattle.sr_ports_runs.specs.JournalLaws.{HistoriesHaveTurns, HistoriesHappenOneWay, HistoriesAreRuns, SwapsAreTurns};
-ghost use Rattle.sr_ports_runs.specs.JournalLaws.{SegmentsHaveTurns, SegmentsHappenOneWay, SegmentsAreRuns};
-ghost use Rattle.sr_ports_runs.specs.JournalLaws.{EnteredOnce, EnteredOnceInAll};
+ghost use Rattle.sr_ports_runs.specs.JournalLaws.{HistoriesHaveTurns, HistoriesHappenOneWay, HistoriesAreRuns, SwapsAreTurns, SegmentsHaveTurns, SegmentsHappenOneWay, SegmentsAreRuns, EnteredOnce, EnteredOnceInAll};
 
 use sr_node_runs::each_frame_goes_out_once;
 use sr_supervision::supervisions_are_unique;
