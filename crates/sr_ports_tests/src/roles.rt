@@ -61,7 +61,10 @@ fn comes_in<R: Role, L: Ledger>(
 // The kind of the role that comes back, and whether it is the one that was given.
 fn given_back<R: Role, L: Ledger>(kept: &mut Kept<R, L>, role: R) -> (RoleKind, Option<SwapFault>) {
     match kept.replace_role(role) {
-        Ok((_, old)) => (old.kind(), None),
+        Ok((segment, old)) => {
+            drop(segment);
+            (old.kind(), None)
+        }
         Err((fault, given)) => (given.kind(), Some(fault)),
     }
 }
@@ -74,13 +77,18 @@ fn lives<R: Role, L: Ledger>(
     foreign: R,
     san: R,
 ) -> bool {
-    comes_in(alloc, kept, pass, Port::A) == Some(true)
-        && given_back(kept, foreign) == (RoleKind::San, Some(SwapFault::OtherMac))
-        && kept.journal.len() == 1
-        && given_back(kept, san) == (RoleKind::Danh, None)
+    let first = comes_in(alloc, kept, pass, Port::A);
+    let refused = given_back(kept, foreign);
+    let entries = kept.journal.len();
+    let swapped = given_back(kept, san);
+    let copy = comes_in(alloc, kept, pass, Port::B);
+    first == Some(true)
+        && refused == (RoleKind::San, Some(SwapFault::OtherMac))
+        && entries == 1
+        && swapped == (RoleKind::Danh, None)
         && kept.node.kind() == RoleKind::San
-        && kept.journal.len() == 0
-        && comes_in(alloc, kept, pass, Port::B) == Some(false)
+        && kept.journal.len() == 1
+        && copy == Some(false)
 }
 
 fn lived<R: Role, L: Ledger>(
@@ -95,7 +103,12 @@ fn lived<R: Role, L: Ledger>(
     requires five { L.parts ≡ 5 }
 {
     match Kept::<R, L>::new(alloc, node, blank) {
-        Ok((mut kept, mut passes)) => lives(alloc, &mut kept, &mut passes.a, foreign, san),
+        Ok((mut kept, mut passes)) => {
+            let is_right = lives(alloc, &mut kept, &mut passes.a, foreign, san);
+            drop(kept);
+            drop(passes);
+            is_right
+        }
         Err(_) => false,
     }
 }

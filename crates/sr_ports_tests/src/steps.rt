@@ -223,9 +223,9 @@ fn tried<R: Role, L: Ledger>(
     worker: Worker,
     act: Act,
 ) -> Option<Outcome> {
-    let event = event_of(alloc, act)?;
-    let pass = pass_of(&mut desk.passes, worker);
     let log = desk.logs.get_mut(log_place(worker))?;
+    let pass = pass_of(&mut desk.passes, worker);
+    let event = event_of(alloc, act)?;
     enter_beside(&mut desk.kept, pass, log, event)
 }
 
@@ -312,6 +312,7 @@ fn goes<R: Role, L: Ledger>(alloc: Global, desk: &mut Desk<R, L>, step: Step) ->
     }
 }
 
+// The place of the first step that differs.
 fn first_wrong<R: Role, L: Ledger>(
     alloc: Global,
     desk: &mut Desk<R, L>,
@@ -325,8 +326,8 @@ fn first_wrong<R: Role, L: Ledger>(
     None
 }
 
-fn empty_logs(alloc: Global) -> Result<Vec<Log>, NoMemory> {
-    let mut logs = Vec::new(alloc);
+// A log for each worker.
+fn add_logs(alloc: Global, logs: &mut Vec<Log>) -> Result<(), NoMemory> {
     for worker in [
         Worker::A,
         Worker::B,
@@ -337,21 +338,19 @@ fn empty_logs(alloc: Global) -> Result<Vec<Log>, NoMemory> {
         logs.reserve(1)?;
         logs.push_reserved(Log::new(alloc, worker));
     }
-    Ok(logs)
+    Ok(())
 }
 
-fn desk_of<R: Role, L: Ledger>(
+// The number of steps where memory for the logs was refused.
+fn wrong_at<R: Role, L: Ledger>(
     alloc: Global,
-    kept: Kept<R, L>,
-    passes: Passes<L>,
-) -> Result<Desk<R, L>, NoMemory> {
-    let logs = empty_logs(alloc)?;
-    Ok(Desk {
-        kept,
-        passes,
-        logs,
-        segments: Vec::new(alloc),
-    })
+    desk: &mut Desk<R, L>,
+    steps: &[Step],
+) -> Option<usize> {
+    match add_logs(alloc, &mut desk.logs) {
+        Ok(()) => first_wrong(alloc, desk, steps),
+        Err(_) => Some(steps.len()),
+    }
 }
 
 fn opened<R: Role, L: Ledger>(
@@ -363,11 +362,18 @@ fn opened<R: Role, L: Ledger>(
     requires parts { blank.parts ≡ L.parts }
     requires five { L.parts ≡ 5 }
 {
-    let (kept, passes) = Kept::new(alloc, node, blank)?;
-    desk_of(alloc, kept, passes)
+    match Kept::new(alloc, node, blank) {
+        Ok((kept, passes)) => Ok(Desk {
+            kept,
+            passes,
+            logs: Vec::new(alloc),
+            segments: Vec::new(alloc),
+        }),
+        Err(refused) => Err(refused),
+    }
 }
 
-// The place of the first step that differs, and the number of steps where memory for the node or its logs was refused.
+// So where memory for the node was refused.
 fn wrong_of<R: Role, L: Ledger>(
     alloc: Global,
     node: NodeOf<R>,
@@ -379,7 +385,11 @@ fn wrong_of<R: Role, L: Ledger>(
     requires five { L.parts ≡ 5 }
 {
     match opened::<R, L>(alloc, node, blank) {
-        Ok(mut desk) => first_wrong(alloc, &mut desk, steps),
+        Ok(mut desk) => {
+            let wrong = wrong_at(alloc, &mut desk, steps);
+            drop(desk);
+            wrong
+        }
         Err(_) => Some(steps.len()),
     }
 }
