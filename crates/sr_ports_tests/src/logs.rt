@@ -206,11 +206,7 @@ const CASES: &[Case] = &[
     // The host has none. Of C and the host C comes first.
     Case {
         entries: ALL,
-        logs: &[
-            (Worker::A, BOTH),
-            (Worker::B, BOTH),
-            (Worker::Ager, BOTH),
-        ],
+        logs: &[(Worker::A, BOTH), (Worker::B, BOTH), (Worker::Ager, BOTH)],
         wanted: Settlement::Disagrees(Worker::C),
     },
 ];

@@ -328,13 +328,7 @@ fn first_wrong<R: Role, L: Ledger>(
 
 // A log for each worker.
 fn add_logs(alloc: Global, logs: &mut Vec<Log>) -> Result<(), NoMemory> {
-    for worker in [
-        Worker::A,
-        Worker::B,
-        Worker::C,
-        Worker::Ager,
-        Worker::Host,
-    ] {
+    for worker in [Worker::A, Worker::B, Worker::C, Worker::Ager, Worker::Host] {
         logs.reserve(1)?;
         logs.push_reserved(Log::new(alloc, worker));
     }
