@@ -35,7 +35,7 @@ abbrev turn_of : (ℕ → ℤ) → List Turn → State → Entry → Turn
 turn_of number before s e = happened s e.event e.answer (number (length before))
 
 pub have_turns : HistoriesHaveTurns
-have_turns number before s t [] steps = (before, steps, refl)
+have_turns number before s t [] steps = (before, (steps, refl))
 have_turns number before s t (e ∷ es) steps =
     let rest = have_turns number (turn_of number before s e ∷ before) steps.0 t es steps.2 in
     (rest.0, (steps.0, steps.1, rest.1))

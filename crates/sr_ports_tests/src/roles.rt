@@ -83,7 +83,7 @@ fn lives<R: Role, L: Ledger>(
     let swapped = given_back(kept, san);
     let copy = comes_in(alloc, kept, pass, Port::B);
     first == Some(true)
-        && refused == (RoleKind::San, Some(SwapFault::OtherMac))
+        && refused == (RoleKind::Danh, Some(SwapFault::OtherMac))
         && entries == 1
         && swapped == (RoleKind::Danh, None)
         && kept.node.kind() == RoleKind::San
@@ -124,32 +124,23 @@ fn lived_in_boxes(
 }
 
 // None for want of memory, here and below.
-fn beside_foreign(alloc: Global, node: Node, foreign: Box<dyn Role + Send>) -> Option<bool> {
-    match Box::new(alloc, SanBox::new(alloc, OWN)) {
-        Ok(san) => Some(lived_in_boxes(alloc, node, foreign, san)),
-        Err(_) => None,
-    }
-}
-
-fn with_node(alloc: Global, node: Node) -> Option<bool> {
-    match Box::new(alloc, SanBox::new(alloc, OTHER)) {
-        Ok(foreign) => beside_foreign(alloc, node, foreign),
-        Err(_) => None,
-    }
-}
-
-fn with_role(alloc: Global, role: Box<dyn Role + Send>) -> Option<bool> {
-    match Node::new(alloc, role) {
-        Ok(node) => with_node(alloc, node),
+fn with_roles(
+    alloc: Global,
+    danh: Box<dyn Role + Send>,
+    foreign: Box<dyn Role + Send>,
+    san: Box<dyn Role + Send>,
+) -> Option<bool> {
+    match Node::new(alloc, danh) {
+        Ok(node) => Some(lived_in_boxes(alloc, node, foreign, san)),
         Err(_) => None,
     }
 }
 
 fn told(alloc: Global) -> Option<bool> {
-    match Box::new(alloc, Danh::new(OWN)) {
-        Ok(role) => with_role(alloc, role),
-        Err(_) => None,
-    }
+    let danh = Box::new(alloc, Danh::new(OWN)).ok()?;
+    let foreign = Box::new(alloc, Danh::new(OTHER)).ok()?;
+    let san = Box::new(alloc, SanBox::new(alloc, OWN)).ok()?;
+    with_roles(alloc, danh, foreign, san)
 }
 
 // Want of memory is met by another try.
