@@ -1,7 +1,6 @@
 -- A state, an event and its answer have one state behind them.
 use Rattle.std.proofs.Common.{◌≡◌, ℕ, List, Option, None, Some, refl, sym, ap, ◌∙◌}
 use Rattle.sr_frame.specs.declared.ports.Port.{Port}
-use Rattle.sr_sequence.specs.declared.Seq.{Seq}
 use Rattle.sr_supervision.specs.declared.message.Supervision.{Supervision}
 use Rattle.sr_supervision.specs.Supervised.{IsSupervision}
 use Rattle.sr_forwarding.specs.declared.outlets.Outlets.{Outlets}
@@ -11,7 +10,7 @@ use Rattle.sr_node.specs.declared.event.Event.TheVariants as event
 use Rattle.sr_node.specs.declared.event.Answer.{Answer}
 use Rattle.sr_node.specs.declared.event.Answer.TheVariants as answer
 use Rattle.sr_node.specs.Images.{State, time_at}
-use Rattle.sr_node.specs.Arriving.{goes, going_on, next_at, passed, PassedTo, Arrived}
+use Rattle.sr_node.specs.Arriving.{goes, going_on, next_at, passed, PassedTo}
 use Rattle.sr_node.specs.Hearing.{SaysOf}
 use Rattle.sr_node.specs.Steps.{Step}
 
