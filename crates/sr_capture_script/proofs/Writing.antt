@@ -1,16 +1,17 @@
 -- Lines, one by one.
-use Rattle.std.specs.Prelude.{unwrap_or, max}
+use Rattle.std.specs.Prelude.{unwrap_or, max, Bool, true, false, if◌then◌else◌}
 use Rattle.std.specs.Io.KnownBytes.{Appends}
 use Rattle.std.proofs.Common.{◌≡◌, ℕ, ◌+◌, ◌-◌, ◌*◌, ◌/◌, ◌<◌, ◌≤◌, min, map, List, [], ◌∷◌, ◌++◌, Option, Some, None, sym, ap, subst, refl, ◌∙◌, arith, append_assoc}
 use Rattle.std.specs.List.{flat_map, range_with_len}
-use Rattle.std.proofs.KnownBytes.{Appends-trans}
+use Rattle.std.proofs.KnownBytes.{Appends-nil, Appends-trans}
 use Rattle.std.proofs.lemmas.List.{append-nil}
 use Rattle.std.proofs.Math.Nat.{div-mul-le_self, mul-le-mul_right}
 use Rattle.std.proofs.lemmas.Grind.{flat_map-append}
 use Rattle.std.proofs.lemmas.List.FromFn.{map-range_with_len_more}
 use Rattle.sr_capture_script.specs.declared.choice.Choice.{Choice}
+use Rattle.sr_capture_script.specs.declared.choice.Inlet.{Inlet}
 use Rattle.sr_capture_script.specs.Items.{Item}
-use Rattle.sr_capture_script.specs.Texts.{tick_line, steps_to, piece_of, pieces_of, last_after, last_of, first_moment, lines_of, last_line}
+use Rattle.sr_capture_script.specs.Texts.{tick_line, steps_to, is_on_grid, grid_at, grid_between, ticks_to, line_of, time_since, is_wanted, piece_of, pieces_of, last_after, last_of, first_moment, lines_of, last_line}
 
 -- the first ticks behind so many steps of a grid
 abbrev pub first_ticks : ℕ → ℕ → ℕ → ℕ → List ℕ
@@ -28,6 +29,24 @@ ticks_more from step gone n at old mid new h e more =
     ap (λ (l : List ℕ). flat_map tick_line l) times ∙ flat_map-append tick_line (map f (range_with_len (gone + 1) n)) (f (gone + n + 1) ∷ [])
     ∙ ap (λ (l : List ℕ). first_ticks from step gone n ++ l) one in
     subst (Appends old new) (sym all) (Appends-trans old mid new (first_ticks from step gone n) (tick_line at) h more)
+
+-- at a time that is not on the grid nothing is written, at one that is, its tick
+pub none_at : (from step time : ℕ) (held : Option (List ℕ)) → is_on_grid from step time ≡ false → Appends held held (flat_map tick_line (grid_at from step time))
+none_at from step time held off =
+    subst (λ (b : Bool). Appends held held (flat_map tick_line (if b then time ∷ [] else []))) (sym off) (Appends-nil held)
+
+pub one_at : (from step time : ℕ) (held now : Option (List ℕ)) → is_on_grid from step time ≡ true → Appends held now (tick_line time)
+    → Appends held now (flat_map tick_line (grid_at from step time))
+one_at from step time held now on wrote =
+    subst (λ (b : Bool). Appends held now (flat_map tick_line (if b then time ∷ [] else []))) (sym on)
+    (subst (Appends held now) (sym (append-nil (tick_line time))) wrote)
+
+-- all ticks between two times are written
+pub all_between : (from step last time gone n : ℕ) (held now : Option (List ℕ)) → gone ≡ steps_to from step last
+    → n ≡ steps_to from step time - steps_to from step last → Appends held now (first_ticks from step gone n)
+    → Appends held now (flat_map tick_line (grid_between from step last time))
+all_between from step last time gone n held now is all wrote =
+    subst (Appends held now) (ap (λ g. first_ticks from step g n) is ∙ ap (λ m. first_ticks from step (steps_to from step last) m) all) wrote
 
 -- one item more
 pieces_more : (choice : Choice) (base : ℕ) (last : Option ℕ) (items : List Item) (item : Item)
@@ -65,8 +84,28 @@ steps_within from step time n few =
     let most_steps : n * step ≤ (time - from) / step * step = mul-le-mul_right step few in
     omega (arith, most_steps, div-mul-le_self (time - from) step)
 
--- a text in place of nothing is written behind ticks
-pub wrote_piece : (ticks line old new shown : List ℕ) (held mid now : Option (List ℕ)) → old ≡ [] → new ≡ old ++ line → shown ≡ new → Appends held mid ticks
-    → Appends mid now shown → Appends held now (ticks ++ line)
-wrote_piece ticks line old new shown held mid now none more same ticked wrote =
-    Appends-trans held mid now ticks line ticked (subst (Appends mid now) (same ∙ more ∙ ap (λ (l : List ℕ). l ++ line) none) wrote)
+-- nothing is printed for an item whose time is not wanted
+pub no_piece : (choice : Choice) (base : ℕ) (last : Option ℕ) (item : Item) (moment time : ℕ) (held : Option (List ℕ)) → item.moment ≡ moment
+    → time ≡ time_since base moment → is_wanted choice time ≡ false → Appends held held (piece_of choice base last item)
+no_piece choice base last item moment time held when is off =
+    let at : time ≡ time_since base item.moment = is ∙ ap (time_since base) (sym when) in
+    let piece = ticks_to choice.from choice.tick last (time_since base item.moment)
+    ++ line_of item.inlet item.number (time_since base item.moment) item.packet in
+    subst (λ (b : Bool). Appends held held (if b then piece else [])) (sym (subst (λ t. is_wanted choice t ≡ false) at off)) (Appends-nil held)
+
+-- ticks are written, and then a text in place of nothing, which is the item's line
+pub whole_piece : (choice : Choice) (base : ℕ) (last : Option ℕ) (item : Item) (inlet : Inlet) (moment time : ℕ) (old new shown : List ℕ)
+    (held mid now : Option (List ℕ)) → item.inlet ≡ inlet → item.moment ≡ moment → time ≡ time_since base moment → is_wanted choice time ≡ true
+    → old ≡ [] → new ≡ old ++ line_of inlet item.number time item.packet → shown ≡ new
+    → Appends held mid (ticks_to choice.from choice.tick last time) → Appends mid now shown → Appends held now (piece_of choice base last item)
+whole_piece choice base last item inlet moment time old new shown held mid now at when is on none more same ticked wrote =
+    let meant : time ≡ time_since base item.moment = is ∙ ap (time_since base) (sym when) in
+    let ticks = ticks_to choice.from choice.tick last time in
+    let line : shown ≡ line_of item.inlet item.number time item.packet =
+    same ∙ more ∙ ap (λ (l : List ℕ). l ++ line_of inlet item.number time item.packet) none
+    ∙ ap (λ (i : Inlet). line_of i item.number time item.packet) (sym at) in
+    let both = Appends-trans held mid now ticks (line_of item.inlet item.number time item.packet) ticked (subst (Appends mid now) line wrote) in
+    let whole = subst (λ t. Appends held now (ticks_to choice.from choice.tick last t ++ line_of item.inlet item.number t item.packet)) meant both in
+    let piece = ticks_to choice.from choice.tick last (time_since base item.moment)
+    ++ line_of item.inlet item.number (time_since base item.moment) item.packet in
+    subst (λ (b : Bool). Appends held now (if b then piece else [])) (sym (subst (λ t. is_wanted choice t ≡ true) meant on)) whole

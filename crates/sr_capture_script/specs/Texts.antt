@@ -93,9 +93,13 @@ abbrev pub grid_between : ℕ → ℕ → ℕ → ℕ → List ℕ
 grid_between from step last time =
     map (λ k. from + k * step) (range_with_len (steps_to from step last + 1) (steps_to from step time - steps_to from step last))
 
+-- whether a time is on the grid
+abbrev pub is_on_grid : ℕ → ℕ → ℕ → Bool
+is_on_grid from step time = from + steps_to from step time * step == time
+
 -- a time, where it is on the grid
 abbrev pub grid_at : ℕ → ℕ → ℕ → List ℕ
-grid_at from step time = if from + steps_to from step time * step == time then time ∷ [] else []
+grid_at from step time = if is_on_grid from step time then time ∷ [] else []
 
 -- the ticks up to a time and at it: behind the line of the time `last`, or at the time alone where no line stands before
 abbrev pub tick_times : ℕ → ℕ → Option ℕ → ℕ → List ℕ

@@ -3,7 +3,7 @@
 ghost use Rattle.std.specs.Prelude.{◌≡◌, OnOk, IfErr};
 ghost use Rattle.std.specs.Io.KnownBytes.{Appends};
 ghost use Rattle.std.specs.List.{flat_map};
-ghost use Rattle.sr_capture_script.specs.Texts.{tick_line, steps_to, grid_at, grid_between, ticks_to, last_ticks};
+ghost use Rattle.sr_capture_script.specs.Texts.{tick_line, steps_to, is_on_grid, grid_at, grid_between, ticks_to, last_ticks};
 
 use crate::choice::Choice;
 use crate::fault::ScriptFault;
@@ -31,18 +31,21 @@ fn steps_to(from: u64, step: u64, time: u64) -> u64
     time.saturating_sub(from) / step
 }
 
+/// Whether a time is on the grid.
+fn is_on_grid(from: u64, step: u64, time: u64) -> bool
+    ensures { result ≡ is_on_grid from step time }
+{
+    let steps = steps_to(from, step, time);
+    from + steps * step == time
+}
+
 /// Writes a tick at this time, where it is on the grid.
-fn write_at<W: Write>(
-    writer: &mut W,
-    from: u64,
-    step: u64,
-    time: u64,
-) -> Result<(), ScriptFault>
+fn write_at<W: Write>(writer: &mut W, from: u64, step: u64, time: u64) -> Result<(), ScriptFault>
     ensures ok { OnOk result (Appends (W.contents writer.old) (W.contents writer.new)
         (flat_map tick_line (grid_at from step time))) }
     ensures err { IfErr result (λ fault. fault ≡ ScriptFault.Write) }
 {
-    if from + steps_to(from, step, time) * step != time {
+    if !is_on_grid(from, step, time) {
         return Ok(());
     }
     write_tick(writer, time)
@@ -61,9 +64,10 @@ fn write_between<W: Write>(
     ensures err { IfErr result (λ fault. fault ≡ ScriptFault.Write) }
 {
     let gone = steps_to(from, step, last);
-    let count = steps_to(from, step, time).saturating_sub(gone);
-    for before in 0..count {
-        write_tick(writer, from + (gone + before + 1) * step)?;
+    let all = steps_to(from, step, time);
+    for before in 0..all.saturating_sub(gone) {
+        let steps = gone + before + 1;
+        write_tick(writer, from + steps * step)?;
     }
     Ok(())
 }
