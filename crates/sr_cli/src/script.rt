@@ -17,13 +17,21 @@ const MAX_LINES: u64 = 1_000_000;
 struct Counted<W> {
     inner: W,
     lines: u64,
+    /// Those that begin as the line of a packet does that is used.
+    arrivals: u64,
+    /// The last octet was an LF, or there was none.
+    is_new: bool,
 }
 
 impl<W: Write> Write for Counted<W> {
     fn write(&mut self, buf: &[u8]) -> io::Result<usize> {
         let taken = self.inner.write(buf)?;
         for octet in &buf[..taken] {
-            if *octet == b'\n' {
+            if self.is_new && *octet == b'i' {
+                self.arrivals = self.arrivals.saturating_add(1);
+            }
+            self.is_new = *octet == b'\n';
+            if self.is_new {
                 self.lines = self.lines.saturating_add(1);
             }
         }
@@ -124,6 +132,17 @@ fn open_file<'a, R: AllocGlobal + Eprint + Files>(
     }
 }
 
+/// Says what looks wrong in the options, though a script can be made.
+fn tell_odd<R: Eprint>(rt: &R, task: &ScriptTask<'_>) {
+    let choice = task.options.choice;
+    if choice.to.is_some_and(|to| to < choice.from) {
+        let _ = eprintln!(rt; "no time is wanted: --from is behind --to");
+    }
+    if task.is_same {
+        let _ = eprintln!(rt; "A and B are the same capture");
+    }
+}
+
 /// Writes the script to standard output. A fault is told on standard error.
 pub fn run_script<R: AllocGlobal + Print + Eprint + Files>(
     rt: &R,
@@ -136,6 +155,8 @@ pub fn run_script<R: AllocGlobal + Print + Eprint + Files>(
     let counted = Counted {
         inner: Pipe::new(io::writer(rt)),
         lines: 0,
+        arrivals: 0,
+        is_new: true,
     };
     let Ok(mut writer) = BufWriter::new(rt.alloc(), counted) else {
         let _ = eprintln!(rt; "fault memory");
@@ -151,7 +172,13 @@ pub fn run_script<R: AllocGlobal + Print + Eprint + Files>(
         );
     }
     match outcome {
-        Ok(()) if flushed.is_ok() => Ok(()),
+        Ok(()) if flushed.is_ok() => {
+            tell_odd(rt, task);
+            if writer.get_ref().arrivals == 0 {
+                let _ = eprintln!(rt; "no packet is in the script: its last comments count those that were cut, long or empty");
+            }
+            Ok(())
+        }
         Err(ScriptFault::File(inlet, fault)) => {
             tell_file(rt, inlet, fault);
             Err(())

@@ -13,6 +13,8 @@ pub struct ScriptTask<'a> {
     pub b: Option<&'a str>,
     pub c: Option<&'a str>,
     pub options: Options,
+    /// Whether the captures of A and B are one.
+    pub is_same: bool,
 }
 
 /// An option with a value.
@@ -148,6 +150,7 @@ pub fn script_task<'a>(matches: &ArgMatches<'a>) -> Result<ScriptTask<'a>, &'sta
         to: time_of(matches, "to")?,
         tick: tick_of(matches)?,
     };
+    let is_same = a.path.is_some() && matches.get_str("a") == matches.get_str("b");
     let check_len = if matches.contains_id("fcs") { 4 } else { 0 };
     Ok(ScriptTask {
         a: a.path,
@@ -163,5 +166,6 @@ pub fn script_task<'a>(matches: &ArgMatches<'a>) -> Result<ScriptTask<'a>, &'sta
                 c: c.wanted,
             },
         },
+        is_same,
     })
 }
