@@ -295,5 +295,5 @@ scripts choice x y z a b c there_a there_b there_c last held mid ticked now old 
         is = ap (λ (l : List ℕ). lines_of choice h.merged ++ l) ending;
       },
       Appends-trans held mid now (lines_of choice h.merged) (last_ticks choice last ++ shown) h.wrote
-      (Appends-trans mid ticked now (last_ticks choice last) shown ticks wrote),
+          (Appends-trans mid ticked now (last_ticks choice last) shown ticks wrote),
     )

@@ -40,7 +40,9 @@ impl<'a> Words<'a> {
             roles: [
                 PossibleValue::new("danp").help("a node of a PRP network, on LANs A and B"),
                 PossibleValue::new("danh").help("a node of an HSR ring"),
-                PossibleValue::new("san").help("a RedBox of a ring, for nodes that know no redundancy"),
+                PossibleValue::new("san").help(
+                    "a RedBox of a ring, for nodes that know no redundancy",
+                ),
                 PossibleValue::new("prp").help("a RedBox of a ring, for a LAN of a PRP network"),
                 PossibleValue::new("hsr").help("a RedBox of a ring, for a second ring"),
             ],
@@ -72,7 +74,9 @@ fn mac_option<'a>(alloc: Global) -> Arg<'a> {
         .long("mac")
         .required(true)
         .value_name("MAC")
-        .help("The address of the node: 020000000001 or 02:00:00:00:00:01, not one that sends in the captures")
+        .help(
+            "The address of the node: 020000000001 or 02:00:00:00:00:01, not one that sends in the captures",
+        )
 }
 
 /// The LAN at its interlink: `[--lan a|b]`.
@@ -148,7 +152,9 @@ fn node_command<'a>(
 /// The program without its subcommands.
 fn program<'a>(alloc: Global) -> Result<Command<'a>, AllocError> {
     Command::new(alloc, "seamless")
-        .about("Runs nodes and networks of seamless redundancy, PRP and HSR, on scripts and captures")
+        .about(
+            "Runs nodes and networks of seamless redundancy, PRP and HSR, on scripts and captures",
+        )
         .version(VERSION)
         .after_help(EXAMPLES)
         .subcommand_required(true)

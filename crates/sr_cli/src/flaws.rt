@@ -312,7 +312,10 @@ fn number_in(word: &[u8], other: Flaw) -> Option<Found>
             return Some(Found { at, flaw: other });
         }
         let digit = u64::from(octet.saturating_sub(b'0'));
-        match value.checked_mul(10).and_then(|tens| tens.checked_add(digit)) {
+        match value
+            .checked_mul(10)
+            .and_then(|tens| tens.checked_add(digit))
+        {
             Some(more) => value = more,
             None => {
                 return Some(Found {

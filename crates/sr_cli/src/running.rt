@@ -81,7 +81,9 @@ fn tell_line<R: Eprint>(rt: &R, number: u64, line: &[u8], forms: &'static [Form]
 /// Says what is wrong with a line that is too long, of which these octets were taken, or behind the last that a script has.
 fn tell_long<R: Eprint>(rt: &R, number: u64, line: &[u8]) {
     let _ = if number > MAX_LINES {
-        eprintln!(rt; "a script has at most {MAX_LINES} lines: take a part by --from and --to of seamless script")
+        eprintln!(rt;
+            "a script has at most {MAX_LINES} lines: take a part by --from and --to of seamless script"
+        )
     } else if is_capture(line) {
         let flaw = Flaw::Capture;
         eprintln!(rt; "line {number}, column 1: {flaw}")

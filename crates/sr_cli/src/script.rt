@@ -175,7 +175,9 @@ pub fn run_script<R: AllocGlobal + Print + Eprint + Files>(
         Ok(()) if flushed.is_ok() => {
             tell_odd(rt, task);
             if writer.get_ref().arrivals == 0 {
-                let _ = eprintln!(rt; "no packet is in the script: its last comments count those that were cut, long or empty");
+                let _ = eprintln!(rt;
+                    "no packet is in the script: its last comments count those that were cut, long or empty"
+                );
             }
             Ok(())
         }

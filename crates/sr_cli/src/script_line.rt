@@ -44,7 +44,13 @@ pub fn script_command<'a>(alloc: Global) -> Result<Command<'a>, AllocError> {
     let a = "The capture of LAN A; FILE:N is interface N of a pcapng file";
     let command = with_option(alloc, command, "a", "FILE[:N]", a);
     let command = with_option(alloc, command, "b", "FILE[:N]", "The capture of LAN B");
-    let command = with_option(alloc, command, "c", "FILE[:N]", "The capture of the interlink");
+    let command = with_option(
+        alloc,
+        command,
+        "c",
+        "FILE[:N]",
+        "The capture of the interlink",
+    );
     let shift = "Milliseconds that are added to the times of A";
     let command = with_option(alloc, command, "shift-a", "MS", shift);
     let shift = "Milliseconds that are added to the times of B";

@@ -33,7 +33,7 @@ returns-in-Err-clause-stopped g c = (
   λ start gone fed.
       let old = c.args.source.now in
       let s = sticks c.args.inlet old.form old.delay c.in-Err.fault start _ _ (progress_of old) c.args.moment gone c.requires fed c.in-Err.ensures.fault in
-        record {
+      record {
         item = s.item;
         at = s.at;
         when = s.when;
