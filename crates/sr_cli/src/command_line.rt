@@ -27,6 +27,7 @@ const EXAMPLES: &str = "Examples:
     seamless replay --role danh --mac 02:00:00:00:00:01 < ring.script";
 
 /// The words that options take, with what they mean.
+#[derive(Clone, Copy)]
 pub struct Words<'a> {
     roles: [PossibleValue<'a>; 5],
     lans: [PossibleValue<'a>; 2],

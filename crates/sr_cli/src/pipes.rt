@@ -24,7 +24,7 @@ pub struct Kept<R> {
     octets: Vec<u8>,
 }
 
-impl<R> Kept<R> {
+impl<R: Drop> Kept<R> {
     /// A reader that keeps so many octets at most, unless more are read at once.
     ///
     /// # Errors
@@ -69,7 +69,7 @@ impl<R> Kept<R> {
     }
 }
 
-impl<R: Read> Read for Kept<R> {
+impl<R: Read + Drop> Read for Kept<R> {
     fn read(&mut self, buf: &mut [u8]) -> io::Result<usize> {
         match self.source {
             Source::Inner => {

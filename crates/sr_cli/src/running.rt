@@ -129,7 +129,7 @@ fn copied(alloc: Global, octets: &[u8]) -> Result<Vec<u8>, AllocError> {
 }
 
 /// The lines at the place up to which a script was taken.
-fn ends_of<R: Read>(alloc: Global, script: &Script<R>) -> Result<Ends, AllocError> {
+fn ends_of<R: Read + Drop>(alloc: Global, script: &Script<R>) -> Result<Ends, AllocError> {
     let coming = script.buffer();
     let read = script.get_ref().octets();
     let taken = &read[..read.len().saturating_sub(coming.len())];
