@@ -11,7 +11,7 @@ use Rattle.std.proofs.lemmas.List.FromFn.{map-range_with_len_more}
 use Rattle.sr_capture_script.specs.declared.choice.Choice.{Choice}
 use Rattle.sr_capture_script.specs.declared.choice.Inlet.{Inlet}
 use Rattle.sr_capture_script.specs.Items.{Item}
-use Rattle.sr_capture_script.specs.Texts.{tick_line, steps_to, is_on_grid, grid_at, grid_between, ticks_to, line_of, time_since, is_wanted, piece_of, pieces_of, last_after, last_of, first_moment, lines_of, last_line}
+use Rattle.sr_capture_script.specs.Texts.{tick_line, steps_to, grid_between, ticks_to, line_of, time_since, is_wanted, piece_of, pieces_of, last_after, last_of, first_moment, lines_of, last_line}
 
 -- the first ticks behind so many steps of a grid
 abbrev pub first_ticks : ℕ → ℕ → ℕ → ℕ → List ℕ
@@ -29,17 +29,6 @@ ticks_more from step gone n at old mid new h e more =
     ap (λ (l : List ℕ). flat_map tick_line l) times ∙ flat_map-append tick_line (map f (range_with_len (gone + 1) n)) (f (gone + n + 1) ∷ [])
     ∙ ap (λ (l : List ℕ). first_ticks from step gone n ++ l) one in
     subst (Appends old new) (sym all) (Appends-trans old mid new (first_ticks from step gone n) (tick_line at) h more)
-
--- at a time that is not on the grid nothing is written, at one that is, its tick
-pub none_at : (from step time : ℕ) (held : Option (List ℕ)) → is_on_grid from step time ≡ false → Appends held held (flat_map tick_line (grid_at from step time))
-none_at from step time held off =
-    subst (λ (b : Bool). Appends held held (flat_map tick_line (if b then time ∷ [] else []))) (sym off) (Appends-nil held)
-
-pub one_at : (from step time : ℕ) (held now : Option (List ℕ)) → is_on_grid from step time ≡ true → Appends held now (tick_line time)
-    → Appends held now (flat_map tick_line (grid_at from step time))
-one_at from step time held now on wrote =
-    subst (λ (b : Bool). Appends held now (flat_map tick_line (if b then time ∷ [] else []))) (sym on)
-    (subst (Appends held now) (sym (append-nil (tick_line time))) wrote)
 
 -- all ticks between two times are written
 pub all_between : (from step last time gone n : ℕ) (held now : Option (List ℕ)) → gone ≡ steps_to from step last
