@@ -20,7 +20,7 @@ use Rattle.sr_capture_script.specs.Items.{Item, key_of, came_at, items_of, AllTo
 use Rattle.sr_capture_script.specs.Picking.{IsEarliest, NoneDue}
 use Rattle.sr_capture_script.specs.Sources.{Progress, left_of, Feeds, IsDue, IsFaulty}
 use Rattle.sr_capture_script.specs.SourceViews.{IsFed, IsSame, progress_of, StopsServing}
-use Rattle.sr_capture_script.specs.Texts.{last_line, lines_of}
+use Rattle.sr_capture_script.specs.Texts.{last_line, last_ticks, lines_of}
 use Rattle.sr_capture_script.specs.Merging.{Feed, feed_of, HasRecords, numbers_of, counts_of, HasCounted, Merges, end_of, Scripts, IsNext, HasCome, Halts}
 use Rattle.sr_capture_script.specs.Going.{Going}
 use Rattle.sr_capture_script.proofs.Ordering.{order_more, came_here, came_apart}
@@ -269,17 +269,20 @@ end_is choice l m a b c d e f p q r s =
     ∙ ap (λ (x : List ℕ). end_of choice m d e x) s
 
 -- a script and its end
-pub scripts : {R : Type 0} (choice : Choice) (x y z : Feed) (a b c : Source R) (there_a there_b there_c : Bool) (last : Option ℕ) (held mid now : Option (List ℕ))
-    (old text shown : List ℕ) → Merges choice x y z a b c last held mid → is_some a.reader ≡ there_a → is_some b.reader ≡ there_b → is_some c.reader ≡ there_c
-    → old ≡ [] → shown ≡ text → text ≡ old ++ end_of choice last (numbers_of (is_some a.reader) A a.number a.flaws) (numbers_of (is_some b.reader) B b.number b.flaws)
-    (numbers_of (is_some c.reader) C c.number c.flaws) → Appends mid now shown
+pub scripts : {R : Type 0} (choice : Choice) (x y z : Feed) (a b c : Source R) (there_a there_b there_c : Bool) (last : Option ℕ)
+    (held mid ticked now : Option (List ℕ)) (old text shown : List ℕ) → Merges choice x y z a b c last held mid
+    → is_some a.reader ≡ there_a → is_some b.reader ≡ there_b → is_some c.reader ≡ there_c
+    → old ≡ [] → shown ≡ text → text ≡ old ++ (numbers_of (is_some a.reader) A a.number a.flaws
+    ++ (numbers_of (is_some b.reader) B b.number b.flaws ++ numbers_of (is_some c.reader) C c.number c.flaws))
+    → Appends mid ticked (last_ticks choice last) → Appends ticked now shown
     → (all : List ℕ) × Scripts choice x y z there_a there_b there_c all × Appends held now all
-scripts choice x y z a b c there_a there_b there_c last held mid now old text shown h at_a at_b at_c none same is wrote =
-    let own = same ∙ is ∙ ap (λ (l : List ℕ). l ++ end_of choice last (numbers_of (is_some a.reader) A a.number a.flaws)
-    (numbers_of (is_some b.reader) B b.number b.flaws) (numbers_of (is_some c.reader) C c.number c.flaws)) none in
+scripts choice x y z a b c there_a there_b there_c last held mid ticked now old text shown h at_a at_b at_c none same is ticks wrote =
+    let numbers = numbers_of (is_some a.reader) A a.number a.flaws
+    ++ (numbers_of (is_some b.reader) B b.number b.flaws ++ numbers_of (is_some c.reader) C c.number c.flaws) in
+    let own = ap (λ (l : List ℕ). last_ticks choice last ++ l) (same ∙ is ∙ ap (λ (l : List ℕ). l ++ numbers) none) in
     let ending = own ∙ end_is choice last (last_line choice h.merged) _ _ _ _ _ _ h.last_is (numbers_are A there_a a h.packets_a at_a h.counted_a)
     (numbers_are B there_b b h.packets_b at_b h.counted_b) (numbers_are C there_c c h.packets_c at_c h.counted_c) in (
-      lines_of choice h.merged ++ shown,
+      lines_of choice h.merged ++ (last_ticks choice last ++ shown),
       record {
         packets_a = h.packets_a;
         packets_b = h.packets_b;
@@ -291,5 +294,6 @@ scripts choice x y z a b c there_a there_b there_c last held mid now old text sh
         is_merge = h.is_merge;
         is = ap (λ (l : List ℕ). lines_of choice h.merged ++ l) ending;
       },
-      Appends-trans held mid now (lines_of choice h.merged) shown h.wrote wrote,
+      Appends-trans held mid now (lines_of choice h.merged) (last_ticks choice last ++ shown) h.wrote
+          (Appends-trans mid ticked now (last_ticks choice last) shown ticks wrote),
     )

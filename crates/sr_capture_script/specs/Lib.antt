@@ -1,4 +1,3 @@
-pub mod Limits
 pub mod Shifts
 pub mod Picking
 pub mod Items

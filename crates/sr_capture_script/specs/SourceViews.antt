@@ -48,6 +48,13 @@ pub record Sticks (inlet : Inlet) (choice : Choice) (form : Format) (delay base 
   pub faulty : IsFaulty inlet form delay fault start (gone ++ item ∷ [])
   pub wrote : Appends held now (piece_of choice base last item)
 
+-- a fault of a writer, or of memory before it wrote anything; what a writer that fails wrote is not known
+abbrev pub StopsPrinting : ScriptFault → Option (List ℕ) → Option (List ℕ) → Type 0
+StopsPrinting Write held now = Unit {0}
+StopsPrinting NoMemory held now = now ≡ held
+StopsPrinting (File at fault) held now = ⊥
+StopsPrinting Endless held now = ⊥
+
 -- a fault while an item was printed: of memory, and nothing has changed, or of the file; what a writer that fails wrote is not known
 abbrev pub StopsServing : {R : Type 0} → (R → Option (List ℕ)) → Inlet → Choice → ℕ → ℕ → Option ℕ → ScriptFault → Source R → Source R
     → Option (List ℕ) → Option (List ℕ) → Type 0

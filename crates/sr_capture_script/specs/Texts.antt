@@ -21,6 +21,7 @@ use Rattle.std.specs.Prelude.{
   not,
   nat_lt,
   ◌||◌,
+  ◌==◌,
   if◌then◌else◌,
   ◌^◌,
 }
@@ -35,7 +36,6 @@ use Rattle.sr_capture_script.specs.declared.flaws.Flaw.{Flaw}
 use Rattle.sr_capture_script.specs.declared.flaws.FlawCounts.{FlawCounts}
 use Rattle.sr_capture_script.specs.Flaws.{flaw_of, name_of, tallied}
 use Rattle.sr_capture_script.specs.Items.{Item}
-use Rattle.sr_capture_script.specs.Limits.{farthest_tick}
 
 -- words with single spaces between them, as a line
 abbrev pub printed : List (List ℕ) → List ℕ
@@ -82,28 +82,41 @@ time_since base moment = (moment - base) / 1000000
 
 -- whether lines of this time are wanted
 abbrev pub is_wanted : Choice → ℕ → Bool
-is_wanted choice time = not (nat_lt time choice.from || nat_lt choice.to time)
+is_wanted choice time = not (nat_lt time choice.from || nat_lt (unwrap_or choice.to time) time)
 
--- how many steps there are from a line's time on that end neither after `most` nor more than a minute behind the line
-abbrev pub tick_count : ℕ → ℕ → ℕ → ℕ
-tick_count last step most = (min most (last + farthest_tick) - last) / step
+-- whole steps of a grid from its beginning to a time
+abbrev pub steps_to : ℕ → ℕ → ℕ → ℕ
+steps_to from step time = (time - from) / step
 
--- the times at the ends of these steps
-abbrev pub tick_times : ℕ → ℕ → ℕ → List ℕ
-tick_times last step most = map (λ k. last + k * step) (range_with_len 1 (tick_count last step most))
+-- the times from + k * step of a grid that are behind a time and not behind another
+abbrev pub grid_between : ℕ → ℕ → ℕ → ℕ → List ℕ
+grid_between from step last time =
+    map (λ k. from + k * step) (range_with_len (steps_to from step last + 1) (steps_to from step time - steps_to from step last))
 
--- the ticks behind a line of this time, if there is one and ticks are wanted
-abbrev pub ticks_behind : Option ℕ → Option ℕ → ℕ → List ℕ
-ticks_behind None step most = []
-ticks_behind (Some last) None most = []
-ticks_behind (Some last) (Some step) most = flat_map tick_line (tick_times last step most)
+-- whether a time is on the grid
+abbrev pub is_on_grid : ℕ → ℕ → ℕ → Bool
+is_on_grid from step time = from + steps_to from step time * step == time
+
+-- a time, where it is on the grid
+abbrev pub grid_at : ℕ → ℕ → ℕ → List ℕ
+grid_at from step time = if is_on_grid from step time then time ∷ [] else []
+
+-- the ticks up to a time and at it: behind the line of the time `last`, or at the time alone where no line stands before
+abbrev pub tick_times : ℕ → ℕ → Option ℕ → ℕ → List ℕ
+tick_times from step None time = grid_at from step time
+tick_times from step (Some last) time = grid_between from step last time
+
+-- their lines, if ticks are wanted
+abbrev pub ticks_to : ℕ → Option ℕ → Option ℕ → ℕ → List ℕ
+ticks_to from None last time = []
+ticks_to from (Some step) last time = flat_map tick_line (tick_times from step last time)
 
 -- what is printed for an item, where a line of the time `last` stands before: ticks and its line, or nothing if its time is not wanted
 abbrev pub piece_of : Choice → ℕ → Option ℕ → Item → List ℕ
 piece_of choice base last item =
     if is_wanted choice (time_since base item.moment)
-    then ticks_behind last choice.tick (time_since base item.moment - 1) ++ line_of item.inlet item.number (time_since base item.moment)
-    item.packet
+    then ticks_to choice.from choice.tick last (time_since base item.moment)
+    ++ line_of item.inlet item.number (time_since base item.moment) item.packet
     else []
 
 -- the time of the last line behind an item
@@ -137,6 +150,7 @@ lines_of choice items = pieces_of choice (base_of items) None items
 abbrev pub last_line : Choice → List Item → Option ℕ
 last_line choice items = last_of choice (base_of items) None items
 
--- the ticks behind the last line
+-- the ticks behind the last line: up to the last time that is wanted, if one is named
 abbrev pub last_ticks : Choice → Option ℕ → List ℕ
-last_ticks choice last = ticks_behind last choice.tick choice.to
+last_ticks choice None = []
+last_ticks choice (Some last) = ticks_to choice.from choice.tick (Some last) (unwrap_or choice.to last)

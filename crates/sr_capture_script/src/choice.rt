@@ -20,9 +20,9 @@ pub enum Inlet {
 pub struct Choice {
     /// The first time.
     pub from: u64,
-    /// The last time.
-    pub to: u64,
-    /// At most so far apart are the times of lines, within 60 s after a packet. None: there are no tick lines.
+    /// The last time, up to which ticks go on. None: that of the last packet.
+    pub to: Option<u64>,
+    /// How far apart ticks are, from the first time on. None: there are no tick lines.
     pub tick: Option<u64>,
 }
 

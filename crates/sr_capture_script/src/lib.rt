@@ -16,6 +16,7 @@ mod scripting;
 mod serving;
 mod shifts;
 mod source;
+mod ticks;
 
 pub use choice::{Choice, Delays, Inlet, Interfaces, MAX_DELAY, Options};
 pub use fault::ScriptFault;

@@ -3,7 +3,7 @@
 ghost use Rattle.std.specs.Prelude.{◌≡◌, ◌≤◌, ◌<◌, ◌^◌, ◌++◌, ◌∷◌, [], List, ℕ, ◌-◌, min, length, OnOk, IfErr};
 ghost use Rattle.hex.specs.Hex.{encode_lower};
 ghost use Rattle.sr_capture.specs.Records.{Captured, Shows};
-ghost use Rattle.sr_capture_script.specs.Texts.{letter_of, arrival_line, comment_line, tick_line, numbers_line, line_of};
+ghost use Rattle.sr_capture_script.specs.Texts.{letter_of, arrival_line, comment_line, numbers_line, line_of};
 
 use crate::choice::Inlet;
 use crate::fault::ScriptFault;
@@ -37,17 +37,6 @@ fn append_comment(
     let letter = letter_of(inlet);
     let reason = name_of(flaw);
     match writeln!(text, "# {letter} {number} {reason}") {
-        Ok(()) => Ok(()),
-        Err(_) => Err(ScriptFault::NoMemory),
-    }
-}
-
-/// Appends a tick line.
-pub(crate) fn append_tick(text: &mut Vec<u8>, time: u64) -> Result<(), ScriptFault>
-    ensures ok { OnOk result (text.new.items ≡ text.old.items ++ tick_line time) }
-    ensures err { IfErr result (λ fault. fault ≡ ScriptFault.NoMemory) }
-{
-    match writeln!(text, "tick {time}") {
         Ok(()) => Ok(()),
         Err(_) => Err(ScriptFault::NoMemory),
     }

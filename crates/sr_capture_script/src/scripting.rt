@@ -4,17 +4,17 @@ ghost use Rattle.std.specs.Prelude.{◌≡◌, ◌≢◌, ◌++◌, [], List, �
 ghost use Rattle.std.specs.Io.KnownBytes.{Appends};
 ghost use Rattle.sr_capture_script.specs.declared.choice.Inlet.TheVariants.{A as AtA, B as AtB, C as AtC};
 ghost use Rattle.sr_capture_script.specs.SourceViews.{IsFed};
-ghost use Rattle.sr_capture_script.specs.Merging.{numbers_of, end_of, feed_of, Scripts, Halts};
+ghost use Rattle.sr_capture_script.specs.Merging.{numbers_of, feed_of, Scripts, Halts};
 ghost use Rattle.sr_capture_script.specs.Opening.{reading_of, IsScript, IsScriptUpTo};
 
-use crate::choice::{Choice, Inlet, Options, Reading};
+use crate::choice::{Inlet, Options, Reading};
 use crate::fault::ScriptFault;
 use crate::lines::append_numbers;
 use crate::merging::merge;
 use crate::opening::open;
-use crate::pieces::append_ticks;
 use crate::serving::write_text;
 use crate::source::Source;
+use crate::ticks::write_last_ticks;
 use std::alloc::Global;
 use std::io::{BufRead, Write};
 
@@ -46,22 +46,19 @@ fn append_counts<R>(text: &mut Vec<u8>, inlet: Inlet, source: &Source<R>) -> Res
     append_numbers(text, inlet, source.number, source.flaws)
 }
 
-/// Appends what stands behind the last packet: ticks, and how many packets each file had.
+/// Appends how many packets each file had.
 fn append_end<R>(
     text: &mut Vec<u8>,
-    choice: &Choice,
-    last: Option<u64>,
     a: &Source<R>,
     b: &Source<R>,
     c: &Source<R>,
 ) -> Result<(), ScriptFault>
-    ensures ok { OnOk result (text.new.items ≡ text.old.items ++ end_of choice.now last
-        (numbers_of (is_some a.now.reader) AtA a.now.number a.now.flaws)
-        (numbers_of (is_some b.now.reader) AtB b.now.number b.now.flaws)
-        (numbers_of (is_some c.now.reader) AtC c.now.number c.now.flaws)) }
+    ensures ok { OnOk result (text.new.items ≡ text.old.items
+        ++ (numbers_of (is_some a.now.reader) AtA a.now.number a.now.flaws
+        ++ (numbers_of (is_some b.now.reader) AtB b.now.number b.now.flaws
+        ++ numbers_of (is_some c.now.reader) AtC c.now.number c.now.flaws))) }
     ensures err { IfErr result (λ fault. fault ≡ ScriptFault.NoMemory) }
 {
-    append_ticks(text, last, choice.tick, choice.to)?;
     append_counts(text, Inlet::A, a)?;
     append_counts(text, Inlet::B, b)?;
     append_counts(text, Inlet::C, c)
@@ -93,7 +90,8 @@ fn print<R: BufRead, W: Write>(
 {
     let last = merge(a, b, c, &options.choice, text, writer)?;
     text.clear();
-    append_end(text, &options.choice, last, a, b, c)?;
+    append_end(text, a, b, c)?;
+    write_last_ticks(writer, &options.choice, last)?;
     write_text(writer, text.as_slice())?;
     match writer.flush() {
         Ok(()) => Ok(()),

@@ -9,7 +9,7 @@ ghost use Rattle.sr_capture_script.specs.Texts.{last_after};
 use crate::advancing::advance;
 use crate::choice::{Choice, Inlet};
 use crate::fault::ScriptFault;
-use crate::pieces::{Place, append_piece};
+use crate::pieces::{Place, print_piece};
 use crate::source::Source;
 use std::io::{BufRead, Write};
 
@@ -57,14 +57,20 @@ pub(crate) fn serve<R: BufRead, W: Write>(
 {
     let base = clock.base.unwrap_or(moment);
     clock.base = Some(base);
-    text.clear();
     let place = Place {
         inlet,
         number: source.number,
         moment,
     };
-    append_piece(text, choice, base, &mut clock.last, place, &source.packet)?;
-    write_text(writer, text.as_slice())?;
+    print_piece(
+        text,
+        choice,
+        base,
+        &mut clock.last,
+        place,
+        &source.packet,
+        writer,
+    )?;
     match advance(source) {
         Ok(()) => Ok(()),
         Err(fault) => Err(ScriptFault::File(inlet, fault)),

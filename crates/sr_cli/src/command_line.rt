@@ -2,11 +2,12 @@
 
 ghost use Rattle.std.specs.Prelude.{◌<◌, ◌≤◌};
 
+use crate::address::mac_of;
 use crate::plant_line::{plant_command, plant_of};
+use crate::refusal::Refused;
 use crate::script_line::{ScriptTask, script_command, script_task};
-use clap::{Arg, ArgMatches, Command, Error};
-use hex::FromHex;
-use sr_frame::Mac;
+use clap::builder::PossibleValue;
+use clap::{Arg, ArgMatches, Command};
 use sr_node::{Mode, Settings};
 use sr_plant_script::{PlantSetup, Topology};
 use sr_prp_trailer::Lan;
@@ -15,45 +16,56 @@ use sr_slots::Keys;
 use std::alloc::{AllocError, Global};
 use std::fmt;
 
-/// Why the command line is refused.
-#[derive(Drop)]
-pub enum Refused {
-    /// For what the parser says: a call for help and want of memory are among it.
-    Parser(Error),
-    /// The address is not 12 hexadecimal digits.
-    Mac,
-    /// The value of this option of a script.
-    Option(&'static str),
+/// The name, the version and the kit of the program: the version is that of CHANGELOG.md, the kit that of README.md.
+const VERSION: &str = "0.4.0-dev (rattle-kit-13f logic dac8208d650f15bf)";
+
+/// What stands below the help.
+const EXAMPLES: &str = "Examples:
+  What two captures tell of the nodes of a PRP network, with alarms:
+    seamless script --a lan-a.pcap --b lan-b.pcap --tick 100 | seamless status --role danp --mac 020000000001
+  What a node of an HSR ring hands out for a script:
+    seamless replay --role danh --mac 02:00:00:00:00:01 < ring.script";
+
+/// The words that options take, with what they mean.
+#[derive(Clone, Copy)]
+pub struct Words<'a> {
+    roles: [PossibleValue<'a>; 5],
+    lans: [PossibleValue<'a>; 2],
+    modes: [PossibleValue<'a>; 2],
 }
 
-impl fmt::Display for Refused {
-    fn fmt<W: fmt::Write>(&self, f: &mut fmt::Formatter<W>) -> fmt::Result {
-        match self {
-            Refused::Parser(error) => write!(f, "{error}"),
-            Refused::Mac => write!(f, "fault mac\n"),
-            Refused::Option(name) => write!(f, "fault {name}\n"),
+impl<'a> Words<'a> {
+    /// All of them.
+    pub fn new() -> Words<'a> {
+        Words {
+            roles: [
+                PossibleValue::new("danp").help("a node of a PRP network, on LANs A and B"),
+                PossibleValue::new("danh").help("a node of an HSR ring"),
+                PossibleValue::new("san").help(
+                    "a RedBox of a ring, for nodes that know no redundancy",
+                ),
+                PossibleValue::new("prp").help("a RedBox of a ring, for a LAN of a PRP network"),
+                PossibleValue::new("hsr").help("a RedBox of a ring, for a second ring"),
+            ],
+            lans: [
+                PossibleValue::new("a").help("LAN A"),
+                PossibleValue::new("b").help("LAN B"),
+            ],
+            modes: [
+                PossibleValue::new("h").help("a frame goes on wherever no copy of it went"),
+                PossibleValue::new("x").help("nor does it go on where a copy of it came in"),
+            ],
         }
     }
 }
 
-impl From<Error> for Refused {
-    fn from(error: Error) -> Refused {
-        Refused::Parser(error)
-    }
-}
-
-impl From<AllocError> for Refused {
-    fn from(error: AllocError) -> Refused {
-        Refused::Parser(Error::from(error))
-    }
-}
-
 /// The role of a node: `--role danp|danh|san|prp|hsr`.
-fn role_option<'a>(alloc: Global) -> Arg<'a> {
+fn role_option<'a>(alloc: Global, words: &'a Words<'a>) -> Arg<'a> {
     Arg::new(alloc, "role")
         .long("role")
         .required(true)
-        .value_parser(["danp", "danh", "san", "prp", "hsr"].as_slice())
+        .value_name("ROLE")
+        .value_parser(words.roles.as_slice())
         .help("The role of the node")
 }
 
@@ -62,15 +74,19 @@ fn mac_option<'a>(alloc: Global) -> Arg<'a> {
     Arg::new(alloc, "mac")
         .long("mac")
         .required(true)
-        .help("The address of the node, 12 hexadecimal digits")
+        .value_name("MAC")
+        .help(
+            "The address of the node: 020000000001 or 02:00:00:00:00:01, not one that sends in the captures",
+        )
 }
 
 /// The LAN at its interlink: `[--lan a|b]`.
-fn lan_option<'a>(alloc: Global) -> Arg<'a> {
+fn lan_option<'a>(alloc: Global, words: &'a Words<'a>) -> Arg<'a> {
     Arg::new(alloc, "lan")
         .long("lan")
         .default_value("a")
-        .value_parser(["a", "b"].as_slice())
+        .value_name("LAN")
+        .value_parser(words.lans.as_slice())
         .help("The LAN at the interlink, of role prp")
 }
 
@@ -79,17 +95,19 @@ fn net_option<'a>(alloc: Global) -> Arg<'a> {
     Arg::new(alloc, "net")
         .long("net")
         .default_value("1")
-        .value_parser(["1", "2", "3", "4", "5", "6"].as_slice())
+        .value_name("1..6")
+        .value_parser(clap::value_parser!(u8).range(1..=6))
         .help("The number of the PRP network at the interlink, of role prp")
 }
 
 /// The mode of each node: `[--mode h|x]`.
-pub fn mode_option<'a>(alloc: Global) -> Arg<'a> {
+pub fn mode_option<'a>(alloc: Global, words: &'a Words<'a>) -> Arg<'a> {
     Arg::new(alloc, "mode")
         .long("mode")
         .default_value("h")
-        .value_parser(["h", "x"].as_slice())
-        .help("Whether a frame goes on where a copy of it came in: h, it does; x, it does not")
+        .value_name("MODE")
+        .value_parser(words.modes.as_slice())
+        .help("Whether a node sends a copy back to where one came from")
 }
 
 /// The settings that the parser let through.
@@ -120,31 +138,42 @@ fn with<'a>(
 /// A subcommand that runs a script on a node.
 fn node_command<'a>(
     alloc: Global,
+    words: &'a Words<'a>,
     name: &'a str,
     about: &'a str,
 ) -> Result<Command<'a>, AllocError> {
     let command = Ok(Command::new(alloc, name).about(about));
-    let command = with_arg(command, role_option(alloc));
+    let command = with_arg(command, role_option(alloc, words));
     let command = with_arg(command, mac_option(alloc));
-    let command = with_arg(command, lan_option(alloc));
+    let command = with_arg(command, lan_option(alloc, words));
     let command = with_arg(command, net_option(alloc));
-    with_arg(command, mode_option(alloc))
+    with_arg(command, mode_option(alloc, words))
 }
 
 /// The program without its subcommands.
 fn program<'a>(alloc: Global) -> Result<Command<'a>, AllocError> {
     Command::new(alloc, "seamless")
-        .about("Runs a script of events on a node of a redundant network")
+        .about(
+            "Runs nodes and networks of seamless redundancy, PRP and HSR, on scripts and captures",
+        )
+        .version(VERSION)
+        .after_help(EXAMPLES)
         .subcommand_required(true)
         .bin_name("seamless")
 }
 
 /// What the parser knows.
-fn command<'a>(alloc: Global) -> Result<Command<'a>, AllocError> {
-    let replay = node_command(alloc, "replay", "Prints the frames that the node hands out");
+fn command<'a>(alloc: Global, words: &'a Words<'a>) -> Result<Command<'a>, AllocError> {
+    let replay = node_command(
+        alloc,
+        words,
+        "replay",
+        "Prints the frames that the node hands out",
+    );
     let command = with(program(alloc), replay);
     let status = node_command(
         alloc,
+        words,
         "status",
         "Prints what the node knows of other nodes at the end, and its alarms",
     );
@@ -152,22 +181,18 @@ fn command<'a>(alloc: Global) -> Result<Command<'a>, AllocError> {
     let command = with(command, script_command(alloc));
     let ring = plant_command(
         alloc,
+        words,
         "ring",
         "Runs a script on a ring of doubly attached nodes",
     );
     let command = with(command, ring);
     let lan = plant_command(
         alloc,
+        words,
         "lan",
         "Runs a script on doubly attached nodes of two LANs",
     );
     with(command, lan)
-}
-
-/// The address that 12 hexadecimal digits of either case spell.
-fn mac_of(digits: &str) -> Option<Mac> {
-    let octets = <[u8; 6] as FromHex>::from_hex(digits).ok()?;
-    Some(Mac(octets))
 }
 
 /// The number of a network, of a word that the parser let through.
@@ -175,13 +200,9 @@ fn net_of(word: &str) -> u8
     ensures least { 0 < result }
     ensures most { result ≤ 6 }
 {
-    match word {
-        "2" => 2,
-        "3" => 3,
-        "4" => 4,
-        "5" => 5,
-        "6" => 6,
-        _ => 1,
+    match word.parse::<u8>() {
+        Ok(net) => net.clamp(1, 6),
+        Err(_) => 1,
     }
 }
 
@@ -266,7 +287,11 @@ fn task_in<'a>(matches: &ArgMatches<'a>) -> Result<Task<'a>, Refused> {
 ///
 /// # Errors
 /// `Mac` where the address alone is wrong, else `Parser`.
-pub fn task_of<'a>(alloc: Global, words: &'a [String]) -> Result<Task<'a>, Refused> {
-    let matches = command(alloc)?.try_get_matches_from(words)?;
+pub fn task_of<'a>(
+    alloc: Global,
+    known: &'a Words<'a>,
+    words: &'a [String],
+) -> Result<Task<'a>, Refused> {
+    let matches = command(alloc, known)?.try_get_matches_from(words)?;
     task_in(&matches)
 }

@@ -3,7 +3,7 @@
 ghost use Rattle.std.specs.Prelude.{◌≤◌};
 ghost use Rattle.sr_plant.specs.Limits.{fewest_nodes, most_nodes};
 
-use crate::command_line::{mode_option, settings_of, with_arg};
+use crate::command_line::{Words, mode_option, settings_of, with_arg};
 use clap::{Arg, ArgMatches, Command};
 use sr_plant_script::{PlantSetup, Topology};
 use std::alloc::{AllocError, Global};
@@ -11,19 +11,18 @@ use std::alloc::{AllocError, Global};
 /// What the parser knows of a subcommand for a plant: `--nodes 2..16`.
 pub fn plant_command<'a>(
     alloc: Global,
+    words: &'a Words<'a>,
     name: &'a str,
     about: &'a str,
 ) -> Result<Command<'a>, AllocError> {
     let nodes = Arg::new(alloc, "nodes")
         .long("nodes")
         .required(true)
-        .value_parser([
-            "2", "3", "4", "5", "6", "7", "8", "9", "10", "11", "12", "13", "14", "15", "16",
-        ]
-        .as_slice())
+        .value_name("2..16")
+        .value_parser(clap::value_parser!(u8).range(2..=16))
         .help("How many nodes there are");
     let command = Command::new(alloc, name).about(about).arg(nodes);
-    with_arg(command, mode_option(alloc))
+    with_arg(command, mode_option(alloc, words))
 }
 
 /// How many nodes there are, by a word that the parser let through.

@@ -1,11 +1,12 @@
 //! The subcommand `script`: opens the captures, and says what is wrong with one.
 
+use crate::pipes::Pipe;
 use crate::progress::{Metered, Progress};
 use crate::script_line::ScriptTask;
 use sr_capture::{CaptureFault, Reason};
 use sr_capture_script::{Inlet, ScriptFault, script};
 use std::fs::File;
-use std::io::{self, BufReader, BufWriter, Write};
+use std::io::{self, BufReader, BufWriter, ErrorKind, Write};
 use std::rt::Files;
 
 /// The most lines that `replay` takes.
@@ -16,13 +17,21 @@ const MAX_LINES: u64 = 1_000_000;
 struct Counted<W> {
     inner: W,
     lines: u64,
+    /// Those that begin as the line of a packet does that is used.
+    arrivals: u64,
+    /// The last octet was an LF, or there was none.
+    is_new: bool,
 }
 
 impl<W: Write> Write for Counted<W> {
     fn write(&mut self, buf: &[u8]) -> io::Result<usize> {
         let taken = self.inner.write(buf)?;
         for octet in &buf[..taken] {
-            if *octet == b'\n' {
+            if self.is_new && *octet == b'i' {
+                self.arrivals = self.arrivals.saturating_add(1);
+            }
+            self.is_new = *octet == b'\n';
+            if self.is_new {
                 self.lines = self.lines.saturating_add(1);
             }
         }
@@ -81,6 +90,15 @@ fn tell_file<R: Eprint>(rt: &R, inlet: Inlet, fault: CaptureFault) {
     }
 }
 
+/// Why a file can't be opened.
+fn reason_of(kind: ErrorKind) -> &'static str {
+    match kind {
+        ErrorKind::NotFound => "no such file",
+        ErrorKind::PermissionDenied => "no permission to read it",
+        _ => "it can't be opened",
+    }
+}
+
 /// A file that is read ahead, and tells how far it was read.
 type Opened<'a, R> = BufReader<Metered<'a, <R as Files>::File, R>>;
 
@@ -95,9 +113,14 @@ fn open_file<'a, R: AllocGlobal + Eprint + Files>(
         return Ok(None);
     };
     let letter = letter_of(inlet);
-    let Ok(file) = File::open(rt, path) else {
-        let _ = eprintln!(rt; "fault {letter} open 0");
-        return Err(());
+    let file = match File::open(rt, path) {
+        Ok(file) => file,
+        Err(error) => {
+            let reason = reason_of(error.kind());
+            let _ = eprintln!(rt; "fault {letter} open 0");
+            let _ = eprintln!(rt; "{path}: {reason}");
+            return Err(());
+        }
     };
     let len = std::fs::metadata(rt, path).map_or(0, |metadata| metadata.len());
     match BufReader::new(rt.alloc(), Metered::new(rt, file, letter, len, progress)) {
@@ -106,6 +129,17 @@ fn open_file<'a, R: AllocGlobal + Eprint + Files>(
             let _ = eprintln!(rt; "fault {letter} memory 0");
             Err(())
         }
+    }
+}
+
+/// Says what looks wrong in the options, though a script can be made.
+fn tell_odd<R: Eprint>(rt: &R, task: &ScriptTask<'_>) {
+    let choice = task.options.choice;
+    if choice.to.is_some_and(|to| to < choice.from) {
+        let _ = eprintln!(rt; "no time is wanted: --from is behind --to");
+    }
+    if task.is_same {
+        let _ = eprintln!(rt; "A and B are the same capture");
     }
 }
 
@@ -118,21 +152,35 @@ pub fn run_script<R: AllocGlobal + Print + Eprint + Files>(
     let a = open_file(rt, Inlet::A, task.a, progress)?;
     let b = open_file(rt, Inlet::B, task.b, progress)?;
     let c = open_file(rt, Inlet::C, task.c, progress)?;
-    let Ok(inner) = BufWriter::new(rt.alloc(), io::writer(rt)) else {
+    let counted = Counted {
+        inner: Pipe::new(io::writer(rt)),
+        lines: 0,
+        arrivals: 0,
+        is_new: true,
+    };
+    let Ok(mut writer) = BufWriter::new(rt.alloc(), counted) else {
         let _ = eprintln!(rt; "fault memory");
         return Err(());
     };
-    let mut writer = Counted { inner, lines: 0 };
     let outcome = script(rt.alloc(), a, b, c, &task.options, &mut writer);
     let flushed = writer.flush();
-    let lines = writer.lines;
-    if lines > MAX_LINES {
+    let lines = writer.get_ref().lines;
+    let is_closed = writer.get_ref().inner.is_closed();
+    if lines > MAX_LINES && !is_closed {
         let _ = eprintln!(rt;
             "{lines} lines: a script has at most {MAX_LINES}; take a part by --from and --to"
         );
     }
     match outcome {
-        Ok(()) if flushed.is_ok() => Ok(()),
+        Ok(()) if flushed.is_ok() => {
+            tell_odd(rt, task);
+            if writer.get_ref().arrivals == 0 {
+                let _ = eprintln!(rt;
+                    "no packet is in the script: its last comments count those that were cut, long or empty"
+                );
+            }
+            Ok(())
+        }
         Err(ScriptFault::File(inlet, fault)) => {
             tell_file(rt, inlet, fault);
             Err(())
@@ -141,6 +189,7 @@ pub fn run_script<R: AllocGlobal + Print + Eprint + Files>(
             let _ = eprintln!(rt; "fault memory");
             Err(())
         }
+        _ if is_closed => Err(()),
         _ => {
             let _ = eprintln!(rt; "fault write");
             Err(())

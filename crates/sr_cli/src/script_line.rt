@@ -13,12 +13,15 @@ pub struct ScriptTask<'a> {
     pub b: Option<&'a str>,
     pub c: Option<&'a str>,
     pub options: Options,
+    /// Whether the captures of A and B are one.
+    pub is_same: bool,
 }
 
 /// An option with a value.
-fn option<'a>(alloc: Global, name: &'a str, help: &'a str) -> Arg<'a> {
+fn option<'a>(alloc: Global, name: &'a str, value: &'a str, help: &'a str) -> Arg<'a> {
     Arg::new(alloc, name)
         .long(name)
+        .value_name(value)
         .allow_negative_numbers(true)
         .help(help)
 }
@@ -28,34 +31,41 @@ fn with_option<'a>(
     alloc: Global,
     command: Result<Command<'a>, AllocError>,
     name: &'a str,
+    value: &'a str,
     help: &'a str,
 ) -> Result<Command<'a>, AllocError> {
-    with_arg(command, option(alloc, name, help))
+    with_arg(command, option(alloc, name, value, help))
 }
 
 /// What the parser knows of the subcommand.
 pub fn script_command<'a>(alloc: Global) -> Result<Command<'a>, AllocError> {
     let about = "Prints a script of the packets of up to three captures";
     let command = Ok(Command::new(alloc, "script").about(about));
-    let a = "The capture of LAN A: FILE, or FILE:INTERFACE of a pcapng file";
-    let command = with_option(alloc, command, "a", a);
-    let command = with_option(alloc, command, "b", "The capture of LAN B");
-    let command = with_option(alloc, command, "c", "The capture of the interlink");
+    let a = "The capture of LAN A; FILE:N is interface N of a pcapng file";
+    let command = with_option(alloc, command, "a", "FILE[:N]", a);
+    let command = with_option(alloc, command, "b", "FILE[:N]", "The capture of LAN B");
+    let command = with_option(
+        alloc,
+        command,
+        "c",
+        "FILE[:N]",
+        "The capture of the interlink",
+    );
     let shift = "Milliseconds that are added to the times of A";
-    let command = with_option(alloc, command, "shift-a", shift);
+    let command = with_option(alloc, command, "shift-a", "MS", shift);
     let shift = "Milliseconds that are added to the times of B";
-    let command = with_option(alloc, command, "shift-b", shift);
+    let command = with_option(alloc, command, "shift-b", "MS", shift);
     let shift = "Milliseconds that are added to the times of C";
-    let command = with_option(alloc, command, "shift-c", shift);
+    let command = with_option(alloc, command, "shift-c", "MS", shift);
     let fcs = "The octets of check sequence, where a file does not tell";
-    let fcs = option(alloc, "fcs", fcs).value_parser(["4"].as_slice());
+    let fcs = option(alloc, "fcs", "4", fcs).value_parser(["4"].as_slice());
     let command = with_arg(command, fcs);
     let from = "The first time of a line, in milliseconds";
-    let command = with_option(alloc, command, "from", from);
+    let command = with_option(alloc, command, "from", "T", from);
     let to = "The last time of a line, in milliseconds";
-    let command = with_option(alloc, command, "to", to);
-    let tick = "Adds ticks at most so many milliseconds apart";
-    with_option(alloc, command, "tick", tick)
+    let command = with_option(alloc, command, "to", "T", to);
+    let tick = "Adds ticks so many milliseconds apart, from --from on";
+    with_option(alloc, command, "tick", "MS", tick)
 }
 
 /// A file, and which of its interfaces is wanted.
@@ -143,9 +153,10 @@ pub fn script_task<'a>(matches: &ArgMatches<'a>) -> Result<ScriptTask<'a>, &'sta
     };
     let choice = Choice {
         from: time_of(matches, "from")?.unwrap_or(0),
-        to: time_of(matches, "to")?.unwrap_or(u64::MAX),
+        to: time_of(matches, "to")?,
         tick: tick_of(matches)?,
     };
+    let is_same = a.path.is_some() && matches.get_str("a") == matches.get_str("b");
     let check_len = if matches.contains_id("fcs") { 4 } else { 0 };
     Ok(ScriptTask {
         a: a.path,
@@ -161,5 +172,6 @@ pub fn script_task<'a>(matches: &ArgMatches<'a>) -> Result<ScriptTask<'a>, &'sta
                 c: c.wanted,
             },
         },
+        is_same,
     })
 }

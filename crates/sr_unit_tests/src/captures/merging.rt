@@ -87,7 +87,7 @@ const MERGED: &[Step] = &[
         Manner {
             choice: Choice {
                 from: 1500,
-                to: 3000,
+                to: Some(3000),
                 tick: None,
             },
             ..PLAIN
@@ -104,7 +104,7 @@ const MERGED: &[Step] = &[
         Manner {
             choice: Choice {
                 from: 1501,
-                to: 2999,
+                to: Some(2999),
                 tick: None,
             },
             ..PLAIN
@@ -120,47 +120,74 @@ fn files_are_merged_by_time(rt: HostRuntime) {
 }
 
 const TICKS: &[Step] = &[
-    // Ticks stand before the next line, and up to the last time that is wanted.
+    // On the grid, from the first line's time to the last one's, whatever lies between, and none behind it; at one time a tick
+    // goes before a line.
     Step::Files(
         Files {
             a: TWO,
-            b: &[],
+            b: &[HEADER, AT_4],
             c: &[],
         },
         Manner {
             choice: Choice {
                 from: 0,
-                to: 3000,
+                to: None,
                 tick: Some(500),
             },
             ..PLAIN
         },
         &[
+            These(b"tick 0\nin A 0 11\ntick 500\ntick 1000\ntick 1500\nin A 1500 25\n"),
+            These(b"tick 2000\ntick 2500\ntick 3000\nin B 3000 44\n"),
             These(
-                b"in A 0 11\ntick 500\ntick 1000\nin A 1500 25\ntick 2000\ntick 2500\ntick 3000\n",
+                b"# A 2 packets, 0 cut, 0 long, 0 empty\n# B 1 packets, 0 cut, 0 long, 0 empty\n",
             ),
-            These(b"# A 2 packets, 0 cut, 0 long, 0 empty\n"),
         ],
         None,
     ),
-    // They go on for a minute.
+    // A grid that no line is on, and lines closer to one another than ticks.
     Step::Files(
         Files {
-            a: ONE,
+            a: &[HEADER, AT_1, AT_2500, AT_2500, AT_4],
             b: &[],
             c: &[],
         },
         Manner {
             choice: Choice {
                 from: 0,
-                to: u64::MAX,
-                tick: Some(29_999),
+                to: None,
+                tick: Some(1600),
             },
             ..PLAIN
         },
-        &[These(b"in A 0 11\ntick 29999\ntick 59998\n# A 1 packets, 0 cut, 0 long, 0 empty\n")],
+        &[
+            These(b"tick 0\nin A 0 11\nin A 1500 25\nin A 1500 25\ntick 1600\nin A 3000 44\n"),
+            These(b"# A 4 packets, 0 cut, 0 long, 0 empty\n"),
+        ],
         None,
     ),
+    // The grid begins at the first time that is wanted, ticks at the first line; they go on to the last time that is.
+    Step::Files(
+        Files {
+            a: &[HEADER, AT_1, AT_2500, AT_4],
+            b: &[],
+            c: &[],
+        },
+        Manner {
+            choice: Choice {
+                from: 700,
+                to: Some(3700),
+                tick: Some(1000),
+            },
+            ..PLAIN
+        },
+        &[
+            These(b"in A 1500 25\ntick 1700\ntick 2700\nin A 3000 44\ntick 3700\n"),
+            These(b"# A 3 packets, 0 cut, 0 long, 0 empty\n"),
+        ],
+        None,
+    ),
+    // Where no line is wanted there are no ticks.
     Step::Files(
         Files {
             a: ONE,
@@ -169,19 +196,19 @@ const TICKS: &[Step] = &[
         },
         Manner {
             choice: Choice {
-                from: 0,
-                to: u64::MAX,
-                tick: Some(30_000),
+                from: 1,
+                to: Some(3000),
+                tick: Some(1),
             },
             ..PLAIN
         },
-        &[These(b"in A 0 11\ntick 30000\ntick 60000\n# A 1 packets, 0 cut, 0 long, 0 empty\n")],
+        &[These(b"# A 1 packets, 0 cut, 0 long, 0 empty\n")],
         None,
     ),
 ];
 
 #[test]
-fn ticks_stand_between_lines(rt: HostRuntime) {
+fn ticks_stand_on_a_grid(rt: HostRuntime) {
     expect_steps(&rt, TICKS);
 }
 

@@ -22,7 +22,7 @@ const ANY: Interfaces = Interfaces {
 pub const ALL: Options = Options {
     choice: Choice {
         from: 0,
-        to: u64::MAX,
+        to: None,
         tick: None,
     },
     check_len: 0,
@@ -44,7 +44,7 @@ pub struct Manner {
 pub const PLAIN: Manner = Manner {
     choice: Choice {
         from: 0,
-        to: u64::MAX,
+        to: None,
         tick: None,
     },
     check_len: 0,

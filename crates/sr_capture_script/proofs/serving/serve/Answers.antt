@@ -5,9 +5,8 @@ use Rattle.sr_capture_script.specs.Texts.{piece_of}
 use Rattle.sr_capture_script.specs.Sources.{left_of, Feeds}
 use Rattle.sr_capture_script.specs.SourceViews.{progress_of}
 use Rattle.sr_capture_script.proofs.Feeding.{serves, sticks}
-use Rattle.sr_capture_script.proofs.Writing.{wrote_piece}
 use Rattle.sr_capture_script.proofs.Outcomes.{handed_on}
-use Rattle.sr_capture_script.proofs.Stopping.{stops_without_memory, stops_writing}
+use Rattle.sr_capture_script.proofs.Stopping.{stops_serving}
 use Rattle.sr_capture_script.proofs.serving.serve.Goals as goal
 
 pub returns-in-Ok-clause-served : goal.returns-in-Ok-clause-served
@@ -17,7 +16,6 @@ returns-in-Ok-clause-served g c start gone fed =
     let now = left_of g.R.Read.remaining new.reader in
     let s = serves c.args.inlet old.form old.delay start _ now (progress_of old) (progress_of new) c.args.moment gone c.requires fed c.in-Ok.ensures.goes in
     let same = c.in-Ok.ensures.same in
-    let piece = c.in_ok-append_piece.ensures.ok s.item s.at s.when s.number s.shown in
     let by_form = subst (λ (f : Format). Feeds c.args.inlet f old.delay start now (progress_of new) (gone ++ s.item ∷ [])) (sym same.form) s.feeds in
     record {
       item = s.item;
@@ -25,8 +23,8 @@ returns-in-Ok-clause-served g c start gone fed =
       when = s.when;
       later = s.later;
       fed = subst (λ (n : ℕ). Feeds c.args.inlet new.form n start now (progress_of new) (gone ++ s.item ∷ [])) (sym same.delay) by_form;
-      wrote = subst (λ (n : ℕ). Appends (g.W.Write.contents c.args.writer.now) (g.W.Write.contents c.write_text.new.writer) (piece_of c.args.choice.now n c.args.clock.now.last s.item)) c.unwrap_or-base.ensures
-          (wrote_piece _ _ c.append_piece.new.text.items _ _ _ c.clear.ensures.items piece c.as_slice.ensures.value c.in_ok-write_text.ensures.ok);
+      wrote = subst (λ (n : ℕ). Appends (g.W.Write.contents c.args.writer.now) (g.W.Write.contents c.print_piece.new.writer) (piece_of c.args.choice.now n c.args.clock.now.last s.item)) c.unwrap_or-base.ensures
+          (c.in_ok-print_piece.ensures.ok s.item s.at s.when s.number s.shown);
     }
 
 pub returns-in-Err-clause-stopped : goal.returns-in-Err-clause-stopped
@@ -35,21 +33,16 @@ returns-in-Err-clause-stopped g c = (
   λ start gone fed.
       let old = c.args.source.now in
       let s = sticks c.args.inlet old.form old.delay c.in-Err.fault start _ _ (progress_of old) c.args.moment gone c.requires fed c.in-Err.ensures.fault in
-      let piece = c.in_ok-append_piece.ensures.ok s.item s.at s.when s.number s.shown in
       record {
         item = s.item;
         at = s.at;
         when = s.when;
         faulty = s.faulty;
-        wrote = subst (λ (n : ℕ). Appends (g.W.Write.contents c.args.writer.now) (g.W.Write.contents c.write_text.new.writer) (piece_of c.args.choice.now n c.args.clock.now.last s.item)) c.unwrap_or-base.ensures
-            (wrote_piece _ _ c.append_piece.new.text.items _ _ _ c.clear.ensures.items piece c.as_slice.ensures.value c.in_ok-write_text.ensures.ok);
+        wrote = subst (λ (n : ℕ). Appends (g.W.Write.contents c.args.writer.now) (g.W.Write.contents c.print_piece.new.writer) (piece_of c.args.choice.now n c.args.clock.now.last s.item)) c.unwrap_or-base.ensures
+            (c.in_ok-print_piece.ensures.ok s.item s.at s.when s.number s.shown);
       },
 )
 
-pub returns-in_err-append_piece-clause-stopped : goal.returns-in_err-append_piece-clause-stopped
-returns-in_err-append_piece-clause-stopped g c =
-    handed_on c.from_residual.result _ _ c.from_residual.ensures.1 (stops_without_memory _ _ _ _ _ _ _ _ _ _ _ c.in_err-append_piece.ensures.err refl refl)
-
-pub returns-in_err-write_text-clause-stopped : goal.returns-in_err-write_text-clause-stopped
-returns-in_err-write_text-clause-stopped g c =
-    handed_on c.from_residual-in_err-write_text.result _ _ c.from_residual-in_err-write_text.ensures.1 (stops_writing _ _ _ _ _ _ _ _ _ _ _ c.in_err-write_text.ensures.err)
+pub returns-in_err-print_piece-clause-stopped : goal.returns-in_err-print_piece-clause-stopped
+returns-in_err-print_piece-clause-stopped g c =
+    handed_on c.from_residual.result _ _ c.from_residual.ensures.1 (stops_serving _ _ _ _ _ _ _ _ _ _ _ refl c.in_err-print_piece.ensures.err)

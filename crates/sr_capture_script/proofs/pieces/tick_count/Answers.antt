@@ -1,5 +1,0 @@
-use Rattle.std.proofs.Common.{rules}
-use Rattle.sr_capture_script.proofs.pieces.tick_count.Goals as goal
-
-pub returns : goal.returns
-returns c = search rules

@@ -1,0 +1,65 @@
+//! Why the command line is refused, and what is told of it.
+
+use clap::Error;
+use clap::error::ErrorKind;
+use std::alloc::AllocError;
+use std::fmt;
+
+/// Why the command line is refused.
+#[derive(Drop)]
+pub enum Refused {
+    /// For what the parser says: a call for help and want of memory are among it.
+    Parser(Error),
+    /// The address is none.
+    Mac,
+    /// The value of this option of a script, or `files` where no capture is given.
+    Option(&'static str),
+}
+
+impl Refused {
+    /// Whether the version was asked for.
+    pub fn is_version(&self) -> bool {
+        match self {
+            Refused::Parser(error) => error.kind() == ErrorKind::DisplayVersion,
+            _ => false,
+        }
+    }
+}
+
+/// What is wanted in place of an option that is refused.
+fn wanted(name: &str) -> &'static str {
+    match name {
+        "files" => "give a capture at least: --a FILE, --b FILE or --c FILE",
+        "shift" => "the shifts are more than 146 years apart",
+        "from" | "to" => "--from and --to take whole milliseconds from the earliest packet on",
+        "tick" => "--tick takes whole milliseconds, at least 1",
+        _ => "a shift is a whole number of milliseconds, as 500 or -500",
+    }
+}
+
+impl fmt::Display for Refused {
+    fn fmt<W: fmt::Write>(&self, f: &mut fmt::Formatter<W>) -> fmt::Result {
+        match self {
+            Refused::Parser(error) => write!(f, "{error}"),
+            Refused::Mac => f.write_str(
+                "fault mac\n--mac takes 12 hexadecimal digits, as 020000000002, 02:00:00:00:00:02 or 02-00-00-00-00-02\n",
+            ),
+            Refused::Option(name) => {
+                let wanted = wanted(name);
+                write!(f, "fault {name}\n{wanted}\n")
+            }
+        }
+    }
+}
+
+impl From<Error> for Refused {
+    fn from(error: Error) -> Refused {
+        Refused::Parser(error)
+    }
+}
+
+impl From<AllocError> for Refused {
+    fn from(error: AllocError) -> Refused {
+        Refused::Parser(Error::from(error))
+    }
+}

@@ -1,0 +1,242 @@
+//! Runs of a script on standard input, on a node or on a plant. What ends one early is told on standard error: its first line is
+//! the fault, and the second says what is wrong and what to do.
+
+use crate::command_line::Report;
+use crate::flaws::{Flaw, Form, NODE_FORMS, PLANT_FORMS, REDBOX_FORMS, found_in, is_capture};
+use crate::pipes::{Kept, Pipe};
+use sr_plant_script::{PlantSetup, run_plant};
+use sr_script::{RoleName, Setup, run, run_status};
+use sr_session::{Fault, NOT_BEGUN, Word};
+use sr_slots::Keys;
+use std::alloc::{AllocError, Global};
+use std::io::{self, BufRead, BufReader, Read, Write};
+use std::random::RandomSource;
+
+/// How many octets of a script are read at once: as many as a pipe holds. What is printed for their lines is then written at once.
+const READ_AHEAD: usize = 64 * 1024;
+
+/// How many octets of a script are kept, so that a line is there when it is found to be none.
+const MOST_KEPT: usize = 80 * 1024;
+
+/// The most lines that a script has.
+const MAX_LINES: u64 = 1_000_000;
+
+/// No keys could be drawn.
+const UNREAD: Fault = Fault {
+    line: 1,
+    word: Word::Read,
+};
+
+/// A script that is read ahead.
+type Script<R> = BufReader<Kept<R>>;
+
+/// The script on a reader.
+fn script_of<R: Read + Drop>(alloc: Global, reader: R) -> Result<Script<R>, AllocError> {
+    let kept = Kept::new(alloc, reader, MOST_KEPT)?;
+    match BufReader::with_capacity(alloc, READ_AHEAD, kept) {
+        Ok(script) => Ok(script),
+        Err(_) => Err(AllocError),
+    }
+}
+
+/// Whether a fault of a run is that its line is none of a script.
+fn is_none(outcome: Result<(), Fault>) -> bool {
+    match outcome {
+        Err(fault) => fault.word == Word::Line,
+        Ok(()) => false,
+    }
+}
+
+/// The octets up to the first LF.
+fn first_line(octets: &[u8]) -> &[u8] {
+    for at in 0..octets.len() {
+        if octets[at] == b'\n' {
+            return &octets[..at];
+        }
+    }
+    octets
+}
+
+/// The octets behind the last LF but one that ends them.
+fn last_line(octets: &[u8]) -> &[u8] {
+    let line = octets.strip_suffix(b"\n").unwrap_or(octets);
+    for before in 0..line.len() {
+        let at = line.len() - 1 - before;
+        if line[at] == b'\n' {
+            return &line[at + 1..];
+        }
+    }
+    line
+}
+
+/// Says what is wrong with a line of a script.
+fn tell_line<R: Eprint>(rt: &R, number: u64, line: &[u8], forms: &'static [Form]) {
+    if let Some(found) = found_in(line, forms) {
+        let column = found.at.saturating_add(1);
+        let flaw = found.flaw;
+        let _ = eprintln!(rt; "line {number}, column {column}: {flaw}");
+    }
+}
+
+/// Says what is wrong with a line that is too long, of which these octets were taken, or behind the last that a script has.
+fn tell_long<R: Eprint>(rt: &R, number: u64, line: &[u8]) {
+    let _ = if number > MAX_LINES {
+        eprintln!(rt;
+            "a script has at most {MAX_LINES} lines: take a part by --from and --to of seamless script"
+        )
+    } else if is_capture(line) {
+        let flaw = Flaw::Capture;
+        eprintln!(rt; "line {number}, column 1: {flaw}")
+    } else {
+        eprintln!(rt; "line {number}: a line has at most 8000 octets")
+    };
+}
+
+/// The lines of a script for a node of this role.
+fn forms_of(role: RoleName) -> &'static [Form] {
+    match role {
+        RoleName::Danp | RoleName::Danh => NODE_FORMS,
+        RoleName::San | RoleName::Prp(_) | RoleName::Hsr => REDBOX_FORMS,
+    }
+}
+
+/// Runs a script on a node.
+fn run_on<R: BufRead, W: Write>(
+    alloc: Global,
+    report: Report,
+    setup: &Setup,
+    reader: &mut R,
+    writer: &mut W,
+) -> Result<(), Fault> {
+    match report {
+        Report::Frames => run(alloc, setup, reader, writer),
+        Report::Status => run_status(alloc, setup, reader, writer),
+    }
+}
+
+/// The two lines of which one ended a run: the last that was taken of the script, and the next that comes.
+#[derive(Drop)]
+struct Ends {
+    taken: Vec<u8>,
+    coming: Vec<u8>,
+}
+
+/// A list of these octets.
+fn copied(alloc: Global, octets: &[u8]) -> Result<Vec<u8>, AllocError> {
+    let mut list = Vec::new(alloc);
+    list.extend_from_slice(octets)?;
+    Ok(list)
+}
+
+/// The lines at the place up to which a script was taken.
+fn ends_of<R: Read + Drop>(alloc: Global, script: &Script<R>) -> Result<Ends, AllocError> {
+    let coming = script.buffer();
+    let read = script.get_ref().octets();
+    let taken = &read[..read.len().saturating_sub(coming.len())];
+    Ok(Ends {
+        taken: copied(alloc, last_line(taken))?,
+        coming: copied(alloc, first_line(coming))?,
+    })
+}
+
+/// The script that is the line that was taken last, behind the same reader.
+fn again_of<R: Read + Drop>(
+    alloc: Global,
+    script: Script<R>,
+    ends: &Ends,
+) -> Result<Script<R>, AllocError> {
+    let mut kept = script.into_inner();
+    kept.give(ends.taken.as_slice())?;
+    match BufReader::with_capacity(alloc, READ_AHEAD, kept) {
+        Ok(script) => Ok(script),
+        Err(_) => Err(AllocError),
+    }
+}
+
+/// Says what ended a run, but where nobody reads any more what it writes. True where a line is to be explained.
+fn tell<R: Eprint>(rt: &R, fault: Fault, is_closed: bool, ends: &Ends) -> bool {
+    if fault.word == Word::Write && is_closed {
+        return false;
+    }
+    let _ = eprintln!(rt; "{fault}");
+    if fault.word == Word::Long {
+        tell_long(rt, fault.line, ends.taken.as_slice());
+    }
+    fault.word == Word::Line
+}
+
+/// Says what is wrong with the line that ended a run: the one that was taken last, if that is none of a script, else the next.
+fn tell_ended<R: Eprint>(
+    rt: &R,
+    number: u64,
+    ends: &Ends,
+    taken: Result<(), Fault>,
+    forms: &'static [Form],
+) {
+    let line = if is_none(taken) {
+        ends.taken.as_slice()
+    } else {
+        ends.coming.as_slice()
+    };
+    tell_line(rt, number, line, forms);
+}
+
+/// Runs the script on standard input on a node, and writes what is reported of it to standard output. The keys of the node's
+/// tables are drawn anew. What ends it early is told.
+pub fn run_node<R: AllocGlobal + Print + Eprint + Input + RandomSource>(
+    rt: &R,
+    report: Report,
+    setup: &Setup,
+) -> Result<(), ()> {
+    let alloc = rt.alloc();
+    let Ok(keys) = Keys::new(rt) else {
+        let _ = eprintln!(rt; "{UNREAD}");
+        return Err(());
+    };
+    let Ok(mut script) = script_of(alloc, rt.reader()) else {
+        let _ = eprintln!(rt; "{NOT_BEGUN}");
+        return Err(());
+    };
+    let setup = Setup { keys, ..*setup };
+    let mut writer = Pipe::new(io::writer(rt));
+    let Err(fault) = run_on(alloc, report, &setup, &mut script, &mut writer) else {
+        return Ok(());
+    };
+    let Ok(ends) = ends_of(alloc, &script) else {
+        let _ = eprintln!(rt; "{fault}");
+        return Err(());
+    };
+    if tell(rt, fault, writer.is_closed(), &ends) {
+        if let Ok(mut again) = again_of(alloc, script, &ends) {
+            writer.mute();
+            let taken = run_on(alloc, report, &setup, &mut again, &mut writer);
+            tell_ended(rt, fault.line, &ends, taken, forms_of(setup.role));
+        }
+    }
+    Err(())
+}
+
+/// Runs the script on standard input on a new plant, and writes what comes of it to standard output. What ends it early is told.
+pub fn play<R: AllocGlobal + Print + Eprint + Input>(rt: &R, setup: &PlantSetup) -> Result<(), ()> {
+    let alloc = rt.alloc();
+    let Ok(mut script) = script_of(alloc, rt.reader()) else {
+        let _ = eprintln!(rt; "{NOT_BEGUN}");
+        return Err(());
+    };
+    let mut writer = Pipe::new(io::writer(rt));
+    let Err(fault) = run_plant(alloc, setup, &mut script, &mut writer) else {
+        return Ok(());
+    };
+    let Ok(ends) = ends_of(alloc, &script) else {
+        let _ = eprintln!(rt; "{fault}");
+        return Err(());
+    };
+    if tell(rt, fault, writer.is_closed(), &ends) {
+        if let Ok(mut again) = again_of(alloc, script, &ends) {
+            writer.mute();
+            let taken = run_plant(alloc, setup, &mut again, &mut writer);
+            tell_ended(rt, fault.line, &ends, taken, PLANT_FORMS);
+        }
+    }
+    Err(())
+}
