@@ -251,9 +251,14 @@ fn fills<R: Role, L: Ledger>(alloc: Global, desk: &mut Desk<R, L>, count: u16) -
     true
 }
 
+fn ticks_once<R: Role, L: Ledger>(kept: &mut Kept<R, L>, pass: &mut Pass<L>) -> bool {
+    enter(kept, pass, &Event::Tick { now: 0 }).is_ok()
+}
+
+// Want of memory is met by another try.
 fn ticks<R: Role, L: Ledger>(kept: &mut Kept<R, L>, pass: &mut Pass<L>, count: u32) -> bool {
     for _ in 0..count {
-        if enter(kept, pass, &Event::Tick { now: 0 }).is_err() {
+        if !ticks_once(kept, pass) && !ticks_once(kept, pass) {
             return false;
         }
     }

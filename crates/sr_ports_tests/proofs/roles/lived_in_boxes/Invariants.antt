@@ -1,4 +1,4 @@
 use Rattle.sr_ports_tests.proofs.roles.lived_in_boxes.Given as goal
 
 abbrev pub ghosts-lived : goal.ghosts-lived
-ghosts-lived a = record { name = a.blank.name; parts = a.blank.parts }
+ghosts-lived g a = record { name = a.blank.name; parts = a.blank.parts }
