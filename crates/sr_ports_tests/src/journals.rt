@@ -54,7 +54,20 @@ const A_SEGMENT_EACH: &[Step] = &[
 ];
 
 // A journal has 1,000,000 entries at most.
-const A_MILLION: &[Step] = &[Ticks(49_999), Holds(49_999, 0)];
+const A_MILLION: &[Step] = &[
+    Ticks(999_999),
+    Holds(999_999, 0),
+    Enter(Worker::Ager, Act::Tick(0), Outcome::Ticked),
+    Enter(
+        Worker::Ager,
+        Act::Tick(0),
+        Outcome::Refused(EnterFault::JournalFull),
+    ),
+    Holds(1_000_000, 0),
+    Rotate,
+    Enter(Worker::Ager, Act::Tick(0), Outcome::Ticked),
+    Holds(1, 1_000_000),
+];
 
 #[test]
 fn what_the_node_refuses_is_no_entry(rt: HostRuntime) {
