@@ -1,41 +1,71 @@
-//! What comes from standard input and goes to standard output: the octets that were read last are kept, and whether
-//! nobody reads any more what is written.
+//! What comes from standard input and goes to standard output: the end of what was read is kept, and whether nobody reads any
+//! more what is written.
 
 use std::alloc::{AllocError, Global};
-use std::io::{self, ErrorKind, Read, Write};
+use std::io::{self, ErrorKind, Read, Seek, SeekFrom, Write};
 
-/// So many octets are kept at least: a line, its LF, and one more.
-const LEAST_KEPT: usize = 8002;
+/// So many octets are kept: a line, its LF, and one more.
+pub const MOST_KEPT: usize = 8002;
 
 /// What a reader gives.
 #[derive(Clone, Copy)]
 enum Source {
     /// What comes in.
     Inner,
-    /// What it keeps, from this place on, and then no more.
+    /// What it was given, from this place on, and then no more.
     Own(usize),
 }
 
-/// A reader that keeps the octets that it gave last.
+/// A reader that keeps the end of what it gave before its last read, and of what it gave then. Behind a buffer, which has all
+/// of the last read, a line can so be found again that was taken.
 #[derive(Drop)]
 pub struct Kept<R> {
     inner: R,
     source: Source,
-    octets: Vec<u8>,
+    before: Vec<u8>,
+    last: Vec<u8>,
+    last_len: usize,
+    own: Vec<u8>,
+}
+
+/// The last of these octets, as many as are kept.
+fn end_of(octets: &[u8]) -> &[u8] {
+    &octets[octets.len().saturating_sub(MOST_KEPT)..]
+}
+
+/// Appends octets, and lets older ones go that are more than are kept.
+fn append_kept(list: &mut Vec<u8>, octets: &[u8]) {
+    let end = end_of(octets);
+    let over = list
+        .len()
+        .saturating_add(end.len())
+        .saturating_sub(MOST_KEPT);
+    let gone = over.min(list.len());
+    list.copy_within(gone.., 0);
+    list.truncate(list.len() - gone);
+    if list.extend_from_slice(end).is_err() {
+        // Without them no line is explained.
+        list.clear();
+    }
 }
 
 impl<R: Drop> Kept<R> {
-    /// A reader that keeps so many octets at most, unless more are read at once.
+    /// A reader that keeps the end of what this one gives.
     ///
     /// # Errors
-    /// Where the memory for them is refused.
-    pub fn new(alloc: Global, inner: R, most: usize) -> Result<Kept<R>, AllocError> {
-        let mut octets = Vec::new(alloc);
-        octets.reserve(most)?;
+    /// Where the memory for it is refused.
+    pub fn new(alloc: Global, inner: R) -> Result<Kept<R>, AllocError> {
+        let mut before = Vec::new(alloc);
+        before.reserve(MOST_KEPT)?;
+        let mut last = Vec::new(alloc);
+        last.reserve(MOST_KEPT)?;
         Ok(Kept {
             inner,
             source: Source::Inner,
-            octets,
+            before,
+            last,
+            last_len: 0,
+            own: Vec::new(alloc),
         })
     }
 
@@ -44,28 +74,27 @@ impl<R: Drop> Kept<R> {
     /// # Errors
     /// Where the memory for them is refused.
     pub fn give(&mut self, own: &[u8]) -> Result<(), AllocError> {
-        self.octets.clear();
+        self.own.clear();
         self.source = Source::Own(0);
-        self.octets.extend_from_slice(own)
+        self.own.extend_from_slice(own)
     }
 
-    /// The octets that it gave last.
-    pub fn octets(&self) -> &[u8] {
-        self.octets.as_slice()
+    /// The end of what it gave before its last read.
+    pub fn before(&self) -> &[u8] {
+        self.before.as_slice()
     }
 
-    /// Keeps octets, and lets older ones go where there is no room for all.
+    /// How many octets its last read gave.
+    pub fn last_len(&self) -> usize {
+        self.last_len
+    }
+
+    /// Keeps the end of what a read gave.
     fn keep(&mut self, octets: &[u8]) {
-        let len = self.octets.len();
-        let room = self.octets.capacity().saturating_sub(len);
-        if room < octets.len() && len > LEAST_KEPT {
-            self.octets.copy_within(len - LEAST_KEPT.., 0);
-            self.octets.truncate(LEAST_KEPT);
-        }
-        if self.octets.extend_from_slice(octets).is_err() {
-            // Without them no line is explained.
-            self.octets.clear();
-        }
+        append_kept(&mut self.before, self.last.as_slice());
+        self.last.clear();
+        append_kept(&mut self.last, octets);
+        self.last_len = octets.len();
     }
 }
 
@@ -78,12 +107,19 @@ impl<R: Read + Drop> Read for Kept<R> {
                 Ok(count)
             }
             Source::Own(place) => {
-                let mut rest = self.octets.get(place..).unwrap_or(&[]);
+                let mut rest = self.own.get(place..).unwrap_or(&[]);
                 let count = rest.read(buf)?;
                 self.source = Source::Own(place.saturating_add(count));
                 Ok(count)
             }
         }
+    }
+}
+
+/// What was read can be given back by a buffer alone, which goes back within what it has.
+impl<R: Drop> Seek for Kept<R> {
+    fn seek(&mut self, _to: SeekFrom) -> io::Result<u64> {
+        Err(io::Error::from(ErrorKind::Unsupported))
     }
 }
 

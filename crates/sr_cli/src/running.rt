@@ -3,7 +3,7 @@
 
 use crate::command_line::Report;
 use crate::flaws::{Flaw, Form, NODE_FORMS, PLANT_FORMS, REDBOX_FORMS, found_in, is_capture};
-use crate::pipes::{Kept, Pipe};
+use crate::pipes::{Kept, MOST_KEPT, Pipe};
 use sr_plant_script::{PlantSetup, run_plant};
 use sr_script::{RoleName, Setup, run, run_status};
 use sr_session::{Fault, NOT_BEGUN, Word};
@@ -14,9 +14,6 @@ use std::random::RandomSource;
 
 /// How many octets of a script are read at once: as many as a pipe holds. What is printed for their lines is then written at once.
 const READ_AHEAD: usize = 64 * 1024;
-
-/// How many octets of a script are kept, so that a line is there when it is found to be none.
-const MOST_KEPT: usize = 80 * 1024;
 
 /// The most lines that a script has.
 const MAX_LINES: u64 = 1_000_000;
@@ -32,7 +29,7 @@ type Script<R> = BufReader<Kept<R>>;
 
 /// The script on a reader.
 fn script_of<R: Read + Drop>(alloc: Global, reader: R) -> Result<Script<R>, AllocError> {
-    let kept = Kept::new(alloc, reader, MOST_KEPT)?;
+    let kept = Kept::new(alloc, reader)?;
     match BufReader::with_capacity(alloc, READ_AHEAD, kept) {
         Ok(script) => Ok(script),
         Err(_) => Err(AllocError),
@@ -128,14 +125,18 @@ fn copied(alloc: Global, octets: &[u8]) -> Result<Vec<u8>, AllocError> {
     Ok(list)
 }
 
-/// The lines at the place up to which a script was taken.
-fn ends_of<R: Read + Drop>(alloc: Global, script: &Script<R>) -> Result<Ends, AllocError> {
-    let coming = script.buffer();
-    let read = script.get_ref().octets();
-    let taken = &read[..read.len().saturating_sub(coming.len())];
+/// The lines at the place up to which a script was taken. The buffer goes back over what was taken of it.
+fn ends_of<R: Read + Drop>(alloc: Global, script: &mut Script<R>) -> Result<Ends, AllocError> {
+    let coming = copied(alloc, first_line(script.buffer()))?;
+    let mut taken = copied(alloc, script.get_ref().before())?;
+    let given = script.get_ref().last_len();
+    let back = given.saturating_sub(script.buffer().len()).min(MOST_KEPT);
+    if script.seek_relative(-(back as i64)).is_ok() {
+        taken.extend_from_slice(script.buffer().get(..back).unwrap_or(&[]))?;
+    }
     Ok(Ends {
-        taken: copied(alloc, last_line(taken))?,
-        coming: copied(alloc, first_line(coming))?,
+        taken: copied(alloc, last_line(taken.as_slice()))?,
+        coming,
     })
 }
 
@@ -202,7 +203,7 @@ pub fn run_node<R: AllocGlobal + Print + Eprint + Input + RandomSource>(
     let Err(fault) = run_on(alloc, report, &setup, &mut script, &mut writer) else {
         return Ok(());
     };
-    let Ok(ends) = ends_of(alloc, &script) else {
+    let Ok(ends) = ends_of(alloc, &mut script) else {
         let _ = eprintln!(rt; "{fault}");
         return Err(());
     };
@@ -227,7 +228,7 @@ pub fn play<R: AllocGlobal + Print + Eprint + Input>(rt: &R, setup: &PlantSetup)
     let Err(fault) = run_plant(alloc, setup, &mut script, &mut writer) else {
         return Ok(());
     };
-    let Ok(ends) = ends_of(alloc, &script) else {
+    let Ok(ends) = ends_of(alloc, &mut script) else {
         let _ = eprintln!(rt; "{fault}");
         return Err(());
     };
