@@ -16,6 +16,12 @@ use sr_slots::{Iter, Keys, Slots, Spot};
 use std::alloc::Global;
 use std::marker::Model;
 
+/// Where a table is aged, empty places go once they are this part of `MOST` (choice of this project).
+const PART_AT_AGE: usize = 32;
+
+/// Before a newcomer, empty places go once they are this part of `MOST` (choice of this project).
+const PART_BEFORE_NEWCOMER: usize = 8;
+
 /// At most `MOST` values by address, in the order of first hearing, each with the time when its address was last heard, in
 /// milliseconds. A value whose address was silent for `SPAN` is forgotten: it stands in the table until `age`, or until a
 /// new address meets a table of `MOST` values, when all forgotten ones go.
@@ -40,22 +46,25 @@ impl<V: Drop, const SPAN: u64, const MOST: usize> Model for AgedSlots<V, SPAN, M
     ghost invariant = { λ t. IsBounded SPAN MOST t.slots.entries t.oldest t.is_exact };
 }
 
-// Takes the forgotten values out, and answers the oldest time of those that are left. Held places stay.
-fn forget<V: Drop>(slots: &mut Slots<Aged<V>>, span: u64, now: u64) -> u64
+// Takes the forgotten values out, and answers the oldest time of those that are left. Held places stay. The empty ones go where
+// they are `least` or more, since an address that comes back to one moves all places behind it.
+fn forget<V: Drop>(slots: &mut Slots<Aged<V>>, span: u64, least: usize, now: u64) -> u64
     requires { 0 < span }
     ensures entries { slots.new.entries ≡ live_at span now slots.old.entries }
     ensures held { slots.new.held ≡ slots.old.held }
     ensures oldest { result ≡ oldest_of slots.new.entries }
 {
-    slots.sift(now.saturating_sub(span - 1))
+    let oldest = slots.sift(now.saturating_sub(span - 1));
+    slots.sweep(least);
+    oldest
 }
 
 impl<V: Drop, const SPAN: u64, const MOST: usize> AgedSlots<V, SPAN, MOST> {
-    // Lets the empty places go where there are an eighth more places than there may be values, before one more comes.
+    // Lets the empty places go where they are many, before a newcomer.
     fn sweep(&mut self)
         ensures { self.new ≡ self.old }
     {
-        self.slots.sweep(MOST.saturating_add(MOST / 8));
+        self.slots.sweep(MOST / PART_BEFORE_NEWCOMER);
     }
 
     /// A table of no value under fixed keys, which takes no memory yet. `SPAN` is above 0.
@@ -224,7 +233,7 @@ impl<V: Drop, const SPAN: u64, const MOST: usize> AgedSlots<V, SPAN, MOST> {
         let is_crowded = self.slots.len() >= MOST;
         self.slots.append(key, Aged { value, time: now })?;
         if is_crowded {
-            self.oldest = forget(&mut self.slots, SPAN, now);
+            self.oldest = forget(&mut self.slots, SPAN, MOST / PART_BEFORE_NEWCOMER, now);
             self.is_exact = true;
         } else {
             self.oldest = self.oldest.min(now);
@@ -281,7 +290,7 @@ impl<V: Drop, const SPAN: u64, const MOST: usize> AgedSlots<V, SPAN, MOST> {
             return 0;
         }
         let before = self.slots.len();
-        self.oldest = forget(&mut self.slots, SPAN, now);
+        self.oldest = forget(&mut self.slots, SPAN, MOST / PART_AT_AGE, now);
         self.is_exact = true;
         before - self.slots.len()
     }

@@ -1,16 +1,17 @@
 -- The alarms and the late ports so far, entry by entry.
-use Rattle.std.proofs.Common.{◌≡◌, ℕ, suc, ◌+◌, ◌-◌, ◌≤◌, false, cond, List, [], ◌∷◌, ◌++◌, length, drop, Option, None, Some, is_some, if◌then◌else◌, refl, sym, ap, ◌∙◌, subst, append_assoc, append-nil, arith}
-use Rattle.std.specs.List.{filter_map, cons_option, IsDistinct, AllByRecursion}
+use Rattle.std.proofs.Common.{◌≡◌, ℕ, zero, suc, ◌+◌, ◌-◌, ◌≤◌, true, false, cond, List, [], ◌∷◌, ◌++◌, length, drop, Option, None, Some, is_some, if◌then◌else◌, refl, sym, ap, ◌∙◌, subst, append_assoc, append-nil, arith}
+use Rattle.std.specs.List.{filter_map, cons_option, IsDistinct, AllByRecursion, slice_get}
 use Rattle.std.specs.Map.{lookup, keys_of}
-use Rattle.std.proofs.lemmas.List.{length-append, length-drop, drop-drop, drop-append-le}
+use Rattle.std.proofs.lemmas.List.{length-append, length-drop, drop-drop, drop-append-le, drop_all}
 use Rattle.circular_buffer.specs.Buffer.{Buffer, buffer, keep_last}
 use Rattle.sr_frame.specs.declared.fields.Mac.{Mac}
 use Rattle.sr_frame.specs.declared.ports.Port.{Port}
 use Rattle.sr_frame.specs.Addresses.{mac_eq}
 use Rattle.sr_slots.specs.EntryLemmas.{lookup-push}
 use Rattle.sr_aged_slots.specs.GatherLemmas.{cons_is}
-use Rattle.sr_node_table.specs.Nodes.{Entry}
-use Rattle.sr_node_table.specs.Watching.{found_late, alarm_of}
+use Rattle.sr_frame.specs.declared.ports.Port.TheVariants.{H, A, B, C}
+use Rattle.sr_node_table.specs.Nodes.{Entry, Entries, is_live, down_of}
+use Rattle.sr_node_table.specs.Watching.{found_late, late_port, late_at, is_port, ring_error, alarm_of, alarms_at}
 
 module _ {X : Type 0} where
   -- the last ones of the last ones and more are the last ones
@@ -134,3 +135,58 @@ found_each (p ∷ ps) = ap (λ l. p ∷ l) (found_each ps)
 
 pub finds_each : (all ports : List (Mac × Port)) (room start : ℕ) → Finds (λ p. Some p.1) all ports room start [] → ports ≡ all
 finds_each all ports room start h = finds_all (λ p. Some p.1) all ports room start h ∙ found_each all
+
+-- an entry of a list, and those behind it
+drop_there : {X : Type 0} (xs : List X) (i : ℕ) (x : X) → slice_get xs i ≡ Some x → drop i xs ≡ x ∷ drop (suc i) xs
+drop_there [] i x at = cc
+drop_there (y ∷ xs) zero x at = let v : y ≡ x = cc in ap (λ z. z ∷ xs) v
+drop_there (y ∷ xs) (suc i) x at = drop_there xs i x at
+
+is_port_same : (p : Port) → is_port p p ≡ true
+is_port_same H = refl
+is_port_same A = refl
+is_port_same B = refl
+is_port_same C = refl
+
+-- a loop over the entries `all` that has found so many ports late, which were the first of those that were late `before`, and nothing to
+-- raise: if the `rest` finds the others and raises nothing, all of them are the same and raise nothing
+pub record Same (before : List (Mac × Port)) (now : ℕ) (all : Entries) (found : ℕ) (rest : Entries) : Type 0 where
+  pub late : late_at now rest ≡ drop found before → late_at now all ≡ before
+  pub quiet : alarms_at before now rest ≡ [] → alarms_at before now all ≡ []
+
+module _ (before : List (Mac × Port)) (now : ℕ) (all : Entries) where
+  pub same_begin : Same before now all 0 all
+  same_begin = record { late = λ h. h; quiet = λ h. h }
+
+  module _ (found : ℕ) (mac : Mac) (e : Entry) (left rest : Entries) (first : left ≡ (mac, e) ∷ rest) (live : is_live now e ≡ true) (s : Same before now all found left) where
+    quiet_by : (late : Option Port) → late_port now e ≡ late → ring_error (lookup (mac_eq mac) before) late mac now ≡ None → alarms_at before now rest ≡ [] → alarms_at before now all ≡ []
+    quiet_by late is none h =
+        let o = lookup (mac_eq mac) before in
+        let nothing : alarm_of o (late_port now e) mac e now ≡ None =
+        ap (λ b. cond b (ring_error o (late_port now e) mac now) (down_of mac e now)) live ∙ ap (λ l. ring_error o l mac now) is ∙ none in
+        s.quiet (ap (alarms_at before now) first ∙ ap (λ a. cons_option a (alarms_at before now rest)) nothing ∙ h)
+
+    -- no port of it is late
+    pub same_on : late_port now e ≡ None → Same before now all found rest
+    same_on none = record {
+      late = λ h. s.late (ap (late_at now) first ∙ ap (λ l. cons_option (found_late mac l) (late_at now rest)) none ∙ h);
+      quiet = quiet_by None none refl;
+    }
+
+    -- this port of it is late, and was
+    pub same_late : (port : Port) → late_port now e ≡ Some port → slice_get before found ≡ Some (mac, port) → lookup (mac_eq mac) before ≡ Some port → Same before now all (found + 1) rest
+    same_late port is there was =
+        let one : found + 1 ≡ suc found = omega arith in
+        record {
+          late = λ h. s.late (
+              ap (late_at now) first
+              ∙ ap (λ l. cons_option (found_late mac l) (late_at now rest)) is
+              ∙ ap (λ l. (mac, port) ∷ l) (h ∙ ap (λ k. drop k before) one)
+              ∙ sym (drop_there before found (mac, port) there)
+              );
+          quiet = quiet_by (Some port) is
+              (ap (λ o. ring_error o (Some port) mac now) was ∙ ap (λ b. cond b None (ring_error None (Some port) mac now)) (is_port_same port));
+        }
+
+  pub same_end : (found : ℕ) → found ≡ length before → Same before now all found [] → (late_at now all ≡ before) × (alarms_at before now all ≡ [])
+  same_end found end s = (s.late (sym (drop_all found before (omega (arith, end)))), s.quiet refl)

@@ -1,5 +1,5 @@
 //! The ports that a prune found late.
-ghost use Rattle.std.specs.Prelude.{◌≡◌, ◌+◌, ◌<◌, ◌≤◌, ◌++◌, ◌∷◌, [], None, length, IfOk};
+ghost use Rattle.std.specs.Prelude.{◌≡◌, ◌+◌, ◌<◌, ◌≤◌, ◌++◌, ◌∷◌, [], None, Some, true, length, slice_get, IfOk};
 ghost use Rattle.std.specs.Map.{lookup};
 ghost use Rattle.sr_frame.specs.Addresses.{mac_eq};
 ghost use Rattle.sr_node_table.specs.Equality.{same_late};
@@ -61,6 +61,25 @@ impl LatePorts {
         ensures { result ≡ lookup (mac_eq mac) self.now.ports }
     {
         self.map.get(&mac).copied()
+    }
+
+    /// How many there are.
+    pub fn len(&self) -> usize
+        ensures { result ≡ length self.now.ports }
+    {
+        self.map.len()
+    }
+
+    /// Whether this port of this node was found as the one at this index.
+    pub fn is_at(&self, index: usize, mac: Mac, port: Port) -> bool
+        ensures there { result ≡ true → slice_get self.now.ports index ≡ Some (mac, port) }
+        ensures port { result ≡ true → lookup (mac_eq mac) self.now.ports ≡ Some port }
+        ensures within { result ≡ true → index < length self.now.ports }
+    {
+        match self.map.get_index(index) {
+            Some((stored, found)) => *stored == mac && *found == port,
+            None => false,
+        }
     }
 
     /// Adds the port of a node that has none, where there is room.

@@ -14,7 +14,7 @@ use crate::alarm::{Alarm, copy_of};
 use crate::late::LatePorts;
 use crate::node::{Announced, Node, Told, begun, hear, is_live};
 use crate::status::{Status, status_of};
-use crate::watching::{raise_downs, watch};
+use crate::watching::{finds_same, raise_downs, watch};
 use circular_buffer::HeapCircularBuffer;
 use sr_aged_slots::{Aged, AgedSlots};
 use sr_frame::{Learnt, Mac, NoMemory, Port};
@@ -504,6 +504,10 @@ impl NodeTable {
         ensures held { self.new.held ≡ self.old.held }
     {
         let _nodes = self.nodes.len();
+        let _room = self.alarms.capacity();
+        if finds_same(&self.nodes, &self.late, now) {
+            return;
+        }
         watch(
             &self.nodes,
             &self.late,

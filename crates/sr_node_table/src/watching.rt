@@ -1,5 +1,5 @@
 //! What a prune looks at: which ports are late, which nodes are gone.
-ghost use Rattle.std.specs.Prelude.{◌≡◌, ◌+◌, ◌≤◌, ◌<◌, ◌++◌, [], None, is_some, length, if◌then◌else◌};
+ghost use Rattle.std.specs.Prelude.{◌≡◌, ◌+◌, ◌≤◌, ◌<◌, ◌++◌, [], None, true, is_some, length, if◌then◌else◌};
 ghost use Rattle.std.specs.List.{cons_option};
 ghost use Rattle.std.specs.Map.{lookup};
 ghost use Rattle.circular_buffer.specs.Buffer.{buffer, keep_last};
@@ -120,6 +120,31 @@ fn find(found: &mut LatePorts, mac: Mac, late: Option<Port>)
     if let Some(port) = late {
         found.add(mac, port);
     }
+}
+
+/// Whether a prune finds the same ports late as the previous one, in the same order, and raises no alarm.
+pub fn finds_same(
+    nodes: &AgedSlots<Node, NODE_FORGET_TIME, MAX_NODES>,
+    before: &LatePorts,
+    now: u64,
+) -> bool
+    ensures ports { result ≡ true → late_at now nodes.now.entries ≡ before.now.ports }
+    ensures alarms { result ≡ true → alarms_at before.now.ports now nodes.now.entries ≡ [] }
+{
+    let most = before.len();
+    let mut found = 0;
+    for (mac, entry) in nodes.iter() {
+        if !is_live(entry, now) {
+            return false;
+        }
+        if let Some(port) = late_port(entry, now) {
+            if !before.is_at(found, mac, port) {
+                return false;
+            }
+            found += 1;
+        }
+    }
+    found == most
 }
 
 /// Raises the alarms of a prune, entry by entry, and finds the late ports.

@@ -275,11 +275,16 @@ impl<V: Drop + Ranked> Slots<V> {
         places::least_rank(&self.map)
     }
 
-    /// Lets the places go that have no value and are not held, where there are `most` places or more. Nothing that shows changes.
-    pub fn sweep(&mut self, most: usize)
+    /// Lets the places go that have no value and are not held, where there are `least` of them or more. Nothing that shows changes.
+    pub fn sweep(&mut self, least: usize)
         ensures { self.new ≡ self.old }
     {
-        if self.map.len() >= most {
+        let empty = self
+            .map
+            .len()
+            .saturating_sub(self.count)
+            .saturating_sub(self.held);
+        if empty >= least {
             places::sweep(&mut self.map);
         }
     }

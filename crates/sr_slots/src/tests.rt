@@ -32,7 +32,7 @@ enum Step {
     Set(u8, u8, u32, bool),
     /// The values below this one go, and this is the least of those that are left.
     Sift(u64, u64),
-    /// The empty places go where there are this many places or more, and so many places are left.
+    /// The empty places go where they are this many or more, and so many places are left.
     Sweep(usize, usize),
     /// The last octets of the addresses that have a value, in order, as the digits of one number; and the sum of the values.
     Shows(u32, u32),
@@ -132,8 +132,8 @@ const EMPTY_PLACES_GO: [Step; 10] = [
     Step::Hold(1),
     Step::Add(4, 12),
     Step::Sift(15, 20),
-    Step::Sweep(5, 4),
-    Step::Sweep(4, 3),
+    Step::Sweep(2, 4),
+    Step::Sweep(1, 3),
     Step::Sweep(0, 3),
     Step::Shows(2, 20),
 ];
@@ -197,8 +197,8 @@ fn obeys(slots: &mut Slots<u32>, step: Step) -> bool {
             slots.sweep(2);
             slots.sift(limit) == least && slots.least_rank() == least
         }
-        Step::Sweep(most, left) => {
-            slots.sweep(most);
+        Step::Sweep(least, left) => {
+            slots.sweep(least);
             slots.map().len() == left
         }
         Step::Shows(order, sum) => shows(slots, order, sum),
