@@ -175,7 +175,7 @@ none-twice : IsDistinct mac_eq []
 unfolding IsDistinct
 none-twice = tt
 
-module _ (w : ℕ) (width : IsWidth w) (t : Growth) (x : Noting) (old : Sources) (told : Kept w t old) (le : latest t ≤ x.arrival.time) where
+module _ (w : ℕ) (width : IsWidth w) (t : Growth) (x : Noting) (old : Sources) (earlier : Kept w t old) (le : latest t ≤ x.arrival.time) where
   -- after an arrival its source has a new record, and the others are live as they were
   kept-after : (new : Sources) (h : Heard) → IsDistinct mac_eq (keys_of new) → Tells w x.arrival.src (x ∷ epoch x.arrival.src x.arrival.time t) (Some h)
       → ((q : Mac) (u : ℕ) → x.arrival.time ≤ u
@@ -192,7 +192,7 @@ module _ (w : ℕ) (width : IsWidth w) (t : Growth) (x : Noting) (old : Sources)
           subst P (mac_same x.arrival.src q p) (own u later)
       by q u later false p =
           let other : mac_eq q x.arrival.src ≡ false = mac_symm q x.arrival.src ∙ p in
-          rw (live q u later, p, other) (told.tells q u (omega arith))
+          rw (live q u later, p, other) (earlier.tells q u (omega arith))
 
   -- the sources that stay where a new one comes
   room : Sources
@@ -202,8 +202,8 @@ module _ (w : ℕ) (width : IsWidth w) (t : Growth) (x : Noting) (old : Sources)
   room-keys = by (nat_lt (length old) most_sources)
     where
       by : (b : Bool) → IsDistinct mac_eq (keys_of (cond b old (live_at x.arrival.time old)))
-      by true = told.keys
-      by false = distinct-passing (is_live x.arrival.time) old told.keys
+      by true = earlier.keys
+      by false = distinct-passing (is_live x.arrival.time) old earlier.keys
 
   room-live : (q : Mac) (u : ℕ) → x.arrival.time ≤ u
       → passing (is_live u) (lookup (mac_eq q) (with_room x.arrival.time old)) ≡ passing (is_live u) (lookup (mac_eq q) old)
@@ -211,14 +211,14 @@ module _ (w : ℕ) (width : IsWidth w) (t : Growth) (x : Noting) (old : Sources)
     where
       by : (b : Bool) → passing (is_live u) (lookup (mac_eq q) (cond b old (live_at x.arrival.time old))) ≡ passing (is_live u) (lookup (mac_eq q) old)
       by true = refl
-      by false = ap (passing (is_live u)) (lookup-passing (is_live x.arrival.time) q old told.keys) ∙ passing-again x.arrival.time u (lookup (mac_eq q) old) later
+      by false = ap (passing (is_live u)) (lookup-passing (is_live x.arrival.time) q old earlier.keys) ∙ passing-again x.arrival.time u (lookup (mac_eq q) old) later
 
   room-none : lookup (mac_eq x.arrival.src) old ≡ None → lookup (mac_eq x.arrival.src) (with_room x.arrival.time old) ≡ None
   room-none none = by (nat_lt (length old) most_sources)
     where
       by : (b : Bool) → lookup (mac_eq x.arrival.src) (cond b old (live_at x.arrival.time old)) ≡ None
       by true = none
-      by false = lookup-passing (is_live x.arrival.time) x.arrival.src old told.keys ∙ ap (passing (is_live x.arrival.time)) none
+      by false = lookup-passing (is_live x.arrival.time) x.arrival.src old earlier.keys ∙ ap (passing (is_live x.arrival.time)) none
 
   through-cond : (u : ℕ) (b : Bool) (h : Heard) (o : Option Heard) → passing (is_live u) (cond b (Some h) o) ≡ cond b (passing (is_live u) (Some h)) (passing (is_live u) o)
   through-cond u true h o = refl
@@ -232,7 +232,7 @@ module _ (w : ℕ) (width : IsWidth w) (t : Growth) (x : Noting) (old : Sources)
       let r = with_room x.arrival.time old in
       let h = begun_at w (wire x.arrival.number) x.lanes x.arrival.time in
       let none = room-none at in
-      let was : Tells w x.arrival.src xs None = rw at at (told.tells x.arrival.src x.arrival.time le) in
+      let was : Tells w x.arrival.src xs None = rw at at (earlier.tells x.arrival.src x.arrival.time le) in
       kept-after (r ++ (x.arrival.src, h) ∷ []) h (distinct-push x.arrival.src h r room-keys none) (next-tells w width x xs None some near was)
       (λ q u later.
       ap (passing (is_live u)) (lookup-push x.arrival.src q h r none)
@@ -242,8 +242,8 @@ module _ (w : ℕ) (width : IsWidth w) (t : Growth) (x : Noting) (old : Sources)
       let xs = epoch x.arrival.src x.arrival.time t in
       let h = heard_next w g (wire x.arrival.number) x.lanes x.arrival.time in
       let o = passing (is_live x.arrival.time) (Some g) in
-      let was : Tells w x.arrival.src xs o = subst (λ p. Tells w x.arrival.src xs (passing (is_live x.arrival.time) p)) at (told.tells x.arrival.src x.arrival.time le) in
-      kept-after (set_value (mac_eq x.arrival.src) old h) h (distinct-set x.arrival.src h old told.keys)
+      let was : Tells w x.arrival.src xs o = subst (λ p. Tells w x.arrival.src xs (passing (is_live x.arrival.time) p)) at (earlier.tells x.arrival.src x.arrival.time le) in
+      kept-after (set_value (mac_eq x.arrival.src) old h) h (distinct-set x.arrival.src h old earlier.keys)
       (subst (λ h. Tells w x.arrival.src (x ∷ xs) (Some h)) (sym (next-heard w g x)) (next-tells w width x xs o some near was))
       (λ q u later.
       ap (passing (is_live u)) (lookup-set x.arrival.src q h old (ap is_some at))

@@ -23,7 +23,7 @@ use Rattle.sr_frame.specs.AddressLemmas.{mac_same, mac_refl, mac_laws}
 use Rattle.sr_dup_window.specs.Spots.{IsWidth}
 use Rattle.sr_dup_table.specs.Limits.{most_sources, forget_time}
 use Rattle.sr_dup_table.specs.Sources.{Heard, Sources, is_live, live_at, with_room, begun_at, heard_next, answer_of, after_of}
-use Rattle.sr_dup_runs.specs.TableRuns.{Noting, epoch, was_noted, IsNearAll, TableTurn, arrived, aged, notings_of, arrivals_of, latest, TableRun, IsNext, AreSteady, AreInOrder, EachPairIsNewOnce, BeyondIsNew}
+use Rattle.sr_dup_runs.specs.TableRuns.{Noting, was_noted, IsNearAll, TableTurn, arrived, aged, notings_of, arrivals_of, latest, TableRun, IsNext, AreSteady, AreInOrder, EachPairIsNewOnce, BeyondIsNew}
 use Rattle.sr_dup_runs.specs.EpochLemmas.{noted_epoch, top_of, arrivals-epoch, noted_in_epoch, family_of, now_is_live, family_of_epoch, lookup_pushed, keys_pushed, absent_key, lookup_live, lookup_with_room, keys_with_room, absent_with_room, itself, none_twice}
 
 module _ (W : ℕ) (width : IsWidth W) where

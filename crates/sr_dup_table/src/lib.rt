@@ -15,6 +15,6 @@ mod width;
 pub use fault::{DupFault, TableFull};
 pub use laws::{ageing_keeps_answers, equal_where_the_sources_are};
 pub use same::same_is_an_equivalence;
-pub use table::{DupTable, Parts};
+pub use table::{DupTable, NarrowTable, Parts, WideTable};
 pub use table_of::{ENTRY_FORGET_TIME, Look, MOST_SOURCES, TableOf};
 pub use width::Width;

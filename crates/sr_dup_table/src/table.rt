@@ -19,20 +19,26 @@ use sr_slots::{Keys, Spot};
 use std::alloc::Global;
 use std::marker::Model;
 
+/// A table that remembers 1024 numbers of a source, 64 of them in a word of each lane.
+pub type NarrowTable = TableOf<16>;
+
+/// A table that remembers 2048 numbers of a source.
+pub type WideTable = TableOf<32>;
+
 // A table by its width.
 #[derive(Drop)]
 pub(crate) enum Tables {
-    Narrow(TableOf<16>),
-    Wide(TableOf<32>),
+    Narrow(NarrowTable),
+    Wide(WideTable),
 }
 
 /// A table by its width, for those who go over its entries.
 #[derive(Clone, Copy)]
 pub enum Parts<'a> {
     /// It remembers 1024 numbers of a source.
-    Narrow(&'a TableOf<16>),
+    Narrow(&'a NarrowTable),
     /// It remembers 2048.
-    Wide(&'a TableOf<32>),
+    Wide(&'a WideTable),
 }
 
 /// Duplicate records by source, in the order of first hearing, of a width that is chosen once. Times are in milliseconds. A source
@@ -53,24 +59,24 @@ impl Model for DupTable {
     ghost view = { λ t. shown_table t.tables };
 }
 
-impl From<TableOf<16>> for DupTable {
+impl From<NarrowTable> for DupTable {
     ghost use Rattle.sr_dup_table.specs.Limits.{window};
 
     ghost from_gives = { λ t d. d ≡ record { width = window; sources = t.sources; held = t.held } };
 
-    fn from(table: TableOf<16>) -> DupTable {
+    fn from(table: NarrowTable) -> DupTable {
         DupTable {
             tables: Tables::Narrow(table),
         }
     }
 }
 
-impl From<TableOf<32>> for DupTable {
+impl From<WideTable> for DupTable {
     ghost use Rattle.sr_dup_table.specs.Limits.{wide_window};
 
     ghost from_gives = { λ t d. d ≡ record { width = wide_window; sources = t.sources; held = t.held } };
 
-    fn from(table: TableOf<32>) -> DupTable {
+    fn from(table: WideTable) -> DupTable {
         DupTable {
             tables: Tables::Wide(table),
         }
@@ -103,8 +109,8 @@ impl DupTable {
         ensures held { result.held ≡ [] }
     {
         match width {
-            Width::Narrow => DupTable::from(TableOf::<16>::with_keys(alloc, keys)),
-            Width::Wide => DupTable::from(TableOf::<32>::with_keys(alloc, keys)),
+            Width::Narrow => DupTable::from(NarrowTable::with_keys(alloc, keys)),
+            Width::Wide => DupTable::from(WideTable::with_keys(alloc, keys)),
         }
     }
 
