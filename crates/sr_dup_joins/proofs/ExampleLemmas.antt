@@ -8,6 +8,8 @@ use Rattle.std.proofs.lemmas.Bool.Decides.{Decides-int_eq}
 use Rattle.sr_frame.specs.declared.fields.Mac.{Mac}
 use Rattle.sr_frame.specs.Addresses.{mac_eq}
 use Rattle.sr_frame.specs.AddressLemmas.{mac_refl}
+use Rattle.sr_sequence.specs.Numbers.{IsNear}
+use Rattle.sr_dup_window.specs.Spots.{IsWidth}
 use Rattle.sr_dup_window.specs.declared.lane_sets.Lanes.{Lanes}
 use Rattle.sr_dup_window.specs.LaneSets.{has}
 use Rattle.sr_dup_window.specs.Families.{IsGreatest}
@@ -71,8 +73,13 @@ module _ (src : Mac) (now : ℕ) (lanes : Lanes) where
       subst (λ (m : Mac). Contains (epoch m now (taken_over src now lanes)) x) same
       (subst (λ (xs : List Noting). Contains xs x) (sym both-epoch) h)
 
+-- numbers of the tree are near each other
+near : (w : ℕ) → IsWidth w → (m n : ℤ) → InRange m → InRange n → IsNear w m n
+near w (inl is) m n a b = record { above = omega (arith, ints, is, a.0, a.1, b.0, b.1); below = omega (arith, ints, is, a.0, a.1, b.0, b.1) }
+near w (inr is) m n a b = record { above = omega (arith, ints, is, a.0, a.1, b.0, b.1); below = omega (arith, ints, is, a.0, a.1, b.0, b.1) }
+
 pub taken_over_is_steady : TakenOverIsSteady
-taken_over_is_steady src now lanes =
+taken_over_is_steady w width src now lanes =
     let low : InRange (pos 1) = (omega (arith, ints), omega (arith, ints)) in
     let middle : InRange (pos 2) = (omega (arith, ints), omega (arith, ints)) in
     let high : InRange (pos 3) = (omega (arith, ints), omega (arith, ints)) in (
@@ -84,8 +91,8 @@ taken_over_is_steady src now lanes =
           omega arith,
         ),
         (
-          ((tt, λ m top. absurd (none-greatest m top)), λ m top. let r = greatest-within (arrived empty (noted src now lanes (pos 1))) src now m (one-within src now lanes (pos 1) low) top in record { above = omega (arith, ints, r.0, r.1); below = omega (arith, ints, r.0, r.1) }),
-          ((tt, λ m top. absurd (none-greatest m top)), λ m top. let r = greatest-within (arrived empty (noted src now lanes (pos 3))) src now m (one-within src now lanes (pos 3) high) top in record { above = omega (arith, ints, r.0, r.1); below = omega (arith, ints, r.0, r.1) }),
+          ((tt, λ m top. absurd (none-greatest m top)), λ m top. let r = greatest-within (arrived empty (noted src now lanes (pos 1))) src now m (one-within src now lanes (pos 1) low) top in near w width m (pos 2) r middle),
+          ((tt, λ m top. absurd (none-greatest m top)), λ m top. let r = greatest-within (arrived empty (noted src now lanes (pos 3))) src now m (one-within src now lanes (pos 3) high) top in near w width m (pos 2) r middle),
           λ q m n top other.
               let r = greatest-within (two_noted src now lanes (pos 1) (pos 2)) q now m (two-within src now lanes (pos 1) (pos 2) low middle) top in
               let s = greatest-within (two_noted src now lanes (pos 3) (pos 2)) q now n (two-within src now lanes (pos 3) (pos 2) high middle) other in

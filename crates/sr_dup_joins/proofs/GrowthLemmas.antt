@@ -1,5 +1,5 @@
 -- What a table that came about by a tree tells of each source.
-use Rattle.std.proofs.Common.{◌≡◌, ℕ, ◌-◌, ◌<◌, ◌≤◌, max, Bool, true, false, cond, not, nat_lt, ◌&&◌, List, [], ◌∷◌, ◌++◌, length, Option, None, Some, is_some, refl, sym, ap, ◌∙◌, subst, arith, inl, append-nil}
+use Rattle.std.proofs.Common.{◌≡◌, ℕ, ◌-◌, ◌<◌, ◌≤◌, max, Bool, true, false, cond, not, nat_lt, ◌&&◌, List, [], ◌∷◌, ◌++◌, length, Option, None, Some, is_some, refl, sym, ap, ◌∙◌, subst, arith, append-nil}
 use Rattle.std.specs.List.{IsDistinct, AllByRecursion}
 use Rattle.std.specs.Map.{lookup, set_value, keys_of}
 use Rattle.std.proofs.lemmas.Bool.{ltb-true, lt-ltb}
@@ -15,8 +15,9 @@ use Rattle.sr_dup_window.specs.LaneSets.{has, is_empty}
 use Rattle.sr_dup_window.specs.LaneLemmas.{has-lanes_where}
 use Rattle.sr_dup_window.specs.Windows.{window_noted, fresh_lanes}
 use Rattle.sr_dup_window.specs.WindowLemmas.{begun-stands, noted-stands, merged-stands, fresh-lanes-by-family}
+use Rattle.sr_dup_window.specs.Spots.{IsWidth}
 use Rattle.sr_dup_window.specs.Families.{singleton, join, greater}
-use Rattle.sr_dup_table.specs.Limits.{window, most_sources}
+use Rattle.sr_dup_table.specs.Limits.{most_sources}
 use Rattle.sr_dup_table.specs.Sources.{Heard, Sources, is_recent, is_live, live_at, with_room, begun_at, heard_next, answer_of, after_of}
 use Rattle.sr_dup_table.specs.Joins.{joined, joined_heard, IsJoin, lacking_in}
 use Rattle.sr_dup_runs.specs.TableRuns.{Noting}
@@ -38,64 +39,64 @@ passing-again at now (Some h) le = by (is_live at h) refl (is_live now h) refl
     by false p false q = sym (ap (λ c. cond c (Some h) None) q)
 
 -- what is told stays told as time passes
-remembered-tells : (src : Mac) (now : ℕ) (xs : List Noting) (o : Option Heard) → Tells src xs o → Tells src (remembered now xs) (passing (is_live now) o)
-remembered-tells src now xs None none = by (is_recent now (newest xs))
+remembered-tells : (w : ℕ) (src : Mac) (now : ℕ) (xs : List Noting) (o : Option Heard) → Tells w src xs o → Tells w src (remembered now xs) (passing (is_live now) o)
+remembered-tells w src now xs None none = by (is_recent now (newest xs))
   where
     by : (b : Bool) → cond b xs [] ≡ []
     by true = none
     by false = refl
-remembered-tells src now xs (Some h) told = by (is_live now h) refl (ap (is_recent now) told.0)
+remembered-tells w src now xs (Some h) told = by (is_live now h) refl (ap (is_recent now) told.0)
   where
-    by : (b : Bool) → is_live now h ≡ b → is_recent now (newest xs) ≡ is_live now h → Tells src (cond (is_recent now (newest xs)) xs []) (cond (is_live now h) (Some h) None)
+    by : (b : Bool) → is_live now h ≡ b → is_recent now (newest xs) ≡ is_live now h → Tells w src (cond (is_recent now (newest xs)) xs []) (cond (is_live now h) (Some h) None)
     by true p e = rw (e, p) told
     by false p e = rw (e, p) refl
 
 -- the record of a source after one more arrival, by what is live of it
-abbrev next-of : Option Heard → Noting → Heard
-next-of None x = begun_at (wire x.arrival.number) x.lanes x.arrival.time
-next-of (Some h) x = record { seen = window_noted window h.seen (wire x.arrival.number) x.lanes; time = max h.time x.arrival.time }
+abbrev next-of : ℕ → Option Heard → Noting → Heard
+next-of w None x = begun_at w (wire x.arrival.number) x.lanes x.arrival.time
+next-of w (Some h) x = record { seen = window_noted w h.seen (wire x.arrival.number) x.lanes; time = max h.time x.arrival.time }
 
-next-tells : (x : Noting) (xs : List Noting) (o : Option Heard) → is_empty x.lanes ≡ false → IsNearAll (numbers x.arrival.src xs) x.arrival.number
-    → Tells x.arrival.src xs o → Tells x.arrival.src (x ∷ xs) (Some (next-of o x))
-next-tells x xs None some near none =
-    let P : List Noting → Type 0 = λ ys. Tells x.arrival.src (x ∷ ys) (Some (next-of None x)) in
+next-tells : (w : ℕ) → IsWidth w → (x : Noting) (xs : List Noting) (o : Option Heard) → is_empty x.lanes ≡ false → IsNearAll w (numbers x.arrival.src xs) x.arrival.number
+    → Tells w x.arrival.src xs o → Tells w x.arrival.src (x ∷ xs) (Some (next-of w o x))
+next-tells w width x xs None some near none =
+    let P : List Noting → Type 0 = λ ys. Tells w x.arrival.src (x ∷ ys) (Some (next-of w None x)) in
     let n = x.arrival.number in
     subst P (sym none) (
       omega arith,
       n,
-      stands-like (next-of None x).seen (singleton x.lanes n) (numbers x.arrival.src (x ∷ [])) n (one-number x)
-          (begun-stands window x.lanes n (wire n) (inl refl) some refl),
+      stands-like w (next-of w None x).seen (singleton x.lanes n) (numbers x.arrival.src (x ∷ [])) n (one-number x)
+          (begun-stands w x.lanes n (wire n) width some refl),
     )
-next-tells x xs (Some h) some near told =
+next-tells w width x xs (Some h) some near told =
     let n = x.arrival.number in (
       omega (arith, told.0),
       greater told.1 n,
-      stands-like (next-of (Some h) x).seen (join (numbers x.arrival.src xs) (singleton x.lanes n)) (numbers x.arrival.src (x ∷ xs)) (greater told.1 n)
+      stands-like w (next-of w (Some h) x).seen (join (numbers x.arrival.src xs) (singleton x.lanes n)) (numbers x.arrival.src (x ∷ xs)) (greater told.1 n)
           (more-numbers x xs)
-          (noted-stands window h.seen (numbers x.arrival.src xs) told.1 n (wire n) x.lanes (inl refl) some told.2 (near told.1 told.2.top) refl),
+          (noted-stands w h.seen (numbers x.arrival.src xs) told.1 n (wire n) x.lanes width some told.2 (near told.1 told.2.top) refl),
     )
 
-next-heard : (h : Heard) (x : Noting) → heard_next h (wire x.arrival.number) x.lanes x.arrival.time ≡ next-of (passing (is_live x.arrival.time) (Some h)) x
-next-heard h x = by (is_live x.arrival.time h)
+next-heard : (w : ℕ) (h : Heard) (x : Noting) → heard_next w h (wire x.arrival.number) x.lanes x.arrival.time ≡ next-of w (passing (is_live x.arrival.time) (Some h)) x
+next-heard w h x = by (is_live x.arrival.time h)
   where
     by : (b : Bool)
-        → cond b (record { seen = window_noted window h.seen (wire x.arrival.number) x.lanes; time = max h.time x.arrival.time })
-        (begun_at (wire x.arrival.number) x.lanes x.arrival.time) ≡ next-of (cond b (Some h) None) x
+        → cond b (record { seen = window_noted w h.seen (wire x.arrival.number) x.lanes; time = max h.time x.arrival.time })
+        (begun_at w (wire x.arrival.number) x.lanes x.arrival.time) ≡ next-of w (cond b (Some h) None) x
     by true = refl
     by false = refl
 
 -- what both tell of a source is told of its join
-both-tell : (src : Mac) (xs ys : List Noting) (a b : Option Heard) → AreClose (numbers src xs) (numbers src ys) → Tells src xs a → Tells src ys b
-    → Tells src (xs ++ ys) (joined a b)
-both-tell src xs ys None None close one other = rw (one, other) refl
-both-tell src xs ys None (Some b) close one other = rw one other
-both-tell src xs ys (Some a) None close one other =
-    let P : List Noting → Type 0 = λ zs. Tells src zs (Some a) in subst P (sym (ap (λ zs. xs ++ zs) other ∙ append-nil xs)) one
-both-tell src xs ys (Some a) (Some b) close one other = (
+both-tell : (w : ℕ) → IsWidth w → (src : Mac) (xs ys : List Noting) (a b : Option Heard) → AreClose (numbers src xs) (numbers src ys) → Tells w src xs a → Tells w src ys b
+    → Tells w src (xs ++ ys) (joined w a b)
+both-tell w width src xs ys None None close one other = rw (one, other) refl
+both-tell w width src xs ys None (Some b) close one other = rw one other
+both-tell w width src xs ys (Some a) None close one other =
+    let P : List Noting → Type 0 = λ zs. Tells w src zs (Some a) in subst P (sym (ap (λ zs. xs ++ zs) other ∙ append-nil xs)) one
+both-tell w width src xs ys (Some a) (Some b) close one other = (
   omega (arith, newest-both xs ys, one.0, other.0),
   greater one.1 other.1,
-  stands-like (joined_heard a b).seen (join (numbers src xs) (numbers src ys)) (numbers src (xs ++ ys)) (greater one.1 other.1) (both-numbers src xs ys)
-      (merged-stands window a.seen b.seen (numbers src xs) (numbers src ys) one.1 other.1 (inl refl) one.2 other.2
+  stands-like w (joined_heard w a b).seen (join (numbers src xs) (numbers src ys)) (numbers src (xs ++ ys)) (greater one.1 other.1) (both-numbers src xs ys)
+      (merged-stands w a.seen b.seen (numbers src xs) (numbers src ys) one.1 other.1 width one.2 other.2
       (close one.1 other.1 one.2.top other.2.top)),
 )
 
@@ -154,9 +155,9 @@ each-found (e ∷ s) = (ap (λ b. is_some (cond b (Some e.1) (lookup (mac_eq e.0
         by true = refl
         by false = h.0
 
-join-distinct : (one other both : Sources) → IsJoin one other both → IsDistinct mac_eq (keys_of one) → IsDistinct mac_eq (keys_of other)
+join-distinct : (w : ℕ) (one other both : Sources) → IsJoin w one other both → IsDistinct mac_eq (keys_of one) → IsDistinct mac_eq (keys_of other)
     → IsDistinct mac_eq (keys_of both)
-join-distinct one other both joins first second =
+join-distinct w one other both joins first second =
     subst (IsDistinct mac_eq) (sym joins.order)
     (distinct-both (keys_of one) (keys_of (lacking_in one other)) first (lacking-distinct one other second) (all (keys_of one) (each-found one)))
   where
@@ -166,32 +167,32 @@ join-distinct one other both joins first second =
     all (k ∷ ks) h = (lacking-apart k one other h.0, all ks h.1)
 
 -- a table tells of each source what the tree does, from the last turn on
-pub record Kept (t : Growth) (s : Sources) : Type 0 where
+pub record Kept (w : ℕ) (t : Growth) (s : Sources) : Type 0 where
   pub keys : IsDistinct mac_eq (keys_of s)
-  pub tells : (src : Mac) (now : ℕ) → latest t ≤ now → Tells src (epoch src now t) (passing (is_live now) (lookup (mac_eq src) s))
+  pub tells : (src : Mac) (now : ℕ) → latest t ≤ now → Tells w src (epoch src now t) (passing (is_live now) (lookup (mac_eq src) s))
 
 none-twice : IsDistinct mac_eq []
 unfolding IsDistinct
 none-twice = tt
 
-module _ (t : Growth) (x : Noting) (old : Sources) (kept : Kept t old) (le : latest t ≤ x.arrival.time) where
+module _ (w : ℕ) (width : IsWidth w) (t : Growth) (x : Noting) (old : Sources) (earlier : Kept w t old) (le : latest t ≤ x.arrival.time) where
   -- after an arrival its source has a new record, and the others are live as they were
-  kept-after : (new : Sources) (h : Heard) → IsDistinct mac_eq (keys_of new) → Tells x.arrival.src (x ∷ epoch x.arrival.src x.arrival.time t) (Some h)
+  kept-after : (new : Sources) (h : Heard) → IsDistinct mac_eq (keys_of new) → Tells w x.arrival.src (x ∷ epoch x.arrival.src x.arrival.time t) (Some h)
       → ((q : Mac) (u : ℕ) → x.arrival.time ≤ u
       → passing (is_live u) (lookup (mac_eq q) new) ≡ cond (mac_eq x.arrival.src q) (passing (is_live u) (Some h)) (passing (is_live u) (lookup (mac_eq q) old)))
-      → Kept (arrived t x) new
+      → Kept w (arrived t x) new
   kept-after new h keys told live = record { keys = keys; tells = λ q u later. by q u later (mac_eq x.arrival.src q) refl }
     where
-      own : (u : ℕ) → x.arrival.time ≤ u → Tells x.arrival.src (epoch x.arrival.src u (arrived t x)) (passing (is_live u) (lookup (mac_eq x.arrival.src) new))
-      own u later = rw (live x.arrival.src u later, mac_refl x.arrival.src) (remembered-tells x.arrival.src u (x ∷ epoch x.arrival.src x.arrival.time t) (Some h) told)
+      own : (u : ℕ) → x.arrival.time ≤ u → Tells w x.arrival.src (epoch x.arrival.src u (arrived t x)) (passing (is_live u) (lookup (mac_eq x.arrival.src) new))
+      own u later = rw (live x.arrival.src u later, mac_refl x.arrival.src) (remembered-tells w x.arrival.src u (x ∷ epoch x.arrival.src x.arrival.time t) (Some h) told)
 
-      by : (q : Mac) (u : ℕ) → x.arrival.time ≤ u → (b : Bool) → mac_eq x.arrival.src q ≡ b → Tells q (epoch q u (arrived t x)) (passing (is_live u) (lookup (mac_eq q) new))
+      by : (q : Mac) (u : ℕ) → x.arrival.time ≤ u → (b : Bool) → mac_eq x.arrival.src q ≡ b → Tells w q (epoch q u (arrived t x)) (passing (is_live u) (lookup (mac_eq q) new))
       by q u later true p =
-          let P : Mac → Type 0 = λ m. Tells m (epoch m u (arrived t x)) (passing (is_live u) (lookup (mac_eq m) new)) in
+          let P : Mac → Type 0 = λ m. Tells w m (epoch m u (arrived t x)) (passing (is_live u) (lookup (mac_eq m) new)) in
           subst P (mac_same x.arrival.src q p) (own u later)
       by q u later false p =
           let other : mac_eq q x.arrival.src ≡ false = mac_symm q x.arrival.src ∙ p in
-          rw (live q u later, p, other) (kept.tells q u (omega arith))
+          rw (live q u later, p, other) (earlier.tells q u (omega arith))
 
   -- the sources that stay where a new one comes
   room : Sources
@@ -201,8 +202,8 @@ module _ (t : Growth) (x : Noting) (old : Sources) (kept : Kept t old) (le : lat
   room-keys = by (nat_lt (length old) most_sources)
     where
       by : (b : Bool) → IsDistinct mac_eq (keys_of (cond b old (live_at x.arrival.time old)))
-      by true = kept.keys
-      by false = distinct-passing (is_live x.arrival.time) old kept.keys
+      by true = earlier.keys
+      by false = distinct-passing (is_live x.arrival.time) old earlier.keys
 
   room-live : (q : Mac) (u : ℕ) → x.arrival.time ≤ u
       → passing (is_live u) (lookup (mac_eq q) (with_room x.arrival.time old)) ≡ passing (is_live u) (lookup (mac_eq q) old)
@@ -210,40 +211,40 @@ module _ (t : Growth) (x : Noting) (old : Sources) (kept : Kept t old) (le : lat
     where
       by : (b : Bool) → passing (is_live u) (lookup (mac_eq q) (cond b old (live_at x.arrival.time old))) ≡ passing (is_live u) (lookup (mac_eq q) old)
       by true = refl
-      by false = ap (passing (is_live u)) (lookup-passing (is_live x.arrival.time) q old kept.keys) ∙ passing-again x.arrival.time u (lookup (mac_eq q) old) later
+      by false = ap (passing (is_live u)) (lookup-passing (is_live x.arrival.time) q old earlier.keys) ∙ passing-again x.arrival.time u (lookup (mac_eq q) old) later
 
   room-none : lookup (mac_eq x.arrival.src) old ≡ None → lookup (mac_eq x.arrival.src) (with_room x.arrival.time old) ≡ None
   room-none none = by (nat_lt (length old) most_sources)
     where
       by : (b : Bool) → lookup (mac_eq x.arrival.src) (cond b old (live_at x.arrival.time old)) ≡ None
       by true = none
-      by false = lookup-passing (is_live x.arrival.time) x.arrival.src old kept.keys ∙ ap (passing (is_live x.arrival.time)) none
+      by false = lookup-passing (is_live x.arrival.time) x.arrival.src old earlier.keys ∙ ap (passing (is_live x.arrival.time)) none
 
   through-cond : (u : ℕ) (b : Bool) (h : Heard) (o : Option Heard) → passing (is_live u) (cond b (Some h) o) ≡ cond b (passing (is_live u) (Some h)) (passing (is_live u) o)
   through-cond u true h o = refl
   through-cond u false h o = refl
 
   arrived-kept : (o : Option Heard) → lookup (mac_eq x.arrival.src) old ≡ o → is_empty x.lanes ≡ false
-      → IsNearAll (numbers x.arrival.src (epoch x.arrival.src x.arrival.time t)) x.arrival.number
-      → Kept (arrived t x) (after_of o old x.arrival.src (wire x.arrival.number) x.lanes x.arrival.time)
+      → IsNearAll w (numbers x.arrival.src (epoch x.arrival.src x.arrival.time t)) x.arrival.number
+      → Kept w (arrived t x) (after_of w o old x.arrival.src (wire x.arrival.number) x.lanes x.arrival.time)
   arrived-kept None at some near =
       let xs = epoch x.arrival.src x.arrival.time t in
       let r = with_room x.arrival.time old in
-      let h = begun_at (wire x.arrival.number) x.lanes x.arrival.time in
+      let h = begun_at w (wire x.arrival.number) x.lanes x.arrival.time in
       let none = room-none at in
-      let was : Tells x.arrival.src xs None = rw at at (kept.tells x.arrival.src x.arrival.time le) in
-      kept-after (r ++ (x.arrival.src, h) ∷ []) h (distinct-push x.arrival.src h r room-keys none) (next-tells x xs None some near was)
+      let was : Tells w x.arrival.src xs None = rw at at (earlier.tells x.arrival.src x.arrival.time le) in
+      kept-after (r ++ (x.arrival.src, h) ∷ []) h (distinct-push x.arrival.src h r room-keys none) (next-tells w width x xs None some near was)
       (λ q u later.
       ap (passing (is_live u)) (lookup-push x.arrival.src q h r none)
       ∙ through-cond u (mac_eq x.arrival.src q) h (lookup (mac_eq q) r)
       ∙ ap (λ o. cond (mac_eq x.arrival.src q) (passing (is_live u) (Some h)) o) (room-live q u later))
   arrived-kept (Some g) at some near =
       let xs = epoch x.arrival.src x.arrival.time t in
-      let h = heard_next g (wire x.arrival.number) x.lanes x.arrival.time in
+      let h = heard_next w g (wire x.arrival.number) x.lanes x.arrival.time in
       let o = passing (is_live x.arrival.time) (Some g) in
-      let was : Tells x.arrival.src xs o = subst (λ p. Tells x.arrival.src xs (passing (is_live x.arrival.time) p)) at (kept.tells x.arrival.src x.arrival.time le) in
-      kept-after (set_value (mac_eq x.arrival.src) old h) h (distinct-set x.arrival.src h old kept.keys)
-      (subst (λ w. Tells x.arrival.src (x ∷ xs) (Some w)) (sym (next-heard g x)) (next-tells x xs o some near was))
+      let was : Tells w x.arrival.src xs o = subst (λ p. Tells w x.arrival.src xs (passing (is_live x.arrival.time) p)) at (earlier.tells x.arrival.src x.arrival.time le) in
+      kept-after (set_value (mac_eq x.arrival.src) old h) h (distinct-set x.arrival.src h old earlier.keys)
+      (subst (λ h. Tells w x.arrival.src (x ∷ xs) (Some h)) (sym (next-heard w g x)) (next-tells w width x xs o some near was))
       (λ q u later.
       ap (passing (is_live u)) (lookup-set x.arrival.src q h old (ap is_some at))
       ∙ through-cond u (mac_eq x.arrival.src q) h (lookup (mac_eq q) old))
@@ -252,53 +253,53 @@ module _ (t : Growth) (x : Noting) (old : Sources) (kept : Kept t old) (le : lat
 pub live-is : (now : ℕ) (s : Sources) (src : Mac) → IsDistinct mac_eq (keys_of s) → lookup (mac_eq src) (live_at now s) ≡ passing (is_live now) (lookup (mac_eq src) s)
 live-is now s src keys = lookup-passing (is_live now) src s keys
 
-pub kept : (t : Growth) (s : Sources) → Grew t s → AreInOrder t → AreSteady t → Kept t s
-kept empty s grew order steady =
-    let P : Sources → Type 0 = λ z. Kept empty z in subst P (sym grew) (record { keys = none-twice; tells = λ src now le. refl })
-kept (arrived t x) s grew order steady =
-    let P : Sources → Type 0 = λ z. Kept (arrived t x) z in
+pub kept : (w : ℕ) → IsWidth w → (t : Growth) (s : Sources) → Grew w t s → AreInOrder t → AreSteady w t → Kept w t s
+kept w width empty s grew order steady =
+    let P : Sources → Type 0 = λ z. Kept w empty z in subst P (sym grew) (record { keys = none-twice; tells = λ src now le. refl })
+kept w width (arrived t x) s grew order steady =
+    let P : Sources → Type 0 = λ z. Kept w (arrived t x) z in
     let old = grew.0 in
     subst P (sym grew.3.2)
-    (arrived-kept t x old (kept t old grew.2 order.0 steady.0) order.1 (lookup (mac_eq x.arrival.src) old) refl grew.3.0 steady.1)
-kept (aged t now) s grew order steady =
-    let P : Sources → Type 0 = λ z. Kept (aged t now) z in
+    (arrived-kept w width t x old (kept w width t old grew.2 order.0 steady.0) order.1 (lookup (mac_eq x.arrival.src) old) refl grew.3.0 steady.1)
+kept w width (aged t now) s grew order steady =
+    let P : Sources → Type 0 = λ z. Kept w (aged t now) z in
     let old = grew.0 in
-    let k = kept t old grew.1 order.0 steady in
+    let k = kept w width t old grew.1 order.0 steady in
     subst P (sym grew.2) (record {
       keys = distinct-passing (is_live now) old k.keys;
       tells = λ src u le.
-          let Q : Option Heard → Type 0 = λ o. Tells src (epoch src u t) o in
+          let Q : Option Heard → Type 0 = λ o. Tells w src (epoch src u t) o in
           subst Q (sym (ap (passing (is_live u)) (live-is now old src k.keys) ∙ passing-again now u (lookup (mac_eq src) old) le))
           (k.tells src u (omega (arith, order.1)));
     })
-kept (merged t u now) s grew order steady =
+kept w width (merged t u now) s grew order steady =
     let one = grew.0 in
     let other = grew.1 in
-    let a = kept t one grew.2 order.0 steady.0 in
-    let b = kept u other grew.3 order.1 steady.1 in
+    let a = kept w width t one grew.2 order.0 steady.0 in
+    let b = kept w width u other grew.3 order.1 steady.1 in
     record {
-      keys = join-distinct (live_at now one) (live_at now other) s grew.4 (distinct-passing (is_live now) one a.keys)
+      keys = join-distinct w (live_at now one) (live_at now other) s grew.4 (distinct-passing (is_live now) one a.keys)
           (distinct-passing (is_live now) other b.keys);
       tells = λ src v le.
           let xs = epoch src now t in
           let ys = epoch src now u in
           let o = lookup (mac_eq src) (live_at now one) in
           let p = lookup (mac_eq src) (live_at now other) in
-          let Q : Option Heard → Type 0 = λ r. Tells src (epoch src v (merged t u now)) (passing (is_live v) r) in
-          let first : Tells src xs o = rw (live-is now one src a.keys) (a.tells src now order.2) in
-          let second : Tells src ys p = rw (live-is now other src b.keys) (b.tells src now order.3) in
+          let Q : Option Heard → Type 0 = λ r. Tells w src (epoch src v (merged t u now)) (passing (is_live v) r) in
+          let first : Tells w src xs o = rw (live-is now one src a.keys) (a.tells src now order.2) in
+          let second : Tells w src ys p = rw (live-is now other src b.keys) (b.tells src now order.3) in
           subst Q (sym (grew.4.each src))
-          (remembered-tells src v (xs ++ ys) (joined o p) (both-tell src xs ys o p (steady.2 src) first second));
+          (remembered-tells w src v (xs ++ ys) (joined w o p) (both-tell w width src xs ys o p (steady.2 src) first second));
     }
 
 pub tables_stand : TablesStand
-tables_stand t s src now grew steady le =
-    let k = kept t s grew steady.0 steady.1 in
-    let Q : Option Heard → Type 0 = λ o. Tells src (epoch src now t) o in
+tables_stand w width t s src now grew steady le =
+    let k = kept w width t s grew steady.0 steady.1 in
+    let Q : Option Heard → Type 0 = λ o. Tells w src (epoch src now t) o in
     subst Q (sym (live-is now s src k.keys)) (k.tells src now le)
 
 -- an arrival of a source that is not live is new on all asked lanes
-module _ (x : Noting) (fresh : Lanes) (lane : Lane) where
+module _ (w : ℕ) (width : IsWidth w) (x : Noting) (fresh : Lanes) (lane : Lane) where
   and-not-false : (b : Bool) → b ≡ (b && true)
   and-not-false true = refl
   and-not-false false = refl
@@ -308,9 +309,9 @@ module _ (x : Noting) (fresh : Lanes) (lane : Lane) where
       ap (λ ls. has ls lane) (sym same) ∙ and-not-false (has x.lanes lane)
       ∙ ap (λ ys. has x.lanes lane && not (numbers x.arrival.src ys lane x.arrival.number)) (sym none)
 
-  new-by-union : (xs : List Noting) (s : Sources) (o : Option Heard) → Tells x.arrival.src xs (passing (is_live x.arrival.time) o)
-      → IsNearAll (numbers x.arrival.src xs) x.arrival.number
-      → answer_of o s (wire x.arrival.number) x.lanes x.arrival.time ≡ Some fresh
+  new-by-union : (xs : List Noting) (s : Sources) (o : Option Heard) → Tells w x.arrival.src xs (passing (is_live x.arrival.time) o)
+      → IsNearAll w (numbers x.arrival.src xs) x.arrival.number
+      → answer_of w o s (wire x.arrival.number) x.lanes x.arrival.time ≡ Some fresh
       → has fresh lane ≡ (has x.lanes lane && not (numbers x.arrival.src xs lane x.arrival.number))
   new-by-union xs s None told near is = by (nat_lt (length (with_room x.arrival.time s)) most_sources) is
     where
@@ -319,19 +320,19 @@ module _ (x : Noting) (fresh : Lanes) (lane : Lane) where
       by false e = cc
   new-by-union xs s (Some h) told near is = by (is_live x.arrival.time h) told is
     where
-      by : (b : Bool) → Tells x.arrival.src xs (cond b (Some h) None) → Some (cond b (fresh_lanes window h.seen (wire x.arrival.number) x.lanes) x.lanes) ≡ Some fresh
+      by : (b : Bool) → Tells w x.arrival.src xs (cond b (Some h) None) → Some (cond b (fresh_lanes w h.seen (wire x.arrival.number) x.lanes) x.lanes) ≡ Some fresh
           → has fresh lane ≡ (has x.lanes lane && not (numbers x.arrival.src xs lane x.arrival.number))
       by false none e = let same : x.lanes ≡ fresh = cc in all-new xs none same
       by true k e =
           let n = x.arrival.number in
           let f = numbers x.arrival.src xs in
-          let same : fresh_lanes window h.seen (wire n) x.lanes ≡ fresh = cc in
+          let same : fresh_lanes w h.seen (wire n) x.lanes ≡ fresh = cc in
           ap (λ ls. has ls lane) (sym same)
-          ∙ ap (λ ls. has ls lane) (fresh-lanes-by-family window h.seen f k.1 n (wire n) x.lanes (inl refl) k.2 (near k.1 k.2.top) refl)
+          ∙ ap (λ ls. has ls lane) (fresh-lanes-by-family w h.seen f k.1 n (wire n) x.lanes width k.2 (near k.1 k.2.top) refl)
           ∙ has-lanes_where (λ l. has x.lanes l && not (f l n)) lane
 
 pub answers_by_the_union : AnswersByTheUnion
-answers_by_the_union t s x fresh lane grew steady is =
-    let k = kept t s grew steady.0.0 steady.1.0 in
-    new-by-union x fresh lane (epoch x.arrival.src x.arrival.time t) s (lookup (mac_eq x.arrival.src) s)
+answers_by_the_union w width t s x fresh lane grew steady is =
+    let k = kept w width t s grew steady.0.0 steady.1.0 in
+    new-by-union w width x fresh lane (epoch x.arrival.src x.arrival.time t) s (lookup (mac_eq x.arrival.src) s)
     (k.tells x.arrival.src x.arrival.time steady.0.1) steady.1.1 is

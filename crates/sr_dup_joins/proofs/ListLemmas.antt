@@ -10,14 +10,13 @@ use Rattle.sr_dup_window.specs.declared.lane_sets.Lane.{Lane}
 use Rattle.sr_dup_window.specs.LaneSets.{has}
 use Rattle.sr_dup_window.specs.Families.{Family, singleton, join, StandsFor}
 use Rattle.sr_dup_window.specs.Windows.{Window}
-use Rattle.sr_dup_table.specs.Limits.{window}
 use Rattle.sr_dup_table.specs.Sources.{is_recent}
 use Rattle.sr_dup_runs.specs.TableRuns.{Noting, is_copy}
 use Rattle.sr_dup_joins.specs.Growths.{newest, remembered, numbers}
 
 -- what stands for a family stands for one with the same numbers
-pub stands-like : (w : Window) (f g : Family) (m : ℤ) → ((lane : Lane) (n : ℤ) → f lane n ≡ g lane n) → StandsFor window w f m → StandsFor window w g m
-stands-like w f g m same s = let P : Family → Type 0 = λ k. StandsFor window w k m in subst P (λ i lane n. same lane n i) s
+pub stands-like : (w : ℕ) (seen : Window) (f g : Family) (m : ℤ) → ((lane : Lane) (n : ℤ) → f lane n ≡ g lane n) → StandsFor w seen f m → StandsFor w seen g m
+stands-like w seen f g m same s = let P : Family → Type 0 = λ k. StandsFor w seen k m in subst P (λ i lane n. same lane n i) s
 
 -- the numbers of one arrival of the source, of one more, and of two lists
 pub one-number : (x : Noting) (lane : Lane) (n : ℤ) → singleton x.lanes x.arrival.number lane n ≡ numbers x.arrival.src (x ∷ []) lane n

@@ -2,6 +2,7 @@
 use Rattle.std.specs.Prelude.{ℕ, ℤ, pos}
 use Rattle.sr_frame.specs.declared.fields.Mac.{Mac}
 use Rattle.sr_dup_window.specs.declared.lane_sets.Lanes.{Lanes}
+use Rattle.sr_dup_window.specs.Spots.{IsWidth}
 use Rattle.sr_dup_runs.specs.TableRuns.{Noting}
 use Rattle.sr_dup_joins.specs.Growths.{Growth, empty, arrived, merged, IsSteady}
 use Rattle.sr_dup_joins.specs.GrowthLaws.{KeepsAll}
@@ -20,4 +21,4 @@ taken_over src now lanes = merged (two_noted src now lanes (pos 1) (pos 2)) (two
 
 -- it is a steady tree, and nothing is forgotten
 abbrev pub TakenOverIsSteady : Type 0
-TakenOverIsSteady = (src : Mac) (now : ℕ) (lanes : Lanes) → IsSteady (taken_over src now lanes) × KeepsAll now (taken_over src now lanes)
+TakenOverIsSteady = (w : ℕ) → IsWidth w → (src : Mac) (now : ℕ) (lanes : Lanes) → IsSteady w (taken_over src now lanes) × KeepsAll now (taken_over src now lanes)

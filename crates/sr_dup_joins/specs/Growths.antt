@@ -1,11 +1,10 @@
--- Tables that come about by any tree of arrivals, ageings and merges, and what is asked of the tree.
+-- Tables of either width that come about by any tree of arrivals, ageings and merges, and what is asked of the tree.
 use Rattle.std.specs.Prelude.{◌≡◌, ℕ, ◌≤◌, max, ℤ, List, [], ◌∷◌, ◌++◌, if◌then◌else◌}
 use Rattle.sr_frame.specs.declared.fields.Mac.{Mac}
 use Rattle.sr_frame.specs.Addresses.{mac_eq}
 use Rattle.sr_sequence.specs.Numbers.{IsNear}
 use Rattle.sr_dup_window.specs.declared.lane_sets.Lanes.{Lanes}
 use Rattle.sr_dup_window.specs.Families.{Family, IsGreatest, IsClose}
-use Rattle.sr_dup_table.specs.Limits.{window}
 use Rattle.sr_dup_table.specs.Sources.{Sources, is_recent, live_at}
 use Rattle.sr_dup_table.specs.JoinLaws.{MergesTo}
 use Rattle.sr_dup_runs.specs.TableRuns.{Noting, was_noted, Takes}
@@ -19,11 +18,11 @@ pub data Growth : Type 0 where
   merged : Growth → Growth → ℕ → Growth
 
 -- the sources of a table that came about so, by calls that were not refused
-abbrev pub Grew : Growth → Sources → Type 0
-Grew empty s = s ≡ []
-Grew (arrived t x) s = (old : Sources) × (fresh : Lanes) × Grew t old × Takes old (run.arrived x fresh) s
-Grew (aged t now) s = (old : Sources) × Grew t old × (s ≡ live_at now old)
-Grew (merged t u now) s = (one : Sources) × (other : Sources) × Grew t one × Grew u other × MergesTo now one other s
+abbrev pub Grew : ℕ → Growth → Sources → Type 0
+Grew w empty s = s ≡ []
+Grew w (arrived t x) s = (old : Sources) × (fresh : Lanes) × Grew w t old × Takes w old (run.arrived x fresh) s
+Grew w (aged t now) s = (old : Sources) × Grew w t old × (s ≡ live_at now old)
+Grew w (merged t u now) s = (one : Sources) × (other : Sources) × Grew w t one × Grew w u other × MergesTo w now one other s
 
 -- all arrivals that its parts took
 abbrev pub arrivals_of : Growth → List Noting
@@ -60,8 +59,8 @@ latest (aged t now) = now
 latest (merged t u now) = now
 
 -- a number is one of the 65536 that may follow those of a family; any may follow none
-abbrev pub IsNearAll : Family → ℤ → Type 0
-IsNearAll f n = (m : ℤ) → IsGreatest f m → IsNear window m n
+abbrev pub IsNearAll : ℕ → Family → ℤ → Type 0
+IsNearAll w f n = (m : ℤ) → IsGreatest f m → IsNear w m n
 
 -- the greatest numbers of two families, where both have one, are at most 32767 apart
 abbrev pub AreClose : Family → Family → Type 0
@@ -75,14 +74,14 @@ AreInOrder (aged t now) = AreInOrder t × (latest t ≤ now)
 AreInOrder (merged t u now) = AreInOrder t × AreInOrder u × (latest t ≤ now) × (latest u ≤ now)
 
 -- each number is near those of its source's epoch, and of each source that both parts of a merge tell of, the greatest numbers are close
-abbrev pub AreSteady : Growth → Type 0
-AreSteady empty = Unit {0}
-AreSteady (arrived t x) =
-    AreSteady t × IsNearAll (numbers x.arrival.src (epoch x.arrival.src x.arrival.time t)) x.arrival.number
-AreSteady (aged t now) = AreSteady t
-AreSteady (merged t u now) =
-    AreSteady t × AreSteady u × ((src : Mac) → AreClose (numbers src (epoch src now t)) (numbers src (epoch src now u)))
+abbrev pub AreSteady : ℕ → Growth → Type 0
+AreSteady w empty = Unit {0}
+AreSteady w (arrived t x) =
+    AreSteady w t × IsNearAll w (numbers x.arrival.src (epoch x.arrival.src x.arrival.time t)) x.arrival.number
+AreSteady w (aged t now) = AreSteady w t
+AreSteady w (merged t u now) =
+    AreSteady w t × AreSteady w u × ((src : Mac) → AreClose (numbers src (epoch src now t)) (numbers src (epoch src now u)))
 
 -- a steady tree
-abbrev pub IsSteady : Growth → Type 0
-IsSteady t = AreInOrder t × AreSteady t
+abbrev pub IsSteady : ℕ → Growth → Type 0
+IsSteady w t = AreInOrder t × AreSteady w t

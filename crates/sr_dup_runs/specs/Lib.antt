@@ -1,3 +1,6 @@
 pub mod TableRuns
+pub mod Starts
+pub mod EpochLemmas
 pub mod RunLemmas
+pub mod StartLemmas
 pub mod SteadyLemmas

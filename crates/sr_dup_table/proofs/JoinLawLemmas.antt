@@ -1,5 +1,5 @@
 -- Joins in any order and in any grouping.
-use Rattle.std.proofs.Common.{◌≡◌, ◌≢◌, ℕ, ◌-◌, ◌<◌, max, Bool, true, false, cond, List, [], ◌∷◌, Option, None, Some, ℤ, refl, sym, ap, ◌∙◌, subst, arith, inl}
+use Rattle.std.proofs.Common.{◌≡◌, ◌≢◌, ℕ, ◌*◌, ◌-◌, ◌<◌, max, Bool, true, false, cond, List, [], ◌∷◌, Option, None, Some, ℤ, refl, sym, ap, ◌∙◌, subst, arith}
 use Rattle.std.specs.Prelude.{find}
 use Rattle.std.specs.Map.{lookup}
 use Rattle.std.specs.Option.{option_map}
@@ -24,12 +24,9 @@ use Rattle.sr_dup_table.specs.Sources.{Heard, Sources, IsTable, is_live, live_at
 use Rattle.sr_dup_table.specs.Joins.{joined, joined_heard, is_apart, first_apart}
 use Rattle.sr_dup_table.specs.JoinLaws.{IsSound, MergesTo, AreClose, Stands, MergeCommutes, MergeIsIdempotent, MergeAssociates, MergeStands}
 
-narrow : IsWidth 1024
-narrow = inl refl
-
--- records of an address, or none, each of 1024 numbers
-abbrev pub WholeRecord : Option Heard → Type 0
-WholeRecord o = (h : Heard) → o ≡ Some h → IsWhole 1024 h.seen
+-- records of an address, or none, each of w numbers
+abbrev pub WholeRecord : ℕ → Option Heard → Type 0
+WholeRecord w o = (h : Heard) → o ≡ Some h → IsWhole w h.seen
 
 heard-same : (a b : Heard) → a.seen ≡ b.seen → a.time ≡ b.time → a ≡ b
 heard-same a b e f = λ i. record { seen = e i; time = f i }
@@ -41,39 +38,39 @@ max-grouped : (x y z : ℕ) → max (max x y) z ≡ max x (max y z)
 max-grouped x y z = omega arith
 
 -- each record of a table is
-pub whole-shown : (es : List (Mac × Aged (Record 16))) (src : Mac) → WholeRecord (lookup (mac_eq src) (sources_of es))
-whole-shown es src h e = by (lookup (mac_eq src) es) (sym (lookup-shown (mac_eq src) es) ∙ e)
+pub whole-shown : {N : ℕ} (es : List (Mac × Aged (Record N))) (src : Mac) → WholeRecord (64 * N) (lookup (mac_eq src) (sources_of es))
+whole-shown {N} es src h e = by (lookup (mac_eq src) es) (sym (lookup-shown (mac_eq src) es) ∙ e)
   where
-    by : (o : Option (Aged (Record 16))) → option_map heard_of o ≡ Some h → IsWhole 1024 h.seen
+    by : (o : Option (Aged (Record N))) → option_map heard_of o ≡ Some h → IsWhole (64 * N) h.seen
     by None p = cc
-    by (Some x) p = let same : heard_of x ≡ h = cc in subst (λ (g : Heard). IsWhole 1024 g.seen) same (record-whole x.value)
+    by (Some x) p = let same : heard_of x ≡ h = cc in subst (λ (g : Heard). IsWhole (64 * N) g.seen) same (record-whole x.value)
 
 -- no two records that are looked at are apart
 abbrev AreNear : Option Heard → Option Heard → Type 0
 AreNear a b = (x y : Heard) → a ≡ Some x → b ≡ Some y → steps x.seen.reference y.seen.reference ≢ 32768
 
-joined-commutes : (a b : Option Heard) → WholeRecord a → WholeRecord b → AreNear a b → joined a b ≡ joined b a
-joined-commutes None None one two near = refl
-joined-commutes None (Some b) one two near = refl
-joined-commutes (Some a) None one two near = refl
-joined-commutes (Some a) (Some b) one two near =
-    ap Some (heard-same (joined_heard a b) (joined_heard b a) (merged-commutes 1024 a.seen b.seen narrow (one a refl) (two b refl) (near a b refl refl)) (max-turned a.time b.time))
+joined-commutes : (w : ℕ) → IsWidth w → (a b : Option Heard) → WholeRecord w a → WholeRecord w b → AreNear a b → joined w a b ≡ joined w b a
+joined-commutes w width None None one two near = refl
+joined-commutes w width None (Some b) one two near = refl
+joined-commutes w width (Some a) None one two near = refl
+joined-commutes w width (Some a) (Some b) one two near =
+    ap Some (heard-same (joined_heard w a b) (joined_heard w b a) (merged-commutes w a.seen b.seen width (one a refl) (two b refl) (near a b refl refl)) (max-turned a.time b.time))
 
-joined-self : (a : Option Heard) → WholeRecord a → joined a a ≡ a
-joined-self None one = refl
-joined-self (Some a) one = ap Some (heard-same (joined_heard a a) a (merged-self 1024 a.seen narrow (one a refl)) (omega arith))
+joined-self : (w : ℕ) → IsWidth w → (a : Option Heard) → WholeRecord w a → joined w a a ≡ a
+joined-self w width None one = refl
+joined-self w width (Some a) one = ap Some (heard-same (joined_heard w a a) a (merged-self w a.seen width (one a refl)) (omega arith))
 
-joined-none : (a : Option Heard) → joined a None ≡ a
-joined-none None = refl
-joined-none (Some a) = refl
+joined-none : (w : ℕ) (a : Option Heard) → joined w a None ≡ a
+joined-none w None = refl
+joined-none w (Some a) = refl
 
-joined-associates : (a b c : Option Heard) → WholeRecord a → WholeRecord b → WholeRecord c → AreClose a b c → joined (joined a b) c ≡ joined a (joined b c)
-joined-associates None b c one two three close = refl
-joined-associates (Some a) None c one two three close = refl
-joined-associates (Some a) (Some b) None one two three close = refl
-joined-associates (Some a) (Some b) (Some c) one two three close =
-    ap Some (heard-same (joined_heard (joined_heard a b) c) (joined_heard a (joined_heard b c))
-    (merged-associates 1024 a.seen b.seen c.seen close.0 close.1 close.2 narrow (one a refl) (two b refl) (three c refl) close.3 close.4 close.5 close.6 close.7 close.8)
+joined-associates : (w : ℕ) → IsWidth w → (a b c : Option Heard) → WholeRecord w a → WholeRecord w b → WholeRecord w c → AreClose a b c → joined w (joined w a b) c ≡ joined w a (joined w b c)
+joined-associates w width None b c one two three close = refl
+joined-associates w width (Some a) None c one two three close = refl
+joined-associates w width (Some a) (Some b) None one two three close = refl
+joined-associates w width (Some a) (Some b) (Some c) one two three close =
+    ap Some (heard-same (joined_heard w (joined_heard w a b) c) (joined_heard w a (joined_heard w b c))
+    (merged-associates w a.seen b.seen c.seen close.0 close.1 close.2 width (one a refl) (two b refl) (three c refl) close.3 close.4 close.5 close.6 close.7 close.8)
     (max-grouped a.time b.time c.time))
 
 -- no record that is found is apart
@@ -108,12 +105,12 @@ passing-some now (Some g) h e = by (is_live now g) refl e
     by true p e = let same : g ≡ h = cc in (e, sym (ap (is_live now) same) ∙ p)
     by false p e = cc
 
-live-whole : (now : ℕ) (s : Sources) (src : Mac) → IsSound s → WholeRecord (lookup (mac_eq src) (live_at now s))
-live-whole now s src sound h e = sound.1 src h (passing-some now (lookup (mac_eq src) s) h (sym (live-lookup now s src sound.0) ∙ e)).0
+live-whole : (w : ℕ) (now : ℕ) (s : Sources) (src : Mac) → IsSound w s → WholeRecord w (lookup (mac_eq src) (live_at now s))
+live-whole w now s src sound h e = sound.1 src h (passing-some now (lookup (mac_eq src) s) h (sym (live-lookup now s src sound.0) ∙ e)).0
 
 -- what live sources join to is live
-later-live : (now : ℕ) (a b : Heard) → is_live now a ≡ true → is_live now (joined_heard a b) ≡ true
-later-live now a b live = let l : now - a.time < 400 = ltb-true (now - a.time) 400 live in lt-ltb (now - max a.time b.time) 400 (omega arith)
+later-live : (w : ℕ) (now : ℕ) (a b : Heard) → is_live now a ≡ true → is_live now (joined_heard w a b) ≡ true
+later-live w now a b live = let l : now - a.time < 400 = ltb-true (now - a.time) 400 live in lt-ltb (now - max a.time b.time) 400 (omega arith)
 
 AllLive : ℕ → Option Heard → Type 0
 AllLive now o = (h : Heard) → o ≡ Some h → is_live now h ≡ true
@@ -123,54 +120,54 @@ unfolding AllLive
 passing-live now None live = refl
 passing-live now (Some h) live = ap (λ b. cond b (Some h) None) (live h refl)
 
-joined-live : (now : ℕ) (a b : Option Heard) → AllLive now a → AllLive now b → AllLive now (joined a b)
+joined-live : (w : ℕ) (now : ℕ) (a b : Option Heard) → AllLive now a → AllLive now b → AllLive now (joined w a b)
 unfolding AllLive
-joined-live now None b one two = two
-joined-live now (Some a) None one two = one
-joined-live now (Some a) (Some b) one two = λ h e. let same : joined_heard a b ≡ h = cc in ap (is_live now) (sym same) ∙ later-live now a b (one a refl)
+joined-live w now None b one two = two
+joined-live w now (Some a) None one two = one
+joined-live w now (Some a) (Some b) one two = λ h e. let same : joined_heard w a b ≡ h = cc in ap (is_live now) (sym same) ∙ later-live w now a b (one a refl)
 
 live-live : (now : ℕ) (s : Sources) (src : Mac) → IsTable s → AllLive now (lookup (mac_eq src) (live_at now s))
 unfolding AllLive
 live-live now s src table h e = (passing-some now (lookup (mac_eq src) s) h (sym (live-lookup now s src table) ∙ e)).1
 
 -- a join at a time stays as it is at that time
-join-live : (now : ℕ) (one other both : Sources) (src : Mac) → IsTable one → IsTable other → IsTable both → MergesTo now one other both
-    → lookup (mac_eq src) (live_at now both) ≡ joined (lookup (mac_eq src) (live_at now one)) (lookup (mac_eq src) (live_at now other))
-join-live now one other both src first second table joins =
+join-live : (w : ℕ) (now : ℕ) (one other both : Sources) (src : Mac) → IsTable one → IsTable other → IsTable both → MergesTo w now one other both
+    → lookup (mac_eq src) (live_at now both) ≡ joined w (lookup (mac_eq src) (live_at now one)) (lookup (mac_eq src) (live_at now other))
+join-live w now one other both src first second table joins =
     live-lookup now both src table
     ∙ ap (passing (is_live now)) (joins.each src)
-    ∙ passing-live now (joined (lookup (mac_eq src) (live_at now one)) (lookup (mac_eq src) (live_at now other)))
-    (joined-live now (lookup (mac_eq src) (live_at now one)) (lookup (mac_eq src) (live_at now other)) (live-live now one src first) (live-live now other src second))
+    ∙ passing-live now (joined w (lookup (mac_eq src) (live_at now one)) (lookup (mac_eq src) (live_at now other)))
+    (joined-live w now (lookup (mac_eq src) (live_at now one)) (lookup (mac_eq src) (live_at now other)) (live-live now one src first) (live-live now other src second))
 
 pub merge_commutes_lem : MergeCommutes
-merge_commutes_lem now one other both turned first second near joins turns src =
+merge_commutes_lem w width now one other both turned first second near joins turns src =
     joins.each src
-    ∙ joined-commutes (lookup (mac_eq src) (live_at now one)) (lookup (mac_eq src) (live_at now other)) (live-whole now one src first) (live-whole now other src second)
+    ∙ joined-commutes w width (lookup (mac_eq src) (live_at now one)) (lookup (mac_eq src) (live_at now other)) (live-whole w now one src first) (live-whole w now other src second)
     (find-near (live_at now one) (live_at now other) near src)
     ∙ sym (turns.each src)
 
 pub merge_is_idempotent_lem : MergeIsIdempotent
-merge_is_idempotent_lem now one both sound joins src = joins.each src ∙ joined-self (lookup (mac_eq src) (live_at now one)) (live-whole now one src sound)
+merge_is_idempotent_lem w width now one both sound joins src = joins.each src ∙ joined-self w width (lookup (mac_eq src) (live_at now one)) (live-whole w now one src sound)
 
 pub merge_associates_lem : MergeAssociates
-merge_associates_lem now one other third first second left right a b c d e close ab abc bc a_bc src =
+merge_associates_lem w width now one other third first second left right a b c d e close ab abc bc a_bc src =
     let x = lookup (mac_eq src) (live_at now one) in
     let y = lookup (mac_eq src) (live_at now other) in
     let z = lookup (mac_eq src) (live_at now third) in
     abc.each src
-    ∙ ap (λ o. joined o z) (join-live now one other first src a.0 b.0 d ab)
-    ∙ joined-associates x y z (live-whole now one src a) (live-whole now other src b) (live-whole now third src c) (close src)
-    ∙ sym (ap (joined x) (join-live now other third second src b.0 c.0 e bc))
+    ∙ ap (λ o. joined w o z) (join-live w now one other first src a.0 b.0 d ab)
+    ∙ joined-associates w width x y z (live-whole w now one src a) (live-whole w now other src b) (live-whole w now third src c) (close src)
+    ∙ sym (ap (joined w x) (join-live w now other third second src b.0 c.0 e bc))
     ∙ sym (a_bc.each src)
 
-joined-stands : (a b : Option Heard) (f g : Family) (m n : ℤ) (time late : ℕ) → Stands a f m time → Stands b g n late → IsClose m n
-    → Stands (joined a b) (join f g) (greater m n) (max time late)
-joined-stands None b f g m n time late s t close = absurd s
-joined-stands (Some a) None f g m n time late s t close = absurd t
-joined-stands (Some a) (Some b) f g m n time late s t close =
-    (merged-stands 1024 a.seen b.seen f g m n narrow s.0 t.0 close, (λ i. max (s.1 i) (t.1 i)))
+joined-stands : (w : ℕ) → IsWidth w → (a b : Option Heard) (f g : Family) (m n : ℤ) (time late : ℕ) → Stands w a f m time → Stands w b g n late → IsClose m n
+    → Stands w (joined w a b) (join f g) (greater m n) (max time late)
+joined-stands w width None b f g m n time late s t close = absurd s
+joined-stands w width (Some a) None f g m n time late s t close = absurd t
+joined-stands w width (Some a) (Some b) f g m n time late s t close =
+    (merged-stands w a.seen b.seen f g m n width s.0 t.0 close, (λ i. max (s.1 i) (t.1 i)))
 
 pub merge_stands_lem : MergeStands
-merge_stands_lem now one other both src f g m n time late s t close joins =
-    subst (λ o. Stands o (join f g) (greater m n) (max time late)) (sym (joins.each src))
-    (joined-stands (lookup (mac_eq src) (live_at now one)) (lookup (mac_eq src) (live_at now other)) f g m n time late s t close)
+merge_stands_lem w width now one other both src f g m n time late s t close joins =
+    subst (λ o. Stands w o (join f g) (greater m n) (max time late)) (sym (joins.each src))
+    (joined-stands w width (lookup (mac_eq src) (live_at now one)) (lookup (mac_eq src) (live_at now other)) f g m n time late s t close)

@@ -1,6 +1,6 @@
 -- The join of two tables, one source after another.
 use Rattle.std.proofs.Common.{◌≡◌, ℕ, suc, ◌+◌, ◌≤◌, Bool, true, false, cond, not, nat_lt, [], ◌∷◌, ◌++◌, length, Option, None, Some, is_some, refl, sym, ap, ◌∙◌, subst, arith, append_assoc}
-use Rattle.std.specs.Prelude.{find}
+use Rattle.std.specs.Prelude.{find, Result, IfErr, unwrap_or}
 use Rattle.std.specs.List.{IsDistinct, AllByRecursion}
 use Rattle.std.specs.Map.{lookup, keys_of}
 use Rattle.std.specs.Option.{option_map}
@@ -13,27 +13,28 @@ use Rattle.sr_frame.specs.AddressLemmas.{mac_same, mac_symm}
 use Rattle.sr_slots.specs.EntryLemmas.{lookup-set, lookup-push, lookup-passing, distinct-passing}
 use Rattle.sr_slots.specs.Calls.{passing}
 use Rattle.std.proofs.lemmas.Bool.{ltb-false, le-ltb}
-use Rattle.sr_dup_table.specs.declared.fault.DupFault.TheVariants.{TableFull, Apart}
-use Rattle.sr_dup_table.specs.Sources.{Heard, Sources, is_live, live_at}
-use Rattle.sr_dup_table.specs.Joins.{joined, joined_heard, lacking_in, IsJoin, join_count, is_apart, first_apart, join_fault, new_source, apart_source, or_else, put_with, with_source, with_sources}
+use Rattle.sr_dup_table.specs.declared.fault.DupFault.{DupFault}
+use Rattle.sr_dup_table.specs.declared.fault.DupFault.TheVariants.{TableFull, Apart, NoMemory}
+use Rattle.sr_dup_table.specs.Sources.{Heard, Sources, Table, is_live, live_at}
+use Rattle.sr_dup_table.specs.Joins.{joined, joined_heard, lacking_in, IsJoin, join_count, is_apart, first_apart, join_fault, merge_fault, new_source, apart_source, or_else, put_with, with_source, with_sources}
 use Rattle.sr_dup_table.proofs.SameLemmas.{absent_apart}
 
 -- what stands at an address after one source was joined
-at_with : (s : Sources) (e : Mac × Heard) (q : Mac) (o : Option Heard) → lookup (mac_eq e.0) s ≡ o
-    → lookup (mac_eq q) (put_with o s e) ≡ cond (mac_eq e.0 q) (joined o (Some e.1)) (lookup (mac_eq q) s)
-at_with s e q None at = lookup-push e.0 q e.1 s at
-at_with s e q (Some h) at = lookup-set e.0 q (joined_heard h e.1) s (ap is_some at)
+at_with : (w : ℕ) (s : Sources) (e : Mac × Heard) (q : Mac) (o : Option Heard) → lookup (mac_eq e.0) s ≡ o
+    → lookup (mac_eq q) (put_with w o s e) ≡ cond (mac_eq e.0 q) (joined w o (Some e.1)) (lookup (mac_eq q) s)
+at_with w s e q None at = lookup-push e.0 q e.1 s at
+at_with w s e q (Some h) at = lookup-set e.0 q (joined_heard w h e.1) s (ap is_some at)
 
-lookup-with : (s : Sources) (e : Mac × Heard) (q : Mac) → lookup (mac_eq q) (with_source s e) ≡ cond (mac_eq e.0 q) (joined (lookup (mac_eq e.0) s) (Some e.1)) (lookup (mac_eq q) s)
-lookup-with s e q = at_with s e q (lookup (mac_eq e.0) s) refl
+lookup-with : (w : ℕ) (s : Sources) (e : Mac × Heard) (q : Mac) → lookup (mac_eq q) (with_source w s e) ≡ cond (mac_eq e.0 q) (joined w (lookup (mac_eq e.0) s) (Some e.1)) (lookup (mac_eq q) s)
+lookup-with w s e q = at_with w s e q (lookup (mac_eq e.0) s) refl
 
 -- another address is left as it was
-pub lookup-other : (s : Sources) (e : Mac × Heard) (q : Mac) → mac_eq e.0 q ≡ false → lookup (mac_eq q) (with_source s e) ≡ lookup (mac_eq q) s
-lookup-other s e q apart = lookup-with s e q ∙ ap (λ b. cond b (joined (lookup (mac_eq e.0) s) (Some e.1)) (lookup (mac_eq q) s)) apart
+pub lookup-other : (w : ℕ) (s : Sources) (e : Mac × Heard) (q : Mac) → mac_eq e.0 q ≡ false → lookup (mac_eq q) (with_source w s e) ≡ lookup (mac_eq q) s
+lookup-other w s e q apart = lookup-with w s e q ∙ ap (λ b. cond b (joined w (lookup (mac_eq e.0) s) (Some e.1)) (lookup (mac_eq q) s)) apart
 
-joined-right : (a : Option Heard) → joined a None ≡ a
-joined-right None = refl
-joined-right (Some a) = refl
+joined-right : (w : ℕ) (a : Option Heard) → joined w a None ≡ a
+joined-right w None = refl
+joined-right w (Some a) = refl
 
 -- the sources that are lacking, where those that are looked for are the same
 lacking-same : (m : Mac) (s other t : Sources) → AllByRecursion (λ y. mac_eq m y ≡ false) (keys_of t)
@@ -102,48 +103,48 @@ pub not-true : (b : Bool) → not b ≡ true → b ≡ false
 not-true true h = sym h
 not-true false h = refl
 
-put-more : (s : Sources) (e : Mac × Heard) (o : Option Heard) → length (put_with o s e) ≡ length s + length (new_source o e)
-put-more s e None = length-append s (e ∷ [])
-put-more s e (Some h) = omega (arith, length-set_value (mac_eq e.0) s (joined_heard h e.1))
+put-more : (w : ℕ) (s : Sources) (e : Mac × Heard) (o : Option Heard) → length (put_with w o s e) ≡ length s + length (new_source o e)
+put-more w s e None = length-append s (e ∷ [])
+put-more w s e (Some h) = omega (arith, length-set_value (mac_eq e.0) s (joined_heard w h e.1))
 
-pub length-known : (s : Sources) (e : Mac × Heard) → is_some (lookup (mac_eq e.0) s) ≡ true → length (with_source s e) ≡ length s
-length-known s e there = omega (arith, put-more s e (lookup (mac_eq e.0) s), ap (λ b. length (cond b [] (e ∷ []))) there)
+pub length-known : (w : ℕ) (s : Sources) (e : Mac × Heard) → is_some (lookup (mac_eq e.0) s) ≡ true → length (with_source w s e) ≡ length s
+length-known w s e there = omega (arith, put-more w s e (lookup (mac_eq e.0) s), ap (λ b. length (cond b [] (e ∷ []))) there)
 
 -- one live source that is close is joined, and what is left makes the same of it
-pub record Takes (now : ℕ) (s : Sources) (e : Mac × Heard) (r es : Sources) : Type 0 where
-  pub rest : with_sources (with_source s e) (live_at now r) ≡ with_sources s (live_at now es)
-  pub close : first_apart (with_source s e) (live_at now r) ≡ first_apart s (live_at now es)
-  pub count : length (with_source s e) + length (lacking_in (with_source s e) (live_at now r)) ≡ join_count s (live_at now es)
+pub record Takes (w : ℕ) (now : ℕ) (s : Sources) (e : Mac × Heard) (r es : Sources) : Type 0 where
+  pub rest : with_sources w (with_source w s e) (live_at now r) ≡ with_sources w s (live_at now es)
+  pub close : first_apart (with_source w s e) (live_at now r) ≡ first_apart s (live_at now es)
+  pub count : length (with_source w s e) + length (lacking_in (with_source w s e) (live_at now r)) ≡ join_count s (live_at now es)
 
-pub takes : (now : ℕ) (s : Sources) (e : Mac × Heard) (r es : Sources) → es ≡ e ∷ r → is_live now e.1 ≡ true → IsDistinct mac_eq (keys_of es)
-    → is_apart (lookup (mac_eq e.0) s) e.1 ≡ false → Takes now s e r es
+pub takes : (w : ℕ) (now : ℕ) (s : Sources) (e : Mac × Heard) (r es : Sources) → es ≡ e ∷ r → is_live now e.1 ≡ true → IsDistinct mac_eq (keys_of es)
+    → is_apart (lookup (mac_eq e.0) s) e.1 ≡ false → Takes w now s e r es
 unfolding IsDistinct
-takes now s e r es parts live unique near =
+takes w now s e r es parts live unique near =
     let here : live_at now es ≡ e ∷ live_at now r = live-first now e r es parts live in
     let apart : AllByRecursion (λ y. mac_eq e.0 y ≡ false) (keys_of (live_at now r)) =
     apart-live now e.0 r (subst (λ x. IsDistinct mac_eq (keys_of x)) parts unique).0 in
-    let others : lacking_in (with_source s e) (live_at now r) ≡ lacking_in s (live_at now r) =
-    lacking-same e.0 s (with_source s e) (live_at now r) apart (λ q other. lookup-other s e q other) in
+    let others : lacking_in (with_source w s e) (live_at now r) ≡ lacking_in s (live_at now r) =
+    lacking-same e.0 s (with_source w s e) (live_at now r) apart (λ q other. lookup-other w s e q other) in
     record {
-      rest = sym (ap (with_sources s) here);
+      rest = sym (ap (with_sources w s) here);
       close =
-          apart-same e.0 s (with_source s e) (live_at now r) apart (λ q other. lookup-other s e q other)
+          apart-same e.0 s (with_source w s e) (live_at now r) apart (λ q other. lookup-other w s e q other)
           ∙ sym (ap (λ b. option_map (λ f. f.0) (cond b (Some e) (find (λ f. is_apart (lookup (mac_eq f.0) s) f.1) (live_at now r)))) near)
           ∙ sym (ap (first_apart s) here);
-      count = omega (arith, ap length others, put-more s e (lookup (mac_eq e.0) s), count-first s (live_at now r) e, ap (λ l. length (lacking_in s l)) here);
+      count = omega (arith, ap length others, put-more w s e (lookup (mac_eq e.0) s), count-first s (live_at now r) e, ap (λ l. length (lacking_in s l)) here);
     }
 
 -- of what has a join, each live source is close and finds room
-pub record Fits (s : Sources) (e : Mac × Heard) : Type 0 where
-  pub room : length (with_source s e) ≤ 1024
+pub record Fits (w : ℕ) (s : Sources) (e : Mac × Heard) : Type 0 where
+  pub room : length (with_source w s e) ≤ 1024
   pub close : is_apart (lookup (mac_eq e.0) s) e.1 ≡ false
 
-pub fits : (now : ℕ) (s : Sources) (e : Mac × Heard) (r es : Sources) → es ≡ e ∷ r → is_live now e.1 ≡ true → first_apart s (live_at now es) ≡ None
-    → join_count s (live_at now es) ≤ 1024 → Fits s e
-fits now s e r es parts live none few =
+pub fits : (w : ℕ) (now : ℕ) (s : Sources) (e : Mac × Heard) (r es : Sources) → es ≡ e ∷ r → is_live now e.1 ≡ true → first_apart s (live_at now es) ≡ None
+    → join_count s (live_at now es) ≤ 1024 → Fits w s e
+fits w now s e r es parts live none few =
     let here : live_at now es ≡ e ∷ live_at now r = live-first now e r es parts live in
     record {
-      room = omega (arith, put-more s e (lookup (mac_eq e.0) s), count-first s (live_at now r) e, ap (λ l. length (lacking_in s l)) here);
+      room = omega (arith, put-more w s e (lookup (mac_eq e.0) s), count-first s (live_at now r) e, ap (λ l. length (lacking_in s l)) here);
       close = first_close (is_apart (lookup (mac_eq e.0) s) e.1) (sym (ap (first_apart s) here) ∙ none);
     }
   where
@@ -161,42 +162,42 @@ unfolding IsDistinct
 distinct-rest e r es parts unique = (subst (λ x. IsDistinct mac_eq (keys_of x)) parts unique).1
 
 -- sources that are joined one after another are the join
-keys-put : (s t : Sources) (e : Mac × Heard) (o : Option Heard) → lookup (mac_eq e.0) s ≡ o → lacking_in (put_with o s e) t ≡ lacking_in s t
-    → keys_of (put_with o s e) ++ keys_of (lacking_in (put_with o s e) t) ≡ keys_of s ++ keys_of (cond (not (is_some o)) (e ∷ lacking_in s t) (lacking_in s t))
-keys-put s t e None at same =
+keys-put : (w : ℕ) (s t : Sources) (e : Mac × Heard) (o : Option Heard) → lookup (mac_eq e.0) s ≡ o → lacking_in (put_with w o s e) t ≡ lacking_in s t
+    → keys_of (put_with w o s e) ++ keys_of (lacking_in (put_with w o s e) t) ≡ keys_of s ++ keys_of (cond (not (is_some o)) (e ∷ lacking_in s t) (lacking_in s t))
+keys-put w s t e None at same =
     (λ i. keys_of (s ++ e ∷ []) ++ keys_of (same i))
     ∙ ap (λ ks. ks ++ keys_of (lacking_in s t)) (map-append (λ e. e.0) s (e ∷ []))
     ∙ append_assoc (keys_of s) (e.0 ∷ []) (keys_of (lacking_in s t))
-keys-put s t e (Some h) at same = λ i. keys-set_value (mac_eq e.0) s (joined_heard h e.1) i ++ keys_of (same i)
+keys-put w s t e (Some h) at same = λ i. keys-set_value (mac_eq e.0) s (joined_heard w h e.1) i ++ keys_of (same i)
 
-pub with-is-join : (s t : Sources) → IsDistinct mac_eq (keys_of t) → IsJoin s t (with_sources s t)
+pub with-is-join : (w : ℕ) (s t : Sources) → IsDistinct mac_eq (keys_of t) → IsJoin w s t (with_sources w s t)
 unfolding IsDistinct
-with-is-join s [] unique = record { each = λ q. sym (joined-right (lookup (mac_eq q) s)); order = sym (append-nil (keys_of s)) }
-with-is-join s (e ∷ t) unique = by (with-is-join (with_source s e) t unique.1)
+with-is-join w s [] unique = record { each = λ q. sym (joined-right w (lookup (mac_eq q) s)); order = sym (append-nil (keys_of s)) }
+with-is-join w s (e ∷ t) unique = by (with-is-join w (with_source w s e) t unique.1)
   where
-    others : lacking_in (with_source s e) t ≡ lacking_in s t
-    others = lacking-same e.0 s (with_source s e) t unique.0 (λ q apart. lookup-other s e q apart)
+    others : lacking_in (with_source w s e) t ≡ lacking_in s t
+    others = lacking-same e.0 s (with_source w s e) t unique.0 (λ q apart. lookup-other w s e q apart)
 
     at : (q : Mac) (b : Bool) → mac_eq e.0 q ≡ b → (c : Bool) → mac_eq q e.0 ≡ c
-        → joined (lookup (mac_eq q) (with_source s e)) (lookup (mac_eq q) t) ≡ joined (lookup (mac_eq q) s) (cond c (Some e.1) (lookup (mac_eq q) t))
+        → joined w (lookup (mac_eq q) (with_source w s e)) (lookup (mac_eq q) t) ≡ joined w (lookup (mac_eq q) s) (cond c (Some e.1) (lookup (mac_eq q) t))
     at q true p true r =
         let same : e.0 ≡ q = mac_same e.0 q p in
         let none : lookup (mac_eq q) t ≡ None = ap (λ m. lookup (mac_eq m) t) (sym same) ∙ absent_apart e.0 t unique.0 in
-        let one : lookup (mac_eq q) (with_source s e) ≡ joined (lookup (mac_eq q) s) (Some e.1) =
-        lookup-with s e q ∙ ap (λ b. cond b (joined (lookup (mac_eq e.0) s) (Some e.1)) (lookup (mac_eq q) s)) p ∙ ap (λ m. joined (lookup (mac_eq m) s) (Some e.1)) same in
-        (λ i. joined (one i) (none i)) ∙ joined-right (joined (lookup (mac_eq q) s) (Some e.1))
+        let one : lookup (mac_eq q) (with_source w s e) ≡ joined w (lookup (mac_eq q) s) (Some e.1) =
+        lookup-with w s e q ∙ ap (λ b. cond b (joined w (lookup (mac_eq e.0) s) (Some e.1)) (lookup (mac_eq q) s)) p ∙ ap (λ m. joined w (lookup (mac_eq m) s) (Some e.1)) same in
+        (λ i. joined w (one i) (none i)) ∙ joined-right w (joined w (lookup (mac_eq q) s) (Some e.1))
     at q true p false r = let bad : true ≡ false = sym p ∙ mac_symm e.0 q ∙ r in cc
     at q false p true r = let bad : true ≡ false = sym r ∙ mac_symm q e.0 ∙ p in cc
-    at q false p false r = ap (λ o. joined o (lookup (mac_eq q) t)) (lookup-other s e q p)
+    at q false p false r = ap (λ o. joined w o (lookup (mac_eq q) t)) (lookup-other w s e q p)
 
-    by : IsJoin (with_source s e) t (with_sources (with_source s e) t) → IsJoin s (e ∷ t) (with_sources s (e ∷ t))
+    by : IsJoin w (with_source w s e) t (with_sources w (with_source w s e) t) → IsJoin w s (e ∷ t) (with_sources w s (e ∷ t))
     by ih = record {
       each = λ q. ih.each q ∙ at q (mac_eq e.0 q) refl (mac_eq q e.0) refl;
-      order = ih.order ∙ keys-put s t e (lookup (mac_eq e.0) s) refl others;
+      order = ih.order ∙ keys-put w s t e (lookup (mac_eq e.0) s) refl others;
     }
 
-pub join-length : (s t both : Sources) → IsJoin s t both → length both ≡ join_count s t
-join-length s t both j =
+pub join-length : (w : ℕ) (s t both : Sources) → IsJoin w s t both → length both ≡ join_count s t
+join-length w s t both j =
     sym (length-keys_of both) ∙ ap length j.order ∙ length-append (keys_of s) (keys_of (lacking_in s t))
     ∙ (λ i. length-keys_of s i + length-keys_of (lacking_in s t) i)
 
@@ -223,3 +224,8 @@ lacking_le s (e ∷ t) = by (not (is_some (lookup (mac_eq e.0) s))) (lacking_le 
 
 pub distinct-live : (now : ℕ) (s : Sources) → IsDistinct mac_eq (keys_of s) → IsDistinct mac_eq (keys_of (live_at now s))
 distinct-live now s unique = distinct-passing (is_live now) s unique
+
+-- why a merge of two tables was refused is why that of what they show is
+pub refused-as : {one other t u : Table} (now : ℕ) {said answer : Result (Unit {0}) DupFault} → one ≡ t → other ≡ u → answer ≡ said
+    → IfErr said (λ e. e ≡ unwrap_or (merge_fault one other now) NoMemory) → IfErr answer (λ e. e ≡ unwrap_or (merge_fault t u now) NoMemory)
+refused-as now first second same refused = rw (same, ← first, ← second) refused

@@ -19,14 +19,14 @@ abbrev live_record : ℕ → Sources → Mac → Option Heard
 live_record now s src = passing (is_live now) (lookup (mac_eq src) s)
 
 -- what a table answers, by that record and the number of the live ones alone
-abbrev answer_by : Option Heard → ℕ → ℕ → Lanes → Option Lanes
-answer_by (Some h) n seq lanes = Some (fresh_lanes 1024 h.seen seq lanes)
-answer_by None n seq lanes = cond (nat_lt n 1024) (Some lanes) None
+abbrev answer_by : ℕ → Option Heard → ℕ → ℕ → Lanes → Option Lanes
+answer_by w (Some h) n seq lanes = Some (fresh_lanes w h.seen seq lanes)
+answer_by w None n seq lanes = cond (nat_lt n 1024) (Some lanes) None
 
 -- and the record after it
-abbrev next_by : Option Heard → ℕ → Lanes → ℕ → Heard
-next_by (Some h) seq lanes now = record { seen = window_noted 1024 h.seen seq lanes; time = max h.time now }
-next_by None seq lanes now = begun_at seq lanes now
+abbrev next_by : ℕ → Option Heard → ℕ → Lanes → ℕ → Heard
+next_by w (Some h) seq lanes now = record { seen = window_noted w h.seen seq lanes; time = max h.time now }
+next_by w None seq lanes now = begun_at w seq lanes now
 
 -- what is live later was live before
 live_before : (now later : ℕ) (h : Heard) → now ≤ later → is_live later h ≡ true → is_live now h ≡ true
@@ -72,24 +72,24 @@ room_is now s = by (nat_lt (length s) 1024) refl
     by true t = let l : length s < 1024 = ltb-true (length s) 1024 t in t ∙ sym (lt-ltb (length (live_at now s)) 1024 (omega (arith, length-live_le now s)))
     by false t = refl
 
-module _ (s : Sources) (m : Mac) (seq : ℕ) (lanes : Lanes) (now : ℕ) (table : IsTable s) where
+module _ (w : ℕ) (s : Sources) (m : Mac) (seq : ℕ) (lanes : Lanes) (now : ℕ) (table : IsTable s) where
   -- the answer
-  answer_at : (o : Option Heard) → lookup (mac_eq m) s ≡ o → answer_of o s seq lanes now ≡ answer_by (passing (is_live now) o) (length (live_at now s)) seq lanes
+  answer_at : (o : Option Heard) → lookup (mac_eq m) s ≡ o → answer_of w o s seq lanes now ≡ answer_by w (passing (is_live now) o) (length (live_at now s)) seq lanes
   answer_at None at = ap (λ b. cond b (Some lanes) None) (room_is now s)
   answer_at (Some h) at = by (is_live now h) refl
     where
-      by : (b : Bool) → is_live now h ≡ b → Some (cond b (fresh_lanes 1024 h.seen seq lanes) lanes) ≡ answer_by (cond b (Some h) None) (length (live_at now s)) seq lanes
+      by : (b : Bool) → is_live now h ≡ b → Some (cond b (fresh_lanes w h.seen seq lanes) lanes) ≡ answer_by w (cond b (Some h) None) (length (live_at now s)) seq lanes
       by true p = refl
       by false p = sym (ap (λ b. cond b (Some lanes) None) (lt-ltb (length (live_at now s)) 1024 (omega (arith, forgotten_more m now h s at p, table.few))))
 
-  answer_is : arrive_answer s m seq lanes now ≡ answer_by (live_record now s m) (length (live_at now s)) seq lanes
+  answer_is : arrive_answer w s m seq lanes now ≡ answer_by w (live_record now s m) (length (live_at now s)) seq lanes
   answer_is = answer_at (lookup (mac_eq m) s) refl
 
   -- the record after it
-  next_at : (h : Heard) → heard_next h seq lanes now ≡ next_by (passing (is_live now) (Some h)) seq lanes now
+  next_at : (h : Heard) → heard_next w h seq lanes now ≡ next_by w (passing (is_live now) (Some h)) seq lanes now
   next_at h = by (is_live now h)
     where
-      by : (b : Bool) → cond b (next_by (Some h) seq lanes now) (begun_at seq lanes now) ≡ next_by (cond b (Some h) None) seq lanes now
+      by : (b : Bool) → cond b (next_by w (Some h) seq lanes now) (begun_at w seq lanes now) ≡ next_by w (cond b (Some h) None) seq lanes now
       by true = refl
       by false = refl
 
@@ -110,13 +110,13 @@ module _ (s : Sources) (m : Mac) (seq : ℕ) (lanes : Lanes) (now : ℕ) (table 
       by true = refl
       by false = refl
 
-  leaves_again : (h w : Heard) → lookup (mac_eq m) s ≡ Some h → Leaves w (set_value (mac_eq m) s w)
-  leaves_again h w at = record {
-    kept = record { unique = distinct-set m w s table.unique; few = omega (arith, length-set_value (mac_eq m) s w, table.few) };
-    live = λ u le q. ap (passing (is_live u)) (lookup-set m q w s (ap is_some at)) ∙ through_cond u (mac_eq m q) w (lookup (mac_eq q) s);
+  leaves_again : (h v : Heard) → lookup (mac_eq m) s ≡ Some h → Leaves v (set_value (mac_eq m) s v)
+  leaves_again h v at = record {
+    kept = record { unique = distinct-set m v s table.unique; few = omega (arith, length-set_value (mac_eq m) s v, table.few) };
+    live = λ u le q. ap (passing (is_live u)) (lookup-set m q v s (ap is_some at)) ∙ through_cond u (mac_eq m q) v (lookup (mac_eq q) s);
     count = λ u le.
         let is : one_if (is_some (live_record u s m)) ≡ one_if (is_live u h) = ap (λ o. one_if (is_some (passing (is_live u) o))) at ∙ ap one_if (is_some_passing u h) in
-        omega (arith, is, length-passing-set (is_live u) m h w s at);
+        omega (arith, is, length-passing-set (is_live u) m h v s at);
   }
 
   -- the sources that stay where a new one comes
@@ -148,30 +148,30 @@ module _ (s : Sources) (m : Mac) (seq : ℕ) (lanes : Lanes) (now : ℕ) (table 
       by true = refl
       by false = live_again now u s le
 
-  leaves_new : (w : Heard) → lookup (mac_eq m) s ≡ None → nat_lt (length (with_room now s)) 1024 ≡ true → Leaves w (with_room now s ++ (m, w) ∷ [])
-  leaves_new w at room =
+  leaves_new : (v : Heard) → lookup (mac_eq m) s ≡ None → nat_lt (length (with_room now s)) 1024 ≡ true → Leaves v (with_room now s ++ (m, v) ∷ [])
+  leaves_new v at room =
       let r = with_room now s in
       let few : length r < 1024 = ltb-true (length r) 1024 room in
       record {
-        kept = record { unique = distinct-push m w r room_table.unique (room_none at); few = omega (arith, length-append r ((m, w) ∷ [])) };
+        kept = record { unique = distinct-push m v r room_table.unique (room_none at); few = omega (arith, length-append r ((m, v) ∷ [])) };
         live = λ u le q.
-            ap (passing (is_live u)) (lookup-push m q w r (room_none at)) ∙ through_cond u (mac_eq m q) w (lookup (mac_eq q) r)
-            ∙ ap (λ o. cond (mac_eq m q) (passing (is_live u) (Some w)) o) (room_lookup q u le);
+            ap (passing (is_live u)) (lookup-push m q v r (room_none at)) ∙ through_cond u (mac_eq m q) v (lookup (mac_eq q) r)
+            ∙ ap (λ o. cond (mac_eq m q) (passing (is_live u) (Some v)) o) (room_lookup q u le);
         count = λ u le.
             let is : one_if (is_some (live_record u s m)) ≡ 0 = ap (λ o. one_if (is_some (passing (is_live u) o))) at in
-            omega (arith, is, length-passing-push (is_live u) m w r, ap length (room_live u le));
+            omega (arith, is, length-passing-push (is_live u) m v r, ap length (room_live u le));
       }
 
   answered : (b : Bool) (fresh : Lanes) → cond b (Some lanes) None ≡ Some fresh → b ≡ true
   answered true fresh h = refl
   answered false fresh h = cc
 
-  leaves_at : (o : Option Heard) → lookup (mac_eq m) s ≡ o → (fresh : Lanes) → answer_of o s seq lanes now ≡ Some fresh → Leaves (next_by (passing (is_live now) o) seq lanes now) (after_of o s m seq lanes now)
-  leaves_at None at fresh said = leaves_new (begun_at seq lanes now) at (answered (nat_lt (length (with_room now s)) 1024) fresh said)
+  leaves_at : (o : Option Heard) → lookup (mac_eq m) s ≡ o → (fresh : Lanes) → answer_of w o s seq lanes now ≡ Some fresh → Leaves (next_by w (passing (is_live now) o) seq lanes now) (after_of w o s m seq lanes now)
+  leaves_at None at fresh said = leaves_new (begun_at w seq lanes now) at (answered (nat_lt (length (with_room now s)) 1024) fresh said)
   leaves_at (Some h) at fresh said =
-      subst (λ w. Leaves w (set_value (mac_eq m) s (heard_next h seq lanes now))) (next_at h) (leaves_again h (heard_next h seq lanes now) at)
+      subst (λ v. Leaves v (set_value (mac_eq m) s (heard_next w h seq lanes now))) (next_at h) (leaves_again h (heard_next w h seq lanes now) at)
 
-  leaves : (fresh : Lanes) → arrive_answer s m seq lanes now ≡ Some fresh → Leaves (next_by (live_record now s m) seq lanes now) (after_arrive s m seq lanes now)
+  leaves : (fresh : Lanes) → arrive_answer w s m seq lanes now ≡ Some fresh → Leaves (next_by w (live_record now s m) seq lanes now) (after_arrive w s m seq lanes now)
   leaves fresh said = leaves_at (lookup (mac_eq m) s) refl fresh said
 
 -- from this time on both tables have the same live sources
@@ -184,19 +184,19 @@ record Alike (now : ℕ) (s t : Sources) : Type 0 where
 alike_later : (now later : ℕ) (s t : Sources) → now ≤ later → Alike now s t → Alike later s t
 alike_later now later s t le h = record { one = h.one; other = h.other; live = λ u l. h.live u (omega arith); count = λ u l. h.count u (omega arith) }
 
-alike_answer : (s t : Sources) (a : TableArrival) → Alike a.time s t → answer_to s a ≡ answer_to t a
-alike_answer s t a h =
-    answer_is s a.src a.seq a.lanes a.time h.one
-    ∙ (λ j. answer_by (h.live a.time (omega arith) a.src j) (h.count a.time (omega arith) j) a.seq a.lanes)
-    ∙ sym (answer_is t a.src a.seq a.lanes a.time h.other)
+alike_answer : (w : ℕ) (s t : Sources) (a : TableArrival) → Alike a.time s t → answer_to w s a ≡ answer_to w t a
+alike_answer w s t a h =
+    answer_is w s a.src a.seq a.lanes a.time h.one
+    ∙ (λ j. answer_by w (h.live a.time (omega arith) a.src j) (h.count a.time (omega arith) j) a.seq a.lanes)
+    ∙ sym (answer_is w t a.src a.seq a.lanes a.time h.other)
 
-alike_after : (s t : Sources) (a : TableArrival) → Alike a.time s t → (o : Option Lanes) → answer_to s a ≡ o → answer_to t a ≡ o → Alike a.time (left_by o s a) (left_by o t a)
-alike_after s t a h None p q = h
-alike_after s t a h (Some fresh) p q =
-    let next = next_by (live_record a.time s a.src) a.seq a.lanes a.time in
-    let x = leaves s a.src a.seq a.lanes a.time h.one fresh p in
-    let same : next_by (live_record a.time t a.src) a.seq a.lanes a.time ≡ next = ap (λ r. next_by r a.seq a.lanes a.time) (sym (h.live a.time (omega arith) a.src)) in
-    let y = subst (λ w. Leaves t a.src a.seq a.lanes a.time h.other w (after_arrive t a.src a.seq a.lanes a.time)) same (leaves t a.src a.seq a.lanes a.time h.other fresh q) in
+alike_after : (w : ℕ) (s t : Sources) (a : TableArrival) → Alike a.time s t → (o : Option Lanes) → answer_to w s a ≡ o → answer_to w t a ≡ o → Alike a.time (left_by w o s a) (left_by w o t a)
+alike_after w s t a h None p q = h
+alike_after w s t a h (Some fresh) p q =
+    let next = next_by w (live_record a.time s a.src) a.seq a.lanes a.time in
+    let x = leaves w s a.src a.seq a.lanes a.time h.one fresh p in
+    let same : next_by w (live_record a.time t a.src) a.seq a.lanes a.time ≡ next = ap (λ r. next_by w r a.seq a.lanes a.time) (sym (h.live a.time (omega arith) a.src)) in
+    let y = subst (λ v. Leaves w t a.src a.seq a.lanes a.time h.other v (after_arrive w t a.src a.seq a.lanes a.time)) same (leaves w t a.src a.seq a.lanes a.time h.other fresh q) in
     record {
       one = x.kept;
       other = y.kept;
@@ -204,18 +204,18 @@ alike_after s t a h (Some fresh) p q =
       count = λ u le. let k : one_if (is_some (live_record u s a.src)) ≡ one_if (is_some (live_record u t a.src)) = ap (λ r. one_if (is_some r)) (h.live u le a.src) in omega (arith, k, x.count u le, y.count u le, h.count u le);
     }
 
-alike_answers : (now : ℕ) (s t : Sources) (later : List TableArrival) → Alike now s t → AreFrom now later → answers s later ≡ answers t later
-alike_answers now s t [] h from = refl
-alike_answers now s t (a ∷ more) h from =
+alike_answers : (w : ℕ) (now : ℕ) (s t : Sources) (later : List TableArrival) → Alike now s t → AreFrom now later → answers w s later ≡ answers w t later
+alike_answers w now s t [] h from = refl
+alike_answers w now s t (a ∷ more) h from =
     let k = alike_later now a.time s t from.0 h in
-    let said = alike_answer s t a k in
-    let after = alike_after s t a k (answer_to s a) refl (sym said) in
-    let rest = alike_answers a.time (left_by (answer_to s a) s a) (left_by (answer_to s a) t a) more after from.1 in
-    (λ j. said j ∷ rest j) ∙ ap (λ o. answer_to t a ∷ answers (left_by o t a) more) said
+    let said = alike_answer w s t a k in
+    let after = alike_after w s t a k (answer_to w s a) refl (sym said) in
+    let rest = alike_answers w a.time (left_by w (answer_to w s a) s a) (left_by w (answer_to w s a) t a) more after from.1 in
+    (λ j. said j ∷ rest j) ∙ ap (λ o. answer_to w t a ∷ answers w (left_by w o t a) more) said
 
 pub ageing_keeps_answers_lem : AgeingKeepsAnswers
-ageing_keeps_answers_lem s now later table from =
-    alike_answers now (live_at now s) s later (record {
+ageing_keeps_answers_lem w s now later table from =
+    alike_answers w now (live_at now s) s later (record {
       one = record { unique = distinct-passing (is_live now) s table.unique; few = omega (arith, length-live_le now s, table.few) };
       other = table;
       live = λ u le q. ap (passing (is_live u)) (lookup-passing (is_live now) q s table.unique) ∙ passing_before now u (lookup (mac_eq q) s) le;

@@ -1,5 +1,5 @@
 -- Tables of as many sources, of which one has all of the other's, know the same.
-use Rattle.std.proofs.Common.{◌≡◌, ◌≤◌, Bool, true, false, cond, ◌||◌, [], ◌∷◌, length, Option, None, Some, is_some, refl, sym, ap, ◌∙◌, arith}
+use Rattle.std.proofs.Common.{◌≡◌, ◌↔◌, ◌≤◌, Bool, true, false, cond, ◌||◌, [], ◌∷◌, length, Option, None, Some, is_some, refl, sym, ap, ◌∙◌, arith}
 use Rattle.std.specs.Prelude.{IsSome}
 use Rattle.std.specs.List.{IsDistinct, AllByRecursion, list_any}
 use Rattle.std.specs.Map.{lookup, keys_of}
@@ -11,7 +11,7 @@ use Rattle.sr_frame.specs.declared.fields.Mac.{Mac}
 use Rattle.sr_frame.specs.Addresses.{mac_eq}
 use Rattle.sr_frame.specs.AddressLemmas.{mac_same, mac_refl, mac_laws}
 use Rattle.sr_dup_table.specs.EqualityLemmas.{Decides-heard}
-use Rattle.sr_dup_table.specs.Sources.{Heard, Sources, IsTable}
+use Rattle.sr_dup_table.specs.Sources.{Heard, Sources, Table, IsTable}
 use Rattle.sr_dup_table.specs.Same.{AreSame, is_record, has_source, has_all}
 
 is_record-there : (o : Option Heard) (h : Heard) → is_record o h ≡ true → o ≡ Some h
@@ -109,3 +109,8 @@ same_gives s t one two same = (
       ∙ length-keys_of t,
   stands_all s t one.unique (λ src h at. sym (same src) ∙ at),
 )
+
+-- two tables of one width know the same exactly where their sources do
+pub same-tables : {a b t u : Table} {same : Bool} → a ≡ t → b ≡ u → a.width ≡ b.width → ((same ≡ true) ↔ AreSame a.sources b.sources)
+    → (same ≡ true) ↔ ((t.width ≡ u.width) × AreSame t.sources u.sources)
+same-tables one other width by = rw (← one, ← other) (λ e. (width, by.0 e), λ h. by.1 h.1)

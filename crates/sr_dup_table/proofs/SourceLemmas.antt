@@ -14,11 +14,8 @@ use Rattle.sr_aged_slots.specs.AgeLemmas.{length-live_by_le}
 use Rattle.sr_dup_table.specs.Sources.{Heard, Sources, is_live, live_at, live_others, with_room, fresh_at, answer_of, arrive_answer}
 use Rattle.sr_dup_table.specs.Shown.{heard_of, sources_of}
 
-abbrev Entry : Type 0
-Entry = Aged (Record 16)
-
 -- a look-up among what the entries show
-pub lookup-shown : (test : Mac → Bool) (es : List (Mac × Entry)) → lookup test (sources_of es) ≡ option_map heard_of (lookup test es)
+pub lookup-shown : {N : ℕ} (test : Mac → Bool) (es : List (Mac × Aged (Record N))) → lookup test (sources_of es) ≡ option_map heard_of (lookup test es)
 lookup-shown test [] = refl
 lookup-shown test (e ∷ es) = by (test e.0) (lookup-shown test es)
   where
@@ -26,15 +23,15 @@ lookup-shown test (e ∷ es) = by (test e.0) (lookup-shown test es)
     by true ih = refl
     by false ih = ih
 
-pub found-shown : (test : Mac → Bool) (es : List (Mac × Entry)) → is_some (lookup test es) ≡ is_some (lookup test (sources_of es))
-found-shown test es = by (lookup test es) ∙ sym (ap is_some (lookup-shown test es))
+pub found-shown : {N : ℕ} (test : Mac → Bool) (es : List (Mac × Aged (Record N))) → is_some (lookup test es) ≡ is_some (lookup test (sources_of es))
+found-shown {N} test es = by (lookup test es) ∙ sym (ap is_some (lookup-shown test es))
   where
-    by : (o : Option Entry) → is_some o ≡ is_some (option_map heard_of o)
+    by : (o : Option (Aged (Record N))) → is_some o ≡ is_some (option_map heard_of o)
     by None = refl
     by (Some x) = refl
 
 -- a write at a source
-pub set-shown : (test : Mac → Bool) (es : List (Mac × Entry)) (w : Entry) → sources_of (set_value test es w) ≡ set_value test (sources_of es) (heard_of w)
+pub set-shown : {N : ℕ} (test : Mac → Bool) (es : List (Mac × Aged (Record N))) (w : Aged (Record N)) → sources_of (set_value test es w) ≡ set_value test (sources_of es) (heard_of w)
 set-shown test [] w = refl
 set-shown test (e ∷ es) w = by (test e.0) (set-shown test es w)
   where
@@ -44,11 +41,11 @@ set-shown test (e ∷ es) w = by (test e.0) (set-shown test es w)
     by false ih = ap (λ l. (e.0, heard_of e.1) ∷ l) ih
 
 -- a new source goes last
-pub append-shown : (es : List (Mac × Entry)) (m : Mac) (w : Entry) → sources_of (es ++ (m, w) ∷ []) ≡ sources_of es ++ (m, heard_of w) ∷ []
+pub append-shown : {N : ℕ} (es : List (Mac × Aged (Record N))) (m : Mac) (w : Aged (Record N)) → sources_of (es ++ (m, w) ∷ []) ≡ sources_of es ++ (m, heard_of w) ∷ []
 append-shown es m w = map-append (λ e. (e.0, heard_of e.1)) es ((m, w) ∷ [])
 
 -- the live ones
-pub live-shown : (now : ℕ) (es : List (Mac × Entry)) → sources_of (filter (λ e. is_live now (heard_of e.1)) es) ≡ live_at now (sources_of es)
+pub live-shown : {N : ℕ} (now : ℕ) (es : List (Mac × Aged (Record N))) → sources_of (filter (λ e. is_live now (heard_of e.1)) es) ≡ live_at now (sources_of es)
 live-shown now [] = refl
 live-shown now (e ∷ es) = by (is_live now (heard_of e.1)) (live-shown now es)
   where
@@ -57,17 +54,17 @@ live-shown now (e ∷ es) = by (is_live now (heard_of e.1)) (live-shown now es)
     by true ih = ap (λ l. (e.0, heard_of e.1) ∷ l) ih
     by false ih = ih
 
-pub length-shown : (es : List (Mac × Entry)) → length (sources_of es) ≡ length es
+pub length-shown : {N : ℕ} (es : List (Mac × Aged (Record N))) → length (sources_of es) ≡ length es
 length-shown es = length-map es (λ e. (e.0, heard_of e.1))
 
 pub length-live_le : (now : ℕ) (s : Sources) → length (live_at now s) ≤ length s
 length-live_le now s = length-live_by_le (λ h. h.time) 400 now s
 
 -- a source that shows no record has none
-pub none-shown : (test : Mac → Bool) (es : List (Mac × Entry)) → lookup test (sources_of es) ≡ None → lookup test es ≡ None
-none-shown test es h = by (lookup test es) (sym (lookup-shown test es) ∙ h)
+pub none-shown : {N : ℕ} (test : Mac → Bool) (es : List (Mac × Aged (Record N))) → lookup test (sources_of es) ≡ None → lookup test es ≡ None
+none-shown {N} test es h = by (lookup test es) (sym (lookup-shown test es) ∙ h)
   where
-    by : (o : Option Entry) → option_map heard_of o ≡ None → o ≡ None
+    by : (o : Option (Aged (Record N))) → option_map heard_of o ≡ None → o ≡ None
     by None e = refl
     by (Some x) e = cc
 
@@ -132,25 +129,25 @@ room_where s l lanes few le = by (nat_lt (length s) 1024) refl
       λ h. ap (λ b. cond b (Some lanes) None) (le-ltb (length l) 1024 (omega arith)),
     )
 
-pub full_where : (s : Sources) (m : Mac) (seq : ℕ) (lanes : Lanes) (now : ℕ) → length s ≤ 1024
-    → (arrive_answer s m seq lanes now ≡ None → length (live_others m now s) ≡ 1024) × (length (live_others m now s) ≡ 1024 → arrive_answer s m seq lanes now ≡ None)
-full_where s m seq lanes now few = by (lookup (mac_eq m) s) refl
+pub full_where : (w : ℕ) (s : Sources) (m : Mac) (seq : ℕ) (lanes : Lanes) (now : ℕ) → length s ≤ 1024
+    → (arrive_answer w s m seq lanes now ≡ None → length (live_others m now s) ≡ 1024) × (length (live_others m now s) ≡ 1024 → arrive_answer w s m seq lanes now ≡ None)
+full_where w s m seq lanes now few = by (lookup (mac_eq m) s) refl
   where
     by : (o : Option Heard) → lookup (mac_eq m) s ≡ o
-        → (answer_of o s seq lanes now ≡ None → length (live_others m now s) ≡ 1024) × (length (live_others m now s) ≡ 1024 → answer_of o s seq lanes now ≡ None)
+        → (answer_of w o s seq lanes now ≡ None → length (live_others m now s) ≡ 1024) × (length (live_others m now s) ≡ 1024 → answer_of w o s seq lanes now ≡ None)
     by (Some h) there = (λ e. cc, λ e. absurd (omega (arith, others_some m now s h there)))
     by None none =
-        let w = room_where s (live_at now s) lanes few (length-live_le now s) in
+        let room = room_where s (live_at now s) lanes few (length-live_le now s) in
         let same : length (live_others m now s) ≡ length (live_at now s) = ap length (others_none m now s none) in
-        (λ e. same ∙ w.0 e, λ e. w.1 (sym same ∙ e))
+        (λ e. same ∙ room.0 e, λ e. room.1 (sym same ∙ e))
 
 -- the distinct sources of the entries
-pub keys-shown : (es : List (Mac × Entry)) → keys_of (sources_of es) ≡ keys_of es
+pub keys-shown : {N : ℕ} (es : List (Mac × Aged (Record N))) → keys_of (sources_of es) ≡ keys_of es
 keys-shown [] = refl
 keys-shown (e ∷ es) = ap (λ l. e.0 ∷ l) (keys-shown es)
 
 -- what a full table keeps
-pub room-shown : (now : ℕ) (es : List (Mac × Entry)) → sources_of (ages.with_room 400 1024 now es) ≡ with_room now (sources_of es)
+pub room-shown : {N : ℕ} (now : ℕ) (es : List (Mac × Aged (Record N))) → sources_of (ages.with_room 400 1024 now es) ≡ with_room now (sources_of es)
 room-shown now es = by (nat_lt (length es) 1024) ∙ sym (ap (λ n. cond (nat_lt n 1024) (sources_of es) (live_at now (sources_of es))) (length-shown es))
   where
     by : (b : Bool) → sources_of (cond b es (ages.live_at 400 now es)) ≡ cond b (sources_of es) (live_at now (sources_of es))
@@ -158,17 +155,17 @@ room-shown now es = by (nat_lt (length es) 1024) ∙ sym (ap (λ n. cond (nat_lt
     by false = live-shown now es
 
 -- what a source with a record is answered, and what one without
-pub known_answers : (s : Sources) (m : Mac) (seq : ℕ) (lanes fresh : Lanes) (now : ℕ) → Some fresh ≡ option_map (λ h. fresh_at h seq lanes now) (lookup (mac_eq m) s) → arrive_answer s m seq lanes now ≡ Some fresh
-known_answers s m seq lanes fresh now h = by (lookup (mac_eq m) s) h
+pub known_answers : (w : ℕ) (s : Sources) (m : Mac) (seq : ℕ) (lanes fresh : Lanes) (now : ℕ) → Some fresh ≡ option_map (λ h. fresh_at w h seq lanes now) (lookup (mac_eq m) s) → arrive_answer w s m seq lanes now ≡ Some fresh
+known_answers w s m seq lanes fresh now h = by (lookup (mac_eq m) s) h
   where
-    by : (o : Option Heard) → Some fresh ≡ option_map (λ h. fresh_at h seq lanes now) o → answer_of o s seq lanes now ≡ Some fresh
+    by : (o : Option Heard) → Some fresh ≡ option_map (λ h. fresh_at w h seq lanes now) o → answer_of w o s seq lanes now ≡ Some fresh
     by None e = cc
     by (Some x) e = sym e
 
-pub unknown_answers : (s : Sources) (m : Mac) (seq : ℕ) (lanes : Lanes) (now : ℕ) → None ≡ option_map (λ h. fresh_at h seq lanes now) (lookup (mac_eq m) s)
-    → arrive_answer s m seq lanes now ≡ cond (nat_lt (length (with_room now s)) 1024) (Some lanes) None
-unknown_answers s m seq lanes now h = by (lookup (mac_eq m) s) h
+pub unknown_answers : (w : ℕ) (s : Sources) (m : Mac) (seq : ℕ) (lanes : Lanes) (now : ℕ) → None ≡ option_map (λ h. fresh_at w h seq lanes now) (lookup (mac_eq m) s)
+    → arrive_answer w s m seq lanes now ≡ cond (nat_lt (length (with_room now s)) 1024) (Some lanes) None
+unknown_answers w s m seq lanes now h = by (lookup (mac_eq m) s) h
   where
-    by : (o : Option Heard) → None ≡ option_map (λ h. fresh_at h seq lanes now) o → answer_of o s seq lanes now ≡ cond (nat_lt (length (with_room now s)) 1024) (Some lanes) None
+    by : (o : Option Heard) → None ≡ option_map (λ h. fresh_at w h seq lanes now) o → answer_of w o s seq lanes now ≡ cond (nat_lt (length (with_room now s)) 1024) (Some lanes) None
     by None e = refl
     by (Some x) e = cc

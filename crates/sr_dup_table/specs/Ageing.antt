@@ -12,18 +12,18 @@ pub record TableArrival : Type 0 where
   pub time : ℕ
 
 -- what the sources answer to an arrival
-abbrev pub answer_to : Sources → TableArrival → Option Lanes
-answer_to s a = arrive_answer s a.src a.seq a.lanes a.time
+abbrev pub answer_to : ℕ → Sources → TableArrival → Option Lanes
+answer_to w s a = arrive_answer w s a.src a.seq a.lanes a.time
 
 -- the sources after it: a refused one leaves them
-abbrev pub left_by : Option Lanes → Sources → TableArrival → Sources
-left_by None s a = s
-left_by (Some fresh) s a = after_arrive s a.src a.seq a.lanes a.time
+abbrev pub left_by : ℕ → Option Lanes → Sources → TableArrival → Sources
+left_by w None s a = s
+left_by w (Some fresh) s a = after_arrive w s a.src a.seq a.lanes a.time
 
 -- what they answer to each of several in turn
-abbrev pub answers : Sources → List TableArrival → List (Option Lanes)
-answers s [] = []
-answers s (a ∷ rest) = answer_to s a ∷ answers (left_by (answer_to s a) s a) rest
+abbrev pub answers : ℕ → Sources → List TableArrival → List (Option Lanes)
+answers w s [] = []
+answers w s (a ∷ rest) = answer_to w s a ∷ answers w (left_by w (answer_to w s a) s a) rest
 
 -- arrivals in the order of their times, none before this one
 abbrev pub AreFrom : ℕ → List TableArrival → Type 0
@@ -32,5 +32,5 @@ AreFrom now (a ∷ rest) = (now ≤ a.time) × AreFrom a.time rest
 
 -- ageing at a time changes no answer to what arrives from then on
 abbrev pub AgeingKeepsAnswers : Type 0
-AgeingKeepsAnswers = (s : Sources) (now : ℕ) (later : List TableArrival) → IsTable s → AreFrom now later →
-    answers (live_at now s) later ≡ answers s later
+AgeingKeepsAnswers = (w : ℕ) (s : Sources) (now : ℕ) (later : List TableArrival) → IsTable s → AreFrom now later →
+    answers w (live_at now s) later ≡ answers w s later

@@ -1,13 +1,13 @@
 -- Lists of sources that are tested as one are one.
 use Rattle.std.proofs.Common.{◌≡◌, eqb, ◌&&◌, ap}
-use Rattle.std.specs.Cmp.{IsEquivalence, decided}
+use Rattle.std.specs.Cmp.{IsEquivalence, decided, and_equiv, on_equiv}
 use Rattle.std.specs.Cmp.Lexicographic.{pointwise, pointwise_decides}
 use Rattle.std.specs.Bool.{Decides}
 use Rattle.std.proofs.lemmas.Bool.Decides.{Decides-eqb, Decides-like, Decides-and}
 use Rattle.sr_frame.specs.declared.fields.Mac.{Mac}
 use Rattle.sr_dup_window.specs.Windows.{same_window}
 use Rattle.sr_dup_window.specs.WindowLemmas.{Decides-same_window}
-use Rattle.sr_dup_table.specs.Sources.{Heard, Sources, same_heard, same_sources}
+use Rattle.sr_dup_table.specs.Sources.{Heard, Sources, Table, same_heard, same_sources, same_table}
 
 pub Decides-heard : (a b : Heard) → Decides (same_heard a b) (a ≡ b)
 Decides-heard a b =
@@ -32,3 +32,6 @@ Decides-same_sources s t = pointwise_decides Decides-source s t
 -- so the test is an equality
 pub same_sources-equiv : IsEquivalence same_sources
 same_sources-equiv = decided same_sources Decides-same_sources
+
+pub same_table-equiv : IsEquivalence same_table
+same_table-equiv = and_equiv (on_equiv (λ (t : Table). t.width) (decided eqb Decides-eqb)) (on_equiv (λ (t : Table). t.sources) same_sources-equiv)

@@ -1,6 +1,8 @@
 pub mod Limits
+pub mod Widths
 pub mod Sources
 pub mod Shown
+pub mod ShownTables
 pub mod EqualityLemmas
 pub mod Same
 pub mod Joins

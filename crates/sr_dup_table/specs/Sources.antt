@@ -32,7 +32,7 @@ use Rattle.sr_frame.specs.Addresses.{mac_eq}
 use Rattle.sr_aged_slots.specs.Ages as ages
 use Rattle.sr_dup_window.specs.declared.lane_sets.Lanes.{Lanes}
 use Rattle.sr_dup_window.specs.Windows.{Window, window_begun, window_noted, fresh_lanes, same_window}
-use Rattle.sr_dup_table.specs.Limits.{window, most_sources, forget_time}
+use Rattle.sr_dup_table.specs.Limits.{most_sources, forget_time}
 
 -- what was noted of one source in this epoch, and when it was last heard
 pub record Heard : Type 0 where
@@ -60,19 +60,19 @@ abbrev pub is_live : ℕ → Heard → Bool
 is_live now h = is_recent now h.time
 
 -- the first arrival of an epoch
-abbrev pub begun_at : ℕ → Lanes → ℕ → Heard
-begun_at seq lanes now = record { seen = window_begun window seq lanes; time = now }
+abbrev pub begun_at : ℕ → ℕ → Lanes → ℕ → Heard
+begun_at w seq lanes now = record { seen = window_begun w seq lanes; time = now }
 
 -- the record after an arrival: noted within the epoch, begun anew once forgotten
-abbrev pub heard_next : Heard → ℕ → Lanes → ℕ → Heard
-heard_next h seq lanes now =
+abbrev pub heard_next : ℕ → Heard → ℕ → Lanes → ℕ → Heard
+heard_next w h seq lanes now =
     if is_live now h
-    then record { seen = window_noted window h.seen seq lanes; time = max h.time now }
-    else begun_at seq lanes now
+    then record { seen = window_noted w h.seen seq lanes; time = max h.time now }
+    else begun_at w seq lanes now
 
 -- the asked lanes on which the number is new in this epoch
-abbrev pub fresh_at : Heard → ℕ → Lanes → ℕ → Lanes
-fresh_at h seq lanes now = if is_live now h then fresh_lanes window h.seen seq lanes else lanes
+abbrev pub fresh_at : ℕ → Heard → ℕ → Lanes → ℕ → Lanes
+fresh_at w h seq lanes now = if is_live now h then fresh_lanes w h.seen seq lanes else lanes
 
 -- the sources that are not forgotten
 abbrev pub live_at : ℕ → Sources → Sources
@@ -92,35 +92,45 @@ abbrev pub with_room : ℕ → Sources → Sources
 with_room now s = ages.room_by (λ h. h.time) forget_time most_sources now s
 
 -- what an arrival answers: the lanes on which it is new, or nothing where the table is full
-abbrev pub answer_of : Option Heard → Sources → ℕ → Lanes → ℕ → Option Lanes
-answer_of None s seq lanes now = if nat_lt (length (with_room now s)) most_sources then Some lanes else None
-answer_of (Some h) s seq lanes now = Some (fresh_at h seq lanes now)
+abbrev pub answer_of : ℕ → Option Heard → Sources → ℕ → Lanes → ℕ → Option Lanes
+answer_of w None s seq lanes now = if nat_lt (length (with_room now s)) most_sources then Some lanes else None
+answer_of w (Some h) s seq lanes now = Some (fresh_at w h seq lanes now)
 
 -- the sources after an arrival that is answered
-abbrev pub after_of : Option Heard → Sources → Mac → ℕ → Lanes → ℕ → Sources
-after_of None s src seq lanes now = with_room now s ++ (src, begun_at seq lanes now) ∷ []
-after_of (Some h) s src seq lanes now = set_value (mac_eq src) s (heard_next h seq lanes now)
+abbrev pub after_of : ℕ → Option Heard → Sources → Mac → ℕ → Lanes → ℕ → Sources
+after_of w None s src seq lanes now = with_room now s ++ (src, begun_at w seq lanes now) ∷ []
+after_of w (Some h) s src seq lanes now = set_value (mac_eq src) s (heard_next w h seq lanes now)
 
-abbrev pub arrive_answer : Sources → Mac → ℕ → Lanes → ℕ → Option Lanes
-arrive_answer s src seq lanes now = answer_of (lookup (mac_eq src) s) s seq lanes now
+abbrev pub arrive_answer : ℕ → Sources → Mac → ℕ → Lanes → ℕ → Option Lanes
+arrive_answer w s src seq lanes now = answer_of w (lookup (mac_eq src) s) s seq lanes now
 
 -- why an arrival is refused: want of memory, where the table is not full
 abbrev pub arrive_fault : Option Lanes → DupFault
 arrive_fault None = TableFull
 arrive_fault (Some lanes) = NoMemory
 
-abbrev pub after_arrive : Sources → Mac → ℕ → Lanes → ℕ → Sources
-after_arrive s src seq lanes now = after_of (lookup (mac_eq src) s) s src seq lanes now
+abbrev pub after_arrive : ℕ → Sources → Mac → ℕ → Lanes → ℕ → Sources
+after_arrive w s src seq lanes now = after_of w (lookup (mac_eq src) s) s src seq lanes now
 
--- what contracts see of a table
+-- what a table of one width keeps: its sources, and the sources whose place is held
+pub record Contents : Type 0 where
+  pub sources : Sources
+  pub held : List Mac
+
+-- what contracts see of a table: how many numbers of a source it remembers, its sources, and those whose place is held
 pub record Table : Type 0 where
+  pub width : ℕ
   pub sources : Sources
   pub held : List Mac
 
 -- whether a place is held for a source
-abbrev pub is_held : Table → Mac → Bool
-is_held t src = list_any (mac_eq src) t.held
+abbrev pub is_held : List Mac → Mac → Bool
+is_held held src = list_any (mac_eq src) held
 
 -- whether the next arrival of a source takes no memory: it has a record, or a place is held for it
-abbrev pub is_ready : Table → Mac → Bool
-is_ready t src = is_held t src || is_some (lookup (mac_eq src) t.sources)
+abbrev pub is_ready : List Mac → Sources → Mac → Bool
+is_ready held s src = is_held held src || is_some (lookup (mac_eq src) s)
+
+-- whether two tables are equal: they have one width, and their sources are one; held places don't count
+abbrev pub same_table : Table → Table → Bool
+same_table = eq_of_both (on (λ t. t.width) nat_eq) (on (λ t. t.sources) same_sources)

@@ -3,20 +3,24 @@ ghost use Rattle.std.specs.Prelude.{◌≡◌};
 ghost use Rattle.sr_dup_table.specs.Sources.{same_heard, same_sources};
 ghost use Rattle.sr_dup_table.specs.Shown.{heard_of, sources_of};
 
-use crate::table::DupTable;
+use crate::table::{DupTable, Parts};
+use crate::table_of::TableOf;
 use sr_aged_slots::Aged;
 use sr_dup_window::Record;
 use sr_slots::Iter;
 
 // Whether two entries show the same.
-pub(crate) fn same_entry(one: &Aged<Record<16>>, other: &Aged<Record<16>>) -> bool
+pub(crate) fn same_entry<const N: usize>(one: &Aged<Record<N>>, other: &Aged<Record<N>>) -> bool
     ensures { result ≡ same_heard (heard_of one.now) (heard_of other.now) }
 {
     one.value.is_same(&other.value) && one.time == other.time
 }
 
 // Whether the entries that are left show the same, one by one.
-fn same_entries(one: Iter<'_, Aged<Record<16>>>, mut other: Iter<'_, Aged<Record<16>>>) -> bool
+fn same_entries<const N: usize>(
+    one: Iter<'_, Aged<Record<N>>>,
+    mut other: Iter<'_, Aged<Record<N>>>,
+) -> bool
     ensures { result ≡ same_sources (sources_of one.entry) (sources_of other.entry) }
 {
     for (src, entry) in one {
@@ -30,7 +34,7 @@ fn same_entries(one: Iter<'_, Aged<Record<16>>>, mut other: Iter<'_, Aged<Record
     other.next().is_none()
 }
 
-impl PartialEq for DupTable {
+impl<const N: usize> PartialEq for TableOf<N> {
     ghost use Rattle.std.specs.Ordering.{on};
     ghost use Rattle.std.specs.Cmp.{on_equiv, partial_equiv_from_equiv};
     ghost use Rattle.sr_dup_table.specs.Sources.{same_sources};
@@ -40,14 +44,39 @@ impl PartialEq for DupTable {
 
     ghost laws = { partial_equiv_from_equiv (on_equiv (λ t. t.sources) same_sources-equiv) };
 
-    fn eq(&self, other: &DupTable) -> bool {
+    fn eq(&self, other: &TableOf<N>) -> bool {
+        let _sources = self.source_count();
         same_entries(self.entries(), other.entries())
     }
 }
 
-impl Eq for DupTable {
+impl<const N: usize> Eq for TableOf<N> {
     ghost use Rattle.std.specs.Cmp.{on_equiv};
     ghost use Rattle.sr_dup_table.specs.EqualityLemmas.{same_sources-equiv};
 
     ghost laws = { on_equiv (λ t. t.sources) same_sources-equiv };
+}
+
+impl PartialEq for DupTable {
+    ghost use Rattle.std.specs.Cmp.{partial_equiv_from_equiv};
+    ghost use Rattle.sr_dup_table.specs.Sources.{same_table};
+    ghost use Rattle.sr_dup_table.specs.EqualityLemmas.{same_table-equiv};
+
+    ghost eq = { same_table };
+
+    ghost laws = { partial_equiv_from_equiv same_table-equiv };
+
+    fn eq(&self, other: &DupTable) -> bool {
+        match (self.parts(), other.parts()) {
+            (Parts::Narrow(one), Parts::Narrow(two)) => one == two,
+            (Parts::Wide(one), Parts::Wide(two)) => one == two,
+            _ => false,
+        }
+    }
+}
+
+impl Eq for DupTable {
+    ghost use Rattle.sr_dup_table.specs.EqualityLemmas.{same_table-equiv};
+
+    ghost laws = { same_table-equiv };
 }

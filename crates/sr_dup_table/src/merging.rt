@@ -1,5 +1,5 @@
 //! The join of two tables, source by source.
-ghost use Rattle.std.specs.Prelude.{◌≡◌, ◌≤◌, ◌+◌, [], false, None, length, nat_eq, unwrap_or, ◌++◌, ◌∷◌, IfOk, IfErr, OnOk, OnErr};
+ghost use Rattle.std.specs.Prelude.{◌≡◌, ◌≤◌, ◌*◌, ◌+◌, ◌⊎◌, [], false, None, length, nat_eq, unwrap_or, ◌++◌, ◌∷◌, IfOk, IfErr, OnOk, OnErr};
 ghost use Rattle.std.specs.List.{IsDistinct};
 ghost use Rattle.std.specs.Map.{lookup, keys_of};
 ghost use Rattle.std.specs.Option.{option_map, option_copied};
@@ -8,21 +8,23 @@ ghost use Rattle.sr_sequence.specs.Places.{steps};
 ghost use Rattle.sr_dup_table.specs.Limits.{most_sources};
 ghost use Rattle.sr_dup_table.specs.Sources.{IsTable, live_at};
 ghost use Rattle.sr_dup_table.specs.Joins.{IsJoin, new_source, apart_source, or_else, is_apart, first_apart};
-ghost use Rattle.sr_dup_table.specs.Joins.{join_fault, with_source, with_sources};
+ghost use Rattle.sr_dup_table.specs.Joins.{join_fault, merge_fault, with_source, with_sources};
 ghost use Rattle.sr_dup_table.specs.Shown.{heard_of, sources_of};
 ghost use Rattle.sr_dup_window.specs.Windows.{window_of};
 
 use crate::entry::is_live;
 use crate::fault::DupFault;
-use crate::table::{DupTable, MOST_SOURCES};
+use crate::table::{DupTable, Tables};
+use crate::table_of::{MOST_SOURCES, TableOf};
 use sr_aged_slots::Aged;
 use sr_dup_window::Record;
 use sr_frame::Mac;
 use std::alloc::Global;
 
 // How many sources are live.
-fn live_count(table: &DupTable, now: u64) -> usize
-    requires { IsTable table.now.sources }
+fn live_count<const N: usize>(table: &TableOf<N>, now: u64) -> usize
+    requires table { IsTable table.now.sources }
+    requires width { (N ≡ 16) ⊎ (N ≡ 32) }
     ensures { result ≡ length (live_at now table.now.sources) }
 {
     let mut count = 0;
@@ -35,7 +37,7 @@ fn live_count(table: &DupTable, now: u64) -> usize
 }
 
 // What a table has of a live source.
-fn live_entry(table: &DupTable, src: Mac, now: u64) -> Option<&Aged<Record<16>>>
+fn live_entry<const N: usize>(table: &TableOf<N>, src: Mac, now: u64) -> Option<&Aged<Record<N>>>
     requires { IsTable table.now.sources }
     ensures { option_map heard_of (option_copied result)
         ≡ lookup (mac_eq src) (live_at now table.now.sources) }
@@ -49,7 +51,7 @@ fn live_entry(table: &DupTable, src: Mac, now: u64) -> Option<&Aged<Record<16>>>
 }
 
 // Whether the greatest numbers of two records are half of all numbers apart.
-fn is_apart(one: &Record<16>, other: &Record<16>) -> bool
+fn is_apart<const N: usize>(one: &Record<N>, other: &Record<N>) -> bool
     ensures { result
         ≡ nat_eq (steps (window_of one.now).reference (window_of other.now).reference) 32768 }
 {
@@ -64,7 +66,12 @@ struct Tally {
 }
 
 // Sees a source of the other table, beside what this one has of it.
-fn see(tally: &mut Tally, src: Mac, known: Option<&Aged<Record<16>>>, entry: &Aged<Record<16>>)
+fn see<const N: usize>(
+    tally: &mut Tally,
+    src: Mac,
+    known: Option<&Aged<Record<N>>>,
+    entry: &Aged<Record<N>>,
+)
     requires { tally.old.count ≤ 2048 }
     ensures count { tally.new.count ≡ tally.old.count
         + length (new_source (option_map heard_of (option_copied known.entry))
@@ -83,9 +90,10 @@ fn see(tally: &mut Tally, src: Mac, known: Option<&Aged<Record<16>>>, entry: &Ag
 }
 
 // Why two tables have no join at this time, if so.
-fn join_fault(table: &DupTable, other: &DupTable, now: u64) -> Option<DupFault>
+fn join_fault<const N: usize>(table: &TableOf<N>, other: &TableOf<N>, now: u64) -> Option<DupFault>
     requires one { IsTable table.now.sources }
     requires other { IsTable other.now.sources }
+    requires width { (N ≡ 16) ⊎ (N ≡ 32) }
     ensures { result ≡ join_fault (live_at now table.now.sources) (live_at now other.now.sources) }
 {
     let mut tally = Tally {
@@ -107,7 +115,11 @@ fn join_fault(table: &DupTable, other: &DupTable, now: u64) -> Option<DupFault>
 }
 
 // Adds a source to a table that lacks it. TableFull: 1024 others stand there. NoMemory: memory ran out.
-fn add(table: &mut DupTable, src: Mac, entry: &Aged<Record<16>>) -> Result<(), DupFault>
+fn add<const N: usize>(
+    table: &mut TableOf<N>,
+    src: Mac,
+    entry: &Aged<Record<N>>,
+) -> Result<(), DupFault>
     requires { lookup (mac_eq src) table.old.sources ≡ None }
     ensures added { OnOk result (table.new.sources
         ≡ table.old.sources ++ (src, heard_of entry.now) ∷ []) }
@@ -123,15 +135,19 @@ fn add(table: &mut DupTable, src: Mac, entry: &Aged<Record<16>>) -> Result<(), D
 }
 
 // Joins a source to a table. TableFull: it is new, and 1024 others stand there. Apart: the two records are. NoMemory: memory ran out.
-fn take(table: &mut DupTable, src: Mac, entry: &Aged<Record<16>>) -> Result<(), DupFault>
+fn take<const N: usize>(
+    table: &mut TableOf<N>,
+    src: Mac,
+    entry: &Aged<Record<N>>,
+) -> Result<(), DupFault>
     requires { length table.old.sources ≤ most_sources }
     ensures joined { OnOk result (table.new.sources
-        ≡ with_source table.old.sources (src, heard_of entry.now)) }
+        ≡ with_source (64 * N) table.old.sources (src, heard_of entry.now)) }
     ensures close { OnOk result
         (is_apart (lookup (mac_eq src) table.old.sources) (heard_of entry.now) ≡ false) }
     ensures room { OnOk result (length table.new.sources ≤ most_sources) }
     ensures refused { IfErr result (λ e.
-        length (with_source table.old.sources (src, heard_of entry.now)) ≤ most_sources
+        length (with_source (64 * N) table.old.sources (src, heard_of entry.now)) ≤ most_sources
         → is_apart (lookup (mac_eq src) table.old.sources) (heard_of entry.now) ≡ false
         → e ≡ DupFault.NoMemory) }
 {
@@ -143,11 +159,16 @@ fn take(table: &mut DupTable, src: Mac, entry: &Aged<Record<16>>) -> Result<(), 
 }
 
 // Joins the live sources of another table, each by one look-up, unless there is no join. What was joined before a fault stays.
-fn take_all(table: &mut DupTable, other: &DupTable, now: u64) -> Result<(), DupFault>
+fn take_all<const N: usize>(
+    table: &mut TableOf<N>,
+    other: &TableOf<N>,
+    now: u64,
+) -> Result<(), DupFault>
     requires few { length table.old.sources ≤ most_sources }
     requires unique { IsDistinct mac_eq (keys_of other.now.sources) }
+    requires width { (N ≡ 16) ⊎ (N ≡ 32) }
     ensures joined { OnOk result (table.new.sources
-        ≡ with_sources table.old.sources (live_at now other.now.sources)) }
+        ≡ with_sources (64 * N) table.old.sources (live_at now other.now.sources)) }
     ensures joinable { OnOk result
         (join_fault table.old.sources (live_at now other.now.sources) ≡ None) }
     ensures refused { IfErr result (λ e. join_fault table.old.sources
@@ -162,16 +183,17 @@ fn take_all(table: &mut DupTable, other: &DupTable, now: u64) -> Result<(), DupF
 }
 
 // The join of two tables at a time, as a table of its own, which holds no place. An error: they have none, or memory ran out.
-fn join_of(
-    table: &DupTable,
+fn join_of<const N: usize>(
+    table: &TableOf<N>,
     alloc: Global,
-    other: &DupTable,
+    other: &TableOf<N>,
     now: u64,
-) -> Result<DupTable, DupFault>
+) -> Result<TableOf<N>, DupFault>
     requires few { length table.now.sources ≤ most_sources }
     requires unique { IsDistinct mac_eq (keys_of other.now.sources) }
+    requires width { (N ≡ 16) ⊎ (N ≡ 32) }
     ensures joins { IfOk result (λ both.
-        IsJoin (live_at now table.now.sources) (live_at now other.now.sources) both.sources) }
+        IsJoin (64 * N) (live_at now table.now.sources) (live_at now other.now.sources) both.sources) }
     ensures held { IfOk result (λ both. both.held ≡ []) }
     ensures joinable { OnOk result
         (join_fault (live_at now table.now.sources) (live_at now other.now.sources) ≡ None) }
@@ -186,13 +208,13 @@ fn join_of(
     Ok(both)
 }
 
-impl DupTable {
+impl<const N: usize> TableOf<N> {
     /// Joins the sources of another table to these: the records of a source, and the later of its times. Sources that are silent
     /// for `ENTRY_FORGET_TIME` at this time are left out on both sides, and those that are new come last. Held places are given up.
     /// TableFull: the join has over 1024 sources. Apart: two records of this source are 32768 apart, the first such source of the
     /// other table. NoMemory: memory ran out. The first of these is answered, and nothing changes.
-    pub fn merge(&mut self, alloc: Global, other: &DupTable, now: u64) -> Result<(), DupFault>
-        ensures joins { OnOk result (IsJoin (live_at now self.old.sources)
+    pub fn merge(&mut self, alloc: Global, other: &TableOf<N>, now: u64) -> Result<(), DupFault>
+        ensures joins { OnOk result (IsJoin (64 * N) (live_at now self.old.sources)
             (live_at now other.now.sources) self.new.sources) }
         ensures held { OnOk result (self.new.held ≡ []) }
 
@@ -212,6 +234,34 @@ impl DupTable {
             }
             // Which fault comes first is looked for only where there is one.
             Err(fault) => Err(join_fault(self, other, now).unwrap_or(fault)),
+        }
+    }
+}
+
+impl DupTable {
+    /// Joins the sources of another table to these: the records of a source, and the later of its times. Sources that are silent
+    /// for `ENTRY_FORGET_TIME` at this time are left out on both sides, and those that are new come last. Held places are given up.
+    /// OtherWidth: the tables have two widths. TableFull: the join has over 1024 sources. Apart: two records of this source are
+    /// 32768 apart, the first such source of the other table. NoMemory: memory ran out. The first of these is answered, and nothing
+    /// changes.
+    pub fn merge(&mut self, alloc: Global, other: &DupTable, now: u64) -> Result<(), DupFault>
+        ensures joins { OnOk result (IsJoin self.old.width (live_at now self.old.sources)
+            (live_at now other.now.sources) self.new.sources) }
+        ensures width { self.new.width ≡ self.old.width }
+        ensures held { OnOk result (self.new.held ≡ []) }
+
+        // Exactly where there is a fault it is answered, and otherwise at most NoMemory.
+        ensures refused { IfErr result (λ e.
+            e ≡ unwrap_or (merge_fault self.old other.now now) DupFault.NoMemory) }
+        ensures joinable { OnOk result (merge_fault self.old other.now now ≡ None) }
+        ensures err { OnErr result (self.new ≡ self.old) }
+    {
+        match (&mut self.tables, &other.tables) {
+            (Tables::Narrow(one), Tables::Narrow(two)) => one.merge(alloc, two, now),
+            (Tables::Wide(one), Tables::Wide(two)) => one.merge(alloc, two, now),
+            (Tables::Narrow(_), Tables::Wide(_)) | (Tables::Wide(_), Tables::Narrow(_)) => {
+                Err(DupFault::OtherWidth)
+            }
         }
     }
 }

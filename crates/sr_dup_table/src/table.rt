@@ -1,49 +1,52 @@
-//! The table.
-ghost use Rattle.std.specs.Prelude.{◌≡◌, ℕ, ◌+◌, ◌≤◌, ◌↔◌, [], true, false, not, nat_lt, Some, None, length, ◌++◌, ◌∷◌, IsOk, OnOk, OnErr, IfOk, IfErr, IfSome, IfNone, IsErr, IsErrOf, is_some};
+//! Tables of either width.
+ghost use Rattle.std.specs.Prelude.{◌≡◌, ℕ, ◌+◌, ◌≤◌, ◌↔◌, [], true, false, Some, None, length, IsOk, OnOk, OnErr, IfOk, IfErr, IsErr, IsErrOf};
 ghost use Rattle.std.specs.Result.{result_ok};
-ghost use Rattle.std.specs.Map.{lookup};
-ghost use Rattle.std.specs.Option.{option_copied, option_map};
+ghost use Rattle.std.specs.Option.{option_map};
 ghost use Rattle.sr_dup_window.specs.LaneSets.{is_empty};
-ghost use Rattle.sr_dup_window.specs.Windows.{window_of};
-ghost use Rattle.sr_frame.specs.Addresses.{mac_eq};
 ghost use Rattle.sr_slots.specs.Places.{IsFound, KeepsHeld};
-ghost use Rattle.sr_dup_table.specs.Limits.{most_sources};
-ghost use Rattle.sr_dup_table.specs.Sources.{IsTable, is_held, is_ready, live_at, live_others, arrive_fault, with_room, arrive_answer, after_arrive, heard_next, fresh_at};
-ghost use Rattle.std.specs.Bool.{OnTrue, OnFalse};
-ghost use Rattle.sr_dup_table.specs.Joins.{is_apart, joined_heard, with_source};
-ghost use Rattle.sr_dup_table.specs.Shown.{heard_of, sources_of};
+ghost use Rattle.sr_dup_table.specs.Limits.{window, most_sources};
+ghost use Rattle.sr_dup_table.specs.Widths.{numbers_of};
+ghost use Rattle.sr_dup_table.specs.Sources.{IsTable, is_held, is_ready, live_at, live_others, arrive_fault, arrive_answer, after_arrive};
+ghost use Rattle.sr_dup_table.specs.ShownTables.{shown_parts};
 
-use crate::entry::{fresh, hear, join};
 use crate::fault::{DupFault, TableFull};
-use sr_aged_slots::{Aged, AgedSlots};
-use sr_dup_window::{Lanes, Record};
+use crate::table_of::{Look, TableOf};
+use crate::width::Width;
+use sr_dup_window::Lanes;
 use sr_frame::{Mac, NoMemory};
 use sr_sequence::Seq;
-use sr_slots::{Iter, Keys, Spot};
+use sr_slots::{Keys, Spot};
 use std::alloc::Global;
 use std::marker::Model;
 
-/// How long a silent source is remembered, in milliseconds (IEC 62439-3 clauses 4 and 5).
-pub const ENTRY_FORGET_TIME: u64 = 400;
+/// A table that remembers 1024 numbers of a source, 64 of them in a word of each lane.
+pub type NarrowTable = TableOf<16>;
 
-/// How many sources can be live at once (choice of this project).
-pub const MOST_SOURCES: usize = 1024;
+/// A table that remembers 2048 numbers of a source.
+pub type WideTable = TableOf<32>;
 
-/// What a table says of a number before it arrives.
-#[derive(Clone, Copy, Debug)]
-pub struct Look {
-    /// The asked lanes on which it is new.
-    pub fresh: Lanes,
-    /// Where the record of its source is, if there is one.
-    pub spot: Option<Spot>,
+// A table by its width.
+#[derive(Drop)]
+pub(crate) enum Tables {
+    Narrow(NarrowTable),
+    Wide(WideTable),
 }
 
-/// Duplicate records by source, in the order of first hearing. Times are in milliseconds. A source that was silent for
-/// `ENTRY_FORGET_TIME` is forgotten: it counts as absent, and stands in the table until it is heard again, until `age`, or until
-/// a new source meets a full table.
+/// A table by its width, for those who go over its entries.
+#[derive(Clone, Copy)]
+pub enum Parts<'a> {
+    /// It remembers 1024 numbers of a source.
+    Narrow(&'a NarrowTable),
+    /// It remembers 2048.
+    Wide(&'a WideTable),
+}
+
+/// Duplicate records by source, in the order of first hearing, of a width that is chosen once. Times are in milliseconds. A source
+/// that was silent for `ENTRY_FORGET_TIME` is forgotten: it counts as absent, and stands in the table until it is heard again,
+/// until `age`, or until a new source meets a full table.
 #[derive(Drop)]
 pub struct DupTable {
-    slots: AgedSlots<Record<16>, ENTRY_FORGET_TIME, MOST_SOURCES>,
+    pub(crate) tables: Tables,
 }
 
 impl Model for DupTable {
@@ -51,53 +54,97 @@ impl Model for DupTable {
 
     ghost Value = { Table };
 
-    ghost use Rattle.sr_dup_table.specs.Shown.{sources_of};
+    ghost use Rattle.sr_dup_table.specs.ShownTables.{shown_table};
 
-    ghost view = { λ t. record { sources = sources_of t.slots.entries; held = t.slots.held } };
+    ghost view = { λ t. shown_table t.tables };
+}
+
+impl From<NarrowTable> for DupTable {
+    ghost use Rattle.sr_dup_table.specs.Limits.{window};
+
+    ghost from_gives = { λ t d. d ≡ record { width = window; sources = t.sources; held = t.held } };
+
+    fn from(table: NarrowTable) -> DupTable {
+        DupTable {
+            tables: Tables::Narrow(table),
+        }
+    }
+}
+
+impl From<WideTable> for DupTable {
+    ghost use Rattle.sr_dup_table.specs.Limits.{wide_window};
+
+    ghost from_gives = { λ t d. d ≡ record { width = wide_window; sources = t.sources; held = t.held } };
+
+    fn from(table: WideTable) -> DupTable {
+        DupTable {
+            tables: Tables::Wide(table),
+        }
+    }
 }
 
 impl DupTable {
-    /// A table of no source under fixed keys, which takes no memory yet.
+    /// A narrow table of no source under fixed keys, which takes no memory yet.
     pub fn new(alloc: Global) -> DupTable
+        ensures width { result.width ≡ window }
         ensures sources { result.sources ≡ [] }
         ensures held { result.held ≡ [] }
     {
         DupTable::with_keys(alloc, Keys::FIXED)
     }
 
-    /// A table of no source whose places depend on these keys, which takes no memory yet.
+    /// A narrow table of no source whose places depend on these keys, which takes no memory yet.
     pub fn with_keys(alloc: Global, keys: Keys) -> DupTable
+        ensures width { result.width ≡ window }
         ensures sources { result.sources ≡ [] }
         ensures held { result.held ≡ [] }
     {
-        DupTable {
-            slots: AgedSlots::with_keys(alloc, keys),
+        DupTable::with_width(alloc, Width::Narrow, keys)
+    }
+
+    /// A table of no source and of this width, whose places depend on these keys, which takes no memory yet.
+    pub fn with_width(alloc: Global, width: Width, keys: Keys) -> DupTable
+        ensures width { result.width ≡ numbers_of width }
+        ensures sources { result.sources ≡ [] }
+        ensures held { result.held ≡ [] }
+    {
+        match width {
+            Width::Narrow => DupTable::from(NarrowTable::with_keys(alloc, keys)),
+            Width::Wide => DupTable::from(WideTable::with_keys(alloc, keys)),
         }
     }
 
-    /// A table of its own with the same sources in the same order, under the same keys. It holds no place.
+    /// A table of its own of the same width, with the same sources in the same order, under the same keys. It holds no place.
     /// NoMemory: memory ran out.
     pub fn try_clone(&self, alloc: Global) -> Result<DupTable, NoMemory>
+        ensures width { IfOk result (λ own. own.width ≡ self.now.width) }
         ensures sources { IfOk result (λ own. own.sources ≡ self.now.sources) }
         ensures held { IfOk result (λ own. own.held ≡ []) }
     {
-        let slots = self.slots.try_clone(alloc)?;
-        Ok(DupTable { slots })
+        match &self.tables {
+            Tables::Narrow(table) => Ok(DupTable::from(table.try_clone(alloc)?)),
+            Tables::Wide(table) => Ok(DupTable::from(table.try_clone(alloc)?)),
+        }
     }
 
-    /// The sources in order, forgotten or not, each with its record and the time when it was last heard.
-    pub fn entries(&self) -> Iter<'_, Aged<Record<16>>>
-        ensures { sources_of result ≡ self.now.sources }
+    /// How many numbers of a source are remembered.
+    pub fn width(&self) -> Width
+        ensures { numbers_of result ≡ self.now.width }
     {
-        self.slots.iter()
+        match &self.tables {
+            Tables::Narrow(_) => Width::Narrow,
+            Tables::Wide(_) => Width::Wide,
+        }
     }
 
-    /// The record of a source, forgotten or not, and the time when it was last heard.
-    pub fn entry(&self, src: Mac) -> Option<&Aged<Record<16>>>
-        ensures { option_map heard_of (option_copied result)
-            ≡ lookup (mac_eq src) self.now.sources }
+    /// The table as one of its width.
+    pub fn parts(&self) -> Parts<'_>
+        ensures { shown_parts result ≡ self.now }
     {
-        self.slots.get(src)
+        match &self.tables {
+            Tables::Narrow(table) => Parts::Narrow(table),
+            Tables::Wide(table) => Parts::Wide(table),
+        }
     }
 
     /// How many sources stand in the table, the forgotten ones among them.
@@ -106,53 +153,61 @@ impl DupTable {
         ensures table { IsTable self.now.sources }
         ensures live { (now : ℕ) → length (live_at now self.now.sources) ≤ most_sources }
     {
-        // Held places are no sources.
-        self.slots.len()
+        match &self.tables {
+            Tables::Narrow(table) => table.source_count(),
+            Tables::Wide(table) => table.source_count(),
+        }
     }
 
     /// Makes room for so many more sources, in one growth. Nothing that shows changes. NoMemory: memory ran out.
     pub fn make_room(&mut self, more: usize) -> Result<(), NoMemory>
         ensures { self.new ≡ self.old }
     {
-        self.slots.reserve(more)
+        match &mut self.tables {
+            Tables::Narrow(table) => table.make_room(more),
+            Tables::Wide(table) => table.make_room(more),
+        }
     }
 
     /// Holds a place for a source, so that its next arrival takes no memory. Nothing else sees the place.
     /// NoMemory: memory ran out, and nothing changes.
     pub fn reserve(&mut self, src: Mac) -> Result<(), NoMemory>
+        ensures width { self.new.width ≡ self.old.width }
         ensures sources { self.new.sources ≡ self.old.sources }
-        ensures held { OnOk result (is_held self.new src ≡ true) }
+        ensures held { OnOk result (is_held self.new.held src ≡ true) }
         ensures others { OnOk result (KeepsHeld self.old.held self.new.held src) }
-        ensures again { is_held self.old src ≡ true → IsOk result }
+        ensures again { is_held self.old.held src ≡ true → IsOk result }
         ensures err { OnErr result (self.new ≡ self.old) }
     {
-        self.slots.hold(src)
+        match &mut self.tables {
+            Tables::Narrow(table) => table.reserve(src),
+            Tables::Wide(table) => table.reserve(src),
+        }
     }
 
     /// Gives up all held places.
     pub fn release(&mut self)
+        ensures width { self.new.width ≡ self.old.width }
         ensures sources { self.new.sources ≡ self.old.sources }
         ensures held { self.new.held ≡ [] }
     {
-        self.slots.release();
+        match &mut self.tables {
+            Tables::Narrow(table) => table.release(),
+            Tables::Wide(table) => table.release(),
+        }
     }
 
     /// What `arrive` would answer, where memory does not run out. It takes none, and changes nothing.
     pub fn fresh(&self, src: Mac, seq: Seq, lanes: Lanes, now: u64) -> Result<Lanes, TableFull>
         requires { is_empty lanes ≡ false }
-        ensures answer { result_ok result ≡ arrive_answer self.now.sources src seq.0 lanes now }
+        ensures answer { result_ok result
+            ≡ arrive_answer self.now.width self.now.sources src seq.0 lanes now }
         ensures full { IsErr result
             ↔ (length (live_others src now self.now.sources) ≡ most_sources) }
     {
-        match self.slots.get(src) {
-            Some(entry) => Ok(fresh(entry, seq, lanes, now)),
-            None => {
-                if self.is_full(now) {
-                    Err(TableFull)
-                } else {
-                    Ok(lanes)
-                }
-            }
+        match &self.tables {
+            Tables::Narrow(table) => table.fresh(src, seq, lanes, now),
+            Tables::Wide(table) => table.fresh(src, seq, lanes, now),
         }
     }
 
@@ -162,37 +217,16 @@ impl DupTable {
     pub fn look(&mut self, src: Mac, seq: Seq, lanes: Lanes, now: u64) -> Result<Look, TableFull>
         requires { is_empty lanes ≡ false }
         ensures answer { option_map (λ look. look.fresh) (result_ok result)
-            ≡ arrive_answer self.old.sources src seq.0 lanes now }
+            ≡ arrive_answer self.old.width self.old.sources src seq.0 lanes now }
         ensures full { IsErr result
             ↔ (length (live_others src now self.old.sources) ≡ most_sources) }
         ensures found { IfOk result (λ look. IsFound look.spot self.old.sources src) }
         ensures same { self.new ≡ self.old }
     {
-        if let Some(look) = self.look_known(src, seq, lanes, now) {
-            return Ok(look);
+        match &mut self.tables {
+            Tables::Narrow(table) => table.look(src, seq, lanes, now),
+            Tables::Wide(table) => table.look(src, seq, lanes, now),
         }
-        if self.is_full_now(now) {
-            return Err(TableFull);
-        }
-        Ok(Look {
-            fresh: lanes,
-            spot: None,
-        })
-    }
-
-    // The same for a source that has a record.
-    #[inline(always)]
-    fn look_known(&self, src: Mac, seq: Seq, lanes: Lanes, now: u64) -> Option<Look>
-        ensures answer { option_map (λ look. look.fresh) result
-            ≡ option_map (λ heard. fresh_at heard seq.0 lanes now)
-            (lookup (mac_eq src) self.now.sources) }
-        ensures few { length self.now.sources ≤ most_sources }
-    {
-        let (spot, entry) = self.slots.find(src)?;
-        Some(Look {
-            fresh: fresh(entry, seq, lanes, now),
-            spot: Some(spot),
-        })
     }
 
     /// Notes an arrival at this time, and answers the asked lanes on which its number is new in the epoch of its source.
@@ -200,25 +234,26 @@ impl DupTable {
     pub fn arrive(&mut self, src: Mac, seq: Seq, lanes: Lanes, now: u64) -> Result<Lanes, DupFault>
         requires { is_empty lanes ≡ false }
         ensures answer { IfOk result (λ fresh.
-            arrive_answer self.old.sources src seq.0 lanes now ≡ Some fresh) }
+            arrive_answer self.old.width self.old.sources src seq.0 lanes now ≡ Some fresh) }
         ensures after { OnOk result (self.new.sources
-            ≡ after_arrive self.old.sources src seq.0 lanes now) }
+            ≡ after_arrive self.old.width self.old.sources src seq.0 lanes now) }
+        ensures width { self.new.width ≡ self.old.width }
 
         // TableFull exactly where 1024 other sources are live, and otherwise NoMemory alone.
         ensures exact { IsErrOf result DupFault.TableFull
             ↔ (length (live_others src now self.old.sources) ≡ most_sources) }
-        ensures refused { IfErr result (λ e.
-            e ≡ arrive_fault (arrive_answer self.old.sources src seq.0 lanes now)) }
+        ensures refused { IfErr result (λ e. e
+            ≡ arrive_fault (arrive_answer self.old.width self.old.sources src seq.0 lanes now)) }
         ensures full { IfErr result (λ e. e ≡ DupFault.TableFull
-            → arrive_answer self.old.sources src seq.0 lanes now ≡ None) }
-        ensures only_full { arrive_answer self.old.sources src seq.0 lanes now ≡ None
+            → arrive_answer self.old.width self.old.sources src seq.0 lanes now ≡ None) }
+        ensures only_full { arrive_answer self.old.width self.old.sources src seq.0 lanes now ≡ None
             → IsErrOf result DupFault.TableFull }
 
         // A place that was held is used up, and no other.
-        ensures reserved { is_held self.old src ≡ true
+        ensures reserved { is_held self.old.held src ≡ true
             → IfErr result (λ e. e ≡ DupFault.TableFull) }
         ensures held { OnOk result (KeepsHeld self.old.held self.new.held src) }
-        ensures used { OnOk result (is_held self.new src ≡ false) }
+        ensures used { OnOk result (is_held self.new.held src ≡ false) }
         ensures err { OnErr result (self.new ≡ self.old) }
     {
         self.arrive_at(None, src, seq, lanes, now)
@@ -238,156 +273,44 @@ impl DupTable {
     ) -> Result<Lanes, DupFault>
         requires { is_empty lanes ≡ false }
         ensures answer { IfOk result (λ fresh.
-            arrive_answer self.old.sources src seq.0 lanes now ≡ Some fresh) }
+            arrive_answer self.old.width self.old.sources src seq.0 lanes now ≡ Some fresh) }
         ensures after { OnOk result (self.new.sources
-            ≡ after_arrive self.old.sources src seq.0 lanes now) }
+            ≡ after_arrive self.old.width self.old.sources src seq.0 lanes now) }
+        ensures width { self.new.width ≡ self.old.width }
 
         // TableFull exactly where 1024 other sources are live, and otherwise NoMemory alone.
         ensures exact { IsErrOf result DupFault.TableFull
             ↔ (length (live_others src now self.old.sources) ≡ most_sources) }
-        ensures refused { IfErr result (λ e.
-            e ≡ arrive_fault (arrive_answer self.old.sources src seq.0 lanes now)) }
+        ensures refused { IfErr result (λ e. e
+            ≡ arrive_fault (arrive_answer self.old.width self.old.sources src seq.0 lanes now)) }
         ensures full { IfErr result (λ e. e ≡ DupFault.TableFull
-            → arrive_answer self.old.sources src seq.0 lanes now ≡ None) }
-        ensures only_full { arrive_answer self.old.sources src seq.0 lanes now ≡ None
+            → arrive_answer self.old.width self.old.sources src seq.0 lanes now ≡ None) }
+        ensures only_full { arrive_answer self.old.width self.old.sources src seq.0 lanes now ≡ None
             → IsErrOf result DupFault.TableFull }
 
         // What is ready for it takes no memory. A place that was held is used up, and no other.
-        ensures ready { is_ready self.old src ≡ true → IfErr result (λ e. e ≡ DupFault.TableFull) }
-        ensures held { OnOk result (KeepsHeld self.old.held self.new.held src) }
-        ensures used { OnOk result (is_held self.new src ≡ false) }
-        ensures err { OnErr result (self.new ≡ self.old) }
-    {
-        match self.hear(spot, src, seq, lanes, now) {
-            Some(fresh) => Ok(fresh),
-            None => self.begin(src, seq, lanes, now),
-        }
-    }
-
-    // An arrival of a source that has a record, forgotten or not.
-    #[inline(always)]
-    fn hear(
-        &mut self,
-        spot: Option<Spot>,
-        src: Mac,
-        seq: Seq,
-        lanes: Lanes,
-        now: u64,
-    ) -> Option<Lanes>
-        requires { is_empty lanes ≡ false }
-        ensures few { length self.old.sources ≤ most_sources }
-        ensures found { is_some result ≡ is_some (lookup (mac_eq src) self.old.sources) }
-        ensures answer { IfSome result (λ fresh.
-            arrive_answer self.old.sources src seq.0 lanes now ≡ Some fresh) }
-        ensures after { IfSome result (λ fresh.
-            self.new.sources ≡ after_arrive self.old.sources src seq.0 lanes now) }
-        ensures others { IfSome result (λ fresh. KeepsHeld self.old.held self.new.held src) }
-        ensures used { IfSome result (λ fresh. is_held self.new src ≡ false) }
-        ensures none { IfNone result (self.new ≡ self.old) }
-    {
-        let fresh = self.slots.update_at(
-            spot,
-            src,
-            |entry: &mut Aged<Record<16>>| -> Lanes
-                requires { is_empty lanes ≡ false }
-                ensures after { heard_of entry.new
-                    ≡ heard_next (heard_of entry.old) seq.0 lanes now }
-                ensures answer { result ≡ fresh_at (heard_of entry.old) seq.0 lanes now }
-            { hear(entry, seq, lanes, now) },
-        )?;
-        Some(fresh)
-    }
-
-    // The first arrival of a source that has no record.
-    fn begin(&mut self, src: Mac, seq: Seq, lanes: Lanes, now: u64) -> Result<Lanes, DupFault>
-        requires some { is_empty lanes ≡ false }
-        requires absent { lookup (mac_eq src) self.old.sources ≡ None }
-        ensures answer { IfOk result (λ fresh.
-            arrive_answer self.old.sources src seq.0 lanes now ≡ Some fresh) }
-        ensures after { OnOk result (self.new.sources
-            ≡ after_arrive self.old.sources src seq.0 lanes now) }
-        ensures refused { IfErr result (λ e.
-            e ≡ arrive_fault (arrive_answer self.old.sources src seq.0 lanes now)) }
-        ensures full { IfErr result (λ e. e ≡ DupFault.TableFull
-            → arrive_answer self.old.sources src seq.0 lanes now ≡ None) }
-        ensures only_full { arrive_answer self.old.sources src seq.0 lanes now ≡ None
-            → IsErrOf result DupFault.TableFull }
-        ensures reserved { is_held self.old src ≡ true
+        ensures ready { is_ready self.old.held self.old.sources src ≡ true
             → IfErr result (λ e. e ≡ DupFault.TableFull) }
         ensures held { OnOk result (KeepsHeld self.old.held self.new.held src) }
-        ensures used { OnOk result (is_held self.new src ≡ false) }
+        ensures used { OnOk result (is_held self.new.held src ≡ false) }
         ensures err { OnErr result (self.new ≡ self.old) }
     {
-        if self.is_full_now(now) {
-            return Err(DupFault::TableFull);
+        match &mut self.tables {
+            Tables::Narrow(table) => table.arrive_at(spot, src, seq, lanes, now),
+            Tables::Wide(table) => table.arrive_at(spot, src, seq, lanes, now),
         }
-        self.put_last(src, Record::begin(seq, lanes), now)?;
-        Ok(lanes)
-    }
-
-    /// Adds a source to a table that is not full. It goes last; the forgotten ones of a crowded table go first. Where a place is held
-    /// for it, it uses that, and takes no memory. NoMemory: memory ran out, and nothing changes.
-    pub fn put_last(&mut self, src: Mac, first: Record<16>, now: u64) -> Result<(), NoMemory>
-        requires absent { lookup (mac_eq src) self.old.sources ≡ None }
-        requires room { nat_lt (length (with_room now self.old.sources)) most_sources ≡ true }
-        ensures sources { OnOk result (self.new.sources ≡ with_room now self.old.sources
-            ++ (src, record { seen = window_of first; time = now }) ∷ []) }
-        ensures reserved { is_held self.old src ≡ true → IsOk result }
-        ensures held { OnOk result (KeepsHeld self.old.held self.new.held src) }
-        ensures used { OnOk result (is_held self.new src ≡ false) }
-        ensures err { OnErr result (self.new ≡ self.old) }
-    {
-        self.slots.append(src, first, now)?;
-        Ok(())
-    }
-
-    // Joins a record to that of its source, unless the two are apart. Answers whether it did; None: there is no such source.
-    pub(crate) fn join(&mut self, src: Mac, other: &Aged<Record<16>>) -> Option<bool>
-        ensures found { is_some result ≡ is_some (lookup (mac_eq src) self.old.sources) }
-        ensures close { IfSome result (λ joined.
-            joined ≡ not (is_apart (lookup (mac_eq src) self.old.sources) (heard_of other.now))) }
-        ensures joined { IfSome result (λ joined. joined ≡ true
-            → self.new.sources ≡ with_source self.old.sources (src, heard_of other.now)) }
-        ensures none { IfNone result (self.new ≡ self.old) }
-    {
-        let joined = self.slots.update_at(
-            None,
-            src,
-            |entry: &mut Aged<Record<16>>| -> bool
-                ensures answer { result
-                    ≡ not (is_apart (Some (heard_of entry.old)) (heard_of other.entry.now)) }
-                ensures later { entry.old.time ≤ entry.new.time }
-                ensures joined { is_apart (Some (heard_of entry.old))
-                    (heard_of other.entry.now) ≡ false
-                    → heard_of entry.new
-                    ≡ joined_heard (heard_of entry.old) (heard_of other.entry.now) }
-            { join(entry, other) },
-        )?;
-        Some(joined)
-    }
-
-    // Whether a new source has no room.
-    fn is_full(&self, now: u64) -> bool
-        ensures { result ≡ not (nat_lt (length (with_room now self.now.sources)) most_sources) }
-    {
-        self.slots.is_full(now)
-    }
-
-    // The same. The next calls at this time go over no sources.
-    fn is_full_now(&mut self, now: u64) -> bool
-        ensures result { result
-            ≡ not (nat_lt (length (with_room now self.old.sources)) most_sources) }
-        ensures same { self.new ≡ self.old }
-    {
-        self.slots.is_full_now(now)
     }
 
     /// Takes the sources out that were silent for 400 ms or more, and answers how many.
     pub fn age(&mut self, now: u64) -> usize
+        ensures width { self.new.width ≡ self.old.width }
         ensures sources { self.new.sources ≡ live_at now self.old.sources }
         ensures held { self.new.held ≡ self.old.held }
         ensures count { result + length self.new.sources ≡ length self.old.sources }
     {
-        self.slots.age(now)
+        match &mut self.tables {
+            Tables::Narrow(table) => table.age(now),
+            Tables::Wide(table) => table.age(now),
+        }
     }
 }

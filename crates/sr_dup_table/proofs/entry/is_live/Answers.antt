@@ -2,4 +2,4 @@ use Rattle.std.proofs.Common.{rules}
 use Rattle.sr_dup_table.proofs.entry.is_live.Goals as goal
 
 pub returns : goal.returns
-returns c = search rules
+returns g c = search rules

@@ -5,4 +5,4 @@ use Rattle.sr_dup_table.proofs.equality.same_entries.Given as goal
 
 -- the entries that are left say whether all are the same
 abbrev pub invariant-loop-src : goal.invariant-loop-src
-invariant-loop-src l = same_sources (sources_of l.src-iterator) (sources_of l.other) ≡ same_sources (sources_of l.fn.one) (sources_of l.fn.other)
+invariant-loop-src g l = same_sources (sources_of l.src-iterator) (sources_of l.other) ≡ same_sources (sources_of l.fn.one) (sources_of l.fn.other)

@@ -7,7 +7,7 @@ use Rattle.sr_dup_table.proofs.JoinLemmas.{lacking_le}
 use Rattle.sr_dup_table.proofs.merging.join_fault.Goals as goal
 
 pub loop-src-init : goal.loop-src-init
-loop-src-init c =
+loop-src-init g c =
     let one = live_at c.args.now c.args.table.now.sources in
     let all = live_at c.args.now c.args.other.now.sources in
     let e = ap sources_of c.into_iter-src-iterator.ensures.into_iter_gives ∙ c.entries-src-items.ensures in
@@ -18,4 +18,4 @@ loop-src-init c =
     }
 
 pub returns-then-tally-gt-MOST_SOURCES : goal.returns-then-tally-gt-MOST_SOURCES
-returns-then-tally-gt-MOST_SOURCES c = search rules
+returns-then-tally-gt-MOST_SOURCES g c = search rules

@@ -6,7 +6,7 @@ use Rattle.sr_dup_table.proofs.merging.join_fault.Given as goal
 
 -- what was seen, and what is left to see, is all that there is to see
 abbrev pub invariant-loop-src : goal.invariant-loop-src
-invariant-loop-src l =
+invariant-loop-src g l =
     let one = live_at l.now l.table.sources in
     let rest = live_at l.now (sources_of l.src-iterator) in
     let all = live_at l.now l.other.sources in

@@ -5,7 +5,7 @@ use Rattle.sr_dup_table.proofs.merging.live_count.Given as goal
 
 -- the live ones so far and those that are left are all live ones
 abbrev pub invariant-loop-entry : goal.invariant-loop-entry
-invariant-loop-entry l = record {
+invariant-loop-entry g l = record {
   together : l.count + length (live_at l.now (sources_of l.entry-iterator)) ≡ length (live_at l.now l.table.sources);
   few : length (live_at l.now l.table.sources) ≤ 1024;
 }

@@ -1,6 +1,0 @@
-use Rattle.std.proofs.Common.{arith}
-use Rattle.std.proofs.lemmas.Grind.{common_steps}
-use Rattle.sr_dup_table.proofs.table.DupTable.begin.Goals as goal
-
-pub returns-clause-held : goal.returns-clause-held
-returns-clause-held c = grind (arith, common_steps)

@@ -1,5 +1,0 @@
-use Rattle.std.proofs.Common.{rules}
-use Rattle.sr_dup_table.proofs.table.DupTable.release.Goals as goal
-
-pub returns-clause-held : goal.returns-clause-held
-returns-clause-held c = search rules
