@@ -394,6 +394,21 @@ def failed_allocations(root):
             yield path, text.count("\n", 0, found.start()) + 1, f"says `{found[0]}` for a failed allocation"
 
 
+LEANING = re.compile(r"^\s*(//[/!]?|--) (The same|and|And)\b")
+COMMENT = re.compile(r"^\s*(//|--)")
+
+
+def leaning_comments(root):
+    """A comment says what it is about: tools show it alone, so none begins with `The same` or `and`."""
+    for folder in ("src", "specs", "proofs"):
+        for path in sorted(root.glob(f"crates/*/{folder}/**/*.*t")):
+            is_behind = False
+            for number, line in numbered(path):
+                if LEANING.match(line) and not is_behind:
+                    yield path, number, "a comment leans on the one above: it begins with `The same` or `and`"
+                is_behind = bool(COMMENT.match(line))
+
+
 def decision_keys(root):
     """Each entry of docs/DECISIONS.md has a key of its own, and each key that a document or a source names is there."""
     page = root / "docs/DECISIONS.md"
@@ -428,6 +443,7 @@ RULES = [
     long_readme,
     untold_laws,
     failed_allocations,
+    leaning_comments,
     decision_keys,
 ]
 

@@ -255,6 +255,15 @@ class Lint(unittest.TestCase):
         for text in ["an allocation failed", "where an allocation fails", "a refused event", "growths come first", "takes memory"]:
             self.assertEqual(self.findings({"docs/ONE.md": text + "\n"}), [], text)
 
+    def test_leaning_comments(self):
+        source = "crates/sr_one/src/one.rt"
+        told = [f"{source}:2: a comment leans on the one above: it begins with `The same` or `and`"]
+        for text in ["/// The same, of two.", "    // and so on", "//! And this."]:
+            self.assertEqual(self.findings({source: f"\n{text}\n"}), told, text)
+        for text in ["/// One of two lines,\n/// and the other.", "/// Android.", "-- the same octets", "let same = 1; // The same."]:
+            self.assertEqual(self.findings({source: f"\n{text}\n"}), [], text)
+        self.assertEqual(len(self.findings({"crates/sr_one/specs/One.antt": "\n-- and more\n"})), 1)
+
     def test_decision_keys(self):
         page = "docs/DECISIONS.md"
         entry = "**D-one-name.** One name.\n"

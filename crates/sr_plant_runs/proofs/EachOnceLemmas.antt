@@ -1,11 +1,11 @@
 -- In an unbroken network each frame is handed up exactly once.
 use Rattle.std.proofs.Common.{ℕ, ◌<◌, length, refl, sym, subst, arith}
 use Rattle.sr_frame.specs.declared.ports.Port.TheVariants.{A}
-use Rattle.sr_plant_laws.specs.LanLaws.{LanRun, HasWholeCopy, LansHandUpOnce, LansHandUpTheIdeal, LansLoseNothing}
+use Rattle.sr_plant_laws.specs.LanLaws.{HasWholeCopy, LansHandUpOnce, LansHandUpTheIdeal, LansLoseNothing}
 use Rattle.sr_plant_laws.specs.Ledger.{made_in}
 use Rattle.sr_plant_laws.specs.PlantEvents.{done_in}
 use Rattle.sr_plant_laws.specs.PlantEvents as law
-use Rattle.sr_plant_laws.specs.RingLaws.{RingRun, HasWholeArc, RingHandsUpOnce, RingHandsUpTheIdeal, RingLosesNothing}
+use Rattle.sr_plant_laws.specs.RingLaws.{HasWholeArc, RingHandsUpOnce, RingHandsUpTheIdeal, RingLosesNothing}
 use Rattle.sr_plant_laws.specs.RingParts.{Way, IsWhole}
 use Rattle.sr_plant_laws.specs.Rings.{ring, ring_part}
 use Rattle.sr_plant_laws.specs.TwinLans.{twin_lans, other_members, in_lan_a, in_lan_b}
@@ -14,7 +14,7 @@ use Rattle.sr_plant.specs.declared.topology.Topology.TheVariants.{Ring, TwinLan}
 use Rattle.sr_plant_runs.specs.Histories.{mac_at, in_mode_x}
 use Rattle.sr_plant_runs.specs.Once.{HandsUpEachOnce}
 use Rattle.sr_plant_runs.proofs.FrameLemmas.{address_at}
-use Rattle.sr_plant_runs.proofs.HistoryRunLemmas.{run_told, made, have_tables, members_of, routed_of, sound_of, history_of}
+use Rattle.sr_plant_runs.proofs.HistoryRunLemmas.{run_told, ring_premises, lan_premises, history_of}
 use Rattle.sr_plant_runs.proofs.OnceLemmas.{each_once}
 use Rattle.sr_plant_runs.proofs.RefusalLemmas.{unrefused}
 use Rattle.sr_plant_runs.proofs.TableLemmas.{lanes_of}
@@ -24,16 +24,10 @@ pub rings_each_once : RingHandsUpTheIdeal → RingHandsUpOnce → RingLosesNothi
 rings_each_once ideal once loses starts turns s run own limits whole none j role ps at there =
     let n = length starts in
     let r = run_told Ring starts own turns s run in
-    let happened : RingRun (length starts) r.history r.plant = record {
-      run = r.run;
-      members = members_of Ring starts (done_in r.history) r.good;
-      routed = routed_of Ring starts (done_in r.history) r.good;
-      sound = sound_of Ring starts (done_in r.history) r.good;
-    } in
-    let tables = have_tables Ring starts own turns s (made Ring starts turns s run) run r in
-    let all = loses n (mac_at starts) (in_mode_x starts) lanes_of r.history r.plant (record { happened = happened; tables = tables; limits = r.limits limits }) ((history_of Ring starts turns s run r).quiet none) in
-    let up = each_once starts turns j ps (done_in r.history) r.sends (ideal n r.history r.plant happened j)
-    (once n (mac_at starts) (in_mode_x starts) lanes_of r.history r.plant (record { happened = happened; tables = tables; limits = r.limits limits }) j) (r.like.up j ps there) in
+    let premises = ring_premises starts own turns s run r limits in
+    let all = loses n (mac_at starts) (in_mode_x starts) lanes_of r.history r.plant premises ((history_of Ring starts turns s run r).quiet none) in
+    let up = each_once starts turns j ps (done_in r.history) r.sends (ideal n r.history r.plant premises.happened j)
+    (once n (mac_at starts) (in_mode_x starts) lanes_of r.history r.plant premises j) (r.like.up j ps there) in
     let kept = loses_nothing Ring starts turns s run r.history r.plant r.run r.told whole (unrefused Ring starts turns s run own) in (
       up.0,
       up.1,
@@ -50,16 +44,10 @@ pub lans_each_once : LansHandUpTheIdeal → LansHandUpOnce → LansLoseNothing �
 lans_each_once ideal once loses starts turns s run own limits whole none j role ps at there =
     let n = length starts in
     let r = run_told TwinLan starts own turns s run in
-    let happened : LanRun (length starts) r.history r.plant = record {
-      run = r.run;
-      members = members_of TwinLan starts (done_in r.history) r.good;
-      routed = routed_of TwinLan starts (done_in r.history) r.good;
-      sound = sound_of TwinLan starts (done_in r.history) r.good;
-    } in
-    let tables = have_tables TwinLan starts own turns s (made TwinLan starts turns s run) run r in
-    let all = loses n (mac_at starts) (in_mode_x starts) lanes_of r.history r.plant (record { happened = happened; tables = tables; limits = r.limits limits }) ((history_of TwinLan starts turns s run r).quiet none) in
-    let up = each_once starts turns j ps (done_in r.history) r.sends (ideal n r.history r.plant happened j)
-    (once n (mac_at starts) (in_mode_x starts) lanes_of r.history r.plant (record { happened = happened; tables = tables; limits = r.limits limits }) j) (r.like.up j ps there) in
+    let premises = lan_premises starts own turns s run r limits in
+    let all = loses n (mac_at starts) (in_mode_x starts) lanes_of r.history r.plant premises ((history_of TwinLan starts turns s run r).quiet none) in
+    let up = each_once starts turns j ps (done_in r.history) r.sends (ideal n r.history r.plant premises.happened j)
+    (once n (mac_at starts) (in_mode_x starts) lanes_of r.history r.plant premises j) (r.like.up j ps there) in
     let kept = loses_nothing TwinLan starts turns s run r.history r.plant r.run r.told whole (unrefused TwinLan starts turns s run own) in (
       up.0,
       up.1,

@@ -1,5 +1,5 @@
 -- What happens at one node in a run of a plant is a run of the node.
-use Rattle.std.proofs.Common.{◌≡◌, ◌⊎◌, inl, inr, ℕ, zero, suc, ◌==◌, ℤ, Bool, true, false, List, [], ◌∷◌, ◌++◌, length, map, Some, slice_get, slice_set, refl, sym, ap, subst, ◌∙◌}
+use Rattle.std.proofs.Common.{◌≡◌, ◌⊎◌, inl, inr, ℕ, zero, suc, ◌==◌, ℤ, List, [], ◌∷◌, ◌++◌, length, map, Some, slice_get, slice_set, refl, sym, ap, subst, ◌∙◌}
 use Rattle.std.specs.Prelude.{if◌then◌else◌}
 use Rattle.std.proofs.lemmas.Bool.{eq-eqb}
 use Rattle.std.proofs.lemmas.List.{append-nil}
@@ -24,7 +24,7 @@ use Rattle.sr_plant.specs.Plants.{Plant}
 use Rattle.sr_plant.specs.Steps.{emptied, Acts, Comes, IsLost, PlantStep, without}
 use Rattle.sr_plant_runs.specs.PlantRuns.{Turn, PlantRun}
 use Rattle.sr_plant_runs.specs.NodeTurns.{acted_turns, carried_turns, event_turns, node_turns, NodesRun, NodesPutOutOnce}
-use Rattle.sr_plant_runs.proofs.CopyLemmas.{got_once, where_set}
+use Rattle.sr_plant_runs.proofs.CopyLemmas.{where_set}
 
 -- a node's run that leads to its state, in which nothing waits
 record RunsTo (start : Start) (turns : List runs.Turn) (m : State) : Type 0 where

@@ -182,7 +182,7 @@ open_all net es p f none q = by (made_in net q f (law.turns es)) refl
     by zero e = inl e
     by (suc n) e = inr (λ same. let l = none.lost q f in omega (arith, e, same, l))
 
--- and an arc leads from each node to each other
+-- an arc leads from each node to each other
 module _ (n : ℕ) (f : Frame) (ts : List PlantTurn) (free : (q : Place) → IsOpen (ring n) f ts q) where
   up : (gap i j : ℕ) → i + gap + 1 ≡ j → j < n → IsWhole (ring n) (ring_part n) f ts onward i gap j
   up zero i j e less =
