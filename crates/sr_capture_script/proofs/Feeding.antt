@@ -15,7 +15,7 @@ use Rattle.sr_capture_script.specs.declared.choice.Inlet.{Inlet}
 use Rattle.sr_capture_script.specs.declared.flaws.Flaw.{Flaw}
 use Rattle.sr_capture_script.specs.declared.flaws.Flaw.TheVariants as flaw
 use Rattle.sr_capture_script.specs.declared.flaws.FlawCounts.{FlawCounts}
-use Rattle.sr_capture_script.specs.Flaws.{flaw_of, is_flaw, tally, tallied, counted, latest, backs, goes_back, with_back}
+use Rattle.sr_capture_script.specs.Flaws.{flaw_of, is_flaw, tally, tallied, counted, latest_time, backs, goes_back, with_back}
 use Rattle.sr_capture_script.specs.Items.{Item, moment_of, items_from, items_of}
 use Rattle.sr_capture_script.specs.Sources.{Progress, last_moment, IsDue, Feeds, GoesOn, IsUntaken, IsStuck, IsFaulty}
 use Rattle.sr_capture_script.specs.Picking.{NotBefore}
@@ -52,7 +52,7 @@ tally_more why packets packet =
     omega (arith, sum_by-append f packets (packet ∷ []))
 
 -- where all times are put off, so is the latest of them
-last_put_off : (delay last : ℕ) (packets : List Captured) → last_moment delay (last + delay) packets ≡ latest last packets + delay
+last_put_off : (delay last : ℕ) (packets : List Captured) → last_moment delay (last + delay) packets ≡ latest_time last packets + delay
 last_put_off delay last [] = refl
 last_put_off delay last (p ∷ ps) =
     let put_off : max (last + delay) (p.time + delay) ≡ max last p.time + delay = omega arith in
@@ -62,16 +62,16 @@ below_put_off : (a b delay : ℕ) → nat_lt (a + delay) (b + delay) ≡ nat_lt 
 below_put_off a b delay = grind (arith, nat_tests)
 
 -- a time goes back before it is put off as behind that
-back_put_off : (delay time : ℕ) (packets : List Captured) → nat_lt (time + delay) (last_moment delay 0 packets) ≡ nat_lt time (latest 0 packets)
+back_put_off : (delay time : ℕ) (packets : List Captured) → nat_lt (time + delay) (last_moment delay 0 packets) ≡ nat_lt time (latest_time 0 packets)
 back_put_off delay time [] = grind (arith, nat_tests)
 back_put_off delay time (p ∷ ps) =
     let first : max 0 (p.time + delay) ≡ max 0 p.time + delay = omega arith in
     ap (λ (n : ℕ). nat_lt (time + delay) n) (ap (λ (n : ℕ). last_moment delay n ps) first ∙ last_put_off delay (max 0 p.time) ps)
-    ∙ below_put_off time (latest (max 0 p.time) ps) delay
+    ∙ below_put_off time (latest_time (max 0 p.time) ps) delay
 
 -- the packets whose times go back with one more
 backs_more : (last : ℕ) (packets : List Captured) (packet : Captured)
-    → backs last (packets ++ packet ∷ []) ≡ backs last packets + cond (goes_back packet.time packet.time (latest last packets)) 1 0
+    → backs last (packets ++ packet ∷ []) ≡ backs last packets + cond (goes_back packet.time packet.time (latest_time last packets)) 1 0
 backs_more last [] packet = omega arith
 backs_more last (p ∷ ps) packet = omega (arith, backs_more (max last p.time) ps packet)
 
@@ -97,7 +97,7 @@ tallied_more : (delay : ℕ) (packets : List Captured) (packet : Captured)
     ≡ tallied (packets ++ packet ∷ [])
 tallied_more delay packets packet =
     ap (λ (b : Bool). counted (with_back (nat_lt 0 packet.time && b) (tallied packets)) (flaw_of packet)) (back_put_off delay packet.time packets)
-    ∙ counted_by (flaw_of packet) (goes_back packet.time packet.time (latest 0 packets)) packets (packets ++ packet ∷ []) (λ why. tally_more why packets packet) (backs_more 0 packets packet)
+    ∙ counted_by (flaw_of packet) (goes_back packet.time packet.time (latest_time 0 packets)) packets (packets ++ packet ∷ []) (λ why. tally_more why packets packet) (backs_more 0 packets packet)
 
 -- an item went, and the next one is due
 pub record Served (inlet : Inlet) (form : Format) (delay : ℕ) (start now : Option (List ℕ)) (p q : Progress) (m : ℕ) (gone : List Item) : Type 0 where

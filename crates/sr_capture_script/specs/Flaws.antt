@@ -58,9 +58,9 @@ abbrev pub tally : Flaw → List Captured → ℕ
 tally why packets = min (count_by (λ packet. is_flaw why (flaw_of packet)) packets) (2 ^ 64 - 1)
 
 -- the latest time of packets behind a time
-abbrev pub latest : ℕ → List Captured → ℕ
-latest last [] = last
-latest last (packet ∷ packets) = latest (max last packet.time) packets
+abbrev pub latest_time : ℕ → List Captured → ℕ
+latest_time last [] = last
+latest_time last (packet ∷ packets) = latest_time (max last packet.time) packets
 
 -- whether the time of a packet goes back behind the latest moment, where its own moment is that; a packet without a time has 0
 abbrev pub goes_back : ℕ → ℕ → ℕ → Bool

@@ -14,7 +14,7 @@ use Rattle.sr_pcapng.specs.PacketBlocks.{
   held_of,
   of_number,
   IsTold,
-  IsTimed,
+  IsTimedPacket,
   IsSimple,
   ShowsTimed,
   ShowsSimple,
@@ -36,7 +36,7 @@ pub gives_timed : (wanted : Wanted) (section : Section) (octets : List ℕ) (int
 gives_timed wanted section octets interface found number ticks time held len y long known told same some held_is len_is holds ticks_is moment shows =
     let p : Captured = record { time = time; extent = extent_of held len; octets = body_at 28 held interface.check_len octets } in
     let taken : Some interface ≡ of_number section.taken number = sym some ∙ same in
-    let e : IsTimed interface section.order octets p = record {
+    let e : IsTimedPacket interface section.order octets p = record {
       holds = subst (λ n. Holds 28 n octets) held_is holds;
       time = subst (λ n. IsTime interface n time) ticks_is moment;
       extent = ap (λ n. extent_of n len) held_is ∙ ap (extent_of (word_at section.order octets 20)) len_is;

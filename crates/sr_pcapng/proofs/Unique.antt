@@ -16,7 +16,7 @@ use Rattle.sr_pcapng.specs.declared.track.Wanted.{Wanted}
 use Rattle.sr_pcapng.specs.Blocks.{magic_of, kind_of, HasOrder, IsBlock}
 use Rattle.sr_pcapng.specs.Interfaces.{counted, DescribesBy}
 use Rattle.sr_pcapng.specs.Laws.{PacketsAreUnique}
-use Rattle.sr_pcapng.specs.PacketBlocks.{IsTimed, IsSimple, ShowsTimed, ShowsSimple}
+use Rattle.sr_pcapng.specs.PacketBlocks.{IsTimedPacket, IsSimple, ShowsTimed, ShowsSimple}
 use Rattle.sr_pcapng.specs.Steps.{order_in, in_section, MeansWithin, Means, IsStep, Follow}
 use Rattle.sr_pcapng.proofs.Blocks.{word_front, order_more}
 use Rattle.sr_pcapng.proofs.OptionLists.{same_front, same_rest, one_known}
@@ -59,8 +59,8 @@ captured_is t u e f xs ys a b c = cc
 same_pos : (m n : ℕ) (z : ℤ) → pos m ≡ z → pos n ≡ z → m ≡ n
 same_pos m n z a b = cc
 
-one_timed : (interface : Interface) (order : ByteOrder) (octets : List ℕ) (x y : Captured) → IsTimed interface order octets x
-    → IsTimed interface order octets y → x ≡ y
+one_timed : (interface : Interface) (order : ByteOrder) (octets : List ℕ) (x y : Captured) → IsTimedPacket interface order octets x
+    → IsTimedPacket interface order octets y → x ≡ y
 one_timed interface order octets x y h k =
     captured_is x.time y.time x.extent y.extent x.octets y.octets (same_pos x.time y.time _ h.time k.time) (h.extent ∙ sym k.extent) (h.body ∙ sym k.body)
 

@@ -34,7 +34,7 @@ held_of snap len = if snap == 0 then len else min len snap
 
 -- a packet with a time: behind the number of the interface stand the time in two words, how many octets are held, how many there were,
 -- and the octets
-pub record IsTimed (interface : Interface) (order : ByteOrder) (octets : List ℕ) (packet : Captured) : Type 0 where
+pub record IsTimedPacket (interface : Interface) (order : ByteOrder) (octets : List ℕ) (packet : Captured) : Type 0 where
   pub holds : Holds 28 (word_at order octets 20) octets
   pub time : IsTime interface (word_at order octets 12 * 2 ^ 32 + word_at order octets 16) packet.time
   pub extent : packet.extent ≡ extent_of (word_at order octets 20) (word_at order octets 24)
@@ -61,7 +61,7 @@ IsTold (Number number) taken = Unit {0}
 -- the packet of a block, if the interface is wanted
 abbrev pub ShowsTimed : Option Interface → ByteOrder → List ℕ → List Captured → Type 0
 ShowsTimed None order octets shown = shown ≡ []
-ShowsTimed (Some interface) order octets shown = (packet : Captured) × (shown ≡ packet ∷ []) × IsTimed interface order octets packet
+ShowsTimed (Some interface) order octets shown = (packet : Captured) × (shown ≡ packet ∷ []) × IsTimedPacket interface order octets packet
 
 abbrev pub ShowsSimple : Option Interface → ByteOrder → List ℕ → List Captured → Type 0
 ShowsSimple None order octets shown = shown ≡ []
