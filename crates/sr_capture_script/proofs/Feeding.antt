@@ -1,8 +1,9 @@
 -- A file whose packets are taken one by one.
-use Rattle.std.proofs.Common.{◌≡◌, ℕ, ◌+◌, ◌-◌, ◌^◌, List, [], ◌∷◌, ◌++◌, length, Option, Some, None, sym, ap, subst, refl, ◌∙◌, arith, append_assoc, inl, inr}
-use Rattle.std.specs.Prelude.{min, cond}
+use Rattle.std.proofs.Common.{◌≡◌, ℕ, ◌+◌, ◌-◌, ◌^◌, List, [], ◌∷◌, ◌++◌, length, Option, Some, None, sym, ap, subst, refl, ◌∙◌, arith}
+use Rattle.std.specs.Prelude.{min, max, cond, nat_lt, ◌&&◌, Bool, true, false}
 use Rattle.std.proofs.lemmas.List.{length-append, append-nil}
 use Rattle.std.proofs.lemmas.List.Sums.{sum_by-append}
+use Rattle.std.proofs.lemmas.Bool.Decides.{nat_tests}
 use Rattle.sr_capture.specs.declared.fault.CaptureFault.{CaptureFault}
 use Rattle.sr_capture_script.specs.declared.format.Format.{Format}
 use Rattle.sr_capture.specs.Taking.{Loses}
@@ -14,7 +15,7 @@ use Rattle.sr_capture_script.specs.declared.choice.Inlet.{Inlet}
 use Rattle.sr_capture_script.specs.declared.flaws.Flaw.{Flaw}
 use Rattle.sr_capture_script.specs.declared.flaws.Flaw.TheVariants as flaw
 use Rattle.sr_capture_script.specs.declared.flaws.FlawCounts.{FlawCounts}
-use Rattle.sr_capture_script.specs.Flaws.{flaw_of, is_flaw, tally, tallied, counted}
+use Rattle.sr_capture_script.specs.Flaws.{flaw_of, is_flaw, tally, tallied, counted, latest_time, backs, goes_back, with_back}
 use Rattle.sr_capture_script.specs.Items.{Item, moment_of, items_from, items_of}
 use Rattle.sr_capture_script.specs.Sources.{Progress, last_moment, IsDue, Feeds, GoesOn, IsUntaken, IsStuck, IsFaulty}
 use Rattle.sr_capture_script.specs.Picking.{NotBefore}
@@ -50,19 +51,53 @@ tally_more why packets packet =
     let f : Captured → ℕ = λ p. cond (is_flaw why (flaw_of p)) 1 0 in
     omega (arith, sum_by-append f packets (packet ∷ []))
 
-counts_are : (a b c d e f : ℕ) → a ≡ d → b ≡ e → c ≡ f
-    → (let n : FlawCounts = record { cut = a; long = b; empty = c } in n) ≡ record { cut = d; long = e; empty = f }
-counts_are a b c d e f p q r = cc
+-- where all times are put off, so is the latest of them
+last_put_off : (delay last : ℕ) (packets : List Captured) → last_moment delay (last + delay) packets ≡ latest_time last packets + delay
+last_put_off delay last [] = refl
+last_put_off delay last (p ∷ ps) =
+    let put_off : max (last + delay) (p.time + delay) ≡ max last p.time + delay = omega arith in
+    ap (λ (n : ℕ). last_moment delay n ps) put_off ∙ last_put_off delay (max last p.time) ps
 
-counted_by : (o : Option Flaw) (packets more : List Captured)
-    → ((why : Flaw) → tally why more ≡ min (tally why packets + cond (is_flaw why o) 1 0) (2 ^ 64 - 1)) → counted (tallied packets) o ≡ tallied more
-counted_by None packets more h = counts_are _ _ _ _ _ _ (omega (arith, h flaw.Cut)) (omega (arith, h flaw.Long)) (omega (arith, h flaw.Empty))
-counted_by (Some flaw.Cut) packets more h = counts_are _ _ _ _ _ _ (omega (arith, h flaw.Cut)) (omega (arith, h flaw.Long)) (omega (arith, h flaw.Empty))
-counted_by (Some flaw.Long) packets more h = counts_are _ _ _ _ _ _ (omega (arith, h flaw.Cut)) (omega (arith, h flaw.Long)) (omega (arith, h flaw.Empty))
-counted_by (Some flaw.Empty) packets more h = counts_are _ _ _ _ _ _ (omega (arith, h flaw.Cut)) (omega (arith, h flaw.Long)) (omega (arith, h flaw.Empty))
+below_put_off : (a b delay : ℕ) → nat_lt (a + delay) (b + delay) ≡ nat_lt a b
+below_put_off a b delay = grind (arith, nat_tests)
 
-tallied_more : (packets : List Captured) (packet : Captured) → counted (tallied packets) (flaw_of packet) ≡ tallied (packets ++ packet ∷ [])
-tallied_more packets packet = counted_by (flaw_of packet) packets (packets ++ packet ∷ []) (λ why. tally_more why packets packet)
+-- a time goes back before it is put off as behind that
+back_put_off : (delay time : ℕ) (packets : List Captured) → nat_lt (time + delay) (last_moment delay 0 packets) ≡ nat_lt time (latest_time 0 packets)
+back_put_off delay time [] = grind (arith, nat_tests)
+back_put_off delay time (p ∷ ps) =
+    let first : max 0 (p.time + delay) ≡ max 0 p.time + delay = omega arith in
+    ap (λ (n : ℕ). nat_lt (time + delay) n) (ap (λ (n : ℕ). last_moment delay n ps) first ∙ last_put_off delay (max 0 p.time) ps)
+    ∙ below_put_off time (latest_time (max 0 p.time) ps) delay
+
+-- the packets whose times go back with one more
+backs_more : (last : ℕ) (packets : List Captured) (packet : Captured)
+    → backs last (packets ++ packet ∷ []) ≡ backs last packets + cond (goes_back packet.time packet.time (latest_time last packets)) 1 0
+backs_more last [] packet = omega arith
+backs_more last (p ∷ ps) packet = omega (arith, backs_more (max last p.time) ps packet)
+
+counts_are : (a b c d e f g h : ℕ) → a ≡ e → b ≡ f → c ≡ g → d ≡ h
+    → (let n : FlawCounts = record { cut = a; long = b; empty = c; back = d } in n) ≡ record { cut = e; long = f; empty = g; back = h }
+counts_are a b c d e f g h p q r s = cc
+
+-- what is counted with one packet more, whose time goes back or does not
+counted_by : (o : Option Flaw) (is_back : Bool) (packets more : List Captured)
+    → ((why : Flaw) → tally why more ≡ min (tally why packets + cond (is_flaw why o) 1 0) (2 ^ 64 - 1))
+    → backs 0 more ≡ backs 0 packets + cond is_back 1 0 → counted (with_back is_back (tallied packets)) o ≡ tallied more
+counted_by None true packets more h b = counts_are _ _ _ _ _ _ _ _ (omega (arith, h flaw.Cut)) (omega (arith, h flaw.Long)) (omega (arith, h flaw.Empty)) (omega (arith, b))
+counted_by None false packets more h b = counts_are _ _ _ _ _ _ _ _ (omega (arith, h flaw.Cut)) (omega (arith, h flaw.Long)) (omega (arith, h flaw.Empty)) (omega (arith, b))
+counted_by (Some flaw.Cut) true packets more h b = counts_are _ _ _ _ _ _ _ _ (omega (arith, h flaw.Cut)) (omega (arith, h flaw.Long)) (omega (arith, h flaw.Empty)) (omega (arith, b))
+counted_by (Some flaw.Cut) false packets more h b = counts_are _ _ _ _ _ _ _ _ (omega (arith, h flaw.Cut)) (omega (arith, h flaw.Long)) (omega (arith, h flaw.Empty)) (omega (arith, b))
+counted_by (Some flaw.Long) true packets more h b = counts_are _ _ _ _ _ _ _ _ (omega (arith, h flaw.Cut)) (omega (arith, h flaw.Long)) (omega (arith, h flaw.Empty)) (omega (arith, b))
+counted_by (Some flaw.Long) false packets more h b = counts_are _ _ _ _ _ _ _ _ (omega (arith, h flaw.Cut)) (omega (arith, h flaw.Long)) (omega (arith, h flaw.Empty)) (omega (arith, b))
+counted_by (Some flaw.Empty) true packets more h b = counts_are _ _ _ _ _ _ _ _ (omega (arith, h flaw.Cut)) (omega (arith, h flaw.Long)) (omega (arith, h flaw.Empty)) (omega (arith, b))
+counted_by (Some flaw.Empty) false packets more h b = counts_are _ _ _ _ _ _ _ _ (omega (arith, h flaw.Cut)) (omega (arith, h flaw.Long)) (omega (arith, h flaw.Empty)) (omega (arith, b))
+
+tallied_more : (delay : ℕ) (packets : List Captured) (packet : Captured)
+    → counted (with_back (goes_back packet.time (packet.time + delay) (last_moment delay 0 packets)) (tallied packets)) (flaw_of packet)
+    ≡ tallied (packets ++ packet ∷ [])
+tallied_more delay packets packet =
+    ap (λ (b : Bool). counted (with_back (nat_lt 0 packet.time && b) (tallied packets)) (flaw_of packet)) (back_put_off delay packet.time packets)
+    ∙ counted_by (flaw_of packet) (goes_back packet.time packet.time (latest_time 0 packets)) packets (packets ++ packet ∷ []) (λ why. tally_more why packets packet) (backs_more 0 packets packet)
 
 -- an item went, and the next one is due
 pub record Served (inlet : Inlet) (form : Format) (delay : ℕ) (start now : Option (List ℕ)) (p q : Progress) (m : ℕ) (gone : List Item) : Type 0 where
@@ -95,7 +130,8 @@ feeds_next inlet form delay start mid now p q gone m packets octets lost records
       lost = loses_more octets goes.0 start mid now lost goes.2;
       records = taken_on form p.state q.state octets goes.0 packets (packet ∷ []) records goes.3;
       place = omega (arith, goes.8, place, length-append octets goes.0);
-      flaws = goes.9 ∙ ap (λ (n : FlawCounts). counted n (flaw_of packet)) flaws ∙ tallied_more packets packet;
+      flaws = goes.9 ∙ ap (λ (n : FlawCounts). counted (with_back (goes_back packet.time (packet.time + delay) p.moment) n) (flaw_of packet)) flaws
+          ∙ ap (λ (n : ℕ). counted (with_back (goes_back packet.time (packet.time + delay) n) (tallied packets)) (flaw_of packet)) moment ∙ tallied_more delay packets packet;
       number = omega (arith, goes.7, number, count);
       moment = goes.6 ∙ when ∙ sym (last_moment_more delay 0 packets packet);
       due = subst (λ (o : Option ℕ). IsDue inlet q o (items_of inlet delay (packets ++ packet ∷ [])) gone start now) (sym due) is_due;

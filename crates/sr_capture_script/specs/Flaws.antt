@@ -1,11 +1,14 @@
--- Why packets are not used.
+-- Why packets are not used, and which have times that go back.
 use Rattle.std.specs.Prelude.{
   ℕ,
   ◌+◌,
   ◌-◌,
   ◌^◌,
   min,
+  max,
   List,
+  [],
+  ◌∷◌,
   length,
   codes,
   Option,
@@ -15,6 +18,7 @@ use Rattle.std.specs.Prelude.{
   true,
   false,
   nat_lt,
+  ◌&&◌,
   ◌==◌,
   if◌then◌else◌,
 }
@@ -53,9 +57,33 @@ is_flaw why other = false
 abbrev pub tally : Flaw → List Captured → ℕ
 tally why packets = min (count_by (λ packet. is_flaw why (flaw_of packet)) packets) (2 ^ 64 - 1)
 
--- the counts for all reasons
+-- the latest time of packets behind a time
+abbrev pub latest_time : ℕ → List Captured → ℕ
+latest_time last [] = last
+latest_time last (packet ∷ packets) = latest_time (max last packet.time) packets
+
+-- whether the time of a packet goes back behind the latest moment, where its own moment is that; a packet without a time has 0
+abbrev pub goes_back : ℕ → ℕ → ℕ → Bool
+goes_back time moment latest = nat_lt 0 time && nat_lt moment latest
+
+-- how many packets behind a time have one before it, or before that of a packet ahead of them
+abbrev pub backs : ℕ → List Captured → ℕ
+backs last [] = 0
+backs last (packet ∷ packets) = (if goes_back packet.time packet.time last then 1 else 0) + backs (max last packet.time) packets
+
+-- what is counted of the packets of a file
 abbrev pub tallied : List Captured → FlawCounts
-tallied packets = record { cut = tally flaw.Cut packets; long = tally flaw.Long packets; empty = tally flaw.Empty packets }
+tallied packets = record {
+  cut = tally flaw.Cut packets;
+  long = tally flaw.Long packets;
+  empty = tally flaw.Empty packets;
+  back = min (backs 0 packets) (2 ^ 64 - 1);
+}
+
+-- one more whose time goes back, if it does
+abbrev pub with_back : Bool → FlawCounts → FlawCounts
+with_back true counts = record counts { back = min (counts.back + 1) (2 ^ 64 - 1) }
+with_back false counts = counts
 
 -- one packet more
 abbrev pub counted : FlawCounts → Option Flaw → FlawCounts

@@ -7,7 +7,7 @@ use Rattle.sr_capture.specs.declared.fault.CaptureFault.{CaptureFault}
 use Rattle.sr_capture.specs.Records.{Captured, Shows}
 use Rattle.sr_capture_script.specs.Formats.{front_len, AreTaken, IsNoNext}
 use Rattle.sr_capture_script.specs.declared.flaws.FlawCounts.{FlawCounts}
-use Rattle.sr_capture_script.specs.Flaws.{flaw_of, tallied, counted}
+use Rattle.sr_capture_script.specs.Flaws.{flaw_of, tallied, counted, goes_back, with_back}
 use Rattle.sr_capture_script.specs.declared.choice.Inlet.{Inlet}
 use Rattle.sr_capture_script.specs.Items.{Item, moment_of, items_of}
 
@@ -57,7 +57,7 @@ GoesOn state delay None old new p q = (octets : List ℕ) × Loses octets old ne
 GoesOn state delay (Some m) old new p q = (octets : List ℕ) × (packet : Captured) × Loses octets old new
     × AreTaken state octets (packet ∷ []) q.state × Shows q.shown packet × (m ≡ moment_of delay p.moment packet)
     × (q.moment ≡ m) × (q.number ≡ min (p.number + 1) (2 ^ 64 - 1)) × (q.place ≡ min (p.place + length octets) (2 ^ 64 - 1))
-    × (q.flaws ≡ counted p.flaws (flaw_of packet))
+    × (q.flaws ≡ counted (with_back (goes_back packet.time (packet.time + delay) p.moment) p.flaws) (flaw_of packet))
 
 -- nothing was taken behind the front
 pub record IsUntaken (form : Format) (p : Progress) : Type 0 where

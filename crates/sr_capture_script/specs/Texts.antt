@@ -58,11 +58,16 @@ comment_line inlet number flaw = printed (codes "#" ∷ letter_of inlet ∷ deci
 abbrev pub tick_line : ℕ → List ℕ
 tick_line time = printed (codes "tick" ∷ decimal time ∷ [])
 
--- how many packets a file had, and how many of them are not used for each reason
+-- how many packets have a time before that of one ahead of them, where there are such
+abbrev pub back_part : ℕ → List ℕ
+back_part back = if back == 0 then [] else codes ", " ++ decimal back ++ codes " before one ahead of them"
+
+-- how many packets a file had, how many of them are not used for each reason, and how many have times that go back
 abbrev pub numbers_line : Inlet → ℕ → FlawCounts → List ℕ
-numbers_line inlet number counts = printed
+numbers_line inlet number counts = join_with_byte 32
     (codes "#" ∷ letter_of inlet ∷ decimal number ∷ codes "packets," ∷ decimal counts.cut ∷ codes "cut,"
     ∷ decimal counts.long ∷ codes "long," ∷ decimal counts.empty ∷ codes "empty" ∷ [])
+    ++ back_part counts.back ++ 10 ∷ []
 
 -- the line of the counts of a file's packets; numbers are printed up to 18446744073709551615
 abbrev pub counts_line : Inlet → List Captured → List ℕ

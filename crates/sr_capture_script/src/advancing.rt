@@ -4,7 +4,7 @@ ghost use Rattle.std.specs.Prelude.{◌≡◌, OnOk, IfErr};
 ghost use Rattle.sr_capture_script.specs.Sources.{left_of, GoesOn, IsStuck};
 ghost use Rattle.sr_capture_script.specs.SourceViews.{progress_of, IsSame};
 
-use crate::flaws::{counted, flaw_of};
+use crate::flaws::{counted, flaw_of, goes_back, with_back};
 use crate::format::take_next;
 use crate::source::Source;
 use sr_capture::CaptureFault;
@@ -35,8 +35,11 @@ pub(crate) fn advance<R: BufRead>(source: &mut Source<R>) -> Result<(), CaptureF
         Ok(true) => {
             source.place = source.place.saturating_add(source.packet.size);
             source.number = source.number.saturating_add(1);
-            source.flaws = counted(source.flaws, flaw_of(&source.packet));
-            source.moment = source.moment.max(source.packet.time + source.delay);
+            let own = source.packet.time + source.delay;
+            let is_back = goes_back(source.packet.time, own, source.moment);
+            let flaws = with_back(source.flaws, is_back);
+            source.flaws = counted(flaws, flaw_of(&source.packet));
+            source.moment = source.moment.max(own);
             source.due = Some(source.moment);
             Ok(())
         }

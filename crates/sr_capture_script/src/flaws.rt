@@ -1,7 +1,7 @@
-//! Why packets are not used, and how many are not.
+//! Why packets are not used, how many are not, and how many have times that go back.
 
 ghost use Rattle.std.specs.Prelude.{◌≡◌};
-ghost use Rattle.sr_capture_script.specs.Flaws.{flaw_by, counted, name_of};
+ghost use Rattle.sr_capture_script.specs.Flaws.{flaw_by, counted, goes_back, name_of, with_back};
 
 use sr_capture::{Extent, MAX_KEPT, Packet};
 
@@ -16,12 +16,13 @@ pub(crate) enum Flaw {
     Empty,
 }
 
-/// How many packets of a file are not used, for each reason.
+/// How many packets of a file are not used, for each reason, and how many have a time before that of one ahead of them.
 #[derive(Clone, Copy)]
 pub(crate) struct FlawCounts {
     pub cut: u64,
     pub long: u64,
     pub empty: u64,
+    pub back: u64,
 }
 
 /// The word for a reason.
@@ -50,6 +51,26 @@ pub(crate) fn flaw_of(packet: &Packet) -> Option<Flaw>
                 None
             }
         }
+    }
+}
+
+/// Whether the time of a packet goes back behind the latest moment, where its own moment is that. A packet without a time has 0.
+pub(crate) fn goes_back(time: u64, moment: u64, latest: u64) -> bool
+    ensures { result ≡ goes_back time moment latest }
+{
+    time > 0 && moment < latest
+}
+
+/// The counts with one more whose time goes back, if it does.
+pub(crate) fn with_back(counts: FlawCounts, is_back: bool) -> FlawCounts
+    ensures { result ≡ with_back is_back counts }
+{
+    if !is_back {
+        return counts;
+    }
+    FlawCounts {
+        back: counts.back.saturating_add(1),
+        ..counts
     }
 }
 

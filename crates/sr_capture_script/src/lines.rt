@@ -3,7 +3,7 @@
 ghost use Rattle.std.specs.Prelude.{◌≡◌, ◌≤◌, ◌<◌, ◌^◌, ◌++◌, ◌∷◌, [], List, ℕ, ◌-◌, min, length, OnOk, IfErr};
 ghost use Rattle.hex.specs.Hex.{encode_lower};
 ghost use Rattle.sr_capture.specs.Records.{Captured, Shows};
-ghost use Rattle.sr_capture_script.specs.Texts.{letter_of, arrival_line, comment_line, numbers_line, line_of};
+ghost use Rattle.sr_capture_script.specs.Texts.{letter_of, arrival_line, comment_line, numbers_line, back_part, line_of};
 
 use crate::choice::Inlet;
 use crate::fault::ScriptFault;
@@ -86,6 +86,21 @@ pub(crate) fn append_line(
     }
 }
 
+/// Appends the end of a line: how many packets have a time before that of one ahead of them, where there are such.
+fn append_back(text: &mut Vec<u8>, back: u64) -> Result<(), ScriptFault>
+    ensures ok { OnOk result (text.new.items ≡ text.old.items ++ back_part back ++ 10 ∷ []) }
+    ensures err { IfErr result (λ fault. fault ≡ ScriptFault.NoMemory) }
+{
+    let written = match back {
+        0 => writeln!(text),
+        _ => writeln!(text, ", {back} before one ahead of them"),
+    };
+    match written {
+        Ok(()) => Ok(()),
+        Err(_) => Err(ScriptFault::NoMemory),
+    }
+}
+
 /// Appends how many packets a file had.
 pub(crate) fn append_numbers(
     text: &mut Vec<u8>,
@@ -97,12 +112,18 @@ pub(crate) fn append_numbers(
     ensures err { IfErr result (λ fault. fault ≡ ScriptFault.NoMemory) }
 {
     let letter = letter_of(inlet);
-    let FlawCounts { cut, long, empty } = counts;
-    match writeln!(
+    let FlawCounts {
+        cut,
+        long,
+        empty,
+        back,
+    } = counts;
+    match write!(
         text,
         "# {letter} {number} packets, {cut} cut, {long} long, {empty} empty"
     ) {
-        Ok(()) => Ok(()),
-        Err(_) => Err(ScriptFault::NoMemory),
+        Ok(()) => {}
+        Err(_) => return Err(ScriptFault::NoMemory),
     }
+    append_back(text, back)
 }

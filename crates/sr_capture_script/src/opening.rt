@@ -28,6 +28,7 @@ const NO_FLAWS: FlawCounts = FlawCounts {
     cut: 0,
     long: 0,
     empty: 0,
+    back: 0,
 };
 
 /// A file behind its front, of which no packet was taken.

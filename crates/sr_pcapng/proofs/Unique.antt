@@ -16,7 +16,7 @@ use Rattle.sr_pcapng.specs.declared.track.Wanted.{Wanted}
 use Rattle.sr_pcapng.specs.Blocks.{magic_of, kind_of, HasOrder, IsBlock}
 use Rattle.sr_pcapng.specs.Interfaces.{counted, DescribesBy}
 use Rattle.sr_pcapng.specs.Laws.{PacketsAreUnique}
-use Rattle.sr_pcapng.specs.PacketBlocks.{IsEnhanced, IsSimple, ShowsEnhanced, ShowsSimple}
+use Rattle.sr_pcapng.specs.PacketBlocks.{IsTimedPacket, IsSimple, ShowsTimed, ShowsSimple}
 use Rattle.sr_pcapng.specs.Steps.{order_in, in_section, MeansWithin, Means, IsStep, Follow}
 use Rattle.sr_pcapng.proofs.Blocks.{word_front, order_more}
 use Rattle.sr_pcapng.proofs.OptionLists.{same_front, same_rest, one_known}
@@ -59,9 +59,9 @@ captured_is t u e f xs ys a b c = cc
 same_pos : (m n : ℕ) (z : ℤ) → pos m ≡ z → pos n ≡ z → m ≡ n
 same_pos m n z a b = cc
 
-one_enhanced : (interface : Interface) (order : ByteOrder) (octets : List ℕ) (x y : Captured) → IsEnhanced interface order octets x
-    → IsEnhanced interface order octets y → x ≡ y
-one_enhanced interface order octets x y h k =
+one_timed : (interface : Interface) (order : ByteOrder) (octets : List ℕ) (x y : Captured) → IsTimedPacket interface order octets x
+    → IsTimedPacket interface order octets y → x ≡ y
+one_timed interface order octets x y h k =
     captured_is x.time y.time x.extent y.extent x.octets y.octets (same_pos x.time y.time _ h.time k.time) (h.extent ∙ sym k.extent) (h.body ∙ sym k.body)
 
 one_simple : (interface : Interface) (order : ByteOrder) (octets : List ℕ) (x y : Captured) → IsSimple interface order octets x
@@ -69,10 +69,10 @@ one_simple : (interface : Interface) (order : ByteOrder) (octets : List ℕ) (x 
 one_simple interface order octets x y h k =
     captured_is x.time y.time x.extent y.extent x.octets y.octets (h.time ∙ sym k.time) (h.extent ∙ sym k.extent) (h.body ∙ sym k.body)
 
-shown_enhanced : (o : Option Interface) (order : ByteOrder) (octets : List ℕ) (xs ys : List Captured) → ShowsEnhanced o order octets xs
-    → ShowsEnhanced o order octets ys → xs ≡ ys
-shown_enhanced None order octets xs ys h k = h ∙ sym k
-shown_enhanced (Some i) order octets xs ys h k = h.1 ∙ ap (λ (p : Captured). p ∷ []) (one_enhanced i order octets h.0 k.0 h.2 k.2) ∙ sym k.1
+shown_timed : (o : Option Interface) (order : ByteOrder) (octets : List ℕ) (xs ys : List Captured) → ShowsTimed o order octets xs
+    → ShowsTimed o order octets ys → xs ≡ ys
+shown_timed None order octets xs ys h k = h ∙ sym k
+shown_timed (Some i) order octets xs ys h k = h.1 ∙ ap (λ (p : Captured). p ∷ []) (one_timed i order octets h.0 k.0 h.2 k.2) ∙ sym k.1
 
 shown_simple : (o : Option Interface) (order : ByteOrder) (octets : List ℕ) (xs ys : List Captured) → ShowsSimple o order octets xs
     → ShowsSimple o order octets ys → xs ≡ ys
@@ -98,7 +98,9 @@ within kind.Interface track section octets xs ys s t h k =
     let one : h.1.0 ≡ k.1.0 = described _ track.wanted track.check_len section octets h.1.0 k.1.0 h.1.1.1 k.1.1.1 in
     record { shown = h.0 ∙ sym k.0; next = h.1.2 ∙ ap (in_section track) one ∙ sym k.1.2 }
 within kind.Enhanced track section octets xs ys s t h k =
-    record { shown = shown_enhanced _ section.order octets xs ys h.1.3 k.1.3; next = h.0 ∙ sym k.0 }
+    record { shown = shown_timed _ section.order octets xs ys h.1.3 k.1.3; next = h.0 ∙ sym k.0 }
+within kind.Obsolete track section octets xs ys s t h k =
+    record { shown = shown_timed _ section.order octets xs ys h.1.3 k.1.3; next = h.0 ∙ sym k.0 }
 within kind.Simple track section octets xs ys s t h k =
     record { shown = shown_simple _ section.order octets xs ys h.1.3 k.1.3; next = h.0 ∙ sym k.0 }
 within kind.Other track section octets xs ys s t h k = record { shown = h.1 ∙ sym k.1; next = h.0 ∙ sym k.0 }
@@ -118,6 +120,7 @@ means_one : (k : Kind) (track : Track) (order : ByteOrder) (octets : List ℕ) (
 means_one kind.Section track order octets xs ys s t h m = record { shown = h.1 ∙ sym m.1; next = h.2 ∙ sym m.2 }
 means_one kind.Interface track order octets xs ys s t h m = in_one kind.Interface track octets xs ys s t h m
 means_one kind.Enhanced track order octets xs ys s t h m = in_one kind.Enhanced track octets xs ys s t h m
+means_one kind.Obsolete track order octets xs ys s t h m = in_one kind.Obsolete track octets xs ys s t h m
 means_one kind.Simple track order octets xs ys s t h m = in_one kind.Simple track octets xs ys s t h m
 means_one kind.Other track order octets xs ys s t h m = in_one kind.Other track octets xs ys s t h m
 

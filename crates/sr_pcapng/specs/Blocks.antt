@@ -1,5 +1,6 @@
 -- A block of a pcapng file: its type, its length, a body, and its length once more.
-use Rattle.std.specs.Prelude.{◌≡◌, ◌≢◌, ℕ, ◌-◌, ◌%◌, ◌^◌, ◌<◌, ◌≤◌, ◌⊎◌, ◌==◌, if◌then◌else◌, List, length, Option, Some, IfSome}
+use Rattle.std.specs.Prelude.{◌≡◌, ◌≢◌, ℕ, ◌-◌, ◌%◌, ◌^◌, ◌<◌, ◌≤◌, ◌⊎◌, ◌==◌, if◌then◌else◌}
+use Rattle.std.specs.Prelude.{List, length, Option, Some, IfSome}
 use Rattle.sr_capture.specs.declared.numbers.ByteOrder.{ByteOrder}
 use Rattle.sr_capture.specs.declared.numbers.ByteOrder.TheVariants.{Little, Big}
 use Rattle.sr_capture.specs.declared.fault.Reason.{Reason}
@@ -17,7 +18,11 @@ BeginsSection octets = word_at Big octets 0 ≡ 0x0A0D0D0A
 
 -- the kinds of the other types
 abbrev pub numbered : ℕ → Kind
-numbered type = if type == 1 then kind.Interface else if type == 6 then kind.Enhanced else if type == 3 then kind.Simple else kind.Other
+numbered type = if type == 1 then kind.Interface
+    else if type == 6 then kind.Enhanced
+    else if type == 2 then kind.Obsolete
+    else if type == 3 then kind.Simple
+    else kind.Other
 
 -- what kind of block begins so
 abbrev pub kind_of : ByteOrder → List ℕ → Kind

@@ -1,6 +1,6 @@
 -- The interfaces of a section that are Ethernet, where there is more than one and none was named.
-use Rattle.std.specs.Prelude.{◌≡◌, ◌≢◌, ℕ, ◌+◌, ◌-◌, ◌^◌, ◌⊎◌, ◌==◌, min, bit_or, nat_lt, if◌then◌else◌, List, [], ◌∷◌, length}
-use Rattle.std.specs.Prelude.{Option, Some, None}
+use Rattle.std.specs.Prelude.{◌≡◌, ◌≢◌, ℕ, ◌+◌, ◌-◌, ◌^◌, ◌⊎◌, ◌==◌, min, bit_or, nat_lt, if◌then◌else◌}
+use Rattle.std.specs.Prelude.{List, [], ◌∷◌, length, Option, Some, None}
 use Rattle.sr_capture.specs.declared.fault.CaptureFault.{CaptureFault}
 use Rattle.sr_capture.specs.declared.fault.Reason.{Reason}
 use Rattle.sr_capture.specs.declared.fault.Reason.TheVariants as reason

@@ -1,6 +1,6 @@
 -- The options of the description of an interface: each has a code, the length of its value, the value, and octets that fill up four.
-use Rattle.std.specs.Prelude.{◌≡◌, ◌≢◌, ℕ, ◌+◌, ◌-◌, ◌*◌, ◌%◌, ◌^◌, ◌≤◌, ◌⊎◌, ◌==◌, if◌then◌else◌, List, [], ◌∷◌, ◌++◌, length, take}
-use Rattle.std.specs.Prelude.{slice_index}
+use Rattle.std.specs.Prelude.{◌≡◌, ◌≢◌, ℕ, ◌+◌, ◌-◌, ◌*◌, ◌%◌, ◌^◌, ◌≤◌, ◌⊎◌, ◌==◌, if◌then◌else◌}
+use Rattle.std.specs.Prelude.{List, [], ◌∷◌, ◌++◌, length, take, slice_index}
 use Rattle.std.specs.Int.{cast_signed, w64}
 use Rattle.sr_capture.specs.declared.numbers.ByteOrder.{ByteOrder}
 use Rattle.sr_capture.specs.declared.numbers.ByteOrder.TheVariants.{Little, Big}

@@ -1,13 +1,13 @@
 -- Blocks that are packets.
-use Rattle.std.specs.Prelude.{◌≡◌, ℕ, ◌+◌, ◌-◌, ◌*◌, ◌^◌, ◌<◌, ◌≤◌, ◌==◌, ◌⊎◌, min, nat_lt, if◌then◌else◌, List, [], ◌∷◌, length, take}
-use Rattle.std.specs.Prelude.{drop, Option, Some, None, Bool, true, false}
+use Rattle.std.specs.Prelude.{◌≡◌, ℕ, ◌+◌, ◌-◌, ◌*◌, ◌^◌, ◌<◌, ◌≤◌, ◌==◌, ◌⊎◌, min, nat_lt, if◌then◌else◌}
+use Rattle.std.specs.Prelude.{List, [], ◌∷◌, length, take, drop, Option, Some, None, Bool, true, false}
 use Rattle.sr_capture.specs.declared.fault.Reason.{Reason}
 use Rattle.sr_capture.specs.declared.fault.Reason.TheVariants as reason
 use Rattle.sr_capture.specs.declared.numbers.ByteOrder.{ByteOrder}
 use Rattle.sr_capture.specs.declared.packet.Extent.{Extent}
 use Rattle.sr_capture.specs.declared.packet.Extent.TheVariants.{Whole, Cut}
 use Rattle.sr_capture.specs.declared.packet.Packet.{Packet}
-use Rattle.sr_capture.specs.Numbers.{word_at}
+use Rattle.sr_capture.specs.Numbers.{half_at, word_at}
 use Rattle.sr_capture.specs.Records.{Captured, Shows}
 use Rattle.sr_pcapng.specs.declared.track.Interface.{Interface}
 use Rattle.sr_pcapng.specs.declared.track.Section.{Section}
@@ -32,8 +32,9 @@ Holds at held octets = at + padded held + 4 ≤ length octets
 abbrev pub held_of : ℕ → ℕ → ℕ
 held_of snap len = if snap == 0 then len else min len snap
 
--- an enhanced packet: the number of the interface, the time in two words, how many octets are held, how many there were, and the octets
-pub record IsEnhanced (interface : Interface) (order : ByteOrder) (octets : List ℕ) (packet : Captured) : Type 0 where
+-- a packet with a time: behind the number of the interface stand the time in two words, how many octets are held, how many there were,
+-- and the octets
+pub record IsTimedPacket (interface : Interface) (order : ByteOrder) (octets : List ℕ) (packet : Captured) : Type 0 where
   pub holds : Holds 28 (word_at order octets 20) octets
   pub time : IsTime interface (word_at order octets 12 * 2 ^ 32 + word_at order octets 16) packet.time
   pub extent : packet.extent ≡ extent_of (word_at order octets 20) (word_at order octets 24)
@@ -58,28 +59,36 @@ IsTold Only (Some interface) = Unit {0}
 IsTold (Number number) taken = Unit {0}
 
 -- the packet of a block, if the interface is wanted
-abbrev pub ShowsEnhanced : Option Interface → ByteOrder → List ℕ → List Captured → Type 0
-ShowsEnhanced None order octets shown = shown ≡ []
-ShowsEnhanced (Some interface) order octets shown = (packet : Captured) × (shown ≡ packet ∷ []) × IsEnhanced interface order octets packet
+abbrev pub ShowsTimed : Option Interface → ByteOrder → List ℕ → List Captured → Type 0
+ShowsTimed None order octets shown = shown ≡ []
+ShowsTimed (Some interface) order octets shown = (packet : Captured) × (shown ≡ packet ∷ []) × IsTimedPacket interface order octets packet
 
 abbrev pub ShowsSimple : Option Interface → ByteOrder → List ℕ → List Captured → Type 0
 ShowsSimple None order octets shown = shown ≡ []
 ShowsSimple (Some interface) order octets shown = (packet : Captured) × (shown ≡ packet ∷ []) × IsSimple interface order octets packet
 
--- the octets are a packet in this section, of an interface that it has described
-abbrev pub InEnhanced : Wanted → Section → List ℕ → List Captured → Type 0
-InEnhanced wanted section octets shown = (32 ≤ length octets) × (word_at section.order octets 8 < section.count)
+-- the octets are a packet in this section, of the interface of this number, which it has described
+abbrev pub InTimed : ℕ → Wanted → Section → List ℕ → List Captured → Type 0
+InTimed number wanted section octets shown = (32 ≤ length octets) × (number < section.count)
     × IsTold wanted section.taken
-    × ShowsEnhanced (of_number section.taken (word_at section.order octets 8)) section.order octets shown
+    × ShowsTimed (of_number section.taken number) section.order octets shown
+
+-- the number of an interface is a word in an enhanced packet
+abbrev pub InEnhanced : Wanted → Section → List ℕ → List Captured → Type 0
+InEnhanced wanted section octets shown = InTimed (word_at section.order octets 8) wanted section octets shown
+
+-- in an obsolete packet it is half of one; a count of packets that were dropped stands behind it, and says nothing here
+abbrev pub InObsolete : Wanted → Section → List ℕ → List Captured → Type 0
+InObsolete wanted section octets shown = InTimed (half_at section.order octets 8) wanted section octets shown
 
 abbrev pub InSimple : Wanted → Section → List ℕ → List Captured → Type 0
 InSimple wanted section octets shown = (16 ≤ length octets) × (0 < section.count) × IsTold wanted section.taken
     × ShowsSimple (of_number section.taken 0) section.order octets shown
 
 -- a packet whose octets do not fit into its block
-abbrev pub OverflowsEnhanced : Section → List ℕ → Type 0
-OverflowsEnhanced section octets = (word_at section.order octets 8 < section.count)
-    × ((interface : Interface) × (of_number section.taken (word_at section.order octets 8) ≡ Some interface)
+abbrev pub OverflowsTimed : ℕ → Section → List ℕ → Type 0
+OverflowsTimed number section octets = (number < section.count)
+    × ((interface : Interface) × (of_number section.taken number ≡ Some interface)
     × (Holds 28 (word_at section.order octets 20) octets → ⊥))
 
 abbrev pub OverflowsSimple : Section → List ℕ → Type 0
@@ -87,13 +96,19 @@ OverflowsSimple section octets = (0 < section.count) × ((interface : Interface)
     × (Holds 12 (held_of interface.snap (word_at section.order octets 8)) octets → ⊥))
 
 -- why a packet is refused: its block is too short for it, its interface is not described, or none is known and none was said; or memory was
-abbrev pub IsWrongEnhanced : Wanted → Section → List ℕ → Reason → Type 0
-IsWrongEnhanced wanted section octets reason.Length = (length octets < 32) ⊎ OverflowsEnhanced section octets
-IsWrongEnhanced wanted section octets reason.Undescribed = (32 ≤ length octets) × (section.count ≤ word_at section.order octets 8)
-IsWrongEnhanced wanted section octets reason.NoEthernet = (32 ≤ length octets) × (word_at section.order octets 8 < section.count)
+abbrev pub IsWrongTimed : ℕ → Wanted → Section → List ℕ → Reason → Type 0
+IsWrongTimed number wanted section octets reason.Length = (length octets < 32) ⊎ OverflowsTimed number section octets
+IsWrongTimed number wanted section octets reason.Undescribed = (32 ≤ length octets) × (section.count ≤ number)
+IsWrongTimed number wanted section octets reason.NoEthernet = (32 ≤ length octets) × (number < section.count)
     × (wanted ≡ Only) × (section.taken ≡ None)
-IsWrongEnhanced wanted section octets reason.NoMemory = Unit {0}
-IsWrongEnhanced wanted section octets other = ⊥
+IsWrongTimed number wanted section octets reason.NoMemory = Unit {0}
+IsWrongTimed number wanted section octets other = ⊥
+
+abbrev pub IsWrongEnhanced : Wanted → Section → List ℕ → Reason → Type 0
+IsWrongEnhanced wanted section octets why = IsWrongTimed (word_at section.order octets 8) wanted section octets why
+
+abbrev pub IsWrongObsolete : Wanted → Section → List ℕ → Reason → Type 0
+IsWrongObsolete wanted section octets why = IsWrongTimed (half_at section.order octets 8) wanted section octets why
 
 abbrev pub IsWrongSimple : Wanted → Section → List ℕ → Reason → Type 0
 IsWrongSimple wanted section octets reason.Length = (length octets < 16) ⊎ OverflowsSimple section octets

@@ -39,7 +39,7 @@ use Rattle.sr_pcapng.specs.declared.track.Track.{Track}
 use Rattle.sr_pcapng.specs.Blocks.{kind_of, IsBlock, IsNoBlock}
 use Rattle.sr_pcapng.specs.Interfaces.{Describes, IsWrongInterface}
 use Rattle.sr_pcapng.specs.Listing.{TellsAll}
-use Rattle.sr_pcapng.specs.PacketBlocks.{InEnhanced, InSimple, IsWrongEnhanced, IsWrongSimple}
+use Rattle.sr_pcapng.specs.PacketBlocks.{InEnhanced, InObsolete, InSimple, IsWrongEnhanced, IsWrongObsolete, IsWrongSimple}
 
 -- the order of octets of a section, if there is one
 abbrev pub order_in : Option Section → Option ByteOrder
@@ -63,6 +63,7 @@ abbrev pub MeansWithin : Kind → Track → Section → List ℕ → List Captur
 MeansWithin kind.Interface track section octets shown next = (shown ≡ [])
     × ((after : Section) × Describes track.wanted track.check_len section octets after × (next ≡ in_section track after))
 MeansWithin kind.Enhanced track section octets shown next = (next ≡ track) × InEnhanced track.wanted section octets shown
+MeansWithin kind.Obsolete track section octets shown next = (next ≡ track) × InObsolete track.wanted section octets shown
 MeansWithin kind.Simple track section octets shown next = (next ≡ track) × InSimple track.wanted section octets shown
 MeansWithin kind.Other track section octets shown next = (next ≡ track) × (shown ≡ [])
 MeansWithin kind.Section track section octets shown next = ⊥
@@ -97,6 +98,7 @@ IsWrongSection order octets other = ⊥
 abbrev pub IsWrongWithin : Kind → Track → Section → List ℕ → Reason → Type 0
 IsWrongWithin kind.Interface track section octets why = IsWrongInterface track.wanted track.check_len section octets why
 IsWrongWithin kind.Enhanced track section octets why = IsWrongEnhanced track.wanted section octets why
+IsWrongWithin kind.Obsolete track section octets why = IsWrongObsolete track.wanted section octets why
 IsWrongWithin kind.Simple track section octets why = IsWrongSimple track.wanted section octets why
 IsWrongWithin rest track section octets why = ⊥
 

@@ -26,6 +26,8 @@ pub(crate) enum Kind {
     Interface,
     /// A packet with its interface and its time.
     Enhanced,
+    /// What an enhanced packet was before the format had one.
+    Obsolete,
     /// A packet of interface 0.
     Simple,
     /// Anything else.
@@ -39,6 +41,7 @@ fn numbered(number: u32) -> Kind
     match number {
         1 => Kind::Interface,
         6 => Kind::Enhanced,
+        2 => Kind::Obsolete,
         3 => Kind::Simple,
         _ => Kind::Other,
     }

@@ -8,7 +8,7 @@ ghost use Rattle.sr_pcapng.specs.PacketBlocks.{Gives};
 ghost use Rattle.sr_pcapng.specs.Steps.{order_in, begun, in_section, IsHeader, IsWrongSection, MeansWithin, IsWrongWithin, Means, IsWrong};
 
 use crate::block::{Kind, kind_of};
-use crate::enhanced::read_enhanced;
+use crate::enhanced::{read_enhanced, read_obsolete};
 use crate::interface::read_interface;
 use crate::simple::read_simple;
 use crate::track::{Section, Track};
@@ -66,6 +66,7 @@ fn read_within(
             }
         }
         Kind::Enhanced => read_enhanced(track.wanted, section, octets, packet),
+        Kind::Obsolete => read_obsolete(track.wanted, section, octets, packet),
         Kind::Simple => read_simple(track.wanted, section, octets, packet),
         Kind::Section | Kind::Other => Ok(false),
     }

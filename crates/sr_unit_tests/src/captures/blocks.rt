@@ -124,6 +124,18 @@ pub const CUT: Part = These(&[
     0xAB, 0, 0, 0, 36, 0, 0, 0,
 ]);
 
+/// The two others at 1.5 s of interface 0 in an obsolete packet, ahead of which seven were dropped.
+pub const OBSOLETE_AT_1500: Part = These(&[
+    2, 0, 0, 0, 36, 0, 0, 0, 0, 0, 7, 0, 0, 0, 0, 0, 0x60, 0xE3, 0x16, 0, 2, 0, 0, 0, 2, 0, 0, 0,
+    0xEF, 1, 0, 0, 36, 0, 0, 0,
+]);
+
+/// An obsolete packet of two octets at 1.5 s of interface 1, of the other order.
+pub const BIG_OBSOLETE_OF_1: Part = These(&[
+    0, 0, 0, 2, 0, 0, 0, 36, 0, 1, 0, 0, 0, 0, 0, 0, 0, 0x16, 0xE3, 0x60, 0, 0, 0, 2, 0, 0, 0, 2,
+    0x99, 1, 0, 0, 0, 0, 0, 36,
+]);
+
 /// A simple packet of two octets, of which one is held where the snap length is 1.
 pub const SIMPLE: Part = These(&[
     3, 0, 0, 0, 20, 0, 0, 0, 2, 0, 0, 0, 0x77, 0x78, 0, 0, 20, 0, 0, 0,

@@ -23,7 +23,7 @@ const ENDS: Ends = &[
     (75, b"# A 3 cut\n"),
 ];
 
-const COUNTS: &[u8] = b"# A 3 packets, 1 cut, 0 long, 1 empty\n";
+const COUNTS: &[u8] = b"# A 3 packets, 1 cut, 0 long, 1 empty, 1 before one ahead of them\n";
 
 /// Two octets at 1 s, and a check sequence of four behind them, which is passed over.
 const CHECKED: Text = &[
@@ -56,13 +56,13 @@ fn damage_is_endured(rt: HostRuntime) {
     expect_steps(&rt, DAMAGED);
 }
 
-/// The three lines have 34 octets, and their counts 38.
+/// The three lines have 34 octets, and their counts 66.
 const WRITERS: &[Step] = &[
     Step::Narrow(SMALL, 0, true),
     Step::Narrow(SMALL, 12, true),
     Step::Narrow(SMALL, 34, true),
-    Step::Narrow(SMALL, 71, true),
-    Step::Narrow(SMALL, 72, false),
+    Step::Narrow(SMALL, 99, true),
+    Step::Narrow(SMALL, 100, false),
 ];
 
 #[test]

@@ -42,7 +42,7 @@ const MERGED: &[Step] = &[
         ],
         None,
     ),
-    // A time that goes back counts as the one before; times are counted from the earliest packet of all.
+    // A time that goes back counts as the one before, and is counted; times are counted from the earliest packet of all.
     Step::Files(
         Files {
             a: BACK,
@@ -52,9 +52,28 @@ const MERGED: &[Step] = &[
         PLAIN,
         &[
             These(b"in B 0 11\nin B 1500 25\nin A 3000 44\nin A 3000 11\n"),
+            These(b"# A 2 packets, 0 cut, 0 long, 0 empty, 1 before one ahead of them\n"),
+            These(b"# B 2 packets, 0 cut, 0 long, 0 empty\n"),
+        ],
+        None,
+    ),
+    // So is each one that is before any ahead of it, but not one at the same time; a shift moves them all alike.
+    Step::Files(
+        Files {
+            a: &[HEADER, AT_4, AT_1, AT_2500, AT_4, AT_4],
+            b: &[],
+            c: ONE,
+        },
+        Manner {
+            shifts: [1000, 0, 0],
+            ..PLAIN
+        },
+        &[
             These(
-                b"# A 2 packets, 0 cut, 0 long, 0 empty\n# B 2 packets, 0 cut, 0 long, 0 empty\n",
+                b"in C 0 11\nin A 4000 44\nin A 4000 11\nin A 4000 25\nin A 4000 44\nin A 4000 44\n",
             ),
+            These(b"# A 5 packets, 0 cut, 0 long, 0 empty, 2 before one ahead of them\n"),
+            These(b"# C 1 packets, 0 cut, 0 long, 0 empty\n"),
         ],
         None,
     ),

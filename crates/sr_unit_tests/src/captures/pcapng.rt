@@ -1,9 +1,9 @@
 //! Files of the format pcapng: blocks of both orders, units of time, lengths, and what is no such file.
 
 use super::blocks::{
-    AT_1, AT_1500, BEHIND, BIG, BIG_AT_1, BIG_AT_1500, BIG_ETHERNET, COOKED, CUT, ETHERNET, HALVES,
-    HALVES_AT_1, HALVES_AT_1500, LITTLE, NANO, NANO_AT_1, NANO_AT_1500, OTHER_AT_1500, SIMPLE,
-    SNAPPED, STATISTICS, TOO_SHORT,
+    AT_1, AT_1500, BEHIND, BIG, BIG_AT_1, BIG_AT_1500, BIG_ETHERNET, BIG_OBSOLETE_OF_1, COOKED,
+    COOKED_BIG, CUT, ETHERNET, HALVES, HALVES_AT_1, HALVES_AT_1500, LITTLE, NANO, NANO_AT_1,
+    NANO_AT_1500, OBSOLETE_AT_1500, OTHER_AT_1500, SIMPLE, SNAPPED, STATISTICS, TOO_SHORT,
 };
 use super::runs::Ends;
 use super::steps::{Step, expect_steps};
@@ -33,6 +33,20 @@ const FORMS: &[Step] = &[
             OTHER_AT_1500,
             BIG,
             BIG_ETHERNET,
+            BIG_AT_1500,
+        ],
+        BOTH,
+        None,
+    ),
+    // An obsolete packet has a count of dropped ones behind the number of its interface.
+    Step::File(&[LITTLE, ETHERNET, AT_1, OBSOLETE_AT_1500], BOTH, None),
+    Step::File(
+        &[
+            BIG,
+            BIG_ETHERNET,
+            COOKED_BIG,
+            BIG_AT_1,
+            BIG_OBSOLETE_OF_1,
             BIG_AT_1500,
         ],
         BOTH,
