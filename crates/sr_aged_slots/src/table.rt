@@ -268,7 +268,7 @@ impl<V: Drop, const SPAN: u64, const MOST: usize> AgedSlots<V, SPAN, MOST> {
         }
     }
 
-    /// The same. The next calls at this time look at no value.
+    /// Whether a new value has no room at this time. The next calls at this time look at no value.
     pub fn is_full_now(&mut self, now: u64) -> bool
         ensures result { result
             ≡ not (nat_lt (length (with_room SPAN MOST now self.old.entries)) MOST) }

@@ -70,7 +70,7 @@ pub lacks_near : (held near n : ℕ) (kept : List ℕ) (a b : Option (List ℕ))
     → LosesFewer held n a b
 lacks_near held near n kept a b size l few = (kept, size, (l.0, omega (arith, l.1)))
 
--- and behind it
+-- a lack behind the front of a body
 pub lacks_far : (held near far n : ℕ) (kept : List ℕ) (a b c : Option (List ℕ)) → TakesAll true near kept a b → LosesFewer far n b c
     → near + far ≡ held → LosesFewer held (near + n) a c
 lacks_far held near far n kept a b c k l sum =

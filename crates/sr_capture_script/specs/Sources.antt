@@ -17,7 +17,7 @@ left_of remaining None = Some []
 left_of remaining (Some reader) = remaining reader
 
 -- how far a file was taken: what is known of it, how many octets, its latest moment, the number of its packets, how many are not used,
--- and what is due
+-- what is due
 pub record Progress : Type 0 where
   pub state : Format
   pub place : ℕ

@@ -118,7 +118,8 @@ pub fn settings_of(matches: &ArgMatches<'_>) -> Settings {
     }
 }
 
-/// A command with one option more, if it was made. A command is large: what holds one where memory may be refused is this and `with`.
+/// Adds an option, and passes an earlier error on. Only this function and `with` use `?` on a `Command`: over each such use the
+/// checker goes through what letting a command go does.
 pub fn with_arg<'a>(
     command: Result<Command<'a>, AllocError>,
     arg: Arg<'a>,

@@ -23,7 +23,7 @@ abbrev answer_by : ℕ → Option Heard → ℕ → ℕ → Lanes → Option Lan
 answer_by w (Some h) n seq lanes = Some (fresh_lanes w h.seen seq lanes)
 answer_by w None n seq lanes = cond (nat_lt n 1024) (Some lanes) None
 
--- and the record after it
+-- the record after it
 abbrev next_by : ℕ → Option Heard → ℕ → Lanes → ℕ → Heard
 next_by w (Some h) seq lanes now = record { seen = window_noted w h.seen seq lanes; time = max h.time now }
 next_by w None seq lanes now = begun_at w seq lanes now

@@ -178,7 +178,7 @@ impl<'a> ParcelView<'a> {
         Ok(Parcel::of_parts(self.form, octets, self.seq, self.path, self.wrong_lan))
     }
 
-    /// The same in this list, in place of what it held. Where the list has room for the octets no growth is needed.
+    /// A parcel of these octets in this list, in place of what it held. Where the list has room for the octets no growth is needed.
     pub fn to_parcel_in(&self, mut list: Vec<u8>) -> Result<Parcel, NoMemory>
         ensures parcel { IfOk result (λ p. p ≡ self.now) }
         ensures room { length self.now.octets ≤ vec_capacity list → IsOk result }

@@ -39,8 +39,8 @@ impl RoleKind {
         }
     }
 
-    /// Whether such a role wants a frame from A or B nowhere exactly where it owns the source: then the routes tell whether it
-    /// does, and its addresses need not be asked again.
+    /// Whether roles of this kind drop a frame from A or B exactly where they own its source. The routes then tell who owns
+    /// it, and no second look-up is needed.
     #[tactic(auto, using(crate::proofs::RouteLemmas::san_wants_all_but_owned))]
     pub fn wants_all_but_owned(self) -> bool
         ensures { result ≡ true → WantsAllButOwned self }

@@ -71,7 +71,7 @@ digit_is : (o : Option ℕ) (v : ℕ) → v ≡ unwrap_or o 255 → v < 16 → o
 digit_is None v e lt = absurd (omega arith)
 digit_is (Some w) v e lt = ap Some (sym e)
 
--- and a digit's value is
+-- a digit's value is below 16
 pub digit_small : (c v : ℕ) → v ≡ unwrap_or (hex_digit_value c) 255 → is_hex_digit c ≡ true → v < 16
 digit_small c v e is = grind (arith)
 

@@ -19,7 +19,7 @@ without_first s port = record s { core = record s.core { out = boxes_left s.core
 abbrev pub emptied_at : State → Port → State
 emptied_at s port = record s { core = record s.core { out = with_at s.core.out port [] } }
 
--- and without all that waits anywhere
+-- the node without all that waits anywhere
 abbrev pub emptied_everywhere : State → State
 emptied_everywhere s = record s { core = record s.core { out = boxes_empty } }
 

@@ -100,7 +100,7 @@ StatusIsOfHearings =
     (events : List Event) (now : ℕ) (mac : Mac) → AreUpTo now events
     → status_at (table_after events) mac now ≡ status_by (hearings_of mac events) mac now
 
--- and it is there exactly where it was heard less than 60000 ms ago
+-- an address is there exactly where it was heard less than 60000 ms ago
 abbrev pub HasIsOfHearings : Type 0
 HasIsOfHearings =
     (events : List Event) (now : ℕ) (mac : Mac) → AreUpTo now events

@@ -124,7 +124,7 @@ pub record Table : Type 0 where
   pub alarms : List Alarm
   pub late : List (Mac × Port)
 
--- and the addresses whose place is held
+-- a table, and the addresses whose place is held
 pub record Nodes : Type 0 where
   pub table : Table
   pub held : List Mac
@@ -158,7 +158,7 @@ abbrev pub after_answer : Learnt → Table → Hearing → Table
 after_answer Full t h = t
 after_answer answer t h = kept_by (lookup (mac_eq h.mac) t.entries) t h
 
--- and after any: one that is answered Full leaves it
+-- the table after any hearing: one that is answered Full leaves it
 abbrev pub after_hearing : Table → Hearing → Table
 after_hearing t h = after_answer (answer_to t h) t h
 

@@ -50,7 +50,7 @@ alarm_of before late mac e now = if is_live now e then ring_error before late ma
 abbrev pub alarms_at : List (Mac × Port) → ℕ → Entries → List Alarm
 alarms_at late now es = filter_map (λ e. alarm_of (lookup (mac_eq e.0) late) (late_port now e.1) e.0 e.1 now) es
 
--- and what it finds late
+-- what a prune finds late of an address
 abbrev pub found_late : Mac → Option Port → Option (Mac × Port)
 found_late mac None = None
 found_late mac (Some port) = Some (mac, port)

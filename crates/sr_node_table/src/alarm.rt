@@ -14,7 +14,7 @@ pub enum Alarm {
     NodeDown { mac: Mac, at: u64 },
 }
 
-/// The same alarms in the same order, in a buffer of its own of the same capacity. NoMemory: memory ran out.
+/// A copy of the alarms in their order, in a buffer of its own of the same capacity. NoMemory: an allocation failed.
 pub(crate) fn copy_of(
     alarms: &HeapCircularBuffer<Alarm>,
     alloc: Global,

@@ -36,8 +36,8 @@ impl LatePorts {
         })
     }
 
-    /// The same ports in the same order, in a map of its own under the same keys, and room for so many in all.
-    /// NoMemory: memory ran out.
+    /// A copy of these ports in their order, in a map of its own under the same keys, with room for so many in all.
+    /// NoMemory: an allocation failed.
     pub fn try_clone(&self, alloc: Global, room: usize) -> Result<LatePorts, NoMemory>
         ensures ports { IfOk result (λ own. own.ports ≡ self.now.ports) }
         ensures room { IfOk result (λ own. room ≤ length own.ports + own.room) }

@@ -64,7 +64,7 @@ fn later(time: Option<u64>, now: u64) -> u64
     }
 }
 
-// Takes a hearing at a port up.
+// Records an observation of the node at this port.
 fn hear_at(port: &mut AtPort, told: Told, now: u64)
     ensures { port.new ≡ port_after port.old told now }
 {

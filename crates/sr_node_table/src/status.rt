@@ -15,11 +15,11 @@ pub struct Status {
     pub addr: Mac,
     /// How long ago it was heard at port A, in milliseconds: `GREATEST_AGE` where never.
     pub if1_age: u32,
-    /// The same for port B.
+    /// How long ago it was heard at port B, in milliseconds: `GREATEST_AGE` where never.
     pub if2_age: u32,
     /// The number of its last numbered frame at port A; 0 where there was none.
     pub if1_seq: u16,
-    /// The same for port B.
+    /// The number of its last numbered frame at port B; 0 where there was none.
     pub if2_seq: u16,
     /// The index of port A, 1.
     pub if1_ifindex: u32,

@@ -46,7 +46,7 @@ order_more own xs ys order near (inl h) =
 order_more own xs ys order near (inr h) =
     inr (λ e. h.0 (sym (word_front Big xs ys 0 (omega (arith, near))) ∙ e), h.1)
 
--- and the order of the whole is that of its front
+-- the order of the whole is that of its front
 pub order_less : (own : Option ByteOrder) (xs ys : List ℕ) (order : ByteOrder) → 12 ≤ length xs → HasOrder own (xs ++ ys) order → HasOrder own xs order
 order_less own xs ys order near (inl h) =
     inl (sym (word_front Big xs ys 0 (omega (arith, near))) ∙ h.0, sym (word_front Big xs ys 8 (omega (arith, near))) ∙ h.1)

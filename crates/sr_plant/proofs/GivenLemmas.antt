@@ -65,7 +65,7 @@ arrived_few s port p now (answer.Sent number) t empty came = absurd came
 arrived_few s port p now (answer.Ticked sources nodes proxies life) t empty came = absurd came
 arrived_few s port p now (answer.Taken given) t empty came = absurd came
 
--- and so does any event
+-- any event leaves one parcel at most at each outlet
 pub stepped_few : (s : State) (e : Event) (a : Answer) (t : State) → IsEmptied s → Step s e a t → IsAtMostOneEach t.core.out
 stepped_few s (event.Arrive port p now) a t empty step = arrived_few s port p (time_at s now) a t empty step
 stepped_few s (event.Send frame now) (answer.Sent number) t empty step = rw (step.1, empty) (put_few (send_outlets s frame (time_at s now)) (sent_parcel s frame))

@@ -565,7 +565,7 @@ one_interlink : (link k m : ℕ) → One (λ (h : Hop). h.to ≡ interlink_of k)
 one_interlink link k m (inl is) = ap (λ t. t.node) is
 one_interlink link k m (inr none) = absurd none
 
--- and nothing else leads there
+-- nothing else leads there
 only_left : (s : TwoShape) (link : ℕ) (a b u : ℕ) (js : List (ℕ × ℕ)) → AreJoins s js → One (λ j. j ≡ (a, b)) js →
     One (λ h. h.to ≡ interlink_of a) (over_hops link js u) → u ≡ b
 only_left s link a b u [] joins o there = absurd o

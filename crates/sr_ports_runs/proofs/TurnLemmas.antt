@@ -87,7 +87,7 @@ segments_have_turns number g gs =
     let r = have_turns number [] (state_of g.opening) (state_of g.closing) g.entries.items steps in
     ∥∥₁_map (have_turns_behind number r.0 (state_of g.closing) gs) (λ rest. (rest.0, (r.0, r.1, rest.1))))
 
--- and only these
+-- segments have only these turns
 one_way_behind : AreUnique → (number : ℕ → ℤ) (before : List Turn) (s : State) (gs : List Segment) (turns others : List Turn)
     → AreTurnsBehind number before s gs turns → AreTurnsBehind number before s gs others → turns ≡ others
 one_way_behind unique number before s [] turns others are them = are ∙ sym them

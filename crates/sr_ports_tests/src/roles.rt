@@ -113,7 +113,7 @@ fn lived<R: Role, L: Ledger>(
     }
 }
 
-// The same, with the roles in boxes.
+// A life of a node whose roles are in boxes.
 fn lived_in_boxes(
     alloc: Global,
     node: Node,

@@ -93,7 +93,7 @@ abbrev pub after_answer : Learnt → Entries → Mac → ℕ → Entries
 after_answer Full s mac now = s
 after_answer _ s mac now = kept_by (lookup (mac_eq mac) s) s mac now
 
--- and after any: one that is answered Full leaves them
+-- the addresses after any learning: one that is answered Full leaves them
 abbrev pub after_learning : Entries → Mac → ℕ → Entries
 after_learning s mac now = after_answer (answer_to s mac now) s mac now
 

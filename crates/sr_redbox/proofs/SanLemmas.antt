@@ -102,7 +102,7 @@ learnt_where m es now = ap (λ o. answer_at o (times_of es) now) (look m es) ∙
     by None = ap (λ n. cond (nat_lt n 256) Learned Full) (ap length (room_times now es) ∙ length-times (with_room now es))
     by (Some e) = refl
 
--- and the addresses after it are the role's
+-- the addresses after it are the role's
 pub learned_where : (m : Mac) (es : Entries) (now : ℕ) → length es ≤ 256 → proxied_after (times_of es) m now ≡ times_of (after_learning es m now)
 learned_where m es now few = ap (λ o. with_address o (times_of es) m now) (look m es) ∙ by (lookup (mac_eq m) es) ∙ ap times_of (after_is (answer_to es m now))
   where

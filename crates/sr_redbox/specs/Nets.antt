@@ -33,7 +33,7 @@ PathsNameNets =
     (net path : ℕ) (octets : List ℕ) (p : ParcelImage)
     → 0 < net → IsFromLan net octets → IsRead (Tagged path) octets p → IsOfNet net p.path
 
--- and no box of the network, of whichever LAN, puts a frame with such a path from the ring into its LAN
+-- no box of the network, of whichever LAN, puts a frame with such a path from the ring into its LAN
 abbrev pub NoFrameGoesBack : Type 0
 NoFrameGoesBack =
     (r : RoleImage) (lan : Lan) (net : ℕ) (h : Header) (inlet : Port) (now : ℕ)

@@ -38,7 +38,7 @@ impl SanBox {
         SanBox::with_keys(alloc, mac, Keys::FIXED)
     }
 
-    /// The same, where the places of its table depend on these keys.
+    /// Such a role whose table places its addresses by these keys.
     pub fn with_keys(alloc: Global, mac: Mac, keys: Keys) -> SanBox
         ensures { san_of result ≡ role_of RoleKind.San mac }
     {

@@ -146,8 +146,8 @@ fn append_first_at<R: Role>(
     Ok(())
 }
 
-/// The same, apart, so that a port where nothing waits costs no call. It is asked once which port it is, and in each of the four
-/// answers that is known where the code is made.
+/// Out-of-line wrapper around `append_first_at`, so that a port where nothing waits costs no call. It is asked once which port it is,
+/// and in each of the four answers that is known where the code is made.
 #[inline(never)]
 fn append_first<R: Role>(
     role: RoleName,

@@ -172,7 +172,7 @@ pub fn run<R: BufRead, W: Write>(
 /// forgotten, in the order of first hearing, and then one for each alarm, the oldest first.
 ///
 /// # Errors
-/// As those of `run`. Where the end is at work, the line is the count of lines plus 1.
+/// Those of `run`. For an error while the status at the end is written, the line is the number of lines plus 1.
 pub fn run_status<R: BufRead, W: Write>(
     alloc: Global,
     setup: &Setup,

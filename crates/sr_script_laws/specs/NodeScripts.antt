@@ -44,7 +44,7 @@ abbrev pub arrival_pieces : (role : RoleName) (s : State) (number : ℕ) (port :
 arrival_pieces role s number port time octets text u (inl taken) = []
 arrival_pieces role s number port time octets text u (inr (fault, name, refuses, named, line, same)) = refused number name ∷ []
 
--- and so any other event
+-- any other event is such a turn too
 abbrev pub step_turns : (s : State) (number : ℕ) (e : Event) (text : List ℕ) (u : State) → StepsSo s number e text u → List Turn → List Turn
 step_turns s number e text u (inl (a, stepped, none)) turns = happened s e a (pos 0) ∷ turns
 step_turns s number e text u (inr is_refused) turns = turns

@@ -336,7 +336,7 @@ fn obey_script<S: Session, R: BufRead, W: Write>(
     }
 }
 
-/// The same, where nothing waits at all.
+/// Runs a session from its first line on, with no answer waiting.
 fn run_with<S: Session, R: BufRead, W: Write>(
     alloc: Global,
     session: &mut S,

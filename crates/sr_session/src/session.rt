@@ -22,8 +22,8 @@ pub trait Session: Drop {
 
     /// Obeys the line with this number. What is to be printed for it then stands behind what `text` held.
     ///
-    /// `Line` where the line is none that it knows, whatever memory there is; `Memory`. What `text` held stands then too, and
-    /// what stands behind it says nothing.
+    /// Errors: `Line` where it does not know the line, whatever memory there is; `Memory`. On an error the earlier contents of
+    /// `text` are unchanged; what was appended behind them says nothing and has to be cut off.
     fn answer(&mut self, number: u64, line: &[u8], text: &mut Text) -> Result<(), Word>
         ensures ok { OnOk result ((answer : List ℕ)
             × dialogue.Replied (state self.old) number line.now answer (state self.new)
@@ -38,7 +38,8 @@ pub trait Session: Drop {
     /// line has, without the LF that ends it. What is to be printed for it then stands behind what `text` held. None where the end of
     /// the line has to be looked for: nothing is done then, and `answer` obeys the line.
     ///
-    /// `Memory`. What `text` held stands then too, and what stands behind it says nothing.
+    /// Errors: `Memory`. On an error the earlier contents of `text` are unchanged; what was appended behind them says nothing and
+    /// has to be cut off.
     fn answer_front(
         &mut self,
         number: u64,

@@ -82,7 +82,7 @@ given_back old mid new key newly first second none other = by (mac_eq other key)
         ap (λ m. list_any (mac_eq m) new) k ∙ none ∙ sym (not-true (list_any (mac_eq key) old) (sym newly)) ∙ sym (ap (λ m. list_any (mac_eq m) old) k)
     by false t = second other t ∙ first other t
 
--- and one that was held already stays
+-- a place that was held already stays
 pub held_still : (old new : List Mac) (key : Mac) → false ≡ not (list_any (mac_eq key) old) → KeepsHeld old new key → list_any (mac_eq key) new ≡ true → KeepsAllHeld old new
 held_still old new key again others held other = by (mac_eq other key) refl
   where
@@ -301,7 +301,7 @@ module _ {V : Type 0} where
       by true h ih = refl
       by false h ih = ap (λ l. e ∷ l) (ih h)
 
-  -- and at one that has none adds it last
+  -- an insertion at an address that has none adds it last
   insert-absent : (m : Mac) (w : Slot V) (es : List (Mac × Slot V)) → lookup (mac_eq m) es ≡ None → insert_entry mac_eq es m w ≡ es ++ (m, w) ∷ []
   insert-absent m w [] h = refl
   insert-absent m w (e ∷ es) h =
@@ -444,7 +444,7 @@ module _ {V : Type 0} where
   put_there m s v es new written {n = n} unique absent n_is there is_v was_is written_is index_is is =
       put_moved m s es there v (n - 1) (ap (λ k. k - 1) n_is) new (is ∙ (λ j. move_index (written_is j) (index_is j) (n - 1))) unique absent is_v was_is
 
-  -- and where it has no place, and takes one
+  -- where it has no place, and takes one
   pub put_new : (m : Mac) {w : V} (v : Slot V) (es : List (Mac × Slot V)) {new : List (Mac × Slot V)} → lookup (mac_eq m) es ≡ None → v ≡ slot_of (Some w) false → new ≡ insert_entry mac_eq es m v
       → PutsLast m w false es new
   put_new m {w} v es {new} absent is_v is_new =

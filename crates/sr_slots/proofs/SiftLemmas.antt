@@ -25,7 +25,7 @@ module _ {V : Type 0} where
   least_rank-push order [] m v fits = omega arith
   least_rank-push order (e ∷ es) m v fits = omega (arith, least_rank-push order es m v fits)
 
-  -- and of a place with a value or without
+  -- the least rank with a place more, with a value or without
   least_rank-at : (order : V → ℕ) (es : List (Mac × V)) (m : Mac) (r : Option V) → rank_or_most order r < 2 ^ 64
       → least_rank order (es ++ entry_at m r) ≡ min (least_rank order es) (rank_or_most order r)
   least_rank-at order es m None fits = omega (arith, ap (least_rank order) (append-nil es), least_rank_le order es)

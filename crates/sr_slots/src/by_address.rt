@@ -240,7 +240,7 @@ impl<V: Drop + Ranked> Slots<V> {
         self.release_held();
     }
 
-    // The same where there are some. It stands apart, so that a call with nothing to give up costs a question.
+    // Gives up the held places where there are some. It is out of line, so that a call with nothing to give up costs one test.
     #[inline(never)]
     fn release_held(&mut self)
         ensures entries { self.new.entries ≡ self.old.entries }

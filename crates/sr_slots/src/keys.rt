@@ -118,7 +118,7 @@ fn after_each(mut word: u64, octets: &[u8]) -> u64
     word
 }
 
-// The same of an address, which is what a table looks up: two numbers in place of six steps.
+// The word after the six octets of an address, which is what a table looks up: two numbers in place of six steps.
 fn after_address(word: u64, octets: [u8; 6]) -> u64
     ensures { result ≡ fold (λ w octet. (w * 256 + octet) % 2 ^ 64) word octets }
 {

@@ -1,5 +1,5 @@
-//! A value behind a pointer: its memory is taken before there is a value, and it moves with no value. Its rank stands before the
-//! pointer.
+//! Memory for one value, allocated ahead of it. Clearing or moving the slot never moves the value. The rank is kept beside the
+//! pointer, so that a scan over ranks does not touch the heap.
 ghost use Rattle.std.specs.Prelude.{◌≡◌, None, Some, Option, is_some, nat_le, true, false, not, ◌&&◌, IfOk, IfSome, IfNone};
 ghost use Rattle.std.specs.Fn.{FnOnceReturnsAtMut};
 ghost use Rattle.std.specs.Option.{option_copied};

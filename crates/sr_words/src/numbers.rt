@@ -40,7 +40,7 @@ fn value_of_many(digits: &[u8]) -> Option<u64>
     Some(value)
 }
 
-/// The same, of few or of many.
+/// The number that decimal digits spell, whether they are few or many.
 fn value_of(digits: &[u8]) -> Option<u64>
     ensures { SomeIff result (AllDigits 10 digits.now
         × (digits_value 10 digits.now < 2 ^ 64)) (digits_value 10 digits.now) }

@@ -40,7 +40,7 @@ pub enum Sent {
     NoNumber(Mac, [u8; 2]),
     /// One source of many sends the node a frame under a number, in LAN A.
     OfSource(u16),
-    /// The same source's frame of another size, which has no number.
+    /// One source of many sends the node a frame of another size, which has no number.
     OfSourceNoNumber(u16),
     /// The node's own frame to all nodes, in LAN A.
     Own,

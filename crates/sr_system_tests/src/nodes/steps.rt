@@ -74,7 +74,7 @@ pub struct Told(pub u32, pub u32, pub u16, pub u16, pub Option<Mac>);
 pub enum Step {
     /// A frame comes in at a port, at this time.
     In(Port, Sent, u64, Outcome),
-    /// The same, decoded first and handed over as an event.
+    /// A frame comes in at a port, decoded first and handed over as an event.
     Handed(Port, Sent, u64, Outcome),
     /// So many octets of a frame come in, and not the rest.
     Cut(Port, Sent, usize, u64, Outcome),

@@ -12,9 +12,9 @@ use std::process::Abort;
 pub enum Step {
     /// A script on a ring of so many nodes, and what is written.
     Ring(usize, Text, Text),
-    /// The same in mode X.
+    /// A script on a ring of so many nodes in mode X, and what is written.
     RingX(usize, Text, Text),
-    /// The same on the nodes of two LANs.
+    /// A script on the nodes of two LANs, and what is written.
     Lan(usize, Text, Text),
     /// A script on a ring, whose line in the middle comes so many times, and what is written.
     Long(usize, Text, usize, Text, Text, Text),

@@ -19,7 +19,7 @@ fn is_told_once<D: Display>(alloc: Global, fault: &D, words: &str) -> Option<boo
     Some(text.as_str() == words)
 }
 
-/// The same. For want of memory it is asked again.
+/// Whether a fault is told so, asked again where an allocation failed.
 fn is_told<D: Display>(alloc: Global, fault: &D, words: &str) -> bool {
     match is_told_once(alloc, fault, words) {
         Some(is_told) => is_told,

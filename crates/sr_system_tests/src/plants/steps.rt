@@ -36,7 +36,7 @@ pub enum Act {
 pub enum Network {
     /// A ring of so many nodes.
     Ring(u8),
-    /// The same, whose node 1 has no room for another source.
+    /// A ring of so many nodes, whose node 1 has no room for another source.
     CrowdedRing(u8),
     /// A ring of so many nodes, of which those with an odd number are in mode X.
     MixedRing(u8),

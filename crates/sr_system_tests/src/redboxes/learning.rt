@@ -84,7 +84,7 @@ fn learn_whole(alloc: Global, role: &mut SanBox, header: &Header, port: Port, no
     came_of(call, is_as(alloc, role, before))
 }
 
-// The same; where memory runs out, once more.
+// What is learned, asked once more where an allocation failed.
 fn learn(alloc: Global, role: &mut SanBox, number: u16, port: Port, now: u64) -> Option<Learnt> {
     let header = header(mac(number));
     let came = match learn_whole(alloc, role, &header, port, now) {

@@ -190,7 +190,7 @@ fn goes_to(node: &mut Node, port: Port, sent: Sent, now: u64, outlets: &'static 
     came == Came::AsWanted
 }
 
-// The same, of many: the node is not compared.
+// A frame of one of many sources goes to these outlets; the node is not compared.
 fn goes_to_of_many(node: &mut Node, port: Port, sent: Sent, outlets: &'static [Port]) -> bool {
     let (octets, len) = octets_of(sent);
     let octets = &octets[..len.min(66)];

@@ -314,10 +314,10 @@ fn reader_fails(rt: HostRuntime) {
     expect_steps(&rt, READERS);
 }
 
-/// The same with empty lines.
+/// Frames with empty lines between.
 const FRAMES_APART: &[u8] = b"\nin A 0 00\n\n\nin A 0 00\n\n";
 
-/// The same with a line that is none of a script.
+/// Frames with a line that is not a line of a script.
 const A_FAULT_BEHIND: &[u8] = b"in A 0 00\nin A 0 00\nno line\nin A 0 00\n";
 
 /// Each line prints 19 octets.

@@ -15,7 +15,7 @@ const HEAD: &[u8] = b"0200000000010200000000020800";
 const HEARD: &[u8] =
     b"node 02:00:00:00:00:02 if1_age 0 if2_age 2147483647 if1_seq 64511 if2_seq 0 if1_ifindex 1 if2_ifindex 2\n";
 
-/// And of 02:00:00:00:00:03, which that frame announces, with 02:00:00:00:00:02 for its RedBox.
+/// What is told of 02:00:00:00:00:03, which that frame announces, with 02:00:00:00:00:02 for its RedBox.
 const ANNOUNCED: &[u8] =
     b"node 02:00:00:00:00:03 if1_age 0 if2_age 2147483647 if1_seq 0 if2_seq 0 if1_ifindex 1 if2_ifindex 2 \
 redbox 02:00:00:00:00:02\n";

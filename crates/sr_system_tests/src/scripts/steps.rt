@@ -16,11 +16,11 @@ use std::process::Abort;
 pub enum Step {
     /// A script, what is written, and how the run ends.
     Run(Text, Text, Ending),
-    /// The same at a ring node.
+    /// A script at a ring node, what is written, and how the run ends.
     Ring(Text, Text, Ending),
-    /// The same at a node.
+    /// A script at this node, what is written, and how the run ends.
     At(At, Text, Text, Ending),
-    /// The same at a node whose status is told at the end.
+    /// A script at this node, whose status is told at the end, what is written, and how the run ends.
     Status(At, Text, Text, Ending),
     /// A line, at the end of a script, with what may stand behind it: its frame of one octet is refused.
     Obeyed(&'static [u8]),
@@ -48,7 +48,7 @@ pub enum Step {
     Recorded(Told, Text, &'static [u8]),
     /// A script at a node, and the answers to each of its lines. Memory may be refused once.
     TakenUp(At, &'static [u8], &'static [&'static [u8]]),
-    /// The same, and the status behind them.
+    /// A script at a node, the answers to each of its lines, and the status behind them. Memory may be refused once.
     StatusTakenUp(At, &'static [u8], &'static [&'static [u8]]),
 }
 

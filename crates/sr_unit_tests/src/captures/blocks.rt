@@ -8,7 +8,7 @@ pub const LITTLE: Part = These(&[
     0xFF, 0xFF, 0xFF, 0xFF, 0xFF, 28, 0, 0, 0,
 ]);
 
-/// The same of the other order.
+/// A section header whose numbers have the other order.
 pub const BIG: Part = These(&[
     0x0A, 0x0D, 0x0D, 0x0A, 0, 0, 0, 28, 0x1A, 0x2B, 0x3C, 0x4D, 0, 1, 0, 0, 0xFF, 0xFF, 0xFF,
     0xFF, 0xFF, 0xFF, 0xFF, 0xFF, 0, 0, 0, 28,
@@ -28,7 +28,7 @@ pub const COOKED_OCTETS: &[u8] = &[
     1, 0, 0, 0, 20, 0, 0, 0, 113, 0, 0, 0, 0, 0, 0, 0, 20, 0, 0, 0,
 ];
 
-/// The same of the other order.
+/// An interface that is Linux cooked, whose numbers have the other order.
 pub const COOKED_BIG: Part = These(&[
     0, 0, 0, 1, 0, 0, 0, 20, 0, 113, 0, 0, 0, 0, 0, 0, 0, 0, 0, 20,
 ]);

@@ -74,7 +74,7 @@ fn reads_tagged(alloc: Global, row: Tagged, path: u8) -> Option<bool> {
     )
 }
 
-/// The same of a frame of a LAN. A ring's framing refuses it, but the one whose type is that of a tag.
+/// All framings read a frame of a LAN as they should. A ring's framing refuses it, but the one whose type is that of a tag.
 fn reads_trailed(alloc: Global, row: Trailed, lan: Lan, other: Lan) -> Option<bool> {
     let octets = trailed(alloc, row, lan)?;
     let plain = stripped(alloc, row)?;

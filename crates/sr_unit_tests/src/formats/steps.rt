@@ -37,7 +37,7 @@ pub enum Step {
     Untagged(Text, Text, Text, Tagging),
     /// A frame whose tag is not taken out: what reading it comes to, and why.
     NotUntagged(Text, Result<Tagging, TagFault>, UntagFault),
-    /// The same of the first octets alone, for each of the lengths from one to another: why, or none of both.
+    /// Why the first octets alone, for each of the lengths from one to another, are not read, or that they are.
     Cut(Text, (usize, usize), Cut),
     /// The VLAN, the type and the payload of a frame without its tag.
     UntaggedView(Text, (Option<u16>, u16), Text),

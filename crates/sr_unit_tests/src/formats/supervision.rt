@@ -18,7 +18,7 @@ const HEAD: Text = &[These(&[1, 0x15, 0x4e, 0, 1, 0, 2, 0, 0, 0, 0, 1, 0x88, 0xf
 
 const SECOND_HEAD: Text = &[These(&[1, 0x15, 0x4e, 0, 1, 0, 2, 0, 0, 0, 0, 2, 0x88, 0xfb])];
 
-/// The same from the second node, in VLAN 5.
+/// What the second node announces, in VLAN 5.
 const IN_VLAN: Text = &[These(&[
     1, 0x15, 0x4e, 0, 1, 0, 2, 0, 0, 0, 0, 2, 0x81, 0, 0, 5, 0x88, 0xfb,
 ])];

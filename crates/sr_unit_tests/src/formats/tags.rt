@@ -74,7 +74,7 @@ fn captured_frames_are_read(rt: HostRuntime) {
     expect_steps(&rt, CAPTURED);
 }
 
-// And each is what is written of its plain form.
+// Each is what is written of its plain form.
 const WRITTEN: &[Step] = &[
     Step::Tagged(
         PLAIN,

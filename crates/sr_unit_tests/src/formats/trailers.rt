@@ -10,7 +10,7 @@ use sr_supervision::Life;
 /// Destination, source and type of the frames that a Linux PRP node sent.
 const PLAIN: &[u8] = &[2, 0, 0, 0, 0, 2, 2, 0, 0, 0, 0, 1, 8, 0];
 
-/// The same in VLAN 5.
+/// A frame in VLAN 5.
 const IN_VLAN: &[u8] = &[2, 0, 0, 0, 0, 2, 2, 0, 0, 0, 0, 1, 0x81, 0, 0, 5, 8, 0];
 
 /// A VLAN tag below the VLAN tag, which is payload.
@@ -33,7 +33,7 @@ const FULL_IN_VLAN: Text = &[These(IN_VLAN), Counted(1494)];
 
 const SHORT_IN_TWO_VLANS: Text = &[These(IN_TWO_VLANS), Counted(0x2e)];
 
-/// And those trailers.
+/// The trailers of these frames.
 const OF_SHORT: Text = &[These(&[0xfc, 2, 0xa0, 0x34, 0x88, 0xfb])];
 
 const OF_LONGER: Text = &[These(&[0xfc, 6, 0xb0, 0x35, 0x88, 0xfb])];
@@ -72,7 +72,7 @@ fn captured_frames_are_read(rt: HostRuntime) {
     expect_steps(&rt, CAPTURED);
 }
 
-// And what is written behind each frame is what the Linux node wrote there.
+// What is written behind each frame is what the Linux node wrote there.
 const WRITTEN: &[Step] = &[
     Step::Appended(SHORT, 0xfc02, A, Some((SHORT, OF_SHORT))),
     Step::Appended(LONGER, 0xfc06, B, Some((LONGER, OF_LONGER))),

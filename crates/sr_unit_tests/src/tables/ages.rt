@@ -106,7 +106,7 @@ fn add(table: &mut Small, key: Mac, value: u32, now: u64) -> Option<bool> {
     Some(table.append(key, value, now).is_ok())
 }
 
-// The same. Where memory runs out the table is as it was, and the call is repeated.
+// Adds a value. Where an allocation failed the table is as it was, and the call is repeated.
 fn add_again(table: &mut Small, key: Mac, value: u32, now: u64) -> Option<bool> {
     match add(table, key, value, now) {
         Some(false) => add(table, key, value, now),

@@ -341,7 +341,7 @@ fn moves<const N: usize>(
     }
 }
 
-// The same with a random number, and at another one after it.
+// Whether both agree on a random number, and on another one after it.
 fn agrees_on<const N: usize>(
     chances: &mut Chances,
     first: &mut Both<N>,
@@ -367,7 +367,7 @@ fn first_disagreement<const N: usize>(
     Ok(None)
 }
 
-// The same of two new pairs.
+// The step at which two new pairs disagree, if they do.
 fn disagreement<const N: usize>(alloc: Global, seed: u64) -> Result<Option<u64>, Fail>
     requires { (N ≡ 16) ⊎ (N ≡ 32) }
 {

@@ -67,7 +67,7 @@ const EARLIER_NUMBERS: &[Step] = &[
     ),
 ];
 
-// The same sources in another order have one text.
+// Two tables of equal sources in different orders have one text.
 const ANY_ORDER: &[Step] = &[
     Hear(One, 3, 7, 1100),
     Hear(One, 258, 7, 1100),
