@@ -48,4 +48,5 @@ EachPairIsNewAfterAStart = (w : ℕ) → IsWidth w → (from : ℕ) (top : Mac �
 
 -- what stands in a table is steady by itself, so that the law asks of the new arrivals alone
 abbrev pub StartsAreSteady : Type 0
-StartsAreSteady = (w : ℕ) → IsWidth w → (from : ℕ) (top : Mac → ℤ) (s : Sources) → IsStart w from top s → AreSteady w (arrivals_of (stood top s))
+StartsAreSteady = (w : ℕ) → IsWidth w → (from : ℕ) (top : Mac → ℤ) (s : Sources) → IsStart w from top s
+    → AreSteady w (arrivals_of (stood top s))

@@ -144,7 +144,8 @@ impl<const N: usize> TableOf<N> {
     /// What `arrive` would answer, where memory does not run out. It takes none, and changes nothing.
     pub fn fresh(&self, src: Mac, seq: Seq, lanes: Lanes, now: u64) -> Result<Lanes, TableFull>
         requires { is_empty lanes ≡ false }
-        ensures answer { result_ok result ≡ arrive_answer (64 * N) self.now.sources src seq.0 lanes now }
+        ensures answer { result_ok result
+            ≡ arrive_answer (64 * N) self.now.sources src seq.0 lanes now }
         ensures full { IsErr result
             ↔ (length (live_others src now self.now.sources) ≡ most_sources) }
     {
@@ -257,7 +258,8 @@ impl<const N: usize> TableOf<N> {
             → IsErrOf result DupFault.TableFull }
 
         // What is ready for it takes no memory. A place that was held is used up, and no other.
-        ensures ready { is_ready self.old.held self.old.sources src ≡ true → IfErr result (λ e. e ≡ DupFault.TableFull) }
+        ensures ready { is_ready self.old.held self.old.sources src ≡ true
+            → IfErr result (λ e. e ≡ DupFault.TableFull) }
         ensures held { OnOk result (KeepsHeld self.old.held self.new.held src) }
         ensures used { OnOk result (is_held self.new.held src ≡ false) }
         ensures err { OnErr result (self.new ≡ self.old) }

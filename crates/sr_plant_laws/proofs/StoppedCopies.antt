@@ -11,6 +11,7 @@ use Rattle.sr_dup_window.specs.declared.lane_sets.Lanes.{Lanes}
 use Rattle.sr_dup_window.specs.LaneSets.{has, is_empty, lanes_where, only, union}
 use Rattle.sr_dup_window.specs.LaneLemmas.{has-lanes_where}
 use Rattle.sr_dup_window.specs.Windows.{no_marks}
+use Rattle.sr_dup_table.specs.Limits.{window}
 use Rattle.sr_dup_table.specs.Sources.{Sources, arrive_answer, after_arrive}
 use Rattle.sr_plant_laws.specs.Ports.{is_at, is_side, lane_at, inlet_lane}
 use Rattle.sr_plant_laws.specs.Handlings.{Handling}
@@ -161,22 +162,22 @@ new_at_1 = union (only lane.A) (only lane.GotB)
 abbrev new_at_2 : Lanes
 new_at_2 = union (only lane.B) (only lane.GotA)
 
-second_answer_1 : arrive_answer (table_after (first_copy danh_routes 1 A)) (mac 0) (wire (pos f.number))
+second_answer_1 : arrive_answer window (table_after (first_copy danh_routes 1 A)) (mac 0) (wire (pos f.number))
     (lanes_asked (second_copy danh_routes 1 B)) 0 ≡ Some new_at_1
 unfolding no_marks
 second_answer_1 = refl
 
-second_answer_2 : arrive_answer (table_after (first_copy danh_routes 2 B)) (mac 0) (wire (pos f.number))
+second_answer_2 : arrive_answer window (table_after (first_copy danh_routes 2 B)) (mac 0) (wire (pos f.number))
     (lanes_asked (second_copy danh_routes 2 A)) 0 ≡ Some new_at_2
 unfolding no_marks
 second_answer_2 = refl
 
 abbrev after_both_1 : Sources
-after_both_1 = after_arrive (table_after (first_copy danh_routes 1 A)) (mac 0) (wire (pos f.number))
+after_both_1 = after_arrive window (table_after (first_copy danh_routes 1 A)) (mac 0) (wire (pos f.number))
     (lanes_noted (second_copy danh_routes 1 B)) 0
 
 abbrev after_both_2 : Sources
-after_both_2 = after_arrive (table_after (first_copy danh_routes 2 B)) (mac 0) (wire (pos f.number))
+after_both_2 = after_arrive window (table_after (first_copy danh_routes 2 B)) (mac 0) (wire (pos f.number))
     (lanes_noted (second_copy danh_routes 2 A)) 0
 
 second_noted_1 : Notes mac each_one lanes_noted 1 0 (Some (second_copy danh_routes 1 B)) (table_after (first_copy danh_routes 1 A)) after_both_1
