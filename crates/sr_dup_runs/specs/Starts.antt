@@ -50,3 +50,10 @@ EachPairIsNewAfterAStart = (w : ℕ) → IsWidth w → (from : ℕ) (top : Mac �
 abbrev pub StartsAreSteady : Type 0
 StartsAreSteady = (w : ℕ) → IsWidth w → (from : ℕ) (top : Mac → ℤ) (s : Sources) → IsStart w from top s
     → AreSteady w (arrivals_of (stood top s))
+
+-- Every table can be such a start once the times of its sources are past, under each choice of whole numbers with the 16 bits of its
+-- greatest ones.
+abbrev pub CanStart : ℕ → Sources → Type 0
+CanStart w s = (from : ℕ) (top : Mac → ℤ)
+    → ((src : Mac) (h : Heard) → lookup (mac_eq src) s ≡ Some h → (h.seen.reference ≡ wire (top src)) × (h.time ≤ from))
+    → IsStart w from top s

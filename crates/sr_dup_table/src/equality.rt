@@ -1,4 +1,4 @@
-//! When two tables are equal: where their sources are, in order. Held places don't count.
+//! When two tables are equal: where their widths are, and their sources, in order. Held places don't count.
 ghost use Rattle.std.specs.Prelude.{◌≡◌};
 ghost use Rattle.sr_dup_table.specs.Sources.{same_heard, same_sources};
 ghost use Rattle.sr_dup_table.specs.Shown.{heard_of, sources_of};
