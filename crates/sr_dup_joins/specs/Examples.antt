@@ -21,4 +21,5 @@ taken_over src now lanes = merged (two_noted src now lanes (pos 1) (pos 2)) (two
 
 -- it is a steady tree, and nothing is forgotten
 abbrev pub TakenOverIsSteady : Type 0
-TakenOverIsSteady = (w : ℕ) → IsWidth w → (src : Mac) (now : ℕ) (lanes : Lanes) → IsSteady w (taken_over src now lanes) × KeepsAll now (taken_over src now lanes)
+TakenOverIsSteady = (w : ℕ) → IsWidth w → (src : Mac) (now : ℕ) (lanes : Lanes) →
+    IsSteady w (taken_over src now lanes) × KeepsAll now (taken_over src now lanes)

@@ -2,5 +2,4 @@ pub mod TableRuns
 pub mod Starts
 pub mod EpochLemmas
 pub mod RunLemmas
-pub mod StartLemmas
 pub mod SteadyLemmas

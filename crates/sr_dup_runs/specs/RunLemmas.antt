@@ -1,5 +1,33 @@
 -- What a steady run leaves in the table: of each source that is not forgotten, its epoch.
-use Rattle.std.proofs.Common.{◌≡◌, ℕ, ◌-◌, ◌≤◌, Bool, true, false, cond, ◌&&◌, not, List, [], ◌∷◌, ◌++◌, length, Option, None, Some, ℤ, arith, refl, sym, ap, ◌∙◌, subst, inl, inr}
+use Rattle.std.proofs.Common.{
+  ◌≡◌,
+  ℕ,
+  ◌-◌,
+  ◌≤◌,
+  Bool,
+  true,
+  false,
+  cond,
+  ◌&&◌,
+  not,
+  List,
+  [],
+  ◌∷◌,
+  ◌++◌,
+  length,
+  Option,
+  None,
+  Some,
+  ℤ,
+  arith,
+  refl,
+  sym,
+  ap,
+  ◌∙◌,
+  subst,
+  inl,
+  inr,
+}
 use Rattle.std.specs.Prelude.{max, nat_lt}
 use Rattle.std.specs.List.{IsDistinct}
 use Rattle.std.specs.Map.{lookup, set_value, keys_of}
@@ -23,8 +51,41 @@ use Rattle.sr_frame.specs.AddressLemmas.{mac_same, mac_refl, mac_laws}
 use Rattle.sr_dup_window.specs.Spots.{IsWidth}
 use Rattle.sr_dup_table.specs.Limits.{most_sources, forget_time}
 use Rattle.sr_dup_table.specs.Sources.{Heard, Sources, is_live, live_at, with_room, begun_at, heard_next, answer_of, after_of}
-use Rattle.sr_dup_runs.specs.TableRuns.{Noting, was_noted, IsNearAll, TableTurn, arrived, aged, notings_of, arrivals_of, latest, TableRun, IsNext, AreSteady, AreInOrder, EachPairIsNewOnce, BeyondIsNew}
-use Rattle.sr_dup_runs.specs.EpochLemmas.{noted_epoch, top_of, arrivals-epoch, noted_in_epoch, family_of, now_is_live, family_of_epoch, lookup_pushed, keys_pushed, absent_key, lookup_live, lookup_with_room, keys_with_room, absent_with_room, itself, none_twice}
+use Rattle.sr_dup_runs.specs.TableRuns.{
+  Noting,
+  was_noted,
+  IsNearAll,
+  TableTurn,
+  arrived,
+  aged,
+  notings_of,
+  arrivals_of,
+  latest,
+  TableRun,
+  IsNext,
+  AreSteady,
+  AreInOrder,
+  EachPairIsNewOnce,
+  BeyondIsNew,
+}
+use Rattle.sr_dup_runs.specs.EpochLemmas.{
+  noted_epoch,
+  top_of,
+  arrivals-epoch,
+  noted_in_epoch,
+  family_of,
+  now_is_live,
+  family_of_epoch,
+  lookup_pushed,
+  keys_pushed,
+  absent_key,
+  lookup_live,
+  lookup_with_room,
+  keys_with_room,
+  absent_with_room,
+  itself,
+  none_twice,
+}
 
 module _ (W : ℕ) (width : IsWidth W) where
   -- a number near some notings
@@ -52,7 +113,8 @@ module _ (W : ℕ) (width : IsWidth W) where
   keeps_later q xs last now None le k = λ later h. k later (omega (arith, le, h))
   keeps_later q xs last now (Some h) le k = record { time = omega (arith, k.time, le); stands = k.stands; later = k.later }
 
-  pub keeps_past : (q : Mac) (x : Noting) (xs : List Noting) (last : ℕ) (o : Option Heard) → mac_eq q x.arrival.src ≡ false → Keeps q xs last o →
+  pub keeps_past : (q : Mac) (x : Noting) (xs : List Noting) (last : ℕ) (o : Option Heard) → mac_eq q x.arrival.src ≡ false →
+      Keeps q xs last o →
       Keeps q (x ∷ xs) last o
   keeps_past q x xs last None other k = λ now h. rw other (k now h)
   keeps_past q x xs last (Some h) other k = record { time = k.time; stands = rw other k.stands; later = λ now g. rw other (k.later now g) }
@@ -76,7 +138,8 @@ module _ (W : ℕ) (width : IsWidth W) where
       StandsFor W h.seen (family_of (x ∷ noted_epoch q x.arrival.time xs)) (top_of (x ∷ noted_epoch q x.arrival.time xs)) →
       KeepsEpoch q (x ∷ xs) x.arrival.time h
   keeps_own q x xs h own at stands =
-      let now_is : noted_epoch q x.arrival.time (x ∷ xs) ≡ x ∷ noted_epoch q x.arrival.time xs = rw (own, now_is_live x.arrival.time) refl in
+      let now_is : noted_epoch q x.arrival.time (x ∷ xs) ≡ x ∷ noted_epoch q x.arrival.time xs =
+      rw (own, now_is_live x.arrival.time) refl in
       record {
         time = omega (arith, at);
         stands = rw (at, now_is) stands;
@@ -116,7 +179,8 @@ module _ (W : ℕ) (width : IsWidth W) where
       ]
 
   -- a source that is not there begins its record at the end
-  pushed_keeps : (x : Noting) (xs : List Noting) (last : ℕ) (s : Sources) → Kept xs last s → last ≤ x.arrival.time → is_empty x.lanes ≡ false
+  pushed_keeps : (x : Noting) (xs : List Noting) (last : ℕ) (s : Sources) → Kept xs last s → last ≤ x.arrival.time →
+      is_empty x.lanes ≡ false
       → lookup (mac_eq x.arrival.src) s ≡ None →
       Kept (x ∷ xs) x.arrival.time
       (with_room x.arrival.time s ++ (x.arrival.src, begun_at W (wire x.arrival.number) x.lanes x.arrival.time) ∷ [])
@@ -130,7 +194,8 @@ module _ (W : ℕ) (width : IsWidth W) where
       (begun_stands (noted_epoch x.arrival.src x.arrival.time xs) x none some) in
       let found : lookup (mac_eq x.arrival.src) (r ++ (x.arrival.src, h) ∷ [])
       ≡ Some h = rw (lookup_pushed x.arrival.src r x.arrival.src h, absent, mac_refl x.arrival.src) refl in
-      let here : Keeps x.arrival.src (x ∷ xs) x.arrival.time (lookup (mac_eq x.arrival.src) (r ++ (x.arrival.src, h) ∷ [])) = rw found own in
+      let here : Keeps x.arrival.src (x ∷ xs) x.arrival.time (lookup (mac_eq x.arrival.src) (r ++ (x.arrival.src, h) ∷ [])) =
+      rw found own in
       record {
         each = λ q. elim (cases_Bool (mac_eq q x.arrival.src)) [
           | inl same ↦ let P : Mac →
@@ -192,7 +257,8 @@ module _ (W : ℕ) (width : IsWidth W) where
             | inr old ↦
                 let none : noted_epoch x.arrival.src x.arrival.time xs
                 ≡ [] = later_is ∙ ap (λ b. cond b (noted_epoch x.arrival.src h.time xs) []) old in
-                rw old (keeps_own x.arrival.src x xs (begun_at W (wire x.arrival.number) x.lanes x.arrival.time) (mac_refl x.arrival.src) refl
+                rw old (keeps_own x.arrival.src x xs (begun_at W (wire x.arrival.number) x.lanes x.arrival.time)
+                (mac_refl x.arrival.src) refl
                 (begun_stands (noted_epoch x.arrival.src x.arrival.time xs) x none some))
           ]
 
@@ -280,7 +346,8 @@ module _ (W : ℕ) (width : IsWidth W) where
             ap (λ ls. has ls lane) (sym same) ∙ live_new x xs h.seen lane stands next
         | inr old ↦
             let same : x.lanes ≡ fresh = let e : Some x.lanes ≡ Some fresh = rw old at is in cc in
-            let none : noted_epoch x.arrival.src x.arrival.time xs ≡ [] = later_is ∙ ap (λ b. cond b (noted_epoch x.arrival.src h.time xs) [])
+            let none : noted_epoch x.arrival.src x.arrival.time xs ≡ [] = later_is
+            ∙ ap (λ b. cond b (noted_epoch x.arrival.src h.time xs) [])
             old in
             ap (λ ls. has ls lane) (sym same) ∙ begun_new x xs lane none next
       ]
@@ -293,7 +360,8 @@ module _ (W : ℕ) (width : IsWidth W) where
   new_once_from from base start begun x fresh before t lane run order steady =
       let s = run.0 in
       let kept = run_keeps from base start begun before s run.1 order.0 steady.0 in
-      answers_new x fresh (notings_of base before) (latest from before) s (lookup (mac_eq x.arrival.src) s) lane (kept.each x.arrival.src) order.1
+      answers_new x fresh (notings_of base before) (latest from before) s (lookup (mac_eq x.arrival.src) s) lane (kept.each x.arrival.src)
+      order.1
       steady.1 run.2.1
 
   pub none_kept : Kept [] 0 []

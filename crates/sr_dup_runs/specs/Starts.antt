@@ -48,4 +48,12 @@ EachPairIsNewAfterAStart = (w : ℕ) → IsWidth w → (from : ℕ) (top : Mac �
 
 -- what stands in a table is steady by itself, so that the law asks of the new arrivals alone
 abbrev pub StartsAreSteady : Type 0
-StartsAreSteady = (w : ℕ) → IsWidth w → (from : ℕ) (top : Mac → ℤ) (s : Sources) → IsStart w from top s → AreSteady w (arrivals_of (stood top s))
+StartsAreSteady = (w : ℕ) → IsWidth w → (from : ℕ) (top : Mac → ℤ) (s : Sources) → IsStart w from top s
+    → AreSteady w (arrivals_of (stood top s))
+
+-- Every table can be such a start once the times of its sources are past, under each choice of whole numbers with the 16 bits of its
+-- greatest ones.
+abbrev pub CanStart : ℕ → Sources → Type 0
+CanStart w s = (from : ℕ) (top : Mac → ℤ)
+    → ((src : Mac) (h : Heard) → lookup (mac_eq src) s ≡ Some h → (h.seen.reference ≡ wire (top src)) × (h.time ≤ from))
+    → IsStart w from top s

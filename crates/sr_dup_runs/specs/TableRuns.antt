@@ -1,4 +1,4 @@
--- Runs of a table of either width from its start, and what they are asked to be. Newest first, so that what came before a turn is the rest of the list.
+-- Runs of a table of either width, and what they are asked to be. Newest first, so that what came before a turn is the rest of the list.
 use Rattle.std.specs.Prelude.{
   ◌≡◌,
   ℕ,

@@ -1,7 +1,10 @@
 //! Laws over runs of the table, of either width: lists of arrivals and ageings, from the empty table or from any other on.
 
-ghost use Rattle.sr_dup_runs.specs.Starts.{EachPairIsNewAfterAStart, StartsAreSteady};
+ghost use Rattle.sr_dup_runs.specs.Starts.{CanStart, EachPairIsNewAfterAStart, StartsAreSteady};
 ghost use Rattle.sr_dup_runs.specs.TableRuns.{BeyondIsNew, EachPairIsNewOnce, NumbersAreSteady, late_copies, over_the_end};
+
+use sr_dup_table::DupTable;
+use sr_dup_table::join_laws::tables_are_sound;
 
 /// In every steady run from the empty table, an arrival is new on exactly the asked lanes on which no earlier copy of it was
 /// noted, among all that ever came.
@@ -26,6 +29,13 @@ pub fn each_pair_is_new_after_a_start()
 pub fn starts_are_steady()
     ensures { StartsAreSteady }
 {}
+
+/// Every table can be the start of a run, under every choice of whole numbers that agrees with the 16 bits of its greatest ones.
+pub fn tables_can_start(table: &DupTable)
+    ensures { CanStart table.now.width table.now.sources }
+{
+    tables_are_sound(table);
+}
 
 /// In every run, steady or not, a number that is a width or more behind the greatest one, or whose source is
 /// forgotten, is new on all asked lanes: what a record can't tell is never dropped.

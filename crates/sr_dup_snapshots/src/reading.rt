@@ -12,7 +12,7 @@ ghost use Rattle.sr_dup_snapshots.specs.Reading.{source_in, sources_in, is_after
 
 use crate::fields::{HEAD, SOURCE_LEN};
 use crate::record::{lanes_noted, read_record};
-use sr_dup_table::{DupFault, DupTable, MOST_SOURCES};
+use sr_dup_table::{DupFault, MOST_SOURCES, NarrowTable};
 use sr_dup_window::Record;
 use sr_frame::Mac;
 use sr_sequence::Seq;
@@ -58,7 +58,7 @@ fn is_after(last: Option<Mac>, src: Mac) -> bool
 }
 
 // Adds a source to those before it, and answers its address.
-fn add(table: &mut DupTable, last: Option<Mac>, source: &[u8]) -> Result<Mac, DupFault>
+fn add(table: &mut NarrowTable, last: Option<Mac>, source: &[u8]) -> Result<Mac, DupFault>
     requires size { length source.now ≡ 784 }
     requires room { length table.old.sources < most_sources }
     requires absent { (src : Mac) → is_after last src ≡ true
@@ -81,7 +81,7 @@ fn add(table: &mut DupTable, last: Option<Mac>, source: &[u8]) -> Result<Mac, Du
 }
 
 // The table of so many sources, each behind the one before.
-fn read_sources(alloc: Global, count: usize, sources: &[u8]) -> Result<DupTable, DupFault>
+fn read_sources(alloc: Global, count: usize, sources: &[u8]) -> Result<NarrowTable, DupFault>
     requires size { length sources.now ≡ 784 * count }
     requires few { count ≤ most_sources }
     ensures sources { IfOk result (λ table. table.sources ≡ sources_in count sources.now) }
@@ -89,7 +89,7 @@ fn read_sources(alloc: Global, count: usize, sources: &[u8]) -> Result<DupTable,
     ensures refused { IfErr result (λ e. (e ≡ DupFault.NoMemory) ⊎ ((e ≡ DupFault.BadSnapshot)
         × (are_in_order None (sources_in count sources.now) ≡ false))) }
 {
-    let mut table = DupTable::new(alloc);
+    let mut table = NarrowTable::new(alloc);
     table.make_room(count)?;
     let mut last = None;
     let mut rest = sources;
@@ -128,12 +128,12 @@ fn sources_of(octets: &[u8]) -> Option<(usize, &[u8])>
     }
 }
 
-/// The table that a snapshot spells, in one pass. Its sources stand in ascending order of address, and it holds no place.
+/// The narrow table that a snapshot spells, in one pass. Its sources stand in ascending order of address, and it holds no place.
 /// BadSnapshot: the octets are no snapshot of a table. Their head or version is another, they have over 1024 sources, another length
 /// than so many sources have, addresses that don't ascend, or a source without its greatest number on any lane.
 /// NoMemory: memory ran out. No more is asked for than sources stand in the octets: the places of all at once, and then for each its
 /// record, which has memory of its own, so that what goes moves no record.
-pub fn read_snapshot(alloc: Global, octets: &[u8]) -> Result<DupTable, DupFault>
+pub fn read_snapshot(alloc: Global, octets: &[u8]) -> Result<NarrowTable, DupFault>
     ensures found { IfOk result (λ table. IsSnapshot octets.now table.sources) }
     ensures held { IfOk result (λ table. table.held ≡ []) }
     ensures only { (s : Sources) → IsSnapshot octets.now s

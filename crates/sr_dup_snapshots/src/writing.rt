@@ -9,7 +9,7 @@ ghost use Rattle.sr_dup_snapshots.specs.Snapshots.{source_octets, spelling, mac_
 
 use crate::fields::{HEAD, HEAD_LEN, SOURCE_LEN};
 use crate::record::put_record;
-use sr_dup_table::DupTable;
+use sr_dup_table::NarrowTable;
 use sr_dup_window::Record;
 use sr_frame::{Mac, NoMemory};
 use std::alloc::Global;
@@ -27,7 +27,7 @@ fn put_source(out: &mut Vec<u8>, src: Mac, time: u64, seen: &Record<16>) -> Resu
 }
 
 // The addresses of a table, in ascending order.
-fn sorted(alloc: Global, table: &DupTable) -> Result<Vec<Mac>, NoMemory>
+fn sorted(alloc: Global, table: &NarrowTable) -> Result<Vec<Mac>, NoMemory>
     ensures all { IfOk result (λ macs. IsPermutation (keys_of table.now.sources) macs.items) }
     ensures ascending { IfOk result (λ macs. IsStrictlySortedBy mac_order macs.items) }
 {
@@ -40,7 +40,7 @@ fn sorted(alloc: Global, table: &DupTable) -> Result<Vec<Mac>, NoMemory>
 }
 
 // Appends the sources that stand at these addresses.
-fn put_sources(out: &mut Vec<u8>, table: &DupTable, macs: &[Mac]) -> Result<(), NoMemory>
+fn put_sources(out: &mut Vec<u8>, table: &NarrowTable, macs: &[Mac]) -> Result<(), NoMemory>
     ensures spelled { OnOk result (out.new.items
         ≡ out.old.items ++ flat_map source_octets (sources_at table.now.sources macs.now)) }
     ensures each { OnOk result (AllByRecursion IsSource (sources_at table.now.sources macs.now)) }
@@ -53,9 +53,9 @@ fn put_sources(out: &mut Vec<u8>, table: &DupTable, macs: &[Mac]) -> Result<(), 
     Ok(())
 }
 
-/// The snapshot of a table, version 1: one text for all tables that are the same, in whatever order. Held places are no part of it.
+/// The snapshot of a narrow table, version 1: one text for all tables that are the same, in whatever order. Held places are no part of it.
 /// NoMemory: memory ran out.
-pub fn snapshot(alloc: Global, table: &DupTable) -> Result<Vec<u8>, NoMemory>
+pub fn snapshot(alloc: Global, table: &NarrowTable) -> Result<Vec<u8>, NoMemory>
     ensures { IfOk result (λ octets. IsSnapshot octets.items table.now.sources) }
 {
     let count = table.source_count();

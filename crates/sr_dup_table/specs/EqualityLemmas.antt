@@ -7,7 +7,7 @@ use Rattle.std.proofs.lemmas.Bool.Decides.{Decides-eqb, Decides-like, Decides-an
 use Rattle.sr_frame.specs.declared.fields.Mac.{Mac}
 use Rattle.sr_dup_window.specs.Windows.{same_window}
 use Rattle.sr_dup_window.specs.WindowLemmas.{Decides-same_window}
-use Rattle.sr_dup_table.specs.Sources.{Heard, Sources, Table, same_heard, same_sources, same_table}
+use Rattle.sr_dup_table.specs.Sources.{Heard, Sources, Table, same_heard, same_sources, same_tables}
 
 pub Decides-heard : (a b : Heard) → Decides (same_heard a b) (a ≡ b)
 Decides-heard a b =
@@ -33,5 +33,6 @@ Decides-same_sources s t = pointwise_decides Decides-source s t
 pub same_sources-equiv : IsEquivalence same_sources
 same_sources-equiv = decided same_sources Decides-same_sources
 
-pub same_table-equiv : IsEquivalence same_table
-same_table-equiv = and_equiv (on_equiv (λ (t : Table). t.width) (decided eqb Decides-eqb)) (on_equiv (λ (t : Table). t.sources) same_sources-equiv)
+pub same_tables-equiv : IsEquivalence same_tables
+same_tables-equiv =
+    and_equiv (on_equiv (λ (t : Table). t.width) (decided eqb Decides-eqb)) (on_equiv (λ (t : Table). t.sources) same_sources-equiv)

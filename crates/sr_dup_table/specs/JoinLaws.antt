@@ -35,7 +35,8 @@ MergeCommutes = (w : ℕ) → IsWidth w → (now : ℕ) (one other both turned :
 
 -- merging a table with itself leaves what is live
 abbrev pub MergeIsIdempotent : Type 0
-MergeIsIdempotent = (w : ℕ) → IsWidth w → (now : ℕ) (one both : Sources) → IsSound w one → MergesTo w now one one both → AreSame both (live_at now one)
+MergeIsIdempotent = (w : ℕ) → IsWidth w → (now : ℕ) (one both : Sources) → IsSound w one
+    → MergesTo w now one one both → AreSame both (live_at now one)
 
 -- merging in either grouping gives the same, where of each address the three records' greatest numbers are close
 abbrev pub MergeAssociates : Type 0

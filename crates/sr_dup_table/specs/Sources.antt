@@ -132,5 +132,5 @@ abbrev pub is_ready : List Mac → Sources → Mac → Bool
 is_ready held s src = is_held held src || is_some (lookup (mac_eq src) s)
 
 -- whether two tables are equal: they have one width, and their sources are one; held places don't count
-abbrev pub same_table : Table → Table → Bool
-same_table = eq_of_both (on (λ t. t.width) nat_eq) (on (λ t. t.sources) same_sources)
+abbrev pub same_tables : Table → Table → Bool
+same_tables = eq_of_both (on (λ t. t.width) nat_eq) (on (λ t. t.sources) same_sources)

@@ -1,4 +1,4 @@
-//! When two tables are equal: where their sources are, in order. Held places don't count.
+//! When two tables are equal: where their widths are, and their sources, in order. Held places don't count.
 ghost use Rattle.std.specs.Prelude.{◌≡◌};
 ghost use Rattle.sr_dup_table.specs.Sources.{same_heard, same_sources};
 ghost use Rattle.sr_dup_table.specs.Shown.{heard_of, sources_of};
@@ -59,12 +59,12 @@ impl<const N: usize> Eq for TableOf<N> {
 
 impl PartialEq for DupTable {
     ghost use Rattle.std.specs.Cmp.{partial_equiv_from_equiv};
-    ghost use Rattle.sr_dup_table.specs.Sources.{same_table};
-    ghost use Rattle.sr_dup_table.specs.EqualityLemmas.{same_table-equiv};
+    ghost use Rattle.sr_dup_table.specs.Sources.{same_tables};
+    ghost use Rattle.sr_dup_table.specs.EqualityLemmas.{same_tables-equiv};
 
-    ghost eq = { same_table };
+    ghost eq = { same_tables };
 
-    ghost laws = { partial_equiv_from_equiv same_table-equiv };
+    ghost laws = { partial_equiv_from_equiv same_tables-equiv };
 
     fn eq(&self, other: &DupTable) -> bool {
         match (self.parts(), other.parts()) {
@@ -76,7 +76,7 @@ impl PartialEq for DupTable {
 }
 
 impl Eq for DupTable {
-    ghost use Rattle.sr_dup_table.specs.EqualityLemmas.{same_table-equiv};
+    ghost use Rattle.sr_dup_table.specs.EqualityLemmas.{same_tables-equiv};
 
-    ghost laws = { same_table-equiv };
+    ghost laws = { same_tables-equiv };
 }

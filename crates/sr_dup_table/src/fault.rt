@@ -21,8 +21,8 @@ pub enum DupFault {
     /// Two records of this source are 32768 apart, so neither is ahead of the other.
     #[error("two records of a source are 32768 apart")]
     Apart(Mac),
-    /// The two tables remember different numbers of a source: their widths differ.
-    #[error("two duplicate tables of different widths")]
+    /// Two tables remember different counts of numbers of a source.
+    #[error("the duplicate tables have different widths")]
     OtherWidth,
     /// What was given is no snapshot of a table.
     #[error("no snapshot of a duplicate table")]

@@ -193,7 +193,8 @@ fn join_of<const N: usize>(
     requires unique { IsDistinct mac_eq (keys_of other.now.sources) }
     requires width { (N ≡ 16) ⊎ (N ≡ 32) }
     ensures joins { IfOk result (λ both.
-        IsJoin (64 * N) (live_at now table.now.sources) (live_at now other.now.sources) both.sources) }
+        IsJoin (64 * N) (live_at now table.now.sources) (live_at now other.now.sources)
+        both.sources) }
     ensures held { IfOk result (λ both. both.held ≡ []) }
     ensures joinable { OnOk result
         (join_fault (live_at now table.now.sources) (live_at now other.now.sources) ≡ None) }

@@ -5,7 +5,7 @@ ghost use Rattle.std.specs.Option.{option_map};
 ghost use Rattle.sr_dup_window.specs.LaneSets.{is_empty};
 ghost use Rattle.sr_slots.specs.Places.{IsFound, KeepsHeld};
 ghost use Rattle.sr_dup_table.specs.Limits.{window, most_sources};
-ghost use Rattle.sr_dup_table.specs.Widths.{numbers_of};
+ghost use Rattle.sr_dup_table.specs.Widths.{numbers_in};
 ghost use Rattle.sr_dup_table.specs.Sources.{IsTable, is_held, is_ready, live_at, live_others, arrive_fault, arrive_answer, after_arrive};
 ghost use Rattle.sr_dup_table.specs.ShownTables.{shown_parts};
 
@@ -62,7 +62,8 @@ impl Model for DupTable {
 impl From<NarrowTable> for DupTable {
     ghost use Rattle.sr_dup_table.specs.Limits.{window};
 
-    ghost from_gives = { λ t d. d ≡ record { width = window; sources = t.sources; held = t.held } };
+    ghost from_gives = { λ t d.
+        d ≡ record { width = window; sources = t.sources; held = t.held } };
 
     fn from(table: NarrowTable) -> DupTable {
         DupTable {
@@ -74,7 +75,8 @@ impl From<NarrowTable> for DupTable {
 impl From<WideTable> for DupTable {
     ghost use Rattle.sr_dup_table.specs.Limits.{wide_window};
 
-    ghost from_gives = { λ t d. d ≡ record { width = wide_window; sources = t.sources; held = t.held } };
+    ghost from_gives = { λ t d.
+        d ≡ record { width = wide_window; sources = t.sources; held = t.held } };
 
     fn from(table: WideTable) -> DupTable {
         DupTable {
@@ -104,7 +106,7 @@ impl DupTable {
 
     /// A table of no source and of this width, whose places depend on these keys, which takes no memory yet.
     pub fn with_width(alloc: Global, width: Width, keys: Keys) -> DupTable
-        ensures width { result.width ≡ numbers_of width }
+        ensures width { result.width ≡ numbers_in width }
         ensures sources { result.sources ≡ [] }
         ensures held { result.held ≡ [] }
     {
@@ -129,7 +131,7 @@ impl DupTable {
 
     /// How many numbers of a source are remembered.
     pub fn width(&self) -> Width
-        ensures { numbers_of result ≡ self.now.width }
+        ensures { numbers_in result ≡ self.now.width }
     {
         match &self.tables {
             Tables::Narrow(_) => Width::Narrow,

@@ -1,4 +1,4 @@
-//! The table.
+//! Tables of one width.
 ghost use Rattle.std.specs.Prelude.{◌≡◌, ℕ, ◌*◌, ◌+◌, ◌==◌, ◌||◌, ◌⊎◌, IsTrue, ◌≤◌, ◌↔◌, [], true, false, not, nat_lt, Some, None, length, ◌++◌, ◌∷◌, IsOk, OnOk, OnErr, IfOk, IfErr, IfSome, IfNone, IsErr, IsErrOf, is_some};
 ghost use Rattle.std.specs.Result.{result_ok};
 ghost use Rattle.std.specs.Map.{lookup};
@@ -9,7 +9,6 @@ ghost use Rattle.sr_frame.specs.Addresses.{mac_eq};
 ghost use Rattle.sr_slots.specs.Places.{IsFound, KeepsHeld};
 ghost use Rattle.sr_dup_table.specs.Limits.{most_sources};
 ghost use Rattle.sr_dup_table.specs.Sources.{IsTable, is_held, is_ready, live_at, live_others, arrive_fault, with_room, arrive_answer, after_arrive, heard_next, fresh_at};
-ghost use Rattle.std.specs.Bool.{OnTrue, OnFalse};
 ghost use Rattle.sr_dup_table.specs.Joins.{is_apart, joined_heard, with_source};
 ghost use Rattle.sr_dup_table.specs.Shown.{heard_of, sources_of};
 
@@ -38,9 +37,9 @@ pub struct Look {
     pub spot: Option<Spot>,
 }
 
-/// Duplicate records by source, in the order of first hearing. Times are in milliseconds. A source that was silent for
-/// `ENTRY_FORGET_TIME` is forgotten: it counts as absent, and stands in the table until it is heard again, until `age`, or until
-/// a new source meets a full table.
+/// Duplicate records by source, each of the last `64 * N` numbers (`N` is 16 or 32), in the order of first hearing. Times are in
+/// milliseconds. A source that was silent for `ENTRY_FORGET_TIME` is forgotten: it counts as absent, and stands in the table until
+/// it is heard again, until `age`, or until a new source meets a full table.
 #[derive(Drop)]
 pub struct TableOf<const N: usize> {
     slots: AgedSlots<Record<N>, ENTRY_FORGET_TIME, MOST_SOURCES>,
@@ -144,7 +143,8 @@ impl<const N: usize> TableOf<N> {
     /// What `arrive` would answer, where memory does not run out. It takes none, and changes nothing.
     pub fn fresh(&self, src: Mac, seq: Seq, lanes: Lanes, now: u64) -> Result<Lanes, TableFull>
         requires { is_empty lanes ≡ false }
-        ensures answer { result_ok result ≡ arrive_answer (64 * N) self.now.sources src seq.0 lanes now }
+        ensures answer { result_ok result
+            ≡ arrive_answer (64 * N) self.now.sources src seq.0 lanes now }
         ensures full { IsErr result
             ↔ (length (live_others src now self.now.sources) ≡ most_sources) }
     {
@@ -184,7 +184,7 @@ impl<const N: usize> TableOf<N> {
         })
     }
 
-    // The same for a source that has a record.
+    // What `look` answers of a source that has a record.
     #[inline(always)]
     fn look_known(&self, src: Mac, seq: Seq, lanes: Lanes, now: u64) -> Option<Look>
         ensures answer { option_map (λ look. look.fresh) result
@@ -257,7 +257,8 @@ impl<const N: usize> TableOf<N> {
             → IsErrOf result DupFault.TableFull }
 
         // What is ready for it takes no memory. A place that was held is used up, and no other.
-        ensures ready { is_ready self.old.held self.old.sources src ≡ true → IfErr result (λ e. e ≡ DupFault.TableFull) }
+        ensures ready { is_ready self.old.held self.old.sources src ≡ true
+            → IfErr result (λ e. e ≡ DupFault.TableFull) }
         ensures held { OnOk result (KeepsHeld self.old.held self.new.held src) }
         ensures used { OnOk result (is_held self.new.held src ≡ false) }
         ensures err { OnErr result (self.new ≡ self.old) }
@@ -377,7 +378,7 @@ impl<const N: usize> TableOf<N> {
         self.slots.is_full(now)
     }
 
-    // The same. The next calls at this time go over no sources.
+    // Whether a new source has no room. The next calls at this time go over no sources.
     fn is_full_now(&mut self, now: u64) -> bool
         ensures result { result
             ≡ not (nat_lt (length (with_room now self.old.sources)) most_sources) }

@@ -1,6 +1,6 @@
 //! How many numbers of a source a table remembers.
 ghost use Rattle.std.specs.Prelude.{◌≡◌};
-ghost use Rattle.sr_dup_table.specs.Widths.{numbers_of};
+ghost use Rattle.sr_dup_table.specs.Widths.{numbers_in};
 
 /// How many numbers of a source a table remembers, up to the greatest one (choice of this project: the standard leaves the size
 /// of the duplicate list open).
@@ -15,7 +15,7 @@ pub enum Width {
 impl Width {
     /// How many numbers of a source are remembered.
     pub fn numbers(self) -> usize
-        ensures { result ≡ numbers_of self }
+        ensures { result ≡ numbers_in self }
     {
         match self {
             Width::Narrow => 1024,

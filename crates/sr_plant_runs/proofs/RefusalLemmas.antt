@@ -9,6 +9,7 @@ use Rattle.sr_frame.specs.declared.ports.Port.{Port}
 use Rattle.sr_frame.specs.declared.ports.Port.TheVariants.{H, A, B, C}
 use Rattle.sr_sequence.specs.declared.Seq.{Seq}
 use Rattle.sr_dup_window.specs.declared.lane_sets.Lanes.{Lanes}
+use Rattle.sr_dup_table.specs.Limits.{window}
 use Rattle.sr_dup_table.specs.Sources.{Sources, arrive_answer}
 use Rattle.sr_forwarding.specs.declared.fault.ReadFault.TheVariants as read
 use Rattle.sr_forwarding.specs.declared.form.Form.{Form}
@@ -71,13 +72,13 @@ tagged_enough t s C octets q fits side is = absurd cc
 
 -- the table of the node always answers
 abbrev Answers : Sources → Type 0
-Answers s = (src : Mac) (seq : ℕ) (lanes : Lanes) (now : ℕ) → arrive_answer s src seq lanes now ≡ None → ⊥
+Answers s = (src : Mac) (seq : ℕ) (lanes : Lanes) (now : ℕ) → arrive_answer window s src seq lanes now ≡ None → ⊥
 
 goes_somewhere : (m : Mode) (s : Sources) (port : Port) (src : Mac) (number : Option Seq) (wanted : Outlets) (now : ℕ) → Answers s → new_outlets m s port src number wanted now ≡ None → ⊥
 goes_somewhere m s port src None wanted now all none = absurd cc
-goes_somewhere m s port src (Some seq) wanted now all none = by (arrive_answer s src seq.0 (lanes_asked m port wanted) now) refl none
+goes_somewhere m s port src (Some seq) wanted now all none = by (arrive_answer window s src seq.0 (lanes_asked m port wanted) now) refl none
   where
-    by : (x : Option Lanes) → arrive_answer s src seq.0 (lanes_asked m port wanted) now ≡ x → option_map (λ fresh. outlets_on m fresh wanted) x ≡ None → ⊥
+    by : (x : Option Lanes) → arrive_answer window s src seq.0 (lanes_asked m port wanted) now ≡ x → option_map (λ fresh. outlets_on m fresh wanted) x ≡ None → ⊥
     by None e n = all src seq.0 (lanes_asked m port wanted) now e
     by (Some x) e n = absurd cc
 

@@ -10,3 +10,4 @@ mod records;
 mod slow_record;
 mod snapshots;
 mod steps;
+mod widths;

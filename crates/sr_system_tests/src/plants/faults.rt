@@ -79,6 +79,10 @@ const TABLES: &[(DupFault, &str)] = &[
         DupFault::Apart(Mac([2, 0, 0, 0, 0, 1])),
         "two records of a source are 32768 apart",
     ),
+    (
+        DupFault::OtherWidth,
+        "the duplicate tables have different widths",
+    ),
     (DupFault::BadSnapshot, "no snapshot of a duplicate table"),
 ];
 

@@ -1,12 +1,13 @@
-//! One driver for all tests: it makes three tables, takes them through a table of steps, and answers at which step they differ.
+//! One driver for all tests: it makes three narrow tables and a wide one, takes them through a table of steps, and answers at which step they differ.
 ghost use Rattle.std.specs.Prelude.{◌≡◌, false};
 ghost use Rattle.sr_dup_window.specs.LaneSets.{is_empty};
 
 use sr_dup_snapshots::{read_snapshot, snapshot};
-use sr_dup_table::{DupFault, DupTable};
+use sr_dup_table::{DupFault, DupTable, NarrowTable, Parts, Width};
 use sr_dup_window::Lanes;
 use sr_frame::Mac;
 use sr_sequence::Seq;
+use sr_slots::Keys;
 use std::alloc::Global;
 use std::process::Abort;
 
@@ -16,6 +17,8 @@ pub enum Which {
     One,
     Two,
     Three,
+    /// The one that remembers 2048 numbers of a source.
+    Wide,
 }
 
 /// What a merge came to.
@@ -25,6 +28,7 @@ pub enum Merged {
     Full,
     /// The records of this source are apart.
     Apart(u16),
+    OtherWidth,
     /// Something else, or a refusal that changed a table.
     Wrong,
 }
@@ -68,6 +72,7 @@ struct Tables {
     one: DupTable,
     two: DupTable,
     three: DupTable,
+    wide: DupTable,
 }
 
 fn mac(number: u16) -> Mac {
@@ -90,6 +95,7 @@ fn table(tables: &Tables, which: Which) -> &DupTable {
         Which::One => &tables.one,
         Which::Two => &tables.two,
         Which::Three => &tables.three,
+        Which::Wide => &tables.wide,
     }
 }
 
@@ -115,6 +121,7 @@ fn outcome_of(answer: Result<(), DupFault>) -> Merged {
         Ok(()) => Merged::Joined,
         Err(DupFault::TableFull) => Merged::Full,
         Err(DupFault::Apart(src)) => Merged::Apart(number_of(src)),
+        Err(DupFault::OtherWidth) => Merged::OtherWidth,
         Err(_) => Merged::Wrong,
     }
 }
@@ -165,6 +172,7 @@ fn merge_tables(alloc: Global, tables: &mut Tables, into: Which, from: Which, no
         Which::One => merge(alloc, &mut tables.one, &other, now),
         Which::Two => merge(alloc, &mut tables.two, &other, now),
         Which::Three => merge(alloc, &mut tables.three, &other, now),
+        Which::Wide => merge(alloc, &mut tables.wide, &other, now),
     }
 }
 
@@ -176,10 +184,18 @@ fn knows(table: &DupTable, src: u16, seq: u16, now: u64) -> Option<bool> {
 }
 
 // A snapshot, asked for again where memory runs out.
-fn text_of(alloc: Global, table: &DupTable) -> Option<Vec<u8>> {
+fn narrow_text_of(alloc: Global, table: &NarrowTable) -> Option<Vec<u8>> {
     match snapshot(alloc, table) {
         Ok(text) => Some(text),
         Err(_) => snapshot(alloc, table).ok(),
+    }
+}
+
+// A wide table has none.
+fn text_of(alloc: Global, table: &DupTable) -> Option<Vec<u8>> {
+    match table.parts() {
+        Parts::Narrow(narrow) => narrow_text_of(alloc, narrow),
+        Parts::Wide(_) => None,
     }
 }
 
@@ -216,9 +232,9 @@ fn reads_back(alloc: Global, table: &DupTable) -> bool {
         return false;
     };
     match read_snapshot(alloc, text.as_slice()) {
-        Ok(own) => own.same(table),
+        Ok(own) => DupTable::from(own).same(table),
         Err(DupFault::NoMemory) => match read_snapshot(alloc, text.as_slice()) {
-            Ok(own) => own.same(table),
+            Ok(own) => DupTable::from(own).same(table),
             Err(_) => false,
         },
         Err(_) => false,
@@ -228,7 +244,7 @@ fn reads_back(alloc: Global, table: &DupTable) -> bool {
 // Whether octets are no snapshot, or that of the table which is read.
 fn is_own_text(alloc: Global, text: &[u8]) -> bool {
     match read_snapshot(alloc, text) {
-        Ok(own) => match text_of(alloc, &own) {
+        Ok(own) => match narrow_text_of(alloc, &own) {
             Some(again) => again.as_slice() == text,
             None => false,
         },
@@ -275,9 +291,11 @@ fn holds(alloc: Global, tables: &mut Tables, step: Step) -> bool {
         Step::Hear(Which::One, src, seq, now) => hear(&mut tables.one, src, seq, now),
         Step::Hear(Which::Two, src, seq, now) => hear(&mut tables.two, src, seq, now),
         Step::Hear(Which::Three, src, seq, now) => hear(&mut tables.three, src, seq, now),
+        Step::Hear(Which::Wide, src, seq, now) => hear(&mut tables.wide, src, seq, now),
         Step::Fill(Which::One, from, count, now) => fill(&mut tables.one, from, count, now),
         Step::Fill(Which::Two, from, count, now) => fill(&mut tables.two, from, count, now),
         Step::Fill(Which::Three, from, count, now) => fill(&mut tables.three, from, count, now),
+        Step::Fill(Which::Wide, from, count, now) => fill(&mut tables.wide, from, count, now),
         Step::MakeRoom(more, answer) => make_room(alloc, &mut tables.one, more, answer),
         Step::Merge(into, from, now, answer) => merge_tables(alloc, tables, into, from, now)
             == answer,
@@ -321,6 +339,7 @@ fn first_wrong(alloc: Global, steps: &[Step]) -> Option<usize> {
         one: DupTable::new(alloc),
         two: DupTable::new(alloc),
         three: DupTable::new(alloc),
+        wide: DupTable::with_width(alloc, Width::Wide, Keys::FIXED),
     };
     steps
         .iter()
