@@ -132,7 +132,7 @@ ring_run = (
 
 -- an empty table has not noted the first copy on any lane
 first_noted : (d : Handling) (k : ℕ) → is_arrival_at k d ≡ true → is_empty (lanes_noted d) ≡ false → is_empty (lanes_asked d) ≡ false →
-    GoesWhereNew each_one d (lanes_asked d) → Notes mac each_one all_narrow lanes_noted k d.time (Some d) [] (table_after d)
+    GoesWhereNew each_one d (lanes_asked d) → Notes mac each_one all_narrow lanes_noted k d.time (Some d) [] (table_after window d)
 first_noted d k here some asks goes = record {
   handling = d;
   asked = lanes_asked d;
@@ -163,25 +163,25 @@ new_at_1 = union (only lane.A) (only lane.GotB)
 abbrev new_at_2 : Lanes
 new_at_2 = union (only lane.B) (only lane.GotA)
 
-second_answer_1 : arrive_answer window (table_after (first_copy danh_routes 1 A)) (mac 0) (wire (pos f.number))
+second_answer_1 : arrive_answer window (table_after window (first_copy danh_routes 1 A)) (mac 0) (wire (pos f.number))
     (lanes_asked (second_copy danh_routes 1 B)) 0 ≡ Some new_at_1
 unfolding no_marks
 second_answer_1 = refl
 
-second_answer_2 : arrive_answer window (table_after (first_copy danh_routes 2 B)) (mac 0) (wire (pos f.number))
+second_answer_2 : arrive_answer window (table_after window (first_copy danh_routes 2 B)) (mac 0) (wire (pos f.number))
     (lanes_asked (second_copy danh_routes 2 A)) 0 ≡ Some new_at_2
 unfolding no_marks
 second_answer_2 = refl
 
 abbrev after_both_1 : Sources
-after_both_1 = after_arrive window (table_after (first_copy danh_routes 1 A)) (mac 0) (wire (pos f.number))
+after_both_1 = after_arrive window (table_after window (first_copy danh_routes 1 A)) (mac 0) (wire (pos f.number))
     (lanes_noted (second_copy danh_routes 1 B)) 0
 
 abbrev after_both_2 : Sources
-after_both_2 = after_arrive window (table_after (first_copy danh_routes 2 B)) (mac 0) (wire (pos f.number))
+after_both_2 = after_arrive window (table_after window (first_copy danh_routes 2 B)) (mac 0) (wire (pos f.number))
     (lanes_noted (second_copy danh_routes 2 A)) 0
 
-second_noted_1 : Notes mac each_one all_narrow lanes_noted 1 0 (Some (second_copy danh_routes 1 B)) (table_after (first_copy danh_routes 1 A)) after_both_1
+second_noted_1 : Notes mac each_one all_narrow lanes_noted 1 0 (Some (second_copy danh_routes 1 B)) (table_after window (first_copy danh_routes 1 A)) after_both_1
 second_noted_1 = record {
   handling = second_copy danh_routes 1 B;
   asked = lanes_asked (second_copy danh_routes 1 B);
@@ -196,7 +196,7 @@ second_noted_1 = record {
   goes = by_port (λ o. false ≡ (danh_routes 1 f B o && (has new_at_1 (lane_at o) && not (is_kept_back each_one (second_copy danh_routes 1 B) new_at_1 o)))) refl refl refl refl;
 }
 
-second_noted_2 : Notes mac each_one all_narrow lanes_noted 2 0 (Some (second_copy danh_routes 2 A)) (table_after (first_copy danh_routes 2 B)) after_both_2
+second_noted_2 : Notes mac each_one all_narrow lanes_noted 2 0 (Some (second_copy danh_routes 2 A)) (table_after window (first_copy danh_routes 2 B)) after_both_2
 second_noted_2 = record {
   handling = second_copy danh_routes 2 A;
   asked = lanes_asked (second_copy danh_routes 2 A);
@@ -230,7 +230,7 @@ ring_noted zero = (
 ring_noted (suc zero) = (
   after_both_1,
   (
-    table_after (first_copy danh_routes 1 A),
+    table_after window (first_copy danh_routes 1 A),
     (
       [],
       ([], ([], refl, inl ((refl, tt), refl)), inl ((refl, tt), refl)),
@@ -241,11 +241,11 @@ ring_noted (suc zero) = (
   inl ((refl, tt), refl),
 )
 ring_noted (suc (suc zero)) = (
-  table_after (first_copy danh_routes 2 B),
+  table_after window (first_copy danh_routes 2 B),
   (
-    table_after (first_copy danh_routes 2 B),
+    table_after window (first_copy danh_routes 2 B),
     (
-      table_after (first_copy danh_routes 2 B),
+      table_after window (first_copy danh_routes 2 B),
       (
         [],
         ([], refl, inl ((refl, tt), refl)),
@@ -299,15 +299,15 @@ ring_premises = record {
   limits = (
     (
       (
-        ((tt, tt, few 0 (sent ∷ []) (omega arith)), (omega arith, omega arith), few 0 (first_copy danh_routes 2 B ∷ sent ∷ []) (omega arith)),
+        ((tt, tt, few all_narrow (omega arith) 0 (sent ∷ []) (omega arith)), (omega arith, omega arith), few all_narrow (omega arith) 0 (first_copy danh_routes 2 B ∷ sent ∷ []) (omega arith)),
         (omega arith, omega arith),
-        few 0 (first_copy danh_routes 1 A ∷ first_copy danh_routes 2 B ∷ sent ∷ []) (omega arith),
+        few all_narrow (omega arith) 0 (first_copy danh_routes 1 A ∷ first_copy danh_routes 2 B ∷ sent ∷ []) (omega arith),
       ),
       (omega arith, omega arith),
-      few 0 (second_copy danh_routes 1 B ∷ first_copy danh_routes 1 A ∷ first_copy danh_routes 2 B ∷ sent ∷ []) (omega arith),
+      few all_narrow (omega arith) 0 (second_copy danh_routes 1 B ∷ first_copy danh_routes 1 A ∷ first_copy danh_routes 2 B ∷ sent ∷ []) (omega arith),
     ),
     (omega arith, omega arith),
-    few 0 (second_copy danh_routes 2 A ∷ second_copy danh_routes 1 B ∷ first_copy danh_routes 1 A ∷ first_copy danh_routes 2 B ∷ sent ∷ []) (omega arith),
+    few all_narrow (omega arith) 0 (second_copy danh_routes 2 A ∷ second_copy danh_routes 1 B ∷ first_copy danh_routes 1 A ∷ first_copy danh_routes 2 B ∷ sent ∷ []) (omega arith),
   );
 }
 
