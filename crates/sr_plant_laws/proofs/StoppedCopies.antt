@@ -20,12 +20,13 @@ use Rattle.sr_plant_laws.specs.OneNode.{WasPut}
 use Rattle.sr_plant_laws.specs.PlantEvents.{Plant, opening, PlantRun, done_in}
 use Rattle.sr_plant_laws.specs.Steadiness.{is_arrival_at}
 use Rattle.sr_plant_laws.specs.Tables.{AreAsked, is_kept_back, GoesWhereNew, Notes, MemberRun}
-use Rattle.sr_plant_laws.proofs.ExampleLemmas.{few, addressed, lanes_are, by_port, is_none_of, table_after}
+use Rattle.sr_plant_laws.proofs.ExampleLemmas.{narrow_widths, few, addressed, lanes_are, by_port, is_none_of, table_after}
 use Rattle.sr_plant_laws.specs.Examples.{mac, each_one, is_noted, lanes_noted, f, sent, first_copy, second_copy, copy_to}
 use Rattle.sr_plant_laws.specs.RingParts.{onward}
 use Rattle.sr_plant_laws.specs.Rings.{ring, danh_routes}
 use Rattle.sr_plant_laws.specs.RingLaws.{RingPremises}
 use Rattle.sr_plant_laws.specs.Examples.{mode_x_events, quiet_ring, CopiesStopInModeX}
+use Rattle.sr_plant_laws.specs.Widths.{all_narrow}
 
 -- in mode X the table is asked also where copies came in
 abbrev is_asked : Handling → Lane → Bool
@@ -131,7 +132,7 @@ ring_run = (
 
 -- an empty table has not noted the first copy on any lane
 first_noted : (d : Handling) (k : ℕ) → is_arrival_at k d ≡ true → is_empty (lanes_noted d) ≡ false → is_empty (lanes_asked d) ≡ false →
-    GoesWhereNew each_one d (lanes_asked d) → Notes mac each_one lanes_noted k d.time (Some d) [] (table_after d)
+    GoesWhereNew each_one d (lanes_asked d) → Notes mac each_one all_narrow lanes_noted k d.time (Some d) [] (table_after window d)
 first_noted d k here some asks goes = record {
   handling = d;
   asked = lanes_asked d;
@@ -162,25 +163,25 @@ new_at_1 = union (only lane.A) (only lane.GotB)
 abbrev new_at_2 : Lanes
 new_at_2 = union (only lane.B) (only lane.GotA)
 
-second_answer_1 : arrive_answer window (table_after (first_copy danh_routes 1 A)) (mac 0) (wire (pos f.number))
+second_answer_1 : arrive_answer window (table_after window (first_copy danh_routes 1 A)) (mac 0) (wire (pos f.number))
     (lanes_asked (second_copy danh_routes 1 B)) 0 ≡ Some new_at_1
 unfolding no_marks
 second_answer_1 = refl
 
-second_answer_2 : arrive_answer window (table_after (first_copy danh_routes 2 B)) (mac 0) (wire (pos f.number))
+second_answer_2 : arrive_answer window (table_after window (first_copy danh_routes 2 B)) (mac 0) (wire (pos f.number))
     (lanes_asked (second_copy danh_routes 2 A)) 0 ≡ Some new_at_2
 unfolding no_marks
 second_answer_2 = refl
 
 abbrev after_both_1 : Sources
-after_both_1 = after_arrive window (table_after (first_copy danh_routes 1 A)) (mac 0) (wire (pos f.number))
+after_both_1 = after_arrive window (table_after window (first_copy danh_routes 1 A)) (mac 0) (wire (pos f.number))
     (lanes_noted (second_copy danh_routes 1 B)) 0
 
 abbrev after_both_2 : Sources
-after_both_2 = after_arrive window (table_after (first_copy danh_routes 2 B)) (mac 0) (wire (pos f.number))
+after_both_2 = after_arrive window (table_after window (first_copy danh_routes 2 B)) (mac 0) (wire (pos f.number))
     (lanes_noted (second_copy danh_routes 2 A)) 0
 
-second_noted_1 : Notes mac each_one lanes_noted 1 0 (Some (second_copy danh_routes 1 B)) (table_after (first_copy danh_routes 1 A)) after_both_1
+second_noted_1 : Notes mac each_one all_narrow lanes_noted 1 0 (Some (second_copy danh_routes 1 B)) (table_after window (first_copy danh_routes 1 A)) after_both_1
 second_noted_1 = record {
   handling = second_copy danh_routes 1 B;
   asked = lanes_asked (second_copy danh_routes 1 B);
@@ -195,7 +196,7 @@ second_noted_1 = record {
   goes = by_port (λ o. false ≡ (danh_routes 1 f B o && (has new_at_1 (lane_at o) && not (is_kept_back each_one (second_copy danh_routes 1 B) new_at_1 o)))) refl refl refl refl;
 }
 
-second_noted_2 : Notes mac each_one lanes_noted 2 0 (Some (second_copy danh_routes 2 A)) (table_after (first_copy danh_routes 2 B)) after_both_2
+second_noted_2 : Notes mac each_one all_narrow lanes_noted 2 0 (Some (second_copy danh_routes 2 A)) (table_after window (first_copy danh_routes 2 B)) after_both_2
 second_noted_2 = record {
   handling = second_copy danh_routes 2 A;
   asked = lanes_asked (second_copy danh_routes 2 A);
@@ -216,7 +217,7 @@ ring_tables (suc zero) = after_both_1
 ring_tables (suc (suc zero)) = after_both_2
 ring_tables (suc (suc (suc k))) = []
 
-ring_noted : (k : ℕ) → MemberRun mac each_one lanes_noted k (ring 3) mode_x_events quiet_ring ring_run (ring_tables k)
+ring_noted : (k : ℕ) → MemberRun mac each_one all_narrow lanes_noted k (ring 3) mode_x_events quiet_ring ring_run (ring_tables k)
 ring_noted zero = (
   [],
   (
@@ -229,7 +230,7 @@ ring_noted zero = (
 ring_noted (suc zero) = (
   after_both_1,
   (
-    table_after (first_copy danh_routes 1 A),
+    table_after window (first_copy danh_routes 1 A),
     (
       [],
       ([], ([], refl, inl ((refl, tt), refl)), inl ((refl, tt), refl)),
@@ -240,11 +241,11 @@ ring_noted (suc zero) = (
   inl ((refl, tt), refl),
 )
 ring_noted (suc (suc zero)) = (
-  table_after (first_copy danh_routes 2 B),
+  table_after window (first_copy danh_routes 2 B),
   (
-    table_after (first_copy danh_routes 2 B),
+    table_after window (first_copy danh_routes 2 B),
     (
-      table_after (first_copy danh_routes 2 B),
+      table_after window (first_copy danh_routes 2 B),
       (
         [],
         ([], refl, inl ((refl, tt), refl)),
@@ -270,7 +271,7 @@ ring_noted (suc (suc (suc k))) = (
   inl ((is_none_of k 2 (omega arith), tt), refl),
 )
 
-ring_premises : RingPremises 3 mac each_one lanes_noted mode_x_events quiet_ring
+ring_premises : RingPremises 3 mac each_one all_narrow lanes_noted mode_x_events quiet_ring
 ring_premises = record {
   happened = record {
     run = ring_run;
@@ -283,6 +284,7 @@ ring_premises = record {
   };
   tables = record {
     addressed = addressed 3;
+    widths = narrow_widths;
     noted = lanes_are;
     out = (
       λ (e : false ≡ true). absurd (true≢false (sym e)),
@@ -297,15 +299,15 @@ ring_premises = record {
   limits = (
     (
       (
-        ((tt, tt, few 0 (sent ∷ []) (omega arith)), (omega arith, omega arith), few 0 (first_copy danh_routes 2 B ∷ sent ∷ []) (omega arith)),
+        ((tt, tt, few all_narrow (omega arith) 0 (sent ∷ []) (omega arith)), (omega arith, omega arith), few all_narrow (omega arith) 0 (first_copy danh_routes 2 B ∷ sent ∷ []) (omega arith)),
         (omega arith, omega arith),
-        few 0 (first_copy danh_routes 1 A ∷ first_copy danh_routes 2 B ∷ sent ∷ []) (omega arith),
+        few all_narrow (omega arith) 0 (first_copy danh_routes 1 A ∷ first_copy danh_routes 2 B ∷ sent ∷ []) (omega arith),
       ),
       (omega arith, omega arith),
-      few 0 (second_copy danh_routes 1 B ∷ first_copy danh_routes 1 A ∷ first_copy danh_routes 2 B ∷ sent ∷ []) (omega arith),
+      few all_narrow (omega arith) 0 (second_copy danh_routes 1 B ∷ first_copy danh_routes 1 A ∷ first_copy danh_routes 2 B ∷ sent ∷ []) (omega arith),
     ),
     (omega arith, omega arith),
-    few 0 (second_copy danh_routes 2 A ∷ second_copy danh_routes 1 B ∷ first_copy danh_routes 1 A ∷ first_copy danh_routes 2 B ∷ sent ∷ []) (omega arith),
+    few all_narrow (omega arith) 0 (second_copy danh_routes 2 A ∷ second_copy danh_routes 1 B ∷ first_copy danh_routes 1 A ∷ first_copy danh_routes 2 B ∷ sent ∷ []) (omega arith),
   );
 }
 

@@ -499,15 +499,15 @@ module _ (s : TwoShape) (bars : Bars) (es : History) (p : Plant) (r : TwoRingsRu
       ]
 
 pub two_rings_lose_nothing : TwoRingsLoseNothing
-two_rings_lose_nothing s mac x lanes es p h =
+two_rings_lose_nothing s mac x ws lanes es p h =
     let r = h.happened in
     let consistent = consistent_in (two_rings s) es p r.run in
     let within = of_members (all_members s) (done_in es) consistent r.members in
-    let steady = members_are_steady (all_members s) mac (done_in es) h.tables.addressed within consistent h.limits in
+    let steady = members_are_steady (all_members s) mac ws (done_in es) h.tables.widths h.tables.addressed within consistent h.limits in
     let exact : AreExact (bars_of x) (done_in es) =
     record {
       host = λ k. refl;
-      exact = members_are_exact (all_members s) mac x lanes (done_in es) (members_of (all_members s) mac x lanes (two_rings s) es p r.run h.tables)
+      exact = members_are_exact (all_members s) mac x ws lanes (done_in es) (members_of (all_members s) mac x ws lanes (two_rings s) es p r.run h.tables)
           r.members consistent (λ k. (steady k).0);
     } in (
       λ j. hands_up_once (bars_of x) (done_in es) j (exact.exact j),

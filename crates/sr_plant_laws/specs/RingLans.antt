@@ -19,6 +19,7 @@ use Rattle.sr_plant_laws.specs.Ways.{interlink_of, box_routes}
 use Rattle.sr_plant_laws.specs.Premises.{AreAddressed, AreWithinLimits}
 use Rattle.sr_plant_laws.specs.Steadiness.{AllSteady}
 use Rattle.sr_plant_laws.specs.Tables.{HaveTables}
+use Rattle.sr_plant_laws.specs.Widths.{Widths, AreWidths}
 
 -- Members 0 to ring - 1 are those of the ring, among them the boxes of LAN A and of LAN B; behind them so many doubly attached nodes.
 pub record Shape : Type 0 where
@@ -97,10 +98,10 @@ pub record RingLanRun (s : Shape) (es : History) (p : Plant) : Type 0 where
   pub sound : Each IsSound (done_in es)
 
 -- all premises, as for a ring
-pub record RingLanPremises (s : Shape) (mac : ℕ → Mac) (x : ℕ → Bool) (lanes : Handling → Lanes) (es : History) (p : Plant) : Type 0 where
+pub record RingLanPremises (s : Shape) (mac : ℕ → Mac) (x : ℕ → Bool) (ws : Widths) (lanes : Handling → Lanes) (es : History) (p : Plant) : Type 0 where
   pub happened : RingLanRun s es p
-  pub tables : HaveTables (size s) mac x lanes (ring_lan s) es p happened.run
-  pub limits : AreWithinLimits (done_in es)
+  pub tables : HaveTables (size s) mac x ws lanes (ring_lan s) es p happened.run
+  pub limits : AreWithinLimits ws (done_in es)
 
 -- a box to which a LAN brings the frame: not all copies for it were lost
 pub record IsBrought (s : Shape) (es : History) (f : Frame) (box : ℕ) : Type 0 where
@@ -138,11 +139,11 @@ RingLanHandsUpTheIdeal = (s : Shape) (es : History) (p : Plant) → RingLanRun s
 
 abbrev pub RingLanIsSteady : Type 0
 RingLanIsSteady =
-    (s : Shape) (mac : ℕ → Mac) (es : History) (p : Plant) → RingLanRun s es p → AreAddressed mac (size s) → AreWithinLimits (done_in es) →
-    AllSteady mac (done_in es)
+    (s : Shape) (mac : ℕ → Mac) (ws : Widths) (es : History) (p : Plant) → RingLanRun s es p → AreAddressed mac (size s) → AreWidths ws →
+    AreWithinLimits ws (done_in es) → AllSteady ws mac (done_in es)
 
 -- in whichever modes
 abbrev pub RingLanLosesNothing : Type 0
 RingLanLosesNothing =
-    (s : Shape) (mac : ℕ → Mac) (x : ℕ → Bool) (lanes : Handling → Lanes) (es : History) (p : Plant) → RingLanPremises s mac x lanes es p →
-    AreOnce es × (IsQuiet p → LosesNothingOver s es × IsIdealOver s es)
+    (s : Shape) (mac : ℕ → Mac) (x : ℕ → Bool) (ws : Widths) (lanes : Handling → Lanes) (es : History) (p : Plant) →
+    RingLanPremises s mac x ws lanes es p → AreOnce es × (IsQuiet p → LosesNothingOver s es × IsIdealOver s es)

@@ -18,6 +18,7 @@ use Rattle.sr_plant_laws.specs.Rings.{ring, beyond, danh_routes}
 use Rattle.sr_plant_laws.specs.Ways.{interlink_of, AreJoined, SendsOver, box_routes}
 use Rattle.sr_plant_laws.specs.Premises.{AreWithinLimits}
 use Rattle.sr_plant_laws.specs.Tables.{HaveTables}
+use Rattle.sr_plant_laws.specs.Widths.{Widths}
 
 -- one part of a way: an arc of so many links and one more to a member of the same ring, or an interlink to a box of another ring
 pub data Part : Type 0 where
@@ -105,11 +106,11 @@ pub record TwoRingsRun (s : TwoShape) (es : History) (p : Plant) : Type 0 where
   pub routed : Each (IsRouted (two_rings_routes s)) (done_in es)
   pub sound : Each IsSound (done_in es)
 
-pub record TwoRingsPremises (s : TwoShape) (mac : ℕ → Mac) (x : ℕ → Bool) (lanes : Handling → Lanes) (es : History) (p : Plant) :
+pub record TwoRingsPremises (s : TwoShape) (mac : ℕ → Mac) (x : ℕ → Bool) (ws : Widths) (lanes : Handling → Lanes) (es : History) (p : Plant) :
     Type 0 where
   pub happened : TwoRingsRun s es p
-  pub tables : HaveTables (all_members s) mac x lanes (two_rings s) es p happened.run
-  pub limits : AreWithinLimits (done_in es)
+  pub tables : HaveTables (all_members s) mac x ws lanes (two_rings s) es p happened.run
+  pub limits : AreWithinLimits ws (done_in es)
 
 -- a way to j from its source is whole for a frame
 abbrev pub HasWholeWay : TwoShape → History → Frame → ℕ → Type 0
@@ -132,8 +133,8 @@ TwoRingsHandUpTheIdeal = (s : TwoShape) (es : History) (p : Plant) → TwoRingsR
 -- in whichever modes
 abbrev pub TwoRingsLoseNothing : Type 0
 TwoRingsLoseNothing =
-    (s : TwoShape) (mac : ℕ → Mac) (x : ℕ → Bool) (lanes : Handling → Lanes) (es : History) (p : Plant) →
-    TwoRingsPremises s mac x lanes es p →
+    (s : TwoShape) (mac : ℕ → Mac) (x : ℕ → Bool) (ws : Widths) (lanes : Handling → Lanes) (es : History) (p : Plant) →
+    TwoRingsPremises s mac x ws lanes es p →
     AreOnce es × (IsQuiet p → LosesNothingOverRings s es × IsIdealOverRings s es)
 
 -- each join leads over, both ways: so ways over it are whole where its link is open
