@@ -7,6 +7,7 @@ use Rattle.sr_frame.specs.declared.fields.Mac.{Mac}
 use Rattle.sr_frame.specs.declared.ports.Port.{Port}
 use Rattle.sr_frame.specs.declared.ports.Port.TheVariants.{H, A, B, C}
 use Rattle.sr_sequence.specs.Numbers.{wire}
+use Rattle.sr_dup_table.specs.Limits.{window}
 use Rattle.sr_dup_runs.specs.TableRuns.{Arrival, AreSteady}
 use Rattle.sr_forwarding.specs.declared.form.Form.{Form}
 use Rattle.sr_forwarding.specs.Headers.{header_of}
@@ -33,6 +34,8 @@ use Rattle.sr_plant_laws.specs.PlantEvents as law
 use Rattle.sr_plant_laws.specs.Ports.{is_side}
 use Rattle.sr_plant_laws.specs.RingLaws.{RingIsSteady}
 use Rattle.sr_plant_laws.specs.Steadiness.{is_arrival_at, arrival_of, arrivals_at, AllSteady}
+use Rattle.sr_plant_laws.specs.Widths.{all_narrow}
+use Rattle.sr_plant_laws.proofs.SteadyLemmas.{narrow_widths}
 use Rattle.sr_plant.specs.declared.topology.Topology.{Topology}
 use Rattle.sr_plant.specs.declared.topology.Topology.TheVariants.{Ring, TwinLan}
 use Rattle.sr_plant.specs.declared.event.PlantEvent.{PlantEvent}
@@ -341,21 +344,21 @@ are_of numbers (turn ∷ before) same = (
 )
 
 all_steady : RingIsSteady → LansAreSteady → (t : Topology) (starts : List Start) (own : HaveOwnAddresses starts) (turns : List Turn) (s : Plant)
-    (run : PlantRun t starts turns s) → IsWithinLimits turns → AllSteady (mac_at starts) (done_in (run_told t starts own turns s run).history)
+    (run : PlantRun t starts turns s) → IsWithinLimits turns → AllSteady all_narrow (mac_at starts) (done_in (run_told t starts own turns s run).history)
 all_steady rings lans Ring starts own turns s run limits =
     let r = run_told Ring starts own turns s run in
-    rings (length starts) (mac_at starts) r.history r.plant (ring_run starts turns s run r)
-    (have_tables Ring starts own turns s (made Ring starts turns s run) run r).addressed (r.limits limits)
+    rings (length starts) (mac_at starts) all_narrow r.history r.plant (ring_run starts turns s run r)
+    (have_tables Ring starts own turns s (made Ring starts turns s run) run r).addressed narrow_widths (r.limits limits)
 all_steady rings lans TwinLan starts own turns s run limits =
     let r = run_told TwinLan starts own turns s run in
-    lans (length starts) (mac_at starts) r.history r.plant (lan_run starts turns s run r)
-    (have_tables TwinLan starts own turns s (made TwinLan starts turns s run) run r).addressed (r.limits limits)
+    lans (length starts) (mac_at starts) all_narrow r.history r.plant (lan_run starts turns s run r)
+    (have_tables TwinLan starts own turns s (made TwinLan starts turns s run) run r).addressed narrow_widths (r.limits limits)
 
 pub nodes_run_steadily : RingIsSteady → LansAreSteady → NodesRunSteadily
 nodes_run_steadily rings lans t starts turns s run k own limits =
     let shown = run_shown t starts own turns s run k (numbers_in turns) (are_of (numbers_in turns) turns (λ n less. refl)) in (
       shown.1,
-      subst AreSteady (sym shown.0) (all_steady rings lans t starts own turns s run limits k).0,
+      subst (AreSteady window) (sym shown.0) (all_steady rings lans t starts own turns s run limits k).0,
     )
 
 pub nodes_put_out_within : NodesRunSteadily → NodesPutOutOnce → NodesPutOutWithin
