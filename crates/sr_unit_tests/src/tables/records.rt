@@ -3,7 +3,6 @@
 ghost use Rattle.std.specs.Prelude.{◌≡◌, ◌⊎◌};
 
 use super::slow_record::Slow;
-use super::steps::Which;
 use bitflags::Flags;
 use sr_dup_window::{Apart, Lane, Lanes, Record};
 use sr_sequence::Seq;
@@ -26,6 +25,14 @@ fn ends_at<const N: usize>(mut r: Record<N>, last: u16) -> bool {
 fn window_ends(rt: HostRuntime) {
     assert!(rt; ends_at(Record::<16>::begin(Seq(5), Lanes::H), 64518));
     assert!(rt; ends_at(Record::<32>::begin(Seq(5), Lanes::H), 63494));
+}
+
+/// One of the records.
+#[derive(Clone, Copy, PartialEq, Eq)]
+enum Which {
+    One,
+    Two,
+    Three,
 }
 
 /// A step of three records, and what it has to come to.
