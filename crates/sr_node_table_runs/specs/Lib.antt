@@ -1,0 +1,5 @@
+pub mod Kept
+pub mod Entered
+pub mod Lateness
+pub mod Raised
+pub mod TableLaws
