@@ -6,3 +6,7 @@ pub mod StandingLemmas
 pub mod AlarmLemmas
 pub mod RoomLemmas
 pub mod StepLemmas
+pub mod LawLemmas
+pub mod ExactLemmas
+pub mod ExampleLemmas
+pub mod FalseLemmas

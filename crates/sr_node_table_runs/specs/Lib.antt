@@ -3,3 +3,4 @@ pub mod Entered
 pub mod Lateness
 pub mod Raised
 pub mod TableLaws
+pub mod Examples

@@ -1,5 +1,6 @@
-use Rattle.sr_node_table_runs.proofs.StepLemmas.{matches}
+use Rattle.sr_node_table_runs.proofs.LawLemmas.{alarms_are_the_latest}
+use Rattle.sr_node_table_runs.proofs.ExactLemmas.{ring_errors_are_exact, node_downs_are_exact}
 use Rattle.sr_node_table_runs.proofs.laws.alarms_are_of_what_was_heard.Goals as goal
 
 pub returns : goal.returns
-returns c = λ events now up. (matches events now up).alarms
+returns c = record { latest = alarms_are_the_latest; ring_errors = ring_errors_are_exact; node_downs = node_downs_are_exact }
