@@ -1,5 +1,5 @@
 -- What a table raises is what the hearings say.
-use Rattle.std.proofs.Common.{◌≡◌, ℕ, ◌+◌, ◌-◌, ◌≤◌, Bool, true, false, cond, not, ◌&&◌, ◌||◌, List, [], ◌∷◌, ◌++◌, length, drop, Option, None, Some, refl, sym, ap, ◌∙◌, subst, arith}
+use Rattle.std.proofs.Common.{◌≡◌, ℕ, ◌+◌, ◌-◌, ◌≤◌, Bool, true, false, cond, not, ◌&&◌, ◌||◌, List, [], ◌∷◌, ◌++◌, length, drop, Option, None, Some, refl, sym, ap, ◌∙◌, arith}
 use Rattle.std.specs.List.{cons_option, filter_map, flat_map, AllByRecursion}
 use Rattle.std.specs.Map.{lookup}
 use Rattle.std.proofs.lemmas.Bool.{false_from_ne_true}
@@ -14,10 +14,10 @@ use Rattle.sr_node_table.specs.declared.alarm.Alarm.{Alarm}
 use Rattle.sr_node_table.specs.declared.alarm.Alarm.TheVariants.{RingError, NodeDown}
 use Rattle.sr_node_table.specs.Nodes.{Hearing, Entry, is_live, down_of, downs_at}
 use Rattle.sr_node_table.specs.Watching.{late_port, was_late, ring_error, alarm_of, alarms_at, found_late, late_at}
-use Rattle.sr_node_table.specs.Hearings.{is_heard, Event}
+use Rattle.sr_node_table.specs.Hearings.{Event}
 use Rattle.sr_node_table_runs.specs.Kept.{of_address, is_live_by, kept_in, kept_of}
 use Rattle.sr_node_table_runs.specs.Lateness.{is_late, was_late_at_prune}
-use Rattle.sr_node_table_runs.specs.Raised.{alarm_if, down_alarm, ring_alarm, prune_alarms}
+use Rattle.sr_node_table_runs.specs.Raised.{alarm_if, down_alarm, prune_alarms}
 use Rattle.sr_node_table_runs.proofs.AddressListLemmas.{has, all_weaker}
 use Rattle.sr_node_table_runs.proofs.EntryLemmas.{with_each, gathered-with_each}
 use Rattle.sr_node_table_runs.proofs.HeardLemmas.{AreBefore, before-filter, heard_before, entry_by, live-entry_by}

@@ -1,10 +1,10 @@
 -- Entries that a function makes of addresses.
-use Rattle.std.proofs.Common.{◌≡◌, suc, Bool, true, false, cond, not, ◌||◌, List, [], ◌∷◌, ◌++◌, length, map, filter, Option, None, Some, refl, sym, ap, ◌∙◌, subst}
-use Rattle.std.specs.List.{list_any, cons_option, filter_map, flat_map, IsDistinct, AllByRecursion}
+use Rattle.std.proofs.Common.{◌≡◌, suc, Bool, true, false, cond, ◌||◌, List, [], ◌∷◌, ◌++◌, length, map, filter, Option, None, Some, refl, sym, ap, ◌∙◌, subst}
+use Rattle.std.specs.List.{cons_option, filter_map, flat_map, IsDistinct, AllByRecursion}
 use Rattle.std.specs.Map.{lookup, set_value, keys_of}
 use Rattle.sr_frame.specs.declared.fields.Mac.{Mac}
 use Rattle.sr_frame.specs.Addresses.{mac_eq}
-use Rattle.sr_frame.specs.AddressLemmas.{mac_same, mac_refl, mac_symm}
+use Rattle.sr_frame.specs.AddressLemmas.{mac_same}
 use Rattle.sr_node_table_runs.proofs.AddressListLemmas.{has, apart_has}
 
 module _ {X : Type 0} where

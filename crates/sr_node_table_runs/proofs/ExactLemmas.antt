@@ -1,8 +1,8 @@
 -- Exactly which alarms an event raises.
-use Rattle.std.proofs.Common.{◌≡◌, ℕ, ◌<◌, ◌≤◌, Bool, true, false, cond, not, ◌&&◌, ◌||◌, List, [], ◌∷◌, ◌++◌, length, refl, sym, ap, ◌∙◌, subst, arith, ◌⊎◌, inl, inr}
+use Rattle.std.proofs.Common.{◌≡◌, ℕ, ◌<◌, Bool, true, false, cond, not, ◌||◌, List, [], ◌∷◌, ◌++◌, refl, sym, ap, ◌∙◌, subst, arith, ◌⊎◌, inl, inr}
 use Rattle.std.specs.Prelude.{Contains}
 use Rattle.std.specs.List.{flat_map}
-use Rattle.std.proofs.lemmas.Bool.{and_parts, and_from, not-true, not_from_false, false_from_ne_true}
+use Rattle.std.proofs.lemmas.Bool.{and_parts, and_from, not-true, not_from_false}
 use Rattle.std.proofs.lemmas.List.Elements.{Contains-append_left, Contains-append_right, Contains-append_cases, Contains-push, Contains-push_cases}
 use Rattle.sr_frame.specs.declared.fields.Mac.{Mac}
 use Rattle.sr_frame.specs.declared.ports.Port.{Port}
@@ -13,7 +13,7 @@ use Rattle.sr_node_table.specs.declared.alarm.Alarm.{Alarm}
 use Rattle.sr_node_table.specs.declared.alarm.Alarm.TheVariants.{RingError, NodeDown}
 use Rattle.sr_node_table.specs.Nodes.{Hearing}
 use Rattle.sr_node_table.specs.Hearings.{is_heard, Event, Hears, Prunes, time_of, AreUpTo}
-use Rattle.sr_node_table_runs.specs.Kept.{of_address, is_live_by, finds_room, kept_in, kept_of}
+use Rattle.sr_node_table_runs.specs.Kept.{is_live_by, finds_room, kept_in, kept_of}
 use Rattle.sr_node_table_runs.specs.Entered.{has_entry, is_filled, makes_entry, removes, removal_in, entered, has_entry_in}
 use Rattle.sr_node_table_runs.specs.Lateness.{is_late, was_late_at_prune, is_newly_late}
 use Rattle.sr_node_table_runs.specs.Raised.{alarm_if, down_alarm, ring_alarm, prune_alarms, raised_by}

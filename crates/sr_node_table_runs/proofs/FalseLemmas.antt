@@ -1,5 +1,5 @@
 -- False tables are refused.
-use Rattle.std.proofs.Common.{◌≡◌, ℕ, ◌≤◌, Bool, true, false, List, [], ◌∷◌, length, sym, ap, ◌∙◌, refl, suc, ◌-◌, drop, arith}
+use Rattle.std.proofs.Common.{◌≡◌, ℕ, Bool, true, false, List, [], ◌∷◌, length, sym, ap, ◌∙◌, refl, suc, ◌-◌, drop, arith}
 use Rattle.std.specs.Prelude.{Contains, is_some}
 use Rattle.std.specs.Map.{lookup}
 use Rattle.circular_buffer.specs.Buffer.{keep_last}
@@ -13,12 +13,12 @@ use Rattle.sr_node_table.specs.declared.alarm.Alarm.{Alarm}
 use Rattle.sr_node_table.specs.declared.alarm.Alarm.TheVariants.{RingError, NodeDown}
 use Rattle.sr_node_table.specs.Nodes.{Hearing, answer_to}
 use Rattle.sr_node_table.specs.Stating.{has_at, listed_at}
-use Rattle.sr_node_table.specs.Hearings.{Event, Hears, Prunes, time_of, hearings_of, table_after, AreUpTo}
+use Rattle.sr_node_table.specs.Hearings.{Event, Hears, Prunes, time_of, table_after, AreUpTo}
 use Rattle.sr_node_table_runs.specs.Kept.{is_live_by, others_live, kept_in}
 use Rattle.sr_node_table_runs.specs.Entered.{has_entry_in}
 use Rattle.sr_node_table_runs.specs.Lateness.{was_late_at_prune}
 use Rattle.sr_node_table_runs.specs.Raised.{raised_by, raised_in}
-use Rattle.sr_node_table_runs.specs.Examples.{first_node, second_node, renewed_node, broken_ring}
+use Rattle.sr_node_table_runs.specs.Examples.{first_node, second_node, renewed_node}
 use Rattle.sr_node_table_runs.specs.TableLaws.{FullWhereOthersAreLive, StatusIsOfKept, ListIsOfKept, EntryIsOfKept, AlarmsAreTheLatest, RingErrorsAreExact, NodeDownsAreExact}
 
 -- a table of 1023 places: full with 1023 others

@@ -1,18 +1,11 @@
 -- Hearings in the order of their times, and the entry of an address that they make.
-use Rattle.std.proofs.Common.{◌≡◌, ℕ, ◌-◌, ◌<◌, ◌≤◌, max, Bool, true, false, cond, not, ◌&&◌, ◌||◌, nat_lt, List, [], ◌∷◌, filter, Option, None, Some, refl, sym, ap, ◌∙◌, subst, arith}
-use Rattle.std.specs.Prelude.{nat_le}
-use Rattle.std.specs.List.{list_any}
-use Rattle.std.proofs.lemmas.Bool.{ltb-true, ltb-false, lt-ltb, le-ltb, leb-true, leb-false, le-leb, lt-leb}
-use Rattle.sr_frame.specs.declared.fields.Mac.{Mac}
+use Rattle.std.proofs.Common.{◌≡◌, ℕ, ◌-◌, ◌<◌, ◌≤◌, max, Bool, true, false, cond, ◌||◌, List, [], ◌∷◌, filter, refl, sym, ap, ◌∙◌, arith}
+use Rattle.std.proofs.lemmas.Bool.{ltb-true, lt-ltb}
 use Rattle.sr_frame.specs.declared.ports.Port.{Port}
 use Rattle.sr_frame.specs.declared.ports.Port.TheVariants.{H, A, B, C}
-use Rattle.sr_frame.specs.Addresses.{mac_eq}
 use Rattle.sr_aged_slots.specs.Ages.{is_recent}
-use Rattle.sr_node_table.specs.Nodes.{Hearing, Entry, is_live, node_after, times_after, entry_begun, entry_after}
-use Rattle.sr_node_table.specs.Watching.{is_behind, late_port}
-use Rattle.sr_node_table.specs.Hearings.{is_heard, life_of, is_a, at_a, at_b, latest_of, node_in}
-use Rattle.sr_node_table_runs.specs.Kept.{of_address}
-use Rattle.sr_node_table_runs.specs.Lateness.{is_heard_at, is_late}
+use Rattle.sr_node_table.specs.Nodes.{Hearing, Entry, is_live, node_after, entry_begun, entry_after}
+use Rattle.sr_node_table.specs.Hearings.{is_heard, life_of, node_in}
 
 -- none is after this time, and each is followed by none that is later
 abbrev pub AreBefore : ℕ → List Hearing → Type 0

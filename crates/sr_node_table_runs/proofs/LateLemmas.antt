@@ -1,13 +1,13 @@
 -- The late port of an entry is that of its hearings.
-use Rattle.std.proofs.Common.{◌≡◌, ℕ, ◌-◌, ◌<◌, ◌≤◌, max, Bool, true, false, cond, not, ◌&&◌, ◌||◌, nat_lt, List, [], ◌∷◌, filter, Option, None, Some, refl, sym, ap, ◌∙◌, subst, arith}
+use Rattle.std.proofs.Common.{◌≡◌, ℕ, ◌-◌, ◌<◌, ◌≤◌, max, Bool, true, false, cond, not, ◌&&◌, ◌||◌, nat_lt, List, [], ◌∷◌, filter, Option, None, Some, refl, sym, ap, ◌∙◌, arith}
 use Rattle.std.specs.Prelude.{nat_le}
 use Rattle.std.specs.List.{list_any}
-use Rattle.std.proofs.lemmas.Bool.{ltb-true, ltb-false, lt-ltb, le-ltb, leb-true, leb-false, le-leb, lt-leb, and_parts, false_from_ne_true}
+use Rattle.std.proofs.lemmas.Bool.{ltb-true, lt-ltb, le-ltb, leb-true, leb-false, le-leb, lt-leb, and_parts, false_from_ne_true}
 use Rattle.sr_frame.specs.declared.fields.Mac.{Mac}
 use Rattle.sr_frame.specs.declared.ports.Port.{Port}
 use Rattle.sr_frame.specs.declared.ports.Port.TheVariants.{H, A, B, C}
 use Rattle.sr_aged_slots.specs.Ages.{is_recent}
-use Rattle.sr_node_table.specs.Nodes.{Hearing, Entry, times_after}
+use Rattle.sr_node_table.specs.Nodes.{Hearing, times_after}
 use Rattle.sr_node_table.specs.Watching.{is_behind, late_port, was_late}
 use Rattle.sr_node_table.specs.Hearings.{is_heard, life_of, is_a, at_a, at_b, latest_of, Event, Hears, Prunes}
 use Rattle.sr_node_table_runs.specs.Kept.{kept_of}

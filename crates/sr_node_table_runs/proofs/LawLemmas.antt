@@ -1,21 +1,21 @@
 -- The laws, of the steps.
-use Rattle.std.proofs.Common.{◌≡◌, ℕ, ◌≤◌, Bool, true, false, cond, not, ◌&&◌, List, [], ◌∷◌, length, map, Option, None, Some, is_some, refl, sym, ap, ◌∙◌, subst, arith}
-use Rattle.std.specs.List.{AllByRecursion, filter_map}
+use Rattle.std.proofs.Common.{◌≡◌, ℕ, Bool, true, false, cond, ◌&&◌, List, [], ◌∷◌, map, None, Some, is_some, refl, sym, ap, ◌∙◌}
+use Rattle.std.specs.List.{filter_map}
 use Rattle.std.specs.Map.{lookup}
 use Rattle.sr_frame.specs.declared.fields.Mac.{Mac}
 use Rattle.sr_frame.specs.Addresses.{mac_eq}
-use Rattle.sr_node_table.specs.Nodes.{Hearing, is_live, answer_to}
-use Rattle.sr_node_table.specs.Stating.{live_mac, listed_at, status_at, has_at}
-use Rattle.sr_node_table.specs.Hearings.{is_heard, status_by, Event, Hears, Prunes, hearings_of, table_after, is_kept, AreUpTo, StatusIsOfHearings, HasIsOfHearings}
+use Rattle.sr_node_table.specs.Nodes.{Hearing, answer_to}
+use Rattle.sr_node_table.specs.Stating.{live_mac}
+use Rattle.sr_node_table.specs.Hearings.{is_heard, status_by, Event, Hears, Prunes, table_after, is_kept, AreUpTo, StatusIsOfHearings, HasIsOfHearings}
 use Rattle.sr_node_table_runs.specs.Kept.{of_address, is_live_by, finds_room, kept_in, kept_of}
-use Rattle.sr_node_table_runs.specs.Entered.{removal_in, makers_in, entered, has_entry_in, live_in}
+use Rattle.sr_node_table_runs.specs.Entered.{removal_in, makers_in, entered, has_entry_in}
 use Rattle.sr_node_table_runs.specs.TableLaws.{FullWhereOthersAreLive, HearingsAreKept, StatusIsOfKept, ListIsOfKept, EntriesAreOfKept, EntryIsOfKept, AlarmsAreTheLatest}
 use Rattle.sr_node_table_runs.proofs.AddressListLemmas.{has, all_weaker}
 use Rattle.sr_node_table_runs.proofs.EntryLemmas.{firsts-with_each, lookup-with_each, kept-with_each}
 use Rattle.sr_node_table_runs.proofs.AlarmLemmas.{shown_by, shown_live}
 use Rattle.sr_node_table_runs.proofs.StandingLemmas.{entered_have, kept_before, removal_le}
 use Rattle.sr_node_table_runs.proofs.RoomLemmas.{full_is, is_full_where, kept_is}
-use Rattle.sr_node_table_runs.proofs.StepLemmas.{Matches, all_entered, matches}
+use Rattle.sr_node_table_runs.proofs.StepLemmas.{all_entered, matches}
 
 -- the addresses with an entry are those that are told
 pub entered_are : (events : List Event) (now : ℕ) → AreUpTo now events → (m : Mac) → has (entered events) m ≡ has_entry_in events m
@@ -26,8 +26,7 @@ full_where_others_are_live events h up =
     let was = matches events h.time up in
     let order = kept_before events h.time up in
     let le = removal_le events h.time up in
-    let all = all_entered (kept_in events) (makers_in events) (removal_in events) in
-    (
+    let all = all_entered (kept_in events) (makers_in events) (removal_in events) in (
       λ e. full_is (kept_in events) (removal_in events) (entered events) was.distinct (entered_are events h.time up) all was.few (table_after events) was.entries h order le e,
       λ e. is_full_where (kept_in events) (removal_in events) (entered events) was.distinct (entered_are events h.time up) all was.few (table_after events) was.entries h order le e,
     )

@@ -1,19 +1,19 @@
 -- Where a table is full, and where a hearing finds room.
-use Rattle.std.proofs.Common.{◌≡◌, ℕ, ◌<◌, ◌≤◌, Bool, true, false, cond, not, ◌&&◌, nat_lt, List, [], ◌∷◌, length, filter, Option, None, Some, refl, sym, ap, ◌∙◌, subst, arith}
+use Rattle.std.proofs.Common.{◌≡◌, ℕ, ◌<◌, ◌≤◌, Bool, true, false, cond, not, ◌&&◌, nat_lt, List, length, filter, refl, sym, ap, ◌∙◌, arith}
 use Rattle.std.specs.Prelude.{nat_le}
 use Rattle.std.specs.List.{IsDistinct, AllByRecursion}
 use Rattle.std.specs.Map.{lookup}
-use Rattle.std.proofs.lemmas.Bool.{ltb-true, ltb-false, lt-ltb, le-ltb, leb-true, leb-false, le-leb, lt-leb, and_parts, false_from_ne_true, true_from_ne_false}
+use Rattle.std.proofs.lemmas.Bool.{ltb-false, lt-ltb, le-ltb, leb-true, leb-false, and_parts, true_from_ne_false}
 use Rattle.sr_frame.specs.declared.fields.Mac.{Mac}
 use Rattle.sr_frame.specs.declared.learnt.Learnt.{Learnt}
 use Rattle.sr_frame.specs.declared.learnt.Learnt.TheVariants.{Learned, Known, Full}
 use Rattle.sr_frame.specs.Addresses.{mac_eq}
 use Rattle.sr_aged_slots.specs.FullLemmas.{full_where, kept_again}
-use Rattle.sr_node_table.specs.Nodes.{Hearing, Entry, Entries, Table, is_live, live_others, answer_of, answer_to, kept_by, after_answer}
+use Rattle.sr_node_table.specs.Nodes.{Hearing, Table, is_live, live_others, answer_of, answer_to, kept_by, after_answer}
 use Rattle.sr_node_table.specs.Hearings.{is_kept}
 use Rattle.sr_node_table_runs.specs.Kept.{is_live_by, addresses, others_live, finds_room}
-use Rattle.sr_node_table_runs.specs.Entered.{has_entry, is_filled}
-use Rattle.sr_node_table_runs.proofs.AddressListLemmas.{has, has-filter, distinct_filter, same_length, all_weaker, filter-filter, without, without_none, filter-agree_within}
+use Rattle.sr_node_table_runs.specs.Entered.{has_entry}
+use Rattle.sr_node_table_runs.proofs.AddressListLemmas.{has, has-filter, distinct_filter, same_length, all_weaker, filter-filter, without_none}
 use Rattle.std.proofs.lemmas.List.Elements.{filter_agree}
 use Rattle.sr_node_table_runs.proofs.EntryLemmas.{with_each, length-with_each, filter-with_both}
 use Rattle.sr_node_table_runs.proofs.HeardLemmas.{AreBefore, heard_before}

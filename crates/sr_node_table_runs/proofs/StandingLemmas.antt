@@ -1,7 +1,7 @@
 -- Which addresses stand in a list of hearings, and in the entries.
-use Rattle.std.proofs.Common.{◌≡◌, ℕ, suc, ◌-◌, ◌<◌, ◌≤◌, Bool, true, false, cond, not, ◌&&◌, ◌||◌, nat_lt, List, [], ◌∷◌, ◌++◌, length, filter, refl, sym, ap, ◌∙◌, subst, arith}
-use Rattle.std.specs.List.{list_any, IsDistinct, AllByRecursion}
-use Rattle.std.proofs.lemmas.Bool.{lt-ltb, false_from_ne_true, and_parts}
+use Rattle.std.proofs.Common.{◌≡◌, ℕ, suc, ◌-◌, ◌≤◌, Bool, true, false, cond, not, ◌&&◌, ◌||◌, List, [], ◌∷◌, ◌++◌, length, filter, refl, sym, ap, ◌∙◌, subst, arith}
+use Rattle.std.specs.List.{IsDistinct}
+use Rattle.std.proofs.lemmas.Bool.{lt-ltb}
 use Rattle.std.proofs.lemmas.List.Elements.{filter-append, filter_agree}
 use Rattle.sr_frame.specs.declared.fields.Mac.{Mac}
 use Rattle.sr_frame.specs.Addresses.{mac_eq}
@@ -9,10 +9,10 @@ use Rattle.sr_frame.specs.AddressLemmas.{mac_same, mac_refl, mac_symm}
 use Rattle.sr_aged_slots.specs.Ages.{is_recent}
 use Rattle.sr_node_table.specs.Nodes.{Hearing}
 use Rattle.sr_node_table.specs.Hearings.{is_heard, Event, Hears, Prunes, AreUpTo}
-use Rattle.sr_node_table_runs.specs.Kept.{of_address, is_live_by, addresses, others_live, finds_room, kept_in}
+use Rattle.sr_node_table_runs.specs.Kept.{of_address, is_live_by, addresses, finds_room, kept_in}
 use Rattle.sr_node_table_runs.specs.Entered.{has_entry, is_filled, makes_entry, removal_in}
-use Rattle.sr_node_table_runs.proofs.AddressListLemmas.{has, has-append, has-filter, filter-filter, distinct_none, distinct_filter, distinct_push, all_pass, without_none, without}
-use Rattle.sr_node_table_runs.proofs.HeardLemmas.{AreBefore, before_later, before-filter, heard_before}
+use Rattle.sr_node_table_runs.proofs.AddressListLemmas.{has, has-append, has-filter, filter-filter, distinct_none, distinct_filter, distinct_push}
+use Rattle.sr_node_table_runs.proofs.HeardLemmas.{AreBefore, before_later, heard_before}
 
 -- a test that another one implies
 pub and_implied : (p q : Bool) → (p ≡ true → q ≡ true) → (p && q) ≡ p

@@ -1,5 +1,5 @@
 -- Step by step, a table is what the hearings say.
-use Rattle.std.proofs.Common.{◌≡◌, ℕ, ◌+◌, ◌<◌, ◌≤◌, Bool, true, false, cond, not, ◌&&◌, ◌||◌, nat_lt, List, [], ◌∷◌, ◌++◌, length, map, filter, Option, None, Some, is_some, refl, sym, ap, ◌∙◌, subst, append_assoc, append-nil, arith}
+use Rattle.std.proofs.Common.{◌≡◌, ℕ, ◌<◌, ◌≤◌, Bool, true, false, cond, not, ◌&&◌, nat_lt, List, [], ◌∷◌, ◌++◌, length, filter, Option, None, Some, refl, sym, ap, ◌∙◌, subst, append-nil, arith}
 use Rattle.std.specs.Prelude.{nat_le}
 use Rattle.std.specs.List.{flat_map, IsDistinct, AllByRecursion}
 use Rattle.std.specs.Map.{lookup, set_value}
@@ -10,15 +10,14 @@ use Rattle.circular_buffer.specs.Buffer.{keep_last}
 use Rattle.sr_frame.specs.declared.fields.Mac.{Mac}
 use Rattle.sr_frame.specs.declared.ports.Port.{Port}
 use Rattle.sr_frame.specs.Addresses.{mac_eq}
-use Rattle.sr_frame.specs.AddressLemmas.{mac_refl}
 use Rattle.sr_node_table.specs.declared.alarm.Alarm.{Alarm}
 use Rattle.sr_node_table.specs.Nodes.{Hearing, Entry, Table, is_live, live_at, with_room, entry_begun, entry_after, downs_of, downs_at, raised, kept_by, answer_to, after_hearing}
 use Rattle.sr_node_table.specs.Watching.{after_prune, late_at, alarms_at}
 use Rattle.sr_node_table.specs.Hearings.{is_heard, Event, Hears, Prunes, table_after, AreUpTo, is_kept}
 use Rattle.sr_node_table_runs.specs.Kept.{of_address, is_live_by, addresses, others_live, finds_room, kept_in, kept_of}
 use Rattle.sr_node_table_runs.specs.Entered.{has_entry, is_filled, makes_entry, removal_in, makers_in, entered}
-use Rattle.sr_node_table_runs.specs.Raised.{down_alarm, prune_alarms, raised_by, raised_in}
-use Rattle.sr_node_table_runs.proofs.AddressListLemmas.{has, has-append, has-filter, distinct_none, distinct_filter, distinct_push, all_pass, all_weaker}
+use Rattle.sr_node_table_runs.specs.Raised.{down_alarm, prune_alarms, raised_in}
+use Rattle.sr_node_table_runs.proofs.AddressListLemmas.{has, has-filter, distinct_none, distinct_filter, distinct_push, all_pass, all_weaker}
 use Rattle.sr_node_table_runs.proofs.EntryLemmas.{with_each, length-with_each, lookup-with_each, with_each-other, set-with_each, filter-with_each}
 use Rattle.sr_node_table_runs.proofs.HeardLemmas.{AreBefore, before-filter, heard_before, entry_by, begun-entry_by, after-entry_by}
 use Rattle.sr_node_table_runs.proofs.LateLemmas.{late_by, late_then}

@@ -1,5 +1,5 @@
 -- What a table of nodes keeps and which alarms it has, after any hearings and prunes in the order of their times.
-use Rattle.std.specs.Prelude.{ℕ, ◌≡◌, ◌↔◌, Bool, true, false, List, [], ◌∷◌, length, Contains, is_some, map}
+use Rattle.std.specs.Prelude.{ℕ, ◌≡◌, ◌↔◌, true, false, List, ◌∷◌, length, Contains, is_some, map}
 use Rattle.std.specs.Map.{lookup}
 use Rattle.circular_buffer.specs.Buffer.{keep_last}
 use Rattle.sr_frame.specs.Addresses.{mac_eq}
@@ -12,7 +12,7 @@ use Rattle.sr_node_table.specs.Nodes.{Hearing, answer_to}
 use Rattle.sr_node_table.specs.Stating.{has_at, status_at, listed_at}
 use Rattle.sr_node_table.specs.Hearings.{status_by, hearings_of, Event, Prunes, time_of, table_after, AreUpTo}
 use Rattle.sr_node_table_runs.specs.Kept.{is_live_by, others_live, kept_in, kept_of}
-use Rattle.sr_node_table_runs.specs.Entered.{removes, removal_in, has_entry_in, entered, live_in}
+use Rattle.sr_node_table_runs.specs.Entered.{has_entry_in, entered, live_in}
 use Rattle.sr_node_table_runs.specs.Lateness.{is_late, was_late_at_prune}
 use Rattle.sr_node_table_runs.specs.Raised.{raised_by, raised_in}
 
