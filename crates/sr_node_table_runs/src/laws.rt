@@ -1,13 +1,15 @@
 //! Laws over runs of the table: lists of hearings and prunes from the empty table on, in the order of their times.
 
 ghost use Rattle.sr_node_table_runs.specs.Examples.{AreWorkedOut};
-ghost use Rattle.sr_node_table_runs.specs.TableLaws.{AlarmsAreTheLatest, EntriesAreOfKept, EntryIsOfKept, FullWhereOthersAreLive, HearingsAreKept, ListIsOfKept, NodeDownsAreExact, RingErrorsAreExact, StatusIsOfKept};
+ghost use Rattle.sr_node_table_runs.specs.TableLaws.{AlarmsAreTheLatest, AnswersAreOfKept, EachEventAddsItsAlarms, EntriesAreDistinct, EntriesAreOfKept, EntryIsOfKept, FullWhereOthersAreLive, HearingsAreKept, ListIsOfKept, NodeDownsAreExact, RingErrorsAreExact, StatusIsOfKept};
 
 use sr_node_table::status_is_of_hearings;
 
 /// In every run, a hearing is kept unless 1024 other addresses are live: unless of each of these a kept hearing is less
-/// than 60000 ms old. Then it is answered `Full`, and nothing is kept of it.
+/// than 60000 ms old. Then it is answered `Full`, and nothing is kept of it. One of a live address is answered `Known`, and
+/// one that begins a life `Learned`.
 pub fn hearings_are_kept_where_there_is_room()
+    ensures answers { AnswersAreOfKept }
     ensures full { FullWhereOthersAreLive }
     ensures kept { HearingsAreKept }
 {}
@@ -23,6 +25,7 @@ pub fn nodes_are_those_that_are_heard()
     ensures list { ListIsOfKept }
     ensures entries { EntriesAreOfKept }
     ensures entry { EntryIsOfKept }
+    ensures once { EntriesAreDistinct }
 {
     status_is_of_hearings();
 }
@@ -35,6 +38,7 @@ pub fn nodes_are_those_that_are_heard()
 /// that makes an entry where 1024 others have one, remove those that are not live.
 pub fn alarms_are_of_what_was_heard()
     ensures latest { AlarmsAreTheLatest }
+    ensures each { EachEventAddsItsAlarms }
     ensures ring_errors { RingErrorsAreExact }
     ensures node_downs { NodeDownsAreExact }
 {}

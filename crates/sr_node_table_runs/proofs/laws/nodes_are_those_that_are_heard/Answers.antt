@@ -1,4 +1,4 @@
-use Rattle.sr_node_table_runs.proofs.LawLemmas.{status_is_of_kept, list_is_of_kept, entries_are_of_kept, entry_is_of_kept}
+use Rattle.sr_node_table_runs.proofs.LawLemmas.{status_is_of_kept, list_is_of_kept, entries_are_of_kept, entry_is_of_kept, entries_are_distinct}
 use Rattle.sr_node_table_runs.proofs.laws.nodes_are_those_that_are_heard.Goals as goal
 
 pub returns : goal.returns
@@ -7,4 +7,5 @@ returns c = record {
   list = list_is_of_kept;
   entries = entries_are_of_kept;
   entry = entry_is_of_kept;
+  once = entries_are_distinct;
 }
