@@ -1,0 +1,12 @@
+pub mod AddressListLemmas
+pub mod EntryLemmas
+pub mod HeardLemmas
+pub mod LateLemmas
+pub mod StandingLemmas
+pub mod AlarmLemmas
+pub mod RoomLemmas
+pub mod StepLemmas
+pub mod LawLemmas
+pub mod ExactLemmas
+pub mod ExampleLemmas
+pub mod FalseLemmas

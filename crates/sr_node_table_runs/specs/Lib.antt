@@ -1,0 +1,6 @@
+pub mod Kept
+pub mod Entered
+pub mod Lateness
+pub mod Raised
+pub mod TableLaws
+pub mod Examples
