@@ -73,7 +73,7 @@ def explained(shown, about):
     """The lines of the page for an option or a status: values and defaults stand in lines of their own."""
     lines = [".TP", f".B {escaped(shown)}"]
     for line in about:
-        if line.startswith(("- ", "[")):
+        if line.startswith(("- ", "[", "Possible values")):
             lines.append(".br")
         lines.append(escaped(line))
     return lines
@@ -122,7 +122,7 @@ def completions(program):
     lines += ["    *)", '        case "$COMP_CWORD ${COMP_WORDS[1]}" in', f'        "1 "*) words="{names} --help --version" ;;']
     for name, _, text in commands:
         lines.append(f'        *" {name}") words="{" ".join(option for option, _, _ in options(text))}" ;;')
-    lines += ["        esac", "        ;;", "    esac", '    COMPREPLY=($(compgen -W "$words" -- "$2"))', "}", "complete -F _seamless seamless"]
+    lines += ["        esac", "        ;;", "    esac", '    COMPREPLY=($(compgen -W "$words" -- "$2"))', "}", "complete -F _seamless seamless ./seamless"]
     return "\n".join(lines) + "\n"
 
 
