@@ -44,8 +44,10 @@ fn tell_recording<R: Eprint>(rt: &R, letter: &str, wanted: Wanted, seen: &Seen) 
     }
 }
 
-/// Says what looks wrong in the frames of a capture: trailers that are not where they ought to be, or tags in their place.
-fn tell_frames<R: Eprint>(rt: &R, letter: &str, seen: &Seen) {
+/// Says what looks wrong in the frames of a capture: trailers that are not where they ought to be, or tags in their place. An
+/// interlink may be that of a ring.
+fn tell_frames<R: Eprint>(rt: &R, inlet: Inlet, seen: &Seen) {
+    let letter = letter_of(inlet);
     let Seen {
         used,
         ahead,
@@ -57,7 +59,7 @@ fn tell_frames<R: Eprint>(rt: &R, letter: &str, seen: &Seen) {
         let _ = eprintln!(rt;
             "{letter}: no PRP trailer in {used} packets; in {ahead} one stands four octets before the end: --fcs 4?"
         );
-    } else if seen.trailed() == 0 && tagged > 0 {
+    } else if seen.trailed() == 0 && tagged > 0 && inlet != Inlet::C {
         let _ = eprintln!(rt; "{letter}: HSR tags in {tagged} packets: --role danh?");
     }
     if elsewhere > 0 {
@@ -72,9 +74,8 @@ fn tell_capture<R: Eprint>(rt: &R, inlet: Inlet, path: Option<&str>, wanted: Wan
     if path.is_none() {
         return;
     }
-    let letter = letter_of(inlet);
-    tell_recording(rt, letter, wanted, seen);
-    tell_frames(rt, letter, seen);
+    tell_recording(rt, letter_of(inlet), wanted, seen);
+    tell_frames(rt, inlet, seen);
 }
 
 /// Says where captures have the trailers of the other LAN, or are one.
