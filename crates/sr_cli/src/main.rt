@@ -4,6 +4,9 @@
 mod address;
 mod command_line;
 mod flaws;
+mod forms;
+mod hints;
+mod line_flaws;
 mod pipes;
 mod plant_line;
 mod progress;
@@ -11,6 +14,9 @@ mod refusal;
 mod running;
 mod script;
 mod script_line;
+mod survey;
+mod tails;
+mod word_flaws;
 
 use command_line::{Task, Words, task_of};
 use progress::Progress;

@@ -2,8 +2,11 @@
 //! the fault, and the second says what is wrong and what to do.
 
 use crate::command_line::Report;
-use crate::flaws::{Flaw, Form, NODE_FORMS, PLANT_FORMS, REDBOX_FORMS, found_in, is_capture};
+use crate::flaws::Flaw;
+use crate::forms::{Form, NODE_FORMS, PLANT_FORMS, REDBOX_FORMS};
+use crate::line_flaws::{found_in, is_capture};
 use crate::pipes::{Kept, MOST_KEPT, Pipe};
+use crate::tails::tell_tail;
 use sr_plant_script::{PlantSetup, run_plant};
 use sr_script::{RoleName, Setup, run, run_status};
 use sr_session::{Fault, NOT_BEGUN, Word};
@@ -111,11 +114,18 @@ fn run_on<R: BufRead, W: Write>(
     }
 }
 
-/// The two lines of which one ended a run: the last that was taken of the script, and the next that comes.
+/// The place up to which a script was taken: the end of what was taken of it, and the next line that comes.
 #[derive(Drop)]
 struct Ends {
-    taken: Vec<u8>,
+    tail: Vec<u8>,
     coming: Vec<u8>,
+}
+
+impl Ends {
+    /// The last line that was taken.
+    fn taken(&self) -> &[u8] {
+        last_line(self.tail.as_slice())
+    }
 }
 
 /// A list of these octets.
@@ -125,19 +135,16 @@ fn copied(alloc: Global, octets: &[u8]) -> Result<Vec<u8>, AllocError> {
     Ok(list)
 }
 
-/// The lines at the place up to which a script was taken. The buffer goes back over what was taken of it.
+/// The place up to which a script was taken. The buffer goes back over what was taken of it.
 fn ends_of<R: Read + Drop>(alloc: Global, script: &mut Script<R>) -> Result<Ends, AllocError> {
     let coming = copied(alloc, first_line(script.buffer()))?;
-    let mut taken = copied(alloc, script.get_ref().before())?;
+    let mut tail = copied(alloc, script.get_ref().before())?;
     let given = script.get_ref().last_len();
     let back = given.saturating_sub(script.buffer().len()).min(MOST_KEPT);
     if script.seek_relative(-(back as i64)).is_ok() {
-        taken.extend_from_slice(script.buffer().get(..back).unwrap_or(&[]))?;
+        tail.extend_from_slice(script.buffer().get(..back).unwrap_or(&[]))?;
     }
-    Ok(Ends {
-        taken: copied(alloc, last_line(taken.as_slice()))?,
-        coming,
-    })
+    Ok(Ends { tail, coming })
 }
 
 /// The script that is the line that was taken last, behind the same reader.
@@ -147,7 +154,7 @@ fn again_of<R: Read + Drop>(
     ends: &Ends,
 ) -> Result<Script<R>, AllocError> {
     let mut kept = script.into_inner();
-    kept.give(ends.taken.as_slice())?;
+    kept.give(ends.taken())?;
     match BufReader::with_capacity(alloc, READ_AHEAD, kept) {
         Ok(script) => Ok(script),
         Err(_) => Err(AllocError),
@@ -161,7 +168,7 @@ fn tell<R: Eprint>(rt: &R, fault: Fault, is_closed: bool, ends: &Ends) -> bool {
     }
     let _ = eprintln!(rt; "{fault}");
     if fault.word == Word::Long {
-        tell_long(rt, fault.line, ends.taken.as_slice());
+        tell_long(rt, fault.line, ends.taken());
     }
     fault.word == Word::Line
 }
@@ -175,7 +182,7 @@ fn tell_ended<R: Eprint>(
     forms: &'static [Form],
 ) {
     let line = if is_none(taken) {
-        ends.taken.as_slice()
+        ends.taken()
     } else {
         ends.coming.as_slice()
     };
@@ -200,10 +207,15 @@ pub fn run_node<R: AllocGlobal + Print + Eprint + Input + RandomSource>(
     };
     let setup = Setup { keys, ..*setup };
     let mut writer = Pipe::new(io::writer(rt));
-    let Err(fault) = run_on(alloc, report, &setup, &mut script, &mut writer) else {
+    let outcome = run_on(alloc, report, &setup, &mut script, &mut writer);
+    let ends = ends_of(alloc, &mut script);
+    let Err(fault) = outcome else {
+        if let Ok(ends) = ends {
+            tell_tail(rt, &setup, ends.tail.as_slice(), ends.taken());
+        }
         return Ok(());
     };
-    let Ok(ends) = ends_of(alloc, &mut script) else {
+    let Ok(ends) = ends else {
         let _ = eprintln!(rt; "{fault}");
         return Err(());
     };

@@ -1,56 +1,19 @@
 //! The subcommand `script`: opens the captures, and says what is wrong with one.
 
+use crate::hints::{letter_of, tell_hints};
 use crate::pipes::Pipe;
 use crate::progress::{Metered, Progress};
 use crate::script_line::ScriptTask;
+use crate::survey::Survey;
 use sr_capture::{CaptureFault, Reason};
 use sr_capture_script::{Inlet, ScriptFault, script};
+use sr_pcapng::Wanted;
 use std::fs::File;
 use std::io::{self, BufReader, BufWriter, ErrorKind, Write};
 use std::rt::Files;
 
 /// The most lines that `replay` takes.
 const MAX_LINES: u64 = 1_000_000;
-
-/// A writer that counts lines.
-#[derive(Drop)]
-struct Counted<W> {
-    inner: W,
-    lines: u64,
-    /// Those that begin as the line of a packet does that is used.
-    arrivals: u64,
-    /// The last octet was an LF, or there was none.
-    is_new: bool,
-}
-
-impl<W: Write> Write for Counted<W> {
-    fn write(&mut self, buf: &[u8]) -> io::Result<usize> {
-        let taken = self.inner.write(buf)?;
-        for octet in &buf[..taken] {
-            if self.is_new && *octet == b'i' {
-                self.arrivals = self.arrivals.saturating_add(1);
-            }
-            self.is_new = *octet == b'\n';
-            if self.is_new {
-                self.lines = self.lines.saturating_add(1);
-            }
-        }
-        Ok(taken)
-    }
-
-    fn flush(&mut self) -> io::Result<()> {
-        self.inner.flush()
-    }
-}
-
-/// The letter of an inlet.
-fn letter_of(inlet: Inlet) -> &'static str {
-    match inlet {
-        Inlet::A => "A",
-        Inlet::B => "B",
-        Inlet::C => "C",
-    }
-}
 
 /// The common name of a link type.
 fn link_name(link: u16) -> &'static str {
@@ -68,17 +31,21 @@ fn link_name(link: u16) -> &'static str {
     }
 }
 
-/// Says what is wrong with a file: a line with the inlet, the word and the octet, and one that explains it.
-fn tell_file<R: Eprint>(rt: &R, inlet: Inlet, fault: CaptureFault) {
-    let letter = letter_of(inlet);
-    let at = fault.at;
-    let word = match fault.reason {
+/// The word for the fault of a file.
+fn word_of(reason: Reason) -> &'static str {
+    match reason {
         Reason::Read => "read",
         Reason::NoMemory => "memory",
         _ => "format",
-    };
+    }
+}
+
+/// Says what is wrong with a file: a line with the inlet, the word and the octet, and one that explains it.
+fn tell_file<R: Eprint>(rt: &R, inlet: Inlet, fault: CaptureFault) {
+    let letter = letter_of(inlet);
+    let CaptureFault { at, reason } = fault;
+    let word = word_of(reason);
     let _ = eprintln!(rt; "fault {letter} {word} {at}");
-    let reason = fault.reason;
     match reason {
         Reason::Link(link) => {
             let name = link_name(link);
@@ -99,14 +66,27 @@ fn reason_of(kind: ErrorKind) -> &'static str {
     }
 }
 
+/// Says why a file can't be opened. Where its name seemed to end with the number of an interface, it may be a part of it.
+fn tell_unopened<R: Eprint>(rt: &R, letter: &str, path: &str, wanted: Wanted, kind: ErrorKind) {
+    let reason = reason_of(kind);
+    let _ = eprintln!(rt; "fault {letter} open 0");
+    let _ = match wanted {
+        Wanted::Only => eprintln!(rt; "{path}: {reason}"),
+        Wanted::Number(number) => eprintln!(rt;
+            "{path}: {reason} (interface {number} of it; a file whose name ends so is named {path}:{number}:0)"
+        ),
+    };
+}
+
 /// A file that is read ahead, and tells how far it was read.
 type Opened<'a, R> = BufReader<Metered<'a, <R as Files>::File, R>>;
 
 /// Opens the file of an inlet, if there is one.
-fn open_file<'a, R: AllocGlobal + Eprint + Files>(
+fn open_file<'a, R: AllocGlobal + Print + Eprint + Files>(
     rt: &'a R,
     inlet: Inlet,
     path: Option<&str>,
+    wanted: Wanted,
     progress: Progress,
 ) -> Result<Option<Opened<'a, R>>, ()> {
     let Some(path) = path else {
@@ -116,9 +96,8 @@ fn open_file<'a, R: AllocGlobal + Eprint + Files>(
     let file = match File::open(rt, path) {
         Ok(file) => file,
         Err(error) => {
-            let reason = reason_of(error.kind());
-            let _ = eprintln!(rt; "fault {letter} open 0");
-            let _ = eprintln!(rt; "{path}: {reason}");
+            let _ = println!(rt; "# fault {letter} open 0");
+            tell_unopened(rt, letter, path, wanted, error.kind());
             return Err(());
         }
     };
@@ -132,14 +111,35 @@ fn open_file<'a, R: AllocGlobal + Eprint + Files>(
     }
 }
 
-/// Says what looks wrong in the options, though a script can be made.
-fn tell_odd<R: Eprint>(rt: &R, task: &ScriptTask<'_>) {
-    let choice = task.options.choice;
-    if choice.to.is_some_and(|to| to < choice.from) {
-        let _ = eprintln!(rt; "no time is wanted: --from is behind --to");
+/// Says that there are more lines than a script has.
+fn tell_lines<R: Eprint>(rt: &R, lines: u64) {
+    if lines > MAX_LINES {
+        let _ = eprintln!(rt;
+            "{lines} lines: a script has at most {MAX_LINES}; take a part by --from and --to"
+        );
     }
-    if task.is_same {
-        let _ = eprintln!(rt; "A and B are the same capture");
+}
+
+/// Says what ended a script early, but where nobody reads it any more. The fault of a file has a comment behind the lines that
+/// come before it, so that who reads the script knows of it.
+fn tell_fault<R: Eprint, W: Write>(rt: &R, fault: ScriptFault, is_closed: bool, writer: &mut W) {
+    match fault {
+        ScriptFault::File(inlet, fault) => {
+            let letter = letter_of(inlet);
+            let word = word_of(fault.reason);
+            let at = fault.at;
+            let _ = writeln!(writer, "# fault {letter} {word} {at}");
+            let _ = writer.flush();
+            tell_file(rt, inlet, fault);
+        }
+        ScriptFault::NoMemory => {
+            let _ = eprintln!(rt; "fault memory");
+        }
+        ScriptFault::Write | ScriptFault::Endless => {
+            if !is_closed {
+                let _ = eprintln!(rt; "fault write");
+            }
+        }
     }
 }
 
@@ -149,50 +149,29 @@ pub fn run_script<R: AllocGlobal + Print + Eprint + Files>(
     task: &ScriptTask<'_>,
     progress: Progress,
 ) -> Result<(), ()> {
-    let a = open_file(rt, Inlet::A, task.a, progress)?;
-    let b = open_file(rt, Inlet::B, task.b, progress)?;
-    let c = open_file(rt, Inlet::C, task.c, progress)?;
-    let counted = Counted {
-        inner: Pipe::new(io::writer(rt)),
-        lines: 0,
-        arrivals: 0,
-        is_new: true,
-    };
-    let Ok(mut writer) = BufWriter::new(rt.alloc(), counted) else {
+    let interfaces = task.options.interfaces;
+    let a = open_file(rt, Inlet::A, task.a, interfaces.a, progress)?;
+    let b = open_file(rt, Inlet::B, task.b, interfaces.b, progress)?;
+    let c = open_file(rt, Inlet::C, task.c, interfaces.c, progress)?;
+    let Ok(buffered) = BufWriter::new(rt.alloc(), Pipe::new(io::writer(rt))) else {
         let _ = eprintln!(rt; "fault memory");
         return Err(());
     };
+    let mut writer = Survey::new(buffered);
     let outcome = script(rt.alloc(), a, b, c, &task.options, &mut writer);
     let flushed = writer.flush();
-    let lines = writer.get_ref().lines;
-    let is_closed = writer.get_ref().inner.is_closed();
-    if lines > MAX_LINES && !is_closed {
-        let _ = eprintln!(rt;
-            "{lines} lines: a script has at most {MAX_LINES}; take a part by --from and --to"
-        );
+    let is_closed = writer.get_ref().get_ref().is_closed();
+    if !is_closed {
+        tell_lines(rt, writer.lines());
     }
-    match outcome {
+    let fault = match outcome {
         Ok(()) if flushed.is_ok() => {
-            tell_odd(rt, task);
-            if writer.get_ref().arrivals == 0 {
-                let _ = eprintln!(rt;
-                    "no packet is in the script: its last comments count those that were cut, long or empty"
-                );
-            }
-            Ok(())
+            tell_hints(rt, task, &writer);
+            return Ok(());
         }
-        Err(ScriptFault::File(inlet, fault)) => {
-            tell_file(rt, inlet, fault);
-            Err(())
-        }
-        Err(ScriptFault::NoMemory) => {
-            let _ = eprintln!(rt; "fault memory");
-            Err(())
-        }
-        _ if is_closed => Err(()),
-        _ => {
-            let _ = eprintln!(rt; "fault write");
-            Err(())
-        }
-    }
+        Ok(()) => ScriptFault::Write,
+        Err(fault) => fault,
+    };
+    tell_fault(rt, fault, is_closed, &mut writer);
+    Err(())
 }

@@ -1,0 +1,42 @@
+# Completions of seamless for bash. lint/manual.py writes this file.
+_seamless() {
+    local words=""
+    case "${COMP_WORDS[1]} ${COMP_WORDS[COMP_CWORD - 1]}" in
+    "replay --role") words="danp danh san prp hsr" ;;
+    "replay --mac") ;;
+    "replay --lan") words="a b" ;;
+    "replay --net") ;;
+    "replay --mode") words="h x" ;;
+    "status --role") words="danp danh san prp hsr" ;;
+    "status --mac") ;;
+    "status --lan") words="a b" ;;
+    "status --net") ;;
+    "status --mode") words="h x" ;;
+    "script --a") COMPREPLY=($(compgen -f -- "$2")) && return ;;
+    "script --b") COMPREPLY=($(compgen -f -- "$2")) && return ;;
+    "script --c") COMPREPLY=($(compgen -f -- "$2")) && return ;;
+    "script --shift-a") ;;
+    "script --shift-b") ;;
+    "script --shift-c") ;;
+    "script --fcs") words="4" ;;
+    "script --from") ;;
+    "script --to") ;;
+    "script --tick") ;;
+    "ring --nodes") ;;
+    "ring --mode") words="h x" ;;
+    "lan --nodes") ;;
+    "lan --mode") words="h x" ;;
+    *)
+        case "$COMP_CWORD ${COMP_WORDS[1]}" in
+        "1 "*) words="replay status script ring lan --help --version" ;;
+        *" replay") words="--role --mac --lan --net --mode --help" ;;
+        *" status") words="--role --mac --lan --net --mode --help" ;;
+        *" script") words="--a --b --c --shift-a --shift-b --shift-c --fcs --from --to --tick --help" ;;
+        *" ring") words="--nodes --mode --help" ;;
+        *" lan") words="--nodes --mode --help" ;;
+        esac
+        ;;
+    esac
+    COMPREPLY=($(compgen -W "$words" -- "$2"))
+}
+complete -F _seamless seamless ./seamless

@@ -1,0 +1,145 @@
+#!/usr/bin/env python3
+"""Writes the man page, docs/seamless.1, and the completions for bash, docs/seamless.bash, of what the program's `--help` says.
+
+manual.py [--check] [--program PATH]: of the program at PATH, ./seamless where none is given. With --check nothing is
+written: a line names each of the two that differs from what it would write, and it exits with 1 where one does."""
+import argparse
+import re
+import subprocess
+import sys
+from pathlib import Path
+
+ROOT = Path(__file__).resolve().parent.parent
+PAGE = Path("docs/seamless.1")
+COMPLETIONS = Path("docs/seamless.bash")
+STATUSES = [
+    ("0", "A good run, or the version."),
+    ("1", "A fault of the script, of a capture, of a read or of a write, or an allocation that failed."),
+    ("2", "A fault of the command line, or the help."),
+]
+
+
+def said(program, *words):
+    """What the program says on either output: its help goes to standard error, its version to standard output."""
+    run = subprocess.run([program, *words], stdin=subprocess.DEVNULL, stdout=subprocess.PIPE, stderr=subprocess.STDOUT, text=True)
+    return run.stdout
+
+
+def section(text, name):
+    """The lines below a heading of a help, up to the next heading."""
+    lines = text.split("\n")
+    if f"{name}:" not in lines:
+        return []
+    found = []
+    for line in lines[lines.index(f"{name}:") + 1 :]:
+        if line and not line.startswith(" "):
+            break
+        found.append(line)
+    return found
+
+
+def entries(text, name):
+    """The entries of a section, each with the lines that explain it; these stand behind it, or below it and further in."""
+    found = []
+    for line in section(text, name):
+        entry = re.match(r" {2,6}(\S+(?: \S+)*)(?: {2,}(.*))?$", line)
+        if entry:
+            found.append((entry.group(1), [entry.group(2)] if entry.group(2) else []))
+        elif line.strip() and found:
+            found[-1][1].append(line.strip())
+    return found
+
+
+def subcommands(program):
+    """The subcommands, each with what it is for and its help. `help` itself is the parser's."""
+    for name, about in entries(said(program, "--help"), "Commands"):
+        if name != "help":
+            yield name, " ".join(about), said(program, name, "--help")
+
+
+def options(text):
+    """The options of a help, each by its long name, with how it is shown and the lines that explain it."""
+    for shown, about in entries(text, "Options"):
+        yield re.search(r"--[a-z-]+", shown).group(0), shown, about
+
+
+def escaped(text):
+    """A text as the page's formatter takes it."""
+    text = text.replace("\\", "\\e").replace("-", "\\-")
+    return "\\&" + text if text.startswith((".", "'")) else text
+
+
+def explained(shown, about):
+    """The lines of the page for an option or a status: values and defaults stand in lines of their own."""
+    lines = [".TP", f".B {escaped(shown)}"]
+    for line in about:
+        if line.startswith(("- ", "[", "Possible values")):
+            lines.append(".br")
+        lines.append(escaped(line))
+    return lines
+
+
+def page(program):
+    """The man page."""
+    text = said(program, "--help")
+    version = said(program, "--version").split()[1]
+    lines = [f'.TH SEAMLESS 1 "" "seamless {version}" "User commands"']
+    lines += [".SH NAME", "seamless \\- " + escaped(text.split("\n", 1)[0])]
+    lines += [".SH SYNOPSIS", ".B seamless", ".I COMMAND", "[OPTIONS]", ".SH COMMANDS"]
+    for name, about, own in subcommands(program):
+        lines += [f".SS {escaped(name)}", escaped(about)]
+        for _, shown, words in options(own):
+            lines += explained(shown, words)
+    lines += [".SH EXAMPLES", ".nf", *(escaped(line) for line in section(text, "Examples") if line), ".fi"]
+    lines.append(".SH EXIT STATUS")
+    for status, meaning in STATUSES:
+        lines += explained(status, [meaning])
+    return "\n".join(lines) + "\n"
+
+
+def values(about):
+    """The words that an option takes, where its explanation lists them."""
+    listed = re.search(r"\[possible values: ([^\]]*)\]", " ".join(about))
+    if listed:
+        return listed.group(1).split(", ")
+    return [word.group(1) for line in about if (word := re.match(r"- (\w+):", line))]
+
+
+def completions(program):
+    """The completions: subcommands, their options, the words that an option takes, and files."""
+    commands = list(subcommands(program))
+    names = " ".join(name for name, _, _ in commands)
+    lines = ["# Completions of seamless for bash. lint/manual.py writes this file.", "_seamless() {"]
+    lines += ['    local words=""', '    case "${COMP_WORDS[1]} ${COMP_WORDS[COMP_CWORD - 1]}" in']
+    for name, _, text in commands:
+        for option, shown, about in options(text):
+            if values(about):
+                lines.append(f'    "{name} {option}") words="{" ".join(values(about))}" ;;')
+            elif "FILE" in shown:
+                lines.append(f'    "{name} {option}") COMPREPLY=($(compgen -f -- "$2")) && return ;;')
+            elif "<" in shown:
+                lines.append(f'    "{name} {option}") ;;')
+    lines += ["    *)", '        case "$COMP_CWORD ${COMP_WORDS[1]}" in', f'        "1 "*) words="{names} --help --version" ;;']
+    for name, _, text in commands:
+        lines.append(f'        *" {name}") words="{" ".join(option for option, _, _ in options(text))}" ;;')
+    lines += ["        esac", "        ;;", "    esac", '    COMPREPLY=($(compgen -W "$words" -- "$2"))', "}", "complete -F _seamless seamless ./seamless"]
+    return "\n".join(lines) + "\n"
+
+
+def main():
+    parser = argparse.ArgumentParser()
+    parser.add_argument("--check", action="store_true")
+    parser.add_argument("--program", default=str(ROOT / "seamless"))
+    wanted = parser.parse_args()
+    status = 0
+    for path, text in ((PAGE, page(wanted.program)), (COMPLETIONS, completions(wanted.program))):
+        if not wanted.check:
+            (ROOT / path).write_text(text)
+        elif not (ROOT / path).exists() or (ROOT / path).read_text() != text:
+            print(f"{path} is not what lint/manual.py writes of the program's help: run it")
+            status = 1
+    return status
+
+
+if __name__ == "__main__":
+    sys.exit(main())
