@@ -1,0 +1,4 @@
+pub mod FrameLemmas
+pub mod TallyLemmas
+
+pub mod FollowLemmas

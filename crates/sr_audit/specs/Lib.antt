@@ -1,0 +1,6 @@
+pub mod Counting
+pub mod Following
+pub mod Lanes
+pub mod Limits
+pub mod Stretches
+pub mod Tallies
