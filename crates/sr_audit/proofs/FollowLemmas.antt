@@ -111,7 +111,7 @@ number_is greatest seq fits =
     ]
 
 -- all copies stand in the stretches
-length-stretches : (xs : List Arrival) → sum_by length (stretches xs) ≡ length xs
+pub length-stretches : (xs : List Arrival) → sum_by length (stretches xs) ≡ length xs
 length-stretches [] = refl
 length-stretches (x ∷ xs) = more (stretches xs) (length-stretches xs)
   where

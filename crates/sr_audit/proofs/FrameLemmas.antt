@@ -65,7 +65,6 @@ changed_once p q m same [] none = absurd (no 0 refl none)
   where
     no : (n : ℕ) → n ≡ 0 → n ≡ 1 → ⊥
     no n e f = omega (arith, e, f)
-
 changed_once p q m same (n ∷ ns) once =
     let parts : cond (int_eq n m) 1 0 + count_by (λ k. int_eq k m) ns ≡ 1 = sym (count-cons (λ k. int_eq k m) n ns) ∙ once in
     let head_q : count_by q (n ∷ ns) ≡ cond (q n) 1 0 + count_by q ns = count-cons q n ns in
@@ -75,13 +74,13 @@ changed_once p q m same (n ∷ ns) once =
           let rest : count_by (λ k. int_eq k m) ns ≡ 0 = less (count_by (λ k. int_eq k m) ns) (rw is at parts) in
           let alike : count_by q ns ≡ count_by p ns = same_without p q m same ns rest in
           let one : n ≡ m = (Decides-int_eq n m).0 is in
-          let at_q : cond (q n) 1 0 ≡ cond (q m) 1 0 = ap (λ k. cond (q k) 1 0) one in
-          let at_p : cond (p n) 1 0 ≡ cond (p m) 1 0 = ap (λ k. cond (p k) 1 0) one in
+          let at_q : cond {A = ℕ} (q n) 1 0 ≡ cond (q m) 1 0 = ap (λ k. cond {A = ℕ} (q k) 1 0) one in
+          let at_p : cond {A = ℕ} (p n) 1 0 ≡ cond (p m) 1 0 = ap (λ k. cond {A = ℕ} (p k) 1 0) one in
           omega (arith, head_q, head_p, alike, at_q, at_p)
       | inr other ↦
           let rest : count_by (λ k. int_eq k m) ns ≡ 1 = kept (count_by (λ k. int_eq k m) ns) (rw other at parts) in
           let ih : count_by q ns + cond (p m) 1 0 ≡ count_by p ns + cond (q m) 1 0 = changed_once p q m same ns rest in
-          let here : cond (q n) 1 0 ≡ cond (p n) 1 0 = ap (λ b. cond b 1 0) (same n other) in
+          let here : cond {A = ℕ} (q n) 1 0 ≡ cond (p n) 1 0 = ap (λ b. cond {A = ℕ} b 1 0) (same n other) in
           omega (arith, head_q, head_p, ih, here)
     ]
   where

@@ -1,4 +1,4 @@
 pub mod FrameLemmas
 pub mod TallyLemmas
-
 pub mod FollowLemmas
+pub mod LawLemmas

@@ -88,8 +88,15 @@ copies_b (y ∷ s) = by_b y.side (came A y.number s) (came B y.number s) (frames
 sum_of_three : (f g h k : List Placed → ℕ) → ((s : List Placed) → f s ≡ g s + h s + k s) → (ss : List (List Placed)) →
     sum_by f ss ≡ sum_by g ss + sum_by h ss + sum_by k ss
 sum_of_three f g h k each [] = refl
-sum_of_three f g h k each (s ∷ ss) = omega (arith, sum_by-cons f s ss, sum_by-cons g s ss, sum_by-cons h s ss, sum_by-cons k s ss, each s,
-  sum_of_three f g h k each ss)
+sum_of_three f g h k each (s ∷ ss) = omega (
+  arith,
+  sum_by-cons f s ss,
+  sum_by-cons g s ss,
+  sum_by-cons h s ss,
+  sum_by-cons k s ss,
+  each s,
+  sum_of_three f g h k each ss,
+)
 
 sum_of_two : (f g h : List Placed → ℕ) → ((s : List Placed) → f s + g s ≡ h s) → (ss : List (List Placed)) →
     sum_by f ss + sum_by g ss ≡ sum_by h ss
@@ -198,13 +205,13 @@ tally-more old rest y s grows few =
     (pairs_more side a b (frames_with by_both (y ∷ s)) (frames_with by_both s) (sum_by (frames_with by_both) rest)
     (frames_with-more by_both y s) (rw (sum_by-cons (frames_with by_both) (y ∷ s) rest) at new_pairs)) in
     let alone_a : uncounted (counted (tally_of old).alone.a (is_side A side && (not a && not b))) (joins (is_side B side) b a)
-        ≡ (tally_of new).alone.a =
+    ≡ (tally_of new).alone.a =
     rw (grows.sums (frames_with by_a_alone) refl, sum_by-cons (frames_with by_a_alone) (y ∷ s) rest)
     (alone_a_more side a b (frames_with by_a_alone (y ∷ s)) (frames_with by_a_alone s) (sum_by (frames_with by_a_alone) rest)
     (frames_with-more by_a_alone y s) (rw (sum_by-cons (frames_with by_a_alone) (y ∷ s) rest) at new_alone_a)
     (rw (grows.sums (frames_with by_a_alone) refl) at old_alone_a)) in
     let alone_b : uncounted (counted (tally_of old).alone.b (is_side B side && (not a && not b))) (joins (is_side A side) a b)
-        ≡ (tally_of new).alone.b =
+    ≡ (tally_of new).alone.b =
     rw (grows.sums (frames_with by_b_alone) refl, sum_by-cons (frames_with by_b_alone) (y ∷ s) rest)
     (alone_b_more side a b (frames_with by_b_alone (y ∷ s)) (frames_with by_b_alone s) (sum_by (frames_with by_b_alone) rest)
     (frames_with-more by_b_alone y s) (rw (sum_by-cons (frames_with by_b_alone) (y ∷ s) rest) at new_alone_b)

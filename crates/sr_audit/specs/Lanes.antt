@@ -1,4 +1,4 @@
--- The lanes of a duplicate record on which copies are noted.
+-- Sides, and the lanes of a duplicate record on which copies are noted.
 use Rattle.sr_dup_window.specs.declared.lane_sets.Lane.{Lane}
 use Rattle.sr_dup_window.specs.declared.lane_sets.Lane.TheVariants.{GotA, GotB}
 use Rattle.sr_audit.specs.declared.side.Side.{Side}
@@ -8,3 +8,7 @@ use Rattle.sr_audit.specs.declared.side.Side.TheVariants.{A, B}
 abbrev pub lane_of : Side → Lane
 lane_of A = GotA
 lane_of B = GotB
+
+abbrev pub other_side : Side → Side
+other_side A = B
+other_side B = A

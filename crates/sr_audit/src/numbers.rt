@@ -1,6 +1,6 @@
 //! What is kept of the numbers of a source.
 
-ghost use Rattle.std.specs.Prelude.{◌≡◌, ◌+◌, ◌-◌, ◌^◌, ◌<◌, ◌&&◌, false, not, nat_lt, List, [], ◌∷◌, length};
+ghost use Rattle.std.specs.Prelude.{◌≡◌, ◌+◌, ◌-◌, ◌^◌, ◌<◌, ◌&&◌, false, not, nat_lt, nat_le, List, [], ◌∷◌, length};
 ghost use Rattle.sr_sequence.specs.Places.{place_of};
 ghost use Rattle.sr_dup_window.specs.LaneSets.{only};
 ghost use Rattle.sr_dup_window.specs.Windows.{window_of, window_begun, window_noted, has_of};
@@ -13,13 +13,14 @@ ghost use Rattle.sr_audit.specs.Counting.{tally_with};
 ghost use Rattle.sr_audit.specs.Lanes.{lane_of};
 
 use crate::arrival::Arrival;
+use crate::look::{Look, Step};
 use crate::side::Side;
 use crate::tally::{Came, Tally};
 use sr_dup_window::{Lanes, Record};
-use sr_sequence::{Distance, place};
+use sr_sequence::{Distance, Seq, place};
 
 /// How many numbers of a source are remembered, up to the greatest one (choice of this project).
-const KEPT_NUMBERS: u16 = 1024;
+pub(crate) const KEPT_NUMBERS: u16 = 1024;
 
 /// How long a source is silent whose next number begins an epoch: EntryForgetTime, 400 ms, in nanoseconds (IEC 62439-3
 /// clauses 4 and 5).
@@ -54,7 +55,7 @@ impl Numbers {
         Numbers {
             seen: Record::begin(x.seq, Lanes::only(x.side.lane())),
             last: x.time,
-            tally: Tally::NONE.with(x.side, Came { a: false, b: false }),
+            tally: Tally::NONE.with(x.side, Came::NEITHER),
         }
     }
 
@@ -84,6 +85,50 @@ impl Numbers {
     {
         let distance = place(self.seen.reference(), x.seq, KEPT_NUMBERS);
         x.time.saturating_sub(self.last) < EPOCH_GAP && !is_far(distance)
+    }
+
+    /// How an arrival stands to the stretch.
+    fn step(&self, x: Arrival) -> Step {
+        let reference = self.seen.reference();
+        if self.is_silent(x) {
+            return if x.seq == reference.next() {
+                Step::Resume
+            } else {
+                Step::Restart
+            };
+        }
+        match place(reference, x.seq, KEPT_NUMBERS) {
+            Distance::Behind(steps) => Step::Behind(steps),
+            Distance::Ahead(steps) if steps < KEPT_NUMBERS => Step::Ahead(steps),
+            Distance::Ahead(_) => Step::Jump,
+        }
+    }
+
+    /// Whether the source was silent for 400 ms before an arrival.
+    fn is_silent(&self, x: Arrival) -> bool
+        ensures { result ≡ nat_le epoch_gap (x.time - self.now.last) }
+    {
+        EPOCH_GAP <= x.time.saturating_sub(self.last)
+    }
+
+    /// The greatest number of the stretch.
+    pub(crate) fn greatest(&self) -> Seq
+        ensures { result.0 ≡ (window_of self.now.seen).reference }
+    {
+        self.seen.reference()
+    }
+
+    /// What an arrival that comes next is to the stretch.
+    pub(crate) fn look(&self, x: Arrival) -> Look {
+        let came = if self.goes_on(x) {
+            self.came(x)
+        } else {
+            Came::NEITHER
+        };
+        Look {
+            step: self.step(x),
+            came,
+        }
     }
 
     /// By which sides copies of the frame of an arrival came, where the arrival goes on with the stretch.
@@ -120,7 +165,7 @@ impl Numbers {
         ensures tally { self.new.tally
             ≡ tally_with self.old.tally x.side (record { a = false; b = false }) }
     {
-        self.tally = self.tally.with(x.side, Came { a: false, b: false });
+        self.tally = self.tally.with(x.side, Came::NEITHER);
         self.seen.begin_again(x.seq, Lanes::only(x.side.lane()));
         self.last = x.time;
     }

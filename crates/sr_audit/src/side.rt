@@ -1,7 +1,7 @@
 //! The two ways of a redundant network.
 
 ghost use Rattle.std.specs.Prelude.{◌≡◌};
-ghost use Rattle.sr_audit.specs.Lanes.{lane_of};
+ghost use Rattle.sr_audit.specs.Lanes.{lane_of, other_side};
 
 use sr_dup_window::Lane;
 
@@ -15,6 +15,16 @@ pub enum Side {
 }
 
 impl Side {
+    /// The other side.
+    pub fn other(self) -> Side
+        ensures { result ≡ other_side self }
+    {
+        match self {
+            Side::A => Side::B,
+            Side::B => Side::A,
+        }
+    }
+
     /// The lane of a duplicate record on which a copy is noted that came in here.
     pub(crate) fn lane(self) -> Lane
         ensures { result ≡ lane_of self }

@@ -1,7 +1,14 @@
 //! How far apart the copies of frames come.
 
 /// The bounds of the classes of skews, in nanoseconds: a skew is in the first class whose bound is above it.
-pub const SKEW_BOUNDS: [u64; 6] = [10_000, 100_000, 1_000_000, 10_000_000, 100_000_000, 400_000_000];
+pub const SKEW_BOUNDS: [u64; 6] = [
+    10_000,
+    100_000,
+    1_000_000,
+    10_000_000,
+    100_000_000,
+    400_000_000,
+];
 
 /// The skews of pairs, in nanoseconds: the time of the first copy at side B minus that of the first copy at side A.
 #[derive(Clone, Copy, Debug, PartialEq, Eq)]

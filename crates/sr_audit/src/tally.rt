@@ -28,7 +28,12 @@ pub struct Came {
     pub b: bool,
 }
 
-/// The figures of a source. A count stays at 2^64 - 1.
+impl Came {
+    /// No copy came.
+    pub const NEITHER: Came = Came { a: false, b: false };
+}
+
+/// How many copies and frames of a source came. A count stays at 2^64 - 1.
 #[derive(Clone, Copy, Debug, PartialEq, Eq)]
 pub struct Tally {
     /// How many copies came in.

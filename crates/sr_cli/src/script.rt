@@ -69,7 +69,7 @@ fn link_name(link: u16) -> &'static str {
 }
 
 /// Says what is wrong with a file: a line with the inlet, the word and the octet, and one that explains it.
-fn tell_file<R: Eprint>(rt: &R, inlet: Inlet, fault: CaptureFault) {
+pub fn tell_file<R: Eprint>(rt: &R, inlet: Inlet, fault: CaptureFault) {
     let letter = letter_of(inlet);
     let at = fault.at;
     let word = match fault.reason {
@@ -100,10 +100,10 @@ fn reason_of(kind: ErrorKind) -> &'static str {
 }
 
 /// A file that is read ahead, and tells how far it was read.
-type Opened<'a, R> = BufReader<Metered<'a, <R as Files>::File, R>>;
+pub type Opened<'a, R> = BufReader<Metered<'a, <R as Files>::File, R>>;
 
 /// Opens the file of an inlet, if there is one.
-fn open_file<'a, R: AllocGlobal + Eprint + Files>(
+pub fn open_file<'a, R: AllocGlobal + Eprint + Files>(
     rt: &'a R,
     inlet: Inlet,
     path: Option<&str>,
