@@ -8,3 +8,7 @@ kept_numbers = 1024
 -- how long a source is silent whose next number begins an epoch, in nanoseconds: EntryForgetTime (IEC 62439-3 clauses 4 and 5)
 abbrev pub epoch_gap : ℕ
 epoch_gap = 400000000
+
+-- how many sources have figures (choice of this project)
+abbrev pub most_audited : ℕ
+most_audited = 1024

@@ -55,9 +55,9 @@ impl Ranked for Pending {
     }
 }
 
-/// Appends what is listed.
-fn append(list: &mut Vec<Listed>, listed: Listed) -> Result<(), NoMemory> {
-    match list.push(listed) {
+/// Appends an item.
+fn append<T: Copy>(list: &mut Vec<T>, item: T) -> Result<(), NoMemory> {
+    match list.push(item) {
         Ok(()) => Ok(()),
         Err(refused) => Err(AllocError::from(refused).into()),
     }
@@ -234,7 +234,7 @@ impl Listing {
     pub fn addresses(&self) -> Result<Vec<Mac>, NoMemory> {
         let mut addresses = Vec::with_capacity(self.alloc, self.sources.len())?;
         for (src, _) in self.sources.iter() {
-            addresses.push(src)?;
+            append(&mut addresses, src)?;
         }
         Ok(addresses)
     }

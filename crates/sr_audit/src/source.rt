@@ -54,8 +54,16 @@ impl Ranked for Source {
 }
 
 impl Source {
+    ghost use Rattle.std.specs.Prelude.{◌≡◌, ◌+◌, ◌^◌, ◌<◌, List, [], ◌∷◌, length};
+    ghost use Rattle.sr_audit.specs.declared.arrival.Arrival.{Arrival};
+    ghost use Rattle.sr_audit.specs.Stretches.{stretches};
+    ghost use Rattle.sr_audit.specs.Tallies.{tally_of};
+    ghost use Rattle.sr_audit.specs.Taken.{IsTakenBy};
+
     /// A source of which nothing came.
-    pub(crate) fn new(alloc: Global) -> Source {
+    pub(crate) fn new(alloc: Global) -> Source
+        ensures { IsTakenBy [] result }
+    {
         Source {
             numbers: None,
             moments: Vec::new(alloc),
@@ -70,7 +78,9 @@ impl Source {
     ///
     /// # Errors
     /// `NoMemory` where the growth was refused.
-    pub(crate) fn make_room(&mut self) -> Result<(), NoMemory> {
+    pub(crate) fn make_room(&mut self) -> Result<(), NoMemory>
+        ensures { self.new.numbers ≡ self.old.numbers }
+    {
         if self.moments.is_empty() {
             self.moments.resize(KEPT_NUMBERS as usize, 0)?;
         }
@@ -78,7 +88,10 @@ impl Source {
     }
 
     /// What an arrival is to the stretch; it is then taken.
-    fn look(&mut self, x: Arrival) -> Look {
+    fn look(&mut self, x: Arrival) -> Look
+        ensures { (xs : List Arrival) → length xs + 1 < 2 ^ 64 → IsTakenBy xs self.old
+            → IsTakenBy (x ∷ xs) self.new }
+    {
         match self.numbers.as_mut() {
             Some(numbers) => {
                 let look = numbers.look(x);
@@ -93,7 +106,9 @@ impl Source {
     }
 
     /// Takes the first copy of a frame.
-    fn open(&mut self, x: Arrival, spans: &Spans) {
+    fn open(&mut self, x: Arrival, spans: &Spans)
+        ensures { self.new.numbers ≡ self.old.numbers }
+    {
         if let Some(moment) = self.moments.get_mut((x.seq.0 % KEPT_NUMBERS) as usize) {
             *moment = x.time;
         }
@@ -109,7 +124,9 @@ impl Source {
     }
 
     /// Takes the copy that makes a pair of a frame that came by the other side alone.
-    fn join(&mut self, x: Arrival, spans: &Spans) {
+    fn join(&mut self, x: Arrival, spans: &Spans)
+        ensures { self.new.numbers ≡ self.old.numbers }
+    {
         let first = self
             .moments
             .get((x.seq.0 % KEPT_NUMBERS) as usize)
@@ -132,7 +149,10 @@ impl Source {
     }
 
     /// Takes the next arrival of the source. Its room was made.
-    pub(crate) fn note(&mut self, x: Arrival, spans: &Spans) {
+    pub(crate) fn note(&mut self, x: Arrival, spans: &Spans)
+        ensures { (xs : List Arrival) → length xs + 1 < 2 ^ 64 → IsTakenBy xs self.old
+            → IsTakenBy (x ∷ xs) self.new }
+    {
         let look = self.look(x);
         self.extent.note(x, look);
         let came = look.came;
@@ -145,14 +165,20 @@ impl Source {
     }
 
     /// Takes a supervision frame for this address.
-    pub(crate) fn hear(&mut self, kind: u8, side: Side, time: u64) {
+    pub(crate) fn hear(&mut self, kind: u8, side: Side, time: u64)
+        ensures { self.new.numbers ≡ self.old.numbers }
+    {
         let mut alive = self.alive.unwrap_or(Alive::begin(kind));
         alive.note(kind, side, time);
         self.alive = Some(alive);
     }
 
-    /// The figures of all arrivals.
-    pub fn figures(&self) -> Figures {
+    /// The figures of all arrivals. How many copies and frames came is proved; the edges, the order, the skews and what is told of
+    /// numbers that no frame had are tested alone.
+    pub fn figures(&self) -> Figures
+        ensures { (xs : List Arrival) → IsTakenBy xs self.now
+            → result.tally ≡ tally_of (stretches xs) }
+    {
         let tally = match &self.numbers {
             Some(numbers) => numbers.tally(),
             None => Tally::NONE,

@@ -33,7 +33,9 @@ fn is_checked(octets: &[u8]) -> bool {
     let Some(end) = octets.len().checked_sub(4) else {
         return false;
     };
-    octets.get(..end).is_some_and(|front| front.ends_with(&[0x88, 0xFB]))
+    octets
+        .get(..end)
+        .is_some_and(|front| front.ends_with(&[0x88, 0xFB]))
 }
 
 /// The octets have the type of an HSR tag, behind a VLAN tag if any.

@@ -26,8 +26,7 @@ pub struct Report {
 impl Pass for Report {
     fn take(&mut self, place: Place, packet: &Packet) -> Result<(), AuditFault> {
         let kind = kind_of(self.network, place.side, packet);
-        self.counts
-            .note(place.side, kind, packet.octets.as_slice());
+        self.counts.note(place.side, kind, packet.octets.as_slice());
         let Kind::Numbered(numbered) = kind else {
             return Ok(());
         };
@@ -89,7 +88,10 @@ fn print_capture<W: Write>(
         writer,
         "capture {letter} packets {packets} numbered {numbered} plain {plain} misfit {misfit} "
     )?;
-    write!(writer, "wrong_lan {wrong_lan} cut {cut} long {long} empty {empty} ")?;
+    write!(
+        writer,
+        "wrong_lan {wrong_lan} cut {cut} long {long} empty {empty} "
+    )?;
     let from = OrNone(span.map(|span| span.first));
     let to = OrNone(span.map(|span| span.last));
     writeln!(writer, "from {from} to {to}")?;
@@ -97,22 +99,38 @@ fn print_capture<W: Write>(
 }
 
 /// Prints the line `source`.
-fn print_source<W: Write>(
-    writer: &mut W,
-    mac: Mac,
-    figures: &Figures,
-) -> Result<(), AuditFault> {
+fn print_source<W: Write>(writer: &mut W, mac: Mac, figures: &Figures) -> Result<(), AuditFault> {
     let tally = figures.tally;
     let edges = figures.edges;
     let only_a = tally.alone.a.saturating_sub(edges.a);
     let only_b = tally.alone.b.saturating_sub(edges.b);
-    write!(writer, "source {mac} rx_a {} rx_b {} ", tally.rx.a, tally.rx.b)?;
-    write!(writer, "pairs {} only_a {only_a} only_b {only_b} ", tally.pairs)?;
+    write!(
+        writer,
+        "source {mac} rx_a {} rx_b {} ",
+        tally.rx.a, tally.rx.b
+    )?;
+    write!(
+        writer,
+        "pairs {} only_a {only_a} only_b {only_b} ",
+        tally.pairs
+    )?;
     write!(writer, "edge_a {} edge_b {} ", edges.a, edges.b)?;
     write!(writer, "neither {} ", figures.neither)?;
-    write!(writer, "repeat_a {} repeat_b {} ", tally.repeats.a, tally.repeats.b)?;
-    write!(writer, "order_a {} order_b {} ", figures.order.a, figures.order.b)?;
-    writeln!(writer, "jumps {} restarts {}", figures.jumps, figures.restarts)?;
+    write!(
+        writer,
+        "repeat_a {} repeat_b {} ",
+        tally.repeats.a, tally.repeats.b
+    )?;
+    write!(
+        writer,
+        "order_a {} order_b {} ",
+        figures.order.a, figures.order.b
+    )?;
+    writeln!(
+        writer,
+        "jumps {} restarts {}",
+        figures.jumps, figures.restarts
+    )?;
     Ok(())
 }
 
@@ -130,17 +148,16 @@ fn print_skew<W: Write>(writer: &mut W, mac: Mac, skews: &Skews) -> Result<(), A
         skews.count
     )?;
     let [a, b, c, d, e, f, over] = skews.classes;
-    write!(writer, "under_10us {a} under_100us {b} under_1ms {c} under_10ms {d} ")?;
+    write!(
+        writer,
+        "under_10us {a} under_100us {b} under_1ms {c} under_10ms {d} "
+    )?;
     writeln!(writer, "under_100ms {e} under_400ms {f} over {over}")?;
     Ok(())
 }
 
 /// Prints the line `alive`, where supervision frames for the address came.
-fn print_alive<W: Write>(
-    writer: &mut W,
-    mac: Mac,
-    alive: Option<Alive>,
-) -> Result<(), AuditFault> {
+fn print_alive<W: Write>(writer: &mut W, mac: Mac, alive: Option<Alive>) -> Result<(), AuditFault> {
     let Some(alive) = alive else {
         return Ok(());
     };

@@ -51,8 +51,8 @@ pub fn hint_of(network: Network, counts: &SideCounts) -> Option<Hint> {
 impl Counts {
     /// Whether more than half of the numbered frames of each side have the trailer of the other LAN.
     pub fn are_swapped(&self) -> bool {
-        let is_swapped =
-            |counts: SideCounts| counts.numbered > 0 && counts.wrong_lan > counts.numbered / 2;
+        let is_swapped = |counts: SideCounts| counts.numbered > 0
+            && counts.wrong_lan > counts.numbered / 2;
         is_swapped(self.a) && is_swapped(self.b)
     }
 }

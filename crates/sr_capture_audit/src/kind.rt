@@ -68,7 +68,7 @@ fn sign_of(parcel: &ParcelView<'_>) -> Option<Sign> {
 }
 
 /// What a parcel with a number says. None: it has none.
-fn numbered(parcel: &ParcelView<'_>) -> Option<Numbered> {
+fn number_in(parcel: &ParcelView<'_>) -> Option<Numbered> {
     let seq = parcel.seq()?;
     let header = parcel.header();
     let sign = if header.supervision {
@@ -87,12 +87,20 @@ fn numbered(parcel: &ParcelView<'_>) -> Option<Numbered> {
 /// What the octets of a frame are at a side.
 fn frame_kind(network: Network, side: Side, octets: &[u8]) -> Kind {
     let parcel = match (network, side) {
-        (Network::Prp, Side::A) => PrpFraming { lan: Lan::A, net: 0 }.read(octets),
-        (Network::Prp, Side::B) => PrpFraming { lan: Lan::B, net: 0 }.read(octets),
+        (Network::Prp, Side::A) => PrpFraming {
+            lan: Lan::A,
+            net: 0,
+        }
+        .read(octets),
+        (Network::Prp, Side::B) => PrpFraming {
+            lan: Lan::B,
+            net: 0,
+        }
+        .read(octets),
         (Network::Hsr, _) => HsrFraming { path: 0 }.read(octets),
     };
     match parcel {
-        Ok(parcel) => match numbered(&parcel) {
+        Ok(parcel) => match number_in(&parcel) {
             Some(numbered) => Kind::Numbered(numbered),
             None if octets.ends_with(&[0x88, 0xFB]) => Kind::Misfit,
             None => Kind::Plain,

@@ -33,11 +33,7 @@ fn letter_of(side: Side) -> &'static str {
 }
 
 /// Prints a list line, if it is wanted.
-fn print_listed<W: Write>(
-    writer: &mut W,
-    lists: Lists,
-    listed: Listed,
-) -> Result<(), AuditFault> {
+fn print_listed<W: Write>(writer: &mut W, lists: Lists, listed: Listed) -> Result<(), AuditFault> {
     match listed {
         Listed::Lost(copy) if lists.lost => {
             let letter = letter_of(copy.arrival.side.other());
@@ -48,7 +44,10 @@ fn print_listed<W: Write>(
             let number = arrival.seq.0;
             let time = Millis(arrival.time);
             let skew = Nanos(i128::from(second) - i128::from(arrival.time));
-            writeln!(writer, "pair {src} number {number} at {time} skew_us {skew}")?;
+            writeln!(
+                writer,
+                "pair {src} number {number} at {time} skew_us {skew}"
+            )?;
             Ok(())
         }
         _ => Ok(()),
