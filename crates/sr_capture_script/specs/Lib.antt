@@ -9,3 +9,4 @@ pub mod SourceViews
 pub mod Going
 pub mod Merging
 pub mod Opening
+pub mod Captures

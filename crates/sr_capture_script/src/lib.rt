@@ -2,6 +2,7 @@
 #![tactic(auto)]
 
 mod advancing;
+mod captures;
 mod choice;
 mod fault;
 mod flaws;
@@ -18,6 +19,7 @@ mod shifts;
 mod source;
 mod ticks;
 
+pub use captures::{Captures, Front};
 pub use choice::{Choice, Delays, Inlet, Interfaces, MAX_DELAY, Options};
 pub use fault::ScriptFault;
 pub use scripting::script;

@@ -19,7 +19,7 @@ use std::alloc::Global;
 use std::io::{BufRead, Write};
 
 /// How the file of an inlet is read.
-fn reading_of(options: &Options, inlet: Inlet) -> Reading
+pub(crate) fn reading_of(options: &Options, inlet: Inlet) -> Reading
     ensures { result ≡ reading_of options.now inlet }
 {
     let interfaces = options.interfaces;

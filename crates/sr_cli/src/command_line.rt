@@ -3,6 +3,7 @@
 ghost use Rattle.std.specs.Prelude.{◌<◌, ◌≤◌};
 
 use crate::address::mac_of;
+use crate::audit_line::{AuditTask, audit_command, audit_task, network_words};
 use crate::plant_line::{plant_command, plant_of};
 use crate::refusal::Refused;
 use crate::script_line::{ScriptTask, script_command, script_task};
@@ -32,6 +33,7 @@ pub struct Words<'a> {
     roles: [PossibleValue<'a>; 5],
     lans: [PossibleValue<'a>; 2],
     modes: [PossibleValue<'a>; 2],
+    networks: [PossibleValue<'a>; 2],
 }
 
 impl<'a> Words<'a> {
@@ -55,6 +57,7 @@ impl<'a> Words<'a> {
                 PossibleValue::new("h").help("a frame goes on wherever no copy of it went"),
                 PossibleValue::new("x").help("nor does it go on where a copy of it came in"),
             ],
+            networks: network_words(),
         }
     }
 }
@@ -180,6 +183,7 @@ fn command<'a>(alloc: Global, words: &'a Words<'a>) -> Result<Command<'a>, Alloc
     );
     let command = with(command, status);
     let command = with(command, script_command(alloc));
+    let command = with(command, audit_command(alloc, words.networks.as_slice()));
     let ring = plant_command(
         alloc,
         words,
@@ -257,6 +261,8 @@ pub enum Task<'a> {
     Run(Report, Setup),
     /// Print a script of captures.
     Script(ScriptTask<'a>),
+    /// Print the figures of captures.
+    Audit(AuditTask<'a>),
     /// Run a script on a plant.
     Plant(PlantSetup),
 }
@@ -266,6 +272,12 @@ fn task_in<'a>(matches: &ArgMatches<'a>) -> Result<Task<'a>, Refused> {
     if let Some(script) = matches.subcommand_matches("script") {
         return match script_task(script) {
             Ok(task) => Ok(Task::Script(task)),
+            Err(name) => Err(Refused::Option(name)),
+        };
+    }
+    if let Some(audit) = matches.subcommand_matches("audit") {
+        return match audit_task(audit) {
+            Ok(task) => Ok(Task::Audit(task)),
             Err(name) => Err(Refused::Option(name)),
         };
     }

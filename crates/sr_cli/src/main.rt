@@ -2,6 +2,8 @@
 #![tactic(auto)]
 
 mod address;
+mod audit;
+mod audit_line;
 mod command_line;
 mod flaws;
 mod forms;
@@ -18,6 +20,7 @@ mod survey;
 mod tails;
 mod word_flaws;
 
+use audit::run_audit;
 use command_line::{Task, Words, task_of};
 use progress::Progress;
 use refusal::Refused;
@@ -70,6 +73,7 @@ fn start<R: AllocGlobal + Print + Eprint + Input + Env + Files + RandomSource>(
     let known = Words::new();
     match task_of(rt.alloc(), &known, words.as_slice()) {
         Ok(Task::Script(task)) => run_script(rt, &task, progress).map_err(|()| RUN_FAILED),
+        Ok(Task::Audit(task)) => run_audit(rt, &task, progress),
         Ok(Task::Run(report, setup)) => run_node(rt, report, &setup).map_err(|()| RUN_FAILED),
         Ok(Task::Plant(setup)) => play(rt, &setup).map_err(|()| RUN_FAILED),
         Err(refused) => tell_refused(rt, refused),

@@ -30,6 +30,8 @@ impl Refused {
 fn wanted(name: &str) -> &'static str {
     match name {
         "files" => "give a capture at least: --a FILE, --b FILE or --c FILE",
+        "captures" => "give a capture at least: --a FILE or --b FILE",
+        "list" => "--list takes lost, wrong and pairs, joined by commas",
         "shift" => "the shifts are more than 146 years apart",
         "from" | "to" => "--from and --to take whole milliseconds from the earliest packet on",
         "tick" => "--tick takes whole milliseconds, at least 1",

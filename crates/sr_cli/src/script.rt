@@ -41,7 +41,7 @@ fn word_of(reason: Reason) -> &'static str {
 }
 
 /// Says what is wrong with a file: a line with the inlet, the word and the octet, and one that explains it.
-fn tell_file<R: Eprint>(rt: &R, inlet: Inlet, fault: CaptureFault) {
+pub fn tell_file<R: Eprint>(rt: &R, inlet: Inlet, fault: CaptureFault) {
     let letter = letter_of(inlet);
     let CaptureFault { at, reason } = fault;
     let word = word_of(reason);
@@ -79,16 +79,16 @@ fn tell_unopened<R: Eprint>(rt: &R, letter: &str, path: &str, wanted: Wanted, ki
 }
 
 /// A file that is read ahead, and tells how far it was read.
-type Opened<'a, R> = BufReader<Metered<'a, <R as Files>::File, R>>;
+pub type Opened<'a, R> = BufReader<Metered<'a, <R as Files>::File, R>>;
 
-/// Opens the file of an inlet, if there is one.
-fn open_file<'a, R: AllocGlobal + Print + Eprint + Files>(
+/// Opens the file of an inlet, if there is one. The error is the word for the fault, which standard error tells.
+pub fn open_file<'a, R: AllocGlobal + Eprint + Files>(
     rt: &'a R,
     inlet: Inlet,
     path: Option<&str>,
     wanted: Wanted,
     progress: Progress,
-) -> Result<Option<Opened<'a, R>>, ()> {
+) -> Result<Option<Opened<'a, R>>, &'static str> {
     let Some(path) = path else {
         return Ok(None);
     };
@@ -96,9 +96,8 @@ fn open_file<'a, R: AllocGlobal + Print + Eprint + Files>(
     let file = match File::open(rt, path) {
         Ok(file) => file,
         Err(error) => {
-            let _ = println!(rt; "# fault {letter} open 0");
             tell_unopened(rt, letter, path, wanted, error.kind());
-            return Err(());
+            return Err("open");
         }
     };
     let len = std::fs::metadata(rt, path).map_or(0, |metadata| metadata.len());
@@ -106,6 +105,24 @@ fn open_file<'a, R: AllocGlobal + Print + Eprint + Files>(
         Ok(reader) => Ok(Some(reader)),
         Err(_) => {
             let _ = eprintln!(rt; "fault {letter} memory 0");
+            Err("memory")
+        }
+    }
+}
+
+/// Opens the file of an inlet for a script. Where that fails, the script is a comment that tells of it.
+fn open_for_script<'a, R: AllocGlobal + Print + Eprint + Files>(
+    rt: &'a R,
+    inlet: Inlet,
+    path: Option<&str>,
+    wanted: Wanted,
+    progress: Progress,
+) -> Result<Option<Opened<'a, R>>, ()> {
+    match open_file(rt, inlet, path, wanted, progress) {
+        Ok(opened) => Ok(opened),
+        Err(word) => {
+            let letter = letter_of(inlet);
+            let _ = println!(rt; "# fault {letter} {word} 0");
             Err(())
         }
     }
@@ -150,9 +167,9 @@ pub fn run_script<R: AllocGlobal + Print + Eprint + Files>(
     progress: Progress,
 ) -> Result<(), ()> {
     let interfaces = task.options.interfaces;
-    let a = open_file(rt, Inlet::A, task.a, interfaces.a, progress)?;
-    let b = open_file(rt, Inlet::B, task.b, interfaces.b, progress)?;
-    let c = open_file(rt, Inlet::C, task.c, interfaces.c, progress)?;
+    let a = open_for_script(rt, Inlet::A, task.a, interfaces.a, progress)?;
+    let b = open_for_script(rt, Inlet::B, task.b, interfaces.b, progress)?;
+    let c = open_for_script(rt, Inlet::C, task.c, interfaces.c, progress)?;
     let Ok(buffered) = BufWriter::new(rt.alloc(), Pipe::new(io::writer(rt))) else {
         let _ = eprintln!(rt; "fault memory");
         return Err(());

@@ -18,7 +18,7 @@ pub struct ScriptTask<'a> {
 }
 
 /// An option with a value.
-fn option<'a>(alloc: Global, name: &'a str, value: &'a str, help: &'a str) -> Arg<'a> {
+pub fn option<'a>(alloc: Global, name: &'a str, value: &'a str, help: &'a str) -> Arg<'a> {
     Arg::new(alloc, name)
         .long(name)
         .value_name(value)
@@ -27,7 +27,7 @@ fn option<'a>(alloc: Global, name: &'a str, value: &'a str, help: &'a str) -> Ar
 }
 
 /// A command with one such option more, if it was made.
-fn with_option<'a>(
+pub fn with_option<'a>(
     alloc: Global,
     command: Result<Command<'a>, AllocError>,
     name: &'a str,
@@ -70,9 +70,9 @@ pub fn script_command<'a>(alloc: Global) -> Result<Command<'a>, AllocError> {
 
 /// A file, and which of its interfaces is wanted.
 #[derive(Clone, Copy)]
-struct Capture<'a> {
-    path: Option<&'a str>,
-    wanted: Wanted,
+pub struct Capture<'a> {
+    pub path: Option<&'a str>,
+    pub wanted: Wanted,
 }
 
 /// The file and the interface that a word names: a colon and digits at its end are an interface's number.
@@ -97,7 +97,7 @@ fn capture_named(word: &str) -> Capture<'_> {
 }
 
 /// The file of an option that may be left out.
-fn capture_of<'a>(matches: &ArgMatches<'a>, name: &'static str) -> Capture<'a> {
+pub fn capture_of<'a>(matches: &ArgMatches<'a>, name: &'static str) -> Capture<'a> {
     match matches.get_str(name) {
         Some(word) => capture_named(word),
         None => Capture {
@@ -108,7 +108,7 @@ fn capture_of<'a>(matches: &ArgMatches<'a>, name: &'static str) -> Capture<'a> {
 }
 
 /// The number of an option that may be left out; else the option is the fault.
-fn time_of(matches: &ArgMatches<'_>, name: &'static str) -> Result<Option<u64>, &'static str> {
+pub fn time_of(matches: &ArgMatches<'_>, name: &'static str) -> Result<Option<u64>, &'static str> {
     match matches.get_str(name) {
         None => Ok(None),
         Some(text) => match text.parse::<u64>() {
@@ -119,7 +119,7 @@ fn time_of(matches: &ArgMatches<'_>, name: &'static str) -> Result<Option<u64>, 
 }
 
 /// The shift of a file, 0 where there is none; else the option is the fault.
-fn shift_of(matches: &ArgMatches<'_>, name: &'static str) -> Result<i64, &'static str> {
+pub fn shift_of(matches: &ArgMatches<'_>, name: &'static str) -> Result<i64, &'static str> {
     match matches.get_str(name) {
         None => Ok(0),
         Some(text) => match text.parse::<i64>() {

@@ -1,0 +1,232 @@
+-- The record of a source follows its arrivals.
+use Rattle.std.proofs.Common.{
+  ◌≡◌,
+  ℕ,
+  ◌+◌,
+  ◌-◌,
+  ◌%◌,
+  ◌<◌,
+  ◌≤◌,
+  Bool,
+  true,
+  false,
+  cond,
+  ltb,
+  ◌||◌,
+  ◌&&◌,
+  not,
+  List,
+  [],
+  ◌∷◌,
+  length,
+  ℤ,
+  pos,
+  arith,
+  refl,
+  sym,
+  ap,
+  ◌∙◌,
+  subst,
+  inl,
+  inr,
+}
+use Rattle.std.specs.Prelude.{sum_by, nat_lt, ◌^◌}
+use Rattle.std.specs.Ordering.{int_eq}
+use Rattle.std.proofs.lemmas.Bool.{cases_Bool, cases_lt, lt-ltb, le-ltb}
+use Rattle.std.proofs.lemmas.List.Sums.{sum_by-cons}
+use Rattle.sr_sequence.specs.Numbers.{wire}
+use Rattle.sr_sequence.specs.Places.{place_of, number_at, steps, IsTheOne}
+use Rattle.sr_sequence.specs.NumberLemmas.{wire-lt, behind_is, ahead_is}
+use Rattle.sr_dup_window.specs.LaneSets.{has, only, is_empty}
+use Rattle.sr_dup_window.specs.Families.{StandsFor}
+use Rattle.sr_dup_window.specs.Windows.{Window, window_of, window_begun, window_noted, has_of}
+use Rattle.sr_dup_window.specs.WindowLemmas.{begun-stands, noted-stands, has-by-family}
+use Rattle.sr_audit.specs.declared.side.Side.{Side}
+use Rattle.sr_audit.specs.declared.side.Side.TheVariants.{A, B}
+use Rattle.sr_audit.specs.declared.arrival.Arrival.{Arrival}
+use Rattle.sr_audit.specs.declared.numbers.Numbers.{Numbers}
+use Rattle.sr_audit.specs.declared.tally.Tally.{Tally}
+use Rattle.sr_audit.specs.Limits.{kept_numbers, epoch_gap}
+use Rattle.sr_audit.specs.Lanes.{lane_of}
+use Rattle.sr_audit.specs.Counting.{tally_with}
+use Rattle.sr_audit.specs.Stretches.{
+  Placed,
+  placed,
+  is_side,
+  came,
+  top_of,
+  lies_from,
+  is_far,
+  goes_on,
+  gone_on,
+  begun,
+  current,
+  entered,
+  stretches,
+}
+use Rattle.sr_audit.specs.Tallies.{tally_of}
+use Rattle.sr_audit.specs.Following.{family_of, newest_time, StandsAt, Follows}
+use Rattle.sr_audit.proofs.TallyLemmas.{Grows, tally-more}
+
+-- the lane of a side tells the sides apart
+has_side : (side other : Side) → has (only (lane_of other)) (lane_of side) ≡ is_side side other
+has_side A A = refl
+has_side A B = refl
+has_side B A = refl
+has_side B B = refl
+
+some_lane_of : (side : Side) → is_empty (only (lane_of side)) ≡ false
+some_lane_of A = refl
+some_lane_of B = refl
+
+-- the family of a stretch has a number where a copy came
+family_came : (s : List Placed) (side : Side) (n : ℤ) → family_of s (lane_of side) n ≡ came side n s
+family_came [] side n = refl
+family_came (y ∷ []) side n =
+    ap (λ b. int_eq n y.number && b) (has_side side y.side) ∙ or_none (int_eq n y.number && is_side side y.side)
+  where
+    or_none : (b : Bool) → b ≡ (b || false)
+    or_none true = refl
+    or_none false = refl
+family_came (y ∷ z ∷ before) side n = turned (family_of (z ∷ before) (lane_of side) n) (int_eq n y.number && has (only (lane_of y.side)) (lane_of side))
+    (came side n (z ∷ before)) (int_eq n y.number && is_side side y.side) (family_came (z ∷ before) side n)
+    (ap (λ b. int_eq n y.number && b) (has_side side y.side))
+  where
+    turned : (a b c d : Bool) → a ≡ c → b ≡ d → (a || b) ≡ (d || c)
+    turned true b c true e f = refl
+    turned true b true false e f = refl
+    turned true b false false e f = let no : true ≡ false = e in absurd cc
+    turned false b c true e f = f
+    turned false b c false e f = cc
+
+-- the number that an arrival has, of those near the greatest
+number_is : (greatest : ℤ) (seq : ℕ) → seq < 65536 →
+    IsTheOne kept_numbers greatest seq (number_at greatest (place_of (wire greatest) seq kept_numbers))
+number_is greatest seq fits =
+    elim (cases_lt (steps seq (wire greatest)) kept_numbers) [
+      | inl less ↦ rw (lt-ltb (steps seq (wire greatest)) kept_numbers less)
+          (behind_is kept_numbers greatest (wire greatest) seq (omega arith) (omega arith) fits less refl)
+      | inr more ↦ rw (le-ltb (steps seq (wire greatest)) kept_numbers more)
+          (ahead_is kept_numbers greatest (wire greatest) seq (omega arith) (omega arith) fits more refl)
+    ]
+
+-- all copies stand in the stretches
+pub length-stretches : (xs : List Arrival) → sum_by length (stretches xs) ≡ length xs
+length-stretches [] = refl
+length-stretches (x ∷ xs) = more (stretches xs) (length-stretches xs)
+  where
+    more : (ss : List (List Placed)) → sum_by length ss ≡ length xs → sum_by length (entered ss x) ≡ length (x ∷ xs)
+    more [] e = omega (arith, e)
+    more (s ∷ ss) e =
+        elim (cases_Bool (goes_on s x)) [
+          | inl on ↦ rw on (omega (arith, e, sum_by-cons length s ss, sum_by-cons length (gone_on s x) ss))
+          | inr off ↦ rw off (omega (arith, e, sum_by-cons length (begun x) (s ∷ ss)))
+        ]
+
+wire_small : (n : ℕ) → n < 65536 → wire (pos n) ≡ n
+wire_small n h = omega (arith, h)
+
+-- the record of the first arrival
+pub begun_follows : (x : Arrival) (n : Numbers) (t : Tally) → x.seq.0 < 65536 → t ≡ tally_of [] →
+    window_of n.seen ≡ window_begun kept_numbers x.seq.0 (only (lane_of x.side)) → n.last ≡ x.time →
+    n.tally ≡ tally_with t x.side (record { a = false; b = false }) → Follows (x ∷ []) n
+begun_follows x n t fits none seen last tally =
+    let P : Window → Type 0 = λ w. StandsFor kept_numbers w (family_of (begun x)) (top_of (begun x)) in
+    record {
+      seen = subst P (sym seen) (begun-stands kept_numbers (only (lane_of x.side)) (pos x.seq.0) x.seq.0 (inl refl) (some_lane_of x.side)
+          (wire_small x.seq.0 fits));
+      last = last;
+      tally = tally ∙ ap (λ u. tally_with u x.side (record { a = false; b = false })) none
+          ∙ tally-more [] [] (placed x (pos x.seq.0)) [] (record { sums = λ f zero. sym (omega (arith, zero)) }) (omega arith);
+    }
+
+-- the test of the record is that of the stretch
+abbrev pub goes_by : Numbers → Arrival → Bool
+goes_by n x = nat_lt (x.time - n.last) epoch_gap && not (is_far (place_of (window_of n.seen).reference x.seq.0 kept_numbers))
+
+tested : (y : Placed) (before : List Placed) (x : Arrival) (n : Numbers) → n.last ≡ y.time →
+    (window_of n.seen).reference ≡ wire (top_of (y ∷ before)) → goes_on (y ∷ before) x ≡ goes_by n x
+tested y before x n last reference =
+    ap (λ t. nat_lt (x.time - t) epoch_gap && not (is_far (place_of (wire (top_of (y ∷ before))) x.seq.0 kept_numbers))) (sym last)
+    ∙ ap (λ r. nat_lt (x.time - n.last) epoch_gap && not (is_far (place_of r x.seq.0 kept_numbers))) (sym reference)
+
+-- the record with an arrival that goes on
+on_stands : (y : Placed) (before : List Placed) (rest : List (List Placed)) (x : Arrival) (old new : Numbers) →
+    StandsAt ((y ∷ before) ∷ rest) old → x.seq.0 < 65536 → 1 + sum_by length ((y ∷ before) ∷ rest) ≤ 18446744073709551615 →
+    window_of new.seen ≡ window_noted kept_numbers (window_of old.seen) x.seq.0 (only (lane_of x.side)) → new.last ≡ x.time →
+    new.tally ≡ tally_with old.tally x.side (record {
+      a = has_of kept_numbers (window_of old.seen) (lane_of A) x.seq.0;
+      b = has_of kept_numbers (window_of old.seen) (lane_of B) x.seq.0;
+    }) → StandsAt (gone_on (y ∷ before) x ∷ rest) new
+on_stands y before rest x old new stands fits few seen last tally =
+    let s = y ∷ before in
+    let n = number_at (top_of s) (lies_from s x.seq.0) in
+    let one : IsTheOne kept_numbers (top_of s) x.seq.0 n = number_is (top_of s) x.seq.0 fits in
+    let by : (side : Side) → has_of kept_numbers (window_of old.seen) (lane_of side) x.seq.0 ≡ came side n s =
+    λ side. has-by-family kept_numbers (window_of old.seen) (family_of s) (top_of s) n x.seq.0 (lane_of side) (inl refl) stands.seen one.near
+    one.carried ∙ family_came s side n in
+    let came_is : tally_with old.tally x.side (record {
+      a = has_of kept_numbers (window_of old.seen) (lane_of A) x.seq.0;
+      b = has_of kept_numbers (window_of old.seen) (lane_of B) x.seq.0;
+    }) ≡ tally_with old.tally x.side (record { a = came A n s; b = came B n s }) =
+    λ i. tally_with old.tally x.side (record { a = by A i; b = by B i }) in
+    let grown : sum_by length ((placed x n ∷ s) ∷ rest) ≤ 18446744073709551615 =
+    omega (arith, few, sum_by-cons length s rest, sum_by-cons length (placed x n ∷ s) rest) in
+    let P : Window → Type 0 = λ w. StandsFor kept_numbers w (family_of (placed x n ∷ s)) (top_of (placed x n ∷ s)) in
+    record {
+      seen = subst P (sym seen) (noted-stands kept_numbers (window_of old.seen) (family_of s) (top_of s) n x.seq.0 (only (lane_of x.side))
+          (inl refl) (some_lane_of x.side) stands.seen one.near one.carried);
+      last = last;
+      tally = tally ∙ came_is ∙ ap (λ u. tally_with u x.side (record { a = came A n s; b = came B n s })) stands.tally
+          ∙ tally-more (s ∷ rest) rest (placed x n) s (record { sums = λ f zero. sum_by-cons f s rest }) grown;
+    }
+
+-- the record with an arrival that begins a stretch
+off_stands : (ss : List (List Placed)) (x : Arrival) (old new : Numbers) → StandsAt ss old → x.seq.0 < 65536 →
+    1 + sum_by length ss ≤ 18446744073709551615 →
+    window_of new.seen ≡ window_begun kept_numbers x.seq.0 (only (lane_of x.side)) → new.last ≡ x.time →
+    new.tally ≡ tally_with old.tally x.side (record { a = false; b = false }) → StandsAt (begun x ∷ ss) new
+off_stands ss x old new stands fits few seen last tally =
+    let grown : sum_by length (begun x ∷ ss) ≤ 18446744073709551615 = omega (arith, few, sum_by-cons length (begun x) ss) in
+    let P : Window → Type 0 = λ w. StandsFor kept_numbers w (family_of (begun x)) (top_of (begun x)) in
+    record {
+      seen = subst P (sym seen) (begun-stands kept_numbers (only (lane_of x.side)) (pos x.seq.0) x.seq.0 (inl refl) (some_lane_of x.side)
+          (wire_small x.seq.0 fits));
+      last = last;
+      tally = tally ∙ ap (λ u. tally_with u x.side (record { a = false; b = false })) stands.tally
+          ∙ tally-more ss ss (placed x (pos x.seq.0)) [] (record { sums = λ f zero. omega (arith, zero) }) grown;
+    }
+
+-- a record stands for no empty stretch
+none_stands : (n : Numbers) → StandsFor kept_numbers (window_of n.seen) (family_of []) (top_of []) → ⊥
+none_stands n stands = let no : false ≡ true = stands.top.member.1 in absurd cc
+
+-- the record with one arrival more
+pub on_follows : (xs : List Arrival) (x : Arrival) (old new : Numbers) → Follows xs old → x.seq.0 < 65536 → length xs + 1 < 2 ^ 64 →
+    goes_by old x ≡ true →
+    window_of new.seen ≡ window_noted kept_numbers (window_of old.seen) x.seq.0 (only (lane_of x.side)) → new.last ≡ x.time →
+    new.tally ≡ tally_with old.tally x.side (record {
+      a = has_of kept_numbers (window_of old.seen) (lane_of A) x.seq.0;
+      b = has_of kept_numbers (window_of old.seen) (lane_of B) x.seq.0;
+    }) → Follows (x ∷ xs) new
+on_follows xs x old new follows fits few on seen last tally = go (stretches xs) follows (omega (arith, few, length-stretches xs))
+  where
+    go : (ss : List (List Placed)) → StandsAt ss old → 1 + sum_by length ss ≤ 18446744073709551615 → StandsAt (entered ss x) new
+    go [] stands most = absurd (none_stands old stands.seen)
+    go ([] ∷ rest) stands most = absurd (none_stands old stands.seen)
+    go ((y ∷ before) ∷ rest) stands most =
+        let test : goes_on (y ∷ before) x ≡ true = tested y before x old stands.last stands.seen.reference ∙ on in
+        rw test (on_stands y before rest x old new stands fits most seen last tally)
+
+pub off_follows : (xs : List Arrival) (x : Arrival) (old new : Numbers) → Follows xs old → x.seq.0 < 65536 → length xs + 1 < 2 ^ 64 →
+    goes_by old x ≡ false →
+    window_of new.seen ≡ window_begun kept_numbers x.seq.0 (only (lane_of x.side)) → new.last ≡ x.time →
+    new.tally ≡ tally_with old.tally x.side (record { a = false; b = false }) → Follows (x ∷ xs) new
+off_follows xs x old new follows fits few off seen last tally = go (stretches xs) follows (omega (arith, few, length-stretches xs))
+  where
+    go : (ss : List (List Placed)) → StandsAt ss old → 1 + sum_by length ss ≤ 18446744073709551615 → StandsAt (entered ss x) new
+    go [] stands most = absurd (none_stands old stands.seen)
+    go ([] ∷ rest) stands most = absurd (none_stands old stands.seen)
+    go ((y ∷ before) ∷ rest) stands most =
+        let test : goes_on (y ∷ before) x ≡ false = tested y before x old stands.last stands.seen.reference ∙ off in
+        rw test (off_stands ((y ∷ before) ∷ rest) x old new stands fits most seen last tally)

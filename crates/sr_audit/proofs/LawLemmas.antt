@@ -1,0 +1,14 @@
+-- The laws of the figures of a source.
+use Rattle.std.proofs.Common.{◌∙◌}
+use Rattle.sr_audit.specs.Stretches.{stretches}
+use Rattle.sr_audit.specs.Laws.{CopiesAddUp}
+use Rattle.sr_audit.proofs.TallyLemmas.{rx_a-sum, rx_b-sum, rx-sum}
+use Rattle.sr_audit.proofs.FollowLemmas.{length-stretches}
+
+pub add_up : CopiesAddUp
+add_up xs =
+    record {
+      at_a = rx_a-sum (stretches xs);
+      at_b = rx_b-sum (stretches xs);
+      all = rx-sum (stretches xs) ∙ length-stretches xs;
+    }

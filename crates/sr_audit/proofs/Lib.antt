@@ -1,0 +1,5 @@
+pub mod FrameLemmas
+pub mod TallyLemmas
+pub mod AuditLemmas
+pub mod FollowLemmas
+pub mod LawLemmas

@@ -1,0 +1,9 @@
+pub mod Audits
+pub mod Counting
+pub mod Following
+pub mod Lanes
+pub mod Laws
+pub mod Limits
+pub mod Stretches
+pub mod Taken
+pub mod Tallies

@@ -1,0 +1,14 @@
+-- The limits of an audit.
+use Rattle.std.specs.Prelude.{ℕ}
+
+-- how many numbers of a source are remembered, up to the greatest one: as many as a duplicate table remembers (choice of this project)
+abbrev pub kept_numbers : ℕ
+kept_numbers = 1024
+
+-- how long a source is silent whose next number begins an epoch, in nanoseconds: EntryForgetTime (IEC 62439-3 clauses 4 and 5)
+abbrev pub epoch_gap : ℕ
+epoch_gap = 400000000
+
+-- how many sources have figures (choice of this project)
+abbrev pub most_audited : ℕ
+most_audited = 1024

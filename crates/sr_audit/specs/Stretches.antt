@@ -1,0 +1,74 @@
+-- The arrivals of one source, newest first, and the stretches of whole numbers that they fall into.
+use Rattle.std.specs.Prelude.{ℕ, ◌-◌, nat_lt, nat_le, Bool, true, false, not, ◌&&◌, List, [], ◌∷◌, ℤ, pos, if◌then◌else◌}
+use Rattle.std.specs.Ordering.{int_eq}
+use Rattle.std.specs.List.{list_any}
+use Rattle.sr_sequence.specs.Numbers.{wire}
+use Rattle.sr_sequence.specs.Places.{place_of, number_at}
+use Rattle.sr_sequence.specs.declared.Distance.{Distance}
+use Rattle.sr_sequence.specs.declared.Distance.TheVariants.{Behind, Ahead}
+use Rattle.sr_dup_window.specs.Families.{greater}
+use Rattle.sr_audit.specs.declared.arrival.Arrival.{Arrival}
+use Rattle.sr_audit.specs.declared.side.Side.{Side}
+use Rattle.sr_audit.specs.declared.side.Side.TheVariants.{A, B}
+use Rattle.sr_audit.specs.Limits.{kept_numbers, epoch_gap}
+
+abbrev pub is_side : Side → Side → Bool
+is_side A A = true
+is_side B B = true
+is_side side other = false
+
+-- a copy in its stretch: where and when it came in, and the whole number of its frame
+pub record Placed : Type 0 where
+  pub side : Side
+  pub number : ℤ
+  pub time : ℕ
+
+-- the greatest whole number of a stretch
+abbrev pub top_of : List Placed → ℤ
+top_of [] = pos 0
+top_of (y ∷ []) = y.number
+top_of (y ∷ z ∷ before) = greater (top_of (z ∷ before)) y.number
+
+-- the number lies more than 1023 ahead
+abbrev pub is_far : Distance → Bool
+is_far (Behind k) = false
+is_far (Ahead k) = nat_le kept_numbers k
+
+-- where a number lies from the greatest one of a stretch
+abbrev pub lies_from : List Placed → ℕ → Distance
+lies_from s seq = place_of (wire (top_of s)) seq kept_numbers
+
+-- an arrival goes on with a stretch: less than 400 ms behind its newest copy, and no more than 1023 ahead of its greatest number
+abbrev pub goes_on : List Placed → Arrival → Bool
+goes_on [] x = false
+goes_on (y ∷ before) x = nat_lt (x.time - y.time) epoch_gap && not (is_far (lies_from (y ∷ before) x.seq.0))
+
+abbrev pub placed : Arrival → ℤ → Placed
+placed x number = record { side = x.side; number = number; time = x.time }
+
+-- the stretch with an arrival that goes on with it
+abbrev pub gone_on : List Placed → Arrival → List Placed
+gone_on s x = placed x (number_at (top_of s) (lies_from s x.seq.0)) ∷ s
+
+-- the stretch that an arrival begins: its whole number is the one that it carries
+abbrev pub begun : Arrival → List Placed
+begun x = placed x (pos x.seq.0) ∷ []
+
+-- the stretch that the newest arrival is in
+abbrev pub current : List (List Placed) → List Placed
+current [] = []
+current (s ∷ before) = s
+
+-- the stretches with one arrival more
+abbrev pub entered : List (List Placed) → Arrival → List (List Placed)
+entered [] x = begun x ∷ []
+entered (s ∷ before) x = if goes_on s x then gone_on s x ∷ before else begun x ∷ s ∷ before
+
+-- the stretches of the arrivals of a source, newest first
+abbrev pub stretches : List Arrival → List (List Placed)
+stretches [] = []
+stretches (x ∷ before) = entered (stretches before) x
+
+-- a copy of a frame of a stretch came in at a side
+abbrev pub came : Side → ℤ → List Placed → Bool
+came side number s = list_any (λ y. int_eq number y.number && is_side side y.side) s

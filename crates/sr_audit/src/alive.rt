@@ -1,0 +1,63 @@
+//! Signs of life of a node.
+
+use crate::side::Side;
+
+/// The supervision frames for an address, as they came in at one side.
+#[derive(Clone, Copy, Debug, PartialEq, Eq)]
+pub struct Lives {
+    /// How many came.
+    pub rx: u64,
+    last: Option<u64>,
+    /// The greatest time between two in a row, in nanoseconds. None: fewer than two came.
+    pub gap: Option<u64>,
+}
+
+impl Lives {
+    /// None came.
+    pub const NONE: Lives = Lives {
+        rx: 0,
+        last: None,
+        gap: None,
+    };
+
+    /// Takes the time of the next one.
+    fn note(&mut self, time: u64) {
+        self.rx = self.rx.saturating_add(1);
+        if let Some(last) = self.last {
+            let gap = time.saturating_sub(last);
+            self.gap = Some(self.gap.map_or(gap, |most| most.max(gap)));
+        }
+        self.last = Some(time);
+    }
+}
+
+/// The supervision frames for an address.
+#[derive(Clone, Copy, Debug, PartialEq, Eq)]
+pub struct Alive {
+    /// The type of the first TLV of the last one: 20 or 21 of a PRP node, 22 or 23 of an HSR node.
+    pub kind: u8,
+    /// Those that came by side A.
+    pub a: Lives,
+    /// Those that came by side B.
+    pub b: Lives,
+}
+
+impl Alive {
+    /// None came yet; the next one has this type.
+    pub(crate) fn begin(kind: u8) -> Alive {
+        Alive {
+            kind,
+            a: Lives::NONE,
+            b: Lives::NONE,
+        }
+    }
+
+    /// Takes the next one.
+    pub(crate) fn note(&mut self, kind: u8, side: Side, time: u64) {
+        self.kind = kind;
+        match side {
+            Side::A => self.a.note(time),
+            Side::B => self.b.note(time),
+        }
+    }
+}

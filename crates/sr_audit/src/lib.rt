@@ -1,0 +1,28 @@
+//! What two captures of a redundant network tell of its frames: which came by both sides, and which by one alone.
+#![tactic(auto)]
+
+mod alive;
+mod arrival;
+mod audit;
+mod extent;
+mod laws;
+mod listing;
+mod look;
+mod numbers;
+mod side;
+mod skew;
+mod source;
+mod span;
+mod tally;
+
+pub use alive::{Alive, Lives};
+pub use arrival::Arrival;
+pub use audit::{Audit, MOST_SOURCES};
+pub use laws::copies_add_up;
+pub use listing::{Copied, Listed, Listing};
+pub use numbers::Numbers;
+pub use side::Side;
+pub use skew::{SKEW_BOUNDS, Skews};
+pub use source::{Figures, Source};
+pub use span::{Span, Spans};
+pub use tally::{Came, Sides, Tally};

@@ -1,0 +1,37 @@
+//! What an arrival is to the stretch of its source.
+
+use crate::tally::Came;
+
+/// How an arrival stands to the stretch before it.
+#[derive(Clone, Copy, Debug, PartialEq, Eq)]
+pub(crate) enum Step {
+    /// It is the first of its source.
+    First,
+    /// It begins an epoch: the source was silent for 400 ms. The greatest number so far does not stand just before it.
+    Restart,
+    /// It begins an epoch with the number behind the greatest one so far.
+    Resume,
+    /// It begins a stretch: its number lies more than 1023 ahead.
+    Jump,
+    /// Its number lies that far behind the greatest one.
+    Behind(u16),
+    /// Its number lies that far ahead.
+    Ahead(u16),
+}
+
+/// What an arrival is to the stretch of its source.
+#[derive(Clone, Copy, Debug, PartialEq, Eq)]
+pub(crate) struct Look {
+    /// How it stands to the stretch.
+    pub step: Step,
+    /// By which sides copies of its frame came before.
+    pub came: Came,
+}
+
+impl Look {
+    /// The first arrival of a source.
+    pub const FIRST: Look = Look {
+        step: Step::First,
+        came: Came::NEITHER,
+    };
+}

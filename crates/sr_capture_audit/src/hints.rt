@@ -1,0 +1,58 @@
+//! What looks wrong in the captures as a whole.
+
+use crate::counts::{Counts, SideCounts};
+use crate::network::Network;
+use std::fmt;
+
+/// What looks wrong in the capture of a side.
+#[derive(Clone, Copy, Debug, PartialEq, Eq)]
+pub enum Hint {
+    /// No trailer stands in so many packets, but in so many one stands four octets before the end.
+    Checked(u64, u64),
+    /// So many packets have HSR tags.
+    Tagged(u64),
+    /// The recorder cut so many packets.
+    Cut(u64),
+}
+
+impl fmt::Display for Hint {
+    fn fmt<W: fmt::Write>(&self, f: &mut fmt::Formatter<W>) -> fmt::Result {
+        match *self {
+            Hint::Checked(packets, checked) => write!(
+                f,
+                "no PRP trailer in {packets} packets; in {checked} one stands four octets before the end: --fcs 4?"
+            ),
+            Hint::Tagged(tagged) => write!(f, "HSR tags in {tagged} packets: --network hsr?"),
+            Hint::Cut(cut) => write!(
+                f,
+                "{cut} packets were cut by the recorder: trailers stand at the end"
+            ),
+        }
+    }
+}
+
+/// What looks wrong in the capture of a side, if something does.
+pub fn hint_of(network: Network, counts: &SideCounts) -> Option<Hint> {
+    if network == Network::Hsr {
+        return None;
+    }
+    if counts.numbered == 0 && counts.tagged > 0 {
+        return Some(Hint::Tagged(counts.tagged));
+    }
+    if counts.numbered == 0 && counts.checked > 0 {
+        return Some(Hint::Checked(counts.packets, counts.checked));
+    }
+    if counts.cut > 0 {
+        return Some(Hint::Cut(counts.cut));
+    }
+    None
+}
+
+impl Counts {
+    /// Whether more than half of the numbered frames of each side have the trailer of the other LAN.
+    pub fn are_swapped(&self) -> bool {
+        let is_swapped = |counts: SideCounts| counts.numbered > 0
+            && counts.wrong_lan > counts.numbered / 2;
+        is_swapped(self.a) && is_swapped(self.b)
+    }
+}

@@ -1,0 +1,77 @@
+//! Going over the packets of captures.
+
+use crate::fault::AuditFault;
+use sr_audit::Side;
+use sr_capture::Packet;
+use sr_capture_script::{Captures, Choice, Inlet};
+use std::io::BufRead;
+
+/// The nanoseconds of a millisecond.
+const MILLISECOND: u64 = 1_000_000;
+
+/// Where and when a packet came in.
+#[derive(Clone, Copy)]
+pub(crate) struct Place {
+    /// The side of its capture.
+    pub side: Side,
+    /// Its number there, from 1 on.
+    pub number: u64,
+    /// Its time, in nanoseconds from the earliest packet on.
+    pub time: u64,
+}
+
+/// What is done with each packet.
+pub(crate) trait Pass {
+    /// Takes the next packet.
+    ///
+    /// # Errors
+    /// What ends the pass early.
+    fn take(&mut self, place: Place, packet: &Packet) -> Result<(), AuditFault>;
+}
+
+/// Whether packets of this time are wanted.
+fn is_wanted(choice: &Choice, time: u64) -> bool {
+    let time = time / MILLISECOND;
+    choice.from <= time && time <= choice.to.unwrap_or(time)
+}
+
+/// The side of an inlet. None: it is no side of a network.
+fn side_of(inlet: Inlet) -> Option<Side> {
+    match inlet {
+        Inlet::A => Some(Side::A),
+        Inlet::B => Some(Side::B),
+        Inlet::C => None,
+    }
+}
+
+/// Gives a pass the packets that are wanted, in the order of their times.
+///
+/// # Errors
+/// The fault of a file, those of the pass, or `Endless`.
+pub(crate) fn pass_over<R: BufRead + Drop, P: Pass>(
+    captures: &mut Captures<R>,
+    choice: &Choice,
+    pass: &mut P,
+) -> Result<(), AuditFault> {
+    let mut base: Option<u64> = None;
+    for _ in 0..u64::MAX {
+        let Some(front) = captures.front() else {
+            return Ok(());
+        };
+        let start = base.unwrap_or(front.moment);
+        base = Some(start);
+        let time = front.moment.saturating_sub(start);
+        if let Some(side) = side_of(front.inlet) {
+            if is_wanted(choice, time) {
+                let place = Place {
+                    side,
+                    number: front.number,
+                    time,
+                };
+                pass.take(place, captures.packet(front.inlet))?;
+            }
+        }
+        captures.advance(front.inlet)?;
+    }
+    Err(AuditFault::Endless)
+}

@@ -1,0 +1,145 @@
+//! The packets of captures, taken one by one in the order of their times.
+
+ghost use Rattle.std.specs.Prelude.{◌≡◌, IfErr, OnOk};
+ghost use Rattle.sr_capture_script.specs.Captures.{Advances, StopsAt};
+
+use crate::advancing::advance;
+use crate::choice::{Inlet, Options};
+use crate::fault::ScriptFault;
+use crate::opening::open;
+use crate::picking::earliest;
+use crate::scripting::reading_of;
+use crate::source::Source;
+use sr_capture::Packet;
+use std::alloc::Global;
+use std::io::BufRead;
+
+/// Where and when a packet came in.
+#[derive(Clone, Copy, Debug)]
+pub struct Front {
+    /// The inlet of its file.
+    pub inlet: Inlet,
+    /// Its number in the file, from 1 on.
+    pub number: u64,
+    /// Its moment, in nanoseconds: its time put off, but not before the packet ahead of it in its file.
+    pub moment: u64,
+}
+
+/// Up to three captures, pcap or pcapng, of which the packets are taken in the order of their moments; of equal ones A goes before B,
+/// and B before C.
+#[derive(Drop)]
+pub struct Captures<R> {
+    a: Source<R>,
+    b: Source<R>,
+    c: Source<R>,
+}
+
+/// Takes the next packet of a file.
+fn advance_at<R: BufRead>(source: &mut Source<R>, inlet: Inlet) -> Result<(), ScriptFault>
+    ensures goes { OnOk result (Advances R.remaining source.old source.new) }
+    ensures stops { IfErr result (λ fault. StopsAt R.remaining inlet source.old source.new fault) }
+{
+    match advance(source) {
+        Ok(()) => Ok(()),
+        Err(fault) => Err(ScriptFault::File(inlet, fault)),
+    }
+}
+
+impl<R: BufRead + Drop> Captures<R> {
+    ghost use Rattle.std.specs.Prelude.{◌≡◌, IfOk, IfErr, OnOk, IfSome, IfNone};
+    ghost use Rattle.sr_capture_script.specs.declared.choice.Inlet.TheVariants.{A as AtA, B as AtB, C as AtC};
+    ghost use Rattle.sr_capture_script.specs.Opening.{reading_of, IsOpened, FailsToOpen};
+    ghost use Rattle.sr_capture_script.specs.Captures.{source_at, IsFront, HasNoFront, Advances, StopsAt, KeepsOthers};
+
+    /// Opens the captures, and reads the first packet of each.
+    ///
+    /// # Errors
+    /// The fault of a file, or `NoMemory`.
+    pub fn open(
+        alloc: Global,
+        file_a: Option<R>,
+        file_b: Option<R>,
+        file_c: Option<R>,
+        options: &Options,
+    ) -> Result<Captures<R>, ScriptFault>
+        ensures a { IfOk result (λ all.
+            IsOpened R.remaining AtA (reading_of options.now AtA) file_a all.a) }
+        ensures b { IfOk result (λ all.
+            IsOpened R.remaining AtB (reading_of options.now AtB) file_b all.b) }
+        ensures c { IfOk result (λ all.
+            IsOpened R.remaining AtC (reading_of options.now AtC) file_c all.c) }
+        ensures fault { IfErr result (λ fault. FailsToOpen R.remaining (reading_of options.now)
+            file_a file_b file_c fault) }
+    {
+        let delays = options.delays;
+        let a = open(
+            alloc,
+            Inlet::A,
+            file_a,
+            delays.a,
+            reading_of(options, Inlet::A),
+        )?;
+        let b = open(
+            alloc,
+            Inlet::B,
+            file_b,
+            delays.b,
+            reading_of(options, Inlet::B),
+        )?;
+        let c = open(
+            alloc,
+            Inlet::C,
+            file_c,
+            delays.c,
+            reading_of(options, Inlet::C),
+        )?;
+        Ok(Captures { a, b, c })
+    }
+
+    /// Where and when the packet that is due came in. None: all files are at their ends.
+    pub fn front(&self) -> Option<Front>
+        ensures some { IfSome result (λ front. IsFront self.now front) }
+        ensures none { IfNone result (HasNoFront self.now) }
+    {
+        let (inlet, moment) = earliest(self.a.due, self.b.due, self.c.due)?;
+        let number = match inlet {
+            Inlet::A => self.a.number,
+            Inlet::B => self.b.number,
+            Inlet::C => self.c.number,
+        };
+        Some(Front {
+            inlet,
+            number,
+            moment,
+        })
+    }
+
+    /// The packet of a file that is due, or was the last one.
+    pub fn packet(&self, inlet: Inlet) -> &Packet
+        ensures { result.now ≡ (source_at inlet self.now).packet }
+    {
+        match inlet {
+            Inlet::A => &self.a.packet,
+            Inlet::B => &self.b.packet,
+            Inlet::C => &self.c.packet,
+        }
+    }
+
+    /// Takes the packet of a file that is due, and reads its next one.
+    ///
+    /// # Errors
+    /// The fault of the file.
+    pub fn advance(&mut self, inlet: Inlet) -> Result<(), ScriptFault>
+        ensures goes { OnOk result (Advances R.remaining (source_at inlet self.old)
+            (source_at inlet self.new)) }
+        ensures stops { IfErr result (λ fault. StopsAt R.remaining inlet
+            (source_at inlet self.old) (source_at inlet self.new) fault) }
+        ensures others { KeepsOthers inlet self.old self.new }
+    {
+        match inlet {
+            Inlet::A => advance_at(&mut self.a, Inlet::A),
+            Inlet::B => advance_at(&mut self.b, Inlet::B),
+            Inlet::C => advance_at(&mut self.c, Inlet::C),
+        }
+    }
+}

@@ -1,0 +1,148 @@
+//! The words behind `seamless audit`.
+
+use crate::command_line::with_arg;
+use crate::script_line::{capture_of, option, shift_of, time_of, with_option};
+use clap::builder::PossibleValue;
+use clap::{Arg, ArgAction, ArgMatches, Command};
+use sr_capture_audit::{Lists, Network};
+use sr_capture_script::{Choice, Interfaces, Options, delays_of};
+use sr_pcapng::Wanted;
+use std::alloc::{AllocError, Global};
+
+/// What `seamless audit` is to do: a path for each side that has a capture, and how.
+#[derive(Clone, Copy)]
+pub struct AuditTask<'a> {
+    pub a: Option<&'a str>,
+    pub b: Option<&'a str>,
+    pub options: Options,
+    pub network: Network,
+    pub lists: Lists,
+    /// Whether the status tells of faults of the network.
+    pub is_check: bool,
+    /// Whether the captures of A and B are one.
+    pub is_same: bool,
+}
+
+/// The words of `--network`, with what they mean.
+pub fn network_words<'a>() -> [PossibleValue<'a>; 2] {
+    [
+        PossibleValue::new("prp").help("a PRP network: numbers stand in trailers"),
+        PossibleValue::new("hsr").help("an HSR ring: numbers stand in tags"),
+    ]
+}
+
+/// What the parser knows of the subcommand.
+pub fn audit_command<'a>(
+    alloc: Global,
+    networks: &'a [PossibleValue<'a>],
+) -> Result<Command<'a>, AllocError> {
+    let about = "Tells which frames of two captures came by both LANs, and which by one alone";
+    let command = Ok(Command::new(alloc, "audit").about(about));
+    let a = "The capture of LAN A; FILE:N is interface N of a pcapng file";
+    let command = with_option(alloc, command, "a", "FILE[:N]", a);
+    let command = with_option(alloc, command, "b", "FILE[:N]", "The capture of LAN B");
+    let network = option(alloc, "network", "NETWORK", "How frames have their numbers")
+        .default_value("prp")
+        .value_parser(networks);
+    let command = with_arg(command, network);
+    let shift = "Milliseconds that are added to the times of A";
+    let command = with_option(alloc, command, "shift-a", "MS", shift);
+    let shift = "Milliseconds that are added to the times of B";
+    let command = with_option(alloc, command, "shift-b", "MS", shift);
+    let fcs = "The octets of check sequence, where a file does not tell";
+    let fcs = option(alloc, "fcs", "4", fcs).value_parser(["4"].as_slice());
+    let command = with_arg(command, fcs);
+    let from = "The time of the first packet, in milliseconds";
+    let command = with_option(alloc, command, "from", "T", from);
+    let to = "The time of the last packet, in milliseconds";
+    let command = with_option(alloc, command, "to", "T", to);
+    let list = "Lists single frames: lost, wrong, pairs, or several, joined by commas";
+    let command = with_option(alloc, command, "list", "LISTS", list);
+    let check = Arg::new(alloc, "check")
+        .long("check")
+        .action(ArgAction::SetTrue)
+        .help("Ends with status 3 where a figure tells of a fault of the network");
+    with_arg(command, check)
+}
+
+/// The lists with one more, by its word; else the option is the fault.
+fn with_list(lists: Lists, word: &str) -> Result<Lists, &'static str> {
+    match word {
+        "lost" => Ok(Lists {
+            lost: true,
+            ..lists
+        }),
+        "wrong" => Ok(Lists {
+            wrong: true,
+            ..lists
+        }),
+        "pairs" => Ok(Lists {
+            pairs: true,
+            ..lists
+        }),
+        _ => Err("list"),
+    }
+}
+
+/// The lists that are wanted; else the option is the fault.
+fn lists_of(matches: &ArgMatches<'_>) -> Result<Lists, &'static str> {
+    let mut lists = Lists {
+        lost: false,
+        wrong: false,
+        pairs: false,
+    };
+    let Some(mut rest) = matches.get_str("list") else {
+        return Ok(lists);
+    };
+    for _ in 0..3 {
+        match rest.split_once(',') {
+            Some((word, behind)) => {
+                lists = with_list(lists, word)?;
+                rest = behind;
+            }
+            None => return with_list(lists, rest),
+        }
+    }
+    Err("list")
+}
+
+/// What the subcommand is to do; else the name of the option that is wrong.
+pub fn audit_task<'a>(matches: &ArgMatches<'a>) -> Result<AuditTask<'a>, &'static str> {
+    let a = capture_of(matches, "a");
+    let b = capture_of(matches, "b");
+    if a.path.is_none() && b.path.is_none() {
+        return Err("captures");
+    }
+    let shift_a = shift_of(matches, "shift-a")?;
+    let shift_b = shift_of(matches, "shift-b")?;
+    let Some(delays) = delays_of(shift_a, shift_b, shift_a) else {
+        return Err("shift");
+    };
+    let choice = Choice {
+        from: time_of(matches, "from")?.unwrap_or(0),
+        to: time_of(matches, "to")?,
+        tick: None,
+    };
+    let network = match matches.get_str("network") {
+        Some("hsr") => Network::Hsr,
+        _ => Network::Prp,
+    };
+    Ok(AuditTask {
+        a: a.path,
+        b: b.path,
+        options: Options {
+            choice,
+            check_len: if matches.contains_id("fcs") { 4 } else { 0 },
+            delays,
+            interfaces: Interfaces {
+                a: a.wanted,
+                b: b.wanted,
+                c: Wanted::Only,
+            },
+        },
+        network,
+        lists: lists_of(matches)?,
+        is_check: matches.get_flag("check"),
+        is_same: a.path.is_some() && matches.get_str("a") == matches.get_str("b"),
+    })
+}
