@@ -98,7 +98,8 @@ pub record RingLanRun (s : Shape) (es : History) (p : Plant) : Type 0 where
   pub sound : Each IsSound (done_in es)
 
 -- all premises, as for a ring
-pub record RingLanPremises (s : Shape) (mac : ℕ → Mac) (x : ℕ → Bool) (ws : Widths) (lanes : Handling → Lanes) (es : History) (p : Plant) : Type 0 where
+pub record RingLanPremises (s : Shape) (mac : ℕ → Mac) (x : ℕ → Bool) (ws : Widths) (lanes : Handling → Lanes) (es : History)
+    (p : Plant) : Type 0 where
   pub happened : RingLanRun s es p
   pub tables : HaveTables (size s) mac x ws lanes (ring_lan s) es p happened.run
   pub limits : AreWithinLimits ws (done_in es)

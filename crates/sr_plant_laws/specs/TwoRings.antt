@@ -106,8 +106,8 @@ pub record TwoRingsRun (s : TwoShape) (es : History) (p : Plant) : Type 0 where
   pub routed : Each (IsRouted (two_rings_routes s)) (done_in es)
   pub sound : Each IsSound (done_in es)
 
-pub record TwoRingsPremises (s : TwoShape) (mac : ℕ → Mac) (x : ℕ → Bool) (ws : Widths) (lanes : Handling → Lanes) (es : History) (p : Plant) :
-    Type 0 where
+pub record TwoRingsPremises (s : TwoShape) (mac : ℕ → Mac) (x : ℕ → Bool) (ws : Widths) (lanes : Handling → Lanes) (es : History)
+    (p : Plant) : Type 0 where
   pub happened : TwoRingsRun s es p
   pub tables : HaveTables (all_members s) mac x ws lanes (two_rings s) es p happened.run
   pub limits : AreWithinLimits ws (done_in es)

@@ -47,7 +47,7 @@ use Rattle.sr_plant.specs.Topologies.{net_of}
 use Rattle.sr_plant_runs.specs.PlantRuns.{Turn, PlantRun}
 use Rattle.sr_plant_runs.specs.Histories.{mac_at, HaveOwnAddresses, CarriesAs, Zip}
 use Rattle.sr_plant_runs.specs.NodeTurns.{acted_turns, carried_turns, event_turns, node_turns, NodesPutOutOnce}
-use Rattle.sr_plant_runs.specs.NodeSteady.{number_of_copy, number_carried, numbers_in, NodesRunSteadily, NodesPutOutWithin}
+use Rattle.sr_plant_runs.specs.NodeSteady.{number_of_copy, number_carried, run_numbers, NodesRunSteadily, NodesPutOutWithin}
 use Rattle.sr_plant_runs.specs.Traffic.{Numbering, marks, IsWithinLimits}
 use Rattle.sr_plant_runs.proofs.CarriedLemmas.{here, fly, says, own_is, now, step_told}
 use Rattle.sr_plant_runs.proofs.HistoryLemmas.{Addresses, StepTold, got_beside, got_ghost}
@@ -336,7 +336,7 @@ run_shown t starts own (turn ∷ before) s run k numbers are =
     )
 
 -- the numbers of a run are those of it
-are_of : (numbers : ℕ → ℤ) (turns : List Turn) → ((n : ℕ) → n < length turns → numbers n ≡ numbers_in turns n) → AreOf numbers turns
+are_of : (numbers : ℕ → ℤ) (turns : List Turn) → ((n : ℕ) → n < length turns → numbers n ≡ run_numbers turns n) → AreOf numbers turns
 are_of numbers [] same = tt
 are_of numbers (turn ∷ before) same = (
   are_of numbers before (λ n less. same n (omega (arith, less)) ∙ rw (ne_eqb n (length before) (λ e. omega (arith, e, less))) refl),
@@ -356,11 +356,11 @@ all_steady rings lans TwinLan starts own turns s run limits =
 
 pub nodes_run_steadily : RingIsSteady → LansAreSteady → NodesRunSteadily
 nodes_run_steadily rings lans t starts turns s run k own limits =
-    let shown = run_shown t starts own turns s run k (numbers_in turns) (are_of (numbers_in turns) turns (λ n less. refl)) in (
+    let shown = run_shown t starts own turns s run k (run_numbers turns) (are_of (run_numbers turns) turns (λ n less. refl)) in (
       shown.1,
       subst (AreSteady window) (sym shown.0) (all_steady rings lans t starts own turns s run limits k).0,
     )
 
 pub nodes_put_out_within : NodesRunSteadily → NodesPutOutOnce → NodesPutOutWithin
 nodes_put_out_within steady once t starts turns s run k start m o is at own limits =
-    once t starts turns s run k (numbers_in turns) start m o is at (steady t starts turns s run k own limits)
+    once t starts turns s run k (run_numbers turns) start m o is at (steady t starts turns s run k own limits)

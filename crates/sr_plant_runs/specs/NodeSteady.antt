@@ -31,16 +31,16 @@ number_carried ms (Mend link) = pos 0
 number_carried ms (Tick i now) = pos 0
 
 -- that of the event of a run before which so many came
-abbrev pub numbers_in : List Turn → ℕ → ℤ
-numbers_in [] n = pos 0
-numbers_in (turn ∷ before) n =
-    if n == length before then number_carried (marks before turn.before) turn.event else numbers_in before n
+abbrev pub run_numbers : List Turn → ℕ → ℤ
+run_numbers [] n = pos 0
+run_numbers (turn ∷ before) n =
+    if n == length before then number_carried (marks before turn.before) turn.event else run_numbers before n
 
 -- Under these numbers the run of each node is steady, where the traffic is within the limits.
 abbrev pub NodesRunSteadily : Type 0
 NodesRunSteadily =
     (t : Topology) (starts : List Start) (turns : List Turn) (s : Plant) (run : PlantRun t starts turns s) (k : ℕ) →
-    HaveOwnAddresses starts → IsWithinLimits turns → IsSteady (node_turns k (numbers_in turns) t starts turns s run)
+    HaveOwnAddresses starts → IsWithinLimits turns → IsSteady (node_turns k (run_numbers turns) t starts turns s run)
 
 -- So what a node put out at an outlet in the whole run of the plant is, in order, what came in and is wanted there, each pair of source
 -- and number once.
@@ -49,5 +49,5 @@ NodesPutOutWithin =
     (t : Topology) (starts : List Start) (turns : List Turn) (s : Plant) (run : PlantRun t starts turns s) (k : ℕ) (start : Start)
     (m : State) (o : Port) → slice_get starts k ≡ Some start → slice_get s.nodes k ≡ Some m → HaveOwnAddresses starts →
     IsWithinLimits turns →
-    taken o (node_turns k (numbers_in turns) t starts turns s run)
-    ≡ parcels_of (went o (node_turns k (numbers_in turns) t starts turns s run))
+    taken o (node_turns k (run_numbers turns) t starts turns s run)
+    ≡ parcels_of (went o (node_turns k (run_numbers turns) t starts turns s run))
