@@ -19,7 +19,7 @@ use std::alloc::Global;
 use std::marker::Model;
 
 /// Where an address was found in a table. It may have moved since, or gone: who looks there compares the address first.
-#[derive(Clone, Copy, Debug)]
+#[derive(Clone, Copy, PartialEq, Eq, Debug)]
 pub struct Spot {
     index: usize,
 }
