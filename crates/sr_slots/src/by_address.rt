@@ -284,7 +284,12 @@ impl<V: Drop + Ranked> Slots<V> {
             .len()
             .saturating_sub(self.count)
             .saturating_sub(self.held);
-        if empty >= least {
+        if empty < least {
+            return;
+        }
+        if self.count == 0 && self.held == 0 {
+            self.map.clear();
+        } else {
             places::sweep(&mut self.map);
         }
     }
