@@ -2,3 +2,4 @@ pub mod PlaceLemmas
 pub mod CloneLemmas
 pub mod IndexLemmas
 pub mod SiftLemmas
+pub mod SettleLemmas

@@ -27,7 +27,7 @@ value_in None = None
 value_in (Some s) = s.value
 
 -- a place of another address, held or not, changes no answer on q
-any_held : (q m : Mac) (b : Bool) (xs ys : List Mac) → mac_eq q m ≡ false → list_any (mac_eq q) (xs ++ (held_at m b ++ ys)) ≡ list_any (mac_eq q) (xs ++ ys)
+pub any_held : (q m : Mac) (b : Bool) (xs ys : List Mac) → mac_eq q m ≡ false → list_any (mac_eq q) (xs ++ (held_at m b ++ ys)) ≡ list_any (mac_eq q) (xs ++ ys)
 any_held q m false xs ys h = refl
 any_held q m true xs ys h =
     list_any-append (mac_eq q) xs (m ∷ ys) ∙ ap (λ b. list_any (mac_eq q) xs || (b || list_any (mac_eq q) ys)) h ∙ sym (list_any-append (mac_eq q) xs ys)
@@ -36,16 +36,16 @@ pub any_behind : (m : Mac) (xs ys : List Mac) → list_any (mac_eq m) ys ≡ tru
 any_behind m [] ys y = y
 any_behind m (x ∷ xs) ys y = ap (λ b. mac_eq m x || b) (any_behind m xs ys y) ∙ or-true (mac_eq m x)
 
-length-held_at : (m : Mac) (b : Bool) (ys : List Mac) → length (held_at m b ++ ys) ≡ one_if b + length ys
+pub length-held_at : (m : Mac) (b : Bool) (ys : List Mac) → length (held_at m b ++ ys) ≡ one_if b + length ys
 length-held_at m true ys = omega arith
 length-held_at m false ys = omega arith
 
 -- the item at a place, moved to the end
-item_at : {X : Type 0} (front back : List X) (x : X) → slice_get (front ++ x ∷ back) (length front) ≡ Some x
+pub item_at : {X : Type 0} (front back : List X) (x : X) → slice_get (front ++ x ∷ back) (length front) ≡ Some x
 item_at [] back x = refl
 item_at (e ∷ front) back x = item_at front back x
 
-without_item : {X : Type 0} (front back : List X) (x : X) → remove (front ++ x ∷ back) (length front) ≡ front ++ back
+pub without_item : {X : Type 0} (front back : List X) (x : X) → remove (front ++ x ∷ back) (length front) ≡ front ++ back
 without_item [] back x = refl
 without_item (e ∷ front) back x = ap (λ l. e ∷ l) (without_item front back x)
 
@@ -292,7 +292,7 @@ module _ {V : Type 0} where
   added_held m s es new is = ap held_of is ∙ held-append es ((m, s) ∷ []) ∙ ap (λ l. held_of es ++ l) (append-nil (held_at m s.held))
 
   -- `insert` at an address that has a place writes it
-  insert-there : (m : Mac) (s w : Slot V) (es : List (Mac × Slot V)) → lookup (mac_eq m) es ≡ Some s → insert_entry mac_eq es m w ≡ set_value (mac_eq m) es w
+  pub insert-there : (m : Mac) (s w : Slot V) (es : List (Mac × Slot V)) → lookup (mac_eq m) es ≡ Some s → insert_entry mac_eq es m w ≡ set_value (mac_eq m) es w
   insert-there m s w [] h = cc
   insert-there m s w (e ∷ es) h = by (mac_eq m e.0) h (insert-there m s w es)
     where
@@ -302,7 +302,7 @@ module _ {V : Type 0} where
       by false h ih = ap (λ l. e ∷ l) (ih h)
 
   -- and at one that has none adds it last
-  insert-absent : (m : Mac) (w : Slot V) (es : List (Mac × Slot V)) → lookup (mac_eq m) es ≡ None → insert_entry mac_eq es m w ≡ es ++ (m, w) ∷ []
+  pub insert-absent : (m : Mac) (w : Slot V) (es : List (Mac × Slot V)) → lookup (mac_eq m) es ≡ None → insert_entry mac_eq es m w ≡ es ++ (m, w) ∷ []
   insert-absent m w [] h = refl
   insert-absent m w (e ∷ es) h =
       let d = head_differs (mac_eq m e.0) e.1 (lookup (mac_eq m) es) h in
@@ -361,14 +361,14 @@ module _ {V : Type 0} where
       ap (λ b. cond b ((e.0, v) ∷ (front ++ (m, s) ∷ back)) (e ∷ insert_entry mac_eq (front ++ (m, s) ∷ back) m v)) d.0
       ∙ ap (λ l. e ∷ l) (inserted front back m s v d.1)
 
-  place : (front back : List (Mac × Slot V)) (m : Mac) (s : Slot V) → lookup (mac_eq m) front ≡ None → position_or_len (mac_eq m) (keys_of (front ++ (m, s) ∷ back)) ≡ length front
+  pub place : (front back : List (Mac × Slot V)) (m : Mac) (s : Slot V) → lookup (mac_eq m) front ≡ None → position_or_len (mac_eq m) (keys_of (front ++ (m, s) ∷ back)) ≡ length front
   place [] back m s h = ap (λ b. cond (not b) (1 + position_or_len (mac_eq m) (keys_of back)) 0) (mac_refl m)
   place (e ∷ front) back m s h =
       let d = head_differs (mac_eq m e.0) e.1 (lookup (mac_eq m) front) h in
       ap (λ b. cond (not b) (1 + position_or_len (mac_eq m) (keys_of (front ++ (m, s) ∷ back))) 0) d.0 ∙ ap (λ n. 1 + n) (place front back m s d.1) ∙ omega arith
 
   -- behind the place of an address no other is its
-  absent_after_split : (m : Mac) (s : Slot V) (front back : List (Mac × Slot V)) → IsDistinct mac_eq (keys_of (front ++ (m, s) ∷ back)) → lookup (mac_eq m) back ≡ None
+  pub absent_after_split : (m : Mac) (s : Slot V) (front back : List (Mac × Slot V)) → IsDistinct mac_eq (keys_of (front ++ (m, s) ∷ back)) → lookup (mac_eq m) back ≡ None
   unfolding IsDistinct
   absent_after_split m s [] back unique = absent_after m back unique.0
   absent_after_split m s (e ∷ front) back unique = absent_after_split m s front back unique.1

@@ -12,11 +12,11 @@ use Rattle.sr_slots.specs.EntryLemmas.{one_if, least_rank_le}
 use Rattle.sr_slots.proofs.PlaceLemmas.{entries-append, held-append, entries_le}
 
 module _ {X : Type 0} where
-  value_there : (done back : List (Mac × X)) (e : Mac × X) → slice_get (values_of (done ++ e ∷ back)) (length done) ≡ Some e.1
+  pub value_there : (done back : List (Mac × X)) (e : Mac × X) → slice_get (values_of (done ++ e ∷ back)) (length done) ≡ Some e.1
   value_there [] back e = refl
   value_there (d ∷ done) back e = value_there done back e
 
-  write_there : (done back : List (Mac × X)) (e : Mac × X) (w : X) → set_value_at (done ++ e ∷ back) (length done) w ≡ done ++ (e.0, w) ∷ back
+  pub write_there : (done back : List (Mac × X)) (e : Mac × X) (w : X) → set_value_at (done ++ e ∷ back) (length done) w ≡ done ++ (e.0, w) ∷ back
   write_there [] back e w = refl
   write_there (d ∷ done) back e w = ap (λ l. d ∷ l) (write_there done back e w)
 

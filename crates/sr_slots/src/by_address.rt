@@ -32,11 +32,14 @@ pub struct Slots<V: Drop + Ranked> {
     alloc: Global,
     count: usize,
     held: usize,
+    // No place from this index on has a value.
+    end: usize,
 }
 
 impl<V: Drop + Ranked> Model for Slots<V> {
     ghost use Rattle.std.specs.Prelude.{◌≡◌, length};
-    ghost use Rattle.sr_slots.specs.Places.{Places, entries_of, held_of};
+    ghost use Rattle.std.specs.Prelude.{[]};
+    ghost use Rattle.sr_slots.specs.Places.{Places, entries_of, entries_from, held_of};
 
     ghost Value = { Places V };
 
@@ -44,7 +47,8 @@ impl<V: Drop + Ranked> Model for Slots<V> {
         record { entries = entries_of s.map.entries; held = held_of s.map.entries } };
 
     ghost invariant = { λ s.
-        (s.count ≡ length (entries_of s.map.entries)) × (s.held ≡ length (held_of s.map.entries)) };
+        (s.count ≡ length (entries_of s.map.entries)) × (s.held ≡ length (held_of s.map.entries))
+        × (entries_from s.end s.map.entries ≡ []) };
 }
 
 impl<V: Drop + Ranked> Slots<V> {
@@ -66,6 +70,7 @@ impl<V: Drop + Ranked> Slots<V> {
             alloc,
             count: 0,
             held: 0,
+            end: 0,
         }
     }
 
@@ -154,10 +159,12 @@ impl<V: Drop + Ranked> Slots<V> {
         ensures reserved { is_held self.old key ≡ true → IsOk result }
         ensures err { OnErr result (self.new ≡ self.old) }
     {
-        if places::put_last(&mut self.map, self.alloc, key, value)? {
+        let put = places::put_last(&mut self.map, self.alloc, self.end, key, value)?;
+        if put.was_held {
             self.held -= 1;
         }
         self.count += 1;
+        self.end = put.end;
         Ok(())
     }
 
@@ -252,6 +259,7 @@ impl<V: Drop + Ranked> Slots<V> {
         if self.held > 0 {
             places::release(&mut self.map);
             self.held = 0;
+            self.end = self.map.len();
         }
     }
 
@@ -265,6 +273,7 @@ impl<V: Drop + Ranked> Slots<V> {
     {
         let sifted = places::sift(&mut self.map, limit);
         self.count -= sifted.gone;
+        self.end = sifted.end;
         sifted.least
     }
 
@@ -275,22 +284,15 @@ impl<V: Drop + Ranked> Slots<V> {
         places::least_rank(&self.map)
     }
 
-    /// Lets the places go that have no value and are not held, where there are `least` of them or more. Nothing that shows changes.
-    pub fn sweep(&mut self, least: usize)
+    /// Lets the places go that have no value and are not held, where `least` places without a value stand before one that has one, or
+    /// where there are `most` places or more. Nothing that shows changes.
+    pub fn sweep(&mut self, least: usize, most: usize)
         ensures { self.new ≡ self.old }
     {
-        let empty = self
-            .map
-            .len()
-            .saturating_sub(self.count)
-            .saturating_sub(self.held);
-        if empty < least {
-            return;
-        }
-        if self.count == 0 && self.held == 0 {
-            self.map.clear();
-        } else {
+        let between = self.end.saturating_sub(self.count);
+        if between >= least || self.map.len() >= most {
             places::sweep(&mut self.map);
+            self.end = self.map.len();
         }
     }
 }

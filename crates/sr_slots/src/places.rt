@@ -1,13 +1,13 @@
 //! The map behind a table. A held place is an entry that may have no value.
-ghost use Rattle.std.specs.Prelude.{◌≡◌, ◌+◌, ◌^◌, ◌<◌, ◌≤◌, ◌++◌, ◌∷◌, ◌||◌, ◌&&◌, [], None, Some, true, false, not, Bool, is_some, length, filter, nat_le, IsOk, OnOk, OnErr, IfOk, IfSome, IfNone, if◌then◌else◌};
+ghost use Rattle.std.specs.Prelude.{◌≡◌, ◌+◌, ◌^◌, ◌<◌, ◌≤◌, ◌++◌, ◌∷◌, ◌||◌, ◌&&◌, [], None, Some, true, false, not, Bool, List, is_some, length, filter, nat_le, slice_get, IsOk, OnOk, OnErr, IfOk, IfSome, IfNone, if◌then◌else◌};
 ghost use Rattle.std.specs.List.{list_any};
-ghost use Rattle.std.specs.Map.{lookup};
+ghost use Rattle.std.specs.Map.{lookup, values_of};
 ghost use Rattle.std.specs.Fn.{FnOnceReturnsAtMut};
 ghost use Rattle.std.specs.Option.{option_copied, option_map};
-ghost use Rattle.indexmap.specs.IndexMap.{values};
+ghost use Rattle.indexmap.specs.IndexMap.{values, set_value_at};
 ghost use Rattle.sr_frame.specs.Addresses.{mac_eq};
-ghost use Rattle.sr_slots.specs.Places.{entries_of, held_of, slot_of, IsLast, StandsAt, KeepsHeld};
-ghost use Rattle.sr_slots.specs.Effects.{HoldsPlace, PutsLast, ChangesPlace};
+ghost use Rattle.sr_slots.specs.Places.{entries_of, held_of, slot_of, IsLast, StandsAt, KeepsHeld, entries_from};
+ghost use Rattle.sr_slots.specs.Effects.{HoldsPlace, PutsLast, ChangesPlace, HasPlace, Settles};
 ghost use Rattle.sr_slots.specs.Calls.{least_rank, passing};
 
 use crate::keys::Keys;
@@ -16,7 +16,7 @@ use crate::room::Room;
 use indexmap::IndexMap;
 use indexmap::map::Entry;
 use sr_frame::{Mac, NoMemory};
-use std::alloc::Global;
+use std::alloc::{AllocError, Global};
 
 /// A place: its value, if there is one, and whether it is held.
 #[derive(Drop)]
@@ -53,6 +53,17 @@ fn stands_at<V: Drop + Ranked>(map: &IndexMap<Mac, Slot<V>, Keys>, index: usize,
     ensures { result ≡ true → StandsAt key map.now.entries index }
 {
     let _places = map.len();
+    match map.get_index(index) {
+        Some((stored, _)) => *stored == key,
+        None => false,
+    }
+}
+
+// Whether the place of an address is at this index.
+fn is_at<V: Drop + Ranked>(map: &IndexMap<Mac, Slot<V>, Keys>, index: usize, key: Mac) -> bool
+    ensures { result ≡ true
+        → (slot : Slot V) × (slice_get map.now.entries index ≡ Some (key, slot)) }
+{
     match map.get_index(index) {
         Some((stored, _)) => *stored == key,
         None => false,
@@ -176,35 +187,105 @@ fn filled<V: Drop + Ranked>(alloc: Global, value: V) -> Result<Slot<V>, NoMemory
     })
 }
 
-/// Gives an address without a value one. It goes last. Answers whether a held place was used up.
+// Brings the place at an index to where the values end: behind all of them, and before the places without one. Answers where it is
+// then.
+fn settle<V: Drop + Ranked>(
+    map: &mut IndexMap<Mac, Slot<V>, Keys>,
+    index: usize,
+    end: usize,
+) -> usize
+    requires within { index < length map.old.entries }
+    requires end { end ≤ length map.old.entries }
+    requires behind { entries_from end map.old.entries ≡ [] }
+    ensures bound { result ≤ end }
+    ensures settled { (front back : List (Mac × Slot V)) (place : Mac × Slot V) → length front ≡ index
+        → map.old.entries ≡ front ++ place ∷ back
+        → Settles front place back map.new.entries result }
+{
+    if index < end {
+        map.move_index(index, end - 1);
+        return end - 1;
+    }
+    if index > end {
+        map.swap_indices(index, end);
+    }
+    end
+}
+
+// The index of the place of an address, which is looked for at an index first, and made where there is none. NoMemory: memory ran out.
+fn place_for<V: Drop + Ranked>(
+    map: &mut IndexMap<Mac, Slot<V>, Keys>,
+    alloc: Global,
+    first: usize,
+    key: Mac,
+) -> Result<usize, NoMemory>
+    ensures place { IfOk result (λ index. HasPlace key map.old.entries map.new.entries index) }
+    ensures reserved { list_any (mac_eq key) (held_of map.old.entries) ≡ true → IsOk result }
+    ensures err { OnErr result (map.new.entries ≡ map.old.entries) }
+{
+    let places = map.len();
+    if is_at(map, first, key) {
+        return Ok(first);
+    }
+    if let Some(index) = map.get_index_of(&key) {
+        return Ok(index);
+    }
+    let value = Room::new(alloc)?;
+    match map.insert(key, Slot { value, held: false }) {
+        Ok(_) => Ok(places),
+        Err(e) => Err(AllocError::from(e).into()),
+    }
+}
+
+// Puts a value into the place at an index, and answers whether that was held.
+fn fill_at<V: Drop + Ranked>(map: &mut IndexMap<Mac, Slot<V>, Keys>, index: usize, value: V) -> bool
+    requires { index < length map.old.entries }
+    ensures written { map.new.entries
+        ≡ set_value_at map.old.entries index (slot_of (Some value) false) }
+    ensures held { (slot : Slot V) → slice_get (values_of map.old.entries) index ≡ Some slot
+        → result ≡ slot.held }
+{
+    match map.get_index_mut(index) {
+        Some(slot) => fill(slot, value),
+        None => false,
+    }
+}
+
+/// Whether a held place was used up, and the index from which on no place has a value.
+#[derive(Clone, Copy)]
+pub struct Put {
+    pub was_held: bool,
+    pub end: usize,
+}
+
+/// Gives an address without a value one. It goes last: behind all that have one, before the empty places, which no place from `end`
+/// on differs from.
 pub fn put_last<V: Drop + Ranked>(
     map: &mut IndexMap<Mac, Slot<V>, Keys>,
     alloc: Global,
+    end: usize,
     key: Mac,
     value: V,
-) -> Result<bool, NoMemory>
-    requires { lookup (mac_eq key) (entries_of map.old.entries) ≡ None }
-    ensures put { IfOk result (λ was_held.
-        PutsLast key value was_held map.old.entries map.new.entries) }
+) -> Result<Put, NoMemory>
+    requires absent { lookup (mac_eq key) (entries_of map.old.entries) ≡ None }
+    requires end { entries_from end map.old.entries ≡ [] }
+    ensures put { IfOk result (λ put.
+        PutsLast key value put.was_held map.old.entries map.new.entries) }
+    ensures end { IfOk result (λ put. entries_from put.end map.new.entries ≡ []) }
     ensures reserved { list_any (mac_eq key) (held_of map.old.entries) ≡ true → IsOk result }
     ensures fits { length (entries_of map.old.entries) < 2 ^ 63 }
     ensures err { OnErr result (map.new.entries ≡ map.old.entries) }
 {
-    let places = map.len();
-    let Ok(entry) = map.entry(key) else {
-        return Err(NoMemory);
-    };
-    match entry {
-        Entry::Occupied(mut entry) => {
-            let was_held = fill(entry.get_mut(), value);
-            entry.move_index(places - 1);
-            Ok(was_held)
-        }
-        Entry::Vacant(entry) => {
-            entry.insert(filled(alloc, value)?);
-            Ok(false)
-        }
-    }
+    let end = end.min(map.len());
+    let index = place_for(map, alloc, end, key)?;
+    // The length says that no two addresses are equal.
+    let _places = map.len();
+    let at = settle(map, index, end);
+    let was_held = fill_at(map, at, value);
+    Ok(Put {
+        was_held,
+        end: at + 1,
+    })
 }
 
 /// Holds a place for an address. Answers whether it was not held before.
@@ -313,11 +394,12 @@ fn sift_at<V: Drop + Ranked>(slot: &mut Slot<V>, limit: u64) -> bool
     slot.value.clear_below(limit)
 }
 
-/// How many values went, and the least rank among those that are left.
+/// How many values went, the least rank among those that are left, and the index from which on no place has a value.
 #[derive(Clone, Copy)]
 pub struct Sifted {
     pub gone: usize,
     pub least: u64,
+    pub end: usize,
 }
 
 /// Takes the values out whose rank is below the limit, and moves nothing. Held places stay held.
@@ -328,23 +410,29 @@ pub fn sift<V: Drop + Ranked>(map: &mut IndexMap<Mac, Slot<V>, Keys>, limit: u64
     ensures gone { result.gone + length (entries_of map.new.entries)
         ≡ length (entries_of map.old.entries) }
     ensures least { result.least ≡ least_rank V.rank_of (entries_of map.new.entries) }
+    ensures end { entries_from result.end map.new.entries ≡ [] }
 {
     // The length is the bound of the places.
     let _places = map.len();
     let mut sifted = Sifted {
         gone: 0,
         least: u64::MAX,
+        end: 0,
     };
     let mut index = 0;
     while let Some(slot) = map.get_index_mut(index) {
         let went = sift_at(slot, limit);
         let rank = slot.value.rank_or_most();
+        let is_used = slot.value.get().is_some();
         if went {
             sifted.gone += 1;
         } else {
             sifted.least = sifted.least.min(rank);
         }
         index += 1;
+        if is_used {
+            sifted.end = index;
+        }
     }
     sifted
 }
