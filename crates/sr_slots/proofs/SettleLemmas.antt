@@ -18,6 +18,7 @@ use Rattle.sr_slots.proofs.SiftLemmas.{value_there, write_there}
 use Rattle.sr_frame.specs.AddressLemmas.{mac_refl, mac_symm}
 use Rattle.std.proofs.lemmas.Bool.{cases_lt}
 use Rattle.sr_slots.proofs.IndexLemmas.{position_is}
+use Rattle.sr_slots.proofs.FromLemmas.{from_last}
 
 module _ {X : Type 0} where
   -- two items in each other's place
@@ -242,12 +243,6 @@ module _ {V : Type 0} where
             from = λ n. refl;
             longer = omega arith;
           }
-
-  -- an empty place at the end shows nothing
-  from_last : (n : ℕ) (es : List (Mac × Slot V)) (e : Mac × Slot V) → entries_of (e ∷ []) ≡ [] → entries_from n (es ++ e ∷ []) ≡ entries_from n es
-  from_last zero es e h = entries-append es (e ∷ []) ∙ ap (λ l. entries_of es ++ l) h ∙ append-nil (entries_of es)
-  from_last (suc n) [] e h = ap entries_of (drop_all n [] (omega arith))
-  from_last (suc n) (x ∷ es) e h = from_last n es e h
 
   -- one that is made
   pub place_made : (m : Mac) (es new : List (Mac × Slot V)) (i : ℕ) → lookup (mac_eq m) es ≡ None → new ≡ insert_entry mac_eq es m (slot_of None false) → length es ≡ i → HasPlace m es new i

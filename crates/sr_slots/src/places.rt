@@ -1,5 +1,5 @@
 //! The map behind a table. A held place is an entry that may have no value.
-ghost use Rattle.std.specs.Prelude.{◌≡◌, ◌+◌, ◌^◌, ◌<◌, ◌≤◌, ◌++◌, ◌∷◌, ◌||◌, ◌&&◌, [], None, Some, true, false, not, Bool, List, is_some, length, filter, nat_le, slice_get, IsOk, OnOk, OnErr, IfOk, IfSome, IfNone, if◌then◌else◌};
+ghost use Rattle.std.specs.Prelude.{◌≡◌, ◌+◌, ◌^◌, ◌<◌, ◌≤◌, ◌++◌, ◌∷◌, ◌||◌, ◌&&◌, [], ℕ, None, Some, true, false, not, Bool, List, is_some, length, filter, nat_le, slice_get, IsOk, OnOk, OnErr, IfOk, IfSome, IfNone, if◌then◌else◌};
 ghost use Rattle.std.specs.List.{list_any};
 ghost use Rattle.std.specs.Map.{lookup, values_of};
 ghost use Rattle.std.specs.Fn.{FnOnceReturnsAtMut};
@@ -156,6 +156,8 @@ pub fn change_at<V: Drop + Ranked, R, F: FnOnce(&mut V) -> R>(
     ensures found { is_some result ≡ is_some (lookup (mac_eq key) (entries_of map.old.entries)) }
     ensures some { IfSome result (λ r.
         ChangesPlace F.FnOnce change key r.0 r.1 map.old.entries map.new.entries) }
+    ensures from { IfSome result (λ r. (n : ℕ)
+        → entries_from n map.old.entries ≡ [] → entries_from n map.new.entries ≡ []) }
     ensures none { IfNone result (map.new.entries ≡ map.old.entries) }
 {
     let _places = map.len();
@@ -295,6 +297,7 @@ pub fn hold<V: Drop + Ranked>(
     key: Mac,
 ) -> Result<bool, NoMemory>
     ensures held { IfOk result (λ newly. HoldsPlace key newly map.old.entries map.new.entries) }
+    ensures from { (n : ℕ) → entries_from n map.new.entries ≡ entries_from n map.old.entries }
     ensures again { list_any (mac_eq key) (held_of map.old.entries) ≡ true → IsOk result }
     ensures fits { length (held_of map.old.entries) < 2 ^ 63 }
     ensures err { OnErr result (map.new.entries ≡ map.old.entries) }
@@ -326,6 +329,7 @@ pub fn give_up<V: Drop + Ranked>(map: &mut IndexMap<Mac, Slot<V>, Keys>, key: Ma
     ensures len { length (held_of map.new.entries) + (if result then 1 else 0)
         ≡ length (held_of map.old.entries) }
     ensures others { KeepsHeld (held_of map.old.entries) (held_of map.new.entries) key }
+    ensures from { (n : ℕ) → entries_from n map.new.entries ≡ entries_from n map.old.entries }
 {
     // The length says that no two addresses are equal.
     let _places = map.len();
@@ -365,6 +369,7 @@ pub fn pop_held<V: Drop + Ranked>(map: &mut IndexMap<Mac, Slot<V>, Keys>) -> boo
     ensures entries { entries_of map.new.entries ≡ entries_of map.old.entries }
     ensures held { length (held_of map.new.entries) + (if result then 1 else 0)
         ≡ length (held_of map.old.entries) }
+    ensures from { (n : ℕ) → entries_from n map.new.entries ≡ entries_from n map.old.entries }
 {
     ends_held(map) && map.pop().is_some()
 }
@@ -392,6 +397,18 @@ fn sift_at<V: Drop + Ranked>(slot: &mut Slot<V>, limit: u64) -> bool
     ensures gone { result ≡ (is_some slot.old.value && not (is_some slot.new.value)) }
 {
     slot.value.clear_below(limit)
+}
+
+// The index from which on no place so far has a value, once the one at this index is looked at too.
+fn end_after<V: Drop + Ranked>(slot: &Slot<V>, index: usize, end: usize) -> usize
+    requires { index < 2 ^ 63 }
+    ensures { result ≡ (if is_some slot.now.value then index + 1 else end) }
+{
+    if slot.value.get().is_some() {
+        index + 1
+    } else {
+        end
+    }
 }
 
 /// How many values went, the least rank among those that are left, and the index from which on no place has a value.
@@ -423,16 +440,13 @@ pub fn sift<V: Drop + Ranked>(map: &mut IndexMap<Mac, Slot<V>, Keys>, limit: u64
     while let Some(slot) = map.get_index_mut(index) {
         let went = sift_at(slot, limit);
         let rank = slot.value.rank_or_most();
-        let is_used = slot.value.get().is_some();
+        sifted.end = end_after(slot, index, sifted.end);
         if went {
             sifted.gone += 1;
         } else {
             sifted.least = sifted.least.min(rank);
         }
         index += 1;
-        if is_used {
-            sifted.end = index;
-        }
     }
     sifted
 }

@@ -4,6 +4,7 @@ use Rattle.indexmap.specs.Entry.{entry_value}
 use Rattle.sr_frame.specs.Addresses.{mac_eq}
 use Rattle.sr_slots.specs.Places.{slot_of}
 use Rattle.sr_slots.proofs.PlaceLemmas.{held_there, held_last, held_le, held_absent}
+use Rattle.sr_slots.proofs.FromLemmas.{from-held, from-held_last}
 use Rattle.sr_slots.proofs.places.hold.Goals as goal
 
 pub returns-in_default-clause-fits : goal.returns-in_default-clause-fits
@@ -51,3 +52,26 @@ unfolding entry_value
 returns-in_err-value-in-Vacant-clause-again g c held =
     let bad : true ≡ false = sym held ∙ held_absent c.args.key c.args.map.now.entries (sym c.in-Ok.ensures.value ∙ ap entry_value c.in-Vacant.is) in
     cc
+
+pub returns-in-Occupied-clause-from : goal.returns-in-Occupied-clause-from
+returns-in-Occupied-clause-from g c n =
+    let was = c.into_mut-slot.result.now in
+    from-held
+    c.args.key
+    was
+    c.args.map.now.entries
+    _
+    n
+    (sym c.in-Ok.ensures.value ∙ ap entry_value c.in-Occupied.is ∙ c.into_mut-slot.ensures.value)
+    (grind (arith, c.in-Ok.ensures.update.1 (slot_of was.value true), c.in-Ok.ensures.same_map, c.in-Occupied.is))
+
+pub returns-in_ok-value-in-Vacant-clause-from : goal.returns-in_ok-value-in-Vacant-clause-from
+unfolding entry_value
+returns-in_ok-value-in-Vacant-clause-from g c n =
+    from-held_last
+    c.args.key
+    c.args.map.now.entries
+    _
+    n
+    (sym c.in-Ok.ensures.value ∙ ap entry_value c.in-Vacant.is)
+    (grind (arith, c.in-Ok.ensures.update.1 (slot_of None true), c.in-Ok.ensures.same_map, c.in-Vacant.is))
