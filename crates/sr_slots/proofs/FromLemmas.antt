@@ -34,9 +34,12 @@ module _ {V : Type 0} where
   from_last (suc n) (x ∷ es) e h = from_last n es e h
 
   -- holding a place
-  pub from-held : (m : Mac) (s : Slot V) (es new : List (Mac × Slot V)) (n : ℕ) → lookup (mac_eq m) es ≡ Some s → new ≡ insert_entry mac_eq es m (slot_of s.value true) → entries_from n new ≡ entries_from n es
-  from-held m s es new n there is =
-      ap (entries_from n) (is ∙ insert-there m s (slot_of s.value true) es there) ∙ from-set_same m s.value true es n (ap value_in there)
+  pub from-held : (m : Mac) (s w : Slot V) (es new : List (Mac × Slot V)) (n : ℕ) → lookup (mac_eq m) es ≡ Some s → w ≡ slot_of s.value true → new ≡ set_value (mac_eq m) es w → entries_from n new ≡ entries_from n es
+  from-held m s w es new n there w_is is =
+      ap (entries_from n) (is ∙ ap (set_value (mac_eq m) es) w_is) ∙ from-set_same m s.value true es n (ap value_in there)
+
+  pub from-held_there : (m : Mac) (s w : Slot V) (es new : List (Mac × Slot V)) (n : ℕ) → lookup (mac_eq m) es ≡ Some s → w ≡ slot_of s.value true → new ≡ insert_entry mac_eq es m w → entries_from n new ≡ entries_from n es
+  from-held_there m s w es new n there w_is is = from-held m s w es new n there w_is (is ∙ insert-there m s w es there)
 
   pub from-held_last : (m : Mac) (es new : List (Mac × Slot V)) (n : ℕ) → lookup (mac_eq m) es ≡ None → new ≡ insert_entry mac_eq es m (slot_of None true) → entries_from n new ≡ entries_from n es
   from-held_last m es new n absent is =

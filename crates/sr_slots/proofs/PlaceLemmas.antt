@@ -308,11 +308,10 @@ module _ {V : Type 0} where
       let d = head_differs (mac_eq m e.0) e.1 (lookup (mac_eq m) es) h in
       ap (λ b. cond b ((e.0, w) ∷ es) (e ∷ insert_entry mac_eq es m w)) d.0 ∙ ap (λ l. e ∷ l) (insert-absent m w es d.1)
 
-  pub held_there : (m : Mac) (s : Slot V) (es new : List (Mac × Slot V)) → IsDistinct mac_eq (keys_of es) → lookup (mac_eq m) es ≡ Some s
-      → new ≡ insert_entry mac_eq es m (slot_of s.value true) → HoldsPlace m (not s.held) es new
-  held_there m s es new unique there is =
+  held_newly : (m : Mac) (s : Slot V) (es new : List (Mac × Slot V)) → IsDistinct mac_eq (keys_of es) → lookup (mac_eq m) es ≡ Some s
+      → new ≡ set_value (mac_eq m) es (slot_of s.value true) → HoldsPlace m (not s.held) es new
+  held_newly m s es new unique there set =
       let w = slot_of s.value true in
-      let set : new ≡ set_value (mac_eq m) es w = is ∙ insert-there m s w es there in
       record {
         entries = ap entries_of set ∙ entries-set_same m s.value true es (ap value_in there);
         held = ap (λ l. list_any (mac_eq m) (held_of l)) set ∙ held-set_own m w es (ap is_some there) refl;
@@ -320,6 +319,15 @@ module _ {V : Type 0} where
         newly_is = sym (ap not (held_of_own m s es unique there));
         others = λ q other. ap (λ l. list_any (mac_eq q) (held_of l)) set ∙ held-set_others m w es q other;
       }
+
+  pub held_set : (m : Mac) (s w : Slot V) (es new : List (Mac × Slot V)) (newly : Bool) → IsDistinct mac_eq (keys_of es) → lookup (mac_eq m) es ≡ Some s
+      → w ≡ slot_of s.value true → newly ≡ not s.held → new ≡ set_value (mac_eq m) es w → HoldsPlace m newly es new
+  held_set m s w es new newly unique there w_is newly_is set =
+      subst (λ b. HoldsPlace m b es new) (sym newly_is) (held_newly m s es new unique there (set ∙ ap (set_value (mac_eq m) es) w_is))
+
+  pub held_there : (m : Mac) (s w : Slot V) (es new : List (Mac × Slot V)) (newly : Bool) → IsDistinct mac_eq (keys_of es) → lookup (mac_eq m) es ≡ Some s
+      → w ≡ slot_of s.value true → newly ≡ not s.held → new ≡ insert_entry mac_eq es m w → HoldsPlace m newly es new
+  held_there m s w es new newly unique there w_is newly_is is = held_set m s w es new newly unique there w_is newly_is (is ∙ insert-there m s w es there)
 
   pub held_last : (m : Mac) (es new : List (Mac × Slot V)) → lookup (mac_eq m) es ≡ None → new ≡ insert_entry mac_eq es m (slot_of None true) → HoldsPlace m true es new
   held_last m es new absent is_new =

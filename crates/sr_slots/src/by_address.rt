@@ -217,7 +217,7 @@ impl<V: Drop + Ranked> Slots<V> {
         ensures newly { IfOk result (λ newly. newly ≡ not (is_held self.old key)) }
         ensures err { OnErr result (self.new ≡ self.old) }
     {
-        let newly = places::hold(&mut self.map, self.alloc, key)?;
+        let newly = places::hold(&mut self.map, self.alloc, self.end, key)?;
         if newly {
             self.held += 1;
         }

@@ -290,8 +290,38 @@ pub fn put_last<V: Drop + Ranked>(
     })
 }
 
-/// Holds a place for an address. Answers whether it was not held before.
-pub fn hold<V: Drop + Ranked>(
+// Holds a place, and answers whether it was not held before.
+#[inline(always)]
+fn hold_place<V: Drop + Ranked>(slot: &mut Slot<V>) -> bool
+    ensures slot { slot.new ≡ slot_of slot.old.value true }
+    ensures newly { result ≡ not slot.old.held }
+{
+    let newly = !slot.held;
+    slot.held = true;
+    newly
+}
+
+// Holds the place at an index if it is that of an address, and answers whether it was not held before.
+fn hold_at<V: Drop + Ranked>(
+    map: &mut IndexMap<Mac, Slot<V>, Keys>,
+    index: usize,
+    key: Mac,
+) -> Option<bool>
+    ensures held { IfSome result (λ newly. HoldsPlace key newly map.old.entries map.new.entries) }
+    ensures from { IfSome result (λ newly. (n : ℕ)
+        → entries_from n map.new.entries ≡ entries_from n map.old.entries) }
+    ensures none { IfNone result (map.new ≡ map.old) }
+{
+    let _places = map.len();
+    if !stands_at(map, index, key) {
+        return None;
+    }
+    let slot = map.get_index_mut(index)?;
+    Some(hold_place(slot))
+}
+
+// Holds a place for an address, which is looked up. Answers whether it was not held before.
+fn hold_sought<V: Drop + Ranked>(
     map: &mut IndexMap<Mac, Slot<V>, Keys>,
     alloc: Global,
     key: Mac,
@@ -310,15 +340,34 @@ pub fn hold<V: Drop + Ranked>(
     match entry {
         Entry::Occupied(entry) => {
             let slot = entry.into_mut();
-            let newly = !slot.held;
-            slot.held = true;
-            Ok(newly)
+            Ok(hold_place(slot))
         }
         Entry::Vacant(entry) => {
             let value = Room::new(alloc)?;
             entry.insert(Slot { value, held: true });
             Ok(true)
         }
+    }
+}
+
+/// Holds a place for an address, which is looked for at an index first. Answers whether it was not held before.
+pub fn hold<V: Drop + Ranked>(
+    map: &mut IndexMap<Mac, Slot<V>, Keys>,
+    alloc: Global,
+    first: usize,
+    key: Mac,
+) -> Result<bool, NoMemory>
+    ensures held { IfOk result (λ newly. HoldsPlace key newly map.old.entries map.new.entries) }
+    ensures from { (n : ℕ) → entries_from n map.new.entries ≡ entries_from n map.old.entries }
+    ensures again { list_any (mac_eq key) (held_of map.old.entries) ≡ true → IsOk result }
+    ensures fits { length (held_of map.old.entries) < 2 ^ 63 }
+    ensures err { OnErr result (map.new.entries ≡ map.old.entries) }
+{
+    // The length is the bound of the places.
+    let _places = map.len();
+    match hold_at(map, first, key) {
+        Some(newly) => Ok(newly),
+        None => hold_sought(map, alloc, key),
     }
 }
 
