@@ -10,9 +10,9 @@ ghost use Rattle.sr_slots.specs.Calls.{ChangesAt, least_rank, shown_entry};
 
 use crate::entries::Iter;
 use crate::keys::Keys;
-use crate::places;
 use crate::places::Slot;
 use crate::ranked::Ranked;
+use crate::{holding, places, putting, sifting};
 use indexmap::IndexMap;
 use sr_frame::{Mac, NoMemory};
 use std::alloc::Global;
@@ -159,7 +159,7 @@ impl<V: Drop + Ranked> Slots<V> {
         ensures reserved { is_held self.old key ≡ true → IsOk result }
         ensures err { OnErr result (self.new ≡ self.old) }
     {
-        let put = places::put_last(&mut self.map, self.alloc, self.end, key, value)?;
+        let put = putting::put_last(&mut self.map, self.alloc, self.end, key, value)?;
         if put.was_held {
             self.held -= 1;
         }
@@ -217,7 +217,7 @@ impl<V: Drop + Ranked> Slots<V> {
         ensures newly { IfOk result (λ newly. newly ≡ not (is_held self.old key)) }
         ensures err { OnErr result (self.new ≡ self.old) }
     {
-        let newly = places::hold(&mut self.map, self.alloc, self.end, key)?;
+        let newly = holding::hold(&mut self.map, self.alloc, self.end, key)?;
         if newly {
             self.held += 1;
         }
@@ -230,7 +230,7 @@ impl<V: Drop + Ranked> Slots<V> {
         ensures held { is_held self.new key ≡ false }
         ensures others { KeepsHeld self.old.held self.new.held key }
     {
-        if places::give_up(&mut self.map, key) {
+        if holding::give_up(&mut self.map, key) {
             self.held -= 1;
         }
     }
@@ -253,11 +253,11 @@ impl<V: Drop + Ranked> Slots<V> {
         ensures entries { self.new.entries ≡ self.old.entries }
         ensures held { self.new.held ≡ [] }
     {
-        while self.held > 0 && places::pop_held(&mut self.map) {
+        while self.held > 0 && holding::pop_held(&mut self.map) {
             self.held -= 1;
         }
         if self.held > 0 {
-            places::release(&mut self.map);
+            holding::release(&mut self.map);
             self.held = 0;
             self.end = self.map.len();
         }
@@ -271,7 +271,7 @@ impl<V: Drop + Ranked> Slots<V> {
         ensures held { self.new.held ≡ self.old.held }
         ensures least { result ≡ least_rank V.rank_of self.new.entries }
     {
-        let sifted = places::sift(&mut self.map, limit);
+        let sifted = sifting::sift(&mut self.map, limit);
         self.count -= sifted.gone;
         self.end = sifted.end;
         sifted.least
@@ -281,7 +281,7 @@ impl<V: Drop + Ranked> Slots<V> {
     pub fn least_rank(&self) -> u64
         ensures { result ≡ least_rank V.rank_of self.now.entries }
     {
-        places::least_rank(&self.map)
+        sifting::least_rank(&self.map)
     }
 
     /// Lets the places go that have no value and are not held, where `least` places without a value stand before one that has one, or
@@ -291,7 +291,7 @@ impl<V: Drop + Ranked> Slots<V> {
     {
         let between = self.end.saturating_sub(self.count);
         if between >= least || self.map.len() >= most {
-            places::sweep(&mut self.map);
+            sifting::sweep(&mut self.map);
             self.end = self.map.len();
         }
     }
