@@ -1,11 +1,11 @@
 -- What the places from an index on show, through the map's calls.
-use Rattle.std.proofs.Common.{◌≡◌, ℕ, zero, suc, ◌+◌, ◌-◌, ◌≤◌, Bool, true, false, cond, List, [], ◌∷◌, ◌++◌, length, drop, Option, None, Some, is_some, if◌then◌else◌, refl, sym, ap, ◌∙◌, append-nil, arith}
+use Rattle.std.proofs.Common.{◌≡◌, ℕ, zero, suc, ◌-◌, Bool, true, false, cond, List, [], ◌∷◌, ◌++◌, length, Option, None, Some, is_some, refl, sym, ap, ◌∙◌, append-nil, arith}
 use Rattle.std.specs.List.{slice_get}
-use Rattle.std.specs.Map.{lookup, set_value, keys_of}
-use Rattle.std.specs.Prelude.{option_to_list, IfSome, IfNone}
+use Rattle.std.specs.Map.{lookup, set_value}
+use Rattle.std.specs.Prelude.{option_to_list, IfSome}
 use Rattle.std.specs.Borrow.{MutBor}
 use Rattle.std.specs.Fn.{Once, FnOnceReturnsAtMut}
-use Rattle.std.proofs.lemmas.List.{drop_all, drop-append-le, length-append}
+use Rattle.std.proofs.lemmas.List.{drop_all, length-append}
 use Rattle.sr_frame.specs.declared.fields.Mac.{Mac}
 use Rattle.sr_frame.specs.Addresses.{mac_eq}
 use Rattle.indexmap.specs.IndexMap.{insert_entry}

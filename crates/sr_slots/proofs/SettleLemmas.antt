@@ -1,10 +1,10 @@
 -- Bringing a place to where the values end, and filling it there.
-use Rattle.std.proofs.Common.{◌≡◌, ℕ, zero, suc, ◌+◌, ◌-◌, ◌≤◌, ◌<◌, Bool, true, false, cond, ◌||◌, List, [], ◌∷◌, ◌++◌, length, take, drop, get_or, set, Option, None, Some, is_some, if◌then◌else◌, ◌⊎◌, inl, inr, min, refl, sym, ap, ◌∙◌, subst, append_assoc, append-nil, arith}
+use Rattle.std.proofs.Common.{◌≡◌, ℕ, zero, suc, ◌+◌, ◌-◌, ◌≤◌, ◌<◌, Bool, true, false, cond, ◌||◌, List, [], ◌∷◌, ◌++◌, length, take, drop, get_or, set, Option, None, Some, is_some, ◌⊎◌, inl, inr, min, refl, sym, ap, ◌∙◌, subst, append_assoc, append-nil, arith}
 use Rattle.std.specs.List.{swap, list_any, IsDistinct, AllByRecursion, insert, remove, slice_get, position, position_or_len}
-use Rattle.std.specs.Map.{lookup, keys_of, values_of, set_value}
+use Rattle.std.specs.Map.{lookup, keys_of, values_of}
 use Rattle.std.specs.Option.{option_map_or}
 use Rattle.std.proofs.Math.Seq.{set-append_seam, get_or-append_seam, drop-append_seam, take-append_seam}
-use Rattle.std.proofs.lemmas.List.{length-append, drop_all, take-append-drop, length-drop, length-take}
+use Rattle.std.proofs.lemmas.List.{length-append, drop_all}
 use Rattle.std.proofs.lemmas.List.Folds.{list_any-append}
 use Rattle.indexmap.specs.IndexMap.{insert_entry, move_index, set_value_at}
 use Rattle.sr_frame.specs.declared.fields.Mac.{Mac}

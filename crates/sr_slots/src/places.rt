@@ -42,27 +42,18 @@ pub fn find<V: Drop + Ranked>(map: &IndexMap<Mac, Slot<V>, Keys>, key: Mac) -> O
     Some((index, slot.value.get()?))
 }
 
-/// Whether a look and a write at this index are a look and a write at an address.
+/// Whether the place of an address is at this index.
 #[inline(always)]
 pub fn stands_at<V: Drop + Ranked>(
     map: &IndexMap<Mac, Slot<V>, Keys>,
     index: usize,
     key: Mac,
 ) -> bool
-    ensures { result ≡ true → StandsAt key map.now.entries index }
+    ensures place { result ≡ true → (slot : Slot V)
+        × (slice_get map.now.entries index ≡ Some (key, slot)) }
+    ensures at { result ≡ true → StandsAt key map.now.entries index }
 {
     let _places = map.len();
-    match map.get_index(index) {
-        Some((stored, _)) => *stored == key,
-        None => false,
-    }
-}
-
-/// Whether the place of an address is at this index.
-pub fn is_at<V: Drop + Ranked>(map: &IndexMap<Mac, Slot<V>, Keys>, index: usize, key: Mac) -> bool
-    ensures { result ≡ true
-        → (slot : Slot V) × (slice_get map.now.entries index ≡ Some (key, slot)) }
-{
     match map.get_index(index) {
         Some((stored, _)) => *stored == key,
         None => false,

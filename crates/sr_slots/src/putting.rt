@@ -8,7 +8,7 @@ ghost use Rattle.sr_slots.specs.Places.{entries_of, held_of, slot_of, entries_fr
 ghost use Rattle.sr_slots.specs.Effects.{PutsLast, HasPlace, Settles};
 
 use crate::keys::Keys;
-use crate::places::{Slot, is_at};
+use crate::places::{Slot, stands_at};
 use crate::ranked::Ranked;
 use crate::room::Room;
 use indexmap::IndexMap;
@@ -63,7 +63,7 @@ fn place_for<V: Drop + Ranked>(
     ensures err { OnErr result (map.new.entries ≡ map.old.entries) }
 {
     let places = map.len();
-    if is_at(map, first, key) {
+    if stands_at(map, first, key) {
         return Ok(first);
     }
     if let Some(index) = map.get_index_of(&key) {

@@ -5,7 +5,7 @@ use Rattle.sr_slots.proofs.holding.hold_at.Goals as goal
 
 pub returns-clause-held : goal.returns-clause-held
 returns-clause-held g c =
-    let at = c.stands_at.ensures c.if-not-stands_at.false in
+    let at = c.stands_at.ensures.at c.if-not-stands_at.false in
     held_set
     c.args.key
     c.in_ok-slot.slot.now
@@ -21,7 +21,7 @@ returns-clause-held g c =
 
 pub returns-clause-from : goal.returns-clause-from
 returns-clause-from g c n =
-    let at = c.stands_at.ensures c.if-not-stands_at.false in
+    let at = c.stands_at.ensures.at c.if-not-stands_at.false in
     from-held
     c.args.key
     c.in_ok-slot.slot.now

@@ -7,8 +7,8 @@ use Rattle.sr_slots.proofs.PlaceLemmas.{held_absent, none_from}
 use Rattle.sr_slots.proofs.SettleLemmas.{place_there, place_found, place_made}
 use Rattle.sr_slots.proofs.putting.place_for.Goals as goal
 
-pub returns-then-is_at-clause-place : goal.returns-then-is_at-clause-place
-returns-then-is_at-clause-place g c = place_there c.args.key c.args.map.now.entries c.args.first (c.is_at.ensures c.if-is_at.true)
+pub returns-then-stands_at-clause-place : goal.returns-then-stands_at-clause-place
+returns-then-stands_at-clause-place g c = place_there c.args.key c.args.map.now.entries c.args.first (c.stands_at.ensures.place c.if-stands_at.true)
 
 pub returns-in-Some-clause-place : goal.returns-in-Some-clause-place
 returns-in-Some-clause-place g c = place_found c.args.key c.args.map.now.entries c.in-Some.index c.in-Some.ensures.index c.in-Some.ensures.found
