@@ -16,10 +16,11 @@ use sr_slots::{Iter, Keys, Slots, Spot};
 use std::alloc::Global;
 use std::marker::Model;
 
-/// Where a table is aged, empty places go once they are this part of `MOST` (choice of this project).
+/// Where a table is aged, empty places go once those before a value are this part of `MOST` (choice of this project).
 const PART_AT_AGE: usize = 32;
 
-/// Before a newcomer, empty places go once they are this part of `MOST` (choice of this project).
+/// Before a newcomer, empty places go once those before a value are this part of `MOST`, or once there are more places than `MOST` by
+/// it (choice of this project).
 const PART_BEFORE_NEWCOMER: usize = 8;
 
 /// At most `MOST` values by address, in the order of first hearing, each with the time when its address was last heard, in
@@ -47,7 +48,7 @@ impl<V: Drop, const SPAN: u64, const MOST: usize> Model for AgedSlots<V, SPAN, M
 }
 
 // Takes the forgotten values out, and answers the oldest time of those that are left. Held places stay. The empty ones go where
-// they are `least` or more, since an address that comes back to one moves all places behind it.
+// `least` or more stand before a value, since an address that comes back to such a place moves all up to the last value.
 fn forget<V: Drop>(slots: &mut Slots<Aged<V>>, span: u64, least: usize, now: u64) -> u64
     requires { 0 < span }
     ensures entries { slots.new.entries ≡ live_at span now slots.old.entries }
@@ -55,16 +56,17 @@ fn forget<V: Drop>(slots: &mut Slots<Aged<V>>, span: u64, least: usize, now: u64
     ensures oldest { result ≡ oldest_of slots.new.entries }
 {
     let oldest = slots.sift(now.saturating_sub(span - 1));
-    slots.sweep(least);
+    slots.sweep(least, usize::MAX);
     oldest
 }
 
 impl<V: Drop, const SPAN: u64, const MOST: usize> AgedSlots<V, SPAN, MOST> {
-    // Lets the empty places go where they are many, before a newcomer.
+    // Lets the empty places go where they are many, before one more comes.
     fn sweep(&mut self)
         ensures { self.new ≡ self.old }
     {
-        self.slots.sweep(MOST / PART_BEFORE_NEWCOMER);
+        let least = MOST / PART_BEFORE_NEWCOMER;
+        self.slots.sweep(least, MOST.saturating_add(least));
     }
 
     /// A table of no value under fixed keys, which takes no memory yet. `SPAN` is above 0.

@@ -11,7 +11,7 @@ use Rattle.sr_frame.specs.AddressLemmas.{mac_refl, mac_symm}
 use Rattle.sr_slots.specs.Places.{StandsAt}
 
 -- the first index where a test passes
-position_is : {X : Type 0} (test : X → Bool) (xs : List X) (i : ℕ) → Some i ≡ position test xs → position_or_len test xs ≡ i
+pub position_is : {X : Type 0} (test : X → Bool) (xs : List X) (i : ℕ) → Some i ≡ position test xs → position_or_len test xs ≡ i
 position_is test xs i h = by (nat_lt (position_or_len test xs) (length xs)) h
   where
     by : (b : Bool) → Some i ≡ cond b (Some (position_or_len test xs)) None → position_or_len test xs ≡ i

@@ -2,3 +2,5 @@ pub mod PlaceLemmas
 pub mod CloneLemmas
 pub mod IndexLemmas
 pub mod SiftLemmas
+pub mod FromLemmas
+pub mod SettleLemmas

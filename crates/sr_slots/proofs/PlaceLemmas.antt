@@ -2,22 +2,22 @@
 use Rattle.std.proofs.Common.{◌≡◌, ℕ, suc, ◌+◌, ◌-◌, ◌≤◌, Bool, true, false, cond, ◌||◌, not, List, [], ◌∷◌, ◌++◌, length, Option, None, Some, is_some, refl, sym, ap, ◌∙◌, subst, append_assoc, append-nil, arith}
 use Rattle.std.specs.Map.{lookup, set_value, keys_of}
 use Rattle.std.specs.Map.Calls.{RetainsPairs}
-use Rattle.std.specs.List.{list_any, IsDistinct, AllByRecursion, position_or_len, insert, remove, slice_get}
+use Rattle.std.specs.List.{list_any, IsDistinct, AllByRecursion, position_or_len, remove, slice_get}
 use Rattle.std.specs.Prelude.{option_to_list, IfSome, IfNone}
 use Rattle.std.specs.Borrow.{Bor, MutBor}
 use Rattle.std.specs.Fn.{Once, FnOnceReturnsAtMut}
-use Rattle.std.specs.Option.{option_copied, option_map_or}
+use Rattle.std.specs.Option.{option_copied}
 use Rattle.std.proofs.Math.Bool.{or-true}
 use Rattle.std.proofs.lemmas.Map.{length-set_value}
 use Rattle.std.proofs.lemmas.Bool.{not-true, not-false}
 use Rattle.std.proofs.lemmas.List.Folds.{list_any-append}
-use Rattle.std.proofs.lemmas.List.{take_all, drop_all, length-append}
-use Rattle.indexmap.specs.IndexMap.{insert_entry, move_index}
+use Rattle.std.proofs.lemmas.List.{length-append}
+use Rattle.indexmap.specs.IndexMap.{insert_entry}
 use Rattle.sr_frame.specs.declared.fields.Mac.{Mac}
 use Rattle.sr_slots.specs.declared.places.Slot.{Slot}
 use Rattle.sr_frame.specs.Addresses.{mac_eq}
 use Rattle.sr_slots.specs.Places.{entry_at, held_at, entries_of, held_of, slot_of, IsLast, KeepsHeld, KeepsAllHeld}
-use Rattle.sr_slots.specs.Effects.{HoldsPlace, PutsLast, ChangesPlace}
+use Rattle.sr_slots.specs.Effects.{HoldsPlace, ChangesPlace}
 use Rattle.sr_frame.specs.AddressLemmas.{mac_same, mac_refl}
 use Rattle.sr_slots.specs.EntryLemmas.{one_if, head_differs}
 
@@ -27,7 +27,7 @@ value_in None = None
 value_in (Some s) = s.value
 
 -- a place of another address, held or not, changes no answer on q
-any_held : (q m : Mac) (b : Bool) (xs ys : List Mac) → mac_eq q m ≡ false → list_any (mac_eq q) (xs ++ (held_at m b ++ ys)) ≡ list_any (mac_eq q) (xs ++ ys)
+pub any_held : (q m : Mac) (b : Bool) (xs ys : List Mac) → mac_eq q m ≡ false → list_any (mac_eq q) (xs ++ (held_at m b ++ ys)) ≡ list_any (mac_eq q) (xs ++ ys)
 any_held q m false xs ys h = refl
 any_held q m true xs ys h =
     list_any-append (mac_eq q) xs (m ∷ ys) ∙ ap (λ b. list_any (mac_eq q) xs || (b || list_any (mac_eq q) ys)) h ∙ sym (list_any-append (mac_eq q) xs ys)
@@ -36,27 +36,18 @@ pub any_behind : (m : Mac) (xs ys : List Mac) → list_any (mac_eq m) ys ≡ tru
 any_behind m [] ys y = y
 any_behind m (x ∷ xs) ys y = ap (λ b. mac_eq m x || b) (any_behind m xs ys y) ∙ or-true (mac_eq m x)
 
-length-held_at : (m : Mac) (b : Bool) (ys : List Mac) → length (held_at m b ++ ys) ≡ one_if b + length ys
+pub length-held_at : (m : Mac) (b : Bool) (ys : List Mac) → length (held_at m b ++ ys) ≡ one_if b + length ys
 length-held_at m true ys = omega arith
 length-held_at m false ys = omega arith
 
 -- the item at a place, moved to the end
-item_at : {X : Type 0} (front back : List X) (x : X) → slice_get (front ++ x ∷ back) (length front) ≡ Some x
+pub item_at : {X : Type 0} (front back : List X) (x : X) → slice_get (front ++ x ∷ back) (length front) ≡ Some x
 item_at [] back x = refl
 item_at (e ∷ front) back x = item_at front back x
 
-without_item : {X : Type 0} (front back : List X) (x : X) → remove (front ++ x ∷ back) (length front) ≡ front ++ back
+pub without_item : {X : Type 0} (front back : List X) (x : X) → remove (front ++ x ∷ back) (length front) ≡ front ++ back
 without_item [] back x = refl
 without_item (e ∷ front) back x = ap (λ l. e ∷ l) (without_item front back x)
-
-at_end : {X : Type 0} (xs : List X) (n : ℕ) (x : X) → n ≡ length xs → insert xs n x ≡ xs ++ x ∷ []
-at_end xs n x h = λ j. take_all n xs (omega arith) j ++ x ∷ drop_all n xs (omega arith) j
-
-moved : {X : Type 0} (front back : List X) (x : X) (last : ℕ) → last ≡ length (front ++ x ∷ back) - 1 → move_index (front ++ x ∷ back) (length front) last ≡ (front ++ back) ++ x ∷ []
-moved front back x last h =
-    ap (λ o. option_map_or (λ y. insert (remove (front ++ x ∷ back) (length front)) last y) o (front ++ x ∷ back)) (item_at front back x)
-    ∙ ap (λ l. insert l last x) (without_item front back x)
-    ∙ at_end (front ++ back) last x (omega (arith, length-append front (x ∷ back), length-append front back))
 
 -- there is a value behind a reference exactly where there is one
 pub copied_some : {T : Type 0} (o : Option (Bor T)) → is_some (option_copied o) ≡ is_some o
@@ -292,7 +283,7 @@ module _ {V : Type 0} where
   added_held m s es new is = ap held_of is ∙ held-append es ((m, s) ∷ []) ∙ ap (λ l. held_of es ++ l) (append-nil (held_at m s.held))
 
   -- `insert` at an address that has a place writes it
-  insert-there : (m : Mac) (s w : Slot V) (es : List (Mac × Slot V)) → lookup (mac_eq m) es ≡ Some s → insert_entry mac_eq es m w ≡ set_value (mac_eq m) es w
+  pub insert-there : (m : Mac) (s w : Slot V) (es : List (Mac × Slot V)) → lookup (mac_eq m) es ≡ Some s → insert_entry mac_eq es m w ≡ set_value (mac_eq m) es w
   insert-there m s w [] h = cc
   insert-there m s w (e ∷ es) h = by (mac_eq m e.0) h (insert-there m s w es)
     where
@@ -302,17 +293,16 @@ module _ {V : Type 0} where
       by false h ih = ap (λ l. e ∷ l) (ih h)
 
   -- an insertion at an address that has none adds it last
-  insert-absent : (m : Mac) (w : Slot V) (es : List (Mac × Slot V)) → lookup (mac_eq m) es ≡ None → insert_entry mac_eq es m w ≡ es ++ (m, w) ∷ []
+  pub insert-absent : (m : Mac) (w : Slot V) (es : List (Mac × Slot V)) → lookup (mac_eq m) es ≡ None → insert_entry mac_eq es m w ≡ es ++ (m, w) ∷ []
   insert-absent m w [] h = refl
   insert-absent m w (e ∷ es) h =
       let d = head_differs (mac_eq m e.0) e.1 (lookup (mac_eq m) es) h in
       ap (λ b. cond b ((e.0, w) ∷ es) (e ∷ insert_entry mac_eq es m w)) d.0 ∙ ap (λ l. e ∷ l) (insert-absent m w es d.1)
 
-  pub held_there : (m : Mac) (s : Slot V) (es new : List (Mac × Slot V)) → IsDistinct mac_eq (keys_of es) → lookup (mac_eq m) es ≡ Some s
-      → new ≡ insert_entry mac_eq es m (slot_of s.value true) → HoldsPlace m (not s.held) es new
-  held_there m s es new unique there is =
+  held_newly : (m : Mac) (s : Slot V) (es new : List (Mac × Slot V)) → IsDistinct mac_eq (keys_of es) → lookup (mac_eq m) es ≡ Some s
+      → new ≡ set_value (mac_eq m) es (slot_of s.value true) → HoldsPlace m (not s.held) es new
+  held_newly m s es new unique there set =
       let w = slot_of s.value true in
-      let set : new ≡ set_value (mac_eq m) es w = is ∙ insert-there m s w es there in
       record {
         entries = ap entries_of set ∙ entries-set_same m s.value true es (ap value_in there);
         held = ap (λ l. list_any (mac_eq m) (held_of l)) set ∙ held-set_own m w es (ap is_some there) refl;
@@ -320,6 +310,15 @@ module _ {V : Type 0} where
         newly_is = sym (ap not (held_of_own m s es unique there));
         others = λ q other. ap (λ l. list_any (mac_eq q) (held_of l)) set ∙ held-set_others m w es q other;
       }
+
+  pub held_set : (m : Mac) (s w : Slot V) (es new : List (Mac × Slot V)) (newly : Bool) → IsDistinct mac_eq (keys_of es) → lookup (mac_eq m) es ≡ Some s
+      → w ≡ slot_of s.value true → newly ≡ not s.held → new ≡ set_value (mac_eq m) es w → HoldsPlace m newly es new
+  held_set m s w es new newly unique there w_is newly_is set =
+      subst (λ b. HoldsPlace m b es new) (sym newly_is) (held_newly m s es new unique there (set ∙ ap (set_value (mac_eq m) es) w_is))
+
+  pub held_there : (m : Mac) (s w : Slot V) (es new : List (Mac × Slot V)) (newly : Bool) → IsDistinct mac_eq (keys_of es) → lookup (mac_eq m) es ≡ Some s
+      → w ≡ slot_of s.value true → newly ≡ not s.held → new ≡ insert_entry mac_eq es m w → HoldsPlace m newly es new
+  held_there m s w es new newly unique there w_is newly_is is = held_set m s w es new newly unique there w_is newly_is (is ∙ insert-there m s w es there)
 
   pub held_last : (m : Mac) (es new : List (Mac × Slot V)) → lookup (mac_eq m) es ≡ None → new ≡ insert_entry mac_eq es m (slot_of None true) → HoldsPlace m true es new
   held_last m es new absent is_new =
@@ -353,109 +352,18 @@ module _ {V : Type 0} where
           let r = ih h in
           record { front = e ∷ r.front; back = r.back; is = ap (λ l. e ∷ l) r.is; before = ap (λ b. cond b (Some e.1) (lookup (mac_eq m) r.front)) t ∙ r.before }
 
-  -- writing at an address that is there leaves the places round it
-  inserted : (front back : List (Mac × Slot V)) (m : Mac) (s v : Slot V) → lookup (mac_eq m) front ≡ None → insert_entry mac_eq (front ++ (m, s) ∷ back) m v ≡ front ++ (m, v) ∷ back
-  inserted [] back m s v h = ap (λ b. cond b ((m, v) ∷ back) ((m, s) ∷ insert_entry mac_eq back m v)) (mac_refl m)
-  inserted (e ∷ front) back m s v h =
-      let d = head_differs (mac_eq m e.0) e.1 (lookup (mac_eq m) front) h in
-      ap (λ b. cond b ((e.0, v) ∷ (front ++ (m, s) ∷ back)) (e ∷ insert_entry mac_eq (front ++ (m, s) ∷ back) m v)) d.0
-      ∙ ap (λ l. e ∷ l) (inserted front back m s v d.1)
-
-  place : (front back : List (Mac × Slot V)) (m : Mac) (s : Slot V) → lookup (mac_eq m) front ≡ None → position_or_len (mac_eq m) (keys_of (front ++ (m, s) ∷ back)) ≡ length front
+  -- the index of the place of an address
+  pub place : (front back : List (Mac × Slot V)) (m : Mac) (s : Slot V) → lookup (mac_eq m) front ≡ None → position_or_len (mac_eq m) (keys_of (front ++ (m, s) ∷ back)) ≡ length front
   place [] back m s h = ap (λ b. cond (not b) (1 + position_or_len (mac_eq m) (keys_of back)) 0) (mac_refl m)
   place (e ∷ front) back m s h =
       let d = head_differs (mac_eq m e.0) e.1 (lookup (mac_eq m) front) h in
       ap (λ b. cond (not b) (1 + position_or_len (mac_eq m) (keys_of (front ++ (m, s) ∷ back))) 0) d.0 ∙ ap (λ n. 1 + n) (place front back m s d.1) ∙ omega arith
 
   -- behind the place of an address no other is its
-  absent_after_split : (m : Mac) (s : Slot V) (front back : List (Mac × Slot V)) → IsDistinct mac_eq (keys_of (front ++ (m, s) ∷ back)) → lookup (mac_eq m) back ≡ None
+  pub absent_after_split : (m : Mac) (s : Slot V) (front back : List (Mac × Slot V)) → IsDistinct mac_eq (keys_of (front ++ (m, s) ∷ back)) → lookup (mac_eq m) back ≡ None
   unfolding IsDistinct
   absent_after_split m s [] back unique = absent_after m back unique.0
   absent_after_split m s (e ∷ front) back unique = absent_after_split m s front back unique.1
-
-  module _ (m : Mac) (s : Slot V) (es : List (Mac × Slot V)) (there : lookup (mac_eq m) es ≡ Some s) (v : Slot V) (last : ℕ) (is_last : last ≡ length es - 1)
-      (new : List (Mac × Slot V)) (is_new : new ≡ move_index (insert_entry mac_eq es m v) (position_or_len (mac_eq m) (keys_of es)) last) where
-    -- a place that is written and moved to the end
-    last_places : new ≡ ((split m s es there).front ++ (split m s es there).back) ++ (m, v) ∷ []
-    last_places =
-        let r = split m s es there in
-        let n : length es ≡ length (r.front ++ (m, v) ∷ r.back) = ap length r.is ∙ length-append r.front ((m, s) ∷ r.back) ∙ sym (length-append r.front ((m, v) ∷ r.back)) in
-        let w : insert_entry mac_eq es m v ≡ r.front ++ (m, v) ∷ r.back = ap (λ l. insert_entry mac_eq l m v) r.is ∙ inserted r.front r.back m s v r.before in
-        is_new
-        ∙ (λ j. move_index (w j) ((ap (λ l. position_or_len (mac_eq m) (keys_of l)) r.is ∙ place r.front r.back m s r.before) j) last)
-        ∙ moved r.front r.back (m, v) last (is_last ∙ ap (λ k. k - 1) n)
-
-    last_entries : s.value ≡ None → entries_of new ≡ entries_of es ++ entry_at m v.value
-    last_entries none =
-        let r = split m s es there in
-        let was : entries_of es ≡ entries_of r.front ++ entries_of r.back = ap entries_of r.is ∙ entries-append r.front ((m, s) ∷ r.back) ∙ ap (λ o. entries_of r.front ++ (entry_at m o ++ entries_of r.back)) none in
-        added_entries m v (r.front ++ r.back) new last_places
-        ∙ ap (λ l. l ++ entry_at m v.value) (entries-append r.front r.back ∙ sym was)
-
-    last_held : KeepsHeld (held_of es) (held_of new) m
-    last_held q other =
-        let r = split m s es there in
-        ap (list_any (mac_eq q)) (added_held m v (r.front ++ r.back) new last_places ∙ ap (λ l. held_of (r.front ++ r.back) ++ l) (sym (append-nil (held_at m v.held))))
-        ∙ any_held q m v.held (held_of (r.front ++ r.back)) [] other
-        ∙ ap (list_any (mac_eq q)) (append-nil (held_of (r.front ++ r.back)) ∙ held-append r.front r.back)
-        ∙ sym (ap (list_any (mac_eq q)) (ap held_of r.is ∙ held-append r.front ((m, s) ∷ r.back)) ∙ any_held q m s.held (held_of r.front) (held_of r.back) other)
-
-    length-last_held : length (held_of new) + one_if s.held ≡ length (held_of es) + one_if v.held
-    length-last_held =
-        let r = split m s es there in
-        let a : held_of es ≡ held_of r.front ++ (held_at m s.held ++ held_of r.back) = ap held_of r.is ∙ held-append r.front ((m, s) ∷ r.back) in
-        let b : held_of new ≡ (held_of r.front ++ held_of r.back) ++ (held_at m v.held ++ []) =
-        added_held m v (r.front ++ r.back) new last_places ∙ (λ j. held-append r.front r.back j ++ sym (append-nil (held_at m v.held)) j) in
-        omega (
-          arith,
-          ap length a,
-          ap length b,
-          length-append (held_of r.front) (held_at m s.held ++ held_of r.back),
-          length-held_at m s.held (held_of r.back),
-          length-append (held_of r.front ++ held_of r.back) (held_at m v.held ++ []),
-          length-append (held_of r.front) (held_of r.back),
-          length-held_at m v.held [],
-        )
-
-    last_free : IsDistinct mac_eq (keys_of es) → v.held ≡ false → list_any (mac_eq m) (held_of new) ≡ false
-    last_free unique free =
-        let r = split m s es there in
-        ap (list_any (mac_eq m)) (added_held m v (r.front ++ r.back) new last_places
-        ∙ ap (λ b. held_of (r.front ++ r.back) ++ held_at m b) free
-        ∙ append-nil (held_of (r.front ++ r.back))
-        ∙ held-append r.front r.back)
-        ∙ list_any-append (mac_eq m) (held_of r.front) (held_of r.back)
-        ∙ ap (λ b. b || list_any (mac_eq m) (held_of r.back)) (held_absent m r.front r.before)
-        ∙ held_absent m r.back (absent_after_split m s r.front r.back (subst (λ l. IsDistinct mac_eq (keys_of l)) r.is unique))
-
-    put_moved : IsDistinct mac_eq (keys_of es) → lookup (mac_eq m) (entries_of es) ≡ None → {w : V} → v ≡ slot_of (Some w) false → {was : Bool} → was ≡ s.held → PutsLast m w was es new
-    put_moved unique absent is_v was_is = record {
-      entries = last_entries (sym (found_value m s es unique there) ∙ absent) ∙ ap (λ u. entries_of es ++ entry_at m u.value) is_v;
-      held = ap (λ b. length (held_of new) + one_if b) was_is ∙ length-last_held ∙ ap (λ u. length (held_of es) + one_if u.held) is_v ∙ omega arith;
-      others = last_held;
-      used = last_free unique (ap (λ u. u.held) is_v);
-    }
-
-  -- where its place has no value, and takes one and is moved to the end
-  pub put_there : (m : Mac) {w : V} (s v : Slot V) {was : Bool} (es new written : List (Mac × Slot V)) {index n : ℕ}
-      → IsDistinct mac_eq (keys_of es) → lookup (mac_eq m) (entries_of es) ≡ None → n ≡ length es → lookup (mac_eq m) es ≡ Some s → v ≡ slot_of (Some w) false → was ≡ s.held
-      → written ≡ insert_entry mac_eq es m v → index ≡ position_or_len (mac_eq m) (keys_of es) → new ≡ move_index written index (n - 1)
-      → PutsLast m w was es new
-  put_there m s v es new written {n = n} unique absent n_is there is_v was_is written_is index_is is =
-      put_moved m s es there v (n - 1) (ap (λ k. k - 1) n_is) new (is ∙ (λ j. move_index (written_is j) (index_is j) (n - 1))) unique absent is_v was_is
-
-  -- where it has no place, and takes one
-  pub put_new : (m : Mac) {w : V} (v : Slot V) (es : List (Mac × Slot V)) {new : List (Mac × Slot V)} → lookup (mac_eq m) es ≡ None → v ≡ slot_of (Some w) false → new ≡ insert_entry mac_eq es m v
-      → PutsLast m w false es new
-  put_new m {w} v es {new} absent is_v is_new =
-      let is : new ≡ es ++ (m, slot_of (Some w) false) ∷ [] = is_new ∙ insert-absent m v es absent ∙ ap (λ u. es ++ (m, u) ∷ []) is_v in
-      let held : held_of new ≡ held_of es = added_held m (slot_of (Some w) false) es new is ∙ append-nil (held_of es) in
-      record {
-        entries = added_entries m (slot_of (Some w) false) es new is;
-        held = ap (λ l. length l + 0) held ∙ omega arith;
-        others = λ q other. ap (list_any (mac_eq q)) held;
-        used = ap (list_any (mac_eq m)) held ∙ held_absent m es absent;
-      }
 
   -- what a change in the place of an address leaves
   module _ {F R : Type 0} (g : Once F (MutBor V × Unit {0}) (R × (MutBor V × Unit {0}))) (f : F) (m : Mac) (s left : Slot V) (es new : List (Mac × Slot V))

@@ -1,22 +1,22 @@
 -- Going over the places in turn, taking out what does not pass.
-use Rattle.std.proofs.Common.{◌≡◌, ℕ, ◌+◌, ◌<◌, ◌≤◌, ◌^◌, min, Bool, true, false, not, ◌&&◌, is_some, cond, List, [], ◌∷◌, ◌++◌, length, filter, Option, None, Some, refl, sym, ap, ◌∙◌, subst, append_assoc, append-nil, arith}
+use Rattle.std.proofs.Common.{◌≡◌, ℕ, ◌+◌, ◌<◌, ◌≤◌, ◌^◌, min, Bool, true, false, not, ◌&&◌, is_some, cond, List, [], ◌∷◌, ◌++◌, length, drop, filter, Option, None, Some, refl, sym, ap, ◌∙◌, subst, append_assoc, append-nil, arith}
 use Rattle.std.specs.Map.{values_of}
 use Rattle.std.specs.List.{slice_get}
-use Rattle.std.proofs.lemmas.List.{length-append}
+use Rattle.std.proofs.lemmas.List.{length-append, drop_all, drop-append-le}
 use Rattle.indexmap.specs.IndexMap.{set_value_at}
 use Rattle.sr_frame.specs.declared.fields.Mac.{Mac}
 use Rattle.sr_slots.specs.declared.places.Slot.{Slot}
-use Rattle.sr_slots.specs.Places.{entry_at, held_at, entries_of, held_of}
+use Rattle.sr_slots.specs.Places.{entry_at, held_at, entries_of, entries_from, held_of}
 use Rattle.sr_slots.specs.Calls.{passing, least_rank, rank_or_most}
 use Rattle.sr_slots.specs.EntryLemmas.{one_if, least_rank_le}
 use Rattle.sr_slots.proofs.PlaceLemmas.{entries-append, held-append, entries_le}
 
 module _ {X : Type 0} where
-  value_there : (done back : List (Mac × X)) (e : Mac × X) → slice_get (values_of (done ++ e ∷ back)) (length done) ≡ Some e.1
+  pub value_there : (done back : List (Mac × X)) (e : Mac × X) → slice_get (values_of (done ++ e ∷ back)) (length done) ≡ Some e.1
   value_there [] back e = refl
   value_there (d ∷ done) back e = value_there done back e
 
-  write_there : (done back : List (Mac × X)) (e : Mac × X) (w : X) → set_value_at (done ++ e ∷ back) (length done) w ≡ done ++ (e.0, w) ∷ back
+  pub write_there : (done back : List (Mac × X)) (e : Mac × X) (w : X) → set_value_at (done ++ e ∷ back) (length done) w ≡ done ++ (e.0, w) ∷ back
   write_there [] back e w = refl
   write_there (d ∷ done) back e w = ap (λ l. d ∷ l) (write_there done back e w)
 
@@ -67,7 +67,7 @@ module _ {V : Type 0} where
 
   module _ (test : V → Bool) (order : V → ℕ) where
     -- the first places are done: of them those are left that pass, and the others are counted
-    pub record Sifted (old now : List (Mac × Slot V)) (index gone least : ℕ) : Type 0 where
+    pub record Sifted (old now : List (Mac × Slot V)) (index gone least end : ℕ) : Type 0 where
       pub done : List (Mac × Slot V)
       pub rest : List (Mac × Slot V)
       pub now_is : now ≡ done ++ rest
@@ -77,9 +77,11 @@ module _ {V : Type 0} where
       pub held : held_of now ≡ held_of old
       pub kept : entries_of done ++ filter (λ e. test e.1) (entries_of rest) ≡ filter (λ e. test e.1) (entries_of old)
       pub ranked : least ≡ least_rank order (entries_of done)
+      pub ends : entries_from end done ≡ []
+      pub end_le : end ≤ index
 
-    pub none_done : (old : List (Mac × Slot V)) → Sifted old old 0 0 18446744073709551615
-    none_done old = record { done = []; rest = old; now_is = refl; at = refl; len = refl; counted = omega arith; held = refl; kept = refl; ranked = refl }
+    pub none_done : (old : List (Mac × Slot V)) → Sifted old old 0 0 18446744073709551615 0
+    none_done old = record { done = []; rest = old; now_is = refl; at = refl; len = refl; counted = omega arith; held = refl; kept = refl; ranked = refl; ends = refl; end_le = omega arith }
 
     -- the place that comes next
     record Next (rest : List (Mac × Slot V)) : Type 0 where
@@ -92,26 +94,26 @@ module _ {V : Type 0} where
     next_of done (e ∷ back) h = record { first = e; back = back; rest_is = refl }
 
     -- what all of it leaves
-    all_done : (old now : List (Mac × Slot V)) (index gone least : ℕ) → index ≡ length old → (s : Sifted old now index gone least) → s.rest ≡ []
-    all_done old now index gone least end s = by s.rest refl
+    all_done : (old now : List (Mac × Slot V)) (index gone least end : ℕ) → index ≡ length old → (s : Sifted old now index gone least end) → s.rest ≡ []
+    all_done old now index gone least end full s = by s.rest refl
       where
         by : (rest : List (Mac × Slot V)) → s.rest ≡ rest → s.rest ≡ []
         by [] e = e
-        by (x ∷ rest) e = absurd (omega (arith, end, s.at, s.len, ap length s.now_is, length-append s.done s.rest, ap length e))
+        by (x ∷ rest) e = absurd (omega (arith, full, s.at, s.len, ap length s.now_is, length-append s.done s.rest, ap length e))
 
-    pub all_kept : (old now : List (Mac × Slot V)) (index gone least : ℕ) → index ≡ length old → (s : Sifted old now index gone least)
+    pub all_kept : (old now : List (Mac × Slot V)) (index gone least end : ℕ) → index ≡ length old → (s : Sifted old now index gone least end)
         → entries_of now ≡ filter (λ e. test e.1) (entries_of old)
-    all_kept old now index gone least end s =
-        let over = all_done old now index gone least end s in
+    all_kept old now index gone least end full s =
+        let over = all_done old now index gone least end full s in
         ap entries_of (s.now_is ∙ ap (λ l. s.done ++ l) over ∙ append-nil s.done)
         ∙ sym (append-nil (entries_of s.done))
         ∙ ap (λ l. entries_of s.done ++ filter (λ e. test e.1) (entries_of l)) (sym over)
         ∙ s.kept
 
-    pub all_is : (old now : List (Mac × Slot V)) (index gone least : ℕ) → index ≡ length old → (s : Sifted old now index gone least) → s.done ≡ now
-    all_is old now index gone least end s = sym (s.now_is ∙ ap (λ l. s.done ++ l) (all_done old now index gone least end s) ∙ append-nil s.done)
+    pub all_is : (old now : List (Mac × Slot V)) (index gone least end : ℕ) → index ≡ length old → (s : Sifted old now index gone least end) → s.done ≡ now
+    all_is old now index gone least end full s = sym (s.now_is ∙ ap (λ l. s.done ++ l) (all_done old now index gone least end full s) ∙ append-nil s.done)
 
-    module _ (old now : List (Mac × Slot V)) (index gone least : ℕ) (s : Sifted old now index gone least) (was w : Slot V)
+    module _ (old now : List (Mac × Slot V)) (index gone least end : ℕ) (s : Sifted old now index gone least end) (was w : Slot V)
         (there : slice_get (values_of now) index ≡ Some was) (held : w.held ≡ was.held)
         (passes : w.value ≡ passing test was.value) (within : index < length now) where
       next : Next s.rest
@@ -164,9 +166,26 @@ module _ {V : Type 0} where
       before : length (entries_of now) ≡ length (entries_of s.done) + (one_if (is_some was.value) + length (entries_of next.back))
       before = ap (λ l. length (entries_of l)) now_at ∙ ap (λ v. length (entries_of (s.done ++ (next.first.0, v) ∷ next.back))) was_is ∙ length_with was
 
-      pub step : (went : Bool) (gone' : ℕ) → went ≡ (is_some was.value && not (is_some w.value)) → gone' ≡ gone + one_if went → rank_or_most order w.value < 2 ^ 64
-          → Sifted old (set_value_at now index w) (index + 1) gone' (min least (rank_or_most order w.value))
-      step went gone' went_is gone_is fits = record {
+      -- where the values end then
+      ended : (end' : ℕ) → end' ≡ cond (is_some w.value) (index + 1) end → (entries_from end' (s.done ++ (next.first.0, w) ∷ []) ≡ []) × (end' ≤ index + 1)
+      ended end' is = by w.value refl is
+        where
+          item : Mac × Slot V
+          item = (next.first.0, w)
+
+          by : (r : Option V) → w.value ≡ r → end' ≡ cond (is_some r) (index + 1) end → (entries_from end' (s.done ++ item ∷ []) ≡ []) × (end' ≤ index + 1)
+          by (Some v) e is = (ap entries_of (drop_all end' (s.done ++ item ∷ []) (omega (arith, is, s.at, length-append s.done (item ∷ [])))), omega (arith, is))
+          by None e is = (
+            ap (λ k. entries_from k (s.done ++ item ∷ [])) is
+                ∙ ap entries_of (drop-append-le end s.done (item ∷ []) (omega (arith, s.end_le, s.at)))
+                ∙ entries-append (drop end s.done) (item ∷ [])
+                ∙ (λ k. s.ends k ++ (entry_at next.first.0 (e k) ++ [])),
+            omega (arith, is, s.end_le),
+          )
+
+      pub step : (went : Bool) (gone' end' : ℕ) → went ≡ (is_some was.value && not (is_some w.value)) → gone' ≡ gone + one_if went → end' ≡ cond (is_some w.value) (index + 1) end
+          → rank_or_most order w.value < 2 ^ 64 → Sifted old (set_value_at now index w) (index + 1) gone' (min least (rank_or_most order w.value)) end'
+      step went gone' end' went_is gone_is end_is fits = record {
         done = s.done ++ (next.first.0, w) ∷ [];
         rest = next.back;
         now_is = written ∙ sym (append_assoc s.done ((next.first.0, w) ∷ []) next.back);
@@ -179,14 +198,17 @@ module _ {V : Type 0} where
             ap (λ l. min l (rank_or_most order w.value)) s.ranked
             ∙ sym (least_rank-at order (entries_of s.done) next.first.0 w.value fits)
             ∙ ap (least_rank order) (sym done_entries);
+        ends = (ended end' end_is).0;
+        end_le = (ended end' end_is).1;
       }
 
       -- what went has no rank that counts
-      pub step_gone : (gone' : ℕ) → (is_some was.value && not (is_some w.value)) ≡ true → gone' ≡ gone + 1 → Sifted old (set_value_at now index w) (index + 1) gone' least
-      step_gone gone' went gone_is =
+      pub step_gone : (gone' end' : ℕ) → (is_some was.value && not (is_some w.value)) ≡ true → gone' ≡ gone + 1 → end' ≡ cond (is_some w.value) (index + 1) end
+          → Sifted old (set_value_at now index w) (index + 1) gone' least end'
+      step_gone gone' end' went gone_is end_is =
           let none : rank_or_most order w.value ≡ 18446744073709551615 = no_rank order (is_some was.value) w.value went in
           let same : min least (rank_or_most order w.value) ≡ least = omega (arith, none, s.ranked, least_rank_le order (entries_of s.done)) in
-          subst (Sifted old (set_value_at now index w) (index + 1) gone') same (step true gone' (sym went) gone_is (omega (arith, none)))
+          subst (λ l. Sifted old (set_value_at now index w) (index + 1) gone' l end') same (step true gone' end' (sym went) gone_is end_is (omega (arith, none)))
 
-    pub few : (old now : List (Mac × Slot V)) (index gone least : ℕ) → (s : Sifted old now index gone least) → gone ≤ length old
-    few old now index gone least s = omega (arith, s.counted, entries_le old)
+    pub few : (old now : List (Mac × Slot V)) (index gone least end : ℕ) → (s : Sifted old now index gone least end) → gone ≤ length old
+    few old now index gone least end s = omega (arith, s.counted, entries_le old)

@@ -1,12 +1,12 @@
 -- What a call leaves of the places of the map.
-use Rattle.std.specs.Prelude.{◌≡◌, ◌+◌, Bool, true, false, not, if◌then◌else◌, List, [], ◌∷◌, ◌++◌, length}
+use Rattle.std.specs.Prelude.{◌≡◌, ℕ, ◌+◌, ◌≤◌, Bool, true, false, not, if◌then◌else◌, List, [], ◌∷◌, ◌++◌, length}
 use Rattle.std.specs.List.{list_any}
 use Rattle.std.specs.Borrow.{MutBor}
 use Rattle.std.specs.Fn.{Once}
 use Rattle.sr_frame.specs.declared.fields.Mac.{Mac}
 use Rattle.sr_frame.specs.Addresses.{mac_eq}
 use Rattle.sr_slots.specs.declared.places.Slot.{Slot}
-use Rattle.sr_slots.specs.Places.{entries_of, held_of, KeepsHeld}
+use Rattle.sr_slots.specs.Places.{entries_of, held_of, entries_from, KeepsHeld}
 use Rattle.sr_slots.specs.Calls.{ChangesAt}
 
 -- a place is held for this address, and none was before or one was; the entries are the same, and so are the other held places
@@ -32,3 +32,26 @@ pub record ChangesPlace {F V R : Type 0} (g : Once F (MutBor V × Unit {0}) (R �
   pub held : length (held_of new) + (if was_held then 1 else 0) ≡ length (held_of old)
   pub others : KeepsHeld (held_of old) (held_of new) key
   pub used : list_any (mac_eq key) (held_of new) ≡ false
+
+-- the place that stood between these stands behind all values and before the places without one, at this index
+pub record Settles {V : Type 0} (front : List (Mac × Slot V)) (place : Mac × Slot V) (back new : List (Mac × Slot V)) (at : ℕ) : Type 0 where
+  pub before : List (Mac × Slot V)
+  pub behind : List (Mac × Slot V)
+  pub is : new ≡ before ++ place ∷ behind
+  pub at_is : length before ≡ at
+  pub entries : entries_of before ≡ entries_of (front ++ back)
+  pub empty : entries_of behind ≡ []
+  pub len : length (held_of (before ++ behind)) ≡ length (held_of (front ++ back))
+  pub held : (m : Mac) → list_any (mac_eq m) (held_of (before ++ behind)) ≡ list_any (mac_eq m) (held_of (front ++ back))
+
+-- the address has a place, at this index; nothing that shows is another than before
+pub record HasPlace {V : Type 0} (key : Mac) (old new : List (Mac × Slot V)) (index : ℕ) : Type 0 where
+  pub front : List (Mac × Slot V)
+  pub slot : Slot V
+  pub back : List (Mac × Slot V)
+  pub is : new ≡ front ++ (key, slot) ∷ back
+  pub at : length front ≡ index
+  pub entries : entries_of new ≡ entries_of old
+  pub held : held_of new ≡ held_of old
+  pub from : (n : ℕ) → entries_from n new ≡ entries_from n old
+  pub longer : length old ≤ length new

@@ -1,5 +1,5 @@
 -- What a table of addresses shows: its entries in order, and the addresses whose place is held.
-use Rattle.std.specs.Prelude.{◌≡◌, ◌-◌, Bool, true, false, List, [], ◌∷◌, ◌++◌, length, slice_get, ℕ, is_some, Option, None, Some}
+use Rattle.std.specs.Prelude.{◌≡◌, ◌-◌, Bool, true, false, List, [], ◌∷◌, ◌++◌, length, drop, slice_get, ℕ, is_some, Option, None, Some}
 use Rattle.std.specs.List.{list_any}
 use Rattle.std.specs.Map.{lookup, set_value, values_of}
 use Rattle.indexmap.specs.IndexMap.{set_value_at}
@@ -60,6 +60,10 @@ pub record StandsAt {X : Type 0} (key : Mac) (es : List (Mac × X)) (index : ℕ
   pub there : is_some (lookup (mac_eq key) es) ≡ true
   pub look : slice_get (values_of es) index ≡ lookup (mac_eq key) es
   pub write : (w : X) → set_value_at es index w ≡ set_value (mac_eq key) es w
+
+-- what the places from this one on show of values
+abbrev pub entries_from : {V : Type 0} → ℕ → List (Mac × Slot V) → List (Mac × V)
+entries_from index es = entries_of (drop index es)
 
 abbrev pub slot_of : {V : Type 0} → Option V → Bool → Slot V
 slot_of value held = record { value = value; held = held }

@@ -10,16 +10,16 @@ ghost use Rattle.sr_slots.specs.Calls.{ChangesAt, least_rank, shown_entry};
 
 use crate::entries::Iter;
 use crate::keys::Keys;
-use crate::places;
 use crate::places::Slot;
 use crate::ranked::Ranked;
+use crate::{holding, places, putting, sifting};
 use indexmap::IndexMap;
 use sr_frame::{Mac, NoMemory};
 use std::alloc::Global;
 use std::marker::Model;
 
 /// Where an address was found in a table. It may have moved since, or gone: who looks there compares the address first.
-#[derive(Clone, Copy, Debug)]
+#[derive(Clone, Copy, PartialEq, Eq, Debug)]
 pub struct Spot {
     index: usize,
 }
@@ -32,11 +32,14 @@ pub struct Slots<V: Drop + Ranked> {
     alloc: Global,
     count: usize,
     held: usize,
+    // No place from this index on has a value.
+    end: usize,
 }
 
 impl<V: Drop + Ranked> Model for Slots<V> {
     ghost use Rattle.std.specs.Prelude.{◌≡◌, length};
-    ghost use Rattle.sr_slots.specs.Places.{Places, entries_of, held_of};
+    ghost use Rattle.std.specs.Prelude.{[]};
+    ghost use Rattle.sr_slots.specs.Places.{Places, entries_of, entries_from, held_of};
 
     ghost Value = { Places V };
 
@@ -44,7 +47,8 @@ impl<V: Drop + Ranked> Model for Slots<V> {
         record { entries = entries_of s.map.entries; held = held_of s.map.entries } };
 
     ghost invariant = { λ s.
-        (s.count ≡ length (entries_of s.map.entries)) × (s.held ≡ length (held_of s.map.entries)) };
+        (s.count ≡ length (entries_of s.map.entries)) × (s.held ≡ length (held_of s.map.entries))
+        × (entries_from s.end s.map.entries ≡ []) };
 }
 
 impl<V: Drop + Ranked> Slots<V> {
@@ -66,6 +70,7 @@ impl<V: Drop + Ranked> Slots<V> {
             alloc,
             count: 0,
             held: 0,
+            end: 0,
         }
     }
 
@@ -154,10 +159,12 @@ impl<V: Drop + Ranked> Slots<V> {
         ensures reserved { is_held self.old key ≡ true → IsOk result }
         ensures err { OnErr result (self.new ≡ self.old) }
     {
-        if places::put_last(&mut self.map, self.alloc, key, value)? {
+        let put = putting::put_last(&mut self.map, self.alloc, self.end, key, value)?;
+        if put.was_held {
             self.held -= 1;
         }
         self.count += 1;
+        self.end = put.end;
         Ok(())
     }
 
@@ -210,7 +217,7 @@ impl<V: Drop + Ranked> Slots<V> {
         ensures newly { IfOk result (λ newly. newly ≡ not (is_held self.old key)) }
         ensures err { OnErr result (self.new ≡ self.old) }
     {
-        let newly = places::hold(&mut self.map, self.alloc, key)?;
+        let newly = holding::hold(&mut self.map, self.alloc, self.end, key)?;
         if newly {
             self.held += 1;
         }
@@ -223,7 +230,7 @@ impl<V: Drop + Ranked> Slots<V> {
         ensures held { is_held self.new key ≡ false }
         ensures others { KeepsHeld self.old.held self.new.held key }
     {
-        if places::give_up(&mut self.map, key) {
+        if holding::give_up(&mut self.map, key) {
             self.held -= 1;
         }
     }
@@ -246,12 +253,13 @@ impl<V: Drop + Ranked> Slots<V> {
         ensures entries { self.new.entries ≡ self.old.entries }
         ensures held { self.new.held ≡ [] }
     {
-        while self.held > 0 && places::pop_held(&mut self.map) {
+        while self.held > 0 && holding::pop_held(&mut self.map) {
             self.held -= 1;
         }
         if self.held > 0 {
-            places::release(&mut self.map);
+            holding::release(&mut self.map);
             self.held = 0;
+            self.end = self.map.len();
         }
     }
 
@@ -263,8 +271,9 @@ impl<V: Drop + Ranked> Slots<V> {
         ensures held { self.new.held ≡ self.old.held }
         ensures least { result ≡ least_rank V.rank_of self.new.entries }
     {
-        let sifted = places::sift(&mut self.map, limit);
+        let sifted = sifting::sift(&mut self.map, limit);
         self.count -= sifted.gone;
+        self.end = sifted.end;
         sifted.least
     }
 
@@ -272,20 +281,18 @@ impl<V: Drop + Ranked> Slots<V> {
     pub fn least_rank(&self) -> u64
         ensures { result ≡ least_rank V.rank_of self.now.entries }
     {
-        places::least_rank(&self.map)
+        sifting::least_rank(&self.map)
     }
 
-    /// Lets the places go that have no value and are not held, where there are `least` of them or more. Nothing that shows changes.
-    pub fn sweep(&mut self, least: usize)
+    /// Lets the places go that have no value and are not held, where `least` places without a value stand before one that has one, or
+    /// where there are `most` places or more. Nothing that shows changes.
+    pub fn sweep(&mut self, least: usize, most: usize)
         ensures { self.new ≡ self.old }
     {
-        let empty = self
-            .map
-            .len()
-            .saturating_sub(self.count)
-            .saturating_sub(self.held);
-        if empty >= least {
-            places::sweep(&mut self.map);
+        let between = self.end.saturating_sub(self.count);
+        if between >= least || self.map.len() >= most {
+            sifting::sweep(&mut self.map);
+            self.end = self.map.len();
         }
     }
 }

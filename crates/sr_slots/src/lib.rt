@@ -3,10 +3,13 @@
 
 mod by_address;
 mod entries;
+mod holding;
 mod keys;
 mod places;
+mod putting;
 mod ranked;
 mod room;
+mod sifting;
 
 pub use by_address::{Slots, Spot};
 pub use entries::Iter;

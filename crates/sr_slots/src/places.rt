@@ -1,22 +1,17 @@
 //! The map behind a table. A held place is an entry that may have no value.
-ghost use Rattle.std.specs.Prelude.{◌≡◌, ◌+◌, ◌^◌, ◌<◌, ◌≤◌, ◌++◌, ◌∷◌, ◌||◌, ◌&&◌, [], None, Some, true, false, not, Bool, is_some, length, filter, nat_le, IsOk, OnOk, OnErr, IfOk, IfSome, IfNone, if◌then◌else◌};
-ghost use Rattle.std.specs.List.{list_any};
+ghost use Rattle.std.specs.Prelude.{◌≡◌, ◌+◌, ◌&&◌, [], ℕ, None, Some, true, false, not, is_some, length, slice_get, IfSome, IfNone};
 ghost use Rattle.std.specs.Map.{lookup};
 ghost use Rattle.std.specs.Fn.{FnOnceReturnsAtMut};
 ghost use Rattle.std.specs.Option.{option_copied, option_map};
-ghost use Rattle.indexmap.specs.IndexMap.{values};
 ghost use Rattle.sr_frame.specs.Addresses.{mac_eq};
-ghost use Rattle.sr_slots.specs.Places.{entries_of, held_of, slot_of, IsLast, StandsAt, KeepsHeld};
-ghost use Rattle.sr_slots.specs.Effects.{HoldsPlace, PutsLast, ChangesPlace};
-ghost use Rattle.sr_slots.specs.Calls.{least_rank, passing};
+ghost use Rattle.sr_slots.specs.Places.{entries_of, slot_of, StandsAt, entries_from};
+ghost use Rattle.sr_slots.specs.Effects.{ChangesPlace};
 
 use crate::keys::Keys;
 use crate::ranked::Ranked;
 use crate::room::Room;
 use indexmap::IndexMap;
-use indexmap::map::Entry;
 use sr_frame::{Mac, NoMemory};
-use std::alloc::Global;
 
 /// A place: its value, if there is one, and whether it is held.
 #[derive(Drop)]
@@ -47,10 +42,16 @@ pub fn find<V: Drop + Ranked>(map: &IndexMap<Mac, Slot<V>, Keys>, key: Mac) -> O
     Some((index, slot.value.get()?))
 }
 
-// Whether the place of an address is at this index.
+/// Whether the place of an address is at this index.
 #[inline(always)]
-fn stands_at<V: Drop + Ranked>(map: &IndexMap<Mac, Slot<V>, Keys>, index: usize, key: Mac) -> bool
-    ensures { result ≡ true → StandsAt key map.now.entries index }
+pub fn stands_at<V: Drop + Ranked>(
+    map: &IndexMap<Mac, Slot<V>, Keys>,
+    index: usize,
+    key: Mac,
+) -> bool
+    ensures place { result ≡ true → (slot : Slot V)
+        × (slice_get map.now.entries index ≡ Some (key, slot)) }
+    ensures at { result ≡ true → StandsAt key map.now.entries index }
 {
     let _places = map.len();
     match map.get_index(index) {
@@ -145,117 +146,14 @@ pub fn change_at<V: Drop + Ranked, R, F: FnOnce(&mut V) -> R>(
     ensures found { is_some result ≡ is_some (lookup (mac_eq key) (entries_of map.old.entries)) }
     ensures some { IfSome result (λ r.
         ChangesPlace F.FnOnce change key r.0 r.1 map.old.entries map.new.entries) }
+    ensures from { IfSome result (λ r. (n : ℕ)
+        → entries_from n map.old.entries ≡ [] → entries_from n map.new.entries ≡ []) }
     ensures none { IfNone result (map.new.entries ≡ map.old.entries) }
 {
     let _places = map.len();
     let index = index_of(map, first, key)?;
     let slot = map.get_index_mut(index)?;
     change_in(slot, change)
-}
-
-// Puts a value into a place, and answers whether that was held.
-fn fill<V: Drop + Ranked>(slot: &mut Slot<V>, value: V) -> bool
-    ensures slot { slot.new ≡ slot_of (Some value) false }
-    ensures held { result ≡ slot.old.held }
-{
-    slot.value.put(value);
-    let was_held = slot.held;
-    slot.held = false;
-    was_held
-}
-
-// A new place with a value.
-fn filled<V: Drop + Ranked>(alloc: Global, value: V) -> Result<Slot<V>, NoMemory>
-    ensures { IfOk result (λ slot. slot ≡ slot_of (Some value) false) }
-{
-    let mut room = Room::new(alloc)?;
-    room.put(value);
-    Ok(Slot {
-        value: room,
-        held: false,
-    })
-}
-
-/// Gives an address without a value one. It goes last. Answers whether a held place was used up.
-pub fn put_last<V: Drop + Ranked>(
-    map: &mut IndexMap<Mac, Slot<V>, Keys>,
-    alloc: Global,
-    key: Mac,
-    value: V,
-) -> Result<bool, NoMemory>
-    requires { lookup (mac_eq key) (entries_of map.old.entries) ≡ None }
-    ensures put { IfOk result (λ was_held.
-        PutsLast key value was_held map.old.entries map.new.entries) }
-    ensures reserved { list_any (mac_eq key) (held_of map.old.entries) ≡ true → IsOk result }
-    ensures fits { length (entries_of map.old.entries) < 2 ^ 63 }
-    ensures err { OnErr result (map.new.entries ≡ map.old.entries) }
-{
-    let places = map.len();
-    let Ok(entry) = map.entry(key) else {
-        return Err(NoMemory);
-    };
-    match entry {
-        Entry::Occupied(mut entry) => {
-            let was_held = fill(entry.get_mut(), value);
-            entry.move_index(places - 1);
-            Ok(was_held)
-        }
-        Entry::Vacant(entry) => {
-            entry.insert(filled(alloc, value)?);
-            Ok(false)
-        }
-    }
-}
-
-/// Holds a place for an address. Answers whether it was not held before.
-pub fn hold<V: Drop + Ranked>(
-    map: &mut IndexMap<Mac, Slot<V>, Keys>,
-    alloc: Global,
-    key: Mac,
-) -> Result<bool, NoMemory>
-    ensures held { IfOk result (λ newly. HoldsPlace key newly map.old.entries map.new.entries) }
-    ensures again { list_any (mac_eq key) (held_of map.old.entries) ≡ true → IsOk result }
-    ensures fits { length (held_of map.old.entries) < 2 ^ 63 }
-    ensures err { OnErr result (map.new.entries ≡ map.old.entries) }
-{
-    // The length is the bound of the places.
-    let _places = map.len();
-    let Ok(entry) = map.entry(key) else {
-        return Err(NoMemory);
-    };
-    match entry {
-        Entry::Occupied(entry) => {
-            let slot = entry.into_mut();
-            let newly = !slot.held;
-            slot.held = true;
-            Ok(newly)
-        }
-        Entry::Vacant(entry) => {
-            let value = Room::new(alloc)?;
-            entry.insert(Slot { value, held: true });
-            Ok(true)
-        }
-    }
-}
-
-/// Gives up the held place of an address. Answers whether there was one.
-pub fn give_up<V: Drop + Ranked>(map: &mut IndexMap<Mac, Slot<V>, Keys>, key: Mac) -> bool
-    ensures entries { entries_of map.new.entries ≡ entries_of map.old.entries }
-    ensures held { list_any (mac_eq key) (held_of map.new.entries) ≡ false }
-    ensures len { length (held_of map.new.entries) + (if result then 1 else 0)
-        ≡ length (held_of map.old.entries) }
-    ensures others { KeepsHeld (held_of map.old.entries) (held_of map.new.entries) key }
-{
-    // The length says that no two addresses are equal.
-    let _places = map.len();
-    match map.get_mut(&key) {
-        Some(slot) => {
-            let was_held = slot.held;
-            slot.held = false;
-            was_held
-        }
-        None => false,
-    }
 }
 
 /// Makes room for so many more places in one growth. No place changes.
@@ -267,109 +165,4 @@ pub fn reserve<V: Drop + Ranked>(
 {
     map.reserve(more)?;
     Ok(())
-}
-
-// Whether the last place is held and has no value.
-fn ends_held<V: Drop + Ranked>(map: &IndexMap<Mac, Slot<V>, Keys>) -> bool
-    ensures { result ≡ true → IsLast (slot_of None true) map.now.entries }
-{
-    match map.last() {
-        Some((_, slot)) => slot.held && slot.value.get().is_none(),
-        None => false,
-    }
-}
-
-/// Takes the last place out if it is held and has no value. Answers whether it was so.
-pub fn pop_held<V: Drop + Ranked>(map: &mut IndexMap<Mac, Slot<V>, Keys>) -> bool
-    ensures entries { entries_of map.new.entries ≡ entries_of map.old.entries }
-    ensures held { length (held_of map.new.entries) + (if result then 1 else 0)
-        ≡ length (held_of map.old.entries) }
-{
-    ends_held(map) && map.pop().is_some()
-}
-
-/// Gives up all held places.
-pub fn release<V: Drop + Ranked>(map: &mut IndexMap<Mac, Slot<V>, Keys>)
-    ensures entries { entries_of map.new.entries ≡ entries_of map.old.entries }
-    ensures held { held_of map.new.entries ≡ [] }
-{
-    map.retain(
-        |_key: &Mac, slot: &mut Slot<V>| -> bool
-            ensures { (slot.new ≡ slot_of slot.old.value false)
-                × (result ≡ is_some slot.old.value) }
-        {
-            slot.held = false;
-            slot.value.get().is_some()
-        },
-    );
-}
-
-// Takes the value of a place out if its rank is below the limit. Answers whether it went.
-fn sift_at<V: Drop + Ranked>(slot: &mut Slot<V>, limit: u64) -> bool
-    ensures held { slot.new.held ≡ slot.old.held }
-    ensures kept { slot.new.value ≡ passing (λ v. nat_le limit (V.rank_of v)) slot.old.value }
-    ensures gone { result ≡ (is_some slot.old.value && not (is_some slot.new.value)) }
-{
-    slot.value.clear_below(limit)
-}
-
-/// How many values went, and the least rank among those that are left.
-#[derive(Clone, Copy)]
-pub struct Sifted {
-    pub gone: usize,
-    pub least: u64,
-}
-
-/// Takes the values out whose rank is below the limit, and moves nothing. Held places stay held.
-pub fn sift<V: Drop + Ranked>(map: &mut IndexMap<Mac, Slot<V>, Keys>, limit: u64) -> Sifted
-    ensures kept { entries_of map.new.entries
-        ≡ filter (λ e. nat_le limit (V.rank_of e.1)) (entries_of map.old.entries) }
-    ensures held { held_of map.new.entries ≡ held_of map.old.entries }
-    ensures gone { result.gone + length (entries_of map.new.entries)
-        ≡ length (entries_of map.old.entries) }
-    ensures least { result.least ≡ least_rank V.rank_of (entries_of map.new.entries) }
-{
-    // The length is the bound of the places.
-    let _places = map.len();
-    let mut sifted = Sifted {
-        gone: 0,
-        least: u64::MAX,
-    };
-    let mut index = 0;
-    while let Some(slot) = map.get_index_mut(index) {
-        let went = sift_at(slot, limit);
-        let rank = slot.value.rank_or_most();
-        if went {
-            sifted.gone += 1;
-        } else {
-            sifted.least = sifted.least.min(rank);
-        }
-        index += 1;
-    }
-    sifted
-}
-
-/// The least rank of a value, or the greatest number where there is none.
-pub fn least_rank<V: Drop + Ranked>(map: &IndexMap<Mac, Slot<V>, Keys>) -> u64
-    ensures { result ≡ least_rank V.rank_of (entries_of map.now.entries) }
-{
-    let mut least = u64::MAX;
-    for (_, slot) in map.iter() {
-        least = least.min(slot.value.rank_or_most());
-    }
-    least
-}
-
-/// Takes the places out that have no value and are not held.
-pub fn sweep<V: Drop + Ranked>(map: &mut IndexMap<Mac, Slot<V>, Keys>)
-    ensures entries { entries_of map.new.entries ≡ entries_of map.old.entries }
-    ensures held { held_of map.new.entries ≡ held_of map.old.entries }
-    ensures swept { length map.new.entries
-        ≤ length (entries_of map.new.entries) + length (held_of map.new.entries) }
-{
-    map.retain(
-        |_key: &Mac, slot: &mut Slot<V>| -> bool
-            ensures { (slot.new ≡ slot.old) × (result ≡ (slot.old.held || is_some slot.old.value)) }
-        { slot.held || slot.value.get().is_some() },
-    );
 }

@@ -32,8 +32,8 @@ enum Step {
     Set(u8, u8, u32, bool),
     /// The values below this one go, and this is the least of those that are left.
     Sift(u64, u64),
-    /// The empty places go where they are this many or more, and so many places are left.
-    Sweep(usize, usize),
+    /// The empty places go where so many stand before a value, or where there are so many places; and so many places are left.
+    Sweep(usize, usize, usize),
     /// The last octets of the addresses that have a value, in order, as the digits of one number; and the sum of the values.
     Shows(u32, u32),
 }
@@ -124,18 +124,51 @@ const ROOM_SHOWS_NOWHERE: [Step; 11] = [
     Step::Set(1, 1, 11, true),
 ];
 
-// What goes leaves its place until there are as many as are asked for; then it goes too, and held places stay.
-const EMPTY_PLACES_GO: [Step; 10] = [
+// What goes leaves its place until so many empty ones stand before a value, or until there are so many places; then it goes too, and
+// held places stay.
+const EMPTY_PLACES_GO: [Step; 11] = [
     Step::Add(1, 10),
     Step::Add(2, 20),
     Step::Hold(3),
     Step::Hold(1),
     Step::Add(4, 12),
     Step::Sift(15, 20),
-    Step::Sweep(2, 4),
-    Step::Sweep(1, 3),
-    Step::Sweep(0, 3),
+    Step::Sweep(2, 5, 4),
+    Step::Sweep(1, 5, 3),
+    Step::Sweep(2, 3, 3),
+    Step::Sweep(0, 0, 3),
     Step::Shows(2, 20),
+];
+
+// Empty places behind all values stay until there are too many.
+const EMPTY_PLACES_BEHIND_STAY: [Step; 7] = [
+    Step::Add(1, 20),
+    Step::Add(2, 10),
+    Step::Add(3, 10),
+    Step::Sift(15, 20),
+    Step::Sweep(1, 4, 3),
+    Step::Sweep(1, 3, 1),
+    Step::Shows(1, 20),
+];
+
+// What comes back goes last, wherever its place is: among values, or behind them in any order.
+const WHAT_COMES_BACK_GOES_LAST: [Step; 16] = [
+    Step::Add(1, 10),
+    Step::Add(2, 20),
+    Step::Add(3, 11),
+    Step::Add(4, 21),
+    Step::Add(5, 12),
+    Step::Add(6, 13),
+    Step::Sift(15, 20),
+    Step::Add(1, 31),
+    Step::Shows(241, 72),
+    Step::Add(6, 36),
+    Step::Add(7, 37),
+    Step::Add(5, 35),
+    Step::Shows(241_675, 180),
+    Step::Sift(35, 35),
+    Step::Add(2, 40),
+    Step::Shows(6752, 148),
 ];
 
 // Where memory runs out the table is as it was, and the call is repeated.
@@ -194,11 +227,11 @@ fn obeys(slots: &mut Slots<u32>, step: Step) -> bool {
         Step::Reserve(more, there) => reserve(slots, more) == there,
         Step::Set(last, at, value, there) => set(slots, last, at, value) == there,
         Step::Sift(limit, least) => {
-            slots.sweep(2);
+            slots.sweep(2, 3);
             slots.sift(limit) == least && slots.least_rank() == least
         }
-        Step::Sweep(least, left) => {
-            slots.sweep(least);
+        Step::Sweep(least, most, left) => {
+            slots.sweep(least, most);
             slots.map().len() == left
         }
         Step::Shows(order, sum) => shows(slots, order, sum),
@@ -239,6 +272,16 @@ fn room_shows_nowhere(rt: HostRuntime) {
 #[test]
 fn empty_places_go(rt: HostRuntime) {
     assert!(rt; first_wrong(rt.alloc(), EMPTY_PLACES_GO.as_slice()).is_none());
+}
+
+#[test]
+fn empty_places_behind_stay(rt: HostRuntime) {
+    assert!(rt; first_wrong(rt.alloc(), EMPTY_PLACES_BEHIND_STAY.as_slice()).is_none());
+}
+
+#[test]
+fn what_comes_back_goes_last(rt: HostRuntime) {
+    assert!(rt; first_wrong(rt.alloc(), WHAT_COMES_BACK_GOES_LAST.as_slice()).is_none());
 }
 
 // How many of 100 addresses stand in a table under these keys, with as many places held between them.

@@ -5,6 +5,7 @@ mod ages;
 mod duplicates;
 mod joins;
 mod nodes;
+mod places;
 mod proxied;
 mod records;
 mod slow_record;

@@ -1,5 +1,6 @@
 use Rattle.std.proofs.Common.{◌∙◌, sym, ap, is_some}
 use Rattle.sr_slots.proofs.PlaceLemmas.{lookup-entries, value_in, none_from, change_found, change_none, change_some}
+use Rattle.sr_slots.proofs.FromLemmas.{change_from}
 use Rattle.sr_slots.proofs.places.change_at.Goals as goal
 
 pub returns-in_err-index-clause-found : goal.returns-in_err-index-clause-found
@@ -59,4 +60,19 @@ returns-clause-none g c =
     (c.in_ok-index.ensures.at.write c.change_in.new.slot)
     c.change_in.result
     c.change_in.ensures.none
+    c.change_in.ensures.some
+
+pub returns-clause-from : goal.returns-clause-from
+returns-clause-from g c =
+    change_from
+    _
+    c.args.change
+    c.args.key
+    c.in_ok-slot.slot.now
+    c.change_in.new.slot
+    c.args.map.now.entries
+    _
+    (sym c.in_ok-index.ensures.at.look ∙ sym c.in_ok-slot.ensures.value)
+    (c.in_ok-index.ensures.at.write c.change_in.new.slot)
+    c.change_in.result
     c.change_in.ensures.some

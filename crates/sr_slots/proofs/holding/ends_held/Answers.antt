@@ -1,6 +1,6 @@
 use Rattle.std.proofs.Common.{◌≡◌, ◌∙◌, sym, ap, Some, is_some, false, not}
 use Rattle.sr_slots.proofs.PlaceLemmas.{copied_some, held_empty}
-use Rattle.sr_slots.proofs.places.ends_held.Goals as goal
+use Rattle.sr_slots.proofs.holding.ends_held.Goals as goal
 
 pub returns-then-slot : goal.returns-then-slot
 returns-then-slot g c e =

@@ -1,5 +1,5 @@
 use Rattle.std.proofs.Common.{rules}
-use Rattle.sr_slots.proofs.places.fill.Goals as goal
+use Rattle.sr_slots.proofs.putting.fill.Goals as goal
 
 pub returns-clause-slot : goal.returns-clause-slot
 returns-clause-slot g c = search rules

@@ -1,7 +1,7 @@
 use Rattle.std.proofs.Common.{◌≡◌, ◌≤◌, min}
 use Rattle.sr_slots.specs.Places.{entries_of}
 use Rattle.sr_slots.specs.Calls.{least_rank}
-use Rattle.sr_slots.proofs.places.least_rank.Given as goal
+use Rattle.sr_slots.proofs.sifting.least_rank.Given as goal
 
 -- the least so far and the least of the rest are together the least
 abbrev pub invariant-loop-slot : goal.invariant-loop-slot

@@ -2,7 +2,7 @@ use Rattle.std.proofs.Common.{arith, ap, ◌∙◌, rules}
 use Rattle.sr_slots.specs.Calls.{least_rank}
 use Rattle.sr_slots.specs.Places.{entries_of}
 use Rattle.sr_slots.specs.EntryLemmas.{least_rank_le}
-use Rattle.sr_slots.proofs.places.least_rank.Goals as goal
+use Rattle.sr_slots.proofs.sifting.least_rank.Goals as goal
 
 pub loop-slot-init : goal.loop-slot-init
 loop-slot-init g c =

@@ -2,10 +2,11 @@ use Rattle.std.proofs.Common.{◌≡◌, ◌∙◌, sym, ap, refl, None, false, 
 use Rattle.std.specs.List.{list_any}
 use Rattle.std.specs.Map.{lookup}
 use Rattle.sr_frame.specs.Addresses.{mac_eq}
-use Rattle.sr_slots.specs.Places.{entries_of, held_of, slot_of}
+use Rattle.sr_slots.specs.Places.{entries_of, entries_from, held_of, slot_of}
 use Rattle.sr_slots.specs.EntryLemmas.{one_if}
 use Rattle.sr_slots.proofs.PlaceLemmas.{entries-set_same, length-held-set, held-set_others, held-set_free, held_absent, value_in}
-use Rattle.sr_slots.proofs.places.give_up.Goals as goal
+use Rattle.sr_slots.proofs.FromLemmas.{from-set_same}
+use Rattle.sr_slots.proofs.holding.give_up.Goals as goal
 
 pub returns-in-Some-clause-entries : goal.returns-in-Some-clause-entries
 returns-in-Some-clause-entries g c =
@@ -36,3 +37,9 @@ pub returns-in-None-clause-held : goal.returns-in-None-clause-held
 returns-in-None-clause-held g c =
     let absent : lookup (mac_eq c.args.key) c.args.map.now.entries ≡ None = sym c.in-None.ensures.value in
     grind (arith, held_absent c.args.key c.args.map.now.entries absent, c.get_mut.follows.holds-at-none)
+
+pub returns-in-Some-clause-from : goal.returns-in-Some-clause-from
+returns-in-Some-clause-from g c n =
+    let was = c.in-Some.slot.now in
+    ap (entries_from n) (c.get_mut.follows.holds (slot_of was.value false)).0
+    ∙ from-set_same c.args.key was.value false c.args.map.now.entries n (ap value_in (sym c.in-Some.ensures.value))

@@ -1,6 +1,6 @@
 use Rattle.std.proofs.Common.{rules}
 use Rattle.sr_slots.proofs.PlaceLemmas.{release_entries, release_held}
-use Rattle.sr_slots.proofs.places.release.Goals as goal
+use Rattle.sr_slots.proofs.holding.release.Goals as goal
 
 pub returns-clause-entries : goal.returns-clause-entries
 returns-clause-entries g c = release_entries _ _ (λ k v b w g call. search rules) _ _ c.retain.ensures.filtered
