@@ -25,4 +25,5 @@ pub record TellsWhatIsKept (all : List nodes.Event) (t : State) : Type 0 where
 -- in every run, of what happened to the table in its turns
 abbrev pub AlarmsAreOfWhatCameIn : Type 0
 AlarmsAreOfWhatCameIn =
-    (start : Start) (turns : List Turn) (t : State) → Run start turns t → (all : List nodes.Event) × HappenIn turns all × TellsWhatIsKept all t
+    (start : Start) (turns : List Turn) (t : State) → Run start turns t →
+    (all : List nodes.Event) × HappenIn turns all × TellsWhatIsKept all t

@@ -11,7 +11,7 @@ use Rattle.sr_frame.specs.declared.fields.Mac.{Mac}
 use Rattle.sr_frame.specs.Addresses.{mac_eq}
 use Rattle.sr_slots.specs.declared.places.Slot.{Slot}
 use Rattle.sr_slots.specs.Places.{entry_at, held_at, entries_of, held_of, slot_of, entries_from}
-use Rattle.sr_slots.specs.Effects.{HasPlace, Settles, PutsLast}
+use Rattle.sr_slots.specs.Effects.{GetsPlace, Settles, PutsLast}
 use Rattle.sr_slots.specs.EntryLemmas.{one_if, head_differs}
 use Rattle.sr_slots.proofs.PlaceLemmas.{entries-append, held-append, item_at, without_item, split, place, insert-absent, added_entries, added_held, any_held, length-held_at, held_absent, found_value, absent_after_split}
 use Rattle.sr_slots.proofs.SiftLemmas.{value_there, write_there}
@@ -202,7 +202,7 @@ module _ {V : Type 0} where
 
 module _ {V : Type 0} where
   -- the place of an address that was found at an index
-  place_at : (m : Mac) (s : Slot V) (es : List (Mac × Slot V)) (i : ℕ) → slice_get es i ≡ Some (m, s) → HasPlace m es es i
+  place_at : (m : Mac) (s : Slot V) (es : List (Mac × Slot V)) (i : ℕ) → slice_get es i ≡ Some (m, s) → GetsPlace m es es i
   place_at m s [] i h = cc
   place_at m s (e ∷ es) zero h =
       let v : e ≡ (m, s) = cc in
@@ -221,14 +221,14 @@ module _ {V : Type 0} where
         longer = omega arith;
       }
 
-  pub place_there : (m : Mac) (es : List (Mac × Slot V)) (i : ℕ) → (s : Slot V) × (slice_get es i ≡ Some (m, s)) → HasPlace m es es i
+  pub place_there : (m : Mac) (es : List (Mac × Slot V)) (i : ℕ) → (s : Slot V) × (slice_get es i ≡ Some (m, s)) → GetsPlace m es es i
   place_there m es i h = place_at m h.0 es i h.1
 
   -- or by a look-up
-  pub place_found : (m : Mac) (es : List (Mac × Slot V)) (i : ℕ) → Some i ≡ position (mac_eq m) (keys_of es) → true ≡ is_some (lookup (mac_eq m) es) → HasPlace m es es i
+  pub place_found : (m : Mac) (es : List (Mac × Slot V)) (i : ℕ) → Some i ≡ position (mac_eq m) (keys_of es) → true ≡ is_some (lookup (mac_eq m) es) → GetsPlace m es es i
   place_found m es i is found = by (lookup (mac_eq m) es) refl (sym found)
     where
-      by : (o : Option (Slot V)) → lookup (mac_eq m) es ≡ o → is_some o ≡ true → HasPlace m es es i
+      by : (o : Option (Slot V)) → lookup (mac_eq m) es ≡ o → is_some o ≡ true → GetsPlace m es es i
       by None o f = cc
       by (Some s) o f =
           let r = split m s es o in
@@ -245,7 +245,7 @@ module _ {V : Type 0} where
           }
 
   -- one that is made
-  pub place_made : (m : Mac) (es new : List (Mac × Slot V)) (i : ℕ) → lookup (mac_eq m) es ≡ None → new ≡ insert_entry mac_eq es m (slot_of None false) → length es ≡ i → HasPlace m es new i
+  pub place_made : (m : Mac) (es new : List (Mac × Slot V)) (i : ℕ) → lookup (mac_eq m) es ≡ None → new ≡ insert_entry mac_eq es m (slot_of None false) → length es ≡ i → GetsPlace m es new i
   place_made m es new i absent new_is at =
       let is : new ≡ es ++ (m, slot_of None false) ∷ [] = new_is ∙ insert-absent m (slot_of None false) es absent in
       record {
@@ -286,7 +286,7 @@ module _ {V : Type 0} where
       apart k [] h = h.0
       apart k (x ∷ front) h = apart k front h.1
 
-  module _ (m : Mac) (w : V) (old es brought new : List (Mac × Slot V)) (index at : ℕ) (p : HasPlace m old es index) (s : Settles p.front (m, p.slot) p.back brought at)
+  module _ (m : Mac) (w : V) (old es brought new : List (Mac × Slot V)) (index at : ℕ) (p : GetsPlace m old es index) (s : Settles p.front (m, p.slot) p.back brought at)
       (unique : IsDistinct mac_eq (keys_of es)) (absent : lookup (mac_eq m) (entries_of old) ≡ None) (new_is : new ≡ set_value_at brought at (slot_of (Some w) false)) where
     filled : new ≡ s.before ++ (m, slot_of (Some w) false) ∷ s.behind
     filled =

@@ -34,7 +34,8 @@ pub record ChangesPlace {F V R : Type 0} (g : Once F (MutBor V × Unit {0}) (R �
   pub used : list_any (mac_eq key) (held_of new) ≡ false
 
 -- the place that stood between these stands behind all values and before the places without one, at this index
-pub record Settles {V : Type 0} (front : List (Mac × Slot V)) (place : Mac × Slot V) (back new : List (Mac × Slot V)) (at : ℕ) : Type 0 where
+pub record Settles {V : Type 0} (front : List (Mac × Slot V)) (place : Mac × Slot V) (back new : List (Mac × Slot V)) (at : ℕ) :
+    Type 0 where
   pub before : List (Mac × Slot V)
   pub behind : List (Mac × Slot V)
   pub is : new ≡ before ++ place ∷ behind
@@ -45,7 +46,7 @@ pub record Settles {V : Type 0} (front : List (Mac × Slot V)) (place : Mac × S
   pub held : (m : Mac) → list_any (mac_eq m) (held_of (before ++ behind)) ≡ list_any (mac_eq m) (held_of (front ++ back))
 
 -- the address has a place, at this index; nothing that shows is another than before
-pub record HasPlace {V : Type 0} (key : Mac) (old new : List (Mac × Slot V)) (index : ℕ) : Type 0 where
+pub record GetsPlace {V : Type 0} (key : Mac) (old new : List (Mac × Slot V)) (index : ℕ) : Type 0 where
   pub front : List (Mac × Slot V)
   pub slot : Slot V
   pub back : List (Mac × Slot V)

@@ -5,7 +5,7 @@ ghost use Rattle.std.specs.Map.{lookup, values_of};
 ghost use Rattle.indexmap.specs.IndexMap.{values, set_value_at};
 ghost use Rattle.sr_frame.specs.Addresses.{mac_eq};
 ghost use Rattle.sr_slots.specs.Places.{entries_of, held_of, slot_of, entries_from};
-ghost use Rattle.sr_slots.specs.Effects.{PutsLast, HasPlace, Settles};
+ghost use Rattle.sr_slots.specs.Effects.{PutsLast, GetsPlace, Settles};
 
 use crate::keys::Keys;
 use crate::places::{Slot, stands_at};
@@ -37,8 +37,8 @@ fn settle<V: Drop + Ranked>(
     requires end { end ≤ length map.old.entries }
     requires behind { entries_from end map.old.entries ≡ [] }
     ensures bound { result ≤ end }
-    ensures settled { (front back : List (Mac × Slot V)) (place : Mac × Slot V) → length front ≡ index
-        → map.old.entries ≡ front ++ place ∷ back
+    ensures settled { (front back : List (Mac × Slot V)) (place : Mac × Slot V)
+        → length front ≡ index → map.old.entries ≡ front ++ place ∷ back
         → Settles front place back map.new.entries result }
 {
     if index < end {
@@ -58,7 +58,7 @@ fn place_for<V: Drop + Ranked>(
     first: usize,
     key: Mac,
 ) -> Result<usize, NoMemory>
-    ensures place { IfOk result (λ index. HasPlace key map.old.entries map.new.entries index) }
+    ensures place { IfOk result (λ index. GetsPlace key map.old.entries map.new.entries index) }
     ensures reserved { list_any (mac_eq key) (held_of map.old.entries) ≡ true → IsOk result }
     ensures err { OnErr result (map.new.entries ≡ map.old.entries) }
 {
