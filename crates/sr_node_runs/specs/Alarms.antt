@@ -15,7 +15,7 @@ use Rattle.sr_node_runs.specs.Heard.{HappenIn}
 
 -- What happened to the table of nodes came in the order of its times, up to the node's own. The node has the latest 64 of the alarms that
 -- it raised, the oldest first. It lists the addresses that are live, and tells of exactly these what their kept hearings say.
-pub record TellsWhatIsKept (all : List nodes.Event) (t : State) : Type 0 where
+pub record TellsOfKept (all : List nodes.Event) (t : State) : Type 0 where
   pub order : nodes.AreUpTo t.core.time all
   pub alarms : t.core.nodes.alarms ≡ keep_last most_alarms (raised_in all)
   pub listed : listed_at t.core.nodes t.core.time ≡ live_in all t.core.time
@@ -25,5 +25,4 @@ pub record TellsWhatIsKept (all : List nodes.Event) (t : State) : Type 0 where
 -- in every run, of what happened to the table in its turns
 abbrev pub AlarmsAreOfWhatCameIn : Type 0
 AlarmsAreOfWhatCameIn =
-    (start : Start) (turns : List Turn) (t : State) → Run start turns t →
-    (all : List nodes.Event) × HappenIn turns all × TellsWhatIsKept all t
+    (start : Start) (turns : List Turn) (t : State) → Run start turns t → (all : List nodes.Event) × HappenIn turns all × TellsOfKept all t

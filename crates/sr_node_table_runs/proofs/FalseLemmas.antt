@@ -14,9 +14,9 @@ use Rattle.sr_node_table.specs.declared.alarm.Alarm.TheVariants.{RingError, Node
 use Rattle.sr_node_table.specs.Nodes.{Hearing, answer_to}
 use Rattle.sr_node_table.specs.Stating.{has_at, listed_at}
 use Rattle.sr_node_table.specs.Hearings.{Event, Hears, Prunes, time_of, table_after, AreUpTo}
-use Rattle.sr_node_table_runs.specs.Kept.{is_live_by, others_live, kept_in}
+use Rattle.sr_node_table_runs.specs.Kept.{is_live_by, others_live, kept_in, kept_of}
 use Rattle.sr_node_table_runs.specs.Entered.{has_entry_in}
-use Rattle.sr_node_table_runs.specs.Lateness.{was_late_at_prune}
+use Rattle.sr_node_table_runs.specs.Lateness.{is_late, was_late_at_prune}
 use Rattle.sr_node_table_runs.specs.Raised.{raised_by, raised_in}
 use Rattle.sr_node_table_runs.specs.Examples.{first_node, second_node, renewed_node}
 use Rattle.sr_node_table_runs.specs.TableLaws.{FullWhereOthersAreLive, StatusIsOfKept, ListIsOfKept, EntryIsOfKept, AlarmsAreTheLatest, RingErrorsAreExact, NodeDownsAreExact}
@@ -55,6 +55,11 @@ no_prune_leaves_the_silent law events now mac up silent there = let e : true ≡
 pub no_port_is_told_of_again : RingErrorsAreExact → (e : Event) (events : List Event) (mac : Mac) (port : Port) (at : ℕ) → AreUpTo (time_of e) events → was_late_at_prune port mac events ≡ true
     → Contains (raised_by e events) (RingError mac port at) → ⊥
 no_port_is_told_of_again law e events mac port at up before told = let bad : true ≡ false = sym before ∙ ((law e events mac port at up).0 told).before in cc
+
+-- a port of which nothing is told as it falls behind
+pub no_late_port_goes_untold : RingErrorsAreExact → (events : List Event) (mac : Mac) (port : Port) (at : ℕ) → AreUpTo at events → is_late port (kept_of mac events) at ≡ true → was_late_at_prune port mac events ≡ false
+    → (Contains (raised_by (Prunes at) events) (RingError mac port at) → ⊥) → ⊥
+no_late_port_goes_untold law events mac port at up late before silent = silent ((law (Prunes at) events mac port at up).1 (record { prune = refl; late = late; before = before }))
 
 -- a port that is told of by a hearing
 pub no_hearing_tells_of_ports : RingErrorsAreExact → (h : Hearing) (events : List Event) (mac : Mac) (port : Port) (at : ℕ) → AreUpTo h.time events → Contains (raised_by (Hears h) events) (RingError mac port at) → ⊥

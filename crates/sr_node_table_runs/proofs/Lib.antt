@@ -10,3 +10,4 @@ pub mod LawLemmas
 pub mod ExactLemmas
 pub mod ExampleLemmas
 pub mod FalseLemmas
+pub mod FullExampleLemmas

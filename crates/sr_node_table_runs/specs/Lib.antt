@@ -4,3 +4,4 @@ pub mod Lateness
 pub mod Raised
 pub mod TableLaws
 pub mod Examples
+pub mod FullExample

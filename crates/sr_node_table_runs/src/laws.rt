@@ -1,6 +1,7 @@
 //! Laws over runs of the table: lists of hearings and prunes from the empty table on, in the order of their times.
 
 ghost use Rattle.sr_node_table_runs.specs.Examples.{AreWorkedOut};
+ghost use Rattle.sr_node_table_runs.specs.FullExample.{FullIsWorkedOut};
 ghost use Rattle.sr_node_table_runs.specs.TableLaws.{AlarmsAreTheLatest, AnswersAreOfKept, EachEventAddsItsAlarms, EntriesAreDistinct, EntriesAreOfKept, EntryIsOfKept, FullWhereOthersAreLive, HearingsAreKept, ListIsOfKept, NodeDownsAreExact, RingErrorsAreExact, StatusIsOfKept};
 
 use sr_node_table::status_is_of_hearings;
@@ -47,4 +48,10 @@ pub fn alarms_are_of_what_was_heard()
 /// a silence keeps its place, and no alarm is raised.
 pub fn two_runs_are_worked_out()
     ensures { AreWorkedOut }
+{}
+
+/// A full table worked out: 1024 nodes are heard at time 0. Another one is refused at 59999. At 60000 it is taken, all of
+/// them go, and the latest 64 of their alarms stand.
+pub fn a_full_table_is_worked_out()
+    ensures { FullIsWorkedOut }
 {}
