@@ -42,8 +42,8 @@ use Rattle.sr_slots.specs.EntryLemmas.{lookup-set, lookup-push}
 use Rattle.sr_audit.specs.declared.arrival.Arrival.{Arrival}
 use Rattle.sr_audit.specs.declared.source.Source.{Source}
 use Rattle.sr_audit.specs.Limits.{most_audited}
-use Rattle.sr_audit.specs.Taken.{IsTakenBy}
-use Rattle.sr_audit.specs.Audits.{Sent, of, StandsIn, Audits}
+use Rattle.sr_audit.specs.Taken.{HasTaken}
+use Rattle.sr_audit.specs.Audits.{Sent, of, IsEntryFor, Audits}
 
 -- no source has more arrivals than there are
 length-of : (m : Mac) (xs : List Sent) → length (of m xs) ≤ length xs
@@ -55,18 +55,18 @@ length-of m (x ∷ xs) =
     ]
 
 -- more sources
-stands_later : (count more : ℕ) (xs : List Arrival) (o : Option Source) → count ≤ more → StandsIn count xs o → StandsIn more xs o
+stands_later : (count more : ℕ) (xs : List Arrival) (o : Option Source) → count ≤ more → IsEntryFor count xs o → IsEntryFor more xs o
 stands_later count more xs None le (inl none) = inl none
 stands_later count more xs None le (inr full) = inr (omega (arith, le, full))
 stands_later count more xs (Some s) le taken = taken
 
 -- an entry for a source that has none
 pub audits_made : (xs : List Sent) (entries : List (Mac × Source)) (src : Mac) (s : Source) → Audits xs entries →
-    lookup (mac_eq src) entries ≡ None → length entries < most_audited → IsTakenBy [] s → Audits xs (entries ++ (src, s) ∷ [])
+    lookup (mac_eq src) entries ≡ None → length entries < most_audited → HasTaken [] s → Audits xs (entries ++ (src, s) ∷ [])
 audits_made xs entries src s audits absent few empty =
     record { each = λ m. rw (lookup-push src m s entries absent) (by m (mac_eq src m) refl) }
   where
-    none : StandsIn (length entries) (of src xs) None → of src xs ≡ []
+    none : IsEntryFor (length entries) (of src xs) None → of src xs ≡ []
     none (inl nothing) = nothing
     none (inr full) = absurd (omega (arith, few, full))
 
@@ -74,11 +74,11 @@ audits_made xs entries src s audits absent few empty =
     longer = omega (arith, length-append entries ((src, s) ∷ []))
 
     by : (m : Mac) (t : Bool) → mac_eq src m ≡ t →
-        StandsIn (length (entries ++ (src, s) ∷ [])) (of m xs) (cond t (Some s) (lookup (mac_eq m) entries))
+        IsEntryFor (length (entries ++ (src, s) ∷ [])) (of m xs) (cond t (Some s) (lookup (mac_eq m) entries))
     by m true same =
         let nothing : of m xs ≡ [] =
-        ap (λ k. of k xs) (sym (mac_same src m same)) ∙ none (subst (StandsIn (length entries) (of src xs)) absent (audits.each src)) in
-        subst (λ ys. IsTakenBy ys s) (sym nothing) empty
+        ap (λ k. of k xs) (sym (mac_same src m same)) ∙ none (subst (IsEntryFor (length entries) (of src xs)) absent (audits.each src)) in
+        subst (λ ys. HasTaken ys s) (sym nothing) empty
     by m false other = stands_later (length entries) (length (entries ++ (src, s) ∷ [])) (of m xs) (lookup (mac_eq m) entries) longer
         (audits.each m)
 
@@ -87,19 +87,19 @@ pub audits_left : (xs : List Sent) (entries : List (Mac × Source)) (src : Mac) 
     is_some (lookup (mac_eq src) entries) ≡ false → most_audited ≤ length entries → Audits ((src, x) ∷ xs) entries
 audits_left xs entries src x audits absent full = record { each = λ m. by m (mac_eq m src) refl }
   where
-    left : (ys : List Arrival) (o : Option Source) → is_some o ≡ false → StandsIn (length entries) ys o
+    left : (ys : List Arrival) (o : Option Source) → is_some o ≡ false → IsEntryFor (length entries) ys o
     left ys None lacks = inr full
     left ys (Some s) lacks = absurd cc
 
     by : (m : Mac) (t : Bool) → mac_eq m src ≡ t →
-        StandsIn (length entries) (cond t (x ∷ of m xs) (of m xs)) (lookup (mac_eq m) entries)
+        IsEntryFor (length entries) (cond t (x ∷ of m xs) (of m xs)) (lookup (mac_eq m) entries)
     by m true same = left (x ∷ of m xs) (lookup (mac_eq m) entries) (ap (λ k. is_some (lookup (mac_eq k) entries)) (mac_same m src same) ∙ absent)
     by m false other = audits.each m
 
 -- an entry that changed, and the arrival that it took
 pub audits_taken : (xs : List Sent) (entries : List (Mac × Source)) (src : Mac) (x : Arrival) (was is : Source) → length xs + 1 < 2 ^ 64 →
     lookup (mac_eq src) entries ≡ Some was →
-    ((ys : List Arrival) → length ys + 1 < 2 ^ 64 → IsTakenBy ys was → IsTakenBy (x ∷ ys) is) → Audits xs entries →
+    ((ys : List Arrival) → length ys + 1 < 2 ^ 64 → HasTaken ys was → HasTaken (x ∷ ys) is) → Audits xs entries →
     Audits ((src, x) ∷ xs) (set_value (mac_eq src) entries is)
 audits_taken xs entries src x was is few found takes audits =
     record {
@@ -107,12 +107,12 @@ audits_taken xs entries src x was is few found takes audits =
           (by m (mac_eq m src) refl);
     }
   where
-    own : (m : Mac) → m ≡ src → IsTakenBy (x ∷ of m xs) is
+    own : (m : Mac) → m ≡ src → HasTaken (x ∷ of m xs) is
     own m same = takes (of m xs) (omega (arith, few, length-of m xs))
-        (subst (StandsIn (length entries) (of m xs)) (ap (λ k. lookup (mac_eq k) entries) same ∙ found) (audits.each m))
+        (subst (IsEntryFor (length entries) (of m xs)) (ap (λ k. lookup (mac_eq k) entries) same ∙ found) (audits.each m))
 
     by : (m : Mac) (t : Bool) → mac_eq m src ≡ t →
-        StandsIn (length entries) (cond (mac_eq m src) (x ∷ of m xs) (of m xs)) (cond (mac_eq src m) (Some is) (lookup (mac_eq m) entries))
+        IsEntryFor (length entries) (cond (mac_eq m src) (x ∷ of m xs) (of m xs)) (cond (mac_eq src m) (Some is) (lookup (mac_eq m) entries))
     by m true same = rw (same, mac_symm src m ∙ same) (own m (mac_same m src same))
     by m false other = rw (other, mac_symm src m ∙ other) (audits.each m)
 
@@ -125,10 +125,10 @@ audits_kept xs entries src was is found same audits =
           (by m (mac_eq src m) refl);
     }
   where
-    by : (m : Mac) (t : Bool) → mac_eq src m ≡ t → StandsIn (length entries) (of m xs) (cond t (Some is) (lookup (mac_eq m) entries))
+    by : (m : Mac) (t : Bool) → mac_eq src m ≡ t → IsEntryFor (length entries) (of m xs) (cond t (Some is) (lookup (mac_eq m) entries))
     by m true own =
-        let taken : IsTakenBy (of m xs) was =
-        subst (StandsIn (length entries) (of m xs)) (ap (λ k. lookup (mac_eq k) entries) (sym (mac_same src m own)) ∙ found) (audits.each m) in
+        let taken : HasTaken (of m xs) was =
+        subst (IsEntryFor (length entries) (of m xs)) (ap (λ k. lookup (mac_eq k) entries) (sym (mac_same src m own)) ∙ found) (audits.each m) in
         rw same taken
     by m false other = audits.each m
 

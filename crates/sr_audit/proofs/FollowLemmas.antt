@@ -47,49 +47,49 @@ use Rattle.sr_audit.specs.declared.arrival.Arrival.{Arrival}
 use Rattle.sr_audit.specs.declared.numbers.Numbers.{Numbers}
 use Rattle.sr_audit.specs.declared.tally.Tally.{Tally}
 use Rattle.sr_audit.specs.Limits.{kept_numbers, epoch_gap}
-use Rattle.sr_audit.specs.Lanes.{lane_of}
+use Rattle.sr_audit.specs.Lanes.{side_lane}
 use Rattle.sr_audit.specs.Counting.{tally_with}
 use Rattle.sr_audit.specs.Stretches.{
   Placed,
-  placed,
-  is_side,
+  copy_as,
+  same_side,
   came,
-  top_of,
+  top_number,
   lies_from,
   is_far,
   goes_on,
   gone_on,
-  begun,
+  stretch_begun,
   current,
   entered,
   stretches,
 }
 use Rattle.sr_audit.specs.Tallies.{tally_of}
-use Rattle.sr_audit.specs.Following.{family_of, newest_time, StandsAt, Follows}
+use Rattle.sr_audit.specs.Following.{family_in, newest_time, KeepsFigures, FollowsArrivals}
 use Rattle.sr_audit.proofs.TallyLemmas.{Grows, tally-more}
 
 -- the lane of a side tells the sides apart
-has_side : (side other : Side) → has (only (lane_of other)) (lane_of side) ≡ is_side side other
+has_side : (side other : Side) → has (only (side_lane other)) (side_lane side) ≡ same_side side other
 has_side A A = refl
 has_side A B = refl
 has_side B A = refl
 has_side B B = refl
 
-some_lane_of : (side : Side) → is_empty (only (lane_of side)) ≡ false
+some_lane_of : (side : Side) → is_empty (only (side_lane side)) ≡ false
 some_lane_of A = refl
 some_lane_of B = refl
 
 -- the family of a stretch has a number where a copy came
-family_came : (s : List Placed) (side : Side) (n : ℤ) → family_of s (lane_of side) n ≡ came side n s
+family_came : (s : List Placed) (side : Side) (n : ℤ) → family_in s (side_lane side) n ≡ came side n s
 family_came [] side n = refl
 family_came (y ∷ []) side n =
-    ap (λ b. int_eq n y.number && b) (has_side side y.side) ∙ or_none (int_eq n y.number && is_side side y.side)
+    ap (λ b. int_eq n y.number && b) (has_side side y.side) ∙ or_none (int_eq n y.number && same_side side y.side)
   where
     or_none : (b : Bool) → b ≡ (b || false)
     or_none true = refl
     or_none false = refl
-family_came (y ∷ z ∷ before) side n = turned (family_of (z ∷ before) (lane_of side) n) (int_eq n y.number && has (only (lane_of y.side)) (lane_of side))
-    (came side n (z ∷ before)) (int_eq n y.number && is_side side y.side) (family_came (z ∷ before) side n)
+family_came (y ∷ z ∷ before) side n = turned (family_in (z ∷ before) (side_lane side) n) (int_eq n y.number && has (only (side_lane y.side)) (side_lane side))
+    (came side n (z ∷ before)) (int_eq n y.number && same_side side y.side) (family_came (z ∷ before) side n)
     (ap (λ b. int_eq n y.number && b) (has_side side y.side))
   where
     turned : (a b c d : Bool) → a ≡ c → b ≡ d → (a || b) ≡ (d || c)
@@ -120,7 +120,7 @@ length-stretches (x ∷ xs) = more (stretches xs) (length-stretches xs)
     more (s ∷ ss) e =
         elim (cases_Bool (goes_on s x)) [
           | inl on ↦ rw on (omega (arith, e, sum_by-cons length s ss, sum_by-cons length (gone_on s x) ss))
-          | inr off ↦ rw off (omega (arith, e, sum_by-cons length (begun x) (s ∷ ss)))
+          | inr off ↦ rw off (omega (arith, e, sum_by-cons length (stretch_begun x) (s ∷ ss)))
         ]
 
 wire_small : (n : ℕ) → n < 65536 → wire (pos n) ≡ n
@@ -128,16 +128,16 @@ wire_small n h = omega (arith, h)
 
 -- the record of the first arrival
 pub begun_follows : (x : Arrival) (n : Numbers) (t : Tally) → x.seq.0 < 65536 → t ≡ tally_of [] →
-    window_of n.seen ≡ window_begun kept_numbers x.seq.0 (only (lane_of x.side)) → n.last ≡ x.time →
-    n.tally ≡ tally_with t x.side (record { a = false; b = false }) → Follows (x ∷ []) n
+    window_of n.seen ≡ window_begun kept_numbers x.seq.0 (only (side_lane x.side)) → n.last ≡ x.time →
+    n.tally ≡ tally_with t x.side (record { a = false; b = false }) → FollowsArrivals (x ∷ []) n
 begun_follows x n t fits none seen last tally =
-    let P : Window → Type 0 = λ w. StandsFor kept_numbers w (family_of (begun x)) (top_of (begun x)) in
+    let P : Window → Type 0 = λ w. StandsFor kept_numbers w (family_in (stretch_begun x)) (top_number (stretch_begun x)) in
     record {
-      seen = subst P (sym seen) (begun-stands kept_numbers (only (lane_of x.side)) (pos x.seq.0) x.seq.0 (inl refl) (some_lane_of x.side)
+      seen = subst P (sym seen) (begun-stands kept_numbers (only (side_lane x.side)) (pos x.seq.0) x.seq.0 (inl refl) (some_lane_of x.side)
           (wire_small x.seq.0 fits));
       last = last;
       tally = tally ∙ ap (λ u. tally_with u x.side (record { a = false; b = false })) none
-          ∙ tally-more [] [] (placed x (pos x.seq.0)) [] (record { sums = λ f zero. sym (omega (arith, zero)) }) (omega arith);
+          ∙ tally-more [] [] (copy_as x (pos x.seq.0)) [] (record { sums = λ f zero. sym (omega (arith, zero)) }) (omega arith);
     }
 
 -- the test of the record is that of the stretch
@@ -145,86 +145,86 @@ abbrev pub goes_by : Numbers → Arrival → Bool
 goes_by n x = nat_lt (x.time - n.last) epoch_gap && not (is_far (place_of (window_of n.seen).reference x.seq.0 kept_numbers))
 
 tested : (y : Placed) (before : List Placed) (x : Arrival) (n : Numbers) → n.last ≡ y.time →
-    (window_of n.seen).reference ≡ wire (top_of (y ∷ before)) → goes_on (y ∷ before) x ≡ goes_by n x
+    (window_of n.seen).reference ≡ wire (top_number (y ∷ before)) → goes_on (y ∷ before) x ≡ goes_by n x
 tested y before x n last reference =
-    ap (λ t. nat_lt (x.time - t) epoch_gap && not (is_far (place_of (wire (top_of (y ∷ before))) x.seq.0 kept_numbers))) (sym last)
+    ap (λ t. nat_lt (x.time - t) epoch_gap && not (is_far (place_of (wire (top_number (y ∷ before))) x.seq.0 kept_numbers))) (sym last)
     ∙ ap (λ r. nat_lt (x.time - n.last) epoch_gap && not (is_far (place_of r x.seq.0 kept_numbers))) (sym reference)
 
 -- the record with an arrival that goes on
 on_stands : (y : Placed) (before : List Placed) (rest : List (List Placed)) (x : Arrival) (old new : Numbers) →
-    StandsAt ((y ∷ before) ∷ rest) old → x.seq.0 < 65536 → 1 + sum_by length ((y ∷ before) ∷ rest) ≤ 18446744073709551615 →
-    window_of new.seen ≡ window_noted kept_numbers (window_of old.seen) x.seq.0 (only (lane_of x.side)) → new.last ≡ x.time →
+    KeepsFigures ((y ∷ before) ∷ rest) old → x.seq.0 < 65536 → 1 + sum_by length ((y ∷ before) ∷ rest) ≤ 18446744073709551615 →
+    window_of new.seen ≡ window_noted kept_numbers (window_of old.seen) x.seq.0 (only (side_lane x.side)) → new.last ≡ x.time →
     new.tally ≡ tally_with old.tally x.side (record {
-      a = has_of kept_numbers (window_of old.seen) (lane_of A) x.seq.0;
-      b = has_of kept_numbers (window_of old.seen) (lane_of B) x.seq.0;
-    }) → StandsAt (gone_on (y ∷ before) x ∷ rest) new
+      a = has_of kept_numbers (window_of old.seen) (side_lane A) x.seq.0;
+      b = has_of kept_numbers (window_of old.seen) (side_lane B) x.seq.0;
+    }) → KeepsFigures (gone_on (y ∷ before) x ∷ rest) new
 on_stands y before rest x old new stands fits few seen last tally =
     let s = y ∷ before in
-    let n = number_at (top_of s) (lies_from s x.seq.0) in
-    let one : IsTheOne kept_numbers (top_of s) x.seq.0 n = number_is (top_of s) x.seq.0 fits in
-    let by : (side : Side) → has_of kept_numbers (window_of old.seen) (lane_of side) x.seq.0 ≡ came side n s =
-    λ side. has-by-family kept_numbers (window_of old.seen) (family_of s) (top_of s) n x.seq.0 (lane_of side) (inl refl) stands.seen one.near
+    let n = number_at (top_number s) (lies_from s x.seq.0) in
+    let one : IsTheOne kept_numbers (top_number s) x.seq.0 n = number_is (top_number s) x.seq.0 fits in
+    let by : (side : Side) → has_of kept_numbers (window_of old.seen) (side_lane side) x.seq.0 ≡ came side n s =
+    λ side. has-by-family kept_numbers (window_of old.seen) (family_in s) (top_number s) n x.seq.0 (side_lane side) (inl refl) stands.seen one.near
     one.carried ∙ family_came s side n in
     let came_is : tally_with old.tally x.side (record {
-      a = has_of kept_numbers (window_of old.seen) (lane_of A) x.seq.0;
-      b = has_of kept_numbers (window_of old.seen) (lane_of B) x.seq.0;
+      a = has_of kept_numbers (window_of old.seen) (side_lane A) x.seq.0;
+      b = has_of kept_numbers (window_of old.seen) (side_lane B) x.seq.0;
     }) ≡ tally_with old.tally x.side (record { a = came A n s; b = came B n s }) =
     λ i. tally_with old.tally x.side (record { a = by A i; b = by B i }) in
-    let grown : sum_by length ((placed x n ∷ s) ∷ rest) ≤ 18446744073709551615 =
-    omega (arith, few, sum_by-cons length s rest, sum_by-cons length (placed x n ∷ s) rest) in
-    let P : Window → Type 0 = λ w. StandsFor kept_numbers w (family_of (placed x n ∷ s)) (top_of (placed x n ∷ s)) in
+    let grown : sum_by length ((copy_as x n ∷ s) ∷ rest) ≤ 18446744073709551615 =
+    omega (arith, few, sum_by-cons length s rest, sum_by-cons length (copy_as x n ∷ s) rest) in
+    let P : Window → Type 0 = λ w. StandsFor kept_numbers w (family_in (copy_as x n ∷ s)) (top_number (copy_as x n ∷ s)) in
     record {
-      seen = subst P (sym seen) (noted-stands kept_numbers (window_of old.seen) (family_of s) (top_of s) n x.seq.0 (only (lane_of x.side))
+      seen = subst P (sym seen) (noted-stands kept_numbers (window_of old.seen) (family_in s) (top_number s) n x.seq.0 (only (side_lane x.side))
           (inl refl) (some_lane_of x.side) stands.seen one.near one.carried);
       last = last;
       tally = tally ∙ came_is ∙ ap (λ u. tally_with u x.side (record { a = came A n s; b = came B n s })) stands.tally
-          ∙ tally-more (s ∷ rest) rest (placed x n) s (record { sums = λ f zero. sum_by-cons f s rest }) grown;
+          ∙ tally-more (s ∷ rest) rest (copy_as x n) s (record { sums = λ f zero. sum_by-cons f s rest }) grown;
     }
 
 -- the record with an arrival that begins a stretch
-off_stands : (ss : List (List Placed)) (x : Arrival) (old new : Numbers) → StandsAt ss old → x.seq.0 < 65536 →
+off_stands : (ss : List (List Placed)) (x : Arrival) (old new : Numbers) → KeepsFigures ss old → x.seq.0 < 65536 →
     1 + sum_by length ss ≤ 18446744073709551615 →
-    window_of new.seen ≡ window_begun kept_numbers x.seq.0 (only (lane_of x.side)) → new.last ≡ x.time →
-    new.tally ≡ tally_with old.tally x.side (record { a = false; b = false }) → StandsAt (begun x ∷ ss) new
+    window_of new.seen ≡ window_begun kept_numbers x.seq.0 (only (side_lane x.side)) → new.last ≡ x.time →
+    new.tally ≡ tally_with old.tally x.side (record { a = false; b = false }) → KeepsFigures (stretch_begun x ∷ ss) new
 off_stands ss x old new stands fits few seen last tally =
-    let grown : sum_by length (begun x ∷ ss) ≤ 18446744073709551615 = omega (arith, few, sum_by-cons length (begun x) ss) in
-    let P : Window → Type 0 = λ w. StandsFor kept_numbers w (family_of (begun x)) (top_of (begun x)) in
+    let grown : sum_by length (stretch_begun x ∷ ss) ≤ 18446744073709551615 = omega (arith, few, sum_by-cons length (stretch_begun x) ss) in
+    let P : Window → Type 0 = λ w. StandsFor kept_numbers w (family_in (stretch_begun x)) (top_number (stretch_begun x)) in
     record {
-      seen = subst P (sym seen) (begun-stands kept_numbers (only (lane_of x.side)) (pos x.seq.0) x.seq.0 (inl refl) (some_lane_of x.side)
+      seen = subst P (sym seen) (begun-stands kept_numbers (only (side_lane x.side)) (pos x.seq.0) x.seq.0 (inl refl) (some_lane_of x.side)
           (wire_small x.seq.0 fits));
       last = last;
       tally = tally ∙ ap (λ u. tally_with u x.side (record { a = false; b = false })) stands.tally
-          ∙ tally-more ss ss (placed x (pos x.seq.0)) [] (record { sums = λ f zero. omega (arith, zero) }) grown;
+          ∙ tally-more ss ss (copy_as x (pos x.seq.0)) [] (record { sums = λ f zero. omega (arith, zero) }) grown;
     }
 
 -- a record stands for no empty stretch
-none_stands : (n : Numbers) → StandsFor kept_numbers (window_of n.seen) (family_of []) (top_of []) → ⊥
+none_stands : (n : Numbers) → StandsFor kept_numbers (window_of n.seen) (family_in []) (top_number []) → ⊥
 none_stands n stands = let no : false ≡ true = stands.top.member.1 in absurd cc
 
 -- the record with one arrival more
-pub on_follows : (xs : List Arrival) (x : Arrival) (old new : Numbers) → Follows xs old → x.seq.0 < 65536 → length xs + 1 < 2 ^ 64 →
+pub on_follows : (xs : List Arrival) (x : Arrival) (old new : Numbers) → FollowsArrivals xs old → x.seq.0 < 65536 → length xs + 1 < 2 ^ 64 →
     goes_by old x ≡ true →
-    window_of new.seen ≡ window_noted kept_numbers (window_of old.seen) x.seq.0 (only (lane_of x.side)) → new.last ≡ x.time →
+    window_of new.seen ≡ window_noted kept_numbers (window_of old.seen) x.seq.0 (only (side_lane x.side)) → new.last ≡ x.time →
     new.tally ≡ tally_with old.tally x.side (record {
-      a = has_of kept_numbers (window_of old.seen) (lane_of A) x.seq.0;
-      b = has_of kept_numbers (window_of old.seen) (lane_of B) x.seq.0;
-    }) → Follows (x ∷ xs) new
+      a = has_of kept_numbers (window_of old.seen) (side_lane A) x.seq.0;
+      b = has_of kept_numbers (window_of old.seen) (side_lane B) x.seq.0;
+    }) → FollowsArrivals (x ∷ xs) new
 on_follows xs x old new follows fits few on seen last tally = go (stretches xs) follows (omega (arith, few, length-stretches xs))
   where
-    go : (ss : List (List Placed)) → StandsAt ss old → 1 + sum_by length ss ≤ 18446744073709551615 → StandsAt (entered ss x) new
+    go : (ss : List (List Placed)) → KeepsFigures ss old → 1 + sum_by length ss ≤ 18446744073709551615 → KeepsFigures (entered ss x) new
     go [] stands most = absurd (none_stands old stands.seen)
     go ([] ∷ rest) stands most = absurd (none_stands old stands.seen)
     go ((y ∷ before) ∷ rest) stands most =
         let test : goes_on (y ∷ before) x ≡ true = tested y before x old stands.last stands.seen.reference ∙ on in
         rw test (on_stands y before rest x old new stands fits most seen last tally)
 
-pub off_follows : (xs : List Arrival) (x : Arrival) (old new : Numbers) → Follows xs old → x.seq.0 < 65536 → length xs + 1 < 2 ^ 64 →
+pub off_follows : (xs : List Arrival) (x : Arrival) (old new : Numbers) → FollowsArrivals xs old → x.seq.0 < 65536 → length xs + 1 < 2 ^ 64 →
     goes_by old x ≡ false →
-    window_of new.seen ≡ window_begun kept_numbers x.seq.0 (only (lane_of x.side)) → new.last ≡ x.time →
-    new.tally ≡ tally_with old.tally x.side (record { a = false; b = false }) → Follows (x ∷ xs) new
+    window_of new.seen ≡ window_begun kept_numbers x.seq.0 (only (side_lane x.side)) → new.last ≡ x.time →
+    new.tally ≡ tally_with old.tally x.side (record { a = false; b = false }) → FollowsArrivals (x ∷ xs) new
 off_follows xs x old new follows fits few off seen last tally = go (stretches xs) follows (omega (arith, few, length-stretches xs))
   where
-    go : (ss : List (List Placed)) → StandsAt ss old → 1 + sum_by length ss ≤ 18446744073709551615 → StandsAt (entered ss x) new
+    go : (ss : List (List Placed)) → KeepsFigures ss old → 1 + sum_by length ss ≤ 18446744073709551615 → KeepsFigures (entered ss x) new
     go [] stands most = absurd (none_stands old stands.seen)
     go ([] ∷ rest) stands most = absurd (none_stands old stands.seen)
     go ((y ∷ before) ∷ rest) stands most =

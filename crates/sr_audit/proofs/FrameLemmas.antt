@@ -28,7 +28,7 @@ use Rattle.std.proofs.lemmas.Bool.Decides.{Decides-int_eq}
 use Rattle.std.proofs.lemmas.List.Sums.{sum_by-cons}
 use Rattle.sr_audit.specs.declared.side.Side.{Side}
 use Rattle.sr_audit.specs.declared.side.Side.TheVariants.{A, B}
-use Rattle.sr_audit.specs.Stretches.{Placed, is_side, came}
+use Rattle.sr_audit.specs.Stretches.{Placed, same_side, came}
 use Rattle.sr_audit.specs.Tallies.{frames, frames_with}
 
 pub count-cons : {X : Type 0} (p : X → Bool) (x : X) (xs : List X) → count_by p (x ∷ xs) ≡ cond (p x) 1 0 + count_by p xs
@@ -96,10 +96,10 @@ pub came-other : (side : Side) (m : ℤ) (y : Placed) (s : List Placed) → int_
 came-other side m y s other = rw other refl
 
 pub came-same : (side : Side) (m : ℤ) (y : Placed) (s : List Placed) → int_eq m y.number ≡ true →
-    came side m (y ∷ s) ≡ (is_side side y.side || came side m s)
+    came side m (y ∷ s) ≡ (same_side side y.side || came side m s)
 came-same side m y s same = rw same refl
 
-some_side : (side : Side) (a b : Bool) → ((is_side A side || a) || (is_side B side || b)) ≡ true
+some_side : (side : Side) (a b : Bool) → ((same_side A side || a) || (same_side B side || b)) ≡ true
 some_side A a b = refl
 some_side B true b = refl
 some_side B false b = refl
@@ -149,7 +149,7 @@ once m (y ∷ s) =
 pub frames_with-more : (test : Bool → Bool → Bool) (y : Placed) (s : List Placed) →
     frames_with test (y ∷ s)
     + cond (came A y.number s || came B y.number s) (cond (test (came A y.number s) (came B y.number s)) 1 0) 0
-    ≡ frames_with test s + cond (test (is_side A y.side || came A y.number s) (is_side B y.side || came B y.number s)) 1 0
+    ≡ frames_with test s + cond (test (same_side A y.side || came A y.number s) (same_side B y.side || came B y.number s)) 1 0
 frames_with-more test y s =
     let m = y.number in
     let p : ℤ → Bool = λ n. test (came A n s) (came B n s) in
@@ -157,10 +157,10 @@ frames_with-more test y s =
     let same : (n : ℤ) → int_eq n m ≡ false → q n ≡ p n =
     λ n other. ap (λ b. test b (came B n (y ∷ s))) (came-other A n y s other) ∙ ap (test (came A n s)) (came-other B n y s other) in
     let own : int_eq m m ≡ true = (Decides-int_eq m m).1 refl in
-    let here : q m ≡ test (is_side A y.side || came A m s) (is_side B y.side || came B m s) =
+    let here : q m ≡ test (same_side A y.side || came A m s) (same_side B y.side || came B m s) =
     ap (λ b. test b (came B m (y ∷ s))) (came-same A m y s own)
-    ∙ ap (test (is_side A y.side || came A m s)) (came-same B m y s own) in
-    let here_one : cond (q m) 1 0 ≡ cond (test (is_side A y.side || came A m s) (is_side B y.side || came B m s)) 1 0 =
+    ∙ ap (test (same_side A y.side || came A m s)) (came-same B m y s own) in
+    let here_one : cond (q m) 1 0 ≡ cond (test (same_side A y.side || came A m s) (same_side B y.side || came B m s)) 1 0 =
     ap (λ b. cond b 1 0) here in
     elim (cases_Bool (came A m s || came B m s)) [
       | inl known ↦
@@ -171,7 +171,7 @@ frames_with-more test y s =
           let alike : count_by q (frames s) ≡ count_by p (frames s) = same_without p q m same (frames s) times in
           let head : count_by q (m ∷ frames s) ≡ cond (q m) 1 0 + count_by q (frames s) = count-cons q m (frames s) in
           rw new (joined (count_by q (m ∷ frames s)) (cond (q m) 1 0) (count_by q (frames s)) (count_by p (frames s))
-          (cond (test (is_side A y.side || came A m s) (is_side B y.side || came B m s)) 1 0) head alike here_one)
+          (cond (test (same_side A y.side || came A m s) (same_side B y.side || came B m s)) 1 0) head alike here_one)
     ]
   where
     joined : (c h t u k : ℕ) → c ≡ h + t → t ≡ u → h ≡ k → c + 0 ≡ u + k

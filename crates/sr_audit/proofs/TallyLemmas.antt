@@ -27,8 +27,8 @@ use Rattle.sr_audit.specs.declared.side.Side.{Side}
 use Rattle.sr_audit.specs.declared.side.Side.TheVariants.{A, B}
 use Rattle.sr_audit.specs.declared.tally.Came.{Came}
 use Rattle.sr_audit.specs.declared.tally.Tally.{Tally}
-use Rattle.sr_audit.specs.Counting.{counted, uncounted, joins, tally_with}
-use Rattle.sr_audit.specs.Stretches.{Placed, is_side, came}
+use Rattle.sr_audit.specs.Counting.{more_if, less_if, joins, tally_with}
+use Rattle.sr_audit.specs.Stretches.{Placed, same_side, came}
 use Rattle.sr_audit.specs.Tallies.{frames, frames_with, by_both, by_a_alone, by_b_alone, copies, repeats, tally_of}
 use Rattle.sr_audit.proofs.FrameLemmas.{count-cons, frames_with-more}
 
@@ -36,19 +36,19 @@ use Rattle.sr_audit.proofs.FrameLemmas.{count-cons, frames_with-more}
 all_sides : (s : List Placed) → copies A s + copies B s ≡ length s
 all_sides [] = refl
 all_sides (y ∷ s) = by y.side (copies A (y ∷ s)) (copies B (y ∷ s)) (copies A s) (copies B s)
-    (count-cons (λ z. is_side A z.side) y s) (count-cons (λ z. is_side B z.side) y s) (all_sides s)
+    (count-cons (λ z. same_side A z.side) y s) (count-cons (λ z. same_side B z.side) y s) (all_sides s)
   where
-    by : (side : Side) (a' b' a b : ℕ) → a' ≡ cond (is_side A side) 1 0 + a → b' ≡ cond (is_side B side) 1 0 + b →
+    by : (side : Side) (a' b' a b : ℕ) → a' ≡ cond (same_side A side) 1 0 + a → b' ≡ cond (same_side B side) 1 0 + b →
         a + b ≡ length s → a' + b' ≡ length (y ∷ s)
     by A a' b' a b e f g = omega (arith, e, f, g)
     by B a' b' a b e f g = omega (arith, e, f, g)
 
 -- a copy is one of a pair, the only one at its side, or a repeat
 by_a : (side : Side) (a b : Bool) (pairs' pairs alone' alone copies' copies repeated : ℕ) →
-    pairs' + cond (a || b) (cond (a && b) 1 0) 0 ≡ pairs + cond ((is_side A side || a) && (is_side B side || b)) 1 0 →
-    alone' + cond (a || b) (cond (a && not b) 1 0) 0 ≡ alone + cond ((is_side A side || a) && not (is_side B side || b)) 1 0 →
-    copies' ≡ cond (is_side A side) 1 0 + copies → copies ≡ pairs + alone + repeated →
-    copies' ≡ pairs' + alone' + (cond (is_side A side && a) 1 0 + repeated)
+    pairs' + cond (a || b) (cond (a && b) 1 0) 0 ≡ pairs + cond ((same_side A side || a) && (same_side B side || b)) 1 0 →
+    alone' + cond (a || b) (cond (a && not b) 1 0) 0 ≡ alone + cond ((same_side A side || a) && not (same_side B side || b)) 1 0 →
+    copies' ≡ cond (same_side A side) 1 0 + copies → copies ≡ pairs + alone + repeated →
+    copies' ≡ pairs' + alone' + (cond (same_side A side && a) 1 0 + repeated)
 by_a A true true p' p l' l c' c r e f g h = omega (arith, e, f, g, h)
 by_a A true false p' p l' l c' c r e f g h = omega (arith, e, f, g, h)
 by_a A false true p' p l' l c' c r e f g h = omega (arith, e, f, g, h)
@@ -59,10 +59,10 @@ by_a B false true p' p l' l c' c r e f g h = omega (arith, e, f, g, h)
 by_a B false false p' p l' l c' c r e f g h = omega (arith, e, f, g, h)
 
 by_b : (side : Side) (a b : Bool) (pairs' pairs alone' alone copies' copies repeated : ℕ) →
-    pairs' + cond (a || b) (cond (a && b) 1 0) 0 ≡ pairs + cond ((is_side A side || a) && (is_side B side || b)) 1 0 →
-    alone' + cond (a || b) (cond (b && not a) 1 0) 0 ≡ alone + cond ((is_side B side || b) && not (is_side A side || a)) 1 0 →
-    copies' ≡ cond (is_side B side) 1 0 + copies → copies ≡ pairs + alone + repeated →
-    copies' ≡ pairs' + alone' + (cond (is_side B side && b) 1 0 + repeated)
+    pairs' + cond (a || b) (cond (a && b) 1 0) 0 ≡ pairs + cond ((same_side A side || a) && (same_side B side || b)) 1 0 →
+    alone' + cond (a || b) (cond (b && not a) 1 0) 0 ≡ alone + cond ((same_side B side || b) && not (same_side A side || a)) 1 0 →
+    copies' ≡ cond (same_side B side) 1 0 + copies → copies ≡ pairs + alone + repeated →
+    copies' ≡ pairs' + alone' + (cond (same_side B side && b) 1 0 + repeated)
 by_b A true true p' p l' l c' c r e f g h = omega (arith, e, f, g, h)
 by_b A true false p' p l' l c' c r e f g h = omega (arith, e, f, g, h)
 by_b A false true p' p l' l c' c r e f g h = omega (arith, e, f, g, h)
@@ -76,13 +76,13 @@ pub copies_a : (s : List Placed) → copies A s ≡ frames_with by_both s + fram
 copies_a [] = refl
 copies_a (y ∷ s) = by_a y.side (came A y.number s) (came B y.number s) (frames_with by_both (y ∷ s)) (frames_with by_both s)
     (frames_with by_a_alone (y ∷ s)) (frames_with by_a_alone s) (copies A (y ∷ s)) (copies A s) (repeats A s)
-    (frames_with-more by_both y s) (frames_with-more by_a_alone y s) (count-cons (λ z. is_side A z.side) y s) (copies_a s)
+    (frames_with-more by_both y s) (frames_with-more by_a_alone y s) (count-cons (λ z. same_side A z.side) y s) (copies_a s)
 
 pub copies_b : (s : List Placed) → copies B s ≡ frames_with by_both s + frames_with by_b_alone s + repeats B s
 copies_b [] = refl
 copies_b (y ∷ s) = by_b y.side (came A y.number s) (came B y.number s) (frames_with by_both (y ∷ s)) (frames_with by_both s)
     (frames_with by_b_alone (y ∷ s)) (frames_with by_b_alone s) (copies B (y ∷ s)) (copies B s) (repeats B s)
-    (frames_with-more by_both y s) (frames_with-more by_b_alone y s) (count-cons (λ z. is_side B z.side) y s) (copies_b s)
+    (frames_with-more by_both y s) (frames_with-more by_b_alone y s) (count-cons (λ z. same_side B z.side) y s) (copies_b s)
 
 -- sums of counts that are equal, stretch by stretch
 sum_of_three : (f g h k : List Placed → ℕ) → ((s : List Placed) → f s ≡ g s + h s + k s) → (ss : List (List Placed)) →
@@ -115,14 +115,14 @@ pub rx-sum : (ss : List (List Placed)) → (tally_of ss).rx.a + (tally_of ss).rx
 rx-sum ss = sum_of_two (copies A) (copies B) length all_sides ss
 
 -- a figure with one copy more, where the sum does not pass 64 bits
-plus_cases : (b : Bool) (n m : ℕ) → m ≡ n + cond b 1 0 → m ≤ 18446744073709551615 → counted n b ≡ m
+plus_cases : (b : Bool) (n m : ℕ) → m ≡ n + cond b 1 0 → m ≤ 18446744073709551615 → more_if n b ≡ m
 plus_cases true n m e h = omega (arith, e, h)
 plus_cases false n m e h = omega (arith, e, h)
 
 pairs_more : (side : Side) (a b : Bool) (p' p r : ℕ) →
-    p' + cond (a || b) (cond (a && b) 1 0) 0 ≡ p + cond ((is_side A side || a) && (is_side B side || b)) 1 0 →
+    p' + cond (a || b) (cond (a && b) 1 0) 0 ≡ p + cond ((same_side A side || a) && (same_side B side || b)) 1 0 →
     p' + r ≤ 18446744073709551615 →
-    counted (p + r) (joins (is_side B side) b a || joins (is_side A side) a b) ≡ p' + r
+    more_if (p + r) (joins (same_side B side) b a || joins (same_side A side) a b) ≡ p' + r
 pairs_more A true true p' p r e h = omega (arith, e, h)
 pairs_more A true false p' p r e h = omega (arith, e, h)
 pairs_more A false true p' p r e h = omega (arith, e, h)
@@ -133,9 +133,9 @@ pairs_more B false true p' p r e h = omega (arith, e, h)
 pairs_more B false false p' p r e h = omega (arith, e, h)
 
 alone_a_more : (side : Side) (a b : Bool) (p' p r : ℕ) →
-    p' + cond (a || b) (cond (a && not b) 1 0) 0 ≡ p + cond ((is_side A side || a) && not (is_side B side || b)) 1 0 →
+    p' + cond (a || b) (cond (a && not b) 1 0) 0 ≡ p + cond ((same_side A side || a) && not (same_side B side || b)) 1 0 →
     p' + r ≤ 18446744073709551615 → p + r ≤ 18446744073709551615 →
-    uncounted (counted (p + r) (is_side A side && (not a && not b))) (joins (is_side B side) b a) ≡ p' + r
+    less_if (more_if (p + r) (same_side A side && (not a && not b))) (joins (same_side B side) b a) ≡ p' + r
 alone_a_more A true true p' p r e h k = omega (arith, e, h, k)
 alone_a_more A true false p' p r e h k = omega (arith, e, h, k)
 alone_a_more A false true p' p r e h k = omega (arith, e, h, k)
@@ -146,9 +146,9 @@ alone_a_more B false true p' p r e h k = omega (arith, e, h, k)
 alone_a_more B false false p' p r e h k = omega (arith, e, h, k)
 
 alone_b_more : (side : Side) (a b : Bool) (p' p r : ℕ) →
-    p' + cond (a || b) (cond (b && not a) 1 0) 0 ≡ p + cond ((is_side B side || b) && not (is_side A side || a)) 1 0 →
+    p' + cond (a || b) (cond (b && not a) 1 0) 0 ≡ p + cond ((same_side B side || b) && not (same_side A side || a)) 1 0 →
     p' + r ≤ 18446744073709551615 → p + r ≤ 18446744073709551615 →
-    uncounted (counted (p + r) (is_side B side && (not a && not b))) (joins (is_side A side) a b) ≡ p' + r
+    less_if (more_if (p + r) (same_side B side && (not a && not b))) (joins (same_side A side) a b) ≡ p' + r
 alone_b_more A true true p' p r e h k = omega (arith, e, h, k)
 alone_b_more A true false p' p r e h k = omega (arith, e, h, k)
 alone_b_more A false true p' p r e h k = omega (arith, e, h, k)
@@ -188,29 +188,29 @@ tally-more old rest y s grows few =
     let new_repeats_b : (tally_of new).repeats.b ≤ 18446744073709551615 = omega (arith, total, total_b, few) in
     let new_rx_a : (tally_of new).rx.a ≤ 18446744073709551615 = omega (arith, total, few) in
     let new_rx_b : (tally_of new).rx.b ≤ 18446744073709551615 = omega (arith, total, few) in
-    let rx_a : counted (tally_of old).rx.a (is_side A side) ≡ (tally_of new).rx.a =
-    plus_cases (is_side A side) (tally_of old).rx.a (tally_of new).rx.a (added (copies A) (is_side A side) refl
-    (count-cons (λ z. is_side A z.side) y s)) new_rx_a in
-    let rx_b : counted (tally_of old).rx.b (is_side B side) ≡ (tally_of new).rx.b =
-    plus_cases (is_side B side) (tally_of old).rx.b (tally_of new).rx.b (added (copies B) (is_side B side) refl
-    (count-cons (λ z. is_side B z.side) y s)) new_rx_b in
-    let repeats_a : counted (tally_of old).repeats.a (is_side A side && a) ≡ (tally_of new).repeats.a =
-    plus_cases (is_side A side && a) (tally_of old).repeats.a (tally_of new).repeats.a
-    (added (repeats A) (is_side A side && a) refl refl) new_repeats_a in
-    let repeats_b : counted (tally_of old).repeats.b (is_side B side && b) ≡ (tally_of new).repeats.b =
-    plus_cases (is_side B side && b) (tally_of old).repeats.b (tally_of new).repeats.b
-    (added (repeats B) (is_side B side && b) refl refl) new_repeats_b in
-    let pairs : counted (tally_of old).pairs (joins (is_side B side) b a || joins (is_side A side) a b) ≡ (tally_of new).pairs =
+    let rx_a : more_if (tally_of old).rx.a (same_side A side) ≡ (tally_of new).rx.a =
+    plus_cases (same_side A side) (tally_of old).rx.a (tally_of new).rx.a (added (copies A) (same_side A side) refl
+    (count-cons (λ z. same_side A z.side) y s)) new_rx_a in
+    let rx_b : more_if (tally_of old).rx.b (same_side B side) ≡ (tally_of new).rx.b =
+    plus_cases (same_side B side) (tally_of old).rx.b (tally_of new).rx.b (added (copies B) (same_side B side) refl
+    (count-cons (λ z. same_side B z.side) y s)) new_rx_b in
+    let repeats_a : more_if (tally_of old).repeats.a (same_side A side && a) ≡ (tally_of new).repeats.a =
+    plus_cases (same_side A side && a) (tally_of old).repeats.a (tally_of new).repeats.a
+    (added (repeats A) (same_side A side && a) refl refl) new_repeats_a in
+    let repeats_b : more_if (tally_of old).repeats.b (same_side B side && b) ≡ (tally_of new).repeats.b =
+    plus_cases (same_side B side && b) (tally_of old).repeats.b (tally_of new).repeats.b
+    (added (repeats B) (same_side B side && b) refl refl) new_repeats_b in
+    let pairs : more_if (tally_of old).pairs (joins (same_side B side) b a || joins (same_side A side) a b) ≡ (tally_of new).pairs =
     rw (grows.sums (frames_with by_both) refl, sum_by-cons (frames_with by_both) (y ∷ s) rest)
     (pairs_more side a b (frames_with by_both (y ∷ s)) (frames_with by_both s) (sum_by (frames_with by_both) rest)
     (frames_with-more by_both y s) (rw (sum_by-cons (frames_with by_both) (y ∷ s) rest) at new_pairs)) in
-    let alone_a : uncounted (counted (tally_of old).alone.a (is_side A side && (not a && not b))) (joins (is_side B side) b a)
+    let alone_a : less_if (more_if (tally_of old).alone.a (same_side A side && (not a && not b))) (joins (same_side B side) b a)
     ≡ (tally_of new).alone.a =
     rw (grows.sums (frames_with by_a_alone) refl, sum_by-cons (frames_with by_a_alone) (y ∷ s) rest)
     (alone_a_more side a b (frames_with by_a_alone (y ∷ s)) (frames_with by_a_alone s) (sum_by (frames_with by_a_alone) rest)
     (frames_with-more by_a_alone y s) (rw (sum_by-cons (frames_with by_a_alone) (y ∷ s) rest) at new_alone_a)
     (rw (grows.sums (frames_with by_a_alone) refl) at old_alone_a)) in
-    let alone_b : uncounted (counted (tally_of old).alone.b (is_side B side && (not a && not b))) (joins (is_side A side) a b)
+    let alone_b : less_if (more_if (tally_of old).alone.b (same_side B side && (not a && not b))) (joins (same_side A side) a b)
     ≡ (tally_of new).alone.b =
     rw (grows.sums (frames_with by_b_alone) refl, sum_by-cons (frames_with by_b_alone) (y ∷ s) rest)
     (alone_b_more side a b (frames_with by_b_alone (y ∷ s)) (frames_with by_b_alone s) (sum_by (frames_with by_b_alone) rest)

@@ -7,26 +7,26 @@ use Rattle.sr_audit.specs.declared.arrival.Arrival.{Arrival}
 use Rattle.sr_audit.specs.declared.tally.Tally.{Tally}
 use Rattle.sr_audit.specs.declared.numbers.Numbers.{Numbers}
 use Rattle.sr_audit.specs.Limits.{kept_numbers}
-use Rattle.sr_audit.specs.Lanes.{lane_of}
-use Rattle.sr_audit.specs.Stretches.{Placed, top_of, stretches, current}
+use Rattle.sr_audit.specs.Lanes.{side_lane}
+use Rattle.sr_audit.specs.Stretches.{Placed, top_number, stretches, current}
 use Rattle.sr_audit.specs.Tallies.{tally_of}
 
 -- the lanes and numbers of the copies of a stretch
-abbrev pub family_of : List Placed → Family
-family_of [] = λ lane n. false
-family_of (y ∷ []) = singleton (only (lane_of y.side)) y.number
-family_of (y ∷ z ∷ before) = join (family_of (z ∷ before)) (singleton (only (lane_of y.side)) y.number)
+abbrev pub family_in : List Placed → Family
+family_in [] = λ lane n. false
+family_in (y ∷ []) = singleton (only (side_lane y.side)) y.number
+family_in (y ∷ z ∷ before) = join (family_in (z ∷ before)) (singleton (only (side_lane y.side)) y.number)
 
 abbrev pub newest_time : List Placed → ℕ
 newest_time [] = 0
 newest_time (y ∷ before) = y.time
 
 -- the record stands for the current stretch, and has the figures of all
-pub record StandsAt (ss : List (List Placed)) (n : Numbers) : Type 0 where
-  pub seen : StandsFor kept_numbers (window_of n.seen) (family_of (current ss)) (top_of (current ss))
+pub record KeepsFigures (ss : List (List Placed)) (n : Numbers) : Type 0 where
+  pub seen : StandsFor kept_numbers (window_of n.seen) (family_in (current ss)) (top_number (current ss))
   pub last : n.last ≡ newest_time (current ss)
   pub tally : n.tally ≡ tally_of ss
 
 -- these arrivals were taken, newest first
-abbrev pub Follows : List Arrival → Numbers → Type 0
-Follows xs n = StandsAt (stretches xs) n
+abbrev pub FollowsArrivals : List Arrival → Numbers → Type 0
+FollowsArrivals xs n = KeepsFigures (stretches xs) n

@@ -5,9 +5,9 @@ use Rattle.sr_audit.specs.declared.side.Side.{Side}
 use Rattle.sr_audit.specs.declared.side.Side.TheVariants.{A, B}
 
 -- the lane on which a copy is noted that came in at a side
-abbrev pub lane_of : Side → Lane
-lane_of A = GotA
-lane_of B = GotB
+abbrev pub side_lane : Side → Lane
+side_lane A = GotA
+side_lane B = GotB
 
 abbrev pub other_side : Side → Side
 other_side A = B

@@ -12,10 +12,10 @@ use Rattle.sr_audit.specs.declared.side.Side.{Side}
 use Rattle.sr_audit.specs.declared.side.Side.TheVariants.{A, B}
 use Rattle.sr_audit.specs.Limits.{kept_numbers, epoch_gap}
 
-abbrev pub is_side : Side → Side → Bool
-is_side A A = true
-is_side B B = true
-is_side side other = false
+abbrev pub same_side : Side → Side → Bool
+same_side A A = true
+same_side B B = true
+same_side side other = false
 
 -- a copy in its stretch: where and when it came in, and the whole number of its frame
 pub record Placed : Type 0 where
@@ -24,10 +24,10 @@ pub record Placed : Type 0 where
   pub time : ℕ
 
 -- the greatest whole number of a stretch
-abbrev pub top_of : List Placed → ℤ
-top_of [] = pos 0
-top_of (y ∷ []) = y.number
-top_of (y ∷ z ∷ before) = greater (top_of (z ∷ before)) y.number
+abbrev pub top_number : List Placed → ℤ
+top_number [] = pos 0
+top_number (y ∷ []) = y.number
+top_number (y ∷ z ∷ before) = greater (top_number (z ∷ before)) y.number
 
 -- the number lies more than 1023 ahead
 abbrev pub is_far : Distance → Bool
@@ -36,23 +36,23 @@ is_far (Ahead k) = nat_le kept_numbers k
 
 -- where a number lies from the greatest one of a stretch
 abbrev pub lies_from : List Placed → ℕ → Distance
-lies_from s seq = place_of (wire (top_of s)) seq kept_numbers
+lies_from s seq = place_of (wire (top_number s)) seq kept_numbers
 
 -- an arrival goes on with a stretch: less than 400 ms behind its newest copy, and no more than 1023 ahead of its greatest number
 abbrev pub goes_on : List Placed → Arrival → Bool
 goes_on [] x = false
 goes_on (y ∷ before) x = nat_lt (x.time - y.time) epoch_gap && not (is_far (lies_from (y ∷ before) x.seq.0))
 
-abbrev pub placed : Arrival → ℤ → Placed
-placed x number = record { side = x.side; number = number; time = x.time }
+abbrev pub copy_as : Arrival → ℤ → Placed
+copy_as x number = record { side = x.side; number = number; time = x.time }
 
 -- the stretch with an arrival that goes on with it
 abbrev pub gone_on : List Placed → Arrival → List Placed
-gone_on s x = placed x (number_at (top_of s) (lies_from s x.seq.0)) ∷ s
+gone_on s x = copy_as x (number_at (top_number s) (lies_from s x.seq.0)) ∷ s
 
 -- the stretch that an arrival begins: its whole number is the one that it carries
-abbrev pub begun : Arrival → List Placed
-begun x = placed x (pos x.seq.0) ∷ []
+abbrev pub stretch_begun : Arrival → List Placed
+stretch_begun x = copy_as x (pos x.seq.0) ∷ []
 
 -- the stretch that the newest arrival is in
 abbrev pub current : List (List Placed) → List Placed
@@ -61,8 +61,8 @@ current (s ∷ before) = s
 
 -- the stretches with one arrival more
 abbrev pub entered : List (List Placed) → Arrival → List (List Placed)
-entered [] x = begun x ∷ []
-entered (s ∷ before) x = if goes_on s x then gone_on s x ∷ before else begun x ∷ s ∷ before
+entered [] x = stretch_begun x ∷ []
+entered (s ∷ before) x = if goes_on s x then gone_on s x ∷ before else stretch_begun x ∷ s ∷ before
 
 -- the stretches of the arrivals of a source, newest first
 abbrev pub stretches : List Arrival → List (List Placed)
@@ -71,4 +71,4 @@ stretches (x ∷ before) = entered (stretches before) x
 
 -- a copy of a frame of a stretch came in at a side
 abbrev pub came : Side → ℤ → List Placed → Bool
-came side number s = list_any (λ y. int_eq number y.number && is_side side y.side) s
+came side number s = list_any (λ y. int_eq number y.number && same_side side y.side) s

@@ -4,7 +4,7 @@ use Rattle.sr_audit.specs.declared.side.Side.{Side}
 use Rattle.sr_audit.specs.declared.side.Side.TheVariants.{A, B}
 use Rattle.sr_audit.specs.declared.tally.Sides.{Sides}
 use Rattle.sr_audit.specs.declared.tally.Tally.{Tally}
-use Rattle.sr_audit.specs.Stretches.{Placed, is_side, came}
+use Rattle.sr_audit.specs.Stretches.{Placed, same_side, came}
 
 -- the frames of a stretch, each once
 abbrev pub frames : List Placed → List ℤ
@@ -27,12 +27,12 @@ by_b_alone a b = b && not a
 
 -- how many copies came in at a side
 abbrev pub copies : Side → List Placed → ℕ
-copies side s = count_by (λ y. is_side side y.side) s
+copies side s = count_by (λ y. same_side side y.side) s
 
 -- how many of them came behind an earlier copy of their frame at that side
 abbrev pub repeats : Side → List Placed → ℕ
 repeats side [] = 0
-repeats side (y ∷ before) = (if is_side side y.side && came side y.number before then 1 else 0) + repeats side before
+repeats side (y ∷ before) = (if same_side side y.side && came side y.number before then 1 else 0) + repeats side before
 
 abbrev pub at_sides : (Side → List Placed → ℕ) → List (List Placed) → Sides
 at_sides count ss = record { a = sum_by (count A) ss; b = sum_by (count B) ss }

@@ -2,7 +2,7 @@
 
 ghost use Rattle.std.specs.Prelude.{◌≡◌, ◌+◌, ◌^◌, ◌<◌, List, ◌∷◌, length, OnOk, OnErr};
 ghost use Rattle.sr_audit.specs.declared.arrival.Arrival.{Arrival};
-ghost use Rattle.sr_audit.specs.Taken.{IsTakenBy};
+ghost use Rattle.sr_audit.specs.Taken.{HasTaken};
 
 use crate::arrival::Arrival;
 use crate::side::Side;
@@ -15,7 +15,7 @@ use std::alloc::Global;
 /// How many sources have figures (choice of this project).
 pub const MOST_SOURCES: usize = 1024;
 
-/// The figures of two captures, source by source, in the order of first hearing. Arrivals of a source beyond the 1024th are counted.
+/// The figures of two captures, source by source, in the order of first hearing. Arrivals of a source beyond the 1024th are more_if.
 #[derive(Drop)]
 pub struct Audit {
     alloc: Global,
@@ -27,7 +27,7 @@ pub struct Audit {
 /// Makes room for an arrival of a source, and takes it.
 fn take(source: &mut Source, x: Arrival, spans: &Spans) -> Result<(), NoMemory>
     ensures taken { OnOk result ((xs : List Arrival) → length xs + 1 < 2 ^ 64
-        → IsTakenBy xs source.old → IsTakenBy (x ∷ xs) source.new) }
+        → HasTaken xs source.old → HasTaken (x ∷ xs) source.new) }
     ensures same { OnErr result (source.new.numbers ≡ source.old.numbers) }
 {
     source.make_room()?;
@@ -41,7 +41,7 @@ impl Audit {
     ghost use Rattle.sr_frame.specs.declared.fields.Mac.{Mac};
     ghost use Rattle.sr_frame.specs.Addresses.{mac_eq};
     ghost use Rattle.sr_audit.specs.declared.arrival.Arrival.{Arrival};
-    ghost use Rattle.sr_audit.specs.Taken.{IsTakenBy};
+    ghost use Rattle.sr_audit.specs.Taken.{HasTaken};
     ghost use Rattle.sr_audit.specs.Audits.{Audits, Sent};
     ghost use Rattle.sr_audit.specs.Limits.{most_audited};
 
@@ -91,7 +91,7 @@ impl Audit {
             src,
             |source: &mut Source| -> Result<(), NoMemory>
                 ensures taken { OnOk result ((xs : List Arrival) → length xs + 1 < 2 ^ 64
-                    → IsTakenBy xs source.old → IsTakenBy (x ∷ xs) source.new) }
+                    → HasTaken xs source.old → HasTaken (x ∷ xs) source.new) }
                 ensures same { OnErr result (source.new.numbers ≡ source.old.numbers) }
             { take(source, x, &spans) },
         )?;

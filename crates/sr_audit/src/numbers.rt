@@ -10,7 +10,7 @@ ghost use Rattle.sr_audit.specs.Limits.{kept_numbers, epoch_gap};
 ghost use Rattle.sr_audit.specs.Stretches.{stretches, is_far};
 ghost use Rattle.sr_audit.specs.Tallies.{tally_of};
 ghost use Rattle.sr_audit.specs.Counting.{tally_with};
-ghost use Rattle.sr_audit.specs.Lanes.{lane_of};
+ghost use Rattle.sr_audit.specs.Lanes.{side_lane};
 
 use crate::arrival::Arrival;
 use crate::look::{Look, Step};
@@ -46,11 +46,11 @@ fn is_far(distance: Distance) -> bool
 }
 
 impl Numbers {
-    ghost use Rattle.sr_audit.specs.Following.{Follows};
+    ghost use Rattle.sr_audit.specs.Following.{FollowsArrivals};
 
     /// The first arrival of a source.
     pub fn begin(x: Arrival) -> Numbers
-        ensures { Follows (x ∷ []) result }
+        ensures { FollowsArrivals (x ∷ []) result }
     {
         Numbers {
             seen: Record::begin(x.seq, Lanes::only(x.side.lane())),
@@ -61,8 +61,8 @@ impl Numbers {
 
     /// Takes the next arrival of the source.
     pub fn note(&mut self, x: Arrival)
-        ensures { (xs : List Arrival) → length xs + 1 < 2 ^ 64 → Follows xs self.old
-            → Follows (x ∷ xs) self.new }
+        ensures { (xs : List Arrival) → length xs + 1 < 2 ^ 64
+            → FollowsArrivals xs self.old → FollowsArrivals (x ∷ xs) self.new }
     {
         if self.goes_on(x) {
             self.go_on(x);
@@ -73,7 +73,8 @@ impl Numbers {
 
     /// The figures of all arrivals.
     pub fn tally(&self) -> Tally
-        ensures { (xs : List Arrival) → Follows xs self.now → result ≡ tally_of (stretches xs) }
+        ensures { (xs : List Arrival) → FollowsArrivals xs self.now
+            → result ≡ tally_of (stretches xs) }
     {
         self.tally
     }
@@ -133,8 +134,8 @@ impl Numbers {
 
     /// By which sides copies of the frame of an arrival came, where the arrival goes on with the stretch.
     fn came(&self, x: Arrival) -> Came
-        ensures a { result.a ≡ has_of kept_numbers (window_of self.now.seen) (lane_of A) x.seq.0 }
-        ensures b { result.b ≡ has_of kept_numbers (window_of self.now.seen) (lane_of B) x.seq.0 }
+        ensures a { result.a ≡ has_of kept_numbers (window_of self.now.seen) (side_lane A) x.seq.0 }
+        ensures b { result.b ≡ has_of kept_numbers (window_of self.now.seen) (side_lane B) x.seq.0 }
     {
         Came {
             a: self.seen.has(Side::A.lane(), x.seq),
@@ -145,11 +146,11 @@ impl Numbers {
     /// Takes an arrival that goes on with the stretch.
     fn go_on(&mut self, x: Arrival)
         ensures seen { window_of self.new.seen ≡ window_noted kept_numbers (window_of self.old.seen)
-            x.seq.0 (only (lane_of x.side)) }
+            x.seq.0 (only (side_lane x.side)) }
         ensures last { self.new.last ≡ x.time }
         ensures tally { self.new.tally ≡ tally_with self.old.tally x.side (record {
-          a = has_of kept_numbers (window_of self.old.seen) (lane_of A) x.seq.0;
-          b = has_of kept_numbers (window_of self.old.seen) (lane_of B) x.seq.0;
+          a = has_of kept_numbers (window_of self.old.seen) (side_lane A) x.seq.0;
+          b = has_of kept_numbers (window_of self.old.seen) (side_lane B) x.seq.0;
         }) }
     {
         self.tally = self.tally.with(x.side, self.came(x));
@@ -160,7 +161,7 @@ impl Numbers {
     /// Takes an arrival that begins a stretch.
     fn begin_again(&mut self, x: Arrival)
         ensures seen { window_of self.new.seen ≡ window_begun kept_numbers x.seq.0
-            (only (lane_of x.side)) }
+            (only (side_lane x.side)) }
         ensures last { self.new.last ≡ x.time }
         ensures tally { self.new.tally
             ≡ tally_with self.old.tally x.side (record { a = false; b = false }) }

@@ -1,7 +1,7 @@
 //! The two ways of a redundant network.
 
 ghost use Rattle.std.specs.Prelude.{◌≡◌};
-ghost use Rattle.sr_audit.specs.Lanes.{lane_of, other_side};
+ghost use Rattle.sr_audit.specs.Lanes.{side_lane, other_side};
 
 use sr_dup_window::Lane;
 
@@ -27,7 +27,7 @@ impl Side {
 
     /// The lane of a duplicate record on which a copy is noted that came in here.
     pub(crate) fn lane(self) -> Lane
-        ensures { result ≡ lane_of self }
+        ensures { result ≡ side_lane self }
     {
         match self {
             Side::A => Lane::GotA,

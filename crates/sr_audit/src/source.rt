@@ -58,11 +58,11 @@ impl Source {
     ghost use Rattle.sr_audit.specs.declared.arrival.Arrival.{Arrival};
     ghost use Rattle.sr_audit.specs.Stretches.{stretches};
     ghost use Rattle.sr_audit.specs.Tallies.{tally_of};
-    ghost use Rattle.sr_audit.specs.Taken.{IsTakenBy};
+    ghost use Rattle.sr_audit.specs.Taken.{HasTaken};
 
     /// A source of which nothing came.
     pub(crate) fn new(alloc: Global) -> Source
-        ensures { IsTakenBy [] result }
+        ensures { HasTaken [] result }
     {
         Source {
             numbers: None,
@@ -89,8 +89,8 @@ impl Source {
 
     /// What an arrival is to the stretch; it is then taken.
     fn look(&mut self, x: Arrival) -> Look
-        ensures { (xs : List Arrival) → length xs + 1 < 2 ^ 64 → IsTakenBy xs self.old
-            → IsTakenBy (x ∷ xs) self.new }
+        ensures { (xs : List Arrival) → length xs + 1 < 2 ^ 64 → HasTaken xs self.old
+            → HasTaken (x ∷ xs) self.new }
     {
         match self.numbers.as_mut() {
             Some(numbers) => {
@@ -150,8 +150,8 @@ impl Source {
 
     /// Takes the next arrival of the source. Its room was made.
     pub(crate) fn note(&mut self, x: Arrival, spans: &Spans)
-        ensures { (xs : List Arrival) → length xs + 1 < 2 ^ 64 → IsTakenBy xs self.old
-            → IsTakenBy (x ∷ xs) self.new }
+        ensures { (xs : List Arrival) → length xs + 1 < 2 ^ 64 → HasTaken xs self.old
+            → HasTaken (x ∷ xs) self.new }
     {
         let look = self.look(x);
         self.extent.note(x, look);
@@ -176,7 +176,7 @@ impl Source {
     /// The figures of all arrivals. How many copies and frames came is proved; the edges, the order, the skews and what is told of
     /// numbers that no frame had are tested alone.
     pub fn figures(&self) -> Figures
-        ensures { (xs : List Arrival) → IsTakenBy xs self.now
+        ensures { (xs : List Arrival) → HasTaken xs self.now
             → result.tally ≡ tally_of (stretches xs) }
     {
         let tally = match &self.numbers {

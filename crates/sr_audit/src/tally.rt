@@ -1,7 +1,7 @@
 //! How many frames came by both sides, by one alone, and more than once.
 
 ghost use Rattle.std.specs.Prelude.{◌≡◌};
-ghost use Rattle.sr_audit.specs.Counting.{counted, uncounted, tally_with};
+ghost use Rattle.sr_audit.specs.Counting.{more_if, less_if, tally_with};
 
 use crate::side::Side;
 
@@ -15,7 +15,7 @@ pub struct Sides {
 }
 
 impl Sides {
-    /// Nothing was counted.
+    /// Nothing was more_if.
     pub const NONE: Sides = Sides { a: 0, b: 0 };
 }
 
@@ -47,15 +47,15 @@ pub struct Tally {
 }
 
 /// A count with one more, where a test holds.
-fn counted(count: u64, is_one: bool) -> u64
-    ensures { result ≡ counted count is_one }
+fn more_if(count: u64, is_one: bool) -> u64
+    ensures { result ≡ more_if count is_one }
 {
     count.saturating_add(u64::from(is_one))
 }
 
 /// A count with one less, where a test holds.
-fn uncounted(count: u64, is_one: bool) -> u64
-    ensures { result ≡ uncounted count is_one }
+fn less_if(count: u64, is_one: bool) -> u64
+    ensures { result ≡ less_if count is_one }
 {
     count.saturating_sub(u64::from(is_one))
 }
@@ -80,17 +80,17 @@ impl Tally {
         let joins_b = at_a && came.b && !came.a;
         Tally {
             rx: Sides {
-                a: counted(self.rx.a, at_a),
-                b: counted(self.rx.b, at_b),
+                a: more_if(self.rx.a, at_a),
+                b: more_if(self.rx.b, at_b),
             },
-            pairs: counted(self.pairs, joins_a || joins_b),
+            pairs: more_if(self.pairs, joins_a || joins_b),
             alone: Sides {
-                a: uncounted(counted(self.alone.a, at_a && is_new), joins_a),
-                b: uncounted(counted(self.alone.b, at_b && is_new), joins_b),
+                a: less_if(more_if(self.alone.a, at_a && is_new), joins_a),
+                b: less_if(more_if(self.alone.b, at_b && is_new), joins_b),
             },
             repeats: Sides {
-                a: counted(self.repeats.a, at_a && came.a),
-                b: counted(self.repeats.b, at_b && came.b),
+                a: more_if(self.repeats.a, at_a && came.a),
+                b: more_if(self.repeats.b, at_b && came.b),
             },
         }
     }

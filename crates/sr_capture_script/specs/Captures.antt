@@ -14,14 +14,15 @@ use Rattle.sr_capture_script.specs.Sources.{left_of, GoesOn, IsStuck}
 use Rattle.sr_capture_script.specs.SourceViews.{progress_of, IsSame}
 
 -- the file of an inlet
-abbrev pub source_at : {R : Type 0} → Inlet → Captures R → Source R
-source_at A all = all.a
-source_at B all = all.b
-source_at C all = all.c
+abbrev pub file_at : {R : Type 0} → Inlet → Captures R → Source R
+file_at A all = all.a
+file_at B all = all.b
+file_at C all = all.c
 
 -- the packet that is due comes first of those of all files, and has this number in its own
-abbrev pub IsFront : {R : Type 0} → Captures R → Front → Type 0
-IsFront all front = IsEarliest front.inlet front.moment all.a.due all.b.due all.c.due × (front.number ≡ (source_at front.inlet all).number)
+abbrev pub IsDueFirst : {R : Type 0} → Captures R → Front → Type 0
+IsDueFirst all front = IsEarliest front.inlet front.moment all.a.due all.b.due all.c.due
+    × (front.number ≡ (file_at front.inlet all).number)
 
 -- all files are at their ends
 abbrev pub HasNoFront : {R : Type 0} → Captures R → Type 0
@@ -29,8 +30,8 @@ HasNoFront all = NoneDue all.a.due all.b.due all.c.due
 
 -- one packet more of a file was taken, or it is at its end
 abbrev pub Advances : {R : Type 0} → (R → Option (List ℕ)) → Source R → Source R → Type 0
-Advances remaining old new = IsSame old new × GoesOn old.state old.delay new.due (left_of remaining old.reader) (left_of remaining new.reader)
-    (progress_of old) (progress_of new)
+Advances remaining old new = IsSame old new
+    × GoesOn old.state old.delay new.due (left_of remaining old.reader) (left_of remaining new.reader) (progress_of old) (progress_of new)
 
 -- the file has no next packet, for this fault
 abbrev pub StopsAt : {R : Type 0} → (R → Option (List ℕ)) → Inlet → Source R → Source R → ScriptFault → Type 0

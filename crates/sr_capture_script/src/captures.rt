@@ -49,7 +49,7 @@ impl<R: BufRead + Drop> Captures<R> {
     ghost use Rattle.std.specs.Prelude.{◌≡◌, IfOk, IfErr, OnOk, IfSome, IfNone};
     ghost use Rattle.sr_capture_script.specs.declared.choice.Inlet.TheVariants.{A as AtA, B as AtB, C as AtC};
     ghost use Rattle.sr_capture_script.specs.Opening.{reading_of, IsOpened, FailsToOpen};
-    ghost use Rattle.sr_capture_script.specs.Captures.{source_at, IsFront, HasNoFront, Advances, StopsAt, KeepsOthers};
+    ghost use Rattle.sr_capture_script.specs.Captures.{file_at, IsDueFirst, HasNoFront, Advances, StopsAt, KeepsOthers};
 
     /// Opens the captures, and reads the first packet of each.
     ///
@@ -98,7 +98,7 @@ impl<R: BufRead + Drop> Captures<R> {
 
     /// Where and when the packet that is due came in. None: all files are at their ends.
     pub fn front(&self) -> Option<Front>
-        ensures some { IfSome result (λ front. IsFront self.now front) }
+        ensures some { IfSome result (λ front. IsDueFirst self.now front) }
         ensures none { IfNone result (HasNoFront self.now) }
     {
         let (inlet, moment) = earliest(self.a.due, self.b.due, self.c.due)?;
@@ -116,7 +116,7 @@ impl<R: BufRead + Drop> Captures<R> {
 
     /// The packet of a file that is due, or was the last one.
     pub fn packet(&self, inlet: Inlet) -> &Packet
-        ensures { result.now ≡ (source_at inlet self.now).packet }
+        ensures { result.now ≡ (file_at inlet self.now).packet }
     {
         match inlet {
             Inlet::A => &self.a.packet,
@@ -130,10 +130,10 @@ impl<R: BufRead + Drop> Captures<R> {
     /// # Errors
     /// The fault of the file.
     pub fn advance(&mut self, inlet: Inlet) -> Result<(), ScriptFault>
-        ensures goes { OnOk result (Advances R.remaining (source_at inlet self.old)
-            (source_at inlet self.new)) }
+        ensures goes { OnOk result (Advances R.remaining (file_at inlet self.old)
+            (file_at inlet self.new)) }
         ensures stops { IfErr result (λ fault. StopsAt R.remaining inlet
-            (source_at inlet self.old) (source_at inlet self.new) fault) }
+            (file_at inlet self.old) (file_at inlet self.new) fault) }
         ensures others { KeepsOthers inlet self.old self.new }
     {
         match inlet {

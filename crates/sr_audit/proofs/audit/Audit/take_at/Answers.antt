@@ -1,14 +1,14 @@
 use Rattle.std.proofs.Common.{rules, ◌≡◌, ◌+◌, ◌<◌, List, ◌∷◌, length}
 use Rattle.std.specs.Prelude.{◌^◌, OnOk, OnErr}
 use Rattle.sr_audit.specs.declared.arrival.Arrival.{Arrival}
-use Rattle.sr_audit.specs.Taken.{IsTakenBy}
+use Rattle.sr_audit.specs.Taken.{HasTaken}
 use Rattle.sr_audit.proofs.AuditLemmas.{audits_taken, audits_kept, on_ok_more, on_err_more}
 use Rattle.sr_audit.proofs.audit.Audit.take_at.Goals as goal
 
 pub returns-clause-taken : goal.returns-clause-taken
 returns-clause-taken c =
     let h = c.in_ok-taken.ensures.changed in
-    let fact : OnOk c.in_ok-taken.taken ((ys : List Arrival) → length ys + 1 < 2 ^ 64 → IsTakenBy ys h.was → IsTakenBy (c.args.x ∷ ys) h.is) =
+    let fact : OnOk c.in_ok-taken.taken ((ys : List Arrival) → length ys + 1 < 2 ^ 64 → HasTaken ys h.was → HasTaken (c.args.x ∷ ys) h.is) =
     search rules in
     on_ok_more c.in_ok-taken.taken (λ takes xs few audits. rw h.written (audits_taken xs c.args.self.now.sources.entries c.args.src c.args.x
     h.was h.is few h.found takes audits)) fact
