@@ -61,7 +61,7 @@ use Rattle.sr_audit.specs.Stretches.{
   gone_on,
   stretch_begun,
   current,
-  entered,
+  with_arrival,
   stretches,
 }
 use Rattle.sr_audit.specs.Tallies.{tally_of}
@@ -115,7 +115,7 @@ pub length-stretches : (xs : List Arrival) → sum_by length (stretches xs) ≡ 
 length-stretches [] = refl
 length-stretches (x ∷ xs) = more (stretches xs) (length-stretches xs)
   where
-    more : (ss : List (List Placed)) → sum_by length ss ≡ length xs → sum_by length (entered ss x) ≡ length (x ∷ xs)
+    more : (ss : List (List Placed)) → sum_by length ss ≡ length xs → sum_by length (with_arrival ss x) ≡ length (x ∷ xs)
     more [] e = omega (arith, e)
     more (s ∷ ss) e =
         elim (cases_Bool (goes_on s x)) [
@@ -211,7 +211,7 @@ pub on_follows : (xs : List Arrival) (x : Arrival) (old new : Numbers) → Follo
     }) → FollowsArrivals (x ∷ xs) new
 on_follows xs x old new follows fits few on seen last tally = go (stretches xs) follows (omega (arith, few, length-stretches xs))
   where
-    go : (ss : List (List Placed)) → KeepsFigures ss old → 1 + sum_by length ss ≤ 18446744073709551615 → KeepsFigures (entered ss x) new
+    go : (ss : List (List Placed)) → KeepsFigures ss old → 1 + sum_by length ss ≤ 18446744073709551615 → KeepsFigures (with_arrival ss x) new
     go [] stands most = absurd (none_stands old stands.seen)
     go ([] ∷ rest) stands most = absurd (none_stands old stands.seen)
     go ((y ∷ before) ∷ rest) stands most =
@@ -224,7 +224,7 @@ pub off_follows : (xs : List Arrival) (x : Arrival) (old new : Numbers) → Foll
     new.tally ≡ tally_with old.tally x.side (record { a = false; b = false }) → FollowsArrivals (x ∷ xs) new
 off_follows xs x old new follows fits few off seen last tally = go (stretches xs) follows (omega (arith, few, length-stretches xs))
   where
-    go : (ss : List (List Placed)) → KeepsFigures ss old → 1 + sum_by length ss ≤ 18446744073709551615 → KeepsFigures (entered ss x) new
+    go : (ss : List (List Placed)) → KeepsFigures ss old → 1 + sum_by length ss ≤ 18446744073709551615 → KeepsFigures (with_arrival ss x) new
     go [] stands most = absurd (none_stands old stands.seen)
     go ([] ∷ rest) stands most = absurd (none_stands old stands.seen)
     go ((y ∷ before) ∷ rest) stands most =

@@ -60,14 +60,14 @@ current [] = []
 current (s ∷ before) = s
 
 -- the stretches with one arrival more
-abbrev pub entered : List (List Placed) → Arrival → List (List Placed)
-entered [] x = stretch_begun x ∷ []
-entered (s ∷ before) x = if goes_on s x then gone_on s x ∷ before else stretch_begun x ∷ s ∷ before
+abbrev pub with_arrival : List (List Placed) → Arrival → List (List Placed)
+with_arrival [] x = stretch_begun x ∷ []
+with_arrival (s ∷ before) x = if goes_on s x then gone_on s x ∷ before else stretch_begun x ∷ s ∷ before
 
 -- the stretches of the arrivals of a source, newest first
 abbrev pub stretches : List Arrival → List (List Placed)
 stretches [] = []
-stretches (x ∷ before) = entered (stretches before) x
+stretches (x ∷ before) = with_arrival (stretches before) x
 
 -- a copy of a frame of a stretch came in at a side
 abbrev pub came : Side → ℤ → List Placed → Bool

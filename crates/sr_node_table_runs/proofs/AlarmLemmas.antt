@@ -98,7 +98,7 @@ module _ (events : List Event) (now removal : ℕ) (order : AreBefore now (kept_
       (is_live_by (kept_in events) now m) (is_late A (kept_of m events) now) (is_late B (kept_of m events) now)
       (late_is_heard A (kept_of m events) now) (late_is_heard B (kept_of m events) now) (one_is_late (kept_of m events) now) ys) ks have)
 
-  -- and what it finds late
+  -- what a prune finds late of an address
   abbrev late_of : Mac → Option Port
   late_of k = late_by (kept_of k events) now
 

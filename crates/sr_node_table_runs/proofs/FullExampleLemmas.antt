@@ -81,7 +81,7 @@ live_then u (suc n) lt m e = by (mac_eq (numbered_node n) m) refl (live_then u n
     by true t ih = ap (λ b. b || is_heard (of_address m (heard n)) u) (lt-ltb (u - 0) 60000 (omega arith))
     by false t ih = ih (before t)
 
--- and then no more
+-- it is silent then, and no more live
 silent_then : (n : ℕ) (m : Mac) → is_live_by (heard n) 60000 m ≡ false
 unfolding heard
 silent_then zero m = refl
@@ -227,7 +227,7 @@ raised_in_time =
     ∙ all_down (entered (crowd 1024))
     ∙ ap (map (λ m. NodeDown m 60000)) (crowd_entered 1024 (omega arith))
 
--- and the new one alone is listed
+-- the new one alone is listed
 makes_in_time : makes_entry in_time (kept_in (crowd 1024)) (removal_in (crowd 1024)) ≡ true
 makes_in_time = (and_parts (makes_entry in_time (kept_in (crowd 1024)) (removal_in (crowd 1024))) (is_filled (kept_in (crowd 1024)) (removal_in (crowd 1024))) removes_in_time).0
 

@@ -36,6 +36,6 @@ was_late_at_prune port mac [] = false
 was_late_at_prune port mac (Hears h ∷ events) = was_late_at_prune port mac events
 was_late_at_prune port mac (Prunes now ∷ events) = is_late port (kept_of mac events) now
 
--- and is late now, but was not then
+-- a port is late now, but was not at the latest prune
 abbrev pub is_newly_late : Port → Mac → ℕ → List Event → Bool
 is_newly_late port mac now events = is_late port (kept_of mac events) now && not (was_late_at_prune port mac events)
