@@ -60,7 +60,7 @@ module _ (events : List Event) (now removal : ℕ) (order : AreBefore now (kept_
   abbrev shown : Mac → Entry
   shown m = shown_by (kept_in events) m
 
-  -- those that are down
+  -- the alarms of addresses that are down
   pub downs_are : (ks : List Mac) → AllByRecursion HasEntry ks → downs_at now (with_each shown ks) ≡ flat_map (down_alarm now events) ks
   downs_are ks have =
       gathered-with_each shown (λ e. down_of e.0 e.1 now) (down_alarm now events) ks
@@ -98,7 +98,7 @@ module _ (events : List Event) (now removal : ℕ) (order : AreBefore now (kept_
       (is_live_by (kept_in events) now m) (is_late A (kept_of m events) now) (is_late B (kept_of m events) now)
       (late_is_heard A (kept_of m events) now) (late_is_heard B (kept_of m events) now) (one_is_late (kept_of m events) now) ys) ks have)
 
-  -- what a prune finds late of an address
+  -- the ports that a prune finds late
   abbrev late_of : Mac → Option Port
   late_of k = late_by (kept_of k events) now
 

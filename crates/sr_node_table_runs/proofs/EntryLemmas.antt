@@ -57,7 +57,7 @@ module _ {X : Type 0} where
           (λ j. (k, g (mac_same m k e j)) ∷ with_each-other f g m agree ks none j)
       by false e ih = (λ j. (k, agree k e j) ∷ ih j)
 
-  -- those whose value passes a test
+  -- the addresses whose value passes a test
   pub filter-with_each : (f : Mac → X) (test : X → Bool) (p : Mac → Bool) (ks : List Mac) → AllByRecursion (λ k. test (f k) ≡ p k) ks
       → filter (λ e. test e.1) (with_each f ks) ≡ with_each f (filter p ks)
   filter-with_each f test p [] h = refl

@@ -25,11 +25,11 @@ use Rattle.sr_node_table_runs.specs.TableLaws.{FullWhereOthersAreLive, StatusIsO
 pub none_is_full_before_1024 : FullWhereOthersAreLive → (events : List Event) (h : Hearing) → AreUpTo h.time events → length (others_live (kept_in events) h.time h.mac) ≡ 1023 → answer_to (table_after events) h ≡ Full → ⊥
 none_is_full_before_1024 law events h up few full = let e : length (others_live (kept_in events) h.time h.mac) ≡ 1024 = (law events h up).0 full in absurd (omega arith)
 
--- one without a limit: a new address is learned beside 1024 others
+-- a table without a limit: a new address is learned beside 1024 others
 pub none_learns_beyond_1024 : FullWhereOthersAreLive → (events : List Event) (h : Hearing) → AreUpTo h.time events → length (others_live (kept_in events) h.time h.mac) ≡ 1024 → answer_to (table_after events) h ≡ Learned → ⊥
 none_learns_beyond_1024 law events h up many learned = let e : Learned ≡ Full = sym learned ∙ (law events h up).1 many in cc
 
--- one that counts addresses which are silent: full though nobody is live
+-- a table that counts silent addresses: full though nobody is live
 pub none_is_full_of_silent_ones : FullWhereOthersAreLive → (events : List Event) (h : Hearing) → AreUpTo h.time events → others_live (kept_in events) h.time h.mac ≡ [] → answer_to (table_after events) h ≡ Full → ⊥
 none_is_full_of_silent_ones law events h up none full = let e : length (others_live (kept_in events) h.time h.mac) ≡ 1024 = (law events h up).0 full in absurd (omega (arith, ap length none))
 
@@ -42,11 +42,11 @@ is_first (mac ∷ macs) = mac_eq first_node mac
 pub none_lists_a_renewed_node_last : ListIsOfKept → AreUpTo 60000 renewed_node → listed_at (table_after renewed_node) 60000 ≡ second_node ∷ first_node ∷ [] → ⊥
 none_lists_a_renewed_node_last law up last = let e : false ≡ true = ap is_first (sym last ∙ law renewed_node 60000 up) in absurd (true≢false (sym e))
 
--- a table that tells of addresses which are silent
+-- a table that tells of silent addresses
 pub none_tells_of_the_silent : StatusIsOfKept → (events : List Event) (now : ℕ) (mac : Mac) → AreUpTo now events → is_live_by (kept_in events) now mac ≡ false → has_at (table_after events) mac now ≡ true → ⊥
 none_tells_of_the_silent law events now mac up silent there = let e : true ≡ false = sym there ∙ (law events now mac up).0 ∙ silent in cc
 
--- a prune that leaves them
+-- a prune that leaves silent addresses
 pub no_prune_leaves_the_silent : EntryIsOfKept → (events : List Event) (now : ℕ) (mac : Mac) → AreUpTo now events → is_live_by (kept_in events) now mac ≡ false
     → is_some (lookup (mac_eq mac) (table_after (Prunes now ∷ events)).entries) ≡ true → ⊥
 no_prune_leaves_the_silent law events now mac up silent there = let e : true ≡ false = sym there ∙ law (Prunes now ∷ events) now mac (omega arith, up) ∙ silent in cc
@@ -79,6 +79,6 @@ pub none_keeps_65_alarms : AlarmsAreTheLatest → (events : List Event) (now : �
 none_keeps_65_alarms law events now up many =
     absurd (omega (arith, ap length (law events now up), length-drop (length (raised_in events) - 64) (raised_in events)))
 
--- the oldest goes
+-- of 65 alarms the oldest goes
 pub the_oldest_goes : AlarmsAreTheLatest → (events : List Event) (now : ℕ) (oldest : Alarm) (later : List Alarm) → AreUpTo now events → raised_in events ≡ oldest ∷ later → length later ≡ 64 → (table_after events).alarms ≡ later
 the_oldest_goes law events now oldest later up all many = law events now up ∙ ap (keep_last 64) all ∙ ap (λ n. drop (suc n - 64) (oldest ∷ later)) many

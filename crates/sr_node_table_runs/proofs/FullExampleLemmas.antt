@@ -81,7 +81,7 @@ live_then u (suc n) lt m e = by (mac_eq (numbered_node n) m) refl (live_then u n
     by true t ih = ap (λ b. b || is_heard (of_address m (heard n)) u) (lt-ltb (u - 0) 60000 (omega arith))
     by false t ih = ih (before t)
 
--- it is silent then, and no more live
+-- after 60000 ms the first ones are live no more
 silent_then : (n : ℕ) (m : Mac) → is_live_by (heard n) 60000 m ≡ false
 unfolding heard
 silent_then zero m = refl
@@ -108,7 +108,7 @@ each_of P (k ∷ ks) h = (h k (ap (λ b. b || has ks k) (mac_refl k)), each_of P
     or_true true = refl
     or_true false = refl
 
--- they all find room, up to the 1024th
+-- each of the first 1024 finds room
 room_at : (n now : ℕ) → n < 1024 → finds_room (heard n) (heard_at n now) ≡ true
 room_at n now lt =
     let le : length (others_live (heard n) now (numbered_node n)) ≤ n =
@@ -176,7 +176,7 @@ crowd_entered n le =
     ∙ ap (filter (has_entry (heard n) 0)) (addresses_are n)
     ∙ first_live 0 n (omega arith)
 
--- those of another address are all of them
+-- the others of a later one are all of the first ones
 first_others : (u n : ℕ) → u < 60000 → others_live (heard n) u (numbered_node n) ≡ first_ones n
 first_others u n lt =
     ap (filter (λ m. is_live_by (heard n) u m && not (mac_eq (numbered_node n) m))) (addresses_are n)

@@ -24,15 +24,6 @@ implied_and true q h = ap (λ b. b && true) (h refl)
 implied_and false true h = refl
 implied_and false false h = refl
 
-and_comm : (p q : Bool) → (p && q) ≡ (q && p)
-and_comm true true = refl
-and_comm true false = refl
-and_comm false true = refl
-and_comm false false = refl
-
-not_self : (b : Bool) → b ≡ true → not b ≡ false
-not_self b e = ap not e
-
 pub length-filter_le : {X : Type 0} (p : X → Bool) (xs : List X) → length (filter p xs) ≤ length xs
 length-filter_le p [] = omega arith
 length-filter_le {X} p (x ∷ xs) = by (p x) (length-filter_le p xs)

@@ -40,7 +40,7 @@ all_entered hs makers removal = all_pass (is_live_by hs removal) (addresses make
 more_raised : (t : Table) (alarms more : List Alarm) (new : List Alarm) → t.alarms ≡ keep_last 64 alarms → new ≡ more → raised t.alarms new ≡ keep_last 64 (alarms ++ more)
 more_raised t alarms more new was is = (λ j. keep_last 64 (was j ++ is j)) ∙ last_again 64 alarms more
 
--- those that are live stay where they were
+-- the entries of live addresses stay where they were
 module _ (hs makers : List Hearing) (removal now : ℕ) (order : AreBefore now hs) (le : removal ≤ now) where
   abbrev ks : List Mac
   ks = entered_by hs removal makers

@@ -10,7 +10,7 @@ use Rattle.sr_node_table_runs.specs.Kept.{is_live_by, addresses, finds_room, kep
 abbrev pub has_entry : List Hearing → ℕ → Mac → Bool
 has_entry hs removal mac = is_live_by hs removal mac
 
--- 1024 addresses have one
+-- 1024 addresses have an entry
 abbrev pub is_filled : List Hearing → ℕ → Bool
 is_filled hs removal = nat_le most_nodes (length (filter (has_entry hs removal) (addresses hs)))
 
@@ -32,11 +32,12 @@ abbrev pub removal_in : List Event → ℕ
 removal_in [] = 0
 removal_in (e ∷ events) = removal_after e (kept_in events) (removal_in events)
 
--- the hearings that made an entry
+-- the hearings that made an entry, with one more event
 abbrev pub makers_with : Event → List Hearing → ℕ → List Hearing → List Hearing
 makers_with (Prunes now) hs removal makers = makers
 makers_with (Hears h) hs removal makers = if makes_entry h hs removal then h ∷ makers else makers
 
+-- the hearings of a run that made an entry
 abbrev pub makers_in : List Event → List Hearing
 makers_in [] = []
 makers_in (e ∷ events) = makers_with e (kept_in events) (removal_in events) (makers_in events)
@@ -49,6 +50,6 @@ has_entry_in events mac = has_entry (kept_in events) (removal_in events) mac
 abbrev pub entered : List Event → List Mac
 entered events = filter (has_entry_in events) (addresses (makers_in events))
 
--- those that are live, in the same order
+-- the live addresses, in the order in which their entries were made
 abbrev pub live_in : List Event → ℕ → List Mac
 live_in events now = filter (is_live_by (kept_in events) now) (entered events)

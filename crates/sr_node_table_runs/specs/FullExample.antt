@@ -15,12 +15,12 @@ use Rattle.sr_node_table.specs.Hearings.{Event, Hears, table_after}
 abbrev pub numbered_node : ℕ → Mac
 numbered_node n = record { 0 = 2 ∷ 0 ∷ 0 ∷ 0 ∷ n / 256 ∷ n % 256 ∷ [] }
 
--- the first ones
+-- the addresses of the numbers below this one
 unfoldable pub first_ones : ℕ → List Mac
 first_ones zero = []
 first_ones (suc n) = first_ones n ++ numbered_node n ∷ []
 
--- such a node is heard
+-- a hearing of a node with such an address
 abbrev pub heard_at : ℕ → ℕ → Hearing
 heard_at n now = hearing_of (numbered_node n) A (Numbered (record { 0 = 0 })) now
 

@@ -27,10 +27,11 @@ others_live hs now mac = filter (λ other. is_live_by hs now other && not (mac_e
 abbrev pub finds_room : List Hearing → Hearing → Bool
 finds_room hs h = nat_lt (length (others_live hs h.time h.mac)) most_nodes
 
--- the hearings that are kept: those that find room among the hearings kept before
+-- the kept hearings with one more: it is kept where it finds room among them
 abbrev pub kept_with : Hearing → List Hearing → List Hearing
 kept_with h hs = if finds_room hs h then h ∷ hs else hs
 
+-- the hearings of a run that are kept
 abbrev pub kept_in : List Event → List Hearing
 kept_in [] = []
 kept_in (Hears h ∷ events) = kept_with h (kept_in events)

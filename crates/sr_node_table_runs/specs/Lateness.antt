@@ -30,12 +30,12 @@ is_late port (h ∷ hs) now =
     && nat_lt (now - h.time) heard_lately
     && not (list_any (λ x. is_heard_at port x && nat_le (h.time - x.time) most_behind) (h ∷ hs))
 
--- it was late at the latest prune
+-- a port of an address was late at the latest prune
 abbrev pub was_late_at_prune : Port → Mac → List Event → Bool
 was_late_at_prune port mac [] = false
 was_late_at_prune port mac (Hears h ∷ events) = was_late_at_prune port mac events
 was_late_at_prune port mac (Prunes now ∷ events) = is_late port (kept_of mac events) now
 
--- a port is late now, but was not at the latest prune
+-- a port of an address is late now, and was not late at the latest prune
 abbrev pub is_newly_late : Port → Mac → ℕ → List Event → Bool
 is_newly_late port mac now events = is_late port (kept_of mac events) now && not (was_late_at_prune port mac events)

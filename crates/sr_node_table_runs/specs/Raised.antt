@@ -11,6 +11,7 @@ use Rattle.sr_node_table_runs.specs.Kept.{is_live_by, kept_in}
 use Rattle.sr_node_table_runs.specs.Entered.{removes, removal_in, entered}
 use Rattle.sr_node_table_runs.specs.Lateness.{is_newly_late}
 
+-- one alarm or none
 abbrev pub alarm_if : Bool → Alarm → List Alarm
 alarm_if raised alarm = if raised then alarm ∷ [] else []
 
@@ -18,9 +19,11 @@ alarm_if raised alarm = if raised then alarm ∷ [] else []
 abbrev pub down_alarm : ℕ → List Event → Mac → List Alarm
 down_alarm now events mac = alarm_if (not (is_live_by (kept_in events) now mac)) (NodeDown mac now)
 
+-- a port is told of where it is newly late
 abbrev pub ring_alarm : Port → ℕ → List Event → Mac → List Alarm
 ring_alarm port now events mac = alarm_if (is_newly_late port mac now events) (RingError mac port now)
 
+-- what a prune raises of one address
 abbrev pub prune_alarms : ℕ → List Event → Mac → List Alarm
 prune_alarms now events mac = ring_alarm A now events mac ++ (ring_alarm B now events mac ++ down_alarm now events mac)
 

@@ -44,7 +44,7 @@ StatusIsOfKept =
     → (has_at (table_after events) mac now ≡ is_live_by (kept_in events) now mac)
     × (status_at (table_after events) mac now ≡ status_by (kept_of mac events) mac now)
 
--- they are listed in the order in which their entries were made
+-- the live addresses are listed in the order in which their entries were made
 abbrev pub ListIsOfKept : Type 0
 ListIsOfKept =
     (events : List Event) (now : ℕ) → AreUpTo now events → listed_at (table_after events) now ≡ live_in events now
@@ -54,11 +54,11 @@ abbrev pub EntriesAreOfKept : Type 0
 EntriesAreOfKept =
     (events : List Event) (now : ℕ) → AreUpTo now events → map (λ e. e.0) (table_after events).entries ≡ entered events
 
--- no address has two
+-- no address has two entries
 abbrev pub EntriesAreDistinct : Type 0
 EntriesAreDistinct = (events : List Event) (now : ℕ) → AreUpTo now events → IsDistinct mac_eq (entered events)
 
--- an entry is there exactly where the address was live at the last removal, or was heard since
+-- an address has an entry exactly where it was live at the last removal, or was heard since
 abbrev pub EntryIsOfKept : Type 0
 EntryIsOfKept =
     (events : List Event) (now : ℕ) (mac : Mac) → AreUpTo now events
@@ -69,7 +69,7 @@ abbrev pub AlarmsAreTheLatest : Type 0
 AlarmsAreTheLatest =
     (events : List Event) (now : ℕ) → AreUpTo now events → (table_after events).alarms ≡ keep_last most_alarms (raised_in events)
 
--- each event adds those that it raises
+-- each event adds the alarms that it raises
 abbrev pub EachEventAddsItsAlarms : Type 0
 EachEventAddsItsAlarms =
     (e : Event) (events : List Event) → AreUpTo (time_of e) events
