@@ -146,6 +146,10 @@ fn forgets_of(logs: &mut Vec<Log>, worker: Worker, place: usize) -> bool {
     }
 }
 
+fn settled<R: Role, L: Ledger>(kept: &Kept<R, L>, logs: &[Log]) -> Settlement {
+    settle(kept.journal.as_slice(), logs)
+}
+
 fn goes<R: Role, L: Ledger>(alloc: Global, desk: &mut Desk<R, L>, step: Step) -> bool {
     match step {
         Step::Enter(worker, act, wanted) => entered(alloc, desk, worker, act) == wanted,
@@ -157,9 +161,7 @@ fn goes<R: Role, L: Ledger>(alloc: Global, desk: &mut Desk<R, L>, step: Step) ->
         }
         Step::Forget(worker, place) => forgets_of(&mut desk.logs, worker, place),
         Step::Exchange => exchanges(&mut desk.segments),
-        Step::Settles(wanted) => {
-            settle(desk.kept.journal.as_slice(), desk.logs.as_slice()) == wanted
-        }
+        Step::Settles(wanted) => settled(&desk.kept, desk.logs.as_slice()) == wanted,
         Step::SettlesAll(wanted) => {
             settle_all(desk.segments.as_slice(), desk.logs.as_slice()) == wanted
         }
