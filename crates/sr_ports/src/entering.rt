@@ -10,7 +10,7 @@ ghost use Rattle.sr_ports.specs.Entering.{is_journal_full, enter_fault};
 use crate::{EnterFault, Entry, Kept, Pass, Worker};
 use sr_forwarding::{Parcel, Role};
 use sr_frame::NoMemory;
-use sr_node::{Answer, Event, NodeOf, StepFault};
+use sr_node::{Answer, Event, NodeOf};
 use std::alloc::Global;
 use std::sync::ledger::Ledger;
 
@@ -57,24 +57,16 @@ pub fn enter<R: Role, L: Ledger>(
         book,
         ..
     } = kept;
-    if let Err(fault) = node.check(event) {
-        return Err(EnterFault::Step(fault));
-    }
+    node.check(event)?;
     if journal.len() >= MAX_ENTRIES || *closed + journal.len() as u64 == u64::MAX {
         return Err(EnterFault::JournalFull);
     }
-    let Ok((twin, front)) = prepare(node, journal, event) else {
-        return Err(EnterFault::Step(StepFault::NoMemory));
-    };
-    match node.step(event) {
-        Err(fault) => Err(EnterFault::Step(fault)),
-        Ok(answer) => {
-            let again = with_parcel(&answer, front);
-            journal.push_reserved(entry_of(pass.worker(), twin, again));
-            pass.raise(book);
-            Ok(answer)
-        }
-    }
+    let (twin, front) = prepare(node, journal, event)?;
+    let answer = node.step(event)?;
+    let again = with_parcel(&answer, front);
+    journal.push_reserved(entry_of(pass.worker(), twin, again));
+    pass.raise(book);
+    Ok(answer)
 }
 
 fn entry_of(worker: Worker, event: Event, answer: Answer) -> Entry
@@ -101,9 +93,7 @@ fn prepare<R: Role>(
     ensures len { vec_len journal.new ≡ vec_len journal.old }
 {
     let alloc = *journal.allocator();
-    let Ok(()) = journal.reserve(1) else {
-        return Err(NoMemory);
-    };
+    journal.reserve(1)?;
     let twin = event.try_clone(alloc)?;
     let front = front_of(node, alloc, event)?;
     Ok((twin, front))

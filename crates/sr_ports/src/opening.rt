@@ -3,6 +3,7 @@
 ghost use Rattle.std.specs.Prelude.{◌≡◌, ◌+◌, [], IfOk, vec_len};
 ghost use Rattle.sr_node.specs.Images.{node_state};
 ghost use Rattle.sr_node.specs.NodeImages.{state_of};
+ghost use Rattle.sr_ports.specs.Histories.{Steps};
 ghost use Rattle.sr_ports.specs.Stamps.{stamp};
 
 use crate::{Kept, Pass, Passes, SharedNode, Worker};
@@ -135,8 +136,13 @@ impl<R: Role, L: Ledger> SharedNode<R, L> {
         Ok((shared, passes))
     }
 
-    /// What lies under the lock, out of it.
-    pub fn into_kept(self) -> Kept<R, L> {
+    /// Takes what lies under the lock out of it: a history that one thread could have made, from the opening to the node as it
+    /// is, and as many entries as the book says.
+    pub fn into_kept(self) -> Kept<R, L>
+        ensures legal { ∥ Steps (state_of result.opening) result.journal.items
+            (node_state (R.meaning result.node.role) result.node.core) ∥₁ }
+        ensures counted { result.closed + vec_len result.journal ≡ result.book.total }
+    {
         self.kept.into_inner()
     }
 }
