@@ -16,12 +16,23 @@ enum Said {
 #[derive(Clone, Copy)]
 struct Pair(u64, Said);
 
-// What workers entered, the log of each, and what they settle to.
-struct Case {
-    entries: &'static [(Worker, Pair)],
-    logs: &'static [(Worker, &'static [Pair])],
-    wanted: Settlement,
+// Which logs there are.
+#[derive(Clone, Copy)]
+enum Logs {
+    // One of each worker, which has both pairs.
+    Whole,
+    // So, but this worker's log has these pairs.
+    Other(Worker, &'static [Pair]),
+    // So, but this worker has none.
+    Lacking(Worker),
+    // So, and another one that names this worker.
+    Further(Worker),
+    // None.
+    None,
 }
+
+// What workers entered, and what it settles to beside which logs.
+struct Case(&'static [(Worker, Pair)], Logs, Settlement);
 
 fn event_of(pair: Pair) -> Event {
     Event::Tick { now: pair.0 }
@@ -56,35 +67,61 @@ fn log_of(alloc: Global, worker: Worker, pairs: &[Pair]) -> Result<Log, NoMemory
     Ok(log)
 }
 
-fn logs_of(alloc: Global, rows: &[(Worker, &'static [Pair])]) -> Result<Vec<Log>, NoMemory> {
-    let mut logs = Vec::new(alloc);
-    for (worker, pairs) in rows {
-        logs.reserve(1)?;
-        logs.push_reserved(log_of(alloc, *worker, pairs)?);
+// The pairs of a worker's log, if it has one.
+fn pairs_of(worker: Worker, logs: Logs) -> Option<&'static [Pair]> {
+    match logs {
+        Logs::None => None,
+        Logs::Lacking(other) if other == worker => None,
+        Logs::Other(other, pairs) if other == worker => Some(pairs),
+        _ => Some(BOTH),
     }
+}
+
+fn add_log(logs: &mut Vec<Log>, log: Log) -> Result<(), NoMemory> {
+    logs.reserve(1)?;
+    logs.push_reserved(log);
+    Ok(())
+}
+
+// Each worker's log, in another order than that of the workers.
+fn add_logs(alloc: Global, logs: &mut Vec<Log>, which: Logs) -> Result<(), NoMemory> {
+    for worker in [Worker::Host, Worker::B, Worker::A, Worker::Ager, Worker::C] {
+        if let Some(pairs) = pairs_of(worker, which) {
+            add_log(logs, log_of(alloc, worker, pairs)?)?;
+        }
+    }
+    match which {
+        Logs::Further(worker) => add_log(logs, Log::new(alloc, worker)),
+        _ => Ok(()),
+    }
+}
+
+fn logs_of(alloc: Global, which: Logs) -> Result<Vec<Log>, NoMemory> {
+    let mut logs = Vec::new(alloc);
+    add_logs(alloc, &mut logs, which)?;
     Ok(logs)
 }
 
-// What the logs settle to. None for want of memory.
+// What the logs settle to. None where an allocation failed, here and below.
 fn settled_beside(alloc: Global, entries: &[Entry], case: &Case) -> Option<Settlement> {
-    match logs_of(alloc, case.logs) {
+    match logs_of(alloc, case.1) {
         Ok(logs) => Some(settle(entries, logs.as_slice())),
         Err(_) => None,
     }
 }
 
 fn settled(alloc: Global, case: &Case) -> Option<Settlement> {
-    match entries_of(alloc, case.entries) {
+    match entries_of(alloc, case.0) {
         Ok(entries) => settled_beside(alloc, entries.as_slice(), case),
         Err(_) => None,
     }
 }
 
-// Want of memory is met by another try.
+// An allocation that fails is met by another try.
 fn is_right(alloc: Global, case: &Case) -> bool {
     match settled(alloc, case) {
-        Some(found) => found == case.wanted,
-        None => settled(alloc, case) == Some(case.wanted),
+        Some(found) => found == case.2,
+        None => settled(alloc, case) == Some(case.2),
     }
 }
 
@@ -119,96 +156,53 @@ const BOTH: &[Pair] = &[ONE, TWO];
 
 const CASES: &[Case] = &[
     // Each log is its worker's part, in whatever order the logs stand.
-    Case {
-        entries: ALL,
-        logs: &[
-            (Worker::Host, BOTH),
-            (Worker::B, BOTH),
-            (Worker::A, BOTH),
-            (Worker::Ager, BOTH),
-            (Worker::C, BOTH),
-        ],
-        wanted: Settlement::Settled,
-    },
+    Case(ALL, Logs::Whole, Settlement::Settled),
     // Nothing was entered, and nobody has a log.
-    Case {
-        entries: &[],
-        logs: &[],
-        wanted: Settlement::Settled,
-    },
+    Case(&[], Logs::None, Settlement::Settled),
     // No log counts as an empty one.
-    Case {
-        entries: &[(Worker::A, ONE)],
-        logs: &[(Worker::A, &[ONE])],
-        wanted: Settlement::Settled,
-    },
+    Case(
+        &[(Worker::B, ONE)],
+        Logs::None,
+        Settlement::Disagrees(Worker::B),
+    ),
+    // The first worker is named.
+    Case(ALL, Logs::None, Settlement::Disagrees(Worker::A)),
     // A entered one that its log lacks.
-    Case {
-        entries: ALL,
-        logs: &[
-            (Worker::A, &[TWO]),
-            (Worker::B, BOTH),
-            (Worker::C, BOTH),
-            (Worker::Ager, BOTH),
-            (Worker::Host, BOTH),
-        ],
-        wanted: Settlement::Disagrees(Worker::A),
-    },
+    Case(
+        ALL,
+        Logs::Other(Worker::A, &[TWO]),
+        Settlement::Disagrees(Worker::A),
+    ),
     // B was answered something else.
-    Case {
-        entries: ALL,
-        logs: &[
-            (Worker::A, BOTH),
-            (Worker::B, &[ONE, Pair(2, Said::Own)]),
-            (Worker::C, BOTH),
-            (Worker::Ager, BOTH),
-            (Worker::Host, BOTH),
-        ],
-        wanted: Settlement::Disagrees(Worker::B),
-    },
+    Case(
+        ALL,
+        Logs::Other(Worker::B, &[ONE, Pair(2, Said::Own)]),
+        Settlement::Disagrees(Worker::B),
+    ),
     // C has the two in another order.
-    Case {
-        entries: ALL,
-        logs: &[
-            (Worker::A, BOTH),
-            (Worker::B, BOTH),
-            (Worker::C, &[TWO, ONE]),
-            (Worker::Ager, BOTH),
-            (Worker::Host, BOTH),
-        ],
-        wanted: Settlement::Disagrees(Worker::C),
-    },
+    Case(
+        ALL,
+        Logs::Other(Worker::C, &[TWO, ONE]),
+        Settlement::Disagrees(Worker::C),
+    ),
     // The ager's log has one that it did not enter.
-    Case {
-        entries: ALL,
-        logs: &[
-            (Worker::A, BOTH),
-            (Worker::B, BOTH),
-            (Worker::C, BOTH),
-            (Worker::Ager, &[ONE, TWO, TWO]),
-            (Worker::Host, BOTH),
-        ],
-        wanted: Settlement::Disagrees(Worker::Ager),
-    },
-    // The host has two logs.
-    Case {
-        entries: ALL,
-        logs: &[
-            (Worker::A, BOTH),
-            (Worker::B, BOTH),
-            (Worker::C, BOTH),
-            (Worker::Ager, BOTH),
-            (Worker::Host, BOTH),
-            (Worker::Host, &[]),
-        ],
-        wanted: Settlement::Disagrees(Worker::Host),
-    },
-    // The host has none. Of C and the host C comes first.
-    Case {
-        entries: ALL,
-        logs: &[(Worker::A, BOTH), (Worker::B, BOTH), (Worker::Ager, BOTH)],
-        wanted: Settlement::Disagrees(Worker::C),
-    },
+    Case(
+        ALL,
+        Logs::Other(Worker::Ager, &[ONE, TWO, TWO]),
+        Settlement::Disagrees(Worker::Ager),
+    ),
+    // The host has two logs, of which one is empty.
+    Case(
+        ALL,
+        Logs::Further(Worker::Host),
+        Settlement::Disagrees(Worker::Host),
+    ),
+    // C has none.
+    Case(
+        ALL,
+        Logs::Lacking(Worker::C),
+        Settlement::Disagrees(Worker::C),
+    ),
 ];
 
 #[test]

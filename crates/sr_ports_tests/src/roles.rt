@@ -2,63 +2,84 @@
 
 ghost use Rattle.std.specs.Prelude.{◌≡◌};
 
-use super::steps::OWN;
-use sr_forwarding::{Danh, Framing, HsrFraming, Parcel, Role, RoleKind};
+use super::frames::{EVERYONE, OTHER, OWN, in_ring};
+use sr_forwarding::{Danh, Role, RoleKind};
 use sr_frame::{Mac, Port};
 use sr_node::{Answer, Event, Node, NodeOf};
-use sr_ports::{EnterFault, Kept, Pass, SwapFault, enter};
+use sr_ports::{EnterFault, Kept, Pass, SharedNode, SwapFault, enter};
 use sr_redbox::SanBox;
 use std::alloc::Global;
 use std::marker::Brand;
+use std::sync::Wait;
 use std::sync::ledger::{Blank, Ledger};
 
-// A ring frame of the other node for this one, on path 0, under number 5.
-const OCTETS: [u8; 66] = [
-    2, 0, 0, 0, 0, 1, 2, 0, 0, 0, 0, 2, 0x89, 0x2f, 0, 0x34, 0, 5, 8, 0, 0, 0, 0, 0, 0, 0, 0, 0, 0,
-    0, 0, 0, 0, 0, 0, 0, 0, 0, 0, 0, 0, 0, 0, 0, 0, 0, 0, 0, 0, 0, 0, 0, 0, 0, 0, 0, 0, 0, 0, 0, 0,
-    0, 0, 0, 0, 0,
+// A ring frame of the other node: its destination, its number, the port at which it comes in, and whether it goes to each of
+// H, A, B and C.
+#[derive(Clone, Copy)]
+struct Arrival(Mac, u16, Port, [bool; 4]);
+
+// What a node of a ring does with first copies.
+const FIRST: &[Arrival] = &[
+    Arrival(OWN, 5, Port::A, [true, false, false, false]),
+    Arrival(EVERYONE, 6, Port::A, [true, false, true, false]),
 ];
 
-const OTHER: Mac = Mac([2, 0, 0, 0, 0, 2]);
+// What a RedBox for SANs does with further copies: none goes where the first went.
+const FURTHER: &[Arrival] = &[
+    Arrival(OWN, 5, Port::B, [false, false, false, false]),
+    Arrival(EVERYONE, 6, Port::B, [false, true, false, true]),
+    Arrival(EVERYONE, 6, Port::A, [false, false, false, false]),
+];
 
-// None for want of memory.
-fn read(alloc: Global) -> Option<Parcel> {
-    HsrFraming { path: 0 }.decode(alloc, &OCTETS).ok()
-}
-
-fn goes_up(entered: &Result<Answer, EnterFault>) -> Option<bool> {
+// None where the event is refused.
+fn outlets_of(entered: &Result<Answer, EnterFault>) -> Option<[bool; 4]> {
     match entered {
-        Ok(Answer::Passed(outlets)) => Some(outlets.has(Port::H)),
+        Ok(Answer::Passed(outlets)) => Some([
+            outlets.has(Port::H),
+            outlets.has(Port::A),
+            outlets.has(Port::B),
+            outlets.has(Port::C),
+        ]),
         _ => None,
     }
 }
 
-// Whether the frame goes up as it comes in at this port. None where it is refused.
-fn arrives<R: Role, L: Ledger>(
+// None where an allocation failed.
+fn comes_in<R: Role, L: Ledger>(
+    alloc: Global,
     kept: &mut Kept<R, L>,
     pass: &mut Pass<L>,
-    parcel: Parcel,
-    port: Port,
-) -> Option<bool> {
+    arrival: Arrival,
+) -> Option<[bool; 4]> {
+    let Arrival(dst, seq, port, _) = arrival;
+    let parcel = in_ring(alloc, port, dst, seq).ok()?;
     let event = Event::Arrive {
         port,
         parcel,
         now: 0,
     };
-    goes_up(&enter(kept, pass, &event))
+    outlets_of(&enter(kept, pass, &event))
 }
 
-fn comes_in<R: Role, L: Ledger>(
+// Whether each goes where it has to. An allocation that fails is met by another try.
+fn go<R: Role, L: Ledger>(
     alloc: Global,
     kept: &mut Kept<R, L>,
     pass: &mut Pass<L>,
-    port: Port,
-) -> Option<bool> {
-    let parcel = read(alloc)?;
-    arrives(kept, pass, parcel, port)
+    arrivals: &[Arrival],
+) -> bool {
+    for arrival in arrivals {
+        let wanted = Some(arrival.3);
+        if comes_in(alloc, kept, pass, *arrival) != wanted
+            && comes_in(alloc, kept, pass, *arrival) != wanted
+        {
+            return false;
+        }
+    }
+    true
 }
 
-// The kind of the role that comes back, and whether it is the one that was given.
+// The kind of the role that comes back, and why it is the given one, if it is.
 fn given_back<R: Role, L: Ledger>(kept: &mut Kept<R, L>, role: R) -> (RoleKind, Option<SwapFault>) {
     match kept.replace_role(role) {
         Ok((segment, old)) => {
@@ -69,7 +90,7 @@ fn given_back<R: Role, L: Ledger>(kept: &mut Kept<R, L>, role: R) -> (RoleKind, 
     }
 }
 
-// What a node of a ring does whose role is exchanged twice, the first time for one of another address.
+// What a node of a ring does that is given two other roles, the first one of another address.
 fn lives<R: Role, L: Ledger>(
     alloc: Global,
     kept: &mut Kept<R, L>,
@@ -77,21 +98,17 @@ fn lives<R: Role, L: Ledger>(
     foreign: R,
     san: R,
 ) -> bool {
-    let first = comes_in(alloc, kept, pass, Port::A);
-    let refused = given_back(kept, foreign);
-    let entries = kept.journal.len();
-    let swapped = given_back(kept, san);
-    let copy = comes_in(alloc, kept, pass, Port::B);
-    first == Some(true)
-        && refused == (RoleKind::Danh, Some(SwapFault::OtherMac))
-        && entries == 1
-        && swapped == (RoleKind::Danh, None)
+    go(alloc, kept, pass, FIRST)
+        && given_back(kept, foreign) == (RoleKind::Danh, Some(SwapFault::OtherMac))
+        && kept.journal.len() == FIRST.len()
+        && given_back(kept, san) == (RoleKind::Danh, None)
+        && kept.journal.is_empty()
         && kept.node.kind() == RoleKind::San
-        && kept.journal.len() == 1
-        && copy == Some(false)
+        && go(alloc, kept, pass, FURTHER)
 }
 
-fn lived<R: Role, L: Ledger>(
+fn lived<R: Role, L: Ledger, W: Wait>(
+    rt: &W,
     alloc: Global,
     node: NodeOf<R>,
     foreign: R,
@@ -102,10 +119,13 @@ fn lived<R: Role, L: Ledger>(
     requires parts { blank.parts ≡ L.parts }
     requires five { L.parts ≡ 5 }
 {
-    match Kept::<R, L>::new(alloc, node, blank) {
-        Ok((mut kept, mut passes)) => {
-            let is_right = lives(alloc, &mut kept, &mut passes.a, foreign, san);
-            drop(kept);
+    match SharedNode::<R, L>::new(alloc, node, blank) {
+        Ok((shared, mut passes)) => {
+            let is_right = {
+                let mut kept = shared.kept.lock(rt);
+                lives(alloc, &mut *kept, &mut passes.a, foreign, san)
+            };
+            drop(shared);
             drop(passes);
             is_right
         }
@@ -113,39 +133,41 @@ fn lived<R: Role, L: Ledger>(
     }
 }
 
-// The same, with the roles in boxes.
-fn lived_in_boxes(
+// Passes a box for the role.
+fn lived_in_boxes<W: Wait>(
+    rt: &W,
     alloc: Global,
     node: Node,
     foreign: Box<dyn Role + Send>,
     san: Box<dyn Role + Send>,
 ) -> bool {
-    lived::<Box<dyn Role + Send>, Brand>(alloc, node, foreign, san, Blank::new(5))
+    lived::<Box<dyn Role + Send>, Brand, W>(rt, alloc, node, foreign, san, Blank::new(5))
 }
 
-// None for want of memory, here and below.
-fn with_roles(
+// None where an allocation failed, here and below.
+fn with_roles<W: Wait>(
+    rt: &W,
     alloc: Global,
     danh: Box<dyn Role + Send>,
     foreign: Box<dyn Role + Send>,
     san: Box<dyn Role + Send>,
 ) -> Option<bool> {
     match Node::new(alloc, danh) {
-        Ok(node) => Some(lived_in_boxes(alloc, node, foreign, san)),
+        Ok(node) => Some(lived_in_boxes(rt, alloc, node, foreign, san)),
         Err(_) => None,
     }
 }
 
-fn told(alloc: Global) -> Option<bool> {
+fn told<W: Wait>(rt: &W, alloc: Global) -> Option<bool> {
     let danh = Box::new(alloc, Danh::new(OWN)).ok()?;
     let foreign = Box::new(alloc, Danh::new(OTHER)).ok()?;
     let san = Box::new(alloc, SanBox::new(alloc, OWN)).ok()?;
-    with_roles(alloc, danh, foreign, san)
+    with_roles(rt, alloc, danh, foreign, san)
 }
 
-// Want of memory is met by another try.
+// An allocation that fails is met by another try.
 #[test]
 fn another_role_knows_what_was_noted(rt: HostRuntime) {
     let alloc = rt.alloc();
-    assert!(&rt; told(alloc) == Some(true) || told(alloc) == Some(true));
+    assert!(&rt; told(&rt, alloc) == Some(true) || told(&rt, alloc) == Some(true));
 }

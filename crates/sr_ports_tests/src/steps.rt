@@ -3,26 +3,26 @@
 
 ghost use Rattle.std.specs.Prelude.{◌≡◌};
 
-use sr_forwarding::{Danp, Parcel, Role};
-use sr_frame::{Frame, Mac, NoMemory, Port};
-use sr_node::{Answer, Event, NodeImage, NodeOf, StepFault};
+use super::closing::{closes, exchanges, forgets};
+use super::entering::{NO_MEMORY, enter_beside, event_of, ticks};
+use super::frames::OWN;
+use sr_forwarding::{Danp, Role};
+use sr_frame::{NoMemory, Port};
+use sr_node::NodeOf;
 use sr_ports::{
-    EnterFault, Kept, Log, Pass, Passes, Segment, Settlement, Worker, enter, rotate, settle_all,
+    EnterFault, Kept, Log, Pass, Passes, Segment, Settlement, Worker, settle, settle_all,
 };
-use sr_sequence::Seq;
+use sr_prp_trailer::Lan;
 use std::alloc::Global;
 use std::marker::Brand;
 use std::process::Abort;
 use std::sync::ledger::{Blank, Ledger};
 
-/// The node.
-pub const OWN: Mac = Mac([2, 0, 0, 0, 0, 1]);
-
 /// What is entered.
 #[derive(Clone, Copy)]
 pub enum Act {
-    /// A frame of another node for the node comes in at port A, under this number.
-    In(u16),
+    /// The other node's frame for the node comes in from this LAN, under this number.
+    In(Lan, u16),
     /// Time passes.
     Tick(u64),
     /// A parcel is asked for.
@@ -32,12 +32,16 @@ pub enum Act {
 /// What it comes to.
 #[derive(Clone, Copy, PartialEq, Eq)]
 pub enum Outcome {
-    /// The frame went to the host.
+    /// The frame went to the host alone.
     Up,
-    /// Time passed.
+    /// Time passed, and no life check went out.
     Ticked,
-    /// The parcel of this number was taken out.
-    Took(u16),
+    /// Time passed, and a life check went out under this number.
+    Lived(u16),
+    /// The other node's frame was taken out without its trailer, under this number.
+    TookFrame(u16),
+    /// A life check was taken out under this number.
+    TookLife(u16),
     /// No parcel waited.
     Nothing,
     /// It was refused, and all is as it was.
@@ -55,18 +59,20 @@ pub enum Step {
     Enter(Worker, Act, Outcome),
     /// The worker of port A enters so many frames, under the numbers from 0 on, and each goes up.
     Fill(u16),
-    /// The ager enters so many ticks of time 0, and writes none of them down.
+    /// The ager enters so many ticks of time 0 that send no life check, and writes none of them down.
     Ticks(u32),
     /// The journal is closed as a segment.
     Rotate,
     /// How many entries the journal has, and how many closed journals have.
     Holds(usize, u64),
-    /// The worker's log loses its last pair.
-    Forget(Worker),
+    /// The worker's log loses the pair at this place.
+    Forget(Worker, usize),
     /// The first and the last segment are exchanged.
     Exchange,
-    /// What the closed segments and the logs settle to.
+    /// What the journal and the logs settle to.
     Settles(Settlement),
+    /// What the closed segments and the logs settle to.
+    SettlesAll(Settlement),
 }
 
 // What lies under a lock, and what workers have.
@@ -76,124 +82,6 @@ struct Desk<R: Role, L: Ledger> {
     passes: Passes<L>,
     logs: Vec<Log>,
     segments: Vec<Segment>,
-}
-
-const NO_MEMORY: Outcome = Outcome::Refused(EnterFault::Step(StepFault::NoMemory));
-
-const OCTETS: [u8; 60] = [
-    2, 0, 0, 0, 0, 1, 2, 0, 0, 0, 0, 2, 8, 0, 0, 0, 0, 0, 0, 0, 0, 0, 0, 0, 0, 0, 0, 0, 0, 0, 0, 0,
-    0, 0, 0, 0, 0, 0, 0, 0, 0, 0, 0, 0, 0, 0, 0, 0, 0, 0, 0, 0, 0, 0, 0, 0, 0, 0, 0, 0,
-];
-
-// None for want of memory.
-fn event_of(alloc: Global, act: Act) -> Option<Event> {
-    match act {
-        Act::In(seq) => match Frame::copy(alloc, &OCTETS) {
-            Ok(frame) => Some(Event::Arrive {
-                port: Port::A,
-                parcel: Parcel::plain_with(frame, Some(Seq(seq))),
-                now: 0,
-            }),
-            Err(_) => None,
-        },
-        Act::Tick(now) => Some(Event::Tick { now }),
-        Act::Take(port) => Some(Event::Take { port }),
-    }
-}
-
-fn said(answer: &Answer) -> Outcome {
-    match answer {
-        Answer::Passed(outlets) if outlets.has(Port::H) => Outcome::Up,
-        Answer::Ticked { .. } => Outcome::Ticked,
-        Answer::Taken(Some(parcel)) => match parcel.seq() {
-            Some(Seq(seq)) => Outcome::Took(seq),
-            None => Outcome::Other,
-        },
-        Answer::Taken(None) => Outcome::Nothing,
-        _ => Outcome::Other,
-    }
-}
-
-// Enters an event, and writes it down.
-fn enter_once<R: Role, L: Ledger>(
-    kept: &mut Kept<R, L>,
-    pass: &mut Pass<L>,
-    log: &mut Log,
-    event: Event,
-) -> Outcome {
-    let Ok(()) = log.reserve() else {
-        return NO_MEMORY;
-    };
-    match enter(kept, pass, &event) {
-        Ok(answer) => {
-            let outcome = said(&answer);
-            log.push(event, answer);
-            outcome
-        }
-        Err(fault) => Outcome::Refused(fault),
-    }
-}
-
-// None for want of memory.
-fn is_still<R: Role>(node: &NodeOf<R>, before: &NodeImage) -> Option<bool> {
-    match node.image() {
-        Ok(image) => Some(image == *before),
-        Err(_) => None,
-    }
-}
-
-fn is_as<R: Role>(node: &NodeOf<R>, before: &NodeImage) -> bool {
-    match is_still(node, before) {
-        Some(is_same) => is_same,
-        None => is_still(node, before) == Some(true),
-    }
-}
-
-// Entries in the journal and in closed ones, events entered with the pass, and pairs in the log.
-fn counts<R: Role, L: Ledger>(
-    kept: &Kept<R, L>,
-    pass: &Pass<L>,
-    log: &Log,
-) -> (usize, u64, u64, usize) {
-    (
-        kept.journal.len(),
-        kept.closed,
-        pass.count(),
-        log.pairs.len(),
-    )
-}
-
-// The outcome, where a refusal left all as it was.
-fn enter_from<R: Role, L: Ledger>(
-    kept: &mut Kept<R, L>,
-    pass: &mut Pass<L>,
-    log: &mut Log,
-    event: Event,
-    before: &NodeImage,
-) -> Outcome {
-    let counted = counts(kept, pass, log);
-    let outcome = enter_once(kept, pass, log, event);
-    if !matches!(outcome, Outcome::Refused(_)) {
-        return outcome;
-    }
-    if counts(kept, pass, log) == counted && is_as(&kept.node, before) {
-        outcome
-    } else {
-        Outcome::Changed
-    }
-}
-
-// None for want of memory for the image.
-fn enter_beside<R: Role, L: Ledger>(
-    kept: &mut Kept<R, L>,
-    pass: &mut Pass<L>,
-    log: &mut Log,
-    event: Event,
-) -> Option<Outcome> {
-    match kept.node.image() {
-        Ok(before) => Some(enter_from(kept, pass, log, event, &before)),
-        Err(_) => None,
-    }
 }
 
 fn pass_of<L: Ledger>(passes: &mut Passes<L>, worker: Worker) -> &mut Pass<L> {
@@ -216,7 +104,7 @@ fn log_place(worker: Worker) -> usize {
     }
 }
 
-// None for want of memory beside the call.
+// None where an allocation beside the call failed.
 fn tried<R: Role, L: Ledger>(
     alloc: Global,
     desk: &mut Desk<R, L>,
@@ -225,11 +113,11 @@ fn tried<R: Role, L: Ledger>(
 ) -> Option<Outcome> {
     let log = desk.logs.get_mut(log_place(worker))?;
     let pass = pass_of(&mut desk.passes, worker);
-    let event = event_of(alloc, act)?;
+    let event = event_of(alloc, act).ok()?;
     enter_beside(&mut desk.kept, pass, log, event)
 }
 
-// Want of memory is met by another try.
+// An allocation that fails is met by another try.
 fn entered<R: Role, L: Ledger>(
     alloc: Global,
     desk: &mut Desk<R, L>,
@@ -244,60 +132,22 @@ fn entered<R: Role, L: Ledger>(
 
 fn fills<R: Role, L: Ledger>(alloc: Global, desk: &mut Desk<R, L>, count: u16) -> bool {
     for seq in 0..count {
-        if entered(alloc, desk, Worker::A, Act::In(seq)) != Outcome::Up {
+        if entered(alloc, desk, Worker::A, Act::In(Lan::A, seq)) != Outcome::Up {
             return false;
         }
     }
     true
 }
 
-fn ticks_once<R: Role, L: Ledger>(kept: &mut Kept<R, L>, pass: &mut Pass<L>) -> bool {
-    enter(kept, pass, &Event::Tick { now: 0 }).is_ok()
-}
-
-// Want of memory is met by another try.
-fn ticks<R: Role, L: Ledger>(kept: &mut Kept<R, L>, pass: &mut Pass<L>, count: u32) -> bool {
-    for _ in 0..count {
-        if !ticks_once(kept, pass) && !ticks_once(kept, pass) {
-            return false;
-        }
-    }
-    true
-}
-
-// NoMemory: a growth was refused, and nothing changed but the room for segments.
-fn close<R: Role, L: Ledger>(
-    kept: &mut Kept<R, L>,
-    segments: &mut Vec<Segment>,
-) -> Result<(), NoMemory> {
-    segments.reserve(1)?;
-    let segment = rotate(kept)?;
-    segments.push_reserved(segment);
-    Ok(())
-}
-
-fn closes<R: Role, L: Ledger>(kept: &mut Kept<R, L>, segments: &mut Vec<Segment>) -> bool {
-    let counted = (kept.journal.len(), kept.closed);
-    match close(kept, segments) {
-        Ok(()) => true,
-        Err(_) => (kept.journal.len(), kept.closed) == counted && close(kept, segments).is_ok(),
-    }
-}
-
-fn forgets(logs: &mut Vec<Log>, worker: Worker) -> bool {
+fn forgets_of(logs: &mut Vec<Log>, worker: Worker, place: usize) -> bool {
     match logs.get_mut(log_place(worker)) {
-        Some(log) => log.pairs.pop().is_some(),
+        Some(log) => forgets(log, place),
         None => false,
     }
 }
 
-fn exchanges(segments: &mut Vec<Segment>) -> bool {
-    let count = segments.len();
-    if count < 2 {
-        return false;
-    }
-    segments.swap(0, count - 1);
-    true
+fn settled<R: Role, L: Ledger>(kept: &Kept<R, L>, logs: &[Log]) -> Settlement {
+    settle(kept.journal.as_slice(), logs)
 }
 
 fn goes<R: Role, L: Ledger>(alloc: Global, desk: &mut Desk<R, L>, step: Step) -> bool {
@@ -309,9 +159,10 @@ fn goes<R: Role, L: Ledger>(alloc: Global, desk: &mut Desk<R, L>, step: Step) ->
         Step::Holds(entries, closed) => {
             (desk.kept.journal.len(), desk.kept.closed) == (entries, closed)
         }
-        Step::Forget(worker) => forgets(&mut desk.logs, worker),
+        Step::Forget(worker, place) => forgets_of(&mut desk.logs, worker, place),
         Step::Exchange => exchanges(&mut desk.segments),
-        Step::Settles(wanted) => {
+        Step::Settles(wanted) => settled(&desk.kept, desk.logs.as_slice()) == wanted,
+        Step::SettlesAll(wanted) => {
             settle_all(desk.segments.as_slice(), desk.logs.as_slice()) == wanted
         }
     }
@@ -340,7 +191,7 @@ fn add_logs(alloc: Global, logs: &mut Vec<Log>) -> Result<(), NoMemory> {
     Ok(())
 }
 
-// The number of steps where memory for the logs was refused.
+// The number of steps where an allocation for the logs failed.
 fn wrong_at<R: Role, L: Ledger>(
     alloc: Global,
     desk: &mut Desk<R, L>,
@@ -372,7 +223,7 @@ fn opened<R: Role, L: Ledger>(
     }
 }
 
-// So where memory for the node was refused.
+// So where the allocation for the node failed.
 fn wrong_of<R: Role, L: Ledger>(
     alloc: Global,
     node: NodeOf<R>,
@@ -400,7 +251,7 @@ fn wrong_danp(alloc: Global, steps: &[Step]) -> Option<usize> {
     }
 }
 
-// Where a growth is refused as the node is made, it is made again.
+// Where an allocation fails as the node is made, it is made again.
 fn wrong(alloc: Global, steps: &[Step]) -> Option<usize> {
     let wrong = wrong_danp(alloc, steps);
     if wrong == Some(steps.len()) {
