@@ -1,8 +1,10 @@
 -- What a turn brings.
 use Rattle.std.proofs.Common.{◌≡◌, ◌≢◌, ◌≤◌, ℕ, ◌+◌, List, [], ◌∷◌, ◌++◌, length, Option, Some, None, Bool, true, false, refl, sym, ap, ◌∙◌, subst, arith, append-nil, append_assoc, length-append, rules, true≢false}
-use Rattle.std.specs.Prelude.{MatchBool}
+use Rattle.std.specs.Prelude.{MatchBool, ◌↔◌, if◌then◌else◌}
 use Rattle.sr_frame.specs.declared.ports.Port.{Port}
 use Rattle.sr_frame.specs.declared.ports.Port.TheVariants as port
+use Rattle.sr_forwarding.specs.declared.fault.ReadFault.{ReadFault}
+use Rattle.sr_forwarding.specs.declared.fault.ReadFault.TheVariants.{NoMemory}
 use Rattle.sr_forwarding.specs.Parcels.{ParcelImage}
 use Rattle.sr_forwarding.specs.Framings.{FramingImage}
 use Rattle.sr_forwarding.specs.Encoding.{write_fault, IsWritten, Appends}
@@ -118,6 +120,14 @@ comes w f (turn.Tick now) octets e is = record { told_one = Timed now; one = ref
 comes w f turn.Idle octets e is = absurd is
 comes w f turn.End octets e is = absurd is
 
+-- what a turn becomes for a worker of another name that is the same
+pub becomes_at : (w w' : Worker) (f : FramingImage) (turn : Turn) (octets : List ℕ) (b : Becoming) → w' ≡ w → Becomes w' f turn octets b → Becomes w f turn octets b
+becomes_at w w' f turn octets b is p = subst (λ x. Becomes x f turn octets b) is p
+
+-- as much was unread
+pub brings_as : (w : Worker) (f : FramingImage) (turn : Turn) (octets : List ℕ) (n n' : ℕ) (ps ps' : List (Event × Answer)) (u u' u'' : ℕ) → u' ≡ u'' → Brings w f turn octets n n' ps ps' u u' → Brings w f turn octets n n' ps ps' u u''
+brings_as w f turn octets n n' ps ps' u u' u'' is b = subst (λ x. Brings w f turn octets n n' ps ps' u x) is b
+
 pub brings_entered : (w : Worker) (f : FramingImage) (turn : Turn) (octets : List ℕ) (b : Becoming) (e : Event) (a : Answer) (n n' : ℕ) (ps ps' : List (Event × Answer)) (u : ℕ) → b ≡ becoming.Event e → Becomes w f turn octets b → IsAnswerOf e a → n' ≡ n + 1 → ps' ≡ ps ++ (e, a) ∷ [] → Brings w f turn octets n n' ps ps' u u
 brings_entered w f turn octets b e a n n' ps ps' u event is answers count log =
     let c = comes w f turn octets e (subst (λ x. Becomes w f turn octets x) event is) in brings_one w f turn octets c.told_one e a n n' ps ps' u c.one c.event answers count log
@@ -150,19 +160,30 @@ pub brings_nothing : (w : Worker) (f : FramingImage) (turn : Turn) (octets : Lis
 brings_nothing w f turn octets b n ps u is becomes = nothing_at w f turn octets n ps u (subst (λ x. Becomes w f turn octets x) is becomes)
 
 -- a parcel was written, and given
-pub out_gave : (tells : Bool) (f : FramingImage) (p : ParcelImage) (g g' : List (List ℕ)) (given : Given) (q : ParcelImage) (old new octets : List ℕ) → q ≡ p → old ≡ [] → octets ≡ new → Appends f q old new → (tells ≡ true → g' ≡ g ++ put_of given octets) → Out tells f p g g'
-out_gave tells f p g g' given q old new octets view none is written put =
+pub out_gave : (tells : Bool) (f : FramingImage) (p : ParcelImage) (g g' : List (List ℕ)) (given : Given) (q : ParcelImage) (old new octets : List ℕ) → q ≡ p → old ≡ [] → octets ≡ new → write_fault f q ≡ None → Appends f q old new → (tells ≡ true → g' ≡ g ++ put_of given octets) → Out tells f p g g'
+out_gave tells f p g g' given q old new octets view none is can written put =
     let appends : Appends f p old new = subst (λ x. Appends f x old new) view written in
     let same : octets ≡ appends.written = is ∙ appends.appended ∙ ap (λ l. l ++ appends.written) none in
     record {
       gave = (given, octets) ∷ [];
-      sends = gave p given octets [] [] (subst (λ x. IsWritten f p.form p x) (sym same) appends.is_written) GivesEach.nothing;
+      sends = gave p given octets [] [] (sym (ap (λ x. write_fault f x) view) ∙ can) (subst (λ x. IsWritten f p.form p x) (sym same) appends.is_written) GivesEach.nothing;
       given = λ tell. put tell ∙ ap (λ l. g ++ l) (sym (append-nil (put_of given octets)));
     }
 
--- a parcel has no encoding
+-- a parcel that was refused, and not for a failed allocation, can't be written
+pub unwritable : (f : FramingImage) (p q : ParcelImage) (e : ReadFault) → q ≡ p → ((e ≡ NoMemory) ↔ (write_fault f q ≡ None)) → e ≢ NoMemory → write_fault f p ≢ None
+unwritable f p q e view exact other none = other (exact.1 (ap (λ x. write_fault f x) view ∙ none))
+
+-- a parcel can't be written
 pub out_none : (tells : Bool) (f : FramingImage) (p : ParcelImage) (g : List (List ℕ)) → write_fault f p ≢ None → Out tells f p g g
 out_none tells f p g bare = record { gave = []; sends = unwritten p [] [] bare GivesEach.nothing; given = λ tell. sym (append-nil g) }
+
+-- how often nothing was taken, by whether something was
+abbrev pub none_if : Bool → ℕ
+none_if some = if some then 0 else 1
+
+pub none_as : (b c : Bool) → b ≡ c → none_if b ≡ none_if c
+none_as b c is = ap none_if is
 
 -- which of two holds
 pub match_true : (P Q : Type 0) (b : Bool) → b ≡ true → MatchBool b P Q → P

@@ -41,4 +41,4 @@ Became-append w f ts ts' es es' u u' (unread t rest more n p) q =
 pub Sends-append : (f : FramingImage) (ps ps' : List ParcelImage) (gs gs' : List (Given × List ℕ)) → GivesEach f ps gs → GivesEach f ps' gs' → GivesEach f (ps ++ ps') (gs ++ gs')
 Sends-append f ps ps' gs gs' GivesEach.nothing q = q
 Sends-append f ps ps' gs gs' (unwritten p rest more bare s) q = unwritten p (rest ++ ps') (more ++ gs') bare (Sends-append f rest ps' more gs' s q)
-Sends-append f ps ps' gs gs' (gave p g octets rest more is s) q = gave p g octets (rest ++ ps') (more ++ gs') is (Sends-append f rest ps' more gs' s q)
+Sends-append f ps ps' gs gs' (gave p g octets rest more can is s) q = gave p g octets (rest ++ ps') (more ++ gs') can is (Sends-append f rest ps' more gs' s q)

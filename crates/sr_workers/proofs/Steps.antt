@@ -257,6 +257,15 @@ stopped_first tells w f turns reason held s t q =
       few = omega arith;
     }
 
+-- what is the same did the same
+pub finished_as : (tells : Bool) (w : Worker) (f : FramingImage) (turns : ℕ) (s s' t t' : Moment) (x x' : Bool) → s ≡ s' → t ≡ t' → x ≡ x' → Finished tells w f turns s t x → Finished tells w f turns s' t' x'
+finished_as tells w f turns s s' t t' x x' begin end ended p =
+    subst (λ (y : Moment × Moment × Bool). Finished tells w f turns y.0 y.1 y.2) (λ i. (begin i, end i, ended i)) p
+
+pub stopped_as : (tells : Bool) (w : Worker) (f : FramingImage) (turns : ℕ) (reason : WorkerFault) (held held' : Option ParcelImage) (s s' t t' : Moment) → held ≡ held' → s ≡ s' → t ≡ t' → Stopped tells w f turns reason held s t → Stopped tells w f turns reason held' s' t'
+stopped_as tells w f turns reason held held' s s' t t' is begin end p =
+    subst (λ (y : Option ParcelImage × Moment × Moment). Stopped tells w f turns reason y.0 y.1 y.2) (λ i. (is i, begin i, end i)) p
+
 -- how a worker ends
 pub worked_whole : (b : Begun) (e : Ended) → e.fault ≡ None → e.held ≡ None → Finished b.tells b.worker b.framing b.turns (beginning b) (ending e) e.ended → Worked b e
 worked_whole b e fault held p =

@@ -105,7 +105,7 @@ pub data GivesEach (f : FramingImage) : List ParcelImage → List (Given × List
   unwritten : (p : ParcelImage) (ps : List ParcelImage) (gs : List (Given × List ℕ))
       → write_fault f p ≢ None → GivesEach f ps gs → GivesEach f (p ∷ ps) gs
   gave : (p : ParcelImage) (g : Given) (octets : List ℕ) (ps : List ParcelImage) (gs : List (Given × List ℕ))
-      → IsWritten f p.form p octets → GivesEach f ps gs → GivesEach f (p ∷ ps) ((g, octets) ∷ gs)
+      → write_fault f p ≡ None → IsWritten f p.form p octets → GivesEach f ps gs → GivesEach f (p ∷ ps) ((g, octets) ∷ gs)
 
 -- those that were put
 abbrev pub puts : List (Given × List ℕ) → List (List ℕ)
