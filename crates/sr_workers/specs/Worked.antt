@@ -81,4 +81,4 @@ pub record EndedAs {F : Type 0} (tells : F → Bool) (handed : F → List Told) 
   pub pass : new.worker ≡ old.worker
   pub log : e.log.worker ≡ old.worker
   pub worked : Worked (worker_begun old.worker f turns old.count (tells feed) (handed feed) (given feed))
-    (ended handed given has_ended new.count e)
+      (ended handed given has_ended new.count e)

@@ -116,12 +116,12 @@ fn start_all<
     ensures each { IfOk result (λ hs. (i : ℕ) (k : _) (h : _) → i < vec_len kits
         → IsStartOf turns (slice_index_or kits.items i k) (slice_index_or hs.items i h).promise) }
 {
-    let mut handles = match Vec::with_capacity(alloc, kits.len()) {
-        Ok(handles) => handles,
-        Err(refused) => return Err(NoMemory::from(refused).into()),
-    };
+    let mut handles = Vec::new(alloc);
     let mut number: usize = 0;
     for kit in kits {
+        if let Err(refused) = handles.reserve(1) {
+            return Err(NoMemory::from(refused).into());
+        }
         match start(scope, rt, alloc, shared, kit, turns) {
             Ok(handle) => handles.push_reserved(handle),
             Err(fault) => return Err(fault),
@@ -160,12 +160,12 @@ pub fn run_workers<
         thread::scope_env(),
         rt,
         |scope| -> Result<Vec<(Pass<L>, WorkerEnd<F>)>, CrewFault>
-            ensures len { IfOk result (λ v. vec_len v ≡ vec_len kits) }
-            ensures each { IfOk result (λ v. (i : ℕ) (k : _) (d : _) → i < vec_len kits
+            ensures { IfOk result (λ v. (vec_len v ≡ vec_len kits)
+                × ((i : ℕ) (k : _) (d : _) → i < vec_len kits
                 → let kit = slice_index_or kits.items i k in
                 let done = slice_index_or v.items i d in
                 EndedAs F.tells F.handed F.given F.ended (G.meaning kit.framing)
-                turns kit.pass kit.feed done.0 done.1) }
+                turns kit.pass kit.feed done.0 done.1)) }
         {
             let handles = match start_all::<_, R, L, F, G, W>(
                 scope, rt, alloc, shared, kits, turns,

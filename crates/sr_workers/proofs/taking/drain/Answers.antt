@@ -8,8 +8,7 @@ loop-init g c = (refl, refl, refl, refl, refl, c.requires.room, did_still _ _ _ 
 
 pub loop-preserved : goal.loop-preserved
 loop-preserved g c =
-    let was = c.loop.invariant in
-    (
+    let was = c.loop.invariant in (
       search rules,
       search rules,
       search rules,
