@@ -399,7 +399,7 @@ fn ran_danp<W: Threads + Wait + Sync>(
 }
 
 // None for want of memory.
-fn report<W: Threads + Wait + Sync>(rt: &W, alloc: Global, run: &Run) -> Option<Report> {
+fn reported<W: Threads + Wait + Sync>(rt: &W, alloc: Global, run: &Run) -> Option<Report> {
     let flags = flags_of(alloc).ok()?;
     let gears = gears_of(run, &flags).ok()?;
     let shown = match run.boxed {
@@ -510,9 +510,9 @@ fn run_of(step: Step) -> Run {
 // Where a growth is refused the run is made again.
 fn goes<W: Threads + Wait + Sync>(rt: &W, alloc: Global, step: Step) -> bool {
     let run = run_of(step);
-    let report = match report(rt, alloc, &run) {
+    let report = match reported(rt, alloc, &run) {
         Some(report) => Some(report),
-        None => report(rt, alloc, &run),
+        None => reported(rt, alloc, &run),
     };
     match report {
         Some(report) => is_as_wanted(&report, run.outcome),
