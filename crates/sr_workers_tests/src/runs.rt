@@ -1,6 +1,6 @@
 //! Runs of three workers at a node of a PRP network, by tables.
 
-ghost use Rattle.std.specs.Prelude.{◌≡◌, IfSome, vec_len};
+ghost use Rattle.std.specs.Prelude.{◌≡◌, ◌<◌, IfSome, vec_len};
 
 use super::boxes::ran_boxed;
 use super::gate::{Carriage, Gate};
@@ -412,7 +412,9 @@ fn reported<W: Threads + Wait + Sync>(rt: &W, alloc: Global, run: &Run) -> Optio
     })
 }
 
-fn place_of(worker: Worker) -> usize {
+fn place_of(worker: Worker) -> usize
+    ensures { result < 3 }
+{
     match worker {
         Worker::A => 0,
         Worker::B => 1,
