@@ -1,0 +1,5 @@
+pub mod Bringing
+pub mod Lists
+pub mod Rows
+pub mod Steps
+pub mod Telling

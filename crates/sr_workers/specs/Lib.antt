@@ -1,0 +1,9 @@
+pub mod Crews
+pub mod Ends
+pub mod Entering
+pub mod Posts
+pub mod Scripts
+pub mod Told
+pub mod Turns
+pub mod Work
+pub mod Worked

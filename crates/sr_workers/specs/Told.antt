@@ -1,0 +1,29 @@
+-- What a feed tells.
+use Rattle.std.specs.Prelude.{ℕ, List, [], ◌∷◌}
+use Rattle.sr_workers.specs.declared.feed.Turn.{Turn}
+use Rattle.sr_workers.specs.declared.feed.Turn.TheVariants as turn
+use Rattle.sr_workers.specs.declared.feed.Given.{Given}
+use Rattle.sr_workers.specs.declared.feed.Given.TheVariants as given
+
+-- a frame that was handed out at a time, or a time alone
+pub data Told : Type 0 where
+  Framed : (octets : List ℕ) → (now : ℕ) → Told
+  Timed : (now : ℕ) → Told
+
+-- what a turn hands out
+abbrev pub told_of : Turn → List ℕ → List Told
+told_of (turn.Frame now) octets = Framed octets now ∷ []
+told_of (turn.Tick now) octets = Timed now ∷ []
+told_of turn.Idle octets = []
+told_of turn.End octets = []
+
+abbrev pub IsLastTurn : Turn → Type 0
+IsLastTurn (turn.Frame now) = ⊥
+IsLastTurn (turn.Tick now) = ⊥
+IsLastTurn turn.Idle = ⊥
+IsLastTurn turn.End = Unit {0}
+
+-- what is put of a frame that was given
+abbrev pub put_of : Given → List ℕ → List (List ℕ)
+put_of given.Put octets = octets ∷ []
+put_of given.Lost octets = []

@@ -1,0 +1,59 @@
+//! What a worker enters its events by.
+
+ghost use Rattle.std.specs.Prelude.{◌≡◌, ◌+◌, ◌≢◌, ℕ, None, IfOk, IfErr, OnErr};
+ghost use Rattle.sr_node.specs.Answers.{IsAnswerOf};
+ghost use Rattle.sr_ports.specs.declared.worker.Worker.{Worker};
+ghost use Rattle.sr_workers.specs.Entering.{IsRefusalOf};
+
+use sr_forwarding::Role;
+use sr_node::{Answer, Event, a_take_alone_is_answered_taken};
+use sr_ports::{EnterFault, Pass, SharedNode, Worker, enter};
+use std::sync::Wait;
+use std::sync::ledger::Ledger;
+
+/// A worker's way to a node: a lock that lies over it, and the worker's pass.
+pub trait Enters: Drop {
+    /// Whose it is.
+    ghost whose: { Self → Worker };
+
+    /// How many events were entered.
+    ghost count: { Self → ℕ };
+
+    /// Whose it is.
+    fn worker(&self) -> Worker
+        ensures { result ≡ whose self.now };
+
+    /// Enters an event whole, as one step of the node, or refuses it. A Take is refused for a full journal or for want of
+    /// memory alone.
+    fn enter<W: Wait>(&mut self, rt: &W, event: &Event) -> Result<Answer, EnterFault>
+        ensures whose { whose self.new ≡ whose self.old }
+        ensures count { IfOk result (λ a. count self.new ≡ count self.old + 1) }
+        ensures answer { IfOk result (λ a. IsAnswerOf event.now a) }
+        ensures refusal { IfErr result (λ f. IsRefusalOf event.now f) }
+        ensures err { OnErr result (count self.new ≡ count self.old) };
+}
+
+/// A worker's place at a node that threads share.
+#[derive(Drop)]
+pub struct Seat<'s, R: Role, L: Ledger> {
+    /// The node.
+    pub shared: &'s SharedNode<R, L>,
+    /// The worker's pass.
+    pub pass: Pass<L>,
+}
+
+impl<R: Role, L: Ledger> Enters for Seat<'_, R, L> {
+    ghost whose = { λ s. s.pass.worker };
+
+    ghost count = { λ s. s.pass.count };
+
+    fn worker(&self) -> Worker {
+        self.pass.worker()
+    }
+
+    fn enter<W: Wait>(&mut self, rt: &W, event: &Event) -> Result<Answer, EnterFault> {
+        a_take_alone_is_answered_taken();
+        let mut kept = self.shared.kept.lock(rt);
+        enter(&mut *kept, &mut self.pass, event)
+    }
+}

@@ -1,0 +1,181 @@
+//! One worker.
+
+ghost use Rattle.std.specs.Prelude.{◌≡◌, ◌≤◌, ◌+◌, ◌<◌, ◌^◌, [], true, false, Some, None, MatchBool, MatchOption, IfOk, OnOk, IfErr, OnErr};
+ghost use Rattle.sr_ports.specs.declared.worker.Worker.TheVariants.{Ager};
+ghost use Rattle.sr_workers.specs.Posts.{Does, DoesLast, HasFrameRoom, post_moment};
+ghost use Rattle.sr_workers.specs.Work.{Finished, Stopped, ServesPort, nones_of};
+ghost use Rattle.sr_workers.specs.Worked.{Worked, worker_begun, ended};
+
+use crate::post::{Lists, Post, bring};
+use crate::taking::{Stop, drain};
+use crate::{Enters, Feed, Kit, Turn, WorkerEnd, WorkerFault};
+use sr_forwarding::{Framing, Parcel};
+use sr_frame::Port;
+use sr_ports::{Log, Worker};
+use std::alloc::Global;
+use std::sync::Wait;
+
+// The port that a worker serves.
+fn port_of(worker: Worker) -> Option<Port>
+    ensures port { MatchOption result (worker ≡ Ager) (λ p. ServesPort worker p) }
+    ensures once { MatchOption result (nones_of worker 1 ≡ 0) (λ p. nones_of worker 1 ≡ 1) }
+{
+    match worker {
+        Worker::A => Some(Port::A),
+        Worker::B => Some(Port::B),
+        Worker::C => Some(Port::C),
+        Worker::Ager => None,
+        Worker::Host => Some(Port::H),
+    }
+}
+
+// One turn: what the feed hands out is entered, and what waits at the port is given to it. False at the feed's end.
+fn one_turn<E: Enters, F: Feed, G: Framing, W: Wait>(
+    rt: &W,
+    alloc: Global,
+    framing: &G,
+    post: &mut Post<E, F>,
+    lists: &mut Lists,
+) -> Result<bool, Stop>
+    requires unread { post.old.unread + 1 < 2 ^ 64 }
+    requires room { HasFrameRoom lists.old }
+    ensures whose { E.whose post.new.seat ≡ E.whose post.old.seat }
+    ensures worker { post.new.log.worker ≡ post.old.log.worker }
+    ensures tells { F.tells post.new.feed ≡ F.tells post.old.feed }
+    ensures unread { post.new.unread ≤ post.old.unread + 1 }
+    ensures room { OnOk result (HasFrameRoom lists.new) }
+    ensures ok { IfOk result (λ more. MatchBool more
+        (Does E.whose E.count F.tells F.handed F.given (G.meaning framing.now)
+        (nones_of (E.whose post.old.seat) 1) post.old post.new)
+        ((F.ended post.new.feed ≡ true) × Does E.whose E.count F.tells F.handed F.given
+        (G.meaning framing.now) 0 post.old post.new)) }
+    ensures err { IfErr result (λ stop. DoesLast E.whose E.count F.tells F.handed F.given
+        (G.meaning framing.now) stop.fault stop.held post.old post.new) }
+{
+    let turn = match post.feed.next(rt, &mut lists.incoming) {
+        Ok(Turn::End) => return Ok(false),
+        Ok(turn) => turn,
+        Err(failed) => {
+            return Err(Stop {
+                fault: failed.into(),
+                held: None,
+            });
+        }
+    };
+    match bring(rt, alloc, framing, post, turn, &lists.incoming) {
+        Ok(()) => {}
+        Err(fault) => return Err(Stop { fault, held: None }),
+    }
+    match port_of(post.seat.worker()) {
+        None => Ok(true),
+        Some(port) => match drain(rt, framing, port, post, lists) {
+            Ok(()) => Ok(true),
+            Err(stop) => Err(stop),
+        },
+    }
+}
+
+// So many turns, or fewer where the feed ends or a fault comes.
+fn make_turns<E: Enters, F: Feed, G: Framing, W: Wait>(
+    rt: &W,
+    alloc: Global,
+    framing: &G,
+    post: &mut Post<E, F>,
+    turns: u64,
+) -> Result<(), Stop>
+    requires { post.old.unread ≡ 0 }
+    ensures whose { E.whose post.new.seat ≡ E.whose post.old.seat }
+    ensures worker { post.new.log.worker ≡ post.old.log.worker }
+    ensures ok { OnOk result (Finished (F.tells post.old.feed) (E.whose post.old.seat)
+        (G.meaning framing.now) turns (post_moment E.count F.handed F.given post.old)
+        (post_moment E.count F.handed F.given post.new) (F.ended post.new.feed)) }
+    ensures err { IfErr result (λ stop. Stopped (F.tells post.old.feed) (E.whose post.old.seat)
+        (G.meaning framing.now) turns stop.fault stop.held
+        (post_moment E.count F.handed F.given post.old)
+        (post_moment E.count F.handed F.given post.new)) }
+{
+    let mut lists = match Lists::new(alloc) {
+        Ok(lists) => lists,
+        Err(refused) => {
+            return Err(Stop {
+                fault: refused.into(),
+                held: None,
+            });
+        }
+    };
+    for _turn in 0..turns {
+        match one_turn(rt, alloc, framing, post, &mut lists) {
+            Ok(true) => {}
+            Ok(false) => return Ok(()),
+            Err(stop) => return Err(stop),
+        }
+    }
+    Ok(())
+}
+
+// What a worker hands back.
+fn ended_as<E: Enters, F: Feed>(
+    post: Post<E, F>,
+    fault: Option<WorkerFault>,
+    held: Option<Parcel>,
+) -> (E, WorkerEnd<F>)
+    ensures seat { result.0 ≡ post.seat }
+    ensures feed { result.1.feed ≡ post.feed }
+    ensures log { result.1.log ≡ post.log }
+    ensures unread { result.1.unread ≡ post.unread }
+    ensures fault { result.1.fault ≡ fault }
+    ensures held { result.1.held ≡ held }
+{
+    let Post {
+        seat,
+        feed,
+        log,
+        unread,
+    } = post;
+    let end = WorkerEnd {
+        feed,
+        log,
+        unread,
+        fault,
+        held,
+    };
+    (seat, end)
+}
+
+/// A worker, for so many turns.
+///
+/// A turn is one `next` of its feed and the event that comes of it: for the host what it sends, else an arrival at the worker's
+/// port. Then it takes out what waits at the port, until nothing does, and gives each frame to the feed; the Ager takes nothing
+/// out. A frame that the framing does not read is counted as unread, and so is one whose event the node refuses, and each frame
+/// of the Ager's feed. A parcel that the framing can't write is lost. The worker ends at the feed's end, after so many turns, or
+/// by a fault. No frame is read or written while the node's lock is held.
+pub fn run_worker<E: Enters, F: Feed, G: Framing, W: Wait>(
+    rt: &W,
+    alloc: Global,
+    kit: Kit<E, F, G>,
+    turns: u64,
+) -> (E, WorkerEnd<F>)
+    ensures whose { E.whose result.0 ≡ E.whose kit.pass }
+    ensures log { result.1.log.worker ≡ E.whose kit.pass }
+    ensures worked { Worked
+        (worker_begun (E.whose kit.pass) (G.meaning kit.framing) turns (E.count kit.pass)
+        (F.tells kit.feed) (F.handed kit.feed) (F.given kit.feed))
+        (ended F.handed F.given F.ended (E.count result.0) result.1) }
+{
+    let Kit {
+        pass: seat,
+        feed,
+        framing,
+    } = kit;
+    let log = Log::new(alloc, seat.worker());
+    let mut post = Post {
+        seat,
+        feed,
+        log,
+        unread: 0,
+    };
+    match make_turns(rt, alloc, &framing, &mut post, turns) {
+        Ok(()) => ended_as(post, None, None),
+        Err(stop) => ended_as(post, Some(stop.fault), stop.held),
+    }
+}

@@ -1,0 +1,141 @@
+//! A feed over memory: what it hands out lies in a list, and what it is given is kept.
+
+ghost use Rattle.std.specs.Prelude.{◌≡◌, ◌+◌, [], IfOk, OnOk, OnErr};
+ghost use Rattle.sr_workers.specs.Told.{told_of, IsLastTurn};
+ghost use Rattle.sr_workers.specs.Scripts.{told_by};
+
+use crate::{Feed, FeedFault, Given, Turn};
+use sr_frame::{Frame, FrameFault, NoMemory};
+use std::alloc::Global;
+use std::sync::Wait;
+
+/// What a script hands out.
+#[derive(Debug, Drop)]
+pub enum Line {
+    /// A frame, at this time.
+    Frame(Frame, u64),
+    /// A time.
+    Tick(u64),
+    /// Nothing now.
+    Idle,
+}
+
+/// A feed over memory.
+#[derive(Debug, Drop)]
+pub struct Script {
+    lines: Vec<Line>,
+    next: usize,
+    given: Vec<Frame>,
+    ended: bool,
+    failures: u64,
+    alloc: Global,
+}
+
+impl Script {
+    ghost use Rattle.sr_workers.specs.Scripts.{all_told, has_told, will_tell, was_given};
+
+    /// A feed that hands these out.
+    pub fn new(alloc: Global, lines: Vec<Line>) -> Script
+        ensures handed { has_told result ≡ [] }
+        ensures left { will_tell result ≡ all_told lines.items }
+        ensures given { was_given result ≡ [] }
+    {
+        Script {
+            lines,
+            next: 0,
+            given: Vec::new(alloc),
+            ended: false,
+            failures: 0,
+            alloc,
+        }
+    }
+
+    /// The frames that were put, in order.
+    pub fn given(&self) -> &[Frame]
+        ensures { result.now ≡ was_given self.now }
+    {
+        &self.given
+    }
+
+    // A growth was refused: that is a failure, or the end where there were as many as can be counted.
+    fn fail(&mut self) -> Result<(), FeedFault>
+        ensures same { (self.new.lines ≡ self.old.lines) × (self.new.next ≡ self.old.next)
+            × (self.new.given ≡ self.old.given) }
+        ensures ok { OnOk result (self.new.failures ≡ self.old.failures) }
+        ensures err { OnErr result (self.new.failures ≡ self.old.failures + 1) }
+        ensures ended { self.new.ended ≡ self.old.ended }
+    {
+        if self.failures == u64::MAX {
+            return Ok(());
+        }
+        self.failures += 1;
+        Err(FeedFault)
+    }
+}
+
+// Hands a line out.
+fn show(line: &Line, into: &mut Vec<u8>) -> Result<Turn, NoMemory>
+    ensures told { IfOk result (λ t. told_of t into.new.items ≡ told_by line.now) }
+    ensures goes_on { IfOk result (λ t. IsLastTurn t → ⊥) }
+{
+    match line {
+        Line::Frame(frame, now) => {
+            into.clear();
+            into.extend_from_slice(frame.octets())?;
+            Ok(Turn::Frame(*now))
+        }
+        Line::Tick(now) => Ok(Turn::Tick(*now)),
+        Line::Idle => Ok(Turn::Idle),
+    }
+}
+
+impl Feed for Script {
+    ghost use Rattle.std.specs.Prelude.{true};
+    ghost use Rattle.sr_workers.specs.Scripts.{has_told, was_given};
+
+    ghost tells = { λ _. true };
+
+    ghost handed = { has_told };
+
+    ghost given = { was_given };
+
+    ghost ended = { λ s. s.ended };
+
+    ghost failed = { λ s. s.failures };
+
+    fn next<W: Wait>(&mut self, _rt: &W, into: &mut Vec<u8>) -> Result<Turn, FeedFault> {
+        if self.next >= self.lines.len() {
+            self.ended = true;
+            return Ok(Turn::End);
+        }
+        let Ok(turn) = show(&self.lines[self.next], into) else {
+            self.fail()?;
+            self.ended = true;
+            return Ok(Turn::End);
+        };
+        self.next += 1;
+        Ok(turn)
+    }
+
+    fn give<W: Wait>(&mut self, _rt: &W, octets: &[u8]) -> Result<Given, FeedFault> {
+        if self.given.reserve(1).is_err() {
+            self.fail()?;
+            return Ok(Given::Lost);
+        }
+        match Frame::copy(self.alloc, octets) {
+            Ok(frame) => {
+                self.given.push_reserved(frame);
+                Ok(Given::Put)
+            }
+            Err(FrameFault::NoMemory) => {
+                self.fail()?;
+                Ok(Given::Lost)
+            }
+            Err(_) => Ok(Given::Lost),
+        }
+    }
+
+    fn failures(&self) -> u64 {
+        self.failures
+    }
+}

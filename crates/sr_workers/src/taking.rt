@@ -1,0 +1,161 @@
+//! What a worker takes out of its node.
+
+ghost use Rattle.std.specs.Prelude.{◌≡◌, ◌≢◌, ◌≤◌, ◌+◌, true, None, Some, IfOk, OnOk, IfErr, OnErr, vec_capacity, if◌then◌else◌};
+ghost use Rattle.sr_forwarding.specs.Encoding.{write_fault};
+ghost use Rattle.sr_workers.specs.Posts.{Does, DoesLast, HasFrameRoom};
+ghost use Rattle.sr_workers.specs.Turns.{Out};
+ghost use Rattle.sr_workers.specs.Work.{ServesPort};
+
+use crate::fault::stop_of;
+use crate::post::{Lists, Post};
+use crate::{Enters, Feed, FeedFault, WorkerFault};
+use sr_forwarding::{Framing, Parcel, want_of_memory_is_no_fault_of_a_parcel};
+use sr_frame::{MAX_FRAME_LEN, Port};
+use sr_node::{Answer, Event};
+use std::mem;
+use std::sync::Wait;
+
+/// Why a worker stops, and the parcel that it took out where its feed failed to take it.
+#[derive(Drop)]
+pub(crate) struct Stop {
+    pub fault: WorkerFault,
+    pub held: Option<Parcel>,
+}
+
+// GivesEach a parcel to the feed as the framing writes it, if it can. A parcel that it can't write is lost.
+fn put_out<F: Feed, G: Framing, W: Wait>(
+    rt: &W,
+    framing: &G,
+    feed: &mut F,
+    outgoing: &mut Vec<u8>,
+    parcel: &Parcel,
+) -> Result<(), FeedFault>
+    requires { MAX_FRAME_LEN ≤ vec_capacity outgoing.old }
+    ensures room { MAX_FRAME_LEN ≤ vec_capacity outgoing.new }
+    ensures tells { F.tells feed.new ≡ F.tells feed.old }
+    ensures handed { F.tells feed.old ≡ true → F.handed feed.new ≡ F.handed feed.old }
+    ensures ended { F.ended feed.new ≡ F.ended feed.old }
+    ensures ok { OnOk result (Out (F.tells feed.old) (G.meaning framing.now) parcel.now
+        (F.given feed.old) (F.given feed.new)) }
+    ensures written { OnErr result (write_fault (G.meaning framing.now) parcel.now ≡ None) }
+    ensures given { OnErr result (F.tells feed.old ≡ true
+        → F.given feed.new ≡ F.given feed.old) }
+{
+    want_of_memory_is_no_fault_of_a_parcel();
+    outgoing.clear();
+    match framing.write(outgoing, &parcel.view()) {
+        Ok(()) => match feed.give(rt, outgoing) {
+            Ok(_) => Ok(()),
+            Err(fault) => Err(fault),
+        },
+        Err(_) => Ok(()),
+    }
+}
+
+// A copy of a parcel in the spare list, which has room for it.
+fn copy_of(parcel: &Parcel, spare: &mut Vec<u8>) -> Parcel
+    requires { MAX_FRAME_LEN ≤ vec_capacity spare.old }
+    ensures { result ≡ parcel.now }
+{
+    let alloc = *spare.allocator();
+    let list = mem::replace(spare, Vec::new(alloc));
+    // What the octets show of their length.
+    let _ = parcel.octets();
+    let Ok(copy) = parcel.view().to_parcel_in(list) else {
+        unreachable!()
+    };
+    copy
+}
+
+// Takes the next parcel that waits at the port, and gives it to the feed. False where none waits.
+fn take_one<E: Enters, F: Feed, G: Framing, W: Wait>(
+    rt: &W,
+    framing: &G,
+    port: Port,
+    post: &mut Post<E, F>,
+    lists: &mut Lists,
+) -> Result<bool, Stop>
+    requires serves { ServesPort (E.whose post.old.seat) port }
+    requires room { HasFrameRoom lists.old }
+    ensures whose { E.whose post.new.seat ≡ E.whose post.old.seat }
+    ensures worker { post.new.log.worker ≡ post.old.log.worker }
+    ensures unread { post.new.unread ≡ post.old.unread }
+    ensures tells { F.tells post.new.feed ≡ F.tells post.old.feed }
+    ensures ended { F.ended post.new.feed ≡ F.ended post.old.feed }
+    ensures room { OnOk result (HasFrameRoom lists.new) }
+    ensures ok { IfOk result (λ some. Does E.whose E.count F.tells F.handed F.given
+        (G.meaning framing.now) (if some then 0 else 1) post.old post.new) }
+    ensures err { IfErr result (λ stop. DoesLast E.whose E.count F.tells F.handed F.given
+        (G.meaning framing.now) stop.fault stop.held post.old post.new) }
+{
+    let event = Event::Take { port };
+    if let Err(refused) = post.log.reserve() {
+        return Err(Stop {
+            fault: refused.into(),
+            held: None,
+        });
+    }
+    let answer = match post.seat.enter(rt, &event) {
+        Ok(answer) => answer,
+        Err(refused) => {
+            let Some(fault) = stop_of(refused) else {
+                unreachable!()
+            };
+            return Err(Stop { fault, held: None });
+        }
+    };
+    match answer {
+        Answer::Taken(Some(parcel)) => {
+            match put_out(rt, framing, &mut post.feed, &mut lists.outgoing, &parcel) {
+                Ok(()) => {
+                    post.log.push(event, Answer::Taken(Some(parcel)));
+                    Ok(true)
+                }
+                Err(failed) => {
+                    let copy = copy_of(&parcel, &mut lists.spare);
+                    post.log.push(event, Answer::Taken(Some(parcel)));
+                    Err(Stop {
+                        fault: failed.into(),
+                        held: Some(copy),
+                    })
+                }
+            }
+        }
+        Answer::Taken(None) => {
+            post.log.push(event, Answer::Taken(None));
+            Ok(false)
+        }
+        _ => unreachable!(),
+    }
+}
+
+/// Takes and gives until nothing waits at the port.
+pub(crate) fn drain<E: Enters, F: Feed, G: Framing, W: Wait>(
+    rt: &W,
+    framing: &G,
+    port: Port,
+    post: &mut Post<E, F>,
+    lists: &mut Lists,
+) -> Result<(), Stop>
+    requires serves { ServesPort (E.whose post.old.seat) port }
+    requires room { HasFrameRoom lists.old }
+    ensures whose { E.whose post.new.seat ≡ E.whose post.old.seat }
+    ensures worker { post.new.log.worker ≡ post.old.log.worker }
+    ensures unread { post.new.unread ≡ post.old.unread }
+    ensures tells { F.tells post.new.feed ≡ F.tells post.old.feed }
+    ensures ended { F.ended post.new.feed ≡ F.ended post.old.feed }
+    ensures room { OnOk result (HasFrameRoom lists.new) }
+    ensures ok { OnOk result (Does E.whose E.count F.tells F.handed F.given
+        (G.meaning framing.now) 1 post.old post.new) }
+    ensures err { IfErr result (λ stop. DoesLast E.whose E.count F.tells F.handed F.given
+        (G.meaning framing.now) stop.fault stop.held post.old post.new) }
+{
+    for _ in rt.forever() {
+        match take_one(rt, framing, port, post, lists) {
+            Ok(true) => {}
+            Ok(false) => return Ok(()),
+            Err(stop) => return Err(stop),
+        }
+    }
+    unreachable!()
+}

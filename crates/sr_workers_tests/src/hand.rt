@@ -1,0 +1,99 @@
+//! A feed that may stop at any of its calls.
+
+use sr_workers::{Feed, FeedFault, Given, Turn};
+use std::sync::atomic::{AtomicU64, Ordering};
+use std::sync::{Arc, Wait};
+use std::thread;
+
+/// At which of its calls a feed stops, and how. The first is 1.
+#[derive(Clone, Copy, PartialEq, Eq)]
+pub enum Halt {
+    /// At none.
+    Never,
+    /// It ends at this `next`.
+    Ends(u64),
+    /// It fails at this `next`.
+    Fails(u64),
+    /// It fails at this `give`.
+    Refuses(u64),
+}
+
+/// A feed that hands out a frame and then nothing for some turns, and then ends. While it waits for frames it goes on.
+#[derive(Drop)]
+pub struct Hand {
+    /// What it hands out first.
+    pub frame: [u8; 66],
+    /// How many turns it has in all.
+    pub turns: u64,
+    /// For so many frames it waits.
+    pub wanted: u64,
+    /// So many turns it waits at most.
+    pub patience: u64,
+    /// Where it stops.
+    pub halt: Halt,
+    /// How often it was asked.
+    pub asked: u64,
+    /// How many frames it was given.
+    pub given: u64,
+    /// Counts what it is given, for others to see.
+    pub seen: Arc<AtomicU64>,
+    /// How often it failed.
+    pub failures: u64,
+}
+
+impl Hand {
+    fn has_ended(&self) -> bool {
+        self.asked > self.turns && (self.given >= self.wanted || self.asked > self.patience)
+    }
+}
+
+impl Feed for Hand {
+    ghost use Rattle.std.specs.Prelude.{[], false, true};
+
+    ghost tells = { λ _. false };
+
+    ghost handed = { λ _. [] };
+
+    ghost given = { λ _. [] };
+
+    ghost ended = { λ _. true };
+
+    ghost failed = { λ h. h.failures };
+
+    fn next<W: Wait>(&mut self, _rt: &W, into: &mut Vec<u8>) -> Result<Turn, FeedFault> {
+        self.asked = self.asked.saturating_add(1);
+        if self.halt == Halt::Ends(self.asked) || self.failures == u64::MAX {
+            return Ok(Turn::End);
+        }
+        if self.halt == Halt::Fails(self.asked) {
+            self.failures += 1;
+            return Err(FeedFault);
+        }
+        if self.asked == 1 {
+            into.clear();
+            if into.extend_from_slice(&self.frame).is_err() {
+                return Ok(Turn::End);
+            }
+            return Ok(Turn::Frame(0));
+        }
+        if self.has_ended() {
+            return Ok(Turn::End);
+        }
+        thread::yield_now();
+        Ok(Turn::Idle)
+    }
+
+    fn give<W: Wait>(&mut self, _rt: &W, _octets: &[u8]) -> Result<Given, FeedFault> {
+        self.given = self.given.saturating_add(1);
+        if self.halt == Halt::Refuses(self.given) && self.failures < u64::MAX {
+            self.failures += 1;
+            return Err(FeedFault);
+        }
+        self.seen.fetch_add(1, Ordering::SeqCst);
+        Ok(Given::Put)
+    }
+
+    fn failures(&self) -> u64 {
+        self.failures
+    }
+}

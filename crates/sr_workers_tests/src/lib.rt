@@ -1,0 +1,15 @@
+//! The tests of workers at a node that threads share.
+#![tactic(auto)]
+
+#[cfg(test)]
+mod boxes;
+#[cfg(test)]
+mod crew;
+#[cfg(test)]
+mod gate;
+#[cfg(test)]
+mod hand;
+#[cfg(test)]
+mod runs;
+#[cfg(test)]
+mod scripts;
