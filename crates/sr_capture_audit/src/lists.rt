@@ -89,10 +89,16 @@ struct Listings<'a, W> {
 impl<W: Write> Listings<'_, W> {
     /// Prints what is decided.
     fn print(&mut self) -> Result<(), AuditFault> {
-        for at in 0..self.decided.len() {
-            print_listed(self.writer, self.lists, self.decided[at])?;
+        let Listings {
+            lists,
+            decided,
+            writer,
+            ..
+        } = self;
+        for listed in decided.iter() {
+            print_listed(*writer, *lists, *listed)?;
         }
-        self.decided.clear();
+        decided.clear();
         Ok(())
     }
 
