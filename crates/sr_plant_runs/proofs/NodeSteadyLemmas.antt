@@ -153,7 +153,7 @@ module _ (t : Topology) (starts : List Start) (own : Addresses starts) (ds : Lis
       cc
 
   -- under a number of other 16 bits than its frame's it is taken in no steady run
-  pub no_copy_is_taken_under_another_number : IsNumbered n came → wire n ≢ g.frame.number % 65536 → ⊥
+  pub no_copy_is_taken_under_another_number : IsNumbered n came → wire n ≢ wire (pos g.frame.number) → ⊥
   no_copy_is_taken_under_another_number numbered other =
       let own : IsCarriedUnless false n q.seq = subst (λ b. IsCarriedUnless b n q.seq) (at_no_interlink c.hop.to.port q.form flown.port) numbered in
       let carried : flown.seq.0 ≡ wire n = subst (IsCarried n) number_is own in
