@@ -5,8 +5,7 @@
 mod boxes;
 #[cfg(test)]
 mod crew;
-#[cfg(test)]
-mod gate;
+pub mod gate;
 #[cfg(test)]
 mod hand;
 #[cfg(test)]
