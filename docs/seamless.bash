@@ -22,16 +22,26 @@ _seamless() {
     "script --from") ;;
     "script --to") ;;
     "script --tick") ;;
+    "audit --a") COMPREPLY=($(compgen -f -- "$2")) && return ;;
+    "audit --b") COMPREPLY=($(compgen -f -- "$2")) && return ;;
+    "audit --network") words="prp hsr" ;;
+    "audit --shift-a") ;;
+    "audit --shift-b") ;;
+    "audit --fcs") words="4" ;;
+    "audit --from") ;;
+    "audit --to") ;;
+    "audit --list") ;;
     "ring --nodes") ;;
     "ring --mode") words="h x" ;;
     "lan --nodes") ;;
     "lan --mode") words="h x" ;;
     *)
         case "$COMP_CWORD ${COMP_WORDS[1]}" in
-        "1 "*) words="replay status script ring lan --help --version" ;;
+        "1 "*) words="replay status script audit ring lan --help --version" ;;
         *" replay") words="--role --mac --lan --net --mode --help" ;;
         *" status") words="--role --mac --lan --net --mode --help" ;;
         *" script") words="--a --b --c --shift-a --shift-b --shift-c --fcs --from --to --tick --help" ;;
+        *" audit") words="--a --b --network --shift-a --shift-b --fcs --from --to --list --check --help" ;;
         *" ring") words="--nodes --mode --help" ;;
         *" lan") words="--nodes --mode --help" ;;
         esac

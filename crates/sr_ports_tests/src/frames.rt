@@ -40,12 +40,12 @@ pub fn in_lan(alloc: Global, lan: Lan, seq: u16) -> Result<Parcel, ReadFault> {
 
 // The other node's frame in a ring, with the tag of this path and number.
 fn tagged(dst: Mac, path: u8, seq: u16) -> [u8; 66] {
-    let mut octets = [0; 66];
-    let Mac(address) = dst;
-    octets[..6].copy_from_slice(&address);
-    octets[6..14].copy_from_slice(&[2, 0, 0, 0, 0, 2, 0x89, 0x2f]);
+    let Mac([a, b, c, d, e, f]) = dst;
     let [high, low] = seq.to_be_bytes();
-    octets[14..20].copy_from_slice(&[path << 4, 0x34, high, low, 0x08, 0x00]);
+    let mut octets = [0; 66];
+    octets[..20].copy_from_slice(&[
+        a, b, c, d, e, f, 2, 0, 0, 0, 0, 2, 0x89, 0x2f, path << 4, 0x34, high, low, 0x08, 0x00,
+    ]);
     octets
 }
 
