@@ -44,7 +44,26 @@ fn tagged(dst: Mac, path: u8, seq: u16) -> [u8; 66] {
     let [high, low] = seq.to_be_bytes();
     let mut octets = [0; 66];
     octets[..20].copy_from_slice(&[
-        a, b, c, d, e, f, 2, 0, 0, 0, 0, 2, 0x89, 0x2f, path << 4, 0x34, high, low, 0x08, 0x00,
+        a,
+        b,
+        c,
+        d,
+        e,
+        f,
+        2,
+        0,
+        0,
+        0,
+        0,
+        2,
+        0x89,
+        0x2f,
+        path << 4,
+        0x34,
+        high,
+        low,
+        0x08,
+        0x00,
     ]);
     octets
 }
