@@ -38,33 +38,20 @@ pub fn in_lan(alloc: Global, lan: Lan, seq: u16) -> Result<Parcel, ReadFault> {
     PrpFraming { lan, net: 0 }.decode(alloc, &trailed(lan, seq))
 }
 
-// The other node's frame in a ring, with the tag of this path and number.
+/// The other node's frame in a ring, with the tag of path 0 and number 0. 0x34 is the size of 52 octets from the tag on.
+const IN_RING: [u8; 66] = [
+    0, 0, 0, 0, 0, 0, 2, 0, 0, 0, 0, 2, 0x89, 0x2f, 0, 0x34, 0, 0, 8, 0, 0, 0, 0, 0, 0, 0, 0, 0, 0,
+    0, 0, 0, 0, 0, 0, 0, 0, 0, 0, 0, 0, 0, 0, 0, 0, 0, 0, 0, 0, 0, 0, 0, 0, 0, 0, 0, 0, 0, 0, 0, 0,
+    0, 0, 0, 0, 0,
+];
+
+// That frame for this address, with the tag of this path and number.
 fn tagged(dst: Mac, path: u8, seq: u16) -> [u8; 66] {
-    let Mac([a, b, c, d, e, f]) = dst;
+    let mut octets = IN_RING;
+    let Mac(address) = dst;
+    octets[..6].copy_from_slice(&address);
     let [high, low] = seq.to_be_bytes();
-    let mut octets = [0; 66];
-    octets[..20].copy_from_slice(&[
-        a,
-        b,
-        c,
-        d,
-        e,
-        f,
-        2,
-        0,
-        0,
-        0,
-        0,
-        2,
-        0x89,
-        0x2f,
-        path << 4,
-        0x34,
-        high,
-        low,
-        0x08,
-        0x00,
-    ]);
+    octets[14..18].copy_from_slice(&[path << 4, 0x34, high, low]);
     octets
 }
 
