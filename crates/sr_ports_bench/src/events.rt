@@ -1,0 +1,131 @@
+//! What is taken, and how often it was.
+
+use crate::ways::Entered;
+use sr_forwarding::{Framing, Parcel, PrpFraming, ReadFault};
+use sr_frame::{Frame, Port};
+use sr_node::Event;
+use sr_ports::Segment;
+use sr_prp_trailer::Lan;
+use std::alloc::Global;
+use std::sync::ledger::Ledger;
+
+/// The octets of a frame: addresses, type, 46 of payload, trailer.
+const FRAME_LEN: usize = 66;
+
+/// What is taken each time.
+#[derive(Clone, Copy, Debug)]
+pub enum Work {
+    /// A frame comes in, and the host takes it out.
+    Frame,
+    /// The host sends a frame, and each LAN takes it out.
+    Send,
+    /// Time passes. No life check is sent but the first time.
+    Tick,
+    /// A parcel is asked for where none waits.
+    Take,
+}
+
+/// The work of this name.
+pub fn work_of(name: &str) -> Option<Work> {
+    match name {
+        "frame" => Some(Work::Frame),
+        "send" => Some(Work::Send),
+        "tick" => Some(Work::Tick),
+        "take" => Some(Work::Take),
+        _ => None,
+    }
+}
+
+/// What takes events.
+pub trait Subject {
+    /// Takes an event. Whether it was answered.
+    fn take(&mut self, event: &Event) -> bool;
+}
+
+/// Another node's frame to the node under this number, from LAN A.
+fn parcel_of(alloc: Global, number: u16) -> Result<Parcel, ReadFault> {
+    let mut octets = [0; FRAME_LEN];
+    octets[..14].copy_from_slice(&[2, 0, 0, 0, 0, 1, 2, 0, 0, 0, 0, 2, 8, 0]);
+    let [high, low] = number.to_be_bytes();
+    octets[FRAME_LEN - 6..].copy_from_slice(&[high, low, 0xa0, 52, 0x88, 0xfb]);
+    let framing = PrpFraming {
+        lan: Lan::A,
+        net: 0,
+    };
+    framing.decode(alloc, &octets)
+}
+
+/// A frame of the node to another one, without a trailer.
+fn frame_of(alloc: Global) -> Option<Frame> {
+    let mut octets = [0; FRAME_LEN - 6];
+    octets[..14].copy_from_slice(&[2, 0, 0, 0, 0, 2, 2, 0, 0, 0, 0, 1, 8, 0]);
+    Frame::copy(alloc, &octets).ok()
+}
+
+/// The first event of this work. None where an allocation failed.
+fn event_of(alloc: Global, work: Work, number: u16) -> Option<Event> {
+    match work {
+        Work::Frame => Some(Event::Arrive {
+            port: Port::A,
+            parcel: parcel_of(alloc, number).ok()?,
+            now: 0,
+        }),
+        Work::Send => Some(Event::Send {
+            frame: frame_of(alloc)?,
+            now: 0,
+        }),
+        Work::Tick => Some(Event::Tick { now: 0 }),
+        Work::Take => Some(Event::Take { port: Port::C }),
+    }
+}
+
+/// Takes out what waits at a port. How many events were answered.
+fn taken<S: Subject>(subject: &mut S, port: Port) -> u64 {
+    u64::from(subject.take(&Event::Take { port }))
+}
+
+/// Does a work once more. How many events were answered.
+fn once<S: Subject>(subject: &mut S, work: Work, event: &Event) -> u64 {
+    let first = u64::from(subject.take(event));
+    match work {
+        Work::Frame => first + taken(subject, Port::H),
+        Work::Send => first + taken(subject, Port::A) + taken(subject, Port::B),
+        Work::Tick | Work::Take => first,
+    }
+}
+
+/// Has a subject do this work so many times. How many events were answered, or None where an allocation beside them failed.
+pub fn done<S: Subject>(alloc: Global, subject: &mut S, work: Work, times: u32) -> Option<u64> {
+    let mut count: u64 = 0;
+    for time in 0..times {
+        let event = event_of(alloc, work, (time % 65536) as u16)?;
+        count = count.saturating_add(once(subject, work, &event));
+    }
+    Some(count)
+}
+
+/// Closes the journal so many times. None where an allocation failed.
+fn segments_of<L: Ledger>(
+    alloc: Global,
+    subject: &mut Entered<L>,
+    times: u32,
+) -> Option<Vec<Segment>> {
+    let mut segments = Vec::new(alloc);
+    for _ in 0..times {
+        segments.reserve(1).ok()?;
+        segments.push_reserved(subject.rotate().ok()?);
+    }
+    Some(segments)
+}
+
+/// Has a subject enter so many ticks and then close its journal so many times. How many ticks were answered.
+pub fn rotated<L: Ledger>(
+    alloc: Global,
+    subject: &mut Entered<L>,
+    entries: u32,
+    times: u32,
+) -> Option<u64> {
+    let count = done(alloc, subject, Work::Tick, entries)?;
+    drop(segments_of(alloc, subject, times)?);
+    Some(count)
+}
