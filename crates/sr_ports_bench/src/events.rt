@@ -88,8 +88,13 @@ fn taken<S: Subject>(subject: &mut S, port: Port) -> u64 {
 fn once<S: Subject>(subject: &mut S, work: Work, event: &Event) -> u64 {
     let first = u64::from(subject.take(event));
     match work {
-        Work::Frame => first + taken(subject, Port::H),
-        Work::Send => first + taken(subject, Port::A) + taken(subject, Port::B),
+        Work::Frame => first.saturating_add(taken(subject, Port::H)),
+        Work::Send => {
+            let second = taken(subject, Port::A);
+            first
+                .saturating_add(second)
+                .saturating_add(taken(subject, Port::B))
+        }
         Work::Tick | Work::Take => first,
     }
 }
@@ -112,8 +117,9 @@ fn segments_of<L: Ledger>(
 ) -> Option<Vec<Segment>> {
     let mut segments = Vec::new(alloc);
     for _ in 0..times {
+        let segment = subject.rotate().ok()?;
         segments.reserve(1).ok()?;
-        segments.push_reserved(subject.rotate().ok()?);
+        segments.push_reserved(segment);
     }
     Some(segments)
 }
