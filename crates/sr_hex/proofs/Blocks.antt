@@ -4,7 +4,7 @@ use Rattle.std.specs.Prelude.{is_some, min, max, MatchBool, IsErr}
 use Rattle.std.specs.List.{AllPass}
 use Rattle.std.proofs.lemmas.List.Elements.{All-from_get_or}
 use lib.Seq.{get_or-take}
-use Rattle.std.proofs.Common.{length-take}
+use Rattle.std.proofs.Common.{length-take, take_all}
 use Rattle.std.proofs.lemmas.Bool.{cases_lt}
 use Rattle.std.proofs.lemmas.List.{get_or_past}
 use Rattle.hex.specs.Hex.{decode_of, decode_pairs, hex_digit_value, is_hex_digit}
@@ -52,6 +52,17 @@ block_small digits first second at h1 h2 =
         λ i h. subst (λ m. m < 16) (sym (h1.each i h)) (all (2 * at + i) (omega arith) (omega arith)),
         λ i h. subst (λ m. m < 16) (sym (h2.each i h)) (all (2 * at + 16 + i) (omega arith) (omega arith)),
       ),
+    )
+
+-- the same for the sixteen codes from a place on
+pub half_small : (codes block : List ℕ) (at : ℕ) → HasLanes block (λ i. value_of (slice_index codes (at + i)))
+    → AreSmall block ↔ AreDigits codes at (at + 16)
+half_small codes block at h =
+    let value = λ (p : ℕ). value_of (slice_index codes p) in (
+      λ small k low high.
+          let e : at + (k - at) ≡ k = omega arith in
+          subst (λ m. m < 16) (h.each (k - at) (omega arith) ∙ ap value e) (small (k - at) (omega arith)),
+      λ all i lt. subst (λ m. m < 16) (sym (h.each i lt)) (all (at + i) (omega arith) (omega arith)),
     )
 
 -- the end of digits in the first sixteen codes, or else in the second
@@ -236,3 +247,17 @@ end_spelled s old new at end fits inside room digits before here kept ends =
     let spelled = spelled_on s old new at before here kept in
     front_spelled s new (end / 2) fits (omega (arith, ends.near)) (omega (arith, ends.near)) (λ k low high. all k low (omega arith))
     (λ i low high. spelled i low (omega (arith, ends.near)))
+
+-- all codes are digits where those up to a place are, and the last sixteen
+pub all_digits : (s : List ℕ) (at last : ℕ) (good : Bool) (small : Type 0) → Octets s → last ≤ at → at < last + 16
+    → last + 16 ≡ length s → small ↔ (AreDigits s 0 at × AreDigits s last (last + 16)) → (good ≡ true) ↔ small
+    → (good ≡ true) ↔ AllPass is_hex_digit s
+all_digits s at last good small fits past near long parts is = (
+  λ e.
+      let both = parts.0 (is.0 e) in
+      let all = digits_on s last (last + 16) (λ k low high. both.0 k low (omega arith)) both.1 in
+      subst (AllPass is_hex_digit) (take_all (last + 16) s (omega arith)) (front_digits s (last + 16) fits all),
+  λ pass.
+      let each : (k : ℕ) → k < length s → value_of (slice_index s k) < 16 = λ k lt. value_small (slice_index s k) (fits k) (pass k 0 lt) in
+      is.1 (parts.1 (λ k low high. each k (omega arith), λ k low high. each k (omega arith))),
+)

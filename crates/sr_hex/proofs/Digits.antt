@@ -49,7 +49,7 @@ ltb_false a b h = grind (arith, nat_tests)
 ltb_true : (a b : ℕ) → a < b → nat_lt a b ≡ true
 ltb_true a b h = grind (arith, nat_tests)
 
--- by_distance, at each of its cases
+-- the value by distances, at each of its cases
 cond_false : {A : Type 0} (b : Bool) (x y : A) → b ≡ false → cond b x y ≡ y
 cond_false b x y e = rw e refl
 

@@ -161,16 +161,51 @@ pub fn read_front(text: &[u8], octets: &mut [u8]) -> Option<usize>
     None
 }
 
-/// Whether all octets are hexadecimal digits of either case.
-pub fn are_digits(digits: &[u8]) -> bool
-    ensures { IsTrue result ↔ AllPass is_hex_digit digits.now }
+/// The values of sixteen octets from a place on. They are small where all of these octets are digits.
+#[inline(always)]
+fn values_at(octets: &[u8], at: usize) -> u8x16
+    requires { at + 16 ≤ length octets.now }
+    ensures { AreSmall result ↔ AreDigits octets.now at (at + 16) }
 {
-    for digit in digits {
-        if digit_value(*digit) > 15 {
+    values(load(octets, at))
+}
+
+/// Whether sixteen octets or more are digits, looked at sixteen at a time. Of the last sixteen some may have been looked at before.
+fn are_blocks_digits(octets: &[u8]) -> bool
+    requires { 16 ≤ length octets.now }
+    ensures { IsTrue result ↔ AllPass is_hex_digit octets.now }
+{
+    let last = octets.len() - 16;
+    let mut worst = values_at(octets, last);
+    let mut at = 0;
+    while at < last {
+        worst = both(worst, values_at(octets, at));
+        at += 16;
+    }
+    are_small(worst)
+}
+
+/// Whether octets are digits, looked at one by one.
+fn are_few_digits(octets: &[u8]) -> bool
+    ensures { IsTrue result ↔ AllPass is_hex_digit octets.now }
+{
+    for octet in octets {
+        if digit_value(*octet) > 15 {
             return false;
         }
     }
     true
+}
+
+/// Whether all octets are hexadecimal digits of either case.
+pub fn are_digits(octets: &[u8]) -> bool
+    ensures { IsTrue result ↔ AllPass is_hex_digit octets.now }
+{
+    if octets.len() < 16 {
+        are_few_digits(octets)
+    } else {
+        are_blocks_digits(octets)
+    }
 }
 
 /// Writes the octets that digits of either case spell, two digits each. False where one is no digit: what is written

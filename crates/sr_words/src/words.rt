@@ -42,5 +42,5 @@ pub fn behind_send(line: &[u8]) -> Option<&[u8]>
 pub fn is_comment(line: &[u8]) -> bool
     ensures { IsTrue result ↔ IsComment line.now }
 {
-    !line.is_empty() && line[0] == b'#' && line.iter().all(|octet| *octet < 128)
+    !line.is_empty() && line[0] == b'#' && line.is_ascii()
 }
