@@ -3,3 +3,4 @@ pub mod MarkLemmas
 pub mod SpellLemmas
 pub mod ReadLemmas
 pub mod TextLemmas
+pub mod RecutLemmas

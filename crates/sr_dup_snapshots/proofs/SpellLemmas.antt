@@ -2,6 +2,7 @@
 use Rattle.std.proofs.Common.{◌≡◌, ℕ, zero, suc, ◌+◌, ◌-◌, ◌*◌, ◌/◌, ◌%◌, ◌<◌, ◌≤◌, Bool, true, false, eqb, List, [], ◌∷◌, ◌++◌, length, get_or, take, drop, arith, refl, sym, ap, subst, ◌∙◌, inl, inr, append_assoc}
 use Rattle.std.specs.Int.{w16, w64, to_be_bytes, from_be_bytes, bit_at}
 use Rattle.std.specs.List.{flat_map, AllByRecursion}
+use Rattle.std.proofs.Math.Nat.{mul-suc}
 use Rattle.std.proofs.lemmas.Bool.{cases_lt}
 use Rattle.std.proofs.lemmas.Bool.Decides.{nat_tests}
 use Rattle.std.proofs.lemmas.List.{ext_get_or, get_or-drop, get_or-take, get_or_past, get_or_append_left, get_or-append_right, take_at, drop_at, length-take-le, length-take, length-drop, take-append-drop, length-append}
@@ -17,7 +18,7 @@ use Rattle.sr_dup_window.specs.LaneLemmas.{has-lanes_where, lanes_where-same}
 use Rattle.sr_dup_window.specs.Windows.{Window}
 use Rattle.sr_dup_window.specs.Records.{IsWhole}
 use Rattle.sr_dup_table.specs.Sources.{Heard, Sources}
-use Rattle.sr_dup_snapshots.specs.Snapshots.{is_noted, octet_of, lane_octet, lane_octets, source_octets, IsSource}
+use Rattle.sr_dup_snapshots.specs.Snapshots.{is_noted, octet_of, lane_octet, lane_octets, lane_len, source_octets, source_len, IsSource}
 use Rattle.sr_dup_snapshots.specs.Reading.{is_set, lanes_noted, marks_in, time_in, reference_in, lanes_in, source_in, sources_in}
 
 -- each is an octet
@@ -88,159 +89,174 @@ octet-of-bits n test h same =
     at j less = ap flag (same j less) ∙ flag-of-bit n j
 
 -- an octet of a lane, and the numbers for which its bits stand
-lane-count : (marks : List Lanes) (lane : Lane) → length (lane_octets marks lane) ≡ 128
+lane-count : (w : ℕ) (marks : List Lanes) (lane : Lane) → length (lane_octets w marks lane) ≡ lane_len w
 unfolding lane_octets
-lane-count marks lane = length-map-range_with_len (lane_octet marks lane) 0 128
+lane-count w marks lane = length-map-range_with_len (lane_octet marks lane) 0 (lane_len w)
 
-lane-at : (marks : List Lanes) (lane : Lane) (i : ℕ) → i < 128 → get_or (lane_octets marks lane) i 0 ≡ lane_octet marks lane i
+lane-at : (w : ℕ) (marks : List Lanes) (lane : Lane) (i : ℕ) → i < lane_len w → get_or (lane_octets w marks lane) i 0 ≡ lane_octet marks lane i
 unfolding lane_octets
-lane-at marks lane i h = get_or-map-range_with_len (lane_octet marks lane) 0 128 i i 0 h (omega arith)
+lane-at w marks lane i h = get_or-map-range_with_len (lane_octet marks lane) 0 (lane_len w) i i 0 h (omega arith)
 
 lane-bit : (marks : List Lanes) (lane : Lane) (k : ℕ) → eqb (bit_at (lane_octet marks lane (k / 8)) (k % 8)) 1 ≡ has (get_or marks k none) lane
 lane-bit marks lane k =
     let whole : 8 * (k / 8) + k % 8 ≡ k = omega arith in
     bits-of-octet (λ j. is_noted marks lane (8 * (k / 8) + j)) (k % 8) (omega arith) ∙ ap (λ n. has (get_or marks n none) lane) whole
 
--- the octets of the six lanes
-abbrev pub six_lanes : List Lanes → List ℕ
-six_lanes marks =
-    lane_octets marks H ++ (lane_octets marks A ++ (lane_octets marks B ++ (lane_octets marks C ++ (lane_octets marks GotA ++ lane_octets marks GotB))))
+-- octets that stand before others, and those that stand behind
+first-part : (len : ℕ) (xs ys : List ℕ) (i j : ℕ) → length xs ≡ len → i < len → j ≡ i → get_or (xs ++ ys) j 0 ≡ get_or xs i 0
+first-part len xs ys i j e h at = ap (λ n. get_or (xs ++ ys) n 0) at ∙ get_or_append_left xs ys 0 i (omega (arith, e))
 
-abbrev part : List Lanes → Lane → List ℕ
-part = lane_octets
+next-part : (len : ℕ) (xs ys : List ℕ) (i j : ℕ) → length xs ≡ len → j ≡ len + i → get_or (xs ++ ys) j 0 ≡ get_or ys i 0
+next-part len xs ys i j e at =
+    let more : len ≤ j = omega arith in
+    let rest : j - len ≡ i = omega arith in
+    get_or-append_right xs ys len j 0 e more ∙ ap (λ n. get_or ys n 0) rest
 
-first-part : (xs ys : List ℕ) (i j : ℕ) → length xs ≡ 128 → i < 128 → j ≡ i → get_or (xs ++ ys) j 0 ≡ get_or xs i 0
-first-part xs ys i j e h at = ap (λ n. get_or (xs ++ ys) n 0) at ∙ get_or_append_left xs ys 0 i (omega (arith, e))
+-- six lists of octets, one behind the other, each of one length
+abbrev pub six : (Lane → List ℕ) → List ℕ
+six of = of H ++ (of A ++ (of B ++ (of C ++ (of GotA ++ of GotB))))
 
-next-part : (xs ys : List ℕ) (i j : ℕ) → length xs ≡ 128 → j ≡ 128 + i → get_or (xs ++ ys) j 0 ≡ get_or ys i 0
-next-part xs ys i j e at =
-    let more : 128 ≤ j = omega arith in
-    let rest : j - 128 ≡ i = omega arith in
-    get_or-append_right xs ys 128 j 0 e more ∙ ap (λ n. get_or ys n 0) rest
+abbrev HasLength : ℕ → (Lane → List ℕ) → Type 0
+HasLength len of = (lane : Lane) → length (of lane) ≡ len
 
-octet-at : (marks : List Lanes) (lane : Lane) (i : ℕ) → i < 128 → get_or (six_lanes marks) (128 * index_of lane + i) 0 ≡ lane_octet marks lane i
-octet-at marks lane i h = found lane ∙ lane-at marks lane i h
-  where
-    len : (lane : Lane) → length (part marks lane) ≡ 128
-    len = lane-count marks
+six-at : (l : ℕ) (of : Lane → List ℕ) → HasLength l of → (lane : Lane) (i : ℕ) → i < l → get_or (six of) (index_of lane * l + i) 0 ≡ get_or (of lane) i 0
+six-at l of len H i h = first-part l (of H) (of A ++ (of B ++ (of C ++ (of GotA ++ of GotB)))) i (0 * l + i) (len H) h (omega arith)
+six-at l of len A i h =
+    next-part l (of H) (of A ++ (of B ++ (of C ++ (of GotA ++ of GotB)))) i (1 * l + i) (len H) (omega arith)
+    ∙ first-part l (of A) (of B ++ (of C ++ (of GotA ++ of GotB))) i i (len A) h refl
+six-at l of len B i h =
+    next-part l (of H) (of A ++ (of B ++ (of C ++ (of GotA ++ of GotB)))) (l + i) (2 * l + i) (len H) (omega arith)
+    ∙ next-part l (of A) (of B ++ (of C ++ (of GotA ++ of GotB))) i (l + i) (len A) (omega arith)
+    ∙ first-part l (of B) (of C ++ (of GotA ++ of GotB)) i i (len B) h refl
+six-at l of len C i h =
+    next-part l (of H) (of A ++ (of B ++ (of C ++ (of GotA ++ of GotB)))) (2 * l + i) (3 * l + i) (len H) (omega arith)
+    ∙ next-part l (of A) (of B ++ (of C ++ (of GotA ++ of GotB))) (l + i) (2 * l + i) (len A) (omega arith)
+    ∙ next-part l (of B) (of C ++ (of GotA ++ of GotB)) i (l + i) (len B) (omega arith)
+    ∙ first-part l (of C) (of GotA ++ of GotB) i i (len C) h refl
+six-at l of len GotA i h =
+    next-part l (of H) (of A ++ (of B ++ (of C ++ (of GotA ++ of GotB)))) (3 * l + i) (4 * l + i) (len H) (omega arith)
+    ∙ next-part l (of A) (of B ++ (of C ++ (of GotA ++ of GotB))) (2 * l + i) (3 * l + i) (len A) (omega arith)
+    ∙ next-part l (of B) (of C ++ (of GotA ++ of GotB)) (l + i) (2 * l + i) (len B) (omega arith)
+    ∙ next-part l (of C) (of GotA ++ of GotB) i (l + i) (len C) (omega arith)
+    ∙ first-part l (of GotA) (of GotB) i i (len GotA) h refl
+six-at l of len GotB i h =
+    next-part l (of H) (of A ++ (of B ++ (of C ++ (of GotA ++ of GotB)))) (4 * l + i) (5 * l + i) (len H) (omega arith)
+    ∙ next-part l (of A) (of B ++ (of C ++ (of GotA ++ of GotB))) (3 * l + i) (4 * l + i) (len A) (omega arith)
+    ∙ next-part l (of B) (of C ++ (of GotA ++ of GotB)) (2 * l + i) (3 * l + i) (len B) (omega arith)
+    ∙ next-part l (of C) (of GotA ++ of GotB) (l + i) (2 * l + i) (len C) (omega arith)
+    ∙ next-part l (of GotA) (of GotB) i (l + i) (len GotA) (omega arith)
 
-    found : (lane : Lane) → get_or (six_lanes marks) (128 * index_of lane + i) 0 ≡ get_or (part marks lane) i 0
-    found H = first-part (part marks H) (part marks A ++ (part marks B ++ (part marks C ++ (part marks GotA ++ part marks GotB)))) i (0 + i) (len H) h (omega arith)
-    found A =
-        next-part (part marks H) (part marks A ++ (part marks B ++ (part marks C ++ (part marks GotA ++ part marks GotB)))) i (128 + i) (len H) (omega arith)
-        ∙ first-part (part marks A) (part marks B ++ (part marks C ++ (part marks GotA ++ part marks GotB))) i i (len A) h refl
-    found B =
-        next-part (part marks H) (part marks A ++ (part marks B ++ (part marks C ++ (part marks GotA ++ part marks GotB)))) (128 + i) (256 + i) (len H) (omega arith)
-        ∙ next-part (part marks A) (part marks B ++ (part marks C ++ (part marks GotA ++ part marks GotB))) i (128 + i) (len A) (omega arith)
-        ∙ first-part (part marks B) (part marks C ++ (part marks GotA ++ part marks GotB)) i i (len B) h refl
-    found C =
-        next-part (part marks H) (part marks A ++ (part marks B ++ (part marks C ++ (part marks GotA ++ part marks GotB)))) (256 + i) (384 + i) (len H) (omega arith)
-        ∙ next-part (part marks A) (part marks B ++ (part marks C ++ (part marks GotA ++ part marks GotB))) (128 + i) (256 + i) (len A) (omega arith)
-        ∙ next-part (part marks B) (part marks C ++ (part marks GotA ++ part marks GotB)) i (128 + i) (len B) (omega arith)
-        ∙ first-part (part marks C) (part marks GotA ++ part marks GotB) i i (len C) h refl
-    found GotA =
-        next-part (part marks H) (part marks A ++ (part marks B ++ (part marks C ++ (part marks GotA ++ part marks GotB)))) (384 + i) (512 + i) (len H) (omega arith)
-        ∙ next-part (part marks A) (part marks B ++ (part marks C ++ (part marks GotA ++ part marks GotB))) (256 + i) (384 + i) (len A) (omega arith)
-        ∙ next-part (part marks B) (part marks C ++ (part marks GotA ++ part marks GotB)) (128 + i) (256 + i) (len B) (omega arith)
-        ∙ next-part (part marks C) (part marks GotA ++ part marks GotB) i (128 + i) (len C) (omega arith)
-        ∙ first-part (part marks GotA) (part marks GotB) i i (len GotA) h refl
-    found GotB =
-        next-part (part marks H) (part marks A ++ (part marks B ++ (part marks C ++ (part marks GotA ++ part marks GotB)))) (512 + i) (640 + i) (len H) (omega arith)
-        ∙ next-part (part marks A) (part marks B ++ (part marks C ++ (part marks GotA ++ part marks GotB))) (384 + i) (512 + i) (len A) (omega arith)
-        ∙ next-part (part marks B) (part marks C ++ (part marks GotA ++ part marks GotB)) (256 + i) (384 + i) (len B) (omega arith)
-        ∙ next-part (part marks C) (part marks GotA ++ part marks GotB) (128 + i) (256 + i) (len C) (omega arith)
-        ∙ next-part (part marks GotA) (part marks GotB) i (128 + i) (len GotA) (omega arith)
+six-count : (l : ℕ) (of : Lane → List ℕ) → HasLength l of → length (six of) ≡ 6 * l
+six-count l of len =
+    omega (
+      arith,
+      len H,
+      len A,
+      len B,
+      len C,
+      len GotA,
+      len GotB,
+      length-append (of H) (of A ++ (of B ++ (of C ++ (of GotA ++ of GotB)))),
+      length-append (of A) (of B ++ (of C ++ (of GotA ++ of GotB))),
+      length-append (of B) (of C ++ (of GotA ++ of GotB)),
+      length-append (of C) (of GotA ++ of GotB),
+      length-append (of GotA) (of GotB),
+    )
 
-pub six-count : (marks : List Lanes) → length (six_lanes marks) ≡ 768
-six-count marks =
-    length-append (part marks H) (part marks A ++ (part marks B ++ (part marks C ++ (part marks GotA ++ part marks GotB))))
-    ∙ (λ i. len H i + (length-append (part marks A) (part marks B ++ (part marks C ++ (part marks GotA ++ part marks GotB))) i))
-    ∙ (λ i. 128 + (len A i + (length-append (part marks B) (part marks C ++ (part marks GotA ++ part marks GotB)) i)))
-    ∙ (λ i. 128 + (128 + (len B i + (length-append (part marks C) (part marks GotA ++ part marks GotB) i))))
-    ∙ (λ i. 128 + (128 + (128 + (len C i + (length-append (part marks GotA) (part marks GotB) i)))))
-    ∙ (λ i. 128 + (128 + (128 + (128 + (len GotA i + len GotB i)))))
-  where
-    len : (lane : Lane) → length (part marks lane) ≡ 128
-    len = lane-count marks
+-- the list and the place in it where a place lies
+place-of : (l p : ℕ) → p < 6 * l → (lane : Lane) × (i : ℕ) × (i < l) × (index_of lane * l + i ≡ p)
+place-of l p h =
+    elim (cases_lt p l) [
+      | inl less ↦ (H, p, less, omega arith)
+      | inr more ↦ elim (cases_lt p (2 * l)) [
+        | inl less ↦ (A, p - l, omega arith, omega arith)
+        | inr more ↦ elim (cases_lt p (3 * l)) [
+          | inl less ↦ (B, p - 2 * l, omega arith, omega arith)
+          | inr more ↦ elim (cases_lt p (4 * l)) [
+            | inl less ↦ (C, p - 3 * l, omega arith, omega arith)
+            | inr more ↦ elim (cases_lt p (5 * l)) [
+              | inl less ↦ (GotA, p - 4 * l, omega arith, omega arith)
+              | inr more ↦ (GotB, p - 5 * l, omega arith, omega arith)
+            ]
+          ]
+        ]
+      ]
+    ]
+
+-- six lists that have the octets of a list at their places are that list
+six-same : (l : ℕ) (of : Lane → List ℕ) (octets : List ℕ) → HasLength l of → length octets ≡ 6 * l
+    → ((lane : Lane) (i : ℕ) → i < l → get_or (of lane) i 0 ≡ get_or octets (index_of lane * l + i) 0) → six of ≡ octets
+six-same l of octets len count same =
+    ext_get_or 0 (six of) octets (six-count l of len ∙ sym count)
+    (λ p h.
+    let where_is = place-of l p (omega (arith, h, six-count l of len)) in
+    ap (λ n. get_or (six of) n 0) (sym where_is.3)
+    ∙ six-at l of len where_is.0 where_is.1 where_is.2
+    ∙ same where_is.0 where_is.1 where_is.2
+    ∙ ap (λ n. get_or octets n 0) where_is.3)
+
+-- the octets of the six lanes, of w numbers
+abbrev pub six_lanes : ℕ → List Lanes → List ℕ
+six_lanes w marks = six (lane_octets w marks)
+
+pub lanes-count : (w : ℕ) (marks : List Lanes) → length (six_lanes w marks) ≡ 6 * lane_len w
+lanes-count w marks = six-count (lane_len w) (lane_octets w marks) (lane-count w marks)
+
+octet-at : (w : ℕ) (marks : List Lanes) (lane : Lane) (i : ℕ) → i < lane_len w → get_or (six_lanes w marks) (index_of lane * lane_len w + i) 0 ≡ lane_octet marks lane i
+octet-at w marks lane i h = six-at (lane_len w) (lane_octets w marks) (lane-count w marks) lane i h ∙ lane-at w marks lane i h
 
 -- the marks of octets
-pub marks-count : (lanes : List ℕ) → length (marks_in lanes) ≡ 1024
+pub marks-count : (w : ℕ) (lanes : List ℕ) → length (marks_in w lanes) ≡ w
 unfolding marks_in
-marks-count lanes = length-map-range_with_len (lanes_noted lanes) 0 1024
+marks-count w lanes = length-map-range_with_len (lanes_noted w lanes) 0 w
 
-pub marks-at : (lanes : List ℕ) (k : ℕ) → k < 1024 → get_or (marks_in lanes) k none ≡ lanes_noted lanes k
+pub marks-at : (w : ℕ) (lanes : List ℕ) (k : ℕ) → k < w → get_or (marks_in w lanes) k none ≡ lanes_noted w lanes k
 unfolding marks_in
-marks-at lanes k h = get_or-map-range_with_len (lanes_noted lanes) 0 1024 k k none h (omega arith)
+marks-at w lanes k h = get_or-map-range_with_len (lanes_noted w lanes) 0 w k k none h (omega arith)
 
 -- the marks that were spelled are read
-marks-read : (w : Window) → IsWhole 1024 w → marks_in (six_lanes w.marks) ≡ w.marks
-marks-read w whole =
-    ext_get_or none (marks_in (six_lanes w.marks)) w.marks (marks-count (six_lanes w.marks) ∙ sym whole.count)
-    (λ k h. at k (inside (length (marks_in (six_lanes w.marks))) k (marks-count (six_lanes w.marks)) h))
+marks-read : (w : ℕ) → w % 8 ≡ 0 → (r : Window) → IsWhole w r → marks_in w (six_lanes w r.marks) ≡ r.marks
+marks-read w eights r whole =
+    ext_get_or none (marks_in w (six_lanes w r.marks)) r.marks (marks-count w (six_lanes w r.marks) ∙ sym whole.count)
+    (λ k h. at k (inside (length (marks_in w (six_lanes w r.marks))) k (marks-count w (six_lanes w r.marks)) h))
   where
-    inside : (n k : ℕ) → n ≡ 1024 → k < n → k < 1024
+    inside : (n k : ℕ) → n ≡ w → k < n → k < w
     inside n k e h = omega arith
 
-    bit : (k : ℕ) → k < 1024 → (lane : Lane) → is_set (six_lanes w.marks) k lane ≡ has (get_or w.marks k none) lane
+    bit : (k : ℕ) → k < w → (lane : Lane) → is_set w (six_lanes w r.marks) k lane ≡ has (get_or r.marks k none) lane
     bit k h lane =
-        let few : k / 8 < 128 = omega arith in
-        ap (λ n. eqb (bit_at n (k % 8)) 1) (octet-at w.marks lane (k / 8) few) ∙ lane-bit w.marks lane k
+        let few : k / 8 < w / 8 = omega arith in
+        ap (λ n. eqb (bit_at n (k % 8)) 1) (octet-at w r.marks lane (k / 8) few) ∙ lane-bit r.marks lane k
 
-    at : (k : ℕ) → k < 1024 → get_or (marks_in (six_lanes w.marks)) k none ≡ get_or w.marks k none
+    at : (k : ℕ) → k < w → get_or (marks_in w (six_lanes w r.marks)) k none ≡ get_or r.marks k none
     at k h =
-        marks-at (six_lanes w.marks) k h
-        ∙ lanes_where-same (is_set (six_lanes w.marks) k) (has (get_or w.marks k none)) (bit k h)
+        marks-at w (six_lanes w r.marks) k h
+        ∙ lanes_where-same (is_set w (six_lanes w r.marks) k) (has (get_or r.marks k none)) (bit k h)
         ∙ whole.plain k h
 
--- the lane at a place
-lane-of : (l : ℕ) → l < 6 → (lane : Lane) × (index_of lane ≡ l)
-lane-of zero h = (H, refl)
-lane-of (suc zero) h = (A, refl)
-lane-of (suc (suc zero)) h = (B, refl)
-lane-of (suc (suc (suc zero))) h = (C, refl)
-lane-of (suc (suc (suc (suc zero)))) h = (GotA, refl)
-lane-of (suc (suc (suc (suc (suc zero))))) h = (GotB, refl)
-lane-of (suc (suc (suc (suc (suc (suc l)))))) h = absurd (omega arith)
-
 -- octets whose marks are read are spelled so
-octet-read : (lanes : List ℕ) → AreOctets lanes → (lane : Lane) (i : ℕ) → i < 128 → lane_octet (marks_in lanes) lane i ≡ get_or lanes (128 * index_of lane + i) 0
-octet-read lanes all lane i h =
-    octet-of-bits (get_or lanes (128 * index_of lane + i) 0) (λ j. is_noted (marks_in lanes) lane (8 * i + j)) (all (128 * index_of lane + i))
+octet-read : (w : ℕ) (lanes : List ℕ) → AreOctets lanes → (lane : Lane) (i : ℕ) → i < lane_len w
+    → lane_octet (marks_in w lanes) lane i ≡ get_or lanes (index_of lane * lane_len w + i) 0
+octet-read w lanes all lane i h =
+    octet-of-bits (get_or lanes (index_of lane * lane_len w + i) 0) (λ j. is_noted (marks_in w lanes) lane (8 * i + j)) (all (index_of lane * lane_len w + i))
     (λ j less.
     let k = 8 * i + j in
-    let inside : k < 1024 = omega arith in
+    let inside : k < w = omega arith in
     let place : k / 8 ≡ i = omega arith in
     let back : k % 8 ≡ j = omega arith in
-    ap (λ s. has s lane) (marks-at lanes k inside) ∙ has-lanes_where (is_set lanes k) lane
-    ∙ (λ t. eqb (bit_at (get_or lanes (128 * index_of lane + place t) 0) (back t)) 1))
+    ap (λ s. has s lane) (marks-at w lanes k inside) ∙ has-lanes_where (is_set w lanes k) lane
+    ∙ (λ t. eqb (bit_at (get_or lanes (index_of lane * lane_len w + place t) 0) (back t)) 1))
 
-lanes-spelled : (lanes : List ℕ) → length lanes ≡ 768 → AreOctets lanes → six_lanes (marks_in lanes) ≡ lanes
-lanes-spelled lanes count all =
-    ext_get_or 0 (six_lanes (marks_in lanes)) lanes (six-count (marks_in lanes) ∙ sym count)
-    (λ p h. at p (inside (length (six_lanes (marks_in lanes))) p (six-count (marks_in lanes)) h))
-  where
-    inside : (n k : ℕ) → n ≡ 768 → k < n → k < 768
-    inside n k e h = omega arith
-
-    at : (p : ℕ) → p < 768 → get_or (six_lanes (marks_in lanes)) p 0 ≡ get_or lanes p 0
-    at p h =
-        let few : p / 128 < 6 = omega arith in
-        let small : p % 128 < 128 = omega arith in
-        let which = lane-of (p / 128) few in
-        let whole : 128 * index_of which.0 + p % 128 ≡ p = ap (λ l. 128 * l + p % 128) which.1 ∙ again p in
-        ap (λ n. get_or (six_lanes (marks_in lanes)) n 0) (sym whole)
-        ∙ octet-at (marks_in lanes) which.0 (p % 128) small
-        ∙ octet-read lanes all which.0 (p % 128) small
-        ∙ ap (λ n. get_or lanes n 0) whole
-      where
-        again : (n : ℕ) → 128 * (n / 128) + n % 128 ≡ n
-        again n = omega arith
+lanes-spelled : (w : ℕ) (lanes : List ℕ) → length lanes ≡ 6 * lane_len w → AreOctets lanes → six_lanes w (marks_in w lanes) ≡ lanes
+lanes-spelled w lanes count all =
+    six-same (lane_len w) (lane_octets w (marks_in w lanes)) lanes (lane-count w (marks_in w lanes)) count
+    (λ lane i h. lane-at w (marks_in w lanes) lane i h ∙ octet-read w lanes all lane i h)
 
 -- the parts of a source, one behind the other
-pub regrouped : (e : Mac × Heard)
-    → source_octets e ≡ e.0.0 ++ (to_be_bytes w64 e.1.time ++ (to_be_bytes w16 e.1.seen.reference ++ six_lanes e.1.seen.marks))
-regrouped e =
-    let of : Lane → List ℕ = lane_octets e.1.seen.marks in
+pub regrouped : (w : ℕ) (e : Mac × Heard)
+    → source_octets w e ≡ e.0.0 ++ (to_be_bytes w64 e.1.time ++ (to_be_bytes w16 e.1.seen.reference ++ six_lanes w e.1.seen.marks))
+regrouped w e =
+    let of : Lane → List ℕ = lane_octets w e.1.seen.marks in
     let r = to_be_bytes w16 e.1.seen.reference in
     ap (λ l. (e.0.0 ++ to_be_bytes w64 e.1.time) ++ l)
     (append_assoc (r ++ of H ++ of A ++ of B ++ of C) (of GotA) (of GotB)
@@ -248,42 +264,46 @@ regrouped e =
     ∙ append_assoc (r ++ of H ++ of A) (of B) (of C ++ (of GotA ++ of GotB))
     ∙ append_assoc (r ++ of H) (of A) (of B ++ (of C ++ (of GotA ++ of GotB)))
     ∙ append_assoc r (of H) (of A ++ (of B ++ (of C ++ (of GotA ++ of GotB)))))
-    ∙ append_assoc e.0.0 (to_be_bytes w64 e.1.time) (r ++ six_lanes e.1.seen.marks)
+    ∙ append_assoc e.0.0 (to_be_bytes w64 e.1.time) (r ++ six_lanes w e.1.seen.marks)
 
-pub source-count : (e : Mac × Heard) → length e.0.0 ≡ 6 → length (source_octets e) ≡ 784
-source-count e address =
+pub source-count : (w : ℕ) (e : Mac × Heard) → length e.0.0 ≡ 6 → length (source_octets w e) ≡ source_len w
+source-count w e address =
     let r = to_be_bytes w16 e.1.seen.reference in
     let t = to_be_bytes w64 e.1.time in
-    let lanes = six_lanes e.1.seen.marks in
-    ap length (regrouped e)
+    let lanes = six_lanes w e.1.seen.marks in
+    ap length (regrouped w e)
     ∙ length-append e.0.0 (t ++ (r ++ lanes))
     ∙ (λ i. address i + length-append t (r ++ lanes) i)
     ∙ (λ i. 6 + (8 + length-append r lanes i))
-    ∙ (λ i. 6 + (8 + (2 + six-count e.1.seen.marks i)))
+    ∙ (λ i. 6 + (8 + (2 + lanes-count w e.1.seen.marks i)))
+    ∙ sum (lane_len w)
+  where
+    sum : (l : ℕ) → 6 + (8 + (2 + 6 * l)) ≡ 16 + 6 * l
+    sum l = omega arith
 
 -- a source that was spelled is read
-parts-read : (m t r l : List ℕ) → length m ≡ 6 → length t ≡ 8 → length r ≡ 2
-    → source_in (m ++ (t ++ (r ++ l)))
-    ≡ (record { 0 = m }, record { seen = record { reference = from_be_bytes w16 r; marks = marks_in l }; time = from_be_bytes w64 t })
-parts-read m t r l six eight two =
+parts-read : (w : ℕ) (m t r l : List ℕ) → length m ≡ 6 → length t ≡ 8 → length r ≡ 2
+    → source_in w (m ++ (t ++ (r ++ l)))
+    ≡ (record { 0 = m }, record { seen = record { reference = from_be_bytes w16 r; marks = marks_in w l }; time = from_be_bytes w64 t })
+parts-read w m t r l six eight two =
     (λ i. (
       record { 0 = take_at m (t ++ (r ++ l)) 6 six i },
       record {
-        seen = record { reference = from_be_bytes w16 (take 2 (drop 8 (behind i))); marks = marks_in (drop 2 (drop 8 (behind i))) };
+        seen = record { reference = from_be_bytes w16 (take 2 (drop 8 (behind i))); marks = marks_in w (drop 2 (drop 8 (behind i))) };
         time = from_be_bytes w64 (take 8 (behind i));
       },
     ))
     ∙ (λ i. (
       record { 0 = m },
       record {
-        seen = record { reference = from_be_bytes w16 (take 2 (after i)); marks = marks_in (drop 2 (after i)) };
+        seen = record { reference = from_be_bytes w16 (take 2 (after i)); marks = marks_in w (drop 2 (after i)) };
         time = from_be_bytes w64 (take_at t (r ++ l) 8 eight i);
       },
     ))
     ∙ (λ i. (
       record { 0 = m },
       record {
-        seen = record { reference = from_be_bytes w16 (take_at r l 2 two i); marks = marks_in (drop_at r l 2 two i) };
+        seen = record { reference = from_be_bytes w16 (take_at r l 2 two i); marks = marks_in w (drop_at r l 2 two i) };
         time = from_be_bytes w64 t;
       },
     ))
@@ -294,34 +314,34 @@ parts-read m t r l six eight two =
     after : drop 8 (t ++ (r ++ l)) ≡ r ++ l
     after = drop_at t (r ++ l) 8 eight
 
-source-read : (e : Mac × Heard) → IsSource e → source_in (source_octets e) ≡ e
-source-read e is =
-    (λ i. source_in (regrouped e i))
-    ∙ parts-read e.0.0 (to_be_bytes w64 e.1.time) (to_be_bytes w16 e.1.seen.reference) (six_lanes e.1.seen.marks) is.address refl refl
+source-read : (w : ℕ) → w % 8 ≡ 0 → (e : Mac × Heard) → IsSource w e → source_in w (source_octets w e) ≡ e
+source-read w eights e is =
+    (λ i. source_in w (regrouped w e i))
+    ∙ parts-read w e.0.0 (to_be_bytes w64 e.1.time) (to_be_bytes w16 e.1.seen.reference) (six_lanes w e.1.seen.marks) is.address refl refl
     ∙ (λ i. (
       e.0,
       record {
-        seen = record { reference = from_be_bytes-to_be_bytes_2 e.1.seen.reference is.whole.carried i; marks = marks-read e.1.seen is.whole i };
+        seen = record { reference = from_be_bytes-to_be_bytes_2 e.1.seen.reference is.whole.carried i; marks = marks-read w eights e.1.seen is.whole i };
         time = from_be_bytes-to_be_bytes_8 e.1.time is.time i;
       },
     ))
 
 -- octets whose source is read are spelled so
-source-spelled : (c : List ℕ) → length c ≡ 784 → AreOctets c → source_octets (source_in c) ≡ c
-source-spelled c count all =
-    regrouped (source_in c)
+source-spelled : (w : ℕ) (c : List ℕ) → length c ≡ source_len w → AreOctets c → source_octets w (source_in w c) ≡ c
+source-spelled w c count all =
+    regrouped w (source_in w c)
     ∙ (λ i. take 6 c ++ (time i ++ (reference i ++ lanes i)))
     ∙ ap (λ l. take 6 c ++ (take 8 (drop 6 c) ++ l)) (take-append-drop 2 (drop 8 (drop 6 c)))
     ∙ ap (λ l. take 6 c ++ l) (take-append-drop 8 (drop 6 c))
     ∙ take-append-drop 6 c
   where
-    one : length (drop 6 c) ≡ 778
+    one : length (drop 6 c) ≡ 10 + 6 * lane_len w
     one = omega (arith, count, length-drop 6 c)
 
-    two : length (drop 8 (drop 6 c)) ≡ 770
+    two : length (drop 8 (drop 6 c)) ≡ 2 + 6 * lane_len w
     two = omega (arith, one, length-drop 8 (drop 6 c))
 
-    three : length (drop 2 (drop 8 (drop 6 c))) ≡ 768
+    three : length (drop 2 (drop 8 (drop 6 c))) ≡ 6 * lane_len w
     three = omega (arith, two, length-drop 2 (drop 8 (drop 6 c)))
 
     octets-one : AreOctets (drop 6 c)
@@ -336,39 +356,54 @@ source-spelled c count all =
     reference : to_be_bytes w16 (reference_in c) ≡ take 2 (drop 8 (drop 6 c))
     reference = be_bytes_2 (take 2 (drop 8 (drop 6 c))) (reference_in c) (length-take-le 2 (drop 8 (drop 6 c)) (omega (arith, two))) (octets-take 2 (drop 8 (drop 6 c)) octets-two) refl
 
-    lanes : six_lanes (marks_in (lanes_in c)) ≡ lanes_in c
-    lanes = lanes-spelled (lanes_in c) three (octets-drop 2 (drop 8 (drop 6 c)) octets-two)
+    lanes : six_lanes w (marks_in w (lanes_in c)) ≡ lanes_in c
+    lanes = lanes-spelled w (lanes_in c) three (octets-drop 2 (drop 8 (drop 6 c)) octets-two)
 
 -- the same of several sources, one behind the other
-pub all-read : (s : Sources) → AllByRecursion IsSource s → sources_in (length s) (flat_map source_octets s) ≡ s
+pub all-read : (w : ℕ) → w % 8 ≡ 0 → (s : Sources) → AllByRecursion (IsSource w) s → sources_in w (length s) (flat_map (source_octets w) s) ≡ s
 unfolding sources_in
-all-read [] each = refl
-all-read (e ∷ s) each =
-    (λ i. source_in (take_at (source_octets e) (flat_map source_octets s) 784 (source-count e each.0.address) i)
-    ∷ sources_in (length s) (drop_at (source_octets e) (flat_map source_octets s) 784 (source-count e each.0.address) i))
-    ∙ (λ i. source-read e each.0 i ∷ all-read s each.1 i)
+all-read w eights [] each = refl
+all-read w eights (e ∷ s) each =
+    (λ i. source_in w (take_at (source_octets w e) (flat_map (source_octets w) s) (source_len w) (source-count w e each.0.address) i)
+    ∷ sources_in w (length s) (drop_at (source_octets w e) (flat_map (source_octets w) s) (source_len w) (source-count w e each.0.address) i))
+    ∙ (λ i. source-read w eights e each.0 i ∷ all-read w eights s each.1 i)
 
-pub all-spelled : (count : ℕ) (octets : List ℕ) → length octets ≡ 784 * count → AreOctets octets → flat_map source_octets (sources_in count octets) ≡ octets
-unfolding sources_in
-all-spelled zero [] whole all = refl
-all-spelled zero (o ∷ octets) whole all = absurd (omega (arith, whole))
-all-spelled (suc count) octets whole all =
-    (λ i. source-spelled (take 784 octets) (length-take-le 784 octets (omega (arith, whole))) (octets-take 784 octets all) i
-    ++ all-spelled count (drop 784 octets) (omega (arith, whole, length-drop 784 octets)) (octets-drop 784 octets all) i)
-    ∙ take-append-drop 784 octets
-
--- so many sources have 784 octets each
-pub all-count : (s : Sources) → AllByRecursion IsSource s → length (flat_map source_octets s) ≡ 784 * length s
-all-count [] each = refl
-all-count (e ∷ s) each =
-    length-append (source_octets e) (flat_map source_octets s)
-    ∙ (λ i. source-count e each.0.address i + all-count s each.1 i)
-    ∙ more (length s)
+-- the octets of one source more
+pub size-more : (len n size : ℕ) → size ≡ len * suc n → (len ≤ size) × (size - len ≡ len * n)
+size-more len n size whole = by (len * n) (whole ∙ mul-suc len n)
   where
-    more : (n : ℕ) → 784 + 784 * n ≡ 784 * suc n
-    more n = omega arith
+    by : (p : ℕ) → size ≡ p + len → (len ≤ size) × (size - len ≡ p)
+    by p e = (omega arith, omega arith)
 
-pub sources-count : (count : ℕ) (octets : List ℕ) → length (sources_in count octets) ≡ count
+pub size-none : (len : ℕ) → len * 0 ≡ 0
+size-none len = omega arith
+
+pub all-spelled : (w : ℕ) (count : ℕ) (octets : List ℕ) → length octets ≡ source_len w * count → AreOctets octets → flat_map (source_octets w) (sources_in w count octets) ≡ octets
 unfolding sources_in
-sources-count zero octets = refl
-sources-count (suc count) octets = ap suc (sources-count count (drop 784 octets))
+all-spelled w zero [] whole all = refl
+all-spelled w zero (o ∷ octets) whole all = absurd (omega (arith, whole, size-none (source_len w)))
+all-spelled w (suc count) octets whole all =
+    let len = source_len w in
+    let more = size-more len count (length octets) whole in
+    (λ i. source-spelled w (take len octets) (length-take-le len octets more.0) (octets-take len octets all) i
+    ++ all-spelled w count (drop len octets) (length-drop len octets ∙ more.1) (octets-drop len octets all) i)
+    ∙ take-append-drop len octets
+
+-- so many sources have the octets of one each
+pub all-count : (w : ℕ) (s : Sources) → AllByRecursion (IsSource w) s → length (flat_map (source_octets w) s) ≡ source_len w * length s
+all-count w [] each = sym (size-none (source_len w))
+all-count w (e ∷ s) each =
+    length-append (source_octets w e) (flat_map (source_octets w) s)
+    ∙ (λ i. source-count w e each.0.address i + all-count w s each.1 i)
+    ∙ more (source_len w) (length s)
+  where
+    more : (len n : ℕ) → len + len * n ≡ len * suc n
+    more len n = by (len * n) (len * suc n) (mul-suc len n)
+      where
+        by : (p q : ℕ) → q ≡ p + len → len + p ≡ q
+        by p q e = omega arith
+
+pub sources-count : (w : ℕ) (count : ℕ) (octets : List ℕ) → length (sources_in w count octets) ≡ count
+unfolding sources_in
+sources-count w zero octets = refl
+sources-count w (suc count) octets = ap suc (sources-count w count (drop (source_len w) octets))

@@ -1,4 +1,4 @@
-//! Snapshots of tables of duplicate records: their octets, version 1.
+//! Snapshots of tables of duplicate records: their octets, version 1 of a narrow table and version 2 of a wide one.
 #![tactic(auto)]
 
 mod fields;
@@ -7,6 +7,6 @@ mod reading;
 mod record;
 mod writing;
 
-pub use laws::{snapshots_are_unique, snapshots_tell};
+pub use laws::{readings_are_one, snapshots_are_unique, snapshots_tell};
 pub use reading::read_snapshot;
 pub use writing::snapshot;

@@ -1,25 +1,31 @@
 //! Writing snapshots.
-ghost use Rattle.std.specs.Prelude.{◌≡◌, ◌++◌, IfOk, OnOk, IsPermutation};
+ghost use Rattle.std.specs.Prelude.{◌≡◌, ◌*◌, ◌++◌, ◌⊎◌, IfOk, OnOk, IsPermutation};
 ghost use Rattle.std.specs.List.{flat_map, AllByRecursion};
 ghost use Rattle.std.specs.List.Sorted.{IsStrictlySortedBy};
 ghost use Rattle.std.specs.Map.{keys_of};
 ghost use Rattle.sr_dup_snapshots.specs.Ordered.{sources_at};
 ghost use Rattle.sr_dup_window.specs.Windows.{window_of};
-ghost use Rattle.sr_dup_snapshots.specs.Snapshots.{source_octets, spelling, mac_order, IsSource, IsSnapshot};
+ghost use Rattle.sr_dup_snapshots.specs.Snapshots.{head, source_octets, mac_order, IsSource, IsSnapshot};
 
-use crate::fields::{HEAD, HEAD_LEN, SOURCE_LEN};
+use crate::fields::{HEAD_LEN, NARROW_HEAD, WIDE_HEAD};
 use crate::record::put_record;
-use sr_dup_table::NarrowTable;
+use sr_dup_table::{DupTable, Parts, TableOf};
 use sr_dup_window::Record;
 use sr_frame::{Mac, NoMemory};
 use std::alloc::Global;
 
 // Appends the octets of a source.
-fn put_source(out: &mut Vec<u8>, src: Mac, time: u64, seen: &Record<16>) -> Result<(), NoMemory>
-    ensures spelled { OnOk result (out.new.items
-        ≡ out.old.items ++ source_octets (src, record { seen = window_of seen.now; time = time })) }
+fn put_source<const N: usize>(
+    out: &mut Vec<u8>,
+    src: Mac,
+    time: u64,
+    seen: &Record<N>,
+) -> Result<(), NoMemory>
+    requires { (N ≡ 16) ⊎ (N ≡ 32) }
+    ensures spelled { OnOk result (out.new.items ≡ out.old.items
+        ++ source_octets (64 * N) (src, record { seen = window_of seen.now; time = time })) }
     ensures source { OnOk result
-        (IsSource (src, record { seen = window_of seen.now; time = time })) }
+        (IsSource (64 * N) (src, record { seen = window_of seen.now; time = time })) }
 {
     out.extend_from_slice(&src.0)?;
     out.extend_from_slice(&time.to_be_bytes())?;
@@ -27,7 +33,7 @@ fn put_source(out: &mut Vec<u8>, src: Mac, time: u64, seen: &Record<16>) -> Resu
 }
 
 // The addresses of a table, in ascending order.
-fn sorted(alloc: Global, table: &NarrowTable) -> Result<Vec<Mac>, NoMemory>
+fn sorted<const N: usize>(alloc: Global, table: &TableOf<N>) -> Result<Vec<Mac>, NoMemory>
     ensures all { IfOk result (λ macs. IsPermutation (keys_of table.now.sources) macs.items) }
     ensures ascending { IfOk result (λ macs. IsStrictlySortedBy mac_order macs.items) }
 {
@@ -40,10 +46,16 @@ fn sorted(alloc: Global, table: &NarrowTable) -> Result<Vec<Mac>, NoMemory>
 }
 
 // Appends the sources that stand at these addresses.
-fn put_sources(out: &mut Vec<u8>, table: &NarrowTable, macs: &[Mac]) -> Result<(), NoMemory>
-    ensures spelled { OnOk result (out.new.items
-        ≡ out.old.items ++ flat_map source_octets (sources_at table.now.sources macs.now)) }
-    ensures each { OnOk result (AllByRecursion IsSource (sources_at table.now.sources macs.now)) }
+fn put_sources<const N: usize>(
+    out: &mut Vec<u8>,
+    table: &TableOf<N>,
+    macs: &[Mac],
+) -> Result<(), NoMemory>
+    requires { (N ≡ 16) ⊎ (N ≡ 32) }
+    ensures spelled { OnOk result (out.new.items ≡ out.old.items
+        ++ flat_map (source_octets (64 * N)) (sources_at table.now.sources macs.now)) }
+    ensures each { OnOk result
+        (AllByRecursion (IsSource (64 * N)) (sources_at table.now.sources macs.now)) }
 {
     for src in macs {
         if let Some(entry) = table.entry(*src) {
@@ -53,16 +65,33 @@ fn put_sources(out: &mut Vec<u8>, table: &NarrowTable, macs: &[Mac]) -> Result<(
     Ok(())
 }
 
-/// The snapshot of a narrow table, version 1: one text for all tables that are the same, in whatever order. Held places are no part of it.
-/// NoMemory: memory ran out.
-pub fn snapshot(alloc: Global, table: &NarrowTable) -> Result<Vec<u8>, NoMemory>
-    ensures { IfOk result (λ octets. IsSnapshot octets.items table.now.sources) }
+// The octets of a table whose snapshots begin so.
+fn spelled<const N: usize>(
+    alloc: Global,
+    front: &[u8; 5],
+    table: &TableOf<N>,
+) -> Result<Vec<u8>, NoMemory>
+    requires width { (N ≡ 16) ⊎ (N ≡ 32) }
+    requires front { front.now ≡ head (64 * N) }
+    ensures { IfOk result (λ octets. IsSnapshot (64 * N) octets.items table.now.sources) }
 {
     let count = table.source_count();
     let macs = sorted(alloc, table)?;
-    let mut octets = Vec::with_capacity(alloc, HEAD_LEN + SOURCE_LEN * count)?;
-    octets.extend_from_slice(&HEAD)?;
+    let mut octets = Vec::with_capacity(alloc, HEAD_LEN + (16 + 48 * N) * count)?;
+    octets.extend_from_slice(front)?;
     octets.extend_from_slice(&(count as u16).to_be_bytes())?;
     put_sources(&mut octets, table, &macs)?;
     Ok(octets)
+}
+
+/// The snapshot of a table, version 1 of a narrow one and version 2 of a wide one: one text for all tables that are the same, in
+/// whatever order. Held places are no part of it. NoMemory: memory ran out.
+pub fn snapshot(alloc: Global, table: &DupTable) -> Result<Vec<u8>, NoMemory>
+    ensures { IfOk result (λ octets.
+        IsSnapshot table.now.width octets.items table.now.sources) }
+{
+    match table.parts() {
+        Parts::Narrow(table) => spelled(alloc, &NARROW_HEAD, table),
+        Parts::Wide(table) => spelled(alloc, &WIDE_HEAD, table),
+    }
 }

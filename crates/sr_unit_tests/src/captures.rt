@@ -12,3 +12,4 @@ mod pcapng;
 mod runs;
 mod steps;
 mod texts;
+mod written;

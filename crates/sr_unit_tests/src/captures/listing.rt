@@ -36,8 +36,8 @@ fn is_run<R: BufRead + Drop>(
     Some(is_ended(outcome, ending)? && are_lines(written.as_slice(), ends, len, &[]))
 }
 
-/// Whether a reader that fails behind these octets lists what stands in them. Where they have no second interface that is
-/// Ethernet, the fault is that of the reader.
+/// Whether the script of a reader that fails behind these octets ends with the fault that lists their Ethernet interfaces, or with
+/// `Read` where they have fewer than two.
 fn is_broken(alloc: Global, octets: &[u8], ends: Ends, begin: u64, lists: Lists) -> Option<bool> {
     let len = octets.len();
     let ending = match listed_of(begin, lists, len) {

@@ -6,7 +6,9 @@ use super::runs::{
     is_narrow, is_script, is_taken_up, is_told,
 };
 use super::texts::Text;
+use super::written::{Given, is_unwritten, is_written};
 use sr_capture::Reason;
+use sr_pcapng::Names;
 use std::alloc::Global;
 use std::process::Abort;
 
@@ -34,6 +36,10 @@ pub enum Step {
     TakenUp(Text, Ends, &'static [u8]),
     /// A reason, and its text.
     Told(Reason, &'static [u8]),
+    /// A file of these packets, and its octets.
+    Written(Names, &'static [Given], Text),
+    /// The writer takes so many octets, which are too few for these packets.
+    Unwritten(&'static [Given], usize),
 }
 
 /// Whether a run comes to what it has to. None for want of memory.
@@ -61,6 +67,8 @@ fn comes(alloc: Global, step: Step) -> Option<bool> {
         Step::Endured(file, count) => are_endured(alloc, file, count),
         Step::TakenUp(file, ends, last) => is_taken_up(alloc, file, ends, last),
         Step::Told(reason, text) => is_told(alloc, reason, text),
+        Step::Written(names, packets, wanted) => is_written(alloc, names, packets, wanted),
+        Step::Unwritten(packets, room) => is_unwritten(alloc, packets, room),
     }
 }
 

@@ -3,7 +3,7 @@ ghost use Rattle.std.specs.Prelude.{◌≡◌, false};
 ghost use Rattle.sr_dup_window.specs.LaneSets.{is_empty};
 
 use sr_dup_snapshots::{read_snapshot, snapshot};
-use sr_dup_table::{DupFault, DupTable, NarrowTable, Parts, Width};
+use sr_dup_table::{DupFault, DupTable, Width};
 use sr_dup_window::Lanes;
 use sr_frame::Mac;
 use sr_sequence::Seq;
@@ -54,8 +54,10 @@ pub enum Step {
     Equal(Which, Which, bool),
     /// The snapshot of a table has so many octets, and zeros but at these places.
     Text(Which, usize, &'static [(usize, u8)]),
-    /// The first table's snapshot is read as a table that is the same.
+    /// A table's snapshot is read at its width as a table that is the same.
     Reads(Which),
+    /// The first table becomes, at its own width, what the snapshot of the second is read as.
+    Restore(Which, Which),
     /// The snapshot of a table with another octet at this place is one, or none.
     Damaged(Which, usize, u8, bool),
     /// A snapshot of so many octets, cut or with zeros behind it, is one, or none.
@@ -184,18 +186,10 @@ fn knows(table: &DupTable, src: u16, seq: u16, now: u64) -> Option<bool> {
 }
 
 // A snapshot, asked for again where memory runs out.
-fn narrow_text_of(alloc: Global, table: &NarrowTable) -> Option<Vec<u8>> {
+fn text_of(alloc: Global, table: &DupTable) -> Option<Vec<u8>> {
     match snapshot(alloc, table) {
         Ok(text) => Some(text),
         Err(_) => snapshot(alloc, table).ok(),
-    }
-}
-
-// A wide table has none.
-fn text_of(alloc: Global, table: &DupTable) -> Option<Vec<u8>> {
-    match table.parts() {
-        Parts::Narrow(narrow) => narrow_text_of(alloc, narrow),
-        Parts::Wide(_) => None,
     }
 }
 
@@ -218,37 +212,77 @@ fn has_same_text(alloc: Global, one: &DupTable, other: &DupTable) -> bool {
     }
 }
 
-// Whether octets are read, asked for again where memory runs out.
-fn is_read(alloc: Global, text: &[u8]) -> bool {
-    match read_snapshot(alloc, text) {
-        Ok(_) => true,
-        Err(DupFault::BadSnapshot) => false,
-        Err(_) => read_snapshot(alloc, text).is_ok(),
+// What octets are read as at a width, asked for again where memory runs out.
+fn table_of(alloc: Global, text: &[u8], width: Width) -> Option<DupTable> {
+    match read_snapshot(alloc, text, width) {
+        Ok(own) => Some(own),
+        Err(DupFault::NoMemory) => read_snapshot(alloc, text, width).ok(),
+        Err(_) => None,
     }
+}
+
+// Whether octets are read at either width, or at none: what is no snapshot is told before any memory is asked for.
+fn is_read(alloc: Global, text: &[u8]) -> Option<bool> {
+    let is_narrow = !is_bad(alloc, text, Width::Narrow);
+    let is_wide = !is_bad(alloc, text, Width::Wide);
+    if is_narrow == is_wide {
+        Some(is_wide)
+    } else {
+        None
+    }
+}
+
+fn is_bad(alloc: Global, text: &[u8], width: Width) -> bool {
+    matches!(
+        read_snapshot(alloc, text, width),
+        Err(DupFault::BadSnapshot)
+    )
 }
 
 fn reads_back(alloc: Global, table: &DupTable) -> bool {
     let Some(text) = text_of(alloc, table) else {
         return false;
     };
-    match read_snapshot(alloc, text.as_slice()) {
-        Ok(own) => DupTable::from(own).same(table),
-        Err(DupFault::NoMemory) => match read_snapshot(alloc, text.as_slice()) {
-            Ok(own) => DupTable::from(own).same(table),
-            Err(_) => false,
-        },
-        Err(_) => false,
+    match table_of(alloc, text.as_slice(), table.width()) {
+        Some(own) => own.same(table),
+        None => false,
     }
 }
 
-// Whether octets are no snapshot, or that of the table which is read.
-fn is_own_text(alloc: Global, text: &[u8]) -> bool {
-    match read_snapshot(alloc, text) {
-        Ok(own) => match narrow_text_of(alloc, &own) {
-            Some(again) => again.as_slice() == text,
-            None => false,
-        },
-        Err(_) => true,
+// A table becomes, at its own width, what the snapshot of another is read as.
+fn restore(alloc: Global, table: &mut DupTable, other: &DupTable) -> bool {
+    let Some(text) = text_of(alloc, other) else {
+        return false;
+    };
+    match table_of(alloc, text.as_slice(), table.width()) {
+        Some(own) => {
+            *table = own;
+            true
+        }
+        None => false,
+    }
+}
+
+fn restore_tables(alloc: Global, tables: &mut Tables, into: Which, from: Which) -> bool {
+    let Some(other) = cloned(alloc, table(tables, from)) else {
+        return false;
+    };
+    match into {
+        Which::One => restore(alloc, &mut tables.one, &other),
+        Which::Two => restore(alloc, &mut tables.two, &other),
+        Which::Three => restore(alloc, &mut tables.three, &other),
+        Which::Wide => restore(alloc, &mut tables.wide, &other),
+    }
+}
+
+// Whether octets are no snapshot of a table of this width, or that of the table which is read.
+fn is_own_text(alloc: Global, text: &[u8], width: Width) -> bool {
+    let Some(own) = table_of(alloc, text, width) else {
+        return true;
+    };
+    match text_of(alloc, &own) {
+        Some(again) => again.as_slice() == text,
+        None => false,
     }
 }
 
@@ -265,7 +299,7 @@ fn is_never_misread(alloc: Global, table: &DupTable, seed: u32) -> bool {
         let place = (random >> 8) as usize % text.len();
         let was = text[place];
         text[place] = (random >> 24) as u8;
-        if !is_own_text(alloc, text.as_slice()) {
+        if !is_own_text(alloc, text.as_slice(), table.width()) {
             return false;
         }
         text[place] = was;
@@ -283,7 +317,7 @@ fn is_never_made_up(alloc: Global, table: &DupTable, seed: u32) -> bool {
         random = random.wrapping_mul(1664525).wrapping_add(1013904223);
         *octet = (random >> 24) as u8;
     }
-    is_own_text(alloc, text.as_slice())
+    is_own_text(alloc, text.as_slice(), table.width())
 }
 
 fn holds(alloc: Global, tables: &mut Tables, step: Step) -> bool {
@@ -306,6 +340,7 @@ fn holds(alloc: Global, tables: &mut Tables, step: Step) -> bool {
         Step::Equal(one, other, answer) => (table(tables, one) == table(tables, other)) == answer,
         Step::Text(which, len, places) => has_text(alloc, table(tables, which), len, places),
         Step::Reads(which) => reads_back(alloc, table(tables, which)),
+        Step::Restore(into, from) => restore_tables(alloc, tables, into, from),
         Step::Damaged(which, place, octet, answer) => {
             let Some(mut text) = text_of(alloc, table(tables, which)) else {
                 return false;
@@ -314,14 +349,14 @@ fn holds(alloc: Global, tables: &mut Tables, step: Step) -> bool {
                 return false;
             }
             text[place] = octet;
-            is_read(alloc, text.as_slice()) == answer
+            is_read(alloc, text.as_slice()) == Some(answer)
         }
         Step::Resized(which, len, answer) => {
             let Some(mut text) = text_of(alloc, table(tables, which)) else {
                 return false;
             };
             let is_resized = text.resize(len, 0).is_ok() || text.resize(len, 0).is_ok();
-            is_resized && is_read(alloc, text.as_slice()) == answer
+            is_resized && is_read(alloc, text.as_slice()) == Some(answer)
         }
         Step::NeverMisread(which, seed) => {
             let table = table(tables, which);

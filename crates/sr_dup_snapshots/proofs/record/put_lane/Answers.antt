@@ -1,4 +1,4 @@
-use Rattle.std.proofs.Common.{◌≡◌, ◌++◌, ◌∷◌, [], ◌∙◌, sym, ap, append_assoc, arith}
+use Rattle.std.proofs.Common.{◌≡◌, ◌*◌, ◌/◌, ◌++◌, ◌∷◌, [], ◌∙◌, sym, ap, append_assoc, arith}
 use Rattle.std.specs.Prelude.{map}
 use Rattle.std.specs.List.{range_with_len}
 use Rattle.std.proofs.lemmas.List.FromFn.{map-range_with_len_more}
@@ -7,7 +7,7 @@ use Rattle.sr_dup_snapshots.specs.Snapshots.{lane_octet, lane_octets}
 use Rattle.sr_dup_snapshots.proofs.record.put_lane.Goals as goal
 
 pub loop-place-preserved : goal.loop-place-preserved
-loop-place-preserved c =
+loop-place-preserved g c =
     let octet = lane_octet (window_of c.args.seen.now).marks c.args.lane in
     c.in_ok-extend_from_slice.ensures.items
     ∙ (λ i. c.loop-place.invariant i ++ (c.lane_octet.ensures i ∷ []))
@@ -16,7 +16,7 @@ loop-place-preserved c =
 
 pub returns : goal.returns
 unfolding lane_octets
-returns c =
+returns g c =
     let octet = lane_octet (window_of c.args.seen.now).marks c.args.lane in
-    let whole : c.loop-place.place ≡ 128 = omega arith in
+    let whole : c.loop-place.place ≡ 64 * g.row.N / 8 = omega arith in
     c.loop-place.invariant ∙ ap (λ n. c.args.out.now.items ++ map octet (range_with_len 0 n)) whole

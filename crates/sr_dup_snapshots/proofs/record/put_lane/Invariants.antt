@@ -7,4 +7,4 @@ use Rattle.sr_dup_snapshots.proofs.record.put_lane.Given as goal
 
 -- the octets of the lane so far
 abbrev pub invariant-loop-place : goal.invariant-loop-place
-invariant-loop-place l = l.out.items ≡ l.fn.out.items ++ map (lane_octet (window_of l.seen).marks l.lane) (range_with_len 0 l.place)
+invariant-loop-place g l = l.out.items ≡ l.fn.out.items ++ map (lane_octet (window_of l.seen).marks l.lane) (range_with_len 0 l.place)

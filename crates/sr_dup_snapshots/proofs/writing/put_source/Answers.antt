@@ -7,4 +7,4 @@ on-ok (Ok t) p = p
 on-ok (Err e) p = tt
 
 pub returns-clause-source : goal.returns-clause-source
-returns-clause-source c = on-ok c.put_record.result (record { address = search rules; time = search rules; whole = record-whole c.args.seen.now })
+returns-clause-source g c = on-ok c.put_record.result (record { address = search rules; time = search rules; whole = record-whole c.args.seen.now })

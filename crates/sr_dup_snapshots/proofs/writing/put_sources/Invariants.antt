@@ -1,4 +1,4 @@
-use Rattle.std.proofs.Common.{◌≡◌, ◌++◌, take}
+use Rattle.std.proofs.Common.{◌≡◌, ◌++◌, ◌*◌, take}
 use Rattle.std.specs.List.{flat_map, AllByRecursion}
 use Rattle.sr_dup_snapshots.specs.Snapshots.{source_octets, IsSource}
 use Rattle.sr_dup_snapshots.specs.Ordered.{sources_at}
@@ -6,7 +6,7 @@ use Rattle.sr_dup_snapshots.proofs.writing.put_sources.Given as goal
 
 -- the octets of the sources so far
 abbrev pub invariant-loop-src : goal.invariant-loop-src
-invariant-loop-src l = record {
-  spelled : l.out.items ≡ l.fn.out.items ++ flat_map source_octets (sources_at l.table.sources (take l.src-index l.macs));
-  each : AllByRecursion IsSource (sources_at l.table.sources (take l.src-index l.macs));
+invariant-loop-src g l = record {
+  spelled : l.out.items ≡ l.fn.out.items ++ flat_map (source_octets (64 * g.row.N)) (sources_at l.table.sources (take l.src-index l.macs));
+  each : AllByRecursion (IsSource (64 * g.row.N)) (sources_at l.table.sources (take l.src-index l.macs));
 }

@@ -1,28 +1,11 @@
-use Rattle.std.proofs.Common.{◌≡◌, ℕ, ◌++◌, ◌∷◌, [], ◌∙◌, List, length, sym, ap, subst, arith}
-use Rattle.std.specs.List.{flat_map, AllByRecursion}
-use Rattle.std.specs.List.Sorted.{IsStrictlySortedBy}
-use Rattle.std.specs.Int.{w16, to_be_bytes}
-use Rattle.sr_dup_snapshots.specs.Snapshots.{mac_order, source_octets, IsSource}
-use Rattle.sr_dup_snapshots.specs.Ordered.{sources_at}
-use Rattle.sr_dup_snapshots.proofs.OrderLemmas.{keys-of-all, count-of-all, same-at}
+use Rattle.std.proofs.Common.{subst}
+use Rattle.std.specs.Prelude.{IfOk}
+use Rattle.sr_dup_table.specs.Sources.{Table}
+use Rattle.sr_dup_snapshots.specs.Snapshots.{IsSnapshot}
 use Rattle.sr_dup_snapshots.proofs.writing.snapshot.Goals as goal
 
-pub returns : goal.returns
-returns c =
-    let s = c.args.table.now.sources in
-    let macs = c.in_ok-macs.macs.items in
-    let moved = c.in_ok-macs.ensures.all in
-    let head : List ℕ = 0x53 ∷ 0x52 ∷ 0x44 ∷ 0x57 ∷ 1 ∷ [] in
-    let first : c.extend_from_slice.new.self.items ≡ head = c.in_ok-extend_from_slice.ensures.items ∙ ap (λ l. l ++ head) c.in_ok-octets.ensures.items in
-    let count : c.to_be_bytes.result ≡ to_be_bytes w16 (length (sources_at s macs)) =
-    c.to_be_bytes.ensures ∙ ap (to_be_bytes w16) (c.source_count-count.ensures.count ∙ sym (count-of-all s macs moved)) in
-    let front : c.extend_from_slice-2.new.self.items ≡ head ++ to_be_bytes w16 (length (sources_at s macs)) =
-    c.in_ok-extend_from_slice-2.ensures.items ∙ (λ i. first i ++ count i) in
-    record {
-      ordered = sources_at s macs;
-      same = same-at s macs moved;
-      ascending = subst (IsStrictlySortedBy mac_order) (sym (keys-of-all s macs moved)) c.in_ok-macs.ensures.ascending;
-      few = omega (arith, count-of-all s macs moved, c.source_count-count.ensures.table.few);
-      each = subst (λ l. AllByRecursion IsSource (sources_at s l)) c.deref.ensures.value c.in_ok-put_sources.ensures.each;
-      spelled = c.in_ok-put_sources.ensures.spelled ∙ (λ i. front i ++ flat_map source_octets (sources_at s (c.deref.ensures.value i)));
-    }
+pub returns-in-Narrow : goal.returns-in-Narrow
+returns-in-Narrow c = subst (λ (t : Table). IfOk c.spelled.result (λ octets. IsSnapshot t.width octets.items t.sources)) c.in-Narrow.ensures c.spelled.ensures
+
+pub returns-in-Wide : goal.returns-in-Wide
+returns-in-Wide c = subst (λ (t : Table). IfOk c.spelled-in-Wide.result (λ octets. IsSnapshot t.width octets.items t.sources)) c.in-Wide.ensures c.spelled-in-Wide.ensures

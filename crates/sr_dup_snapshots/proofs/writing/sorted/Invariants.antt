@@ -5,4 +5,4 @@ use Rattle.sr_dup_snapshots.proofs.writing.sorted.Given as goal
 
 -- the addresses so far, and those that are left, are all
 abbrev pub invariant-loop-src : goal.invariant-loop-src
-invariant-loop-src l = l.macs.items ++ keys_of (sources_of l.src-iterator) ≡ keys_of l.table.sources
+invariant-loop-src g l = l.macs.items ++ keys_of (sources_of l.src-iterator) ≡ keys_of l.table.sources
