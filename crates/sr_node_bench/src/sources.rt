@@ -2,7 +2,7 @@
 
 use crate::works::{Outcome, Subject};
 use bitflags::Flags;
-use sr_dup_table::NarrowTable;
+use sr_dup_table::DupTable;
 use sr_dup_window::Lanes;
 use sr_frame::Mac;
 use sr_prp_trailer::Lan;
@@ -12,14 +12,14 @@ use std::alloc::Global;
 /// A table of sources.
 #[derive(Drop)]
 pub struct SourcesAtWork {
-    table: NarrowTable,
+    table: DupTable,
 }
 
 impl SourcesAtWork {
     /// A table of no source.
     pub fn new(alloc: Global) -> SourcesAtWork {
         SourcesAtWork {
-            table: NarrowTable::new(alloc),
+            table: DupTable::new(alloc),
         }
     }
 }

@@ -10,9 +10,9 @@ use Rattle.sr_plant_laws.specs.RingParts.{Way, IsWhole}
 use Rattle.sr_plant_laws.specs.Rings.{ring, ring_part}
 use Rattle.sr_plant_laws.specs.TwinLans.{twin_lans, other_members, in_lan_a, in_lan_b}
 use Rattle.sr_plant_laws.proofs.LedgerLemmas.{put_makes}
-use Rattle.sr_plant_laws.specs.Widths.{all_narrow}
 use Rattle.sr_plant.specs.declared.topology.Topology.TheVariants.{Ring, TwinLan}
 use Rattle.sr_plant_runs.specs.Histories.{mac_at, in_mode_x}
+use Rattle.sr_plant_runs.specs.TableWidths.{widths_of}
 use Rattle.sr_plant_runs.specs.Once.{HandsUpEachOnce}
 use Rattle.sr_plant_runs.proofs.FrameLemmas.{address_at}
 use Rattle.sr_plant_runs.proofs.HistoryRunLemmas.{run_told, ring_premises, lan_premises, history_of}
@@ -26,9 +26,9 @@ rings_each_once ideal once loses starts turns s run own limits whole none j role
     let n = length starts in
     let r = run_told Ring starts own turns s run in
     let premises = ring_premises starts own turns s run r limits in
-    let all = loses n (mac_at starts) (in_mode_x starts) all_narrow lanes_of r.history r.plant premises ((history_of Ring starts turns s run r).quiet none) in
+    let all = loses n (mac_at starts) (in_mode_x starts) (widths_of starts) lanes_of r.history r.plant premises ((history_of Ring starts turns s run r).quiet none) in
     let up = each_once starts turns j ps (done_in r.history) r.sends (ideal n r.history r.plant premises.happened j)
-    (once n (mac_at starts) (in_mode_x starts) all_narrow lanes_of r.history r.plant premises j) (r.like.up j ps there) in
+    (once n (mac_at starts) (in_mode_x starts) (widths_of starts) lanes_of r.history r.plant premises j) (r.like.up j ps there) in
     let kept = loses_nothing Ring starts turns s run r.history r.plant r.run r.told whole (unrefused Ring starts turns s run own) in (
       up.0,
       up.1,
@@ -46,9 +46,9 @@ lans_each_once ideal once loses starts turns s run own limits whole none j role 
     let n = length starts in
     let r = run_told TwinLan starts own turns s run in
     let premises = lan_premises starts own turns s run r limits in
-    let all = loses n (mac_at starts) (in_mode_x starts) all_narrow lanes_of r.history r.plant premises ((history_of TwinLan starts turns s run r).quiet none) in
+    let all = loses n (mac_at starts) (in_mode_x starts) (widths_of starts) lanes_of r.history r.plant premises ((history_of TwinLan starts turns s run r).quiet none) in
     let up = each_once starts turns j ps (done_in r.history) r.sends (ideal n r.history r.plant premises.happened j)
-    (once n (mac_at starts) (in_mode_x starts) all_narrow lanes_of r.history r.plant premises j) (r.like.up j ps there) in
+    (once n (mac_at starts) (in_mode_x starts) (widths_of starts) lanes_of r.history r.plant premises j) (r.like.up j ps there) in
     let kept = loses_nothing TwinLan starts turns s run r.history r.plant r.run r.told whole (unrefused TwinLan starts turns s run own) in (
       up.0,
       up.1,

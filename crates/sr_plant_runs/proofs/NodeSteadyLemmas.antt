@@ -7,7 +7,6 @@ use Rattle.sr_frame.specs.declared.fields.Mac.{Mac}
 use Rattle.sr_frame.specs.declared.ports.Port.{Port}
 use Rattle.sr_frame.specs.declared.ports.Port.TheVariants.{H, A, B, C}
 use Rattle.sr_sequence.specs.Numbers.{wire}
-use Rattle.sr_dup_table.specs.Limits.{window}
 use Rattle.sr_dup_runs.specs.TableRuns.{Arrival, AreSteady}
 use Rattle.sr_forwarding.specs.declared.form.Form.{Form}
 use Rattle.sr_forwarding.specs.Headers.{header_of}
@@ -34,8 +33,6 @@ use Rattle.sr_plant_laws.specs.PlantEvents as law
 use Rattle.sr_plant_laws.specs.Ports.{is_side}
 use Rattle.sr_plant_laws.specs.RingLaws.{RingIsSteady}
 use Rattle.sr_plant_laws.specs.Steadiness.{is_arrival_at, arrival_of, arrivals_at, AllSteady}
-use Rattle.sr_plant_laws.specs.Widths.{all_narrow}
-use Rattle.sr_plant_laws.proofs.SteadyLemmas.{narrow_widths}
 use Rattle.sr_plant.specs.declared.topology.Topology.{Topology}
 use Rattle.sr_plant.specs.declared.topology.Topology.TheVariants.{Ring, TwinLan}
 use Rattle.sr_plant.specs.declared.event.PlantEvent.{PlantEvent}
@@ -48,12 +45,14 @@ use Rattle.sr_plant_runs.specs.PlantRuns.{Turn, PlantRun}
 use Rattle.sr_plant_runs.specs.Histories.{mac_at, HaveOwnAddresses, CarriesAs, Zip}
 use Rattle.sr_plant_runs.specs.NodeTurns.{acted_turns, carried_turns, event_turns, node_turns, NodesPutOutOnce}
 use Rattle.sr_plant_runs.specs.NodeSteady.{number_of_copy, number_carried, run_numbers, NodesRunSteadily, NodesPutOutWithin}
+use Rattle.sr_plant_runs.specs.TableWidths.{least_width, widths_of}
 use Rattle.sr_plant_runs.specs.Traffic.{Numbering, marks, IsWithinLimits}
 use Rattle.sr_plant_runs.proofs.CarriedLemmas.{here, fly, says, own_is, now, step_told}
 use Rattle.sr_plant_runs.proofs.HistoryLemmas.{Addresses, StepTold, got_beside, got_ghost}
 use Rattle.sr_plant_runs.proofs.HistoryRunLemmas.{run_told, addresses_of, made, have_tables, ring_run, lan_run}
 use Rattle.sr_plant_runs.proofs.LikeLemmas.{FliesAs, Like}
 use Rattle.sr_plant_runs.proofs.MarkLemmas.{Marks, beside_out}
+use Rattle.sr_plant_runs.proofs.WidthLemmas.{width_got}
 
 -- what is taken out is no arrival, and has no number
 module _ where
@@ -351,23 +350,26 @@ are_of numbers (turn ∷ before) same = (
 )
 
 all_steady : RingIsSteady → LansAreSteady → (t : Topology) (starts : List Start) (own : HaveOwnAddresses starts) (turns : List Turn) (s : Plant)
-    (run : PlantRun t starts turns s) → IsWithinLimits turns → AllSteady all_narrow (mac_at starts) (done_in (run_told t starts own turns s run).history)
+    (run : PlantRun t starts turns s) → IsWithinLimits starts turns → AllSteady (widths_of starts) (mac_at starts) (done_in (run_told t starts own turns s run).history)
 all_steady rings lans Ring starts own turns s run limits =
     let r = run_told Ring starts own turns s run in
-    rings (length starts) (mac_at starts) all_narrow r.history r.plant (ring_run starts turns s run r)
-    (have_tables Ring starts own turns s (made Ring starts turns s run) run r).addressed narrow_widths (r.limits limits)
+    rings (length starts) (mac_at starts) (widths_of starts) r.history r.plant (ring_run starts turns s run r)
+    (have_tables Ring starts own turns s (made Ring starts turns s run) run r).addressed
+    (have_tables Ring starts own turns s (made Ring starts turns s run) run r).widths (r.limits limits)
 all_steady rings lans TwinLan starts own turns s run limits =
     let r = run_told TwinLan starts own turns s run in
-    lans (length starts) (mac_at starts) all_narrow r.history r.plant (lan_run starts turns s run r)
-    (have_tables TwinLan starts own turns s (made TwinLan starts turns s run) run r).addressed narrow_widths (r.limits limits)
+    lans (length starts) (mac_at starts) (widths_of starts) r.history r.plant (lan_run starts turns s run r)
+    (have_tables TwinLan starts own turns s (made TwinLan starts turns s run) run r).addressed
+    (have_tables TwinLan starts own turns s (made TwinLan starts turns s run) run r).widths (r.limits limits)
 
 pub nodes_run_steadily : RingIsSteady → LansAreSteady → NodesRunSteadily
-nodes_run_steadily rings lans t starts turns s run k own limits =
+nodes_run_steadily rings lans t starts turns s run k start width own limits =
     let shown = run_shown t starts own turns s run k (run_numbers turns) (are_of (run_numbers turns) turns (λ n less. refl)) in (
       shown.1,
-      subst (AreSteady window) (sym shown.0) (all_steady rings lans t starts own turns s run limits k).0,
+      subst (λ w. AreSteady w (arrivals (node_turns k (run_numbers turns) t starts turns s run))) (sym width) (subst (AreSteady ((widths_of starts).at k)) (sym shown.0) (all_steady rings lans t starts own turns s run limits k).0),
     )
 
 pub nodes_put_out_within : NodesRunSteadily → NodesPutOutOnce → NodesPutOutWithin
 nodes_put_out_within steady once t starts turns s run k start m o is at own limits =
-    once t starts turns s run k (run_numbers turns) start m o is at (steady t starts turns s run k own limits)
+    once t starts turns s run k (run_numbers turns) start m o is at
+    (steady t starts turns s run k start (sym (width_got (least_width starts) starts k start is)) own limits)

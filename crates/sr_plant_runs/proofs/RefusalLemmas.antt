@@ -9,7 +9,6 @@ use Rattle.sr_frame.specs.declared.ports.Port.{Port}
 use Rattle.sr_frame.specs.declared.ports.Port.TheVariants.{H, A, B, C}
 use Rattle.sr_sequence.specs.declared.Seq.{Seq}
 use Rattle.sr_dup_window.specs.declared.lane_sets.Lanes.{Lanes}
-use Rattle.sr_dup_table.specs.Limits.{window}
 use Rattle.sr_dup_table.specs.Sources.{Sources, arrive_answer}
 use Rattle.sr_forwarding.specs.declared.fault.ReadFault.TheVariants as read
 use Rattle.sr_forwarding.specs.declared.form.Form.{Form}
@@ -43,6 +42,7 @@ use Rattle.sr_plant.specs.Steps.{is_loss, IsRefused, IsLost}
 use Rattle.sr_plant.specs.Topologies.{framing_of, kind_of, net_of}
 use Rattle.sr_plant_runs.specs.PlantRuns.{Turn, PlantRun}
 use Rattle.sr_plant_runs.specs.Histories.{mac_at, in_mode_x, HaveOwnAddresses}
+use Rattle.sr_plant_runs.specs.TableWidths.{widths_of}
 use Rattle.sr_plant_runs.specs.Unbroken.{RefusesNothing, IsUnrefused}
 use Rattle.sr_plant_runs.proofs.FullLemmas.{HasMembers, have_members, answers}
 use Rattle.sr_plant_runs.proofs.HistoryLemmas.{IsGood}
@@ -71,14 +71,14 @@ tagged_enough t s H octets q fits side is = absurd cc
 tagged_enough t s C octets q fits side is = absurd cc
 
 -- the table of the node always answers
-abbrev Answers : Sources → Type 0
-Answers s = (src : Mac) (seq : ℕ) (lanes : Lanes) (now : ℕ) → arrive_answer window s src seq lanes now ≡ None → ⊥
+abbrev Answers : ℕ → Sources → Type 0
+Answers w s = (src : Mac) (seq : ℕ) (lanes : Lanes) (now : ℕ) → arrive_answer w s src seq lanes now ≡ None → ⊥
 
-goes_somewhere : (m : Mode) (s : Sources) (port : Port) (src : Mac) (number : Option Seq) (wanted : Outlets) (now : ℕ) → Answers s → new_outlets m s port src number wanted now ≡ None → ⊥
-goes_somewhere m s port src None wanted now all none = absurd cc
-goes_somewhere m s port src (Some seq) wanted now all none = by (arrive_answer window s src seq.0 (lanes_asked m port wanted) now) refl none
+goes_somewhere : (m : Mode) (w : ℕ) (s : Sources) (port : Port) (src : Mac) (number : Option Seq) (wanted : Outlets) (now : ℕ) → Answers w s → new_outlets m w s port src number wanted now ≡ None → ⊥
+goes_somewhere m w s port src None wanted now all none = absurd cc
+goes_somewhere m w s port src (Some seq) wanted now all none = by (arrive_answer w s src seq.0 (lanes_asked m port wanted) now) refl none
   where
-    by : (x : Option Lanes) → arrive_answer window s src seq.0 (lanes_asked m port wanted) now ≡ x → option_map (λ fresh. outlets_on m fresh wanted) x ≡ None → ⊥
+    by : (x : Option Lanes) → arrive_answer w s src seq.0 (lanes_asked m port wanted) now ≡ x → option_map (λ fresh. outlets_on m fresh wanted) x ≡ None → ⊥
     by None e n = all src seq.0 (lanes_asked m port wanted) now e
     by (Some x) e n = absurd cc
 
@@ -102,13 +102,13 @@ after_side s B q now side e = ap (λ b. if b then Some fault_untagged else if is
 after_side s H q now side e = absurd cc
 after_side s C q now side e = absurd cc
 
-takes_all : (s : State) (port : Port) (q : ParcelImage) (now : ℕ) → is_side port ≡ true → is_untagged s.role.kind port q.form ≡ false → Answers s.core.sources → is_loss (or_no_memory (arrive_refusal s port q now)) ≡ false
+takes_all : (s : State) (port : Port) (q : ParcelImage) (now : ℕ) → is_side port ≡ true → is_untagged s.role.kind port q.form ≡ false → Answers s.core.width s.core.sources → is_loss (or_no_memory (arrive_refusal s port q now)) ≡ false
 takes_all s port q now side tagged all = ap (λ f. is_loss (or_no_memory f)) (after_side s port q now side tagged) ∙ by (is_own s q)
   where
     by : (own : Bool) → is_loss (or_no_memory (if own then None else outlets_fault s.core.out (goes s port q now))) ≡ false
     by true = refl
     by false = outlets_lose_nothing s.core.out (goes s port q now)
-        (λ none. goes_somewhere s.core.mode s.core.sources port (header_of (going_on s port q)).src (going_on s port q).seq (wanted_at s port (going_on s port q) now) now all none)
+        (λ none. goes_somewhere s.core.mode s.core.width s.core.sources port (header_of (going_on s port q)).src (going_on s port q).seq (wanted_at s port (going_on s port q) now) now all none)
 
 -- so no copy is lost where it comes in
 small_enough : (t : Topology) (starts : List Start) → is_plant t (map begun_as starts) ≡ true → length starts ≤ 16
@@ -145,11 +145,11 @@ never_lost t starts turns s run own place c at lost = elim lost [
 
         table : HasMembers (mac_at starts) (length starts) r.before.core.sources
         table = subst (HasMembers (mac_at starts) (length starts)) (table_got s.nodes c.hop.to.node r.before r.there)
-            (have_members (mac_at starts) (length starts) (in_mode_x starts) lanes_of c.hop.to.node (net_of t (length starts)) told.history told.plant told.run (table_at s.nodes c.hop.to.node) (told.tables c.hop.to.node)
+            (have_members (mac_at starts) (length starts) (in_mode_x starts) (widths_of starts) lanes_of c.hop.to.node (net_of t (length starts)) told.history told.plant told.run (table_at s.nodes c.hop.to.node) (told.tables c.hop.to.node)
             (each_map (IsGood t starts) (λ d. d.frame.src < length starts) (λ d g. g.source) (done_in told.history) told.good))
 
-        all : Answers r.before.core.sources
-        all = answers (mac_at starts) (length starts) (small_enough t starts (made t starts turns s run)) r.before.core.sources table
+        all : Answers r.before.core.width r.before.core.sources
+        all = answers (mac_at starts) (length starts) (small_enough t starts (made t starts turns s run)) r.before.core.width r.before.core.sources table
 
 pub unrefused : (t : Topology) (starts : List Start) (turns : List Turn) (s : Plant) → PlantRun t starts turns s → HaveOwnAddresses starts → IsUnrefused turns
 unrefused t starts [] s run own = tt

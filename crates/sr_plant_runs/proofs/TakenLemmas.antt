@@ -18,7 +18,7 @@ Ups = List (List ParcelImage)
 abbrev empties : Ups → Ups
 empties hs = replicate (length hs) []
 
--- what was handed up, joined_up on
+-- what was handed up, joined
 joined_none : (us hs : Ups) → joined_up us (empties hs) ≡ us
 joined_none [] hs = refl
 joined_none (u ∷ us) [] = refl

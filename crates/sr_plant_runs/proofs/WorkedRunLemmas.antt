@@ -1,5 +1,5 @@
 -- The run of two nodes, worked out.
-use Rattle.std.proofs.Common.{◌≡◌, inl, inr, ℕ, suc, ◌+◌, ◌-◌, ◌<◌, ◌==◌, true, false, List, [], ◌∷◌, ◌++◌, map, None, Some, slice_get, refl, sym, ap, ◌∙◌, subst, arith}
+use Rattle.std.proofs.Common.{◌≡◌, inl, inr, ℕ, suc, ◌+◌, ◌-◌, ◌<◌, ◌≤◌, ◌==◌, true, false, List, [], ◌∷◌, ◌++◌, map, None, Some, slice_get, refl, sym, ap, ◌∙◌, subst, arith}
 use Rattle.std.proofs.lemmas.Bool.{cases_Bool}
 use Rattle.sr_frame.specs.Frame.{HasFrameLength, padded, spelling}
 use Rattle.sr_frame.specs.declared.ports.Port.{Port}
@@ -9,7 +9,9 @@ use Rattle.sr_prp_trailer.specs.declared.trailer.Lan.{Lan}
 use Rattle.sr_prp_trailer.specs.declared.trailer.Lan.TheVariants as lan
 use Rattle.sr_prp_trailer.specs.declared.trailer.Trailer.{Trailer}
 use Rattle.sr_prp_trailer.specs.Trailed.{IsTrailed, trailer_octets}
-use Rattle.sr_dup_table.specs.Limits.{window, forget_time}
+use Rattle.sr_dup_table.specs.declared.width.Width.{Width}
+use Rattle.sr_dup_table.specs.declared.width.Width.TheVariants as width
+use Rattle.sr_dup_table.specs.Limits.{forget_time}
 use Rattle.sr_dup_window.specs.Windows.{no_marks}
 use Rattle.sr_forwarding.specs.declared.form.Form.TheVariants as form
 use Rattle.sr_forwarding.specs.declared.role_image.RoleKind.TheVariants.{Danp}
@@ -23,10 +25,14 @@ use Rattle.sr_forwarding.specs.Parcels.{ParcelImage, plain_parcel}
 use Rattle.sr_forwarding.specs.RoleImages.{role_of}
 use Rattle.sr_node.specs.declared.event.Answer.TheVariants as answer
 use Rattle.sr_node.specs.Arriving.{going_on, passed}
-use Rattle.sr_node.specs.Images.{State, plain_settings}
+use Rattle.sr_node.specs.Images.{State}
+use Rattle.sr_node.specs.declared.mode.Mode.{Mode}
+use Rattle.sr_node.specs.declared.mode.Mode.TheVariants as mode
+use Rattle.sr_node.specs.declared.mode.Settings.{Settings}
 use Rattle.sr_node.specs.Limits.{first_number}
+use Rattle.sr_node.specs.Octets.{OctetsArrived}
 use Rattle.sr_node.specs.Sending.{sent, sent_parcel, send_outlets}
-use Rattle.sr_node.specs.Starts.{begun_as}
+use Rattle.sr_node.specs.Starts.{Start, begun_as}
 use Rattle.sr_supervision.specs.Supervised.{IsSupervision}
 use Rattle.sr_supervision.specs.declared.message.Supervision.{Supervision}
 use Rattle.sr_plant.specs.declared.topology.Topology.TheVariants.{TwinLan}
@@ -35,9 +41,12 @@ use Rattle.sr_plant.specs.Building.{opening}
 use Rattle.sr_plant.specs.Copies.{Copy}
 use Rattle.sr_plant.specs.Plants.{Plant}
 use Rattle.sr_plant.specs.Steps.{emptied, acted, without, PlantStep}
+use Rattle.sr_plant.specs.Topologies.{framing_of}
 use Rattle.sr_plant_runs.specs.PlantRuns.{Turn, PlantRun}
+use Rattle.sr_plant_runs.specs.TableWidths.{least_width, greatest_width}
 use Rattle.sr_plant_runs.specs.Traffic.{Numbering, AreFew, IsTimely, IsWithinLimits, count_of}
-use Rattle.sr_plant_runs.specs.WorkedRun.{address, pair, greeting, PremisesAreMet}
+use Rattle.sr_plant_runs.specs.WorkedRun.{address, pair, greeting, Greets, PremisesAreMet}
+use Rattle.sr_plant_runs.proofs.WidthLemmas.{at_least, at_most}
 
 abbrev number : Seq
 number = record { 0 = first_number }
@@ -73,25 +82,29 @@ says_nothing said is =
     let none : true ≡ false = there ∙ ap is_supervision (sym is.spelled) in
     absurd cc
 
--- the plants, from event to event
-abbrev new_plant : Plant
-new_plant = opening TwinLan (map begun_as pair)
+-- The plants, from event to event. The first node has any settings. Those of the second are given by mode and width, since what it
+-- answers is worked out by these.
+abbrev starts : Settings → Mode → Width → List Start
+starts x m w = pair x (record { mode = m; width = w })
+
+abbrev new_plant : Settings → Mode → Width → Plant
+new_plant x m w = opening TwinLan (map begun_as (starts x m w))
 
 -- the sender before and after
-abbrev sender : State
-sender = begun_as (record { role = role_of Danp (address 1); settings = plain_settings })
+abbrev sender : Settings → State
+sender x = begun_as (record { role = role_of Danp (address 1); settings = x })
 
-abbrev sender_later : State
-sender_later = record sender { core = sent sender (sent_parcel sender greeting) (send_outlets sender greeting 0) 0 }
+abbrev sender_later : Settings → State
+sender_later x = record (sender x) { core = sent (sender x) (sent_parcel (sender x) greeting) (send_outlets (sender x) greeting 0) 0 }
 
-abbrev sent_plant : Plant
-sent_plant = acted new_plant 0 sender_later 0
+abbrev sent_plant : Settings → Mode → Width → Plant
+sent_plant x m w = acted (new_plant x m w) 0 (sender_later x) 0
 
-sends : PlantStep new_plant (Send 0 greeting) sent_plant
-sends = record {
-  before = sender;
+sends : (x : Settings) (m : Mode) (w : Width) → PlantStep (new_plant x m w) (Send 0 greeting) (sent_plant x m w)
+sends x m w = record {
+  before = sender x;
   answer = answer.Sent number;
-  after = sender_later;
+  after = sender_later x;
   there = refl;
   fits = refl;
   step = (refl, refl);
@@ -103,97 +116,109 @@ abbrev copy : Port → ℕ → Copy
 copy o link = record { hop = record { to = record { node = 1; port = o }; links = link ∷ suc link ∷ [] }; outlet = o; parcel = plain_parcel greeting (Some number) }
 
 -- the receiver before, after the first copy, and after the second
-abbrev receiver : State
-receiver = begun_as (record { role = role_of Danp (address 2); settings = plain_settings })
+abbrev receiver : Mode → Width → State
+receiver m w = begun_as (record { role = role_of Danp (address 2); settings = record { mode = m; width = w } })
 
-abbrev with_first : State
-with_first = passed receiver A (going_on receiver A (parcel_in lan.A)) receiver.core.next 0 (to (H ∷ [])) None
+abbrev with_first : Mode → Width → State
+with_first m w = passed (receiver m w) A (going_on (receiver m w) A (parcel_in lan.A)) (receiver m w).core.next 0 (to (H ∷ [])) None
 
-abbrev half_carried : Plant
-half_carried = acted (without sent_plant 0) 1 with_first 0
+abbrev half_carried : Settings → Mode → Width → Plant
+half_carried x m w = acted (without (sent_plant x m w) 0) 1 (with_first m w) 0
 
-carries_first : PlantStep sent_plant (Carry 0) half_carried
-carries_first = (
+-- what it answers to both
+first_taken : (m : Mode) (w : Width) → OctetsArrived (framing_of TwinLan A) (receiver m w) A (carried lan.A) 0 (answer.Passed (to (H ∷ []))) (with_first m w)
+first_taken mode.H w = (parcel_in lan.A, inl (read lan.A), refl, (refl, (None, says_nothing, refl, refl)))
+first_taken mode.X w = (parcel_in lan.A, inl (read lan.A), refl, (refl, (None, says_nothing, refl, refl)))
+
+abbrev with_both : Mode → Width → State
+with_both m w = passed (emptied (with_first m w)) B (going_on (emptied (with_first m w)) B (parcel_in lan.B)) (receiver m w).core.next 0 (to []) None
+
+second_taken : (m : Mode) (w : Width) → OctetsArrived (framing_of TwinLan B) (emptied (with_first m w)) B (carried lan.B) 0 (answer.Passed (to [])) (with_both m w)
+unfolding no_marks
+second_taken mode.H width.Narrow = (parcel_in lan.B, inl (read lan.B), refl, (refl, (None, says_nothing, refl, refl)))
+second_taken mode.H width.Wide = (parcel_in lan.B, inl (read lan.B), refl, (refl, (None, says_nothing, refl, refl)))
+second_taken mode.X width.Narrow = (parcel_in lan.B, inl (read lan.B), refl, (refl, (None, says_nothing, refl, refl)))
+second_taken mode.X width.Wide = (parcel_in lan.B, inl (read lan.B), refl, (refl, (None, says_nothing, refl, refl)))
+
+carries_first : (x : Settings) (m : Mode) (w : Width) → PlantStep (sent_plant x m w) (Carry 0) (half_carried x m w)
+carries_first x m w = (
   copy A 0,
   refl,
   inl (record {
     octets = carried lan.A;
-    before = receiver;
+    before = receiver m w;
     answer = answer.Passed (to (H ∷ []));
-    after = with_first;
+    after = with_first m w;
     written = written lan.A;
     there = refl;
-    taken = (parcel_in lan.A, inl (read lan.A), refl, (refl, (None, says_nothing, refl, refl)));
+    taken = first_taken m w;
     plant = refl;
   }),
 )
 
-abbrev with_both : State
-with_both = passed (emptied with_first) B (going_on (emptied with_first) B (parcel_in lan.B)) receiver.core.next 0 (to []) None
+abbrev carried_plant : Settings → Mode → Width → Plant
+carried_plant x m w = acted (without (half_carried x m w) 0) 1 (with_both m w) 0
 
-abbrev carried_plant : Plant
-carried_plant = acted (without half_carried 0) 1 with_both 0
-
-carries_second : PlantStep half_carried (Carry 0) carried_plant
-unfolding no_marks
-carries_second = (
+carries_second : (x : Settings) (m : Mode) (w : Width) → PlantStep (half_carried x m w) (Carry 0) (carried_plant x m w)
+carries_second x m w = (
   copy B 2,
   refl,
   inl (record {
     octets = carried lan.B;
-    before = emptied with_first;
+    before = emptied (with_first m w);
     answer = answer.Passed (to []);
-    after = with_both;
+    after = with_both m w;
     written = written lan.B;
     there = refl;
-    taken = (parcel_in lan.B, inl (read lan.B), refl, (refl, (None, says_nothing, refl, refl)));
+    taken = second_taken m w;
     plant = refl;
   }),
 )
 
-abbrev greeted_turns : List Turn
-greeted_turns =
-    record { before = half_carried; event = Carry 0 } ∷ record { before = sent_plant; event = Carry 0 }
-    ∷ record { before = new_plant; event = Send 0 greeting } ∷ []
+abbrev greeted_turns : Settings → Mode → Width → List Turn
+greeted_turns x m w =
+    record { before = half_carried x m w; event = Carry 0 } ∷ record { before = sent_plant x m w; event = Carry 0 }
+    ∷ record { before = new_plant x m w; event = Send 0 greeting } ∷ []
 
-runs : PlantRun TwinLan pair greeted_turns carried_plant
-runs = ((((refl, refl), refl, sends), refl, carries_first), refl, carries_second)
+runs : (x : Settings) (m : Mode) (w : Width) → PlantRun TwinLan (starts x m w) (greeted_turns x m w) (carried_plant x m w)
+runs x m w = ((((refl, refl), refl, sends x m w), refl, carries_first x m w), refl, carries_second x m w)
 
 -- the one frame that is numbered
 abbrev only : Numbering
 only = record { node = 0; before = 0; time = 0 }
 
-few : AreFew (only ∷ []) 0
-few k = elim (cases_Bool (k == 0)) [
-  | inl is ↦ rw is (omega arith)
+few : (greatest : ℕ) → greatest ≤ 2048 → AreFew greatest (only ∷ []) 0
+few greatest small k = elim (cases_Bool (k == 0)) [
+  | inl is ↦ rw is (omega (arith, small))
   | inr other ↦ rw other (omega arith)
 ]
 
-timely : (ms : List Numbering) → slice_get ms 0 ≡ Some only → (s : Plant) → s.clock ≡ 0 → IsTimely (only ∷ []) ms s (Carry 0)
-timely ms at s clock m got =
+timely : (least : ℕ) → 1024 ≤ least → (ms : List Numbering) → slice_get ms 0 ≡ Some only → (s : Plant) → s.clock ≡ 0 → IsTimely least (only ∷ []) ms s (Carry 0)
+timely least some ms at s clock m got =
     let same : only ≡ m = cc in
-    subst (λ x. (count_of x.node (only ∷ []) - (x.before + 1) < window) × (s.clock < x.time + forget_time)) same (omega arith, omega (arith, clock))
+    subst (λ x. (count_of x.node (only ∷ []) - (x.before + 1) < least) × (s.clock < x.time + forget_time)) same (omega (arith, some), omega (arith, clock))
 
-within : IsWithinLimits greeted_turns
-within = (
-  ((tt, tt, few), timely (only ∷ only ∷ []) refl sent_plant refl, few),
-  timely (only ∷ []) refl half_carried refl,
-  few,
-)
+within : (x : Settings) (m : Mode) (w : Width) → IsWithinLimits (starts x m w) (greeted_turns x m w)
+within x m w =
+    let some = at_least (starts x m w) in
+    let small = few (greatest_width (starts x m w)) (at_most (starts x m w)) in (
+      ((tt, tt, small), timely (least_width (starts x m w)) some (only ∷ only ∷ []) refl (sent_plant x m w) refl, small),
+      timely (least_width (starts x m w)) some (only ∷ []) refl (half_carried x m w) refl,
+      small,
+    )
+
+greets : (x : Settings) (m : Mode) (w : Width) → Greets (starts x m w) (greeted_turns x m w) (carried_plant x m w)
+greets x m w = record {
+  events = refl;
+  run = runs x m w;
+  own = ((refl, refl), ((refl, refl), tt));
+  limits = within x m w;
+  unbroken = (tt, (tt, (tt, tt)));
+  quiet = refl;
+  parcel = going_on (receiver m w) A (parcel_in lan.A);
+  up = refl;
+  sent = (refl, refl);
+}
 
 pub premises_are_met : PremisesAreMet
-premises_are_met = (
-  greeted_turns,
-  carried_plant,
-  record {
-    events = refl;
-    run = runs;
-    own = ((refl, refl), ((refl, refl), tt));
-    limits = within;
-    unbroken = (tt, (tt, (tt, tt)));
-    quiet = refl;
-    parcel = going_on receiver A (parcel_in lan.A);
-    up = refl;
-    sent = (refl, refl);
-  },
-)
+premises_are_met x y = (greeted_turns x y.mode y.width, carried_plant x y.mode y.width, greets x y.mode y.width)

@@ -65,5 +65,5 @@ abbrev pub NodesPutOutOnce : Type 0
 NodesPutOutOnce =
     (t : Topology) (starts : List Start) (turns : List Turn) (s : Plant) (run : PlantRun t starts turns s) (k : ℕ) (numbers : ℕ → ℤ)
     (start : Start) (m : State) (o : Port) → slice_get starts k ≡ Some start → slice_get s.nodes k ≡ Some m →
-    IsSteady (node_turns k numbers t starts turns s run) →
+    IsSteady start (node_turns k numbers t starts turns s run) →
     taken o (node_turns k numbers t starts turns s run) ≡ parcels_of (went o (node_turns k numbers t starts turns s run))

@@ -39,16 +39,16 @@ AreUnlike (w ∷ ws) = Each (λ v. v ≢ w) ws × AreUnlike ws
 -- are of one send.
 abbrev pub HandsUpOnce : Topology → Type 0
 HandsUpOnce t =
-    (starts : List Start) (turns : List Turn) (s : Plant) → PlantRun t starts turns s → HaveOwnAddresses starts → IsWithinLimits turns →
-    (j : ℕ) (ps : List ParcelImage) → slice_get s.handed j ≡ Some ps →
+    (starts : List Start) (turns : List Turn) (s : Plant) → PlantRun t starts turns s → HaveOwnAddresses starts →
+    IsWithinLimits starts turns → (j : ℕ) (ps : List ParcelImage) → slice_get s.handed j ≡ Some ps →
     (ws : List HostSend) × Zip (IsOfSend turns) ps ws × AreUnlike ws
 
 -- Where nothing is dropped or cut besides, and nothing is in flight: each frame that a host sent is handed up exactly once at each other
 -- node for which it is meant, supervision apart, and nothing else is.
 abbrev pub HandsUpEachOnce : Topology → Type 0
 HandsUpEachOnce t =
-    (starts : List Start) (turns : List Turn) (s : Plant) → PlantRun t starts turns s → HaveOwnAddresses starts → IsWithinLimits turns →
-    IsUnbroken turns → s.flight ≡ [] →
+    (starts : List Start) (turns : List Turn) (s : Plant) → PlantRun t starts turns s → HaveOwnAddresses starts →
+    IsWithinLimits starts turns → IsUnbroken turns → s.flight ≡ [] →
     (j : ℕ) (start : Start) (ps : List ParcelImage) → slice_get starts j ≡ Some start → slice_get s.handed j ≡ Some ps →
     (ws : List HostSend) × Zip (IsOfSend turns) ps ws × AreUnlike ws
     × ((w : HostSend) (frame : List ℕ) (seq : Seq) → WasSent w frame seq turns → w.node ≢ j → is_meant_for start.role.mac frame ≡ true →

@@ -58,8 +58,8 @@ LossesAreDropsAndCuts =
 -- under its number, was handed up at each other node for which it is meant, supervision apart.
 abbrev pub HandsUpAll : Topology → Type 0
 HandsUpAll t =
-    (starts : List Start) (turns : List Turn) (s : Plant) → PlantRun t starts turns s → HaveOwnAddresses starts → IsWithinLimits turns →
-    IsUnbroken turns → s.flight ≡ [] →
+    (starts : List Start) (turns : List Turn) (s : Plant) → PlantRun t starts turns s → HaveOwnAddresses starts →
+    IsWithinLimits starts turns → IsUnbroken turns → s.flight ≡ [] →
     (i j : ℕ) (start : Start) (frame : List ℕ) (seq : Seq) (ps : List ParcelImage) → One (IsSendOf i frame seq) turns → i ≢ j →
     slice_get starts j ≡ Some start → slice_get s.handed j ≡ Some ps → is_meant_for start.role.mac frame ≡ true →
     is_supervision frame ≡ false → One (IsFrameSent frame seq) ps

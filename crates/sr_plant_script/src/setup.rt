@@ -14,7 +14,7 @@ pub struct PlantSetup {
     pub topology: Topology,
     /// How many there are, 2 to 16.
     pub nodes: usize,
-    /// Their mode.
+    /// Their mode, and how many numbers of a source each remembers.
     pub settings: Settings,
     ghost enough: { fewest_nodes ≤ nodes },
     ghost few: { nodes ≤ most_nodes },

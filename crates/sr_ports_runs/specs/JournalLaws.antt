@@ -61,12 +61,12 @@ SegmentsAreRuns =
 abbrev pub EnteredOnce : Type 0
 EnteredOnce =
     (start : Start) (number : ℕ → ℤ) (t : State) (es : List Entry) (turns : List Turn) (o : Port)
-    → AreTurns number [] (begun_as start) es t turns → IsSteady turns
+    → AreTurns number [] (begun_as start) es t turns → IsSteady start turns
     → handed_out o es ++ box_at t.core.out o ≡ parcels_of (went o turns)
 
 -- the same of segments of which none is torn, and of which the first opens with a new node
 abbrev pub EnteredOnceInAll : Type 0
 EnteredOnceInAll =
     (start : Start) (number : ℕ → ℤ) (g : Segment) (gs : List Segment) (turns : List Turn) (o : Port)
-    → state_of g.opening ≡ begun_as start → AreWhole (g ∷ gs) → AreTurnsOfAll number g gs turns → IsSteady turns
+    → state_of g.opening ≡ begun_as start → AreWhole (g ∷ gs) → AreTurnsOfAll number g gs turns → IsSteady start turns
     → handed_out o (entries_in (g ∷ gs)) ++ box_at (state_behind (state_of g.closing) gs).core.out o ≡ parcels_of (went o turns)

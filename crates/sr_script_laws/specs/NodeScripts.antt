@@ -138,6 +138,6 @@ abbrev pub ScriptsPrintEachOnce : Type 0
 ScriptsPrintEachOnce =
     (setup : Setup) (numbers : ℕ → ℤ) (lines : List (List ℕ)) (text : List ℕ) (t : Station)
     (replies : Replies replay_dialogue (start_of setup) 1 lines text t) (o : Port) →
-    IsSteady (script_turns numbers (start_of setup) 1 lines text t replies []) →
+    IsSteady (node_start setup) (script_turns numbers (start_of setup) 1 lines text t replies []) →
     outward_at o (script_pieces (start_of setup) 1 lines text t replies)
     ≡ parcels_of (went o (script_turns numbers (start_of setup) 1 lines text t replies []))

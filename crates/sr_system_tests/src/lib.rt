@@ -13,3 +13,5 @@ mod plants;
 mod redboxes;
 #[cfg(test)]
 mod scripts;
+#[cfg(test)]
+mod settings;

@@ -10,3 +10,4 @@ mod runs;
 mod statuses;
 mod steps;
 mod texts;
+mod windows;

@@ -9,10 +9,11 @@ use super::makers::{danh, danp};
 use super::many::{fills, hears_sources, lives};
 use super::others::{absorbs, becomes};
 use super::taken::takes;
+use crate::settings::MODE_X;
 use sr_dup_table::DupFault;
 use sr_forwarding::RoleKind;
 use sr_frame::{Mac, Port};
-use sr_node::{Mode, Node, Settings, StepFault};
+use sr_node::{Node, Settings, StepFault};
 use sr_node_table::Alarm;
 use sr_sequence::Seq;
 use std::alloc::Global;
@@ -240,6 +241,6 @@ pub fn expect_ring_steps<R: Abort + AllocGlobal>(rt: &R, steps: &[Step]) {
 
 /// So for a new node of a ring in mode X.
 pub fn expect_ring_steps_in_mode_x<R: Abort + AllocGlobal>(rt: &R, steps: &[Step]) {
-    let wrong = wrong_danh(rt.alloc(), Settings { mode: Mode::X }, steps);
+    let wrong = wrong_danh(rt.alloc(), MODE_X, steps);
     assert_eq!(rt; wrong, None);
 }

@@ -131,6 +131,59 @@ fn frames_in_mode_x(rt: HostRuntime) {
     expect_steps(&rt, IN_MODE_X);
 }
 
+// A second frame of node 0 to node 1.
+const TO_1_LATER: &[u8] = b"02000000000102000000000088b50200";
+
+// One that is carried, and past it the last copy of the first.
+const LATER: &[u8] = b"send 0 1 02\ncarry 1\ncarry 1\ncarry 0\n";
+
+const LOST: &[u8] = b"send 0 1 02\ndrop 1\ndrop 1\n";
+
+// Where nodes remember 2048 numbers of a source, a copy that is carried among 2047 later frames is a duplicate, and one that is
+// carried behind 2048 goes up again.
+const BEHIND: &[Step] = &[
+    Step::WideRing(
+        2,
+        &[b"send 0 1 01\ncarry 0\n"],
+        2046,
+        &[LOST],
+        &[LATER],
+        &[
+            b"up 1 ",
+            TO_1,
+            ZEROS,
+            b"\nup 1 ",
+            TO_1_LATER,
+            ZEROS,
+            b"\nflight 0\n",
+        ],
+    ),
+    Step::WideRing(
+        2,
+        &[b"send 0 1 01\ncarry 0\n"],
+        2047,
+        &[LOST],
+        &[LATER],
+        &[
+            b"up 1 ",
+            TO_1,
+            ZEROS,
+            b"\nup 1 ",
+            TO_1_LATER,
+            ZEROS,
+            b"\nup 1 ",
+            TO_1,
+            ZEROS,
+            b"\nflight 0\n",
+        ],
+    ),
+];
+
+#[test]
+fn copies_behind_a_wide_window(rt: HostRuntime) {
+    expect_steps(&rt, BEHIND);
+}
+
 // Copies are lost and doubled by their places; a link that is cut loses what is on it, and may be cut and mended again; a
 // life check goes both ways.
 const PLACES: &[Step] = &[

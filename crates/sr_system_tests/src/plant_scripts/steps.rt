@@ -1,7 +1,8 @@
 //! One driver for all tests: it makes the runs of a table, and answers at which one it differs.
 
 use super::runs::{Text, is_refused, is_run, is_taken_up};
-use sr_node::{Mode, Settings};
+use crate::settings::{MODE_X, WIDE};
+use sr_node::Settings;
 use sr_plant_script::Topology;
 use sr_session::Word;
 use std::alloc::Global;
@@ -14,6 +15,8 @@ pub enum Step {
     Ring(usize, Text, Text),
     /// A script on a ring of so many nodes in mode X, and what is written.
     RingX(usize, Text, Text),
+    /// A script on a ring whose nodes remember 2048 numbers of a source, a line of which comes so many times, and what is written.
+    WideRing(usize, Text, usize, Text, Text, Text),
     /// A script on the nodes of two LANs, and what is written.
     Lan(usize, Text, Text),
     /// A script on a ring, whose line in the middle comes so many times, and what is written.
@@ -59,13 +62,17 @@ fn comes(alloc: Global, step: Step) -> Option<bool> {
             script,
             wanted,
         ),
-        Step::RingX(nodes, script, wanted) => plain(
+        Step::RingX(nodes, script, wanted) => {
+            plain(alloc, Topology::Ring, nodes, MODE_X, script, wanted)
+        }
+        Step::WideRing(nodes, first, times, middle, last, wanted) => is_run(
             alloc,
             Topology::Ring,
             nodes,
-            Settings { mode: Mode::X },
-            script,
+            WIDE,
+            (first, times, middle, last),
             wanted,
+            None,
         ),
         Step::Lan(nodes, script, wanted) => plain(
             alloc,

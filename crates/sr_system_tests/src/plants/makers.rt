@@ -7,7 +7,7 @@ ghost use Rattle.sr_plant.specs.Plants.{IsInOrder};
 use super::frames::{mac_of, of_source};
 use sr_forwarding::{Danh, Danp, HsrFraming, Role};
 use sr_frame::{NoMemory, Port};
-use sr_node::{Mode, NodeOf, Settings};
+use sr_node::{NodeOf, Settings};
 use sr_plant::{PlantFault, PlantOf, RingOf, TwinLanOf};
 use std::alloc::Global;
 
@@ -33,13 +33,17 @@ pub fn danhs(alloc: Global, count: u8) -> Result<Vec<NodeOf<Danh>>, NoMemory> {
     Ok(nodes)
 }
 
-/// So many nodes of a ring, of which those with an odd number are in mode X.
-pub fn danhs_of_both_modes(alloc: Global, count: u8) -> Result<Vec<NodeOf<Danh>>, NoMemory> {
+/// So many nodes of a ring, of which those with an odd number have other settings than a plain node's.
+pub fn danhs_of_both(
+    alloc: Global,
+    count: u8,
+    odd: Settings,
+) -> Result<Vec<NodeOf<Danh>>, NoMemory> {
     let mut nodes = Vec::new(alloc);
     for node in 0..count {
-        let mode = if node % 2 == 0 { Mode::H } else { Mode::X };
+        let settings = if node % 2 == 0 { Settings::PLAIN } else { odd };
         let role = Danh::new(mac_of(node));
-        append(&mut nodes, NodeOf::with(alloc, role, Settings { mode })?)?;
+        append(&mut nodes, NodeOf::with(alloc, role, settings)?)?;
     }
     Ok(nodes)
 }

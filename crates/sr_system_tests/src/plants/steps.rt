@@ -6,8 +6,9 @@ ghost use Rattle.sr_plant.specs.Plants.{IsInOrder};
 
 use super::frames::{KIND, To, destination, mac_of, octets_of};
 use super::makers::{
-    danhs, danhs_of_both_modes, danhs_of_which_one_is_crowded, danps, new_lans, new_ring,
+    danhs, danhs_of_both, danhs_of_which_one_is_crowded, danps, new_lans, new_ring,
 };
+use crate::settings::{MODE_X, WIDE};
 use sr_forwarding::{Parcel, Role};
 use sr_frame::{Frame, FrameFault};
 use sr_plant::{PlantEvent, PlantFault, PlantOf};
@@ -40,6 +41,8 @@ pub enum Network {
     CrowdedRing(u8),
     /// A ring of so many nodes, of which those with an odd number are in mode X.
     MixedRing(u8),
+    /// A ring of so many nodes, of which those with an odd number remember 2048 numbers of a source.
+    RingOfBothWidths(u8),
     /// Two LANs of so many nodes.
     TwinLan(u8),
 }
@@ -57,6 +60,10 @@ pub enum Step {
     Flow(usize),
     /// A node handed up these frames and no others, oldest first.
     Up(usize, &'static [(u8, To)]),
+    /// The host of a node sends so many frames to a neighbour, and both copies of each are carried, past one that is in flight.
+    Later(usize, u8, u8),
+    /// A node handed up so many frames.
+    UpCount(usize, usize),
 }
 
 // A frame of the host of a node, of 15 octets.
@@ -145,6 +152,38 @@ fn flows<R: Role>(alloc: Global, plant: &mut PlantOf<R>, count: usize) -> bool
     plant.in_flight() == 0
 }
 
+// Whether a frame goes past the first copy in flight.
+fn goes_past<R: Role>(alloc: Global, plant: &mut PlantOf<R>, from: u8, to: u8) -> bool
+    requires { IsInOrder (plant_state R.meaning plant.old) }
+    ensures { IsInOrder (plant_state R.meaning plant.new) }
+{
+    comes_to(alloc, plant, Act::Send(from, To::Node(to)), Ok(()))
+        && comes_to(alloc, plant, Act::Carry(1), Ok(()))
+        && comes_to(alloc, plant, Act::Carry(1), Ok(()))
+}
+
+// Whether so many frames go past it.
+fn go_past<R: Role>(alloc: Global, plant: &mut PlantOf<R>, count: usize, from: u8, to: u8) -> bool
+    requires { IsInOrder (plant_state R.meaning plant.old) }
+    ensures { IsInOrder (plant_state R.meaning plant.new) }
+{
+    for _ in 0..count {
+        if !goes_past(alloc, plant, from, to) {
+            return false;
+        }
+    }
+    true
+}
+
+// How many frames a node handed up.
+fn up_count<R: Role>(plant: &PlantOf<R>, node: usize) -> usize {
+    if node < plant.handed.len() {
+        plant.handed(node).len()
+    } else {
+        0
+    }
+}
+
 // Whether the plain form of a parcel is this node's frame.
 fn is_plain(parcel: &Parcel, from: u8, to: To) -> bool {
     let plain = parcel.plain();
@@ -184,6 +223,8 @@ fn holds<R: Role>(alloc: Global, plant: &mut PlantOf<R>, step: Step) -> bool
         Step::InFlight(count) => plant.in_flight() == count,
         Step::Flow(count) => flows(alloc, plant, count),
         Step::Up(node, frames) => handed_up(plant, node, frames),
+        Step::Later(count, from, to) => go_past(alloc, plant, count, from, to),
+        Step::UpCount(node, count) => up_count(plant, node) == count,
     }
 }
 
@@ -224,7 +265,12 @@ fn first_wrong_of(alloc: Global, network: Network, steps: &[Step]) -> Option<usi
         ),
         Network::MixedRing(count) => first_wrong(
             alloc,
-            new_ring(alloc, danhs_of_both_modes(alloc, count)),
+            new_ring(alloc, danhs_of_both(alloc, count, MODE_X)),
+            steps,
+        ),
+        Network::RingOfBothWidths(count) => first_wrong(
+            alloc,
+            new_ring(alloc, danhs_of_both(alloc, count, WIDE)),
             steps,
         ),
         Network::TwinLan(count) => first_wrong(alloc, new_lans(alloc, danps(alloc, count)), steps),

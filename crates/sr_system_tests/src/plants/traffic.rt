@@ -197,6 +197,34 @@ fn rings_of_both_modes(rt: HostRuntime) {
     expect_steps(&rt, rt.alloc(), Network::MixedRing(4), MIXED);
 }
 
+// Of a narrow node and a wide one each tells a late copy from a new frame as far as its own table reaches: node 0 among 1023 later
+// frames, node 1 among 2047.
+const BOTH_WIDTHS: &[Step] = &[
+    Step::Does(Act::Send(1, To::Node(0))),
+    Step::Does(Act::Carry(0)),
+    Step::Later(1023, 1, 0),
+    Step::Does(Act::Repeat(0)),
+    Step::Does(Act::Carry(0)),
+    Step::UpCount(0, 1024),
+    Step::Later(1, 1, 0),
+    Step::Does(Act::Carry(0)),
+    Step::UpCount(0, 1026),
+    Step::Does(Act::Send(0, To::Node(1))),
+    Step::Does(Act::Carry(0)),
+    Step::Later(2047, 0, 1),
+    Step::Does(Act::Repeat(0)),
+    Step::Does(Act::Carry(0)),
+    Step::UpCount(1, 2048),
+    Step::Later(1, 0, 1),
+    Step::Does(Act::Carry(0)),
+    Step::UpCount(1, 2050),
+];
+
+#[test]
+fn rings_of_both_widths(rt: HostRuntime) {
+    expect_steps(&rt, rt.alloc(), Network::RingOfBothWidths(2), BOTH_WIDTHS);
+}
+
 // A copy goes to each other node in each LAN.
 const WHOLE_LANS: &[Step] = &[
     Step::Does(Act::Send(0, To::All)),

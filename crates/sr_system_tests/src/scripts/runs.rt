@@ -4,8 +4,9 @@
 use super::failing::{Broken, EmptyLines, Interrupted, Narrow, Recorder, Sparse, Stuck, Unflushed};
 use super::texts::{Text, joined};
 use crate::answers::{Ending, are_answers, is_ended};
+use crate::settings::{MODE_X, WIDE};
 use sr_frame::Mac;
-use sr_node::{Mode, Settings};
+use sr_node::Settings;
 use sr_prp_trailer::Lan;
 use sr_script::{PrpRouting, RoleName, Setup, run, run_status};
 use sr_session::{Fault, Word};
@@ -20,6 +21,8 @@ pub enum At {
     Danh,
     /// A node of a ring in mode X.
     DanhX,
+    /// A node of two LANs that remembers 2048 numbers of a source.
+    WideDanp,
     San,
     /// At a LAN of the network of this number.
     Prp(Lan, u8),
@@ -50,7 +53,7 @@ fn run_as<R: BufRead, W: Write>(
 /// The role of a node. None for a network that no path can name.
 fn role_of(at: At) -> Option<RoleName> {
     Some(match at {
-        At::Danp => RoleName::Danp,
+        At::Danp | At::WideDanp => RoleName::Danp,
         At::Danh | At::DanhX => RoleName::Danh,
         At::San => RoleName::San,
         At::Prp(lan, net) => {
@@ -66,7 +69,8 @@ fn role_of(at: At) -> Option<RoleName> {
 /// The settings of a node.
 fn settings_of(at: At) -> Settings {
     match at {
-        At::DanhX => Settings { mode: Mode::X },
+        At::DanhX => MODE_X,
+        At::WideDanp => WIDE,
         _ => Settings::PLAIN,
     }
 }
