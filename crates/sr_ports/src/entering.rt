@@ -57,11 +57,18 @@ pub fn enter<R: Role, L: Ledger>(
         book,
         ..
     } = kept;
-    node.check(event)?;
     if journal.len() >= MAX_ENTRIES || *closed + journal.len() as u64 == u64::MAX {
+        node.check(event)?;
         return Err(EnterFault::JournalFull);
     }
-    let (twin, front) = prepare(node, journal, event)?;
+    // The node's own refusal comes first. Where the copies are had, its step tells it, so that no event is looked at twice.
+    let (twin, front) = match prepare(node, journal, event) {
+        Ok(copies) => copies,
+        Err(fault) => {
+            node.check(event)?;
+            return Err(fault.into());
+        }
+    };
     let answer = node.step(event)?;
     let again = with_parcel(&answer, front);
     journal.push_reserved(entry_of(pass.worker(), twin, again));

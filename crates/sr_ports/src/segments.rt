@@ -123,9 +123,10 @@ fn are_numbers_same(one: &NodeImage, other: &NodeImage) -> bool
         && one.wrong_lan == other.wrong_lan
 }
 
-// Whether the same is noted of sources.
+// Whether the widths are the same, and what is noted of sources.
 fn are_sources_same(one: &NodeImage, other: &NodeImage) -> bool
-    ensures { IsTrue result ↔ (one.now.sources.sources ≡ other.now.sources.sources) }
+    ensures { IsTrue result ↔ ((one.now.sources.width ≡ other.now.sources.width)
+        × (one.now.sources.sources ≡ other.now.sources.sources)) }
 {
     equal_where_the_sources_are();
     one.sources == other.sources

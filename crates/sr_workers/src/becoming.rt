@@ -49,7 +49,7 @@ fn sending(alloc: Global, octets: &[u8], now: u64) -> Result<Becoming, NoMemory>
     }
 }
 
-// What a frame becomes that a worker's feed hands out.
+// What becomes of a frame from a worker's feed: an arrival at the worker's port, a send of the host, or unread for the Ager.
 fn frame_event<G: Framing>(
     alloc: Global,
     framing: &G,

@@ -22,7 +22,7 @@ pub(crate) struct Stop {
     pub held: Option<Parcel>,
 }
 
-// GivesEach a parcel to the feed as the framing writes it, if it can. A parcel that it can't write is lost.
+// Gives a parcel to the feed as the framing writes it. One that the framing can't write is lost.
 fn put_out<F: Feed, G: Framing, W: Wait>(
     rt: &W,
     framing: &G,

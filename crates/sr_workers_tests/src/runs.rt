@@ -22,7 +22,7 @@ use std::thread::Threads;
 /// A run of the workers of A, B and the host, each of whose feeds has one frame.
 #[derive(Clone, Copy)]
 pub enum Step {
-    /// The framing of the first waits until the host was given a frame; the other's arrives first.
+    /// The first worker's framing waits until the host was given a frame, so the second worker's frame arrives first.
     Gate(Worker, Worker),
     /// So with role and framings in boxes.
     GateInBoxes(Worker, Worker),
