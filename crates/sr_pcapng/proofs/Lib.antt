@@ -4,3 +4,5 @@ pub mod Steps
 pub mod PacketLemmas
 pub mod Unique
 pub mod Listings
+pub mod WrittenLemmas
+pub mod Appends

@@ -6,4 +6,5 @@ pub mod Interfaces
 pub mod PacketBlocks
 pub mod Steps
 pub mod StepLemmas
+pub mod Writing
 pub mod Laws

@@ -101,7 +101,7 @@ fn told(order: ByteOrder, option: &[u8], interface: Interface) -> Interface
     }
 }
 
-/// What is known of an interface behind its options. None where the octets are none.
+/// The interface with what its options say. `None` if the octets are not options.
 pub(crate) fn read_options(
     order: ByteOrder,
     octets: &[u8],
