@@ -1,9 +1,11 @@
 pub mod Audits
 pub mod Counting
+pub mod Faults
 pub mod Following
 pub mod Lanes
 pub mod Laws
 pub mod Limits
+pub mod Shown
 pub mod Stretches
 pub mod Taken
 pub mod Tallies

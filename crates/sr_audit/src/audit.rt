@@ -15,7 +15,7 @@ use std::alloc::Global;
 /// How many sources have figures (choice of this project).
 pub const MOST_SOURCES: usize = 1024;
 
-/// The figures of two captures, source by source, in the order of first hearing. Arrivals of a source beyond the 1024th are more_if.
+/// The figures of two captures, source by source, in the order of first hearing. Arrivals of a source beyond the 1024th are counted.
 #[derive(Drop)]
 pub struct Audit {
     alloc: Global,
@@ -165,8 +165,17 @@ impl Audit {
         self.sources.iter()
     }
 
+    /// How many sources there are.
+    pub fn len(&self) -> usize
+        ensures { result ≡ length self.now.sources.entries }
+    {
+        self.sources.len()
+    }
+
     /// How many arrivals were of sources beyond the 1024th.
-    pub fn left_out(&self) -> u64 {
+    pub fn left_out(&self) -> u64
+        ensures { result ≡ self.now.left_out }
+    {
         self.left_out
     }
 }

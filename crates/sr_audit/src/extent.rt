@@ -5,7 +5,7 @@ use crate::look::{Look, Step};
 use crate::side::Side;
 use crate::tally::Sides;
 
-/// How far the numbers of the current stretch reach, and the figures of all. Numbers are more_if from the first of the stretch.
+/// How far the numbers of the current stretch reach, and the figures of all. Numbers are counted from the first of the stretch.
 #[derive(Clone, Copy, Debug, PartialEq, Eq)]
 pub(crate) struct Extent {
     greatest: i64,
@@ -45,7 +45,7 @@ impl Extent {
         self.lengths = self.lengths.saturating_add(1);
     }
 
-    /// Takes a number, more_if from the first of the stretch.
+    /// Takes a number, counted from the first of the stretch.
     fn reach(&mut self, number: i64) {
         let above = number.saturating_sub(self.greatest).max(0);
         let below = self.least.saturating_sub(number).max(0);
@@ -55,7 +55,7 @@ impl Extent {
         self.least = self.least.min(number);
     }
 
-    /// The number of an arrival, more_if from the first of its stretch.
+    /// The number of an arrival, counted from the first of its stretch.
     fn number_of(&mut self, step: Step) -> i64 {
         match step {
             Step::First | Step::Resume => self.begin(),

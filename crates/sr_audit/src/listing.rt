@@ -18,6 +18,8 @@ pub enum Listed {
     Lost(Copied),
     /// A frame came by both sides: its first copy at side A, and when the first one came at side B.
     Pair(Copied, u64),
+    /// No frame had a number of a source; when a greater one, or a lesser one, first came.
+    Neither(Mac, Seq, u64),
 }
 
 /// A copy of a frame.
@@ -31,19 +33,36 @@ pub struct Copied {
     pub packet: u64,
 }
 
-/// A frame that came by one side alone so far.
-#[derive(Clone, Copy, Debug)]
-struct Waiting {
-    arrival: Arrival,
-    packet: u64,
+/// How many sources are listed at once: 17 KiB are kept of each, and all that an audit keeps is 16 MiB at most.
+pub const LISTED_AT_ONCE: usize = 512;
+
+/// What became of a number so far.
+#[derive(Clone, Copy, Debug, PartialEq, Eq)]
+enum Fate {
+    /// It is decided, or the stretch has not reached it.
+    Settled,
+    /// A greater number came, and no copy.
+    PassedOver,
+    /// Copies came by side A alone.
+    ByA,
+    /// Copies came by side B alone.
+    ByB,
 }
 
 /// What is kept of a source.
 #[derive(Drop)]
 struct Pending {
     numbers: Option<Numbers>,
-    /// The frames of the last 1024 numbers that came by one side alone so far, by the number modulo 1024.
-    waiting: Vec<Option<Waiting>>,
+    /// Whether its frames are listed.
+    is_listed: bool,
+    /// How many numbers below the greatest the stretch has, up to 1023.
+    reach: u16,
+    /// What became of each of the last 1024 numbers of the stretch, by the number modulo 1024.
+    fates: Vec<Fate>,
+    /// When the first copy came, or the number was passed over.
+    times: Vec<u64>,
+    /// The packet of the first copy.
+    packets: Vec<u64>,
 }
 
 impl Ranked for Pending {
@@ -63,48 +82,98 @@ fn append<T: Copy>(list: &mut Vec<T>, item: T) -> Result<(), NoMemory> {
     }
 }
 
-/// Lists a frame that waited, if it came while the capture of the other side ran.
-fn list_lost(
-    src: Mac,
-    waiting: Waiting,
-    spans: &Spans,
-    list: &mut Vec<Listed>,
-) -> Result<(), NoMemory> {
-    let arrival = waiting.arrival;
+/// The place of a number in the lists of a source.
+fn place_of(seq: Seq) -> usize {
+    usize::from(seq.0 % KEPT_NUMBERS)
+}
+
+/// Lists a frame that came by one side alone, if it came while the capture of the other side ran.
+fn list_lost(copy: Copied, spans: &Spans, list: &mut Vec<Listed>) -> Result<(), NoMemory> {
+    let arrival = copy.arrival;
     if spans.is_beyond(arrival.side.other(), arrival.time) {
         return Ok(());
     }
-    let lost = Listed::Lost(Copied {
-        src,
-        arrival,
-        packet: waiting.packet,
-    });
-    append(list, lost)
+    append(list, Listed::Lost(copy))
 }
 
 impl Pending {
     /// A source of which nothing came.
-    fn new(alloc: Global) -> Pending {
+    fn new(alloc: Global, is_listed: bool) -> Pending {
         Pending {
             numbers: None,
-            waiting: Vec::new(alloc),
+            is_listed,
+            reach: 0,
+            fates: Vec::new(alloc),
+            times: Vec::new(alloc),
+            packets: Vec::new(alloc),
         }
     }
 
     /// Makes room for 1024 numbers.
     fn make_room(&mut self) -> Result<(), NoMemory> {
-        if self.waiting.is_empty() {
-            self.waiting.resize(KEPT_NUMBERS as usize, None)?;
+        if self.fates.is_empty() {
+            self.times.resize(usize::from(KEPT_NUMBERS), 0)?;
+            self.packets.resize(usize::from(KEPT_NUMBERS), 0)?;
+            self.fates.resize(usize::from(KEPT_NUMBERS), Fate::Settled)?;
         }
         Ok(())
     }
 
-    /// What waits at the place of a number, which is then free.
-    fn take(&mut self, seq: Seq) -> Option<Waiting> {
-        let place = self.waiting.get_mut((seq.0 % KEPT_NUMBERS) as usize)?;
-        let waiting = *place;
-        *place = None;
-        waiting
+    /// Writes down what became of a number so far.
+    fn put(&mut self, seq: Seq, fate: Fate, time: u64, packet: u64) {
+        let at = place_of(seq);
+        if let Some(place) = self.fates.get_mut(at) {
+            *place = fate;
+        }
+        if let Some(place) = self.times.get_mut(at) {
+            *place = time;
+        }
+        if let Some(place) = self.packets.get_mut(at) {
+            *place = packet;
+        }
+    }
+
+    /// What became of a number so far. Its place is then settled.
+    fn take(&mut self, seq: Seq) -> Fate {
+        match self.fates.get_mut(place_of(seq)) {
+            Some(place) => {
+                let fate = *place;
+                *place = Fate::Settled;
+                fate
+            }
+            None => Fate::Settled,
+        }
+    }
+
+    /// The first copy of a number, which came by this side.
+    fn copy_at(&self, src: Mac, seq: Seq, side: Side) -> Copied {
+        let at = place_of(seq);
+        let time = self.times.get(at).copied().unwrap_or(0);
+        let packet = self.packets.get(at).copied().unwrap_or(0);
+        Copied {
+            src,
+            arrival: Arrival { side, seq, time },
+            packet,
+        }
+    }
+
+    /// Lists what became of a number of which no further copy counts.
+    fn settle(
+        &mut self,
+        src: Mac,
+        seq: Seq,
+        spans: &Spans,
+        list: &mut Vec<Listed>,
+    ) -> Result<(), NoMemory> {
+        match self.take(seq) {
+            Fate::Settled => Ok(()),
+            Fate::PassedOver => {
+                let time = self.times.get(place_of(seq)).copied().unwrap_or(0);
+                append(list, Listed::Neither(src, seq, time))
+            }
+            Fate::ByA => list_lost(self.copy_at(src, seq, Side::A), spans, list),
+            Fate::ByB => list_lost(self.copy_at(src, seq, Side::B), spans, list),
+        }
     }
 
     /// Lists all that waits, from the least number on.
@@ -117,13 +186,12 @@ impl Pending {
         let Some(numbers) = &self.numbers else {
             return Ok(());
         };
-        let mut seq = numbers.greatest();
+        let mut seq = Seq(numbers.greatest().0.wrapping_sub(KEPT_NUMBERS));
         for _ in 0..KEPT_NUMBERS {
             seq = seq.next();
-            if let Some(waiting) = self.take(seq) {
-                list_lost(src, waiting, spans, list)?;
-            }
+            self.settle(src, seq, spans, list)?;
         }
+        self.reach = 0;
         Ok(())
     }
 
@@ -135,90 +203,139 @@ impl Pending {
         }
     }
 
-    /// Takes the first copy of a frame, whose number has the place of one that is 1024 or more behind.
-    fn open(&mut self, x: Copied, spans: &Spans, list: &mut Vec<Listed>) -> Result<(), NoMemory> {
-        if let Some(waiting) = self.take(x.arrival.seq) {
-            list_lost(x.src, waiting, spans, list)?;
+    /// Goes on to the number of an arrival, so many steps ahead. The places of all on the way are those of numbers 1024 behind.
+    fn go_ahead(
+        &mut self,
+        x: Copied,
+        steps: u16,
+        spans: &Spans,
+        list: &mut Vec<Listed>,
+    ) -> Result<(), NoMemory> {
+        for left in 0..steps {
+            let seq = Seq(
+                x.arrival
+                    .seq
+                    .0
+                    .wrapping_sub(steps.saturating_sub(left).saturating_sub(1)),
+            );
+            self.settle(x.src, Seq(seq.0.wrapping_sub(KEPT_NUMBERS)), spans, list)?;
+            self.put(seq, Fate::PassedOver, x.arrival.time, 0);
         }
-        let place = (x.arrival.seq.0 % KEPT_NUMBERS) as usize;
-        if let Some(place) = self.waiting.get_mut(place) {
-            *place = Some(Waiting {
-                arrival: x.arrival,
-                packet: x.packet,
-            });
-        }
+        self.reach = self.reach.saturating_add(steps).min(KEPT_NUMBERS - 1);
         Ok(())
+    }
+
+    /// Goes back to the number of an arrival, so many steps behind the greatest one: those on the way are passed over, if the stretch has
+    /// not reached them.
+    fn go_back(&mut self, x: Arrival, steps: u16) {
+        for step in self.reach..steps {
+            let ahead = steps.saturating_sub(step);
+            self.put(
+                Seq(x.seq.0.wrapping_add(ahead).wrapping_sub(1)),
+                Fate::PassedOver,
+                x.time,
+                0,
+            );
+        }
+        self.reach = self.reach.max(steps);
+    }
+
+    /// Goes to the number of an arrival.
+    fn step(
+        &mut self,
+        x: Copied,
+        step: Step,
+        spans: &Spans,
+        list: &mut Vec<Listed>,
+    ) -> Result<(), NoMemory> {
+        match step {
+            Step::First => Ok(()),
+            Step::Restart | Step::Resume | Step::Jump => self.end_stretch(x.src, spans, list),
+            Step::Ahead(steps) => self.go_ahead(x, steps, spans, list),
+            Step::Behind(steps) => {
+                self.go_back(x.arrival, steps);
+                Ok(())
+            }
+        }
     }
 
     /// Takes a copy of a frame that came by the other side alone.
     fn join(&mut self, x: Copied, list: &mut Vec<Listed>) -> Result<(), NoMemory> {
-        let Some(waiting) = self.take(x.arrival.seq) else {
-            return Ok(());
-        };
-        let pair = match x.arrival.side {
-            Side::A => Listed::Pair(x, waiting.arrival.time),
-            Side::B => {
-                let first = Copied {
-                    src: x.src,
-                    arrival: waiting.arrival,
-                    packet: waiting.packet,
-                };
+        let pair = match self.take(x.arrival.seq) {
+            Fate::ByB => {
+                let second = self.copy_at(x.src, x.arrival.seq, Side::B);
+                Listed::Pair(x, second.arrival.time)
+            }
+            Fate::ByA => {
+                let first = self.copy_at(x.src, x.arrival.seq, Side::A);
                 Listed::Pair(first, x.arrival.time)
             }
+            Fate::Settled | Fate::PassedOver => return Ok(()),
         };
         append(list, pair)
     }
 
     /// Takes the next arrival of the source, and lists what is decided.
     fn note(&mut self, x: Copied, spans: &Spans, list: &mut Vec<Listed>) -> Result<(), NoMemory> {
+        if !self.is_listed {
+            return Ok(());
+        }
         self.make_room()?;
         let look = self.look(x.arrival);
-        match look.step {
-            Step::Behind(_) | Step::Ahead(_) | Step::First => {}
-            Step::Restart | Step::Resume | Step::Jump => self.end_stretch(x.src, spans, list)?,
-        }
+        self.step(x, look.step, spans, list)?;
         match self.numbers.as_mut() {
             Some(numbers) => numbers.note(x.arrival),
             None => self.numbers = Some(Numbers::begin(x.arrival)),
         }
-        let came = look.came;
-        match x.arrival.side {
-            _ if !came.a && !came.b => self.open(x, spans, list),
-            Side::A if !came.a => self.join(x, list),
-            Side::B if !came.b => self.join(x, list),
-            _ => Ok(()),
+        let Arrival { side, seq, time } = x.arrival;
+        match (side, look.came.a, look.came.b) {
+            (Side::A, false, false) => self.put(seq, Fate::ByA, time, x.packet),
+            (Side::B, false, false) => self.put(seq, Fate::ByB, time, x.packet),
+            (Side::A, false, true) | (Side::B, true, false) => return self.join(x, list),
+            _ => {}
         }
+        Ok(())
     }
 }
 
-/// Lists frames as it is decided what became of them: at most 1024 sources, each with the last 1024 numbers of its stretch.
+/// Lists frames as it is decided what became of them: of at most 512 sources at a time, each with the last 1024 numbers of its stretch.
+/// Of 1024 sources, those from one on by the order of first hearing.
 #[derive(Drop)]
 pub struct Listing {
     alloc: Global,
     sources: Slots<Pending>,
+    first: usize,
     spans: Spans,
 }
 
 impl Listing {
-    /// No arrival came. The spans of the captures are known.
-    pub fn new(alloc: Global, keys: Keys, spans: Spans) -> Listing {
+    /// No arrival came. The spans of the captures are known, and which source is the first that is listed.
+    pub fn new(alloc: Global, keys: Keys, spans: Spans, first: usize) -> Listing {
         Listing {
             alloc,
             sources: Slots::with_keys(alloc, keys),
+            first,
             spans,
         }
     }
 
-    /// Takes the next arrival, and appends what is decided by it. A source beyond the 1024th is passed over.
+    /// Whether the source that so many were heard before is listed.
+    fn lists(&self, rank: usize) -> bool {
+        self.first <= rank && rank - self.first < LISTED_AT_ONCE
+    }
+
+    /// Takes the next arrival, and appends what is decided by it. A source that is not listed is passed over.
     ///
     /// # Errors
     /// `NoMemory` where a growth was refused.
     pub fn note(&mut self, x: Copied, list: &mut Vec<Listed>) -> Result<(), NoMemory> {
         if self.sources.get(x.src).is_none() {
-            if self.sources.len() >= MOST_SOURCES {
+            let rank = self.sources.len();
+            if rank >= MOST_SOURCES {
                 return Ok(());
             }
-            self.sources.append(x.src, Pending::new(self.alloc))?;
+            let pending = Pending::new(self.alloc, self.lists(rank));
+            self.sources.append(x.src, pending)?;
         }
         let spans = self.spans;
         let noted = self

@@ -73,7 +73,8 @@ impl Numbers {
 
     /// The figures of all arrivals.
     pub fn tally(&self) -> Tally
-        ensures { (xs : List Arrival) → FollowsArrivals xs self.now
+        ensures kept { result ≡ self.now.tally }
+        ensures tally { (xs : List Arrival) → FollowsArrivals xs self.now
             → result ≡ tally_of (stretches xs) }
     {
         self.tally

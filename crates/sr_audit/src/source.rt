@@ -1,5 +1,8 @@
 //! What is kept of a source.
 
+ghost use Rattle.std.specs.Prelude.{◌≡◌};
+ghost use Rattle.sr_audit.specs.Shown.{frames_in};
+
 use crate::alive::Alive;
 use crate::arrival::Arrival;
 use crate::extent::Extent;
@@ -32,6 +35,55 @@ pub struct Figures {
     pub skews: Skews,
 }
 
+impl Figures {
+    ghost use Rattle.std.specs.Prelude.{◌≡◌, ◌-◌};
+    ghost use Rattle.sr_audit.specs.Faults.{tells_of_faults};
+
+    /// The figures of no arrival.
+    pub const NONE: Figures = Figures {
+        tally: Tally::NONE,
+        edges: Sides::NONE,
+        neither: 0,
+        order: Sides::NONE,
+        jumps: 0,
+        restarts: 0,
+        skews: Skews::NONE,
+    };
+
+    /// How many frames came by one side alone while the capture of the other side ran.
+    pub fn only(&self) -> Sides
+        ensures a { result.a ≡ self.now.tally.alone.a - self.now.edges.a }
+        ensures b { result.b ≡ self.now.tally.alone.b - self.now.edges.b }
+    {
+        let alone = self.tally.alone;
+        Sides {
+            a: alone.a.saturating_sub(self.edges.a),
+            b: alone.b.saturating_sub(self.edges.b),
+        }
+    }
+
+    /// Whether a figure tells of a fault of the network: frames that came by one side alone, or by none, copies that came more than once,
+    /// or a skew of 400 ms or more.
+    pub fn has_faults(&self) -> bool
+        ensures { result ≡ tells_of_faults self.now }
+    {
+        let only = self.only();
+        let repeats = self.tally.repeats;
+        let [_, _, _, _, _, _, over] = self.skews.classes;
+        only.a > 0 || only.b > 0 || repeats.a > 0 || repeats.b > 0 || self.neither > 0 || over > 0
+    }
+}
+
+/// How many frames came, by whichever side.
+fn frames_in(tally: Tally) -> u64
+    ensures { result ≡ frames_in tally }
+{
+    tally
+        .pairs
+        .saturating_add(tally.alone.a)
+        .saturating_add(tally.alone.b)
+}
+
 /// What is kept of a source: its numbers, when the first copies of the last 1024 came, and the figures.
 #[derive(Drop)]
 pub struct Source {
@@ -59,6 +111,7 @@ impl Source {
     ghost use Rattle.sr_audit.specs.Stretches.{stretches};
     ghost use Rattle.sr_audit.specs.Tallies.{tally_of};
     ghost use Rattle.sr_audit.specs.Taken.{HasTaken};
+    ghost use Rattle.sr_audit.specs.Shown.{figures_of, tally_in};
 
     /// A source of which nothing came.
     pub(crate) fn new(alloc: Global) -> Source
@@ -173,24 +226,30 @@ impl Source {
         self.alive = Some(alive);
     }
 
+    /// How many copies and frames came.
+    fn tally(&self) -> Tally
+        ensures tally { (xs : List Arrival) → HasTaken xs self.now
+            → result ≡ tally_of (stretches xs) }
+        ensures shown { result ≡ tally_in self.now.numbers }
+    {
+        match &self.numbers {
+            Some(numbers) => numbers.tally(),
+            None => Tally::NONE,
+        }
+    }
+
     /// The figures of all arrivals. How many copies and frames came is proved; the edges, the order, the skews and what is told of
     /// numbers that no frame had are tested alone.
     pub fn figures(&self) -> Figures
-        ensures { (xs : List Arrival) → HasTaken xs self.now
+        ensures tally { (xs : List Arrival) → HasTaken xs self.now
             → result.tally ≡ tally_of (stretches xs) }
+        ensures shown { result ≡ figures_of self.now }
     {
-        let tally = match &self.numbers {
-            Some(numbers) => numbers.tally(),
-            None => Tally::NONE,
-        };
-        let frames = tally
-            .pairs
-            .saturating_add(tally.alone.a)
-            .saturating_add(tally.alone.b);
+        let tally = self.tally();
         Figures {
             tally,
             edges: self.edges,
-            neither: self.extent.lengths.saturating_sub(frames),
+            neither: self.extent.lengths.saturating_sub(frames_in(tally)),
             order: self.extent.order,
             jumps: self.extent.jumps,
             restarts: self.extent.restarts,

@@ -15,7 +15,7 @@ pub struct Sides {
 }
 
 impl Sides {
-    /// Nothing was more_if.
+    /// Nothing was counted.
     pub const NONE: Sides = Sides { a: 0, b: 0 };
 }
 

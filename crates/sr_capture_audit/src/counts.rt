@@ -1,9 +1,13 @@
 //! How many packets of each kind a capture has.
 
+ghost use Rattle.std.specs.Prelude.{◌≡◌};
+ghost use Rattle.sr_capture_audit.specs.Faults.{is_faulty, have_faults};
+
 use crate::kind::Kind;
+use crate::network::Tap;
 use sr_audit::Side;
 
-/// How many packets of each kind the capture of a side has.
+/// How many packets of each kind came in.
 #[derive(Clone, Copy, Debug, PartialEq, Eq)]
 pub struct SideCounts {
     /// All packets.
@@ -49,6 +53,15 @@ fn is_tagged(octets: &[u8]) -> bool {
         behind
     };
     kind.starts_with(&[0x89, 0x2F])
+}
+
+/// The side of a packet. None: it came by a mirror port, and has no number that names one.
+fn side_of(tap: Tap, kind: Kind) -> Option<Side> {
+    match (tap, kind) {
+        (_, Kind::Numbered(numbered)) => Some(numbered.side),
+        (Tap::Side(side), _) => Some(side),
+        (Tap::Mirror, _) => None,
+    }
 }
 
 /// A count with one more.
@@ -101,13 +114,22 @@ impl SideCounts {
     }
 }
 
-/// How many packets of each kind both captures have.
+/// Whether a trailer names the other LAN, or is none.
+fn is_faulty(counts: &SideCounts) -> bool
+    ensures { result ≡ is_faulty counts.now }
+{
+    counts.wrong_lan > 0 || counts.misfit > 0
+}
+
+/// How many packets of each kind the captures have.
 #[derive(Clone, Copy, Debug, PartialEq, Eq)]
 pub struct Counts {
     /// Those of side A.
     pub a: SideCounts,
     /// Those of side B.
     pub b: SideCounts,
+    /// Those of a mirror port that name no side, having no number.
+    pub neither: SideCounts,
 }
 
 impl Counts {
@@ -115,13 +137,35 @@ impl Counts {
     pub const NONE: Counts = Counts {
         a: SideCounts::NONE,
         b: SideCounts::NONE,
+        neither: SideCounts::NONE,
     };
 
-    /// Counts a packet of a side.
-    pub(crate) fn note(&mut self, side: Side, kind: Kind, octets: &[u8]) {
-        match side {
-            Side::A => self.a.note(kind, octets),
-            Side::B => self.b.note(kind, octets),
+    /// Counts a packet of a capture.
+    pub(crate) fn note(&mut self, tap: Tap, kind: Kind, octets: &[u8]) {
+        match side_of(tap, kind) {
+            Some(Side::A) => self.a.note(kind, octets),
+            Some(Side::B) => self.b.note(kind, octets),
+            None => self.neither.note(kind, octets),
         }
+    }
+
+    /// Those of a mirror port as a whole.
+    pub fn of_mirror(&self) -> SideCounts {
+        SideCounts {
+            packets: self
+                .neither
+                .packets
+                .saturating_add(self.a.packets)
+                .saturating_add(self.b.packets),
+            numbered: self.a.numbered.saturating_add(self.b.numbered),
+            ..self.neither
+        }
+    }
+
+    /// Whether a trailer names the other LAN, or is none.
+    pub(crate) fn have_faults(&self) -> bool
+        ensures { result ≡ have_faults self.now }
+    {
+        is_faulty(&self.a) || is_faulty(&self.b) || is_faulty(&self.neither)
     }
 }

@@ -1,5 +1,8 @@
 //! What looks wrong in the captures as a whole.
 
+ghost use Rattle.std.specs.Prelude.{◌≡◌};
+ghost use Rattle.sr_capture_audit.specs.Hints.{hint_of, is_swapped, are_swapped};
+
 use crate::counts::{Counts, SideCounts};
 use crate::network::Network;
 use std::fmt;
@@ -32,7 +35,9 @@ impl fmt::Display for Hint {
 }
 
 /// What looks wrong in the capture of a side, if something does.
-pub fn hint_of(network: Network, counts: &SideCounts) -> Option<Hint> {
+pub fn hint_of(network: Network, counts: &SideCounts) -> Option<Hint>
+    ensures { result ≡ hint_of network counts.now }
+{
     if network == Network::Hsr {
         return None;
     }
@@ -48,11 +53,18 @@ pub fn hint_of(network: Network, counts: &SideCounts) -> Option<Hint> {
     None
 }
 
+/// Whether more than half of the numbered frames of a side have the trailer of the other LAN.
+fn is_swapped(counts: &SideCounts) -> bool
+    ensures { result ≡ is_swapped counts.now }
+{
+    counts.numbered > 0 && counts.wrong_lan > counts.numbered / 2
+}
+
 impl Counts {
     /// Whether more than half of the numbered frames of each side have the trailer of the other LAN.
-    pub fn are_swapped(&self) -> bool {
-        let is_swapped = |counts: SideCounts| counts.numbered > 0
-            && counts.wrong_lan > counts.numbered / 2;
-        is_swapped(self.a) && is_swapped(self.b)
+    pub fn are_swapped(&self) -> bool
+        ensures { result ≡ are_swapped self.now }
+    {
+        is_swapped(&self.a) && is_swapped(&self.b)
     }
 }

@@ -1,6 +1,6 @@
 //! What a packet is to an audit.
 
-use crate::network::Network;
+use crate::network::{Network, Tap};
 use sr_audit::Side;
 use sr_capture::{Extent, MAX_KEPT, Packet};
 use sr_forwarding::{Framing, HsrFraming, ParcelView, PrpFraming};
@@ -23,6 +23,8 @@ pub(crate) struct Numbered {
     pub src: Mac,
     /// Its number.
     pub seq: Seq,
+    /// The side where it came in.
+    pub side: Side,
     /// Whether its trailer names the other LAN.
     pub is_astray: bool,
     /// The sign of life that it is, if it is one.
@@ -67,8 +69,18 @@ fn sign_of(parcel: &ParcelView<'_>) -> Option<Sign> {
     }
 }
 
+/// The side that a frame itself names: by the LAN of its trailer, which was read as one of LAN A, or by the lowest bit of the path of
+/// its tag.
+fn named_side(network: Network, parcel: &ParcelView<'_>) -> Side {
+    let is_b = match network {
+        Network::Prp => parcel.wrong_lan(),
+        Network::Hsr => parcel.path() % 2 == 1,
+    };
+    if is_b { Side::B } else { Side::A }
+}
+
 /// What a parcel with a number says. None: it has none.
-fn number_in(parcel: &ParcelView<'_>) -> Option<Numbered> {
+fn number_in(network: Network, tap: Tap, parcel: &ParcelView<'_>) -> Option<Numbered> {
     let seq = parcel.seq()?;
     let header = parcel.header();
     let sign = if header.supervision {
@@ -76,31 +88,39 @@ fn number_in(parcel: &ParcelView<'_>) -> Option<Numbered> {
     } else {
         None
     };
+    let (side, is_astray) = match tap {
+        Tap::Side(side) => (side, parcel.wrong_lan()),
+        Tap::Mirror => (named_side(network, parcel), false),
+    };
     Some(Numbered {
         src: header.src,
         seq,
-        is_astray: parcel.wrong_lan(),
+        side,
+        is_astray,
         sign,
     })
 }
 
-/// What the octets of a frame are at a side.
-fn frame_kind(network: Network, side: Side, octets: &[u8]) -> Kind {
-    let parcel = match (network, side) {
-        (Network::Prp, Side::A) => PrpFraming {
-            lan: Lan::A,
+/// The LAN whose trailers are expected in a capture. At a mirror port all are read as those of LAN A, and those of LAN B say so.
+fn lan_of(tap: Tap) -> Lan {
+    match tap {
+        Tap::Side(Side::B) => Lan::B,
+        Tap::Side(Side::A) | Tap::Mirror => Lan::A,
+    }
+}
+
+/// What the octets of a frame are in a capture.
+fn frame_kind(network: Network, tap: Tap, octets: &[u8]) -> Kind {
+    let parcel = match network {
+        Network::Prp => PrpFraming {
+            lan: lan_of(tap),
             net: 0,
         }
         .read(octets),
-        (Network::Prp, Side::B) => PrpFraming {
-            lan: Lan::B,
-            net: 0,
-        }
-        .read(octets),
-        (Network::Hsr, _) => HsrFraming { path: 0 }.read(octets),
+        Network::Hsr => HsrFraming { path: 0 }.read(octets),
     };
     match parcel {
-        Ok(parcel) => match number_in(&parcel) {
+        Ok(parcel) => match number_in(network, tap, &parcel) {
             Some(numbered) => Kind::Numbered(numbered),
             None if octets.ends_with(&[0x88, 0xFB]) => Kind::Misfit,
             None => Kind::Plain,
@@ -109,8 +129,8 @@ fn frame_kind(network: Network, side: Side, octets: &[u8]) -> Kind {
     }
 }
 
-/// What a packet is at a side.
-pub(crate) fn kind_of(network: Network, side: Side, packet: &Packet) -> Kind {
+/// What a packet is in a capture.
+pub(crate) fn kind_of(network: Network, tap: Tap, packet: &Packet) -> Kind {
     if packet.extent == Extent::Cut {
         Kind::Cut
     } else if packet.len > MAX_KEPT as u64 {
@@ -118,6 +138,6 @@ pub(crate) fn kind_of(network: Network, side: Side, packet: &Packet) -> Kind {
     } else if packet.len == 0 {
         Kind::Empty
     } else {
-        frame_kind(network, side, packet.octets.as_slice())
+        frame_kind(network, tap, packet.octets.as_slice())
     }
 }

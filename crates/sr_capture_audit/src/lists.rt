@@ -1,14 +1,14 @@
 //! Lists of single frames and copies.
 
-use crate::fault::AuditFault;
 use crate::kind::{Kind, kind_of};
-use crate::network::Network;
+use crate::network::{Ports, Subject};
 use crate::passing::{Pass, Place, pass_over};
-use crate::shown::{Millis, Nanos};
+use crate::rows::{Field, Format, Value, bare, count, named, print_names, print_row};
 use sr_audit::{Arrival, Copied, Listed, Listing, Side, Spans};
 use sr_capture::Packet;
-use sr_capture_script::{Captures, Choice};
+use sr_capture_script::{Captures, Choice, ScriptFault};
 use sr_frame::Mac;
+use sr_sequence::Seq;
 use sr_slots::Keys;
 use std::alloc::Global;
 use std::io::{BufRead, Write};
@@ -24,6 +24,37 @@ pub struct Lists {
     pub pairs: bool,
 }
 
+impl Lists {
+    /// Nothing is listed.
+    pub const NONE: Lists = Lists {
+        lost: false,
+        wrong: false,
+        pairs: false,
+    };
+
+    /// Whether something is listed.
+    pub fn is_some(self) -> bool {
+        self.lost || self.wrong || self.pairs
+    }
+
+    /// Whether at most one list is wanted.
+    pub fn is_one_at_most(self) -> bool {
+        let both = self.lost && self.wrong;
+        let others = self.pairs && (self.lost || self.wrong);
+        !both && !others
+    }
+}
+
+/// How lists are printed.
+#[derive(Clone, Copy)]
+struct Style {
+    format: Format,
+    ports: Ports,
+    lists: Lists,
+    /// Whether nothing was printed before.
+    is_first: bool,
+}
+
 /// The letter of a side.
 fn letter_of(side: Side) -> &'static str {
     match side {
@@ -32,55 +63,88 @@ fn letter_of(side: Side) -> &'static str {
     }
 }
 
-/// Prints a list line, if it is wanted.
-fn print_listed<W: Write>(writer: &mut W, lists: Lists, listed: Listed) -> Result<(), AuditFault> {
+/// The name of the capture of a side.
+fn capture_of(ports: Ports, side: Side) -> &'static str {
+    match ports {
+        Ports::Two => letter_of(side),
+        Ports::Mirror => "mirror",
+    }
+}
+
+/// The line of a copy. A table has the time first.
+fn copy_fields(style: Style, lan: Side, copy: Copied) -> [Field; 6] {
+    let arrival = copy.arrival;
+    let lan = bare("lan", Value::Word(letter_of(lan)));
+    let source = bare("source", Value::Mac(copy.src));
+    let number = count("number", u64::from(arrival.seq.0));
+    let time = named("at", "at_ms", Value::Time(Some(arrival.time)));
+    let capture = Value::Word(capture_of(style.ports, arrival.side));
+    let capture = named("packet", "capture", capture);
+    let packet = bare("packet", Value::Count(copy.packet));
+    match style.format {
+        Format::Csv => [time, source, number, lan, capture, packet],
+        Format::Text | Format::Json => [lan, source, number, time, capture, packet],
+    }
+}
+
+/// The line of a pair whose second copy came then. A table has the time first.
+fn pair_fields(format: Format, first: Copied, second: u64) -> [Field; 4] {
+    let arrival = first.arrival;
+    let skew = i128::from(second) - i128::from(arrival.time);
+    let source = bare("source", Value::Mac(first.src));
+    let number = count("number", u64::from(arrival.seq.0));
+    let time = named("at", "at_ms", Value::Time(Some(arrival.time)));
+    let skew = named("skew_us", "skew_us", Value::Skew(Some(skew)));
+    match format {
+        Format::Csv => [time, source, number, skew],
+        Format::Text | Format::Json => [source, number, time, skew],
+    }
+}
+
+/// Prints the line of a frame, if it is wanted.
+fn print_listed<W: Write>(writer: &mut W, style: Style, listed: Listed) -> Result<(), ScriptFault> {
     match listed {
-        Listed::Lost(copy) if lists.lost => {
-            let letter = letter_of(copy.arrival.side.other());
-            print_copy(writer, "lost", letter, copy)
+        Listed::Lost(copy) if style.lists.lost => {
+            let fields = copy_fields(style, copy.arrival.side.other(), copy);
+            print_row(writer, style.format, "lost", &fields)
         }
-        Listed::Pair(first, second) if lists.pairs => {
-            let Copied { src, arrival, .. } = first;
-            let number = arrival.seq.0;
-            let time = Millis(arrival.time);
-            let skew = Nanos(i128::from(second) - i128::from(arrival.time));
-            writeln!(
-                writer,
-                "pair {src} number {number} at {time} skew_us {skew}"
-            )?;
-            Ok(())
+        Listed::Pair(first, second) if style.lists.pairs => {
+            let fields = pair_fields(style.format, first, second);
+            print_row(writer, style.format, "pair", &fields)
         }
         _ => Ok(()),
     }
 }
 
-/// Prints the line of a copy.
-fn print_copy<W: Write>(
-    writer: &mut W,
-    word: &str,
-    letter: &str,
-    copy: Copied,
-) -> Result<(), AuditFault> {
-    let Copied {
-        src,
-        arrival,
-        packet,
-    } = copy;
-    let number = arrival.seq.0;
-    let time = Millis(arrival.time);
-    let came = letter_of(arrival.side);
-    writeln!(
-        writer,
-        "{word} {letter} {src} number {number} at {time} packet {came} {packet}"
-    )?;
-    Ok(())
+/// The copy of no frame, by whose line a table's names are known.
+const NO_COPY: Copied = Copied {
+    src: Mac([0; 6]),
+    arrival: Arrival {
+        side: Side::A,
+        seq: Seq(0),
+        time: 0,
+    },
+    packet: 0,
+};
+
+/// Prints the names of the table of a list.
+fn print_list_names<W: Write>(writer: &mut W, style: Style) -> Result<(), ScriptFault> {
+    match style.format {
+        _ if !style.is_first => Ok(()),
+        Format::Csv if style.lists.pairs => print_names(
+            writer,
+            &pair_fields(Format::Csv, NO_COPY, 0),
+        ),
+        Format::Csv => print_names(writer, &copy_fields(style, Side::A, NO_COPY)),
+        Format::Text | Format::Json => Ok(()),
+    }
 }
 
 /// Packets that are listed as they come.
 #[derive(Drop)]
 struct Listings<'a, W> {
-    network: Network,
-    lists: Lists,
+    subject: Subject,
+    style: Style,
     listing: Listing,
     decided: Vec<Listed>,
     writer: &'a mut W,
@@ -88,50 +152,52 @@ struct Listings<'a, W> {
 
 impl<W: Write> Listings<'_, W> {
     /// Prints what is decided.
-    fn print(&mut self) -> Result<(), AuditFault> {
+    fn print(&mut self) -> Result<(), ScriptFault> {
         let Listings {
-            lists,
+            style,
             decided,
             writer,
             ..
         } = self;
         for listed in decided.iter() {
-            print_listed(*writer, *lists, *listed)?;
+            print_listed(*writer, *style, *listed)?;
         }
         decided.clear();
         Ok(())
     }
 
     /// Prints what is decided at the end of a source's arrivals.
-    fn finish(&mut self, src: Mac) -> Result<(), AuditFault> {
+    fn finish(&mut self, src: Mac) -> Result<(), ScriptFault> {
         self.listing.finish(src, &mut self.decided)?;
         self.print()
     }
 }
 
 impl<W: Write> Pass for Listings<'_, W> {
-    fn take(&mut self, place: Place, packet: &Packet) -> Result<(), AuditFault> {
-        let Kind::Numbered(numbered) = kind_of(self.network, place.side, packet) else {
+    fn take(&mut self, place: Place, packet: &Packet) -> Result<(), ScriptFault> {
+        let Kind::Numbered(numbered) = kind_of(self.subject.network, place.tap, packet) else {
             return Ok(());
         };
         let copy = Copied {
             src: numbered.src,
             arrival: Arrival {
-                side: place.side,
+                side: numbered.side,
                 seq: numbered.seq,
                 time: place.time,
             },
             packet: place.number,
         };
-        if self.lists.wrong && numbered.is_astray {
-            print_copy(self.writer, "wrong_lan", letter_of(place.side), copy)?;
+        if self.style.is_first && self.style.lists.wrong && numbered.is_astray {
+            let fields = copy_fields(self.style, numbered.side, copy);
+            print_row(self.writer, self.style.format, "wrong_lan", &fields)?;
         }
         self.listing.note(copy, &mut self.decided)?;
         self.print()
     }
 }
 
-/// Prints the lists of captures whose spans are known, each line as it is decided.
+/// Prints the lists of captures whose spans are known, each line as it is decided: the frames of the sources from one on, and with the
+/// first source all copies with the other LAN's id.
 ///
 /// # Errors
 /// The fault of a file, `Write`, `NoMemory` or `Endless`.
@@ -140,19 +206,28 @@ pub fn print_lists<R: BufRead + Drop, W: Write>(
     keys: Keys,
     captures: &mut Captures<R>,
     choice: &Choice,
-    network: Network,
+    subject: Subject,
     spans: Spans,
+    first: usize,
     lists: Lists,
+    format: Format,
     writer: &mut W,
-) -> Result<(), AuditFault> {
-    let mut listings = Listings {
-        network,
+) -> Result<(), ScriptFault> {
+    let style = Style {
+        format,
+        ports: subject.ports,
         lists,
-        listing: Listing::new(alloc, keys, spans),
+        is_first: first == 0,
+    };
+    print_list_names(writer, style)?;
+    let mut listings = Listings {
+        subject,
+        style,
+        listing: Listing::new(alloc, keys, spans, first),
         decided: Vec::new(alloc),
         writer,
     };
-    pass_over(captures, choice, &mut listings)?;
+    pass_over(captures, choice, subject.ports, &mut listings)?;
     let addresses = listings.listing.addresses()?;
     for at in 0..addresses.len() {
         listings.finish(addresses[at])?;

@@ -1,4 +1,6 @@
-//! The kinds of redundant networks.
+//! The kinds of redundant networks, and of captures of them.
+
+use sr_audit::Side;
 
 /// How frames of a network have their numbers.
 #[derive(Clone, Copy, Debug, PartialEq, Eq)]
@@ -7,4 +9,31 @@ pub enum Network {
     Prp,
     /// By a tag, in an HSR ring (IEC 62439-3 clause 5).
     Hsr,
+}
+
+/// Where the captures were made.
+#[derive(Clone, Copy, Debug, PartialEq, Eq)]
+pub enum Ports {
+    /// One at each side.
+    Two,
+    /// One at a mirror port, which sees the frames of both sides.
+    Mirror,
+}
+
+/// Where one capture was made.
+#[derive(Clone, Copy, Debug, PartialEq, Eq)]
+pub(crate) enum Tap {
+    /// At a side.
+    Side(Side),
+    /// At a mirror port.
+    Mirror,
+}
+
+/// What is audited.
+#[derive(Clone, Copy, Debug, PartialEq, Eq)]
+pub struct Subject {
+    /// How frames have their numbers.
+    pub network: Network,
+    /// Where the captures were made.
+    pub ports: Ports,
 }

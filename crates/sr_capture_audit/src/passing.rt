@@ -1,9 +1,9 @@
 //! Going over the packets of captures.
 
-use crate::fault::AuditFault;
+use crate::network::{Ports, Tap};
 use sr_audit::Side;
 use sr_capture::Packet;
-use sr_capture_script::{Captures, Choice, Inlet};
+use sr_capture_script::{Captures, Choice, Inlet, ScriptFault};
 use std::io::BufRead;
 
 /// The nanoseconds of a millisecond.
@@ -12,8 +12,8 @@ const MILLISECOND: u64 = 1_000_000;
 /// Where and when a packet came in.
 #[derive(Clone, Copy)]
 pub(crate) struct Place {
-    /// The side of its capture.
-    pub side: Side,
+    /// Where its capture was made.
+    pub tap: Tap,
     /// Its number there, from 1 on.
     pub number: u64,
     /// Its time, in nanoseconds from the earliest packet on.
@@ -26,7 +26,7 @@ pub(crate) trait Pass {
     ///
     /// # Errors
     /// What ends the pass early.
-    fn take(&mut self, place: Place, packet: &Packet) -> Result<(), AuditFault>;
+    fn take(&mut self, place: Place, packet: &Packet) -> Result<(), ScriptFault>;
 }
 
 /// Whether packets of this time are wanted.
@@ -35,12 +35,13 @@ fn is_wanted(choice: &Choice, time: u64) -> bool {
     choice.from <= time && time <= choice.to.unwrap_or(time)
 }
 
-/// The side of an inlet. None: it is no side of a network.
-fn side_of(inlet: Inlet) -> Option<Side> {
-    match inlet {
-        Inlet::A => Some(Side::A),
-        Inlet::B => Some(Side::B),
-        Inlet::C => None,
+/// Where the capture of an inlet was made. None: it is none of an audit.
+fn tap_of(ports: Ports, inlet: Inlet) -> Option<Tap> {
+    match (ports, inlet) {
+        (Ports::Two, Inlet::A) => Some(Tap::Side(Side::A)),
+        (Ports::Two, Inlet::B) => Some(Tap::Side(Side::B)),
+        (Ports::Mirror, Inlet::A) => Some(Tap::Mirror),
+        _ => None,
     }
 }
 
@@ -51,8 +52,9 @@ fn side_of(inlet: Inlet) -> Option<Side> {
 pub(crate) fn pass_over<R: BufRead + Drop, P: Pass>(
     captures: &mut Captures<R>,
     choice: &Choice,
+    ports: Ports,
     pass: &mut P,
-) -> Result<(), AuditFault> {
+) -> Result<(), ScriptFault> {
     let mut base: Option<u64> = None;
     for _ in 0..u64::MAX {
         let Some(front) = captures.front() else {
@@ -61,10 +63,10 @@ pub(crate) fn pass_over<R: BufRead + Drop, P: Pass>(
         let start = base.unwrap_or(front.moment);
         base = Some(start);
         let time = front.moment.saturating_sub(start);
-        if let Some(side) = side_of(front.inlet) {
+        if let Some(tap) = tap_of(ports, front.inlet) {
             if is_wanted(choice, time) {
                 let place = Place {
-                    side,
+                    tap,
                     number: front.number,
                     time,
                 };
@@ -73,5 +75,5 @@ pub(crate) fn pass_over<R: BufRead + Drop, P: Pass>(
         }
         captures.advance(front.inlet)?;
     }
-    Err(AuditFault::Endless)
+    Err(ScriptFault::Endless)
 }

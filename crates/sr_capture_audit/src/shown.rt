@@ -14,27 +14,11 @@ impl fmt::Display for Millis {
     }
 }
 
-/// Milliseconds as of [`Millis`], or `none`.
-#[derive(Clone, Copy)]
-pub(crate) struct OrNone(pub Option<u64>);
-
-impl fmt::Display for OrNone {
-    fn fmt<W: fmt::Write>(&self, f: &mut fmt::Formatter<W>) -> fmt::Result {
-        match self.0 {
-            Some(time) => {
-                let time = Millis(time);
-                write!(f, "{time}")
-            }
-            None => f.write_str("none"),
-        }
-    }
-}
-
 /// A difference of times in nanoseconds, shown in microseconds with three digits behind the point.
 #[derive(Clone, Copy)]
-pub(crate) struct Nanos(pub i128);
+pub(crate) struct Micros(pub i128);
 
-impl fmt::Display for Nanos {
+impl fmt::Display for Micros {
     fn fmt<W: fmt::Write>(&self, f: &mut fmt::Formatter<W>) -> fmt::Result {
         let size = self.0.unsigned_abs();
         let sign = if self.0 < 0 { "-" } else { "" };

@@ -1,0 +1,163 @@
+//! The lines of captures and sources.
+
+use crate::counts::SideCounts;
+use crate::rows::{Field, Format, Value, bare, count, named, print_names, print_row};
+use sr_audit::{Alive, Figures, Skews, Source, Span};
+use sr_capture_script::ScriptFault;
+use sr_frame::Mac;
+use std::io::Write;
+
+/// The line of a capture.
+fn capture_fields(name: &'static str, counts: &SideCounts, span: Option<Span>) -> [Field; 11] {
+    let from = Value::Time(span.map(|span| span.first));
+    let to = Value::Time(span.map(|span| span.last));
+    [
+        bare("capture", Value::Word(name)),
+        count("packets", counts.packets),
+        count("numbered", counts.numbered),
+        count("plain", counts.plain),
+        count("misfit", counts.misfit),
+        count("wrong_lan", counts.wrong_lan),
+        count("cut", counts.cut),
+        count("long", counts.long),
+        count("empty", counts.empty),
+        named("from", "from_ms", from),
+        named("to", "to_ms", to),
+    ]
+}
+
+/// The line `source`.
+fn source_fields(mac: Mac, figures: &Figures) -> [Field; 15] {
+    let tally = figures.tally;
+    let only = figures.only();
+    [
+        bare("source", Value::Mac(mac)),
+        count("rx_a", tally.rx.a),
+        count("rx_b", tally.rx.b),
+        count("pairs", tally.pairs),
+        count("only_a", only.a),
+        count("only_b", only.b),
+        count("edge_a", figures.edges.a),
+        count("edge_b", figures.edges.b),
+        count("neither", figures.neither),
+        count("repeat_a", tally.repeats.a),
+        count("repeat_b", tally.repeats.b),
+        count("order_a", figures.order.a),
+        count("order_b", figures.order.b),
+        count("jumps", figures.jumps),
+        count("restarts", figures.restarts),
+    ]
+}
+
+/// The line `skew`.
+fn skew_fields(mac: Mac, skews: &Skews) -> [Field; 12] {
+    let mean = skews.mean();
+    let least = mean.map(|_| skews.least);
+    let greatest = mean.map(|_| skews.greatest);
+    let [a, b, c, d, e, f, over] = skews.classes;
+    [
+        bare("source", Value::Mac(mac)),
+        count("pairs", skews.count),
+        named("least_us", "least_us", Value::Skew(least)),
+        named("mean_us", "mean_us", Value::Skew(mean)),
+        named("greatest_us", "greatest_us", Value::Skew(greatest)),
+        count("under_10us", a),
+        count("under_100us", b),
+        count("under_1ms", c),
+        count("under_10ms", d),
+        count("under_100ms", e),
+        count("under_400ms", f),
+        count("over", over),
+    ]
+}
+
+/// The line `alive`.
+fn alive_fields(mac: Mac, alive: &Alive) -> [Field; 6] {
+    [
+        bare("source", Value::Mac(mac)),
+        count("type", u64::from(alive.kind)),
+        count("rx_a", alive.a.rx),
+        count("rx_b", alive.b.rx),
+        named("gap_a", "gap_a_ms", Value::Time(alive.a.gap)),
+        named("gap_b", "gap_b_ms", Value::Time(alive.b.gap)),
+    ]
+}
+
+/// Prints the line of a capture.
+pub(crate) fn print_capture<W: Write>(
+    writer: &mut W,
+    format: Format,
+    name: &'static str,
+    counts: &SideCounts,
+    span: Option<Span>,
+) -> Result<(), ScriptFault> {
+    print_row(
+        writer,
+        format,
+        "capture",
+        &capture_fields(name, counts, span),
+    )
+}
+
+/// Prints the lines of a source: that of the skews where there is a pair, and that of supervision frames where some came.
+pub(crate) fn print_source<W: Write>(
+    writer: &mut W,
+    format: Format,
+    mac: Mac,
+    source: &Source,
+) -> Result<(), ScriptFault> {
+    let figures = source.figures();
+    print_row(writer, format, "source", &source_fields(mac, &figures))?;
+    if figures.skews.count > 0 {
+        print_row(writer, format, "skew", &skew_fields(mac, &figures.skews))?;
+    }
+    match source.alive() {
+        Some(alive) => print_row(writer, format, "alive", &alive_fields(mac, &alive)),
+        None => Ok(()),
+    }
+}
+
+/// A line of the table of sources: the values of the line `source`, and behind them those of the line `skew`.
+fn table_fields(mac: Mac, figures: &Figures) -> [Field; 25] {
+    let [
+        source,
+        rx_a,
+        rx_b,
+        pairs,
+        only_a,
+        only_b,
+        edge_a,
+        edge_b,
+        neither,
+        repeat_a,
+        repeat_b,
+        order_a,
+        order_b,
+        jumps,
+        restarts,
+    ] = source_fields(mac, figures);
+    let [_, _, least, mean, greatest, a, b, c, d, e, f, over] = skew_fields(mac, &figures.skews);
+    [
+        source, rx_a, rx_b, pairs, only_a, only_b, edge_a, edge_b, neither, repeat_a, repeat_b,
+        order_a, order_b, jumps, restarts, least, mean, greatest, a, b, c, d, e, f, over,
+    ]
+}
+
+/// Prints the names of the table of sources.
+pub(crate) fn print_table_names<W: Write>(writer: &mut W) -> Result<(), ScriptFault> {
+    print_names(writer, &table_fields(Mac([0; 6]), &Figures::NONE))
+}
+
+/// Prints the line of a source in the table of sources.
+pub(crate) fn print_table_row<W: Write>(
+    writer: &mut W,
+    mac: Mac,
+    source: &Source,
+) -> Result<(), ScriptFault> {
+    print_row(
+        writer,
+        Format::Csv,
+        "source",
+        &table_fields(mac, &source.figures()),
+    )
+}
