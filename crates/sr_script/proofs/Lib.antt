@@ -4,3 +4,4 @@ pub mod Arrivals
 pub mod StatusLines
 pub mod BegunRuns
 pub mod HostLines
+pub mod CountedRuns

@@ -7,3 +7,6 @@ pub mod Replies
 pub mod StatusTexts
 pub mod Statuses
 pub mod Reports
+pub mod Counts
+pub mod CountTexts
+pub mod Tallies

@@ -73,7 +73,7 @@ pub fn append_refusal(text: &mut Text, number: u64, name: &str) -> Result<(), Wo
 
 /// Octets come in at a port.
 #[inline(always)]
-fn arrive<R: Role>(
+pub(crate) fn arrive<R: Role>(
     role: RoleName,
     node: &mut NodeOf<R>,
     port: Port,
@@ -96,8 +96,16 @@ fn arrive<R: Role>(
     }
 }
 
-/// The host sends octets. Their list becomes the frame, and is a new one then. It stands apart, as `tick` does, so that a frame
-/// that comes in clears no room for an event.
+/// The list of the octets that the host sent; a new one of any other event.
+fn list_of(alloc: Global, event: Event) -> Vec<u8> {
+    match event {
+        Event::Send { frame, .. } => frame.into_octets(),
+        Event::Arrive { .. } | Event::Tick { .. } | Event::Take { .. } => Vec::new(alloc),
+    }
+}
+
+/// The host sends octets. Their list is the frame's until the node has answered, so that the next line finds its memory again. It
+/// stands apart, as `tick` does, so that a frame that comes in clears no room for an event.
 #[inline(never)]
 fn send<R: Role>(
     alloc: Global,
@@ -121,7 +129,10 @@ fn send<R: Role>(
         Err(_) => return Err(StepFault::Reading(ReadFault::TooShort)),
     }
     let frame = Frame::of(std::mem::replace(octets, Vec::new(alloc)));
-    node.step(&Event::Send { frame, now: time })
+    let event = Event::Send { frame, now: time };
+    let answer = node.step(&event);
+    *octets = list_of(alloc, event);
+    answer
 }
 
 /// Time passes.
@@ -140,7 +151,7 @@ fn tick<R: Role>(node: &mut NodeOf<R>, now: u64) -> Result<Answer, StepFault>
 }
 
 /// Appends the line for an event that is refused for this reason.
-fn tell_refusal(text: &mut Text, number: u64, fault: StepFault) -> Result<(), Word>
+pub(crate) fn tell_refusal(text: &mut Text, number: u64, fault: StepFault) -> Result<(), Word>
     ensures ok { OnOk result ((name : List ℕ) × (name_of fault ≡ Some name)
         × (text.new ≡ text.old ++ refusal_line number name)) }
     ensures kept { OnErr result (StillHolds text.old text.new) }

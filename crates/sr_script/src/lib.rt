@@ -3,6 +3,8 @@
 
 mod answering;
 mod carriers;
+mod count_lines;
+mod counts;
 mod noting;
 mod printing;
 mod reading;
@@ -11,9 +13,13 @@ mod setups;
 mod starting;
 mod status;
 mod status_lines;
+mod tallies;
+mod tallying;
 
 pub use answering::{append_refusal, name_of};
+pub use counts::Counts;
 pub use reading::Command;
 pub use setups::{RoleName, Setup};
 pub use sr_redbox::PrpRouting;
 pub use starting::{run, run_status};
+pub use tallies::run_tally;

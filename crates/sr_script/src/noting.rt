@@ -29,7 +29,7 @@ fn drop_waiting<R: Role>(node: &mut NodeOf<R>, port: Port)
 }
 
 /// Takes all that waits, and keeps none of it.
-fn drop_all_waiting<R: Role>(node: &mut NodeOf<R>)
+pub(crate) fn drop_all_waiting<R: Role>(node: &mut NodeOf<R>)
     ensures { node_state (R.meaning node.new.role) node.new.core
         ≡ all_taken (node_state (R.meaning node.old.role) node.old.core) }
 {

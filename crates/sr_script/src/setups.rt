@@ -27,7 +27,7 @@ pub struct Setup {
     pub role: RoleName,
     /// The address of the node.
     pub mac: Mac,
-    /// Its mode.
+    /// Its mode, and how many numbers of a source it remembers.
     pub settings: Settings,
     /// The keys of its tables. Nothing that is printed depends on them.
     pub keys: Keys,

@@ -29,7 +29,11 @@ fn list_of(alloc: Global, count: usize) -> Result<Vec<u8>, AllocError> {
 }
 
 /// A new node over this role, ready for a script. An error where memory was refused.
-fn session_of<P: Role>(alloc: Global, setup: &Setup, role: P) -> Result<NodeSession<P>, NoMemory>
+pub(crate) fn session_of<P: Role>(
+    alloc: Global,
+    setup: &Setup,
+    role: P,
+) -> Result<NodeSession<P>, NoMemory>
     requires { P.meaning role ≡ role_of (kind_of setup.now.role) setup.now.mac }
     ensures { IfOk result (λ s. at_work s.role (node_state (P.meaning s.node.role) s.node.core)
         ≡ start_of setup.now) }
@@ -47,7 +51,7 @@ fn session_of<P: Role>(alloc: Global, setup: &Setup, role: P) -> Result<NodeSess
 }
 
 /// Has a session obey the script, and lets it go. It is over any session, so that its proof doesn't go through what a node lets go.
-fn run_owned<S: Session + Drop, R: BufRead, W: Write>(
+pub(crate) fn run_owned<S: Session + Drop, R: BufRead, W: Write>(
     alloc: Global,
     mut session: S,
     reader: &mut R,

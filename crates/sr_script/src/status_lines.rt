@@ -72,7 +72,7 @@ fn append_node(text: &mut Vec<u8>, status: &Status) -> Result<(), Word>
 }
 
 /// The name of a port.
-fn name_of(port: Port) -> &'static str
+pub(crate) fn name_of(port: Port) -> &'static str
     ensures { result.now ≡ letter_of port }
 {
     match port {

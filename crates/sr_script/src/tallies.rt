@@ -1,0 +1,133 @@
+//! A script of events at a node: at the end it is told what the node knows of other nodes, and what was counted of the lines.
+
+ghost use Rattle.std.specs.Prelude.{◌≡◌, ◌⊎◌, IfErr, OnOk, IfSome};
+ghost use Rattle.sr_forwarding.specs.RoleImages.{role_of};
+ghost use Rattle.sr_session.specs.Lines.{lines_of};
+ghost use Rattle.sr_session.specs.Runs.{IsAnswered, EndsAt, IsNotBegun};
+ghost use Rattle.sr_script.specs.Stations.{kind_of};
+ghost use Rattle.sr_script.specs.Tallies.{tally_dialogue, tally_start};
+
+use crate::count_lines::append_counts;
+use crate::counts::Counts;
+use crate::replaying::NodeSession;
+use crate::setups::{RoleName, Setup};
+use crate::starting::{run_owned, session_of};
+use crate::status_lines::tell_status;
+use crate::tallying::tally;
+use sr_forwarding::{Danh, Danp, Role};
+use sr_frame::NoMemory;
+use sr_redbox::{HsrBox, HsrRouting, PrpBox, SanBox};
+use sr_session::{Fault, NOT_BEGUN, Session, Word};
+use sr_text::Text;
+use std::alloc::Global;
+use std::io::{BufRead, Write};
+
+/// A node at work on a script, of whose lines frames and refusals are counted.
+#[derive(Drop)]
+struct TallySession<P: Role> {
+    at_work: NodeSession<P>,
+    counts: Counts,
+}
+
+impl<P: Role> Session for TallySession<P> {
+    ghost use Rattle.sr_node.specs.Images.{node_state};
+    ghost use Rattle.sr_script.specs.Stations.{at_work};
+    ghost use Rattle.sr_script.specs.Tallies.{Tally, with_counts, tally_dialogue};
+
+    ghost State = { Tally };
+
+    ghost state = { λ s. with_counts
+        (at_work s.at_work.role (node_state (P.meaning s.at_work.node.role) s.at_work.node.core))
+        s.counts };
+
+    ghost dialogue = { tally_dialogue };
+
+    fn answer(&mut self, number: u64, line: &[u8], text: &mut Text) -> Result<(), Word> {
+        let at_work = &mut self.at_work;
+        tally(
+            at_work.alloc,
+            at_work.role,
+            &mut at_work.node,
+            &mut self.counts,
+            number,
+            line,
+            &mut at_work.octets,
+            text,
+        )
+    }
+
+    fn finish(&mut self, text: &mut Vec<u8>) -> Result<(), Word> {
+        tell_status(&self.at_work.node, text)?;
+        append_counts(text, self.at_work.role, &self.at_work.node, &self.counts)
+    }
+}
+
+/// Has a new node over this role obey the script, and counts its lines.
+fn tally_over<P: Role, R: BufRead, W: Write>(
+    alloc: Global,
+    setup: &Setup,
+    role: P,
+    reader: &mut R,
+    writer: &mut W,
+) -> Result<(), Fault>
+    requires { P.meaning role ≡ role_of (kind_of setup.now.role) setup.now.mac }
+    ensures done { OnOk result (IfSome (R.remaining reader.old) (λ input.
+        IsAnswered tally_dialogue (tally_start setup.now) (lines_of input)
+        (W.contents writer.old) (W.contents writer.new))) }
+    ensures ended { IfErr result (λ fault.
+        IsNotBegun fault (R.remaining reader.old) (R.remaining reader.new) (W.contents writer.old)
+        (W.contents writer.new)
+        ⊎ IfSome (R.remaining reader.old) (λ input.
+        EndsAt tally_dialogue (tally_start setup.now) (lines_of input) fault
+        (R.remaining reader.new) (W.contents writer.old) (W.contents writer.new))) }
+{
+    match session_of(alloc, setup, role) {
+        Ok(at_work) => {
+            let counts = Counts::none();
+            run_owned(alloc, TallySession { at_work, counts }, reader, writer)
+        }
+        Err(NoMemory) => Err(NOT_BEGUN),
+    }
+}
+
+/// Runs the script that the reader has left on a new node, as `run_status` does. Behind the status it writes what was counted:
+/// a line for each port at which frames come in, with how many came, how many of them had the other LAN's id, and how many
+/// were refused; and one with how many of these the table of sources had no place for, where there were some.
+///
+/// # Errors
+/// Those of `run_status`.
+pub fn run_tally<R: BufRead, W: Write>(
+    alloc: Global,
+    setup: &Setup,
+    reader: &mut R,
+    writer: &mut W,
+) -> Result<(), Fault>
+    // All lines are lines of a script, and what is written is the refusals of them, and then the status and the counts.
+    ensures done { OnOk result (IfSome (R.remaining reader.old) (λ input. IsAnswered tally_dialogue
+        (tally_start setup.now) (lines_of input) (W.contents writer.old) (W.contents writer.new))) }
+
+    // Memory was refused before anything was read. Or the lines before that of the fault are answered, and that line has this fault.
+    ensures ended { IfErr result (λ fault.
+        IsNotBegun fault (R.remaining reader.old) (R.remaining reader.new) (W.contents writer.old)
+        (W.contents writer.new)
+        ⊎ IfSome (R.remaining reader.old) (λ input.
+        EndsAt tally_dialogue (tally_start setup.now) (lines_of input) fault
+        (R.remaining reader.new) (W.contents writer.old) (W.contents writer.new))) }
+{
+    match setup.role {
+        RoleName::Danp => tally_over(alloc, setup, Danp::new(setup.mac), reader, writer),
+        RoleName::Danh => tally_over(alloc, setup, Danh::new(setup.mac), reader, writer),
+        RoleName::San => {
+            let san = SanBox::with_keys(alloc, setup.mac, setup.keys);
+            tally_over(alloc, setup, san, reader, writer)
+        }
+        RoleName::Prp(routing) => {
+            let prp = PrpBox::of(setup.mac, routing);
+            tally_over(alloc, setup, prp, reader, writer)
+        }
+        RoleName::Hsr => {
+            let hsr = HsrBox::of(setup.mac, HsrRouting);
+            tally_over(alloc, setup, hsr, reader, writer)
+        }
+    }
+}
