@@ -7,11 +7,13 @@ _seamless() {
     "replay --lan") words="a b" ;;
     "replay --net") ;;
     "replay --mode") words="h x" ;;
+    "replay --window") words="1024 2048" ;;
     "status --role") words="danp danh san prp hsr" ;;
     "status --mac") ;;
     "status --lan") words="a b" ;;
     "status --net") ;;
     "status --mode") words="h x" ;;
+    "status --window") words="1024 2048" ;;
     "script --a") COMPREPLY=($(compgen -f -- "$2")) && return ;;
     "script --b") COMPREPLY=($(compgen -f -- "$2")) && return ;;
     "script --c") COMPREPLY=($(compgen -f -- "$2")) && return ;;
@@ -24,6 +26,7 @@ _seamless() {
     "script --tick") ;;
     "audit --a") COMPREPLY=($(compgen -f -- "$2")) && return ;;
     "audit --b") COMPREPLY=($(compgen -f -- "$2")) && return ;;
+    "audit --mirror") COMPREPLY=($(compgen -f -- "$2")) && return ;;
     "audit --network") words="prp hsr" ;;
     "audit --shift-a") ;;
     "audit --shift-b") ;;
@@ -31,19 +34,22 @@ _seamless() {
     "audit --from") ;;
     "audit --to") ;;
     "audit --list") ;;
+    "audit --format") words="text json csv" ;;
     "ring --nodes") ;;
     "ring --mode") words="h x" ;;
+    "ring --window") words="1024 2048" ;;
     "lan --nodes") ;;
     "lan --mode") words="h x" ;;
+    "lan --window") words="1024 2048" ;;
     *)
         case "$COMP_CWORD ${COMP_WORDS[1]}" in
         "1 "*) words="replay status script audit ring lan --help --version" ;;
-        *" replay") words="--role --mac --lan --net --mode --help" ;;
-        *" status") words="--role --mac --lan --net --mode --help" ;;
+        *" replay") words="--role --mac --lan --net --mode --window --help" ;;
+        *" status") words="--role --mac --lan --net --mode --window --counters --help" ;;
         *" script") words="--a --b --c --shift-a --shift-b --shift-c --fcs --from --to --tick --help" ;;
-        *" audit") words="--a --b --network --shift-a --shift-b --fcs --from --to --list --check --help" ;;
-        *" ring") words="--nodes --mode --help" ;;
-        *" lan") words="--nodes --mode --help" ;;
+        *" audit") words="--a --b --mirror --network --shift-a --shift-b --fcs --from --to --list --format --check --help" ;;
+        *" ring") words="--nodes --mode --window --help" ;;
+        *" lan") words="--nodes --mode --window --help" ;;
         esac
         ;;
     esac

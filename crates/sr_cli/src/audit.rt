@@ -3,12 +3,12 @@
 use crate::audit_line::AuditTask;
 use crate::pipes::Pipe;
 use crate::progress::Progress;
-use crate::script::{Opened, open_file, tell_file};
-use sr_audit::{Span, Spans};
+use crate::script::{Opened, open_file, tell_ended};
+use sr_audit::{LISTED_AT_ONCE, MOST_SOURCES, Span, Spans};
 use sr_capture_audit::{
-    AuditFault, Network, Report, SideCounts, figures_of, hint_of, print_lists, spans_of,
+    Counts, Format, Network, Ports, Report, SideCounts, figures_of, hint_of, print_lists, spans_of,
 };
-use sr_capture_script::{Captures, Inlet};
+use sr_capture_script::{Captures, Inlet, ScriptFault};
 use sr_slots::Keys;
 use std::io::{self, BufWriter, Write};
 use std::random::RandomSource;
@@ -20,19 +20,18 @@ const RUN_FAILED: u8 = 1;
 /// The exit status where the network has faults, and the status was to tell.
 const HAS_FAULTS: u8 = 3;
 
-/// Says what ended an audit.
-fn tell<R: Eprint>(rt: &R, fault: AuditFault) {
-    match fault {
-        AuditFault::File(inlet, fault) => tell_file(rt, inlet, fault),
-        AuditFault::NoMemory => {
-            let _ = eprintln!(rt; "fault memory");
-        }
-        AuditFault::Write => {
-            let _ = eprintln!(rt; "fault write");
-        }
-        AuditFault::Endless => {
-            let _ = eprintln!(rt; "fault endless");
-        }
+/// What ended an audit early.
+#[derive(Clone, Copy)]
+enum Ended {
+    /// A capture could not be opened, of which standard error has been told.
+    Unopened,
+    /// This fault.
+    By(ScriptFault),
+}
+
+impl From<ScriptFault> for Ended {
+    fn from(fault: ScriptFault) -> Ended {
+        Ended::By(fault)
     }
 }
 
@@ -41,27 +40,36 @@ fn open<'a, R: AllocGlobal + Eprint + Files>(
     rt: &'a R,
     task: &AuditTask<'_>,
     progress: Progress,
-) -> Result<Captures<Opened<'a, R>>, u8> {
+) -> Result<Captures<Opened<'a, R>>, Ended> {
     let interfaces = task.options.interfaces;
     let Ok(a) = open_file(rt, Inlet::A, task.a, interfaces.a, progress) else {
-        return Err(RUN_FAILED);
+        return Err(Ended::Unopened);
     };
     let Ok(b) = open_file(rt, Inlet::B, task.b, interfaces.b, progress) else {
-        return Err(RUN_FAILED);
+        return Err(Ended::Unopened);
     };
     match Captures::open(rt.alloc(), a, b, None, &task.options) {
         Ok(captures) => Ok(captures),
-        Err(fault) => {
-            tell(rt, AuditFault::from(fault));
-            Err(RUN_FAILED)
-        }
+        Err(fault) => Err(Ended::By(fault)),
     }
 }
 
 /// Says what looks wrong in a capture.
-fn tell_hint<R: Eprint>(rt: &R, letter: &str, network: Network, counts: &SideCounts) {
+fn tell_hint<R: Eprint>(rt: &R, name: &str, network: Network, counts: &SideCounts) {
     if let Some(hint) = hint_of(network, counts) {
-        let _ = eprintln!(rt; "{letter}: {hint}");
+        let _ = eprintln!(rt; "{name}: {hint}");
+    }
+}
+
+/// Says what looks wrong in each capture.
+fn tell_hints<R: Eprint>(rt: &R, task: &AuditTask<'_>, counts: &Counts) {
+    let network = task.subject.network;
+    match task.subject.ports {
+        Ports::Two => {
+            tell_hint(rt, "A", network, &counts.a);
+            tell_hint(rt, "B", network, &counts.b);
+        }
+        Ports::Mirror => tell_hint(rt, "mirror", network, &counts.of_mirror()),
     }
 }
 
@@ -77,6 +85,14 @@ fn tell_apart<R: Eprint>(rt: &R, late: &str, early: &str, option: &str, from: Sp
     }
 }
 
+/// Says what a table has no place for.
+fn tell_left_out<R: Eprint>(rt: &R, task: &AuditTask<'_>, report: &Report) {
+    let packets = report.left_out();
+    if task.format == Format::Csv && packets > 0 {
+        let _ = eprintln!(rt; "{packets} packets of sources beyond the 1024th are in no table");
+    }
+}
+
 /// Says what looks wrong in the captures, though there are figures.
 fn tell_odd<R: Eprint>(rt: &R, task: &AuditTask<'_>, spans: &Spans, report: &Report) {
     let choice = task.options.choice;
@@ -87,42 +103,65 @@ fn tell_odd<R: Eprint>(rt: &R, task: &AuditTask<'_>, spans: &Spans, report: &Rep
         let _ = eprintln!(rt; "A and B are the same capture");
     }
     let counts = report.counts();
-    tell_hint(rt, "A", task.network, &counts.a);
-    tell_hint(rt, "B", task.network, &counts.b);
+    tell_hints(rt, task, &counts);
     if counts.are_swapped() {
         let _ = eprintln!(rt;
             "more than half of A and of B have the other LAN's id: are the files swapped?"
         );
     }
-    if let (Some(a), Some(b)) = (spans.a, spans.b) {
-        tell_apart(rt, "B", "A", "--shift-b", b, a);
-        tell_apart(rt, "A", "B", "--shift-a", a, b);
+    if task.subject.ports == Ports::Two {
+        if let (Some(a), Some(b)) = (spans.a, spans.b) {
+            tell_apart(rt, "B", "A", "--shift-b", b, a);
+            tell_apart(rt, "A", "B", "--shift-a", a, b);
+        }
     }
+    tell_left_out(rt, task, report);
 }
 
-/// Prints the lists that are wanted, by a pass of their own.
+/// Prints the lists of the sources from one on, by a pass of their own.
+fn print_lists_from<R: AllocGlobal + Eprint + Files, W: Write>(
+    rt: &R,
+    task: &AuditTask<'_>,
+    keys: Keys,
+    spans: Spans,
+    first: usize,
+    writer: &mut W,
+) -> Result<(), Ended> {
+    let mut captures = open(rt, task, Progress::Silent)?;
+    print_lists(
+        rt.alloc(),
+        keys,
+        &mut captures,
+        &task.options.choice,
+        task.subject,
+        spans,
+        first,
+        task.lists,
+        task.format,
+        writer,
+    )?;
+    Ok(())
+}
+
+/// Prints the lists that are wanted: those of so many sources at a time as memory allows.
 fn print_all_lists<R: AllocGlobal + Eprint + Files, W: Write>(
     rt: &R,
     task: &AuditTask<'_>,
     keys: Keys,
     spans: Spans,
+    report: &Report,
     writer: &mut W,
-) -> Result<Result<(), AuditFault>, u8> {
-    let lists = task.lists;
-    if !lists.lost && !lists.wrong && !lists.pairs {
-        return Ok(Ok(()));
+) -> Result<(), Ended> {
+    if !task.lists.is_some() {
+        return Ok(());
     }
-    let mut captures = open(rt, task, Progress::Silent)?;
-    Ok(print_lists(
-        rt.alloc(),
-        keys,
-        &mut captures,
-        &task.options.choice,
-        task.network,
-        spans,
-        lists,
-        writer,
-    ))
+    for part in 0..MOST_SOURCES / LISTED_AT_ONCE {
+        let first = part * LISTED_AT_ONCE;
+        if first == 0 || first < report.sources() {
+            print_lists_from(rt, task, keys, spans, first, writer)?;
+        }
+    }
+    Ok(())
 }
 
 /// When the captures begin and end, by a pass of its own.
@@ -130,15 +169,9 @@ fn read_spans<R: AllocGlobal + Eprint + Files>(
     rt: &R,
     task: &AuditTask<'_>,
     progress: Progress,
-) -> Result<Spans, u8> {
+) -> Result<Spans, Ended> {
     let mut captures = open(rt, task, progress)?;
-    match spans_of(&mut captures, &task.options.choice) {
-        Ok(spans) => Ok(spans),
-        Err(fault) => {
-            tell(rt, fault);
-            Err(RUN_FAILED)
-        }
-    }
+    Ok(spans_of(&mut captures, &task.options.choice, task.subject)?)
 }
 
 /// The figures of the captures, by a pass of their own.
@@ -147,25 +180,19 @@ fn read_figures<R: AllocGlobal + Eprint + Files>(
     task: &AuditTask<'_>,
     keys: Keys,
     spans: Spans,
-) -> Result<Report, u8> {
+) -> Result<Report, Ended> {
     let mut captures = open(rt, task, Progress::Silent)?;
-    match figures_of(
+    Ok(figures_of(
         rt.alloc(),
         keys,
         &mut captures,
         &task.options.choice,
-        task.network,
+        task.subject,
         spans,
-    ) {
-        Ok(report) => Ok(report),
-        Err(fault) => {
-            tell(rt, fault);
-            Err(RUN_FAILED)
-        }
-    }
+    )?)
 }
 
-/// Writes the report and the lists.
+/// Writes the report and the lists. A table is that of the list that is wanted, if one is.
 fn write_all<R: AllocGlobal + Eprint + Files, W: Write>(
     rt: &R,
     task: &AuditTask<'_>,
@@ -173,20 +200,36 @@ fn write_all<R: AllocGlobal + Eprint + Files, W: Write>(
     spans: Spans,
     report: &Report,
     writer: &mut W,
-) -> Result<Result<(), AuditFault>, u8> {
-    if let Err(fault) = report.print(writer) {
-        return Ok(Err(fault));
+) -> Result<(), Ended> {
+    if task.format != Format::Csv || !task.lists.is_some() {
+        report.print(writer, task.format)?;
     }
-    if let Err(fault) = print_all_lists(rt, task, keys, spans, writer)? {
-        return Ok(Err(fault));
-    }
-    if let Err(fault) = report.print_end(writer) {
-        return Ok(Err(fault));
-    }
+    print_all_lists(rt, task, keys, spans, report, writer)?;
+    report.print_end(writer, task.format)?;
     match writer.flush() {
-        Ok(()) => Ok(Ok(())),
-        Err(_) => Ok(Err(AuditFault::Write)),
+        Ok(()) => Ok(()),
+        Err(_) => Err(Ended::By(ScriptFault::Write)),
     }
+}
+
+/// Says what ended an audit early, but where nobody reads any more what is written. The answer is the exit status.
+fn tell<R: Eprint>(rt: &R, ended: Ended, is_closed: bool) -> u8 {
+    if let Ended::By(fault) = ended {
+        tell_ended(rt, fault, is_closed);
+    }
+    RUN_FAILED
+}
+
+/// What is known of the captures before anything is written: when they begin and end, and their figures.
+fn read_all<R: AllocGlobal + Eprint + Files>(
+    rt: &R,
+    task: &AuditTask<'_>,
+    keys: Keys,
+    progress: Progress,
+) -> Result<(Spans, Report), Ended> {
+    let spans = read_spans(rt, task, progress)?;
+    let report = read_figures(rt, task, keys, spans)?;
+    Ok((spans, report))
 }
 
 /// Writes the figures of the captures to standard output. A fault is told on standard error, and so is what looks wrong. An error is the
@@ -200,17 +243,15 @@ pub fn run_audit<R: AllocGlobal + Print + Eprint + Files + RandomSource>(
         let _ = eprintln!(rt; "fault read");
         return Err(RUN_FAILED);
     };
-    let spans = read_spans(rt, task, progress)?;
-    let report = read_figures(rt, task, keys, spans)?;
-    let Ok(mut writer) = BufWriter::new(rt.alloc(), Pipe::new(io::writer(rt))) else {
-        tell(rt, AuditFault::NoMemory);
-        return Err(RUN_FAILED);
+    let (spans, report) = match read_all(rt, task, keys, progress) {
+        Ok(known) => known,
+        Err(ended) => return Err(tell(rt, ended, false)),
     };
-    if let Err(fault) = write_all(rt, task, keys, spans, &report, &mut writer)? {
-        if !writer.get_ref().is_closed() {
-            tell(rt, fault);
-        }
-        return Err(RUN_FAILED);
+    let Ok(mut writer) = BufWriter::new(rt.alloc(), Pipe::new(io::writer(rt))) else {
+        return Err(tell(rt, Ended::By(ScriptFault::NoMemory), false));
+    };
+    if let Err(ended) = write_all(rt, task, keys, spans, &report, &mut writer) {
+        return Err(tell(rt, ended, writer.get_ref().is_closed()));
     }
     tell_odd(rt, task, &spans, &report);
     if task.is_check && report.has_faults() {

@@ -1,22 +1,24 @@
 //! The words behind `seamless audit`.
 
 use crate::command_line::with_arg;
+use crate::examples;
 use crate::script_line::{capture_of, option, shift_of, time_of, with_option};
 use clap::builder::PossibleValue;
 use clap::{Arg, ArgAction, ArgMatches, Command};
-use sr_capture_audit::{Lists, Network};
+use sr_capture_audit::{Format, Lists, Network, Ports, Subject};
 use sr_capture_script::{Choice, Interfaces, Options, delays_of};
 use sr_pcapng::Wanted;
 use std::alloc::{AllocError, Global};
 
-/// What `seamless audit` is to do: a path for each side that has a capture, and how.
+/// What `seamless audit` is to do: a path for each side that has a capture, or that of a mirror port for A, and how.
 #[derive(Clone, Copy)]
 pub struct AuditTask<'a> {
     pub a: Option<&'a str>,
     pub b: Option<&'a str>,
     pub options: Options,
-    pub network: Network,
+    pub subject: Subject,
     pub lists: Lists,
+    pub format: Format,
     /// Whether the status tells of faults of the network.
     pub is_check: bool,
     /// Whether the captures of A and B are one.
@@ -31,16 +33,32 @@ pub fn network_words<'a>() -> [PossibleValue<'a>; 2] {
     ]
 }
 
+/// The words of `--format`, with what they mean.
+pub fn format_words<'a>() -> [PossibleValue<'a>; 3] {
+    [
+        PossibleValue::new("text").help("a line for each capture and source: words and numbers"),
+        PossibleValue::new("json").help("the same lines, each an object"),
+        PossibleValue::new("csv").help("a table of the sources, or of what --list names"),
+    ]
+}
+
 /// What the parser knows of the subcommand.
 pub fn audit_command<'a>(
     alloc: Global,
     networks: &'a [PossibleValue<'a>],
+    formats: &'a [PossibleValue<'a>],
 ) -> Result<Command<'a>, AllocError> {
     let about = "Tells which frames of two captures came by both LANs, and which by one alone";
-    let command = Ok(Command::new(alloc, "audit").about(about));
+    let command = Ok(
+        Command::new(alloc, "audit")
+            .about(about)
+            .after_help(examples::AUDIT),
+    );
     let a = "The capture of LAN A; FILE:N is interface N of a pcapng file";
     let command = with_option(alloc, command, "a", "FILE[:N]", a);
     let command = with_option(alloc, command, "b", "FILE[:N]", "The capture of LAN B");
+    let mirror = "The capture of a mirror port, which sees both LANs";
+    let command = with_option(alloc, command, "mirror", "FILE[:N]", mirror);
     let network = option(alloc, "network", "NETWORK", "How frames have their numbers")
         .default_value("prp")
         .value_parser(networks);
@@ -58,6 +76,10 @@ pub fn audit_command<'a>(
     let command = with_option(alloc, command, "to", "T", to);
     let list = "Lists single frames: lost, wrong, pairs, or several, joined by commas";
     let command = with_option(alloc, command, "list", "LISTS", list);
+    let format = option(alloc, "format", "FORMAT", "How it is printed")
+        .default_value("text")
+        .value_parser(formats);
+    let command = with_arg(command, format);
     let check = Arg::new(alloc, "check")
         .long("check")
         .action(ArgAction::SetTrue)
@@ -86,11 +108,7 @@ fn with_list(lists: Lists, word: &str) -> Result<Lists, &'static str> {
 
 /// The lists that are wanted; else the option is the fault.
 fn lists_of(matches: &ArgMatches<'_>) -> Result<Lists, &'static str> {
-    let mut lists = Lists {
-        lost: false,
-        wrong: false,
-        pairs: false,
-    };
+    let mut lists = Lists::NONE;
     let Some(mut rest) = matches.get_str("list") else {
         return Ok(lists);
     };
@@ -106,13 +124,33 @@ fn lists_of(matches: &ArgMatches<'_>) -> Result<Lists, &'static str> {
     Err("list")
 }
 
-/// What the subcommand is to do; else the name of the option that is wrong.
-pub fn audit_task<'a>(matches: &ArgMatches<'a>) -> Result<AuditTask<'a>, &'static str> {
-    let a = capture_of(matches, "a");
-    let b = capture_of(matches, "b");
-    if a.path.is_none() && b.path.is_none() {
-        return Err("captures");
+/// The format that the parser let through.
+fn format_of(matches: &ArgMatches<'_>) -> Format {
+    match matches.get_str("format") {
+        Some("json") => Format::Json,
+        Some("csv") => Format::Csv,
+        _ => Format::Text,
     }
+}
+
+/// What is audited. The captures are named as they are wanted: both LANs, or a mirror port; else the option is the fault.
+fn subject_of(matches: &ArgMatches<'_>) -> Result<Subject, &'static str> {
+    let has_lans = matches.contains_id("a") || matches.contains_id("b");
+    let ports = match (has_lans, matches.contains_id("mirror")) {
+        (true, false) => Ports::Two,
+        (false, true) => Ports::Mirror,
+        (true, true) => return Err("mirror"),
+        (false, false) => return Err("captures"),
+    };
+    let network = match matches.get_str("network") {
+        Some("hsr") => Network::Hsr,
+        _ => Network::Prp,
+    };
+    Ok(Subject { network, ports })
+}
+
+/// How the captures are read; else the name of the option that is wrong.
+fn options_of(matches: &ArgMatches<'_>, interfaces: Interfaces) -> Result<Options, &'static str> {
     let shift_a = shift_of(matches, "shift-a")?;
     let shift_b = shift_of(matches, "shift-b")?;
     let Some(delays) = delays_of(shift_a, shift_b, shift_a) else {
@@ -123,26 +161,41 @@ pub fn audit_task<'a>(matches: &ArgMatches<'a>) -> Result<AuditTask<'a>, &'stati
         to: time_of(matches, "to")?,
         tick: None,
     };
-    let network = match matches.get_str("network") {
-        Some("hsr") => Network::Hsr,
-        _ => Network::Prp,
+    Ok(Options {
+        choice,
+        check_len: if matches.contains_id("fcs") { 4 } else { 0 },
+        delays,
+        interfaces,
+    })
+}
+
+/// What the subcommand is to do; else the name of the option that is wrong.
+pub fn audit_task<'a>(matches: &ArgMatches<'a>) -> Result<AuditTask<'a>, &'static str> {
+    let subject = subject_of(matches)?;
+    let a = match subject.ports {
+        Ports::Two => capture_of(matches, "a"),
+        Ports::Mirror => capture_of(matches, "mirror"),
     };
+    let b = capture_of(matches, "b");
+    let interfaces = Interfaces {
+        a: a.wanted,
+        b: b.wanted,
+        c: Wanted::Only,
+    };
+    let options = options_of(matches, interfaces)?;
+    let lists = lists_of(matches)?;
+    let format = format_of(matches);
+    if format == Format::Csv && !lists.is_one_at_most() {
+        return Err("table");
+    }
     Ok(AuditTask {
         a: a.path,
         b: b.path,
-        options: Options {
-            choice,
-            check_len: if matches.contains_id("fcs") { 4 } else { 0 },
-            delays,
-            interfaces: Interfaces {
-                a: a.wanted,
-                b: b.wanted,
-                c: Wanted::Only,
-            },
-        },
-        network,
-        lists: lists_of(matches)?,
+        options,
+        subject,
+        lists,
+        format,
         is_check: matches.get_flag("check"),
-        is_same: a.path.is_some() && matches.get_str("a") == matches.get_str("b"),
+        is_same: matches.contains_id("a") && matches.get_str("a") == matches.get_str("b"),
     })
 }

@@ -3,12 +3,15 @@
 ghost use Rattle.std.specs.Prelude.{◌<◌, ◌≤◌};
 
 use crate::address::mac_of;
-use crate::audit_line::{AuditTask, audit_command, audit_task, network_words};
+use crate::audit_line::{AuditTask, audit_command, audit_task, format_words, network_words};
+use crate::examples;
 use crate::plant_line::{plant_command, plant_of};
 use crate::refusal::Refused;
 use crate::script_line::{ScriptTask, script_command, script_task};
 use clap::builder::PossibleValue;
-use clap::{Arg, ArgMatches, Command};
+use clap::error::ErrorKind;
+use clap::{Arg, ArgAction, ArgGroup, ArgMatches, Command, Error};
+use sr_dup_table::Width;
 use sr_node::{Mode, Settings};
 use sr_plant_script::{PlantSetup, Topology};
 use sr_prp_trailer::Lan;
@@ -20,12 +23,8 @@ use std::fmt;
 /// The name, the version and the kit of the program: the version is that of CHANGELOG.md, the kit that of README.md.
 const VERSION: &str = "0.4.0-dev (rattle-kit-13f logic dac8208d650f15bf)";
 
-/// What stands below the help.
-const EXAMPLES: &str = "Examples:
-  What two captures tell of the nodes of a PRP network, with alarms:
-    seamless script --a lan-a.pcap --b lan-b.pcap --tick 100 | seamless status --role danp --mac 020000000001
-  What a node of an HSR ring hands out for a script:
-    seamless replay --role danh --mac 02:00:00:00:00:01 < ring.script";
+/// The group of the options that name captures.
+const CAPTURES: &str = "captures";
 
 /// The words that options take, with what they mean.
 #[derive(Clone, Copy)]
@@ -33,7 +32,9 @@ pub struct Words<'a> {
     roles: [PossibleValue<'a>; 5],
     lans: [PossibleValue<'a>; 2],
     modes: [PossibleValue<'a>; 2],
+    windows: [PossibleValue<'a>; 2],
     networks: [PossibleValue<'a>; 2],
+    formats: [PossibleValue<'a>; 3],
 }
 
 impl<'a> Words<'a> {
@@ -57,7 +58,16 @@ impl<'a> Words<'a> {
                 PossibleValue::new("h").help("a frame goes on wherever no copy of it went"),
                 PossibleValue::new("x").help("nor does it go on where a copy of it came in"),
             ],
+            windows: [
+                PossibleValue::new("1024").help(
+                    "a copy is a duplicate behind up to 1023 later frames",
+                ),
+                PossibleValue::new("2048").help(
+                    "behind up to 2047; a source takes twice the memory",
+                ),
+            ],
             networks: network_words(),
+            formats: format_words(),
         }
     }
 }
@@ -104,7 +114,7 @@ fn net_option<'a>(alloc: Global) -> Arg<'a> {
 }
 
 /// The mode of each node: `[--mode h|x]`.
-pub fn mode_option<'a>(alloc: Global, words: &'a Words<'a>) -> Arg<'a> {
+fn mode_option<'a>(alloc: Global, words: &'a Words<'a>) -> Arg<'a> {
     Arg::new(alloc, "mode")
         .long("mode")
         .default_value("h")
@@ -113,11 +123,37 @@ pub fn mode_option<'a>(alloc: Global, words: &'a Words<'a>) -> Arg<'a> {
         .help("Whether a node sends a copy back to where one came from")
 }
 
+/// How many numbers of a source each node remembers: `[--window 1024|2048]`.
+fn window_option<'a>(alloc: Global, words: &'a Words<'a>) -> Arg<'a> {
+    Arg::new(alloc, "window")
+        .long("window")
+        .default_value("1024")
+        .value_name("COUNT")
+        .value_parser(words.windows.as_slice())
+        .help("How many numbers of a source a node remembers")
+}
+
+/// The mode that the parser let through.
+fn mode_of(matches: &ArgMatches<'_>) -> Mode {
+    match matches.get_str("mode") {
+        Some("x") => Mode::X,
+        _ => Mode::H,
+    }
+}
+
+/// The width of tables that the parser let through.
+fn width_of(matches: &ArgMatches<'_>) -> Width {
+    match matches.get_str("window") {
+        Some("2048") => Width::Wide,
+        _ => Width::Narrow,
+    }
+}
+
 /// The settings that the parser let through.
 pub fn settings_of(matches: &ArgMatches<'_>) -> Settings {
-    match matches.get_str("mode") {
-        Some("x") => Settings { mode: Mode::X },
-        _ => Settings { mode: Mode::H },
+    Settings {
+        mode: mode_of(matches),
+        width: width_of(matches),
     }
 }
 
@@ -130,6 +166,16 @@ pub fn with_arg<'a>(
     command?.arg(arg)
 }
 
+/// A command with the options that tell nodes how to work.
+pub fn with_settings<'a>(
+    alloc: Global,
+    command: Result<Command<'a>, AllocError>,
+    words: &'a Words<'a>,
+) -> Result<Command<'a>, AllocError> {
+    let command = with_arg(command, mode_option(alloc, words));
+    with_arg(command, window_option(alloc, words))
+}
+
 /// A command with one subcommand more, if both were made.
 fn with<'a>(
     command: Result<Command<'a>, AllocError>,
@@ -139,19 +185,41 @@ fn with<'a>(
     command?.subcommand(subcommand)
 }
 
+/// A command of whose captures one at least has to be given, if it was made.
+pub fn with_captures<'a>(
+    alloc: Global,
+    command: Result<Command<'a>, AllocError>,
+    ids: &[&'a str],
+) -> Result<Command<'a>, AllocError> {
+    let captures = ArgGroup::new(alloc, CAPTURES)
+        .required(true)
+        .multiple(true)
+        .args(ids)?;
+    command?.group(captures)
+}
+
+/// Whether the end of a status has counts: `[--counters]`.
+fn counters_option<'a>(alloc: Global) -> Arg<'a> {
+    Arg::new(alloc, "counters")
+        .long("counters")
+        .action(ArgAction::SetTrue)
+        .help("Ends with the frames that came in at each port, and those that were refused")
+}
+
 /// A subcommand that runs a script on a node.
 fn node_command<'a>(
     alloc: Global,
     words: &'a Words<'a>,
     name: &'a str,
     about: &'a str,
+    examples: &'a str,
 ) -> Result<Command<'a>, AllocError> {
-    let command = Ok(Command::new(alloc, name).about(about));
-    let command = with_arg(command, role_option(alloc, words));
+    let command = Command::new(alloc, name).about(about).after_help(examples);
+    let command = with_arg(Ok(command), role_option(alloc, words));
     let command = with_arg(command, mac_option(alloc));
     let command = with_arg(command, lan_option(alloc, words));
     let command = with_arg(command, net_option(alloc));
-    with_arg(command, mode_option(alloc, words))
+    with_settings(alloc, command, words)
 }
 
 /// The program without its subcommands.
@@ -161,7 +229,7 @@ fn program<'a>(alloc: Global) -> Result<Command<'a>, AllocError> {
             "Runs nodes and networks of seamless redundancy, PRP and HSR, on scripts and captures",
         )
         .version(VERSION)
-        .after_help(EXAMPLES)
+        .after_help(examples::PROGRAM)
         .subcommand_required(true)
         .bin_name("seamless")
 }
@@ -173,6 +241,7 @@ fn command<'a>(alloc: Global, words: &'a Words<'a>) -> Result<Command<'a>, Alloc
         words,
         "replay",
         "Prints the frames that the node hands out",
+        examples::REPLAY,
     );
     let command = with(program(alloc), replay);
     let status = node_command(
@@ -180,15 +249,18 @@ fn command<'a>(alloc: Global, words: &'a Words<'a>) -> Result<Command<'a>, Alloc
         words,
         "status",
         "Prints what the node knows of other nodes at the end, and its alarms",
+        examples::STATUS,
     );
-    let command = with(command, status);
+    let command = with(command, with_arg(status, counters_option(alloc)));
     let command = with(command, script_command(alloc));
-    let command = with(command, audit_command(alloc, words.networks.as_slice()));
+    let audit = audit_command(alloc, words.networks.as_slice(), words.formats.as_slice());
+    let command = with(command, audit);
     let ring = plant_command(
         alloc,
         words,
         "ring",
         "Runs a script on a ring of doubly attached nodes",
+        examples::RING,
     );
     let command = with(command, ring);
     let lan = plant_command(
@@ -196,6 +268,7 @@ fn command<'a>(alloc: Global, words: &'a Words<'a>) -> Result<Command<'a>, Alloc
         words,
         "lan",
         "Runs a script on doubly attached nodes of two LANs",
+        examples::LAN,
     );
     with(command, lan)
 }
@@ -252,6 +325,17 @@ pub enum Report {
     Frames,
     /// What it knows of other nodes at the end.
     Status,
+    /// What it knows of other nodes at the end, and what was counted.
+    Tally,
+}
+
+/// What the subcommand `status` reports.
+fn report_of(status: &ArgMatches<'_>) -> Report {
+    if status.get_flag("counters") {
+        Report::Tally
+    } else {
+        Report::Status
+    }
 }
 
 /// What the program is to do.
@@ -291,20 +375,33 @@ fn task_in<'a>(matches: &ArgMatches<'a>) -> Result<Task<'a>, Refused> {
         return Ok(Task::Run(Report::Frames, setup_of(replay)?));
     }
     match matches.subcommand_matches("status") {
-        Some(status) => Ok(Task::Run(Report::Status, setup_of(status)?)),
+        Some(status) => Ok(Task::Run(report_of(status), setup_of(status)?)),
         None => Err(Refused::Mac),
     }
+}
+
+/// Why the parser let these words not through. A subcommand that takes captures requires nothing else.
+fn refused_by(words: &[String], error: Error) -> Refused {
+    if error.kind() == ErrorKind::MissingRequiredArgument {
+        match words.get(1).map(|word| word.as_str()) {
+            Some("script") => return Refused::Option("files"),
+            _ => {}
+        }
+    }
+    Refused::Parser(error)
 }
 
 /// What the words of the command line ask for.
 ///
 /// # Errors
-/// `Mac` where the address alone is wrong, else `Parser`.
+/// `Mac` where the address alone is wrong, `Option` where that of an option is, or no capture is given, else `Parser`.
 pub fn task_of<'a>(
     alloc: Global,
     known: &'a Words<'a>,
     words: &'a [String],
 ) -> Result<Task<'a>, Refused> {
-    let matches = command(alloc, known)?.try_get_matches_from(words)?;
-    task_in(&matches)
+    match command(alloc, known)?.try_get_matches_from(words) {
+        Ok(matches) => task_in(&matches),
+        Err(error) => Err(refused_by(words, error)),
+    }
 }

@@ -3,7 +3,7 @@
 ghost use Rattle.std.specs.Prelude.{◌≤◌};
 ghost use Rattle.sr_plant.specs.Limits.{fewest_nodes, most_nodes};
 
-use crate::command_line::{Words, mode_option, settings_of, with_arg};
+use crate::command_line::{Words, settings_of, with_settings};
 use clap::{Arg, ArgMatches, Command};
 use sr_plant_script::{PlantSetup, Topology};
 use std::alloc::{AllocError, Global};
@@ -14,6 +14,7 @@ pub fn plant_command<'a>(
     words: &'a Words<'a>,
     name: &'a str,
     about: &'a str,
+    examples: &'a str,
 ) -> Result<Command<'a>, AllocError> {
     let nodes = Arg::new(alloc, "nodes")
         .long("nodes")
@@ -21,8 +22,11 @@ pub fn plant_command<'a>(
         .value_name("2..16")
         .value_parser(clap::value_parser!(u8).range(2..=16))
         .help("How many nodes there are");
-    let command = Command::new(alloc, name).about(about).arg(nodes);
-    with_arg(command, mode_option(alloc, words))
+    let command = Command::new(alloc, name)
+        .about(about)
+        .after_help(examples)
+        .arg(nodes);
+    with_settings(alloc, command, words)
 }
 
 /// How many nodes there are, by a word that the parser let through.

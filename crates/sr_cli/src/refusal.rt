@@ -8,7 +8,7 @@ use std::fmt;
 /// Why the command line is refused.
 #[derive(Drop)]
 pub enum Refused {
-    /// For what the parser says: a call for help and want of memory are among it.
+    /// The parser's error; a call for help or for the version, and a failed allocation, come this way too.
     Parser(Error),
     /// The address is none.
     Mac,
@@ -30,7 +30,9 @@ impl Refused {
 fn wanted(name: &str) -> &'static str {
     match name {
         "files" => "give a capture at least: --a FILE, --b FILE or --c FILE",
-        "captures" => "give a capture at least: --a FILE or --b FILE",
+        "captures" => "give a capture at least: --a FILE or --b FILE, or --mirror FILE",
+        "mirror" => "--mirror FILE stands alone: without --a and --b",
+        "table" => "--format csv prints one table: name one list",
         "list" => "--list takes lost, wrong and pairs, joined by commas",
         "shift" => "the shifts are more than 146 years apart",
         "from" | "to" => "--from and --to take whole milliseconds from the earliest packet on",

@@ -8,7 +8,7 @@ use crate::line_flaws::{found_in, is_capture};
 use crate::pipes::{Kept, MOST_KEPT, Pipe};
 use crate::tails::tell_tail;
 use sr_plant_script::{PlantSetup, run_plant};
-use sr_script::{RoleName, Setup, run, run_status};
+use sr_script::{RoleName, Setup, run, run_status, run_tally};
 use sr_session::{Fault, NOT_BEGUN, Word};
 use sr_slots::Keys;
 use std::alloc::{AllocError, Global};
@@ -111,6 +111,7 @@ fn run_on<R: BufRead, W: Write>(
     match report {
         Report::Frames => run(alloc, setup, reader, writer),
         Report::Status => run_status(alloc, setup, reader, writer),
+        Report::Tally => run_tally(alloc, setup, reader, writer),
     }
 }
 

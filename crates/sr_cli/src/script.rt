@@ -41,7 +41,7 @@ fn word_of(reason: Reason) -> &'static str {
 }
 
 /// Says what is wrong with a file: a line with the inlet, the word and the octet, and one that explains it.
-pub fn tell_file<R: Eprint>(rt: &R, inlet: Inlet, fault: CaptureFault) {
+fn tell_file<R: Eprint>(rt: &R, inlet: Inlet, fault: CaptureFault) {
     let letter = letter_of(inlet);
     let CaptureFault { at, reason } = fault;
     let word = word_of(reason);
@@ -137,18 +137,10 @@ fn tell_lines<R: Eprint>(rt: &R, lines: u64) {
     }
 }
 
-/// Says what ended a script early, but where nobody reads it any more. The fault of a file has a comment behind the lines that
-/// come before it, so that who reads the script knows of it.
-fn tell_fault<R: Eprint, W: Write>(rt: &R, fault: ScriptFault, is_closed: bool, writer: &mut W) {
+/// Says what ended going over captures early, but where nobody reads any more what is written.
+pub fn tell_ended<R: Eprint>(rt: &R, fault: ScriptFault, is_closed: bool) {
     match fault {
-        ScriptFault::File(inlet, fault) => {
-            let letter = letter_of(inlet);
-            let word = word_of(fault.reason);
-            let at = fault.at;
-            let _ = writeln!(writer, "# fault {letter} {word} {at}");
-            let _ = writer.flush();
-            tell_file(rt, inlet, fault);
-        }
+        ScriptFault::File(inlet, fault) => tell_file(rt, inlet, fault),
         ScriptFault::NoMemory => {
             let _ = eprintln!(rt; "fault memory");
         }
@@ -158,6 +150,19 @@ fn tell_fault<R: Eprint, W: Write>(rt: &R, fault: ScriptFault, is_closed: bool, 
             }
         }
     }
+}
+
+/// Says what ended a script early, but where nobody reads it any more. The fault of a file has a comment behind the lines that
+/// come before it, so that who reads the script knows of it.
+fn tell_fault<R: Eprint, W: Write>(rt: &R, fault: ScriptFault, is_closed: bool, writer: &mut W) {
+    if let ScriptFault::File(inlet, fault) = fault {
+        let letter = letter_of(inlet);
+        let word = word_of(fault.reason);
+        let at = fault.at;
+        let _ = writeln!(writer, "# fault {letter} {word} {at}");
+        let _ = writer.flush();
+    }
+    tell_ended(rt, fault, is_closed);
 }
 
 /// Writes the script to standard output. A fault is told on standard error.

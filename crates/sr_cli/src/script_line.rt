@@ -1,6 +1,7 @@
 //! The words behind `seamless script`.
 
-use crate::command_line::with_arg;
+use crate::command_line::{with_arg, with_captures};
+use crate::examples;
 use clap::{Arg, ArgMatches, Command};
 use sr_capture_script::{Choice, Interfaces, Options, delays_of};
 use sr_pcapng::Wanted;
@@ -40,7 +41,11 @@ pub fn with_option<'a>(
 /// What the parser knows of the subcommand.
 pub fn script_command<'a>(alloc: Global) -> Result<Command<'a>, AllocError> {
     let about = "Prints a script of the packets of up to three captures";
-    let command = Ok(Command::new(alloc, "script").about(about));
+    let command = Ok(
+        Command::new(alloc, "script")
+            .about(about)
+            .after_help(examples::SCRIPT),
+    );
     let a = "The capture of LAN A; FILE:N is interface N of a pcapng file";
     let command = with_option(alloc, command, "a", "FILE[:N]", a);
     let command = with_option(alloc, command, "b", "FILE[:N]", "The capture of LAN B");
@@ -65,7 +70,8 @@ pub fn script_command<'a>(alloc: Global) -> Result<Command<'a>, AllocError> {
     let to = "The last time of a line, in milliseconds";
     let command = with_option(alloc, command, "to", "T", to);
     let tick = "Adds ticks so many milliseconds apart, from --from on";
-    with_option(alloc, command, "tick", "MS", tick)
+    let command = with_option(alloc, command, "tick", "MS", tick);
+    with_captures(alloc, command, ["a", "b", "c"].as_slice())
 }
 
 /// A file, and which of its interfaces is wanted.
@@ -109,23 +115,17 @@ pub fn capture_of<'a>(matches: &ArgMatches<'a>, name: &'static str) -> Capture<'
 
 /// The number of an option that may be left out; else the option is the fault.
 pub fn time_of(matches: &ArgMatches<'_>, name: &'static str) -> Result<Option<u64>, &'static str> {
-    match matches.get_str(name) {
-        None => Ok(None),
-        Some(text) => match text.parse::<u64>() {
-            Ok(number) => Ok(Some(number)),
-            Err(_) => Err(name),
-        },
+    match matches.try_get_one::<u64>(name) {
+        Ok(number) => Ok(number),
+        Err(_) => Err(name),
     }
 }
 
 /// The shift of a file, 0 where there is none; else the option is the fault.
 pub fn shift_of(matches: &ArgMatches<'_>, name: &'static str) -> Result<i64, &'static str> {
-    match matches.get_str(name) {
-        None => Ok(0),
-        Some(text) => match text.parse::<i64>() {
-            Ok(number) => Ok(number),
-            Err(_) => Err(name),
-        },
+    match matches.try_get_one::<i64>(name) {
+        Ok(shift) => Ok(shift.unwrap_or(0)),
+        Err(_) => Err(name),
     }
 }
 
@@ -142,9 +142,6 @@ pub fn script_task<'a>(matches: &ArgMatches<'a>) -> Result<ScriptTask<'a>, &'sta
     let a = capture_of(matches, "a");
     let b = capture_of(matches, "b");
     let c = capture_of(matches, "c");
-    if a.path.is_none() && b.path.is_none() && c.path.is_none() {
-        return Err("files");
-    }
     let shift_a = shift_of(matches, "shift-a")?;
     let shift_b = shift_of(matches, "shift-b")?;
     let shift_c = shift_of(matches, "shift-c")?;

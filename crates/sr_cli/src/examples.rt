@@ -1,0 +1,50 @@
+//! What stands below the help: two examples of the program, and two of each subcommand.
+
+/// Of the program.
+pub const PROGRAM: &str = "Examples:
+  What two captures tell of the nodes of a PRP network, with alarms:
+    seamless script --a lan-a.pcap --b lan-b.pcap --tick 100 | seamless status --role danp --mac 020000000001
+  What a node of an HSR ring hands out for a script:
+    seamless replay --role danh --mac 02:00:00:00:00:01 < ring.script";
+
+/// Of `replay`.
+pub const REPLAY: &str = "Examples:
+  What a node of a PRP network hands up of the traffic of a Linux node:
+    seamless replay --role danp --mac 020000000002 < examples/linux-prp-node.script
+  What a RedBox between a ring and LAN B of PRP network 2 hands out:
+    seamless replay --role prp --lan b --net 2 --mac 02:00:00:00:00:01 < ring.script";
+
+/// Of `status`.
+pub const STATUS: &str = "Examples:
+  Which nodes two captures show, and which of them fell silent:
+    seamless script --a lan-a.pcap --b lan-b.pcap --tick 100 | seamless status --role danp --mac 020000000001
+  What a node of an HSR ring knows of the others:
+    seamless status --role danh --mac 020000000002 < examples/linux-hsr-node.script";
+
+/// Of `script`.
+pub const SCRIPT: &str = "Examples:
+  Two captures, where the clock of the second recorder is half a second ahead:
+    seamless script --a lan-a.pcap --b lan-b.pcap --shift-b -500
+  The second minute of two interfaces of one file, with a tick each 100 ms:
+    seamless script --a lans.pcapng:0 --b lans.pcapng:1 --from 60000 --to 120000 --tick 100";
+
+/// Of `audit`.
+pub const AUDIT: &str = "Examples:
+  Which frames one of two LANs lost:
+    seamless audit --a lan-a.pcap --b lan-b.pcap --list lost
+  A nightly test of a ring, which ends with status 3 where a figure tells of a fault:
+    seamless audit --network hsr --a ring-a.pcap --b ring-b.pcap --check";
+
+/// Of `ring`.
+pub const RING: &str = "Examples:
+  A ring of four nodes, of which a link is cut:
+    seamless ring --nodes 4 < examples/cut-ring.script
+  What node 0 sends to all, where no node sends a copy back:
+    printf 'send 0 all 01\\nflow\\n' | seamless ring --nodes 4 --mode x";
+
+/// Of `lan`.
+pub const LAN: &str = "Examples:
+  Two LANs of three nodes, of which one lacks a link:
+    printf 'cut 1\\nsend 0 all 01\\nflow\\n' | seamless lan --nodes 3
+  The same traffic where the first copy is lost:
+    printf 'send 0 all 01\\ndrop 0\\nflow\\n' | seamless lan --nodes 3";
