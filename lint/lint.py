@@ -32,7 +32,7 @@ def documents(root):
 def crates(root):
     """The names of crates.txt, in its order."""
     lines = (root / "crates.txt").read_text().split("\n")
-    return [line.split(":")[0] for line in lines if ":" in line and not line.startswith("#")]
+    return [line.split(":")[0].split()[0] for line in lines if ":" in line and not line.startswith("#")]
 
 
 def wide_definitions(root):
@@ -88,7 +88,7 @@ def planned(root):
 
 
 # Files beside the crates that have names of which documents speak.
-NAMING = ["crates.txt", "check", "seamless", "bench/run", "lint/*.py", "lint/*.txt"]
+NAMING = ["crates.txt", "check", "seamless", "refuse", "bench/run", "lint/*.py", "lint/*.txt", "tools/*"]
 
 
 def missing_names(root):
@@ -141,11 +141,12 @@ def crate_tables(root):
     for name in sorted(set(folders) ^ set(wanted)):
         yield root / "crates.txt", 1, f"`{name}` has no line or no folder"
     architecture = root / "docs/ARCHITECTURE.md"
-    here = architecture.read_text().split("## What is planned")[0]
+    page = architecture.read_text()
+    here = page.split("## What is here")[-1].split("\n## ")[0]
     listed = re.findall(r"^\| `(\w+)` \|", here, re.MULTILINE)
     for name in sorted(set(wanted) ^ set(listed)):
         yield architecture, 1, f"`{name}` stands in crates.txt or in the table of crates, and not in both"
-    drawing = (re.findall(r"^```\n(.*?)^```", here, re.MULTILINE | re.DOTALL) or [""])[0]
+    drawing = (re.findall(r"^```\n(.*?)^```", page, re.MULTILINE | re.DOTALL) or [""])[0]
     for name in wanted:
         if not re.search(rf"\b{name}\b", drawing):
             yield architecture, 1, f"`{name}` is not in the drawing"
@@ -409,6 +410,17 @@ def leaning_comments(root):
                 is_behind = bool(COMMENT.match(line))
 
 
+def bare_names(root):
+    """A name of the code stands in a comment between backticks: one without them is most often a word that a renaming struck."""
+    for folder in ("src", "specs", "proofs"):
+        for path in sorted(root.glob(f"crates/*/{folder}/**/*.*t")):
+            for number, line in numbered(path):
+                comment = re.match(r"\s*(?://[/!]?|--) (.*)", line)
+                found = re.search(r"\b[a-z]\w*_\w+\b", re.sub(r"`[^`]*`|\]\([^)]*\)", "", comment[1])) if comment else None
+                if found:
+                    yield path, number, f"{found[0]} stands in a comment without backticks"
+
+
 def decision_keys(root):
     """Each entry of docs/DECISIONS.md has a key of its own, and each key that a document or a source names is there."""
     page = root / "docs/DECISIONS.md"
@@ -444,6 +456,7 @@ RULES = [
     untold_laws,
     failed_allocations,
     leaning_comments,
+    bare_names,
     decision_keys,
 ]
 

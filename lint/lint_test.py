@@ -138,7 +138,7 @@ class Lint(unittest.TestCase):
             )
 
     def test_missing_names(self):
-        source = {"crates/sr_one/src/lib.rt": "// one_two IsOne\n"}
+        source = {"crates/sr_one/src/lib.rt": "// `one_two` IsOne\n"}
         for text in ["`one_two`", "`IsOne`", "`One::one_two`", "`one_two()`", "`One`", "`two`", "one_three", "`./seamless one_three`"]:
             self.assertEqual(self.findings({**source, "docs/ONE.md": text + "\n"}), [], text)
         for name in ["one_three", "IsTwo", "One::one_three"]:
@@ -254,6 +254,13 @@ class Lint(unittest.TestCase):
             self.assertRegex(found[0], r"^docs/ONE.md:2: says `.*` for a failed allocation$")
         for text in ["an allocation failed", "where an allocation fails", "a refused event", "growths come first", "takes memory"]:
             self.assertEqual(self.findings({"docs/ONE.md": text + "\n"}), [], text)
+
+    def test_bare_names(self):
+        self.assertEqual(self.findings({"crates/sr_one/src/lib.rt": "/// Takes `more_if` and [this](a_b.md).\npub fn one() {}\n"}), [])
+        self.assertEqual(
+            self.findings({"crates/sr_one/src/lib.rt": "/// All are more_if.\npub fn one() {}\n"}),
+            ["crates/sr_one/src/lib.rt:1: more_if stands in a comment without backticks"],
+        )
 
     def test_leaning_comments(self):
         source = "crates/sr_one/src/one.rt"

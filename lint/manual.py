@@ -80,6 +80,12 @@ def explained(shown, about):
     return lines
 
 
+def examples(text):
+    """The lines of the page for the examples below a help, as they stand there."""
+    lines = [escaped(line) for line in section(text, "Examples") if line]
+    return [".PP", "Examples:", ".nf", *lines, ".fi"] if lines else []
+
+
 def page(program):
     """The man page."""
     text = said(program, "--help")
@@ -91,7 +97,8 @@ def page(program):
         lines += [f".SS {escaped(name)}", escaped(about)]
         for _, shown, words in options(own):
             lines += explained(shown, words)
-    lines += [".SH EXAMPLES", ".nf", *(escaped(line) for line in section(text, "Examples") if line), ".fi"]
+        lines += examples(own)
+    lines += [".SH EXAMPLES", *examples(text)[2:]]
     lines.append(".SH EXIT STATUS")
     for status, meaning in STATUSES:
         lines += explained(status, [meaning])

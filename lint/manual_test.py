@@ -52,6 +52,10 @@ Options:
 
   -h, --help
           Print help
+
+Examples:
+  The first kind:
+    seamless play --kind one --of 4
 END
 esac
 """
@@ -82,6 +86,7 @@ class Manual(unittest.TestCase):
             ".B \\-\\-kind <KIND>",
             "\\- two: the second",
             "    seamless play \\-\\-kind one",
+            "    seamless play \\-\\-kind one \\-\\-of 4",
         ):
             self.assertIn(line, page.split("\n"))
         self.assertNotIn(".SS help", page)

@@ -70,6 +70,23 @@ class Seamless(unittest.TestCase):
         (self.top / "tools" / "seamless").symlink_to(self.top / "seamless")
         self.assertEqual(self.call("linked", script="tools/seamless").communicate(timeout=30)[0], "linked\n")
 
+    def git(self, *arguments):
+        names = ["-c", "user.name=a", "-c", "user.email=a@b.example"]
+        return subprocess.run(["git", *names, "-C", self.top, *arguments], check=True, capture_output=True, text=True).stdout.strip()
+
+    def test_the_commit_of_a_version(self):
+        self.call().communicate(timeout=30)
+        self.assertEqual(self.call("--version").communicate(timeout=30), ("--version\n", ""))
+        self.git("init")
+        self.git("add", "crates.txt")
+        self.git("commit", "--message", "First")
+        commit = self.git("rev-parse", "--short=12", "HEAD")
+        self.assertEqual(self.call("--version").communicate(timeout=30), (f"--version\ncommit {commit}\n", ""))
+        self.assertEqual(self.call("--version", "x").communicate(timeout=30), ("--version x\n", ""))
+        with open(self.top / "crates.txt", "a") as listed:
+            listed.write("# changed\n")
+        self.assertEqual(self.call("-V").communicate(timeout=30)[0], f"-V\ncommit {commit}, changed since\n")
+
 
 if __name__ == "__main__":
     unittest.main()
