@@ -11,6 +11,10 @@ from pathlib import Path
 SCRIPT = Path(__file__).resolve().parent.parent / "seamless"
 # In place of the toolchain: writes down which crate it builds, takes a moment, and makes a program that prints its arguments.
 TOOLCHAIN = """#!/usr/bin/env bash
+if [ "$1" = version ]; then
+    echo kit-1
+    exit
+fi
 name=$(basename "$PWD")
 echo "$name" >>../../built
 sleep 0.5
@@ -74,18 +78,18 @@ class Seamless(unittest.TestCase):
         names = ["-c", "user.name=a", "-c", "user.email=a@b.example"]
         return subprocess.run(["git", *names, "-C", self.top, *arguments], check=True, capture_output=True, text=True).stdout.strip()
 
-    def test_the_commit_of_a_version(self):
+    def test_the_kit_and_the_commit_of_a_version(self):
         self.call().communicate(timeout=30)
-        self.assertEqual(self.call("--version").communicate(timeout=30), ("--version\n", ""))
+        self.assertEqual(self.call("--version").communicate(timeout=30), ("--version\nkit kit-1\n", ""))
         self.git("init")
         self.git("add", "crates.txt")
         self.git("commit", "--message", "First")
         commit = self.git("rev-parse", "--short=12", "HEAD")
-        self.assertEqual(self.call("--version").communicate(timeout=30), (f"--version\ncommit {commit}\n", ""))
+        self.assertEqual(self.call("--version").communicate(timeout=30), (f"--version\nkit kit-1\ncommit {commit}\n", ""))
         self.assertEqual(self.call("--version", "x").communicate(timeout=30), ("--version x\n", ""))
         with open(self.top / "crates.txt", "a") as listed:
             listed.write("# changed\n")
-        self.assertEqual(self.call("-V").communicate(timeout=30)[0], f"-V\ncommit {commit}, changed since\n")
+        self.assertEqual(self.call("-V").communicate(timeout=30)[0], f"-V\nkit kit-1\ncommit {commit}, changed since\n")
 
 
 if __name__ == "__main__":

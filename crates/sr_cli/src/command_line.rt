@@ -20,8 +20,8 @@ use sr_slots::Keys;
 use std::alloc::{AllocError, Global};
 use std::fmt;
 
-/// The name, the version and the kit of the program: the version is that of CHANGELOG.md, the kit that of README.md.
-const VERSION: &str = "0.4.0-dev (rattle-kit-13f logic dac8208d650f15bf)";
+/// The version of the program, that of CHANGELOG.md.
+const VERSION: &str = "0.4.0-dev";
 
 /// The group of the options that name captures.
 const CAPTURES: &str = "captures";
