@@ -6,8 +6,8 @@ use Rattle.sr_node_runs.specs.Alarms.{AlarmsAreOfWhatCameIn}
 use Rattle.sr_node_runs.proofs.HeardLemmas.{made}
 
 pub alarms_lem : AlarmsAreTheLatest → ListIsOfKept → StatusIsOfKept → AlarmsAreOfWhatCameIn
-alarms_lem latest listed told start turns t run =
-    let m = made start turns t run in
+alarms_lem latest listed told origin turns t run =
+    let m = made origin turns t run in
     let now = t.core.time in (
       m.all,
       m.happen,

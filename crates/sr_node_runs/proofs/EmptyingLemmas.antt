@@ -10,8 +10,8 @@ use Rattle.sr_node.specs.declared.event.Answer.TheVariants as answer
 use Rattle.sr_node.specs.Images.{State}
 use Rattle.sr_node.specs.Outboxes.{Outboxes, box_at, first_of}
 use Rattle.sr_node.specs.PerPort.{at, with_at}
-use Rattle.sr_node.specs.Starts.{Start}
-use Rattle.sr_node_runs.specs.NodeRuns.{Turn, happened, Run}
+use Rattle.sr_node_runs.specs.Origins.{Origin}
+use Rattle.sr_node_runs.specs.NodeRuns.{Turn, happened, RunFrom}
 use Rattle.sr_node_runs.specs.Brought.{is_at, taken}
 use Rattle.sr_node_runs.specs.Emptying.{without_first, emptied_at, takes_all, EmptiesOutlets, EmptiesNodes, TakesWhatWaits}
 
@@ -37,31 +37,31 @@ box_twice o C ps qs = refl
 abbrev with_boxes : State → Outboxes → State
 with_boxes s o = record s { core = record s.core { out = o } }
 
-taken_out : (start : Start) (s : State) (port : Port) (ps : List ParcelImage) (turns : List Turn) → Run start turns s →
-    ps ≡ box_at s.core.out port → Run start (takes_all s port ps turns) (emptied_at s port)
-taken_out start s port [] turns run none =
-    subst (Run start turns) (ap (with_boxes s) (sym (own_box s.core.out port) ∙ ap (with_at s.core.out port) (sym none))) run
-taken_out start s port (p ∷ ps) turns run some =
-    let next : Run start (happened s (event.Take port) (answer.Taken (Some p)) (pos 0) ∷ turns) (without_first s port) =
+taken_out : (origin : Origin) (s : State) (port : Port) (ps : List ParcelImage) (turns : List Turn) → RunFrom origin turns s →
+    ps ≡ box_at s.core.out port → RunFrom origin (takes_all s port ps turns) (emptied_at s port)
+taken_out origin s port [] turns run none =
+    subst (RunFrom origin turns) (ap (with_boxes s) (sym (own_box s.core.out port) ∙ ap (with_at s.core.out port) (sym none))) run
+taken_out origin s port (p ∷ ps) turns run some =
+    let next : RunFrom origin (happened s (event.Take port) (answer.Taken (Some p)) (pos 0) ∷ turns) (without_first s port) =
     (run, refl, (ap first_of some, refl)) in
     let rest : ps ≡ box_at (without_first s port).core.out port =
     ap (λ (x : List ParcelImage). drop 1 x) some ∙ sym (box_there s.core.out port (drop 1 (at s.core.out port))) in
-    subst (Run start (takes_all (without_first s port) port ps (happened s (event.Take port) (answer.Taken (Some p)) (pos 0) ∷ turns)))
+    subst (RunFrom origin (takes_all (without_first s port) port ps (happened s (event.Take port) (answer.Taken (Some p)) (pos 0) ∷ turns)))
     (ap (with_boxes s) (box_twice s.core.out port (drop 1 (at s.core.out port)) []))
-    (taken_out start (without_first s port) port ps (happened s (event.Take port) (answer.Taken (Some p)) (pos 0) ∷ turns) next rest)
+    (taken_out origin (without_first s port) port ps (happened s (event.Take port) (answer.Taken (Some p)) (pos 0) ∷ turns) next rest)
 
 pub empties_outlets : EmptiesOutlets
-empties_outlets start turns s port run = taken_out start s port (box_at s.core.out port) turns run refl
+empties_outlets origin turns s port run = taken_out origin s port (box_at s.core.out port) turns run refl
 
 pub empties_nodes : EmptiesNodes
-empties_nodes start turns s run =
+empties_nodes origin turns s run =
     let from_h = takes_all s H (box_at s.core.out H) turns in
     let from_a = takes_all (emptied_at s H) A (box_at s.core.out A) from_h in
     let from_b = takes_all (emptied_at (emptied_at s H) A) B (box_at s.core.out B) from_a in
-    let h = taken_out start s H (box_at s.core.out H) turns run refl in
-    let a = taken_out start (emptied_at s H) A (box_at s.core.out A) from_h h refl in
-    let b = taken_out start (emptied_at (emptied_at s H) A) B (box_at s.core.out B) from_a a refl in
-    taken_out start (emptied_at (emptied_at (emptied_at s H) A) B) C (box_at s.core.out C) from_b b refl
+    let h = taken_out origin s H (box_at s.core.out H) turns run refl in
+    let a = taken_out origin (emptied_at s H) A (box_at s.core.out A) from_h h refl in
+    let b = taken_out origin (emptied_at (emptied_at s H) A) B (box_at s.core.out B) from_a a refl in
+    taken_out origin (emptied_at (emptied_at (emptied_at s H) A) B) C (box_at s.core.out C) from_b b refl
 
 one_more : (b : Bool) (qs ps : List ParcelImage) (p : ParcelImage) →
     (qs ++ (if b then p ∷ [] else [])) ++ (if b then ps else []) ≡ qs ++ (if b then p ∷ ps else [])

@@ -9,8 +9,8 @@ use Rattle.sr_node_table_runs.specs.Kept.{is_live_by, kept_in, kept_of}
 use Rattle.sr_node_table_runs.specs.Entered.{live_in}
 use Rattle.sr_node_table_runs.specs.Raised.{raised_in}
 use Rattle.sr_node.specs.Images.{State}
-use Rattle.sr_node.specs.Starts.{Start}
-use Rattle.sr_node_runs.specs.NodeRuns.{Turn, Run}
+use Rattle.sr_node_runs.specs.Origins.{Origin}
+use Rattle.sr_node_runs.specs.NodeRuns.{Turn, RunFrom}
 use Rattle.sr_node_runs.specs.Heard.{HappenIn}
 
 -- What happened to the table of nodes came in the order of its times, up to the node's own. The node has the latest 64 of the alarms that
@@ -25,4 +25,5 @@ pub record TellsOfKept (all : List nodes.Event) (t : State) : Type 0 where
 -- in every run, of what happened to the table in its turns
 abbrev pub AlarmsAreOfWhatCameIn : Type 0
 AlarmsAreOfWhatCameIn =
-    (start : Start) (turns : List Turn) (t : State) → Run start turns t → (all : List nodes.Event) × HappenIn turns all × TellsOfKept all t
+    (origin : Origin) (turns : List Turn) (t : State) → RunFrom origin turns t
+    → (all : List nodes.Event) × HappenIn turns all × TellsOfKept all t

@@ -8,8 +8,8 @@ use Rattle.sr_node.specs.declared.event.Answer.TheVariants as answer
 use Rattle.sr_node.specs.Images.{State}
 use Rattle.sr_node.specs.Outboxes.{box_at, boxes_empty, boxes_left}
 use Rattle.sr_node.specs.PerPort.{with_at}
-use Rattle.sr_node.specs.Starts.{Start}
-use Rattle.sr_node_runs.specs.NodeRuns.{Turn, happened, Run}
+use Rattle.sr_node_runs.specs.Origins.{Origin}
+use Rattle.sr_node_runs.specs.NodeRuns.{Turn, happened, RunFrom}
 use Rattle.sr_node_runs.specs.Brought.{is_at, taken}
 
 -- the node without the first parcel that waits at an outlet, and without all of them
@@ -39,12 +39,13 @@ takes_everywhere s turns =
 -- these are turns of a run
 abbrev pub EmptiesOutlets : Type 0
 EmptiesOutlets =
-    (start : Start) (turns : List Turn) (s : State) (port : Port) → Run start turns s →
-    Run start (takes_all s port (box_at s.core.out port) turns) (emptied_at s port)
+    (origin : Origin) (turns : List Turn) (s : State) (port : Port) → RunFrom origin turns s →
+    RunFrom origin (takes_all s port (box_at s.core.out port) turns) (emptied_at s port)
 
 abbrev pub EmptiesNodes : Type 0
 EmptiesNodes =
-    (start : Start) (turns : List Turn) (s : State) → Run start turns s → Run start (takes_everywhere s turns) (emptied_everywhere s)
+    (origin : Origin) (turns : List Turn) (s : State) → RunFrom origin turns s →
+    RunFrom origin (takes_everywhere s turns) (emptied_everywhere s)
 
 -- what was taken out at an outlet grows by them
 abbrev pub TakesWhatWaits : Type 0

@@ -15,6 +15,7 @@ use Rattle.sr_node_runs.specs.Brought.{taken}
 use Rattle.sr_node_runs.specs.Emptying.{takes_everywhere, EmptiesNodes}
 use Rattle.sr_node_runs.specs.NodeLaws.{EachOnce}
 use Rattle.sr_node_runs.specs.NodeRuns.{happened, Run}
+use Rattle.sr_node_runs.specs.Origins.{new}
 use Rattle.sr_node_runs.specs.NodeRuns as runs
 use Rattle.sr_plant.specs.declared.topology.Topology.{Topology}
 use Rattle.sr_plant.specs.declared.event.PlantEvent.{PlantEvent}
@@ -57,7 +58,7 @@ node_acts empty k i start nodes turns before after turn so_far there step m at =
     here : k ≡ i → m ≡ emptied after → RunsTo start (if k == i then takes_everywhere after (turn ∷ turns) else turns) m
     here place same =
         let old : RunsTo start turns before = so_far before (ap (λ (x : ℕ). slice_get nodes x) place ∙ there) in
-        let run : Run start (takes_everywhere after (turn ∷ turns)) (emptied after) = empty start (turn ∷ turns) after (step old.run) in
+        let run : Run start (takes_everywhere after (turn ∷ turns)) (emptied after) = empty (new start) (turn ∷ turns) after (step old.run) in
         rw (eq-eqb k i place) (record {
           run = subst (Run start (takes_everywhere after (turn ∷ turns))) (sym same) run;
           quiet = ap (λ (x : State). x.core.out) same;
@@ -109,7 +110,7 @@ nodes_put_out_once empty each t starts turns s run k numbers start m o is at ste
     let to = nodes_run_to empty t starts turns s run k numbers start is m at in
     let ts = node_turns k numbers t starts turns s run in
     let none : box_at m.core.out o ≡ [] = ap (λ b. box_at b o) to.quiet ∙ by o in
-    sym (append-nil (taken o ts)) ∙ ap (λ (x : List ParcelImage). taken o ts ++ x) (sym none) ∙ each start ts m o to.run steady
+    sym (append-nil (taken o ts)) ∙ ap (λ (x : List ParcelImage). taken o ts ++ x) (sym none) ∙ each (new start) ts m o to.run steady
   where
     by : (q : Port) → box_at boxes_empty q ≡ []
     by H = refl

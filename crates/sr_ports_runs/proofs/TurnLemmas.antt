@@ -6,9 +6,9 @@ use Rattle.std.specs.List.{slice_get}
 use Rattle.sr_frame.specs.declared.ports.Port.{Port}
 use Rattle.sr_node.specs.Images.{State}
 use Rattle.sr_node.specs.NodeImages.{state_of}
-use Rattle.sr_node.specs.Starts.{Start, begun_as}
 use Rattle.sr_node.specs.Outboxes.{box_at}
-use Rattle.sr_node_runs.specs.NodeRuns.{Turn, happened, swapped, Run}
+use Rattle.sr_node_runs.specs.Origins.{Origin}
+use Rattle.sr_node_runs.specs.NodeRuns.{Turn, happened, swapped, RunFrom}
 use Rattle.sr_node_runs.specs.NodeLaws.{EachOnce}
 use Rattle.sr_node_runs.specs.Brought.{taken, event_takes}
 use Rattle.sr_ports.specs.declared.entry.Entry.{Entry}
@@ -49,14 +49,14 @@ happen_one_way unique number before s t u (e ∷ es) turns others are them =
     (subst (λ m. AreTurns number (turn_of number before s e ∷ before) m es u others) same them.2)
 
 pub are_runs : HistoriesAreRuns
-are_runs start number before s t [] turns run are =
-    subst (λ x. Run start x t) (sym are.1) (subst (λ x. Run start before x) (sym are.0) run)
-are_runs start number before s t (e ∷ es) turns run are =
-    let here : Run start (turn_of number before s e ∷ before) are.0 = (run, are.1.taken, are.1.step) in
-    are_runs start number (turn_of number before s e ∷ before) are.0 t es turns here are.2
+are_runs origin number before s t [] turns run are =
+    subst (λ x. RunFrom origin x t) (sym are.1) (subst (λ x. RunFrom origin before x) (sym are.0) run)
+are_runs origin number before s t (e ∷ es) turns run are =
+    let here : RunFrom origin (turn_of number before s e ∷ before) are.0 = (run, are.1.taken, are.1.step) in
+    are_runs origin number (turn_of number before s e ∷ before) are.0 t es turns here are.2
 
 pub swaps_are_turns : SwapsAreTurns
-swaps_are_turns start before s t run follows = (run, follows.mac, λ i. record { role = t.role; core = follows.core i })
+swaps_are_turns origin before s t run follows = (run, follows.mac, λ i. record { role = t.role; core = follows.core i })
 
 -- what entries take at an outlet is behind what was taken before
 taken_behind : (o : Port) (number : ℕ → ℤ) (before : List Turn) (s t : State) (es : List Entry) (turns : List Turn)
@@ -67,10 +67,10 @@ taken_behind o number before s t (e ∷ es) turns are =
     ∙ append_assoc (taken o before) (event_takes o e.event e.answer) (handed_out o es)
 
 pub entered_once : EachOnce → EnteredOnce
-entered_once once start number t es turns o are steady =
-    let took : taken o turns ≡ handed_out o es = taken_behind o number [] (begun_as start) t es turns are in
+entered_once once origin number s t es turns o begins are steady =
+    let took : taken o turns ≡ handed_out o es = taken_behind o number [] s t es turns are in
     ap (λ l. l ++ box_at t.core.out o) (sym took)
-    ∙ once start turns t o (are_runs start number [] (begun_as start) t es turns refl are) steady
+    ∙ once origin turns t o (are_runs origin number [] s t es turns begins are) steady
 
 -- what goes on in segments has turns
 have_turns_behind : (number : ℕ → ℤ) (before : List Turn) (s : State) (gs : List Segment)
@@ -110,14 +110,14 @@ FollowFrom s [] = Unit {0}
 FollowFrom s (g ∷ gs) = Follows s (state_of g.opening) × FollowFrom (state_of g.closing) gs
 
 -- on from a run they are a run
-runs_behind : (start : Start) (number : ℕ → ℤ) (before : List Turn) (s : State) (gs : List Segment) (turns : List Turn)
-    → Run start before s → FollowFrom s gs → AreTurnsBehind number before s gs turns → Run start turns (state_behind s gs)
-runs_behind start number before s [] turns run follow are = subst (λ x. Run start x s) (sym are) run
-runs_behind start number before s (g ∷ gs) turns run follow are =
-    let here : Run start (swapped s g.opening.role ∷ before) (state_of g.opening) = swaps_are_turns start before s (state_of g.opening) run follow.0 in
-    let through : Run start are.0 (state_of g.closing) =
-    are_runs start number (swapped s g.opening.role ∷ before) (state_of g.opening) (state_of g.closing) g.entries.items are.0 here are.1 in
-    runs_behind start number are.0 (state_of g.closing) gs turns through follow.1 are.2
+runs_behind : (origin : Origin) (number : ℕ → ℤ) (before : List Turn) (s : State) (gs : List Segment) (turns : List Turn)
+    → RunFrom origin before s → FollowFrom s gs → AreTurnsBehind number before s gs turns → RunFrom origin turns (state_behind s gs)
+runs_behind origin number before s [] turns run follow are = subst (λ x. RunFrom origin x s) (sym are) run
+runs_behind origin number before s (g ∷ gs) turns run follow are =
+    let here : RunFrom origin (swapped s g.opening.role ∷ before) (state_of g.opening) = swaps_are_turns origin before s (state_of g.opening) run follow.0 in
+    let through : RunFrom origin are.0 (state_of g.closing) =
+    are_runs origin number (swapped s g.opening.role ∷ before) (state_of g.opening) (state_of g.closing) g.entries.items are.0 here are.1 in
+    runs_behind origin number are.0 (state_of g.closing) gs turns through follow.1 are.2
 
 -- one place further
 get_next : (g : Segment) (gs : List Segment) (i : ℕ) (s : Segment) → slice_get gs i ≡ Some s → slice_get (g ∷ gs) (i + 1) ≡ Some s
@@ -132,9 +132,9 @@ follow_from g (h ∷ hs) whole = (
 )
 
 pub segments_are_runs : SegmentsAreRuns
-segments_are_runs start number g gs turns opens whole are =
-    runs_behind start number are.0 (state_of g.closing) gs turns
-    (are_runs start number [] (state_of g.opening) (state_of g.closing) g.entries.items are.0 opens are.1)
+segments_are_runs origin number g gs turns opens whole are =
+    runs_behind origin number are.0 (state_of g.closing) gs turns
+    (are_runs origin number [] (state_of g.opening) (state_of g.closing) g.entries.items are.0 opens are.1)
     (follow_from g gs whole)
     are.2
 
@@ -168,10 +168,10 @@ taken_behind_all o number before s (g ∷ gs) turns are =
     (taken_behind_all o number are.0 (state_of g.closing) gs turns are.2)
 
 pub entered_once_in_all : EachOnce → EnteredOnceInAll
-entered_once_in_all once start number g gs turns o opens whole are steady =
+entered_once_in_all once origin number g gs turns o opens whole are steady =
     let took : taken o turns ≡ handed_out o (entries_in (g ∷ gs)) =
     joined_behind o [] are.0 turns g.entries.items (entries_in gs)
     (taken_behind o number [] (state_of g.opening) (state_of g.closing) g.entries.items are.0 are.1)
     (taken_behind_all o number are.0 (state_of g.closing) gs turns are.2) in
     ap (λ l. l ++ box_at (state_behind (state_of g.closing) gs).core.out o) (sym took)
-    ∙ once start turns (state_behind (state_of g.closing) gs) o (segments_are_runs start number g gs turns opens whole are) steady
+    ∙ once origin turns (state_behind (state_of g.closing) gs) o (segments_are_runs origin number g gs turns opens whole are) steady

@@ -2,12 +2,12 @@
 use Rattle.std.specs.Prelude.{◌≡◌, ℕ, ℤ, List, [], ◌∷◌, ◌++◌}
 use Rattle.sr_frame.specs.declared.ports.Port.{Port}
 use Rattle.sr_node.specs.Images.{State}
-use Rattle.sr_node.specs.Starts.{Start, begun_as}
 use Rattle.sr_node.specs.NodeImages.{state_of}
 use Rattle.sr_node.specs.Outboxes.{box_at}
-use Rattle.sr_node_runs.specs.NodeRuns.{Turn, swapped, Run}
-use Rattle.sr_node_runs.specs.Brought.{went, parcels_of}
-use Rattle.sr_node_runs.specs.SteadyNodes.{IsSteady}
+use Rattle.sr_node_runs.specs.Origins.{Origin, BeginsAs, stands_before}
+use Rattle.sr_node_runs.specs.NodeRuns.{Turn, swapped, RunFrom}
+use Rattle.sr_node_runs.specs.Brought.{went_after, parcels_of}
+use Rattle.sr_node_runs.specs.SteadyNodes.{IsSteadyFrom}
 use Rattle.sr_ports.specs.declared.entry.Entry.{Entry}
 use Rattle.sr_ports.specs.declared.segment.Segment.{Segment}
 use Rattle.sr_ports.specs.Histories.{Steps}
@@ -30,14 +30,14 @@ HistoriesHappenOneWay =
 -- on from a run they are a run
 abbrev pub HistoriesAreRuns : Type 0
 HistoriesAreRuns =
-    (start : Start) (number : ℕ → ℤ) (before : List Turn) (s t : State) (es : List Entry) (turns : List Turn)
-    → Run start before s → AreTurns number before s es t turns → Run start turns t
+    (origin : Origin) (number : ℕ → ℤ) (before : List Turn) (s t : State) (es : List Entry) (turns : List Turn)
+    → RunFrom origin before s → AreTurns number before s es t turns → RunFrom origin turns t
 
 -- where a segment opens after another closed, a run goes on with one turn, in which the role is exchanged for that of its opening
 abbrev pub SwapsAreTurns : Type 0
 SwapsAreTurns =
-    (start : Start) (before : List Turn) (s t : State)
-    → Run start before s → Follows s t → Run start (swapped s t.role ∷ before) t
+    (origin : Origin) (before : List Turn) (s t : State)
+    → RunFrom origin before s → Follows s t → RunFrom origin (swapped s t.role ∷ before) t
 
 -- segments have turns, whatever the numbering
 abbrev pub SegmentsHaveTurns : Type 0
@@ -50,23 +50,24 @@ SegmentsHappenOneWay =
     (number : ℕ → ℤ) (g : Segment) (gs : List Segment) (turns others : List Turn)
     → AreTurnsOfAll number g gs turns → AreTurnsOfAll number g gs others → turns ≡ others
 
--- where none is torn, and the first opens with a new node, they are a run up to the last closing
+-- where none is torn, and the first opens with a node that begins so, new or resumed, they are a run up to the last closing
 abbrev pub SegmentsAreRuns : Type 0
 SegmentsAreRuns =
-    (start : Start) (number : ℕ → ℤ) (g : Segment) (gs : List Segment) (turns : List Turn)
-    → state_of g.opening ≡ begun_as start → AreWhole (g ∷ gs) → AreTurnsOfAll number g gs turns
-    → Run start turns (state_behind (state_of g.closing) gs)
+    (origin : Origin) (number : ℕ → ℤ) (g : Segment) (gs : List Segment) (turns : List Turn)
+    → BeginsAs origin (state_of g.opening) → AreWhole (g ∷ gs) → AreTurnsOfAll number g gs turns
+    → RunFrom origin turns (state_behind (state_of g.closing) gs)
 
--- of a steady history from a new node on: what was taken at an outlet and what waits there is what went there, in order
+-- of a steady history from a node on that begins so: what was taken at an outlet and what waits there is what went there, in order
 abbrev pub EnteredOnce : Type 0
 EnteredOnce =
-    (start : Start) (number : ℕ → ℤ) (t : State) (es : List Entry) (turns : List Turn) (o : Port)
-    → AreTurns number [] (begun_as start) es t turns → IsSteady start turns
-    → handed_out o es ++ box_at t.core.out o ≡ parcels_of (went o turns)
+    (origin : Origin) (number : ℕ → ℤ) (s t : State) (es : List Entry) (turns : List Turn) (o : Port)
+    → BeginsAs origin s → AreTurns number [] s es t turns → IsSteadyFrom origin turns
+    → handed_out o es ++ box_at t.core.out o ≡ parcels_of (went_after (stands_before origin) o turns)
 
--- the same of segments of which none is torn, and of which the first opens with a new node
+-- the same of segments of which none is torn, and of which the first opens with such a node
 abbrev pub EnteredOnceInAll : Type 0
 EnteredOnceInAll =
-    (start : Start) (number : ℕ → ℤ) (g : Segment) (gs : List Segment) (turns : List Turn) (o : Port)
-    → state_of g.opening ≡ begun_as start → AreWhole (g ∷ gs) → AreTurnsOfAll number g gs turns → IsSteady start turns
-    → handed_out o (entries_in (g ∷ gs)) ++ box_at (state_behind (state_of g.closing) gs).core.out o ≡ parcels_of (went o turns)
+    (origin : Origin) (number : ℕ → ℤ) (g : Segment) (gs : List Segment) (turns : List Turn) (o : Port)
+    → BeginsAs origin (state_of g.opening) → AreWhole (g ∷ gs) → AreTurnsOfAll number g gs turns → IsSteadyFrom origin turns
+    → handed_out o (entries_in (g ∷ gs)) ++ box_at (state_behind (state_of g.closing) gs).core.out o
+    ≡ parcels_of (went_after (stands_before origin) o turns)

@@ -17,7 +17,7 @@ pub fn histories_are_runs()
 }
 
 /// Segments are one list of turns, whatever whole numbers their frames have. Where none is torn and the first opens with a
-/// new node, they are one run of that node.
+/// new node, or with one that was resumed, they are one run of that node.
 pub fn segments_are_runs()
     ensures turns { SegmentsHaveTurns }
     ensures one { SegmentsHappenOneWay }
@@ -26,8 +26,8 @@ pub fn segments_are_runs()
     supervisions_are_unique();
 }
 
-/// In every steady history from a new node on, in one segment or in several of which none is torn, what the entries took at an
-/// outlet, followed by what waits there, is in order what went there, each pair of source and number once.
+/// In every steady history from a new or resumed node on, in one segment or in several of which none is torn, what the entries
+/// took at an outlet, followed by what waits there, is in order what went there, each pair of source and number once.
 pub fn what_was_entered_goes_out_once()
     ensures one { EnteredOnce }
     ensures all { EnteredOnceInAll }

@@ -11,6 +11,7 @@ use Rattle.sr_node.specs.Images.{State}
 use Rattle.sr_node.specs.Outboxes.{box_at}
 use Rattle.sr_node.specs.Starts.{Start}
 use Rattle.sr_node_runs.specs.NodeRuns.{Turn, happened, Run}
+use Rattle.sr_node_runs.specs.Origins.{new}
 use Rattle.sr_node_runs.specs.Brought.{is_at, parcels_of, taken, went}
 use Rattle.sr_node_runs.specs.Emptying.{takes_all, EmptiesOutlets, TakesWhatWaits}
 use Rattle.sr_node_runs.specs.NodeLaws.{EachOnce}
@@ -136,7 +137,7 @@ empties_on : EmptiesOutlets → TakesWhatWaits → (start : Start) (role : RoleN
     Emptied role port s text u →
     Leads start role turns (takes_all s port (box_at s.core.out port) turns) (outward port (box_at s.core.out port) ∷ []) text u
 empties_on empty grows start role turns s port text u run (are, same) = record {
-  run = subst (Run start (takes_all s port (box_at s.core.out port) turns)) (sym same) (empty start turns s port run);
+  run = subst (Run start (takes_all s port (box_at s.core.out port) turns)) (sym same) (empty (new start) turns s port run);
   out = λ o. grows o s port (box_at s.core.out port) turns
       ∙ ap (λ (x : List ParcelImage). taken o turns ++ x) (sym (append-nil (if is_at o port then box_at s.core.out port else [])));
   printed = (text, [], are, refl, sym (append-nil text));
@@ -239,4 +240,4 @@ scripts_print_each_once empty grows each setup numbers lines text t replies o st
     let is = node_scripts_are_runs empty grows setup numbers lines text t replies in
     let turns = script_turns numbers (start_of setup) 1 lines text t replies [] in
     sym (is.out o) ∙ sym (append-nil (taken o turns)) ∙ ap (λ (x : List ParcelImage). taken o turns ++ x) (sym (is.left o))
-    ∙ each (node_start setup) turns t.node o is.run steady
+    ∙ each (new (node_start setup)) turns t.node o is.run steady

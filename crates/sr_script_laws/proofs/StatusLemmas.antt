@@ -2,6 +2,7 @@
 use Rattle.std.proofs.Common.{ℕ, ◌+◌, ℤ, List, [], ◌∷◌, refl, sym, subst}
 use Rattle.sr_node.specs.Starts.{Start}
 use Rattle.sr_node_runs.specs.NodeRuns.{Turn, Run}
+use Rattle.sr_node_runs.specs.Origins.{new}
 use Rattle.sr_node_runs.specs.Emptying.{takes_everywhere, EmptiesNodes}
 use Rattle.sr_node_runs.specs.Heard.{TellsWhatItHeard}
 use Rattle.sr_session.specs.Runs.{Replies}
@@ -17,7 +18,7 @@ lines_run empty start numbers turns s number [] text t run (none, same) = subst 
 lines_run empty start numbers turns s number (line ∷ lines) text t run (front, u, rest, place, (role, (command, octets, says, v, obeys, same)), replies, parts) =
     let mid = command_turns s.role s.node number command octets front v (numbers number) obeys turns in
     let obeyed = obeys_on start s.role turns s.node number command octets front v (numbers number) run obeys in
-    let left = subst (Run start (takes_everywhere v mid)) (sym same) (empty start mid v obeyed.run) in
+    let left = subst (Run start (takes_everywhere v mid)) (sym same) (empty (new start) mid v obeyed.run) in
     lines_run empty start numbers (takes_everywhere v mid) u (number + 1) lines rest t left replies
 
 pub status_scripts_are_runs : EmptiesNodes → StatusScriptsAreRuns
@@ -25,5 +26,5 @@ status_scripts_are_runs empty setup numbers lines text t replies = lines_run emp
 
 pub statuses_tell : EmptiesNodes → TellsWhatItHeard → StatusesTellWhatWasHeard
 statuses_tell empty tells setup numbers lines text t replies =
-    tells (node_start setup) (status_turns numbers (start_of setup) 1 lines text t replies []) t.node
+    tells (new (node_start setup)) (status_turns numbers (start_of setup) 1 lines text t replies []) t.node
     (status_scripts_are_runs empty setup numbers lines text t replies)

@@ -9,6 +9,7 @@ mod makers;
 mod many;
 mod noted;
 mod others;
+mod resumed;
 mod rings;
 mod standbys;
 mod steps;

@@ -8,6 +8,7 @@ use super::frames::{OWN, Sent, octets_of};
 use super::makers::{danh, danp};
 use super::many::{fills, hears_sources, lives};
 use super::others::{absorbs, becomes};
+use super::resumed::resumed;
 use super::taken::takes;
 use crate::settings::MODE_X;
 use sr_dup_table::DupFault;
@@ -208,6 +209,14 @@ fn first_wrong_of_danh(alloc: Global, settings: Settings, steps: &[Step]) -> Opt
     }
 }
 
+/// So for a node that is resumed with a table.
+fn first_wrong_of_resumed(alloc: Global, steps: &[Step]) -> Option<usize> {
+    match resumed(alloc) {
+        Some(mut node) => first_wrong_of(alloc, &mut node, steps),
+        None => Some(steps.len()),
+    }
+}
+
 // Where a growth is refused as the node is made, it is made again.
 fn wrong_danp(alloc: Global, steps: &[Step]) -> Option<usize> {
     let wrong = first_wrong_of_danp(alloc, steps);
@@ -222,6 +231,15 @@ fn wrong_danh(alloc: Global, settings: Settings, steps: &[Step]) -> Option<usize
     let wrong = first_wrong_of_danh(alloc, settings, steps);
     if wrong == Some(steps.len()) {
         first_wrong_of_danh(alloc, settings, steps)
+    } else {
+        wrong
+    }
+}
+
+fn wrong_resumed(alloc: Global, steps: &[Step]) -> Option<usize> {
+    let wrong = first_wrong_of_resumed(alloc, steps);
+    if wrong == Some(steps.len()) {
+        first_wrong_of_resumed(alloc, steps)
     } else {
         wrong
     }
@@ -242,5 +260,11 @@ pub fn expect_ring_steps<R: Abort + AllocGlobal>(rt: &R, steps: &[Step]) {
 /// So for a new node of a ring in mode X.
 pub fn expect_ring_steps_in_mode_x<R: Abort + AllocGlobal>(rt: &R, steps: &[Step]) {
     let wrong = wrong_danh(rt.alloc(), MODE_X, steps);
+    assert_eq!(rt; wrong, None);
+}
+
+/// So for one that is resumed with a table.
+pub fn expect_resumed_steps<R: Abort + AllocGlobal>(rt: &R, steps: &[Step]) {
+    let wrong = wrong_resumed(rt.alloc(), steps);
     assert_eq!(rt; wrong, None);
 }
