@@ -3,15 +3,13 @@
 ghost use Rattle.std.specs.Prelude.{◌≡◌, ◌+◌, ◌++◌, ◌∷◌, [], ◌<◌, IfOk, IfErr, OnErr, OnOk, None, Some, false, true, vec_len, vec_capacity};
 ghost use Rattle.sr_node.specs.Images.{node_state};
 ghost use Rattle.sr_node.specs.Steps.{Step, refusal_of};
-ghost use Rattle.sr_ports.specs.Copies.{taken_by, with_parcel};
 ghost use Rattle.sr_ports.specs.Histories.{entry};
 ghost use Rattle.sr_ports.specs.Entering.{is_journal_full, enter_fault};
 
 use crate::{EnterFault, Entry, Kept, Pass, Worker};
-use sr_forwarding::{Parcel, Role};
+use sr_forwarding::Role;
 use sr_frame::NoMemory;
 use sr_node::{Answer, Event, NodeOf};
-use std::alloc::Global;
 use std::sync::ledger::Ledger;
 
 /// The most entries of a journal.
@@ -61,88 +59,130 @@ pub fn enter<R: Role, L: Ledger>(
         node.check(event)?;
         return Err(EnterFault::JournalFull);
     }
-    // The node's own refusal comes first. Where the copies are had, its step tells it, so that no event is looked at twice.
-    let (twin, front) = match prepare(node, journal, event) {
-        Ok(copies) => copies,
-        Err(fault) => {
-            node.check(event)?;
-            return Err(fault.into());
-        }
-    };
-    let answer = node.step(event)?;
-    let again = with_parcel(&answer, front);
-    journal.push_reserved(entry_of(pass.worker(), twin, again));
+    if let Err(refused) = journal.reserve(1) {
+        return Err(unmet(node, event, refused.into()));
+    }
+    let answer = written(node, journal, pass.worker(), event)?;
     pass.raise(book);
     Ok(answer)
 }
 
-fn entry_of(worker: Worker, event: Event, answer: Answer) -> Entry
-    ensures { result ≡ entry worker event answer }
+// Why an event is not entered for which an allocation failed: the node's own refusal comes first.
+#[cold]
+#[inline(never)]
+fn unmet<R: Role>(node: &NodeOf<R>, event: &Event, refused: NoMemory) -> EnterFault
+    ensures { result ≡ enter_fault
+        (refusal_of (node_state (R.meaning node.now.role) node.now.core) event.now) false }
 {
-    Entry {
-        worker,
-        event,
-        answer,
+    match node.check(event) {
+        Ok(()) => refused.into(),
+        Err(fault) => fault.into(),
     }
 }
 
-// All that an entry grows: copies of the event and of the parcel that it takes out, and room in the journal.
-fn prepare<R: Role>(
-    node: &NodeOf<R>,
+// The node's step with its entry, where the journal has room. The copies are made before the step. Each kind of event has an arm
+// of its own, so that nothing is asked of the answer that the kind tells, and its entry is made where it lies.
+#[inline(always)]
+fn written<R: Role>(
+    node: &mut NodeOf<R>,
     journal: &mut Vec<Entry>,
+    worker: Worker,
     event: &Event,
-) -> Result<(Event, Option<Parcel>), NoMemory>
-    ensures event { IfOk result (λ c. c.0 ≡ event.now) }
-    ensures front { IfOk result (λ c. c.1
-        ≡ taken_by (node_state (R.meaning node.now.role) node.now.core) event.now) }
-    ensures room { OnOk result (vec_len journal.new < vec_capacity journal.new) }
-    ensures same { journal.new.items ≡ journal.old.items }
-    ensures len { vec_len journal.new ≡ vec_len journal.old }
+) -> Result<Answer, EnterFault>
+    requires { vec_len journal.old < vec_capacity journal.old }
+    ensures step { IfOk result (λ a. Step
+        (node_state (R.meaning node.old.role) node.old.core) event.now a
+        (node_state (R.meaning node.new.role) node.new.core)) }
+    ensures taken { OnOk result
+        (refusal_of (node_state (R.meaning node.old.role) node.old.core) event.now ≡ None) }
+    ensures entry { IfOk result (λ a. journal.new.items
+        ≡ journal.old.items ++ entry worker event.now a ∷ []) }
+    ensures err { IfErr result (λ f. f ≡ enter_fault
+        (refusal_of (node_state (R.meaning node.old.role) node.old.core) event.now) false) }
+    ensures node { OnErr result (node_state (R.meaning node.new.role) node.new.core
+        ≡ node_state (R.meaning node.old.role) node.old.core) }
+    ensures journal { OnErr result (journal.new.items ≡ journal.old.items) }
 {
-    let alloc = *journal.allocator();
-    journal.reserve(1)?;
-    let twin = event.try_clone(alloc)?;
-    let front = front_of(node, alloc, event)?;
-    Ok((twin, front))
-}
-
-// A copy of the parcel that the event takes out.
-fn front_of<R: Role>(
-    node: &NodeOf<R>,
-    alloc: Global,
-    event: &Event,
-) -> Result<Option<Parcel>, NoMemory>
-    ensures { IfOk result (λ c. c
-        ≡ taken_by (node_state (R.meaning node.now.role) node.now.core) event.now) }
-{
-    let Event::Take { port } = event else {
-        return Ok(None);
-    };
-    match node.front(*port) {
-        Some(parcel) => Ok(Some(parcel.try_clone(alloc)?)),
-        None => Ok(None),
-    }
-}
-
-// The answer again, with this copy of the parcel that it hands out.
-fn with_parcel(answer: &Answer, front: Option<Parcel>) -> Answer
-    ensures { result ≡ with_parcel answer.now front }
-{
-    match answer {
-        Answer::Own => Answer::Own,
-        Answer::Passed(outlets) => Answer::Passed(*outlets),
-        Answer::Sent(number) => Answer::Sent(*number),
-        Answer::Ticked {
-            sources,
-            nodes,
-            proxies,
-            life,
-        } => Answer::Ticked {
-            sources: *sources,
-            nodes: *nodes,
-            proxies: *proxies,
-            life: *life,
-        },
-        Answer::Taken(_) => Answer::Taken(front),
+    match event {
+        Event::Arrive { port, parcel, now } => {
+            let twin = match parcel.try_clone(*journal.allocator()) {
+                Ok(twin) => twin,
+                Err(refused) => return Err(unmet(node, event, refused)),
+            };
+            let answer = node.step(event)?;
+            let again = match &answer {
+                Answer::Own => Answer::Own,
+                Answer::Passed(outlets) => Answer::Passed(*outlets),
+                _ => unreachable!(),
+            };
+            journal.push_reserved(Entry {
+                worker,
+                event: Event::Arrive {
+                    port: *port,
+                    parcel: twin,
+                    now: *now,
+                },
+                answer: again,
+            });
+            Ok(answer)
+        }
+        Event::Send { frame, now } => {
+            let twin = match frame.try_clone(*journal.allocator()) {
+                Ok(twin) => twin,
+                Err(refused) => return Err(unmet(node, event, refused)),
+            };
+            let Answer::Sent(number) = node.step(event)? else {
+                unreachable!()
+            };
+            journal.push_reserved(Entry {
+                worker,
+                event: Event::Send {
+                    frame: twin,
+                    now: *now,
+                },
+                answer: Answer::Sent(number),
+            });
+            Ok(Answer::Sent(number))
+        }
+        Event::Tick { now } => {
+            let Answer::Ticked {
+                sources,
+                nodes,
+                proxies,
+                life,
+            } = node.step(event)?
+            else {
+                unreachable!()
+            };
+            journal.push_reserved(Entry {
+                worker,
+                event: Event::Tick { now: *now },
+                answer: Answer::Ticked {
+                    sources,
+                    nodes,
+                    proxies,
+                    life,
+                },
+            });
+            Ok(Answer::Ticked {
+                sources,
+                nodes,
+                proxies,
+                life,
+            })
+        }
+        Event::Take { port } => {
+            let copy = match node.front(*port) {
+                Some(parcel) => Some(parcel.try_clone(*journal.allocator())?),
+                None => None,
+            };
+            let taken = node.take(*port);
+            journal.push_reserved(Entry {
+                worker,
+                event: Event::Take { port: *port },
+                answer: Answer::Taken(copy),
+            });
+            Ok(Answer::Taken(taken))
+        }
     }
 }
