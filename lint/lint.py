@@ -223,9 +223,13 @@ def names_twice(root):
             yield root / "lint/shared_names.txt", 1, f"`{name}` is not public in {crate}"
 
 
-# Where want of memory is made all the same: the fault of a script of which no line was read yet, and that of a line whose
-# refusal has no name.
-MADE = {"crates/sr_session/src/fault.rt", "crates/sr_script/src/answering.rt"}
+# Where want of memory is made all the same: the fault of a script of which no line was read yet, that of a line whose refusal
+# has no name, and where a framing's refusal is told from others by an `if`, so that the other branch knows that it is none.
+MADE = {
+    "crates/sr_session/src/fault.rt",
+    "crates/sr_script/src/answering.rt",
+    "crates/sr_agreement/src/agreeing.rt",
+}
 
 
 def makes_lack(code):

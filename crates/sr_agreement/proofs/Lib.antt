@@ -1,0 +1,5 @@
+pub mod Left
+pub mod Parts
+pub mod Pending
+pub mod Unique
+pub mod Writing

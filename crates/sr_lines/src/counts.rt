@@ -1,0 +1,61 @@
+//! What a line counts.
+
+ghost use Rattle.std.specs.Prelude.{◌≡◌, ◌+◌, ◌^◌, OnOk, OnErr, true};
+ghost use Rattle.sr_lines.specs.Losses.{lost_after};
+
+use sr_workers::{FeedFault, Given};
+
+/// What a line counts.
+#[derive(Clone, Copy, Debug, Drop)]
+pub(crate) struct Counts {
+    /// How often it failed.
+    pub(crate) failures: u64,
+    /// How many frames were lost, up to the greatest number.
+    pub(crate) lost: u64,
+    /// It has answered `End`.
+    pub(crate) ended: bool,
+}
+
+impl Counts {
+    /// Nothing was counted yet.
+    pub(crate) const NONE: Counts = Counts {
+        failures: 0,
+        lost: 0,
+        ended: false,
+    };
+
+    /// An allocation failed: that is a failure, or nothing where there were as many as can be counted.
+    pub(crate) fn fail(&mut self) -> Result<(), FeedFault>
+        ensures ok { OnOk result (self.new.failures ≡ self.old.failures) }
+        ensures err { OnErr result (self.new.failures ≡ self.old.failures + 1) }
+        ensures lost { self.new.lost ≡ self.old.lost }
+        ensures ended { self.new.ended ≡ self.old.ended }
+    {
+        if self.failures == u64::MAX {
+            return Ok(());
+        }
+        self.failures += 1;
+        Err(FeedFault)
+    }
+
+    /// Counts a frame that was given.
+    pub(crate) fn count(&mut self, given: Given)
+        ensures lost { self.new.lost ≡ lost_after self.old.lost given }
+        ensures failures { self.new.failures ≡ self.old.failures }
+        ensures ended { self.new.ended ≡ self.old.ended }
+    {
+        match given {
+            Given::Put => {}
+            Given::Lost => self.lost = self.lost.saturating_add(1),
+        }
+    }
+
+    /// It ends.
+    pub(crate) fn end(&mut self)
+        ensures ended { self.new.ended ≡ true }
+        ensures failures { self.new.failures ≡ self.old.failures }
+        ensures lost { self.new.lost ≡ self.old.lost }
+    {
+        self.ended = true;
+    }
+}

@@ -1,0 +1,157 @@
+//! The wires between a port and those of all other nodes of a LAN.
+
+ghost use Rattle.std.specs.Prelude.{◌≡◌, ◌+◌, ◌<◌, OnOk, OnErr, IfOk};
+ghost use Rattle.sr_lines.specs.Losses.{lost_after};
+
+use crate::Ends;
+use crate::counts::Counts;
+use sr_frame::{Frame, FrameFault, MAX_FRAME_LEN};
+use sr_workers::{Feed, FeedFault, Given, Turn};
+use std::alloc::Global;
+use std::sync::Wait;
+
+/// The wires to and from each other node of a LAN, which are read in turn.
+#[derive(Drop)]
+pub struct Lan {
+    /// Their ends.
+    pub ends: Vec<Ends>,
+    turn: usize,
+    counts: Counts,
+    alloc: Global,
+}
+
+impl Lan {
+    ghost use Rattle.sr_lines.specs.Handed.{lost_in};
+
+    /// These ends, of which nothing was lost.
+    pub fn new(alloc: Global, ends: Vec<Ends>) -> Lan
+        ensures ends { result.ends ≡ ends }
+        ensures none { lost_in result ≡ 0 }
+    {
+        Lan {
+            ends,
+            turn: 0,
+            counts: Counts::NONE,
+            alloc,
+        }
+    }
+
+    /// How many frames were lost that it was given, on one wire at least, up to the greatest number.
+    pub fn lost(&self) -> u64
+        ensures { result ≡ lost_in self.now }
+    {
+        self.counts.lost
+    }
+
+    // The next frame of those that wait, from the wire whose turn it is on.
+    fn take_any<W: Wait>(&mut self, rt: &W) -> Option<Frame>
+        ensures { self.new.counts ≡ self.old.counts }
+    {
+        for _ in 0..self.ends.len() {
+            let at = if self.turn < self.ends.len() {
+                self.turn
+            } else {
+                0
+            };
+            self.turn = at + 1;
+            if let Some(wire) = self.ends.get_mut(at) {
+                if let Some(frame) = wire.take_next(rt) {
+                    return Some(frame);
+                }
+            }
+        }
+        None
+    }
+
+    // Sends a copy to one of them. False where its wire is full.
+    fn give_one<W: Wait>(&mut self, rt: &W, at: usize, octets: &[u8]) -> Result<bool, FeedFault>
+        ensures lost { self.new.counts.lost ≡ self.old.counts.lost }
+        ensures ended { self.new.counts.ended ≡ self.old.counts.ended }
+        ensures ok { OnOk result (self.new.counts.failures ≡ self.old.counts.failures) }
+        ensures err { OnErr result (self.new.counts.failures ≡ self.old.counts.failures + 1) }
+    {
+        match Frame::copy(self.alloc, octets) {
+            Ok(frame) => match self.ends.get_mut(at) {
+                Some(wire) => Ok(wire.put(rt, frame).is_ok()),
+                None => Ok(false),
+            },
+            Err(FrameFault::NoMemory) => {
+                self.counts.fail()?;
+                Ok(false)
+            }
+            Err(_) => Ok(false),
+        }
+    }
+
+    // Sends a copy to each of them. False where the wire of one is full.
+    fn give_all<W: Wait>(&mut self, rt: &W, octets: &[u8]) -> Result<bool, FeedFault>
+        ensures lost { self.new.counts.lost ≡ self.old.counts.lost }
+        ensures ended { self.new.counts.ended ≡ self.old.counts.ended }
+        ensures err { OnErr result (self.old.counts.failures < self.new.counts.failures) }
+    {
+        let mut all = true;
+        for at in 0..self.ends.len() {
+            match self.give_one(rt, at, octets) {
+                Ok(put) => all = all && put,
+                Err(fault) => return Err(fault),
+            }
+        }
+        Ok(all)
+    }
+
+    // Sends a frame to all. One that is lost on one wire at least is counted.
+    fn send<W: Wait>(&mut self, rt: &W, octets: &[u8]) -> Result<Given, FeedFault>
+        ensures lost { IfOk result (λ g. self.new.counts.lost
+            ≡ lost_after self.old.counts.lost g) }
+        ensures kept { OnErr result (self.new.counts.lost ≡ self.old.counts.lost) }
+        ensures ended { self.new.counts.ended ≡ self.old.counts.ended }
+        ensures failed { OnErr result (self.old.counts.failures < self.new.counts.failures) }
+    {
+        match self.give_all(rt, octets) {
+            Ok(true) => Ok(Given::Put),
+            Ok(false) => {
+                self.counts.count(Given::Lost);
+                Ok(Given::Lost)
+            }
+            Err(fault) => Err(fault),
+        }
+    }
+}
+
+impl Feed for Lan {
+    ghost use Rattle.std.specs.Prelude.{false, []};
+
+    ghost tells = { λ _. false };
+
+    ghost handed = { λ _. [] };
+
+    ghost given = { λ _. [] };
+
+    ghost ended = { λ c. c.counts.ended };
+
+    ghost failed = { λ c. c.counts.failures };
+
+    fn next<W: Wait>(&mut self, rt: &W, into: &mut Vec<u8>) -> Result<Turn, FeedFault> {
+        into.clear();
+        if into.reserve(MAX_FRAME_LEN).is_err() {
+            self.counts.fail()?;
+            self.counts.end();
+            return Ok(Turn::End);
+        }
+        match self.take_any(rt) {
+            None => Ok(Turn::Idle),
+            Some(frame) => {
+                into.extend_from_slice(frame.octets()).unwrap();
+                Ok(Turn::Frame(0))
+            }
+        }
+    }
+
+    fn give<W: Wait>(&mut self, rt: &W, octets: &[u8]) -> Result<Given, FeedFault> {
+        self.send(rt, octets)
+    }
+
+    fn failures(&self) -> u64 {
+        self.counts.failures
+    }
+}
