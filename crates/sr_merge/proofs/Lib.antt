@@ -1,0 +1,3 @@
+pub mod WaitingLemmas
+pub mod TakenLemmas
+pub mod RunLemmas

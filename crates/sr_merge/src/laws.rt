@@ -1,0 +1,19 @@
+//! Laws over runs of a merge.
+
+ghost use Rattle.sr_merge.specs.MergeRuns.{EachFrameIsWrittenOnce, WhatIsNewIsWritten};
+
+/// In every steady run what was written, and what waits behind it, are the packets that were taken without those of whose frame an
+/// earlier copy came: each frame once, by its first copy, each packet without number each time, in the order in which they came, with
+/// the octets that were given.
+///
+/// Numbers are whole numbers without bound, and every numbering under which the run is steady will do. A packet that finds 1024 other
+/// sources live counts as one without number.
+pub fn each_frame_is_written_once()
+    ensures { EachFrameIsWrittenOnce }
+{}
+
+/// In every run, steady or not, these are the packets that the duplicate record answers as new, those without number, and those that
+/// find it full.
+pub fn what_is_new_is_written()
+    ensures { WhatIsNewIsWritten }
+{}

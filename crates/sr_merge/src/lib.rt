@@ -1,0 +1,15 @@
+//! Two captures of a redundant network as one in which each frame stands once: its first copy, at its time.
+#![tactic(auto)]
+
+mod came;
+mod finding;
+mod laws;
+mod merge;
+mod packet;
+mod waiting;
+
+pub use came::{Came, FrameId};
+pub use laws::{each_frame_is_written_once, what_is_new_is_written};
+pub use merge::{MOST_WAITING, Merge};
+pub use packet::Packet;
+pub use waiting::{COPY_TIME, Verdict, Waiting};

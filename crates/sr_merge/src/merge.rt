@@ -1,0 +1,305 @@
+//! The merge: packets are taken one by one in the order of their times, and wait for their verdict in that order.
+
+ghost use Rattle.std.specs.Prelude.{◌≡◌, ◌++◌, true, Some, is_some, IfOk, OnOk, OnErr};
+ghost use Rattle.sr_slots.specs.Places.{IsFound};
+ghost use Rattle.sr_dup_table.specs.Limits.{window};
+ghost use Rattle.sr_merge.specs.Merging.{answer_for, sources_told};
+
+use crate::came::{Came, FrameId};
+use crate::finding::newest_copy;
+use crate::packet::Packet;
+use crate::waiting::Waiting;
+use sr_dup_table::DupTable;
+use sr_dup_window::{Lane, Lanes};
+use sr_frame::NoMemory;
+use sr_slots::{Keys, Spot};
+use std::alloc::Global;
+use std::collections::VecDeque;
+use std::marker::Model;
+
+/// The nanoseconds of a millisecond.
+const MILLISECOND: u64 = 1_000_000;
+
+/// Once so many packets wait, the first one is to be written without a verdict (choice of this project).
+pub const MOST_WAITING: usize = 262_144;
+
+/// How many hints there are of where frames wait.
+const HINTS: usize = 65_536;
+
+/// The most lists of octets that are used again.
+const MOST_SPARE: usize = 4096;
+
+/// The packets that came in and were not written yet, and the duplicate record that tells which are copies of earlier ones.
+#[derive(Drop)]
+pub struct Merge {
+    alloc: Global,
+    table: DupTable,
+    waiting: VecDeque<Waiting>,
+    // Where the frame of a place waits, counted from the first packet that ever waited. A hint may be wrong.
+    hints: Vec<u64>,
+    // How many packets waited and were dropped.
+    gone: u64,
+    // How many packets were taken as they came, since the table was full.
+    untold: u64,
+    spare: Vec<Vec<u8>>,
+}
+
+impl Model for Merge {
+    ghost use Rattle.std.specs.Prelude.{◌≡◌};
+    ghost use Rattle.sr_dup_table.specs.Limits.{window};
+    ghost use Rattle.sr_merge.specs.Merging.{Merging};
+
+    ghost Value = { Merging };
+
+    ghost view = { λ m. record {
+      sources = m.table.sources;
+      waiting = m.waiting.items;
+    } };
+
+    ghost invariant = { λ m. m.table.width ≡ window };
+}
+
+/// The place of the hint of a frame.
+fn hint_of(frame: FrameId) -> usize {
+    let [_, _, _, _, high, low] = frame.src.0;
+    let address = u16::from(high)
+        .wrapping_mul(256)
+        .wrapping_add(u16::from(low));
+    usize::from(address.wrapping_mul(40_503) ^ frame.seq.0)
+}
+
+/// Notes a copy that the table can take.
+fn note(table: &mut DupTable, spot: Option<Spot>, frame: FrameId, time: u64) -> Result<(), NoMemory>
+    requires width { table.old.width ≡ window }
+    requires spot { IsFound spot table.old.sources frame.src }
+    requires told { is_some (answer_for table.old.sources frame time) ≡ true }
+    ensures width { table.new.width ≡ window }
+    ensures sources { OnOk result (table.new.sources
+        ≡ sources_told table.old.sources time (Some frame)) }
+    ensures err { OnErr result (table.new.sources ≡ table.old.sources) }
+{
+    if spot.is_none() {
+        table.reserve(frame.src)?;
+    }
+    let now = time / MILLISECOND;
+    table
+        .arrive_at(spot, frame.src, frame.seq, Lanes::H, now)
+        .unwrap();
+    Ok(())
+}
+
+/// So many hints of nothing.
+fn hints_of(alloc: Global, count: usize) -> Result<Vec<u64>, NoMemory> {
+    let mut hints = Vec::with_capacity(alloc, count)?;
+    hints.resize(count, 0)?;
+    Ok(hints)
+}
+
+/// An empty list with room for so many.
+fn spare_of(alloc: Global, room: usize) -> Result<Vec<Vec<u8>>, NoMemory> {
+    Ok(Vec::with_capacity(alloc, room)?)
+}
+
+/// The octets of two pieces in a list, in place of what it held.
+fn joined(mut list: Vec<u8>, front: &[u8], back: &[u8]) -> Result<Vec<u8>, NoMemory>
+    ensures { IfOk result (λ list. list.items ≡ front.now ++ back.now) }
+{
+    list.clear();
+    list.extend_from_slice(front)?;
+    list.extend_from_slice(back)?;
+    Ok(list)
+}
+
+impl Merge {
+    ghost use Rattle.std.specs.Prelude.{◌≡◌, ◌↔◌, ◌<◌, ◌≤◌, ◌++◌, ◌∷◌, [], length, drop, true, false, None, Some, IfOk, OnOk, OnErr, IfSome, IfNone, is_some};
+    ghost use Rattle.sr_slots.specs.Places.{IsFound};
+    ghost use Rattle.sr_merge.specs.Merging.{next_written, read_of, packet_of, answer_for, sources_told, HasNoCopy, IsCopyAt, IsMet, TakesIn, Keeps};
+
+    /// Nothing came in yet.
+    ///
+    /// # Errors
+    /// `NoMemory` where a growth was refused.
+    pub fn new(alloc: Global, keys: Keys) -> Result<Merge, NoMemory>
+        ensures sources { IfOk result (λ merge. merge.sources ≡ []) }
+        ensures waiting { IfOk result (λ merge. merge.waiting ≡ []) }
+    {
+        let hints = hints_of(alloc, HINTS)?;
+        let spare = spare_of(alloc, MOST_SPARE)?;
+        Ok(Merge {
+            alloc,
+            table: DupTable::with_keys(alloc, keys),
+            waiting: VecDeque::new(alloc),
+            hints,
+            gone: 0,
+            untold: 0,
+            spare,
+        })
+    }
+
+    /// How many packets wait.
+    pub fn len(&self) -> usize
+        ensures { result ≡ length self.now.waiting }
+    {
+        self.waiting.len()
+    }
+
+    /// How many packets were taken as they came, since 1024 other sources were live.
+    pub fn untold(&self) -> u64 {
+        self.untold
+    }
+
+    /// The packet that is to be written next.
+    pub fn front(&self) -> Option<&Waiting>
+        ensures none { result ≡ None ↔ (next_written self.now.waiting ≡ None) }
+        ensures some { IfSome result (λ w. next_written self.now.waiting ≡ Some w.now) }
+    {
+        self.waiting.front()
+    }
+
+    /// Drops the packet that was written.
+    pub fn drop_front(&mut self)
+        ensures sources { self.new.sources ≡ self.old.sources }
+        ensures waiting { self.new.waiting ≡ drop 1 self.old.waiting }
+    {
+        if let Some(written) = self.waiting.pop_front() {
+            self.gone = self.gone.wrapping_add(1);
+            if self.spare.len() < self.spare.capacity() {
+                let Waiting { octets, .. } = written;
+                self.spare.push_reserved(octets);
+            }
+        }
+    }
+
+    /// What is kept of a packet. Nothing that shows changes.
+    fn kept(&mut self, packet: Packet<'_>) -> Result<Waiting, NoMemory>
+        ensures same { self.new ≡ self.old }
+        ensures packet { IfOk result (λ w. packet_of w ≡ read_of packet.entry) }
+        ensures alone { IfOk result (λ w. w.is_met ≡ false) }
+    {
+        let list = match self.spare.pop() {
+            Some(list) => list,
+            None => Vec::new(self.alloc),
+        };
+        let octets = joined(list, packet.front, packet.back)?;
+        Ok(Waiting {
+            came: packet.came,
+            is_met: false,
+            number: packet.number,
+            is_astray: packet.is_astray,
+            octets,
+        })
+    }
+
+    /// Has a packet wait of which no earlier copy can be told.
+    fn keep(&mut self, packet: Packet<'_>) -> Result<(), NoMemory>
+        ensures sources { self.new.sources ≡ self.old.sources }
+        ensures kept { OnOk result
+            (Keeps (read_of packet.entry) self.old.waiting self.new.waiting) }
+        ensures err { OnErr result (self.new ≡ self.old) }
+    {
+        let waiting = self.kept(packet)?;
+        self.waiting.reserve(1)?;
+        self.waiting.push_back_reserved(waiting);
+        Ok(())
+    }
+
+    /// Has the first copy of a frame wait, and notes it.
+    fn keep_first(
+        &mut self,
+        packet: Packet<'_>,
+        frame: FrameId,
+        spot: Option<Spot>,
+    ) -> Result<(), NoMemory>
+        requires spot { IsFound spot self.old.sources frame.src }
+        requires told { is_some (answer_for self.old.sources frame packet.came.time) ≡ true }
+        ensures sources { OnOk result (self.new.sources
+            ≡ sources_told self.old.sources packet.entry.came.time (Some frame)) }
+        ensures kept { OnOk result
+            (Keeps (read_of packet.entry) self.old.waiting self.new.waiting) }
+        ensures err { OnErr result (self.new ≡ self.old) }
+    {
+        let waiting = self.kept(packet)?;
+        self.waiting.reserve(1)?;
+        note(&mut self.table, spot, frame, packet.came.time)?;
+        self.waiting.push_back_reserved(waiting);
+        self.set_hint(frame);
+        Ok(())
+    }
+
+    /// Notes where the frame waits that was put last.
+    fn set_hint(&mut self, frame: FrameId)
+        ensures { self.new ≡ self.old }
+    {
+        let last = (self.waiting.len() as u64).wrapping_sub(1);
+        let place = self.gone.wrapping_add(last);
+        if let Some(hint) = self.hints.get_mut(hint_of(frame)) {
+            *hint = place;
+        }
+    }
+
+    /// The place that the hint of a frame names.
+    fn hinted(&self, frame: FrameId) -> usize {
+        match self.hints.get(hint_of(frame)) {
+            Some(hint) => hint.wrapping_sub(self.gone) as usize,
+            None => usize::MAX,
+        }
+    }
+
+    /// The place of a packet that one that comes now is a copy of: that of its hint, or the newest one.
+    fn find(&self, came: Came, frame: FrameId) -> Option<usize>
+        ensures some { IfSome result (λ at. IsCopyAt came frame self.now.waiting at) }
+        ensures none { IfNone result (HasNoCopy came frame self.now.waiting) }
+    {
+        let at = self.hinted(frame);
+        if at < self.waiting.len() && self.waiting[at].is_met_by(came, frame) {
+            return Some(at);
+        }
+        newest_copy(&self.waiting, came, frame)
+    }
+
+    /// Notes a copy that is not written at the packet that it is a copy of.
+    fn meet(&mut self, came: Came, frame: FrameId)
+        ensures sources { self.new.sources ≡ self.old.sources }
+        ensures met { IsMet came (Some frame) self.old.waiting self.new.waiting }
+    {
+        if let Some(at) = self.find(came, frame) {
+            self.waiting[at].is_met = true;
+        }
+    }
+
+    /// Takes a copy of a frame.
+    fn take_copy(&mut self, packet: Packet<'_>, frame: FrameId) -> Result<(), NoMemory>
+        requires { packet.came.frame ≡ Some frame }
+        ensures taken { OnOk result (TakesIn self.old (read_of packet.entry) self.new) }
+        ensures err { OnErr result (self.new ≡ self.old) }
+    {
+        let now = packet.came.time / MILLISECOND;
+        let Ok(look) = self.table.look(frame.src, frame.seq, Lanes::H, now) else {
+            self.keep(packet)?;
+            self.untold = self.untold.saturating_add(1);
+            return Ok(());
+        };
+        if look.fresh.has(Lane::H) {
+            self.keep_first(packet, frame, look.spot)?;
+            return Ok(());
+        }
+        note(&mut self.table, look.spot, frame, packet.came.time)?;
+        self.meet(packet.came, frame);
+        Ok(())
+    }
+
+    /// Takes a packet. It waits to be written where it has no number, where no earlier copy of its frame is known, or where 1024 other
+    /// sources are live, so that nothing can be told; else it is the copy of one that may wait yet.
+    ///
+    /// # Errors
+    /// `NoMemory` where a growth was refused: no packet was taken.
+    pub fn take(&mut self, packet: Packet<'_>) -> Result<(), NoMemory>
+        ensures taken { OnOk result (TakesIn self.old (read_of packet.entry) self.new) }
+        ensures err { OnErr result (self.new ≡ self.old) }
+    {
+        match packet.came.frame {
+            Some(frame) => self.take_copy(packet, frame),
+            None => self.keep(packet),
+        }
+    }
+}
