@@ -53,43 +53,43 @@ is_window {N} r reference marks e s =
     ap (window r.reference.0) (marks_are r marks (subst P (sym e) s)) ∙ ap (λ n. window n marks) e
 
 -- what marking, putting, passing over and uniting leave
-abbrev pub Marks : List (List Lanes) → List (List Lanes) → Lanes → ℕ → Type 0
+abbrev pub Marks : List (List ℕ) → List (List ℕ) → Lanes → ℕ → Type 0
 Marks rows new lanes place = (p : ℕ) → lanes_at new p ≡ cond (eqb p place) (union (lanes_at rows p) lanes) (lanes_at rows p)
 
-abbrev pub Puts : List (List Lanes) → List (List Lanes) → Lanes → ℕ → Type 0
+abbrev pub Puts : List (List ℕ) → List (List ℕ) → Lanes → ℕ → Type 0
 Puts rows new lanes place = (p : ℕ) → lanes_at new p ≡ cond (eqb p place) (union none lanes) (lanes_at rows p)
 
-abbrev pub Passes : ℕ → List (List Lanes) → List (List Lanes) → ℕ → ℕ → Type 0
+abbrev pub Passes : ℕ → List (List ℕ) → List (List ℕ) → ℕ → ℕ → Type 0
 Passes rows_count rows new from count = (p : ℕ) → p < 64 * rows_count → lanes_at new p ≡ cond (is_passed (64 * rows_count) from count p || leb (64 * rows_count) count) none (lanes_at rows p)
 
-abbrev pub Unites : ℕ → List (List Lanes) → List (List Lanes) → List (List Lanes) → Type 0
+abbrev pub Unites : ℕ → List (List ℕ) → List (List ℕ) → List (List ℕ) → Type 0
 Unites rows_count rows others new = (p : ℕ) → p < 64 * rows_count → lanes_at new p ≡ union (lanes_at rows p) (lanes_at others p)
 
-passes_in : (m n : ℕ) (rows new : List (List Lanes)) (from count : ℕ) → m ≡ n → Passes m rows new from count → Passes n rows new from count
+passes_in : (m n : ℕ) (rows new : List (List ℕ)) (from count : ℕ) → m ≡ n → Passes m rows new from count → Passes n rows new from count
 passes_in m n rows new from count e h = let P : ℕ → Type 0 = λ k. Passes k rows new from count in subst P e h
 
-unites_in : (m n : ℕ) (rows others new : List (List Lanes)) → m ≡ n → Unites m rows others new → Unites n rows others new
+unites_in : (m n : ℕ) (rows others new : List (List ℕ)) → m ≡ n → Unites m rows others new → Unites n rows others new
 unites_in m n rows others new e h = let P : ℕ → Type 0 = λ k. Unites k rows others new in subst P e h
 
 -- a place that is marked is not empty, and the others stay
-pub some_marked : (rows new : List (List Lanes)) (lanes : Lanes) (p : ℕ) → is_empty lanes ≡ false → Marks rows new lanes p → is_empty (lanes_at new p) ≡ false
+pub some_marked : (rows new : List (List ℕ)) (lanes : Lanes) (p : ℕ) → is_empty lanes ≡ false → Marks rows new lanes p → is_empty (lanes_at new p) ≡ false
 some_marked rows new lanes p some marks =
     let at : lanes_at new p ≡ union (lanes_at rows p) lanes = marks p ∙ cond-true (eqb p p) (union (lanes_at rows p) lanes) (lanes_at rows p) (eq-eqb p p refl) in
     ap is_empty at ∙ not_empty-union_right (lanes_at rows p) lanes some
 
-pub some_put : (rows new : List (List Lanes)) (lanes : Lanes) (p : ℕ) → is_empty lanes ≡ false → Puts rows new lanes p → is_empty (lanes_at new p) ≡ false
+pub some_put : (rows new : List (List ℕ)) (lanes : Lanes) (p : ℕ) → is_empty lanes ≡ false → Puts rows new lanes p → is_empty (lanes_at new p) ≡ false
 some_put rows new lanes p some puts =
     let at : lanes_at new p ≡ union none lanes = puts p ∙ cond-true (eqb p p) (union none lanes) (lanes_at rows p) (eq-eqb p p refl) in
     ap is_empty at ∙ not_empty-union_right none lanes some
 
-pub some_kept : (rows new : List (List Lanes)) (lanes : Lanes) (q p : ℕ) → is_empty (lanes_at rows p) ≡ false → Marks rows new lanes q → is_empty (lanes_at new p) ≡ false
+pub some_kept : (rows new : List (List ℕ)) (lanes : Lanes) (q p : ℕ) → is_empty (lanes_at rows p) ≡ false → Marks rows new lanes q → is_empty (lanes_at new p) ≡ false
 some_kept rows new lanes q p some marks = ap is_empty (marks p) ∙ either (eqb p q)
   where
     either : (t : Bool) → is_empty (cond t (union (lanes_at rows p) lanes) (lanes_at rows p)) ≡ false
     either true = not_empty-union_left (lanes_at rows p) lanes some
     either false = some
 
-pub begun_window : {N : ℕ} (new : Record N) (rows : List (List Lanes)) (lanes : Lanes) (seq : ℕ) → seq < 65536 → new.reference.0 ≡ seq → ((p : ℕ) → lanes_at rows p ≡ none) → Marks rows new.rows lanes (seq % (64 * N)) → window_of new ≡ window_begun (64 * N) seq lanes
+pub begun_window : {N : ℕ} (new : Record N) (rows : List (List ℕ)) (lanes : Lanes) (seq : ℕ) → seq < 65536 → new.reference.0 ≡ seq → ((p : ℕ) → lanes_at rows p ≡ none) → Marks rows new.rows lanes (seq % (64 * N)) → window_of new ≡ window_begun (64 * N) seq lanes
 begun_window {N} new rows lanes seq h ref empty marks =
     let w = 64 * N in
     let width : IsWidth w = record-width new in
@@ -104,7 +104,7 @@ noted_behind {N} r new lanes k seq h at inside ref marks =
     (marked_shows w r.rows new.rows r.reference.0 (marks_of r) k (seq % w) lanes (record-width r) r.carried inside place (shows_marks r) marks)
     ∙ ap (noted_at w (window_of r) seq lanes) at
 
-pub noted_ahead : {N : ℕ} (r new : Record N) (rows : List (List Lanes)) (lanes : Lanes) (a seq : ℕ) → seq < 65536 → Ahead a ≡ place_of r.reference.0 seq (64 * N) → 0 < a → a + 64 * N ≤ 65536 → new.reference.0 ≡ seq → Passes (length r.rows) r.rows rows (r.reference.0 % (64 * N)) (a - 1) → Puts rows new.rows lanes (seq % (64 * N)) → window_of new ≡ window_noted (64 * N) (window_of r) seq lanes
+pub noted_ahead : {N : ℕ} (r new : Record N) (rows : List (List ℕ)) (lanes : Lanes) (a seq : ℕ) → seq < 65536 → Ahead a ≡ place_of r.reference.0 seq (64 * N) → 0 < a → a + 64 * N ≤ 65536 → new.reference.0 ≡ seq → Passes (length r.rows) r.rows rows (r.reference.0 % (64 * N)) (a - 1) → Puts rows new.rows lanes (seq % (64 * N)) → window_of new ≡ window_noted (64 * N) (window_of r) seq lanes
 noted_ahead {N} r new rows lanes a seq h at some most ref passes puts =
     let w = 64 * N in
     is_window new seq (marks_with (marks_slid w a (marks_of r)) 0 lanes) ref
@@ -122,7 +122,7 @@ read_behind {N} r k seq h at inside =
 pub fresh_from : {N : ℕ} (r : Record N) (seq : ℕ) (lanes answer known : Lanes) → answer ≡ difference lanes known → known ≡ lanes_of (64 * N) (window_of r) seq → answer ≡ fresh_lanes (64 * N) (window_of r) seq lanes
 fresh_from r seq lanes answer known e at = e ∙ ap (difference lanes) at
 
-pub merged_behind : {N : ℕ} (r other new : Record N) (rows : List (List Lanes)) (k : ℕ) → Behind k ≡ place_of r.reference.0 other.reference.0 32768 → k < 32768 → new.reference.0 ≡ r.reference.0 → Passes (length other.rows) other.rows rows (other.reference.0 % (64 * N)) k → Unites (length r.rows) r.rows rows new.rows → window_of new ≡ window_merged (64 * N) (window_of r) (window_of other)
+pub merged_behind : {N : ℕ} (r other new : Record N) (rows : List (List ℕ)) (k : ℕ) → Behind k ≡ place_of r.reference.0 other.reference.0 32768 → k < 32768 → new.reference.0 ≡ r.reference.0 → Passes (length other.rows) other.rows rows (other.reference.0 % (64 * N)) k → Unites (length r.rows) r.rows rows new.rows → window_of new ≡ window_merged (64 * N) (window_of r) (window_of other)
 merged_behind {N} r other new rows k at few ref passes unites =
     let w = 64 * N in
     let width : IsWidth w = record-width r in
@@ -136,7 +136,7 @@ merged_behind {N} r other new rows k at few ref passes unites =
     on_again : (r s k : ℕ) → r < 65536 → k < 32768 → (r + (65536 - k)) % 65536 ≡ s → (s + k) % 65536 ≡ r
     on_again r s k h g e = omega arith
 
-pub merged_ahead : {N : ℕ} (r other new : Record N) (rows : List (List Lanes)) (a : ℕ) → Ahead a ≡ place_of r.reference.0 other.reference.0 32768 → a + 32768 ≤ 65536 → new.reference.0 ≡ other.reference.0 → length rows ≡ length r.rows → Passes (length r.rows) r.rows rows (r.reference.0 % (64 * N)) a → Unites (length rows) rows other.rows new.rows → window_of new ≡ window_merged (64 * N) (window_of r) (window_of other)
+pub merged_ahead : {N : ℕ} (r other new : Record N) (rows : List (List ℕ)) (a : ℕ) → Ahead a ≡ place_of r.reference.0 other.reference.0 32768 → a + 32768 ≤ 65536 → new.reference.0 ≡ other.reference.0 → length rows ≡ length r.rows → Passes (length r.rows) r.rows rows (r.reference.0 % (64 * N)) a → Unites (length rows) rows other.rows new.rows → window_of new ≡ window_merged (64 * N) (window_of r) (window_of other)
 merged_ahead {N} r other new rows a at most ref same passes unites =
     let w = 64 * N in
     let width : IsWidth w = record-width r in
@@ -147,13 +147,13 @@ merged_ahead {N} r other new rows a at most ref same passes unites =
     ∙ ap (merged_at w (window_of r) (window_of other)) at
 
 -- the greatest number's place stays not empty when rings are united
-pub some_united_left : {N : ℕ} (r : Record N) (others new : List (List Lanes)) → Unites (length r.rows) r.rows others new → is_empty (lanes_at new (r.reference.0 % (64 * N))) ≡ false
+pub some_united_left : {N : ℕ} (r : Record N) (others new : List (List ℕ)) → Unites (length r.rows) r.rows others new → is_empty (lanes_at new (r.reference.0 % (64 * N))) ≡ false
 some_united_left {N} r others new unites =
     let p = r.reference.0 % (64 * N) in
     let inside : p < 64 * length r.rows = omega (arith, width-some (64 * N) (record-width r), r.whole.many) in
     ap is_empty (unites p inside) ∙ not_empty-union_left (lanes_at r.rows p) (lanes_at others p) r.some
 
-pub some_united_right : {N : ℕ} (other : Record N) (rows new : List (List Lanes)) → length rows ≡ N → Unites (length rows) rows other.rows new → is_empty (lanes_at new (other.reference.0 % (64 * N))) ≡ false
+pub some_united_right : {N : ℕ} (other : Record N) (rows new : List (List ℕ)) → length rows ≡ N → Unites (length rows) rows other.rows new → is_empty (lanes_at new (other.reference.0 % (64 * N))) ≡ false
 some_united_right {N} other rows new many unites =
     let p = other.reference.0 % (64 * N) in
     let inside : p < 64 * length rows = omega (arith, width-some (64 * N) (record-width other)) in

@@ -15,7 +15,7 @@ use Rattle.sr_dup_window.specs.WindowLemmas.{width-some, width-most, length-no_m
 use Rattle.sr_dup_window.proofs.PlaceLemmas.{spot, spot_inside, spot_zero, spot-eq, passed_spot, spot_kept}
 
 -- the places of the w numbers up to r have these lanes, newest first
-pub record Shows (w : ℕ) (rows : List (List Lanes)) (r : ℕ) (marks : List Lanes) : Type 0 where
+pub record Shows (w : ℕ) (rows : List (List ℕ)) (r : ℕ) (marks : List Lanes) : Type 0 where
   pub count : length marks ≡ w
   pub each : (k : ℕ) → k < w → lanes_at rows (spot w r k) ≡ get_or marks k none
 
@@ -28,7 +28,7 @@ unfolding marks_of
 marks_are {N} r marks s = sym (fill_by_all (λ k. lanes_at r.rows (spot (64 * N) r.reference.0 k)) marks (64 * N) none s.count (λ k h. sym (s.each k h)))
 
 -- more lanes at the place of one number
-pub marked_shows : (w : ℕ) (rows new : List (List Lanes)) (r : ℕ) (marks : List Lanes) (k place : ℕ) (lanes : Lanes) → IsWidth w → r < 65536 → k < w → spot w r k ≡ place → Shows w rows r marks → ((p : ℕ) → lanes_at new p ≡ cond (eqb p place) (union (lanes_at rows p) lanes) (lanes_at rows p)) → Shows w new r (marks_with marks k lanes)
+pub marked_shows : (w : ℕ) (rows new : List (List ℕ)) (r : ℕ) (marks : List Lanes) (k place : ℕ) (lanes : Lanes) → IsWidth w → r < 65536 → k < w → spot w r k ≡ place → Shows w rows r marks → ((p : ℕ) → lanes_at new p ≡ cond (eqb p place) (union (lanes_at rows p) lanes) (lanes_at rows p)) → Shows w new r (marks_with marks k lanes)
 marked_shows w rows new r marks k place lanes width h inside at s marks_new = record {
   count = length-set marks k (union (get_or marks k none) lanes) ∙ s.count;
   each = λ j g.
@@ -51,7 +51,7 @@ marked_shows w rows new r marks k place lanes width h inside at s marks_new = re
         ]
 
 -- the numbers between the reference and a later one passed over
-pub passed_shows : (w : ℕ) (rows new : List (List Lanes)) (r from later : ℕ) (marks : List Lanes) (a : ℕ) → IsWidth w → r < 65536 → a ≤ 65536 - w → r % w ≡ from → (r + a) % 65536 ≡ later → Shows w rows r marks → ((p : ℕ) → p < w → lanes_at new p ≡ cond (is_passed w from a p || leb w a) none (lanes_at rows p)) → Shows w new later (marks_slid w a marks)
+pub passed_shows : (w : ℕ) (rows new : List (List ℕ)) (r from later : ℕ) (marks : List Lanes) (a : ℕ) → IsWidth w → r < 65536 → a ≤ 65536 - w → r % w ≡ from → (r + a) % 65536 ≡ later → Shows w rows r marks → ((p : ℕ) → p < w → lanes_at new p ≡ cond (is_passed w from a p || leb w a) none (lanes_at rows p)) → Shows w new later (marks_slid w a marks)
 passed_shows w rows new r from later marks a width h most at to s passes = record {
   count = length-slid w a marks s.count;
   each = λ j g.
@@ -70,7 +70,7 @@ passed_shows w rows new r from later marks a width h most at to s passes = recor
 }
 
 -- a later number noted, and those between passed over
-pub noted_shows : (w : ℕ) (rows mid new : List (List Lanes)) (r from later place : ℕ) (marks : List Lanes) (a : ℕ) (lanes : Lanes) → IsWidth w → r < 65536 → 0 < a → a ≤ 65536 - w → r % w ≡ from → (r + a) % 65536 ≡ later → later % w ≡ place → Shows w rows r marks → ((p : ℕ) → p < w → lanes_at mid p ≡ cond (is_passed w from (a - 1) p || leb w (a - 1)) none (lanes_at rows p)) → ((p : ℕ) → lanes_at new p ≡ cond (eqb p place) (union none lanes) (lanes_at mid p)) → Shows w new later (marks_with (marks_slid w a marks) 0 lanes)
+pub noted_shows : (w : ℕ) (rows mid new : List (List ℕ)) (r from later place : ℕ) (marks : List Lanes) (a : ℕ) (lanes : Lanes) → IsWidth w → r < 65536 → 0 < a → a ≤ 65536 - w → r % w ≡ from → (r + a) % 65536 ≡ later → later % w ≡ place → Shows w rows r marks → ((p : ℕ) → p < w → lanes_at mid p ≡ cond (is_passed w from (a - 1) p || leb w (a - 1)) none (lanes_at rows p)) → ((p : ℕ) → lanes_at new p ≡ cond (eqb p place) (union none lanes) (lanes_at mid p)) → Shows w new later (marks_with (marks_slid w a marks) 0 lanes)
 noted_shows w rows mid new r from later place marks a lanes width h some most at to there s passes puts = record {
   count = length-set slid 0 (union (get_or slid 0 none) lanes) ∙ length-slid w a marks s.count;
   each = λ j g. elim (cases_eq j 0) [ inl e ↦ newest j g e | inr ne ↦ before j g (omega (arith, ne)) ];
@@ -115,7 +115,7 @@ noted_shows w rows mid new r from later place marks a lanes width h some most at
         ∙ sym (get_or-set_other slid 0 j (union (get_or slid 0 none) lanes) none (λ e. absurd (omega (arith, e))))
 
 -- two rings together
-pub united_shows : (w : ℕ) (rows others new : List (List Lanes)) (r : ℕ) (marks other_marks : List Lanes) → IsWidth w → Shows w rows r marks → Shows w others r other_marks → ((p : ℕ) → p < w → lanes_at new p ≡ union (lanes_at rows p) (lanes_at others p)) → Shows w new r (zip2 union marks other_marks)
+pub united_shows : (w : ℕ) (rows others new : List (List ℕ)) (r : ℕ) (marks other_marks : List Lanes) → IsWidth w → Shows w rows r marks → Shows w others r other_marks → ((p : ℕ) → p < w → lanes_at new p ≡ union (lanes_at rows p) (lanes_at others p)) → Shows w new r (zip2 union marks other_marks)
 united_shows w rows others new r marks other_marks width s t unites = record {
   count = length-zip2 union marks other_marks (s.count ∙ sym t.count) ∙ s.count;
   each = λ k h.
@@ -126,7 +126,7 @@ united_shows w rows others new r marks other_marks width s t unites = record {
 }
 
 -- a ring with no place
-pub empty_shows : (w : ℕ) (rows : List (List Lanes)) (r : ℕ) → ((p : ℕ) → lanes_at rows p ≡ none) → Shows w rows r (no_marks w)
+pub empty_shows : (w : ℕ) (rows : List (List ℕ)) (r : ℕ) → ((p : ℕ) → lanes_at rows p ≡ none) → Shows w rows r (no_marks w)
 empty_shows w rows r empty = record {
   count = length-no_marks w;
   each = λ k h. empty (spot w r k) ∙ sym (get_or-no_marks w k h);

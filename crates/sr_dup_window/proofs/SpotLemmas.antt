@@ -1,15 +1,15 @@
--- Spots of rows.
-use Rattle.std.proofs.Common.{◌≡◌, ◌≢◌, ℕ, ◌+◌, ◌*◌, ◌-◌, ◌/◌, ◌%◌, ◌<◌, ◌≤◌, Bool, true, false, cond, eqb, ltb, leb, ◌||◌, ◌&&◌, ◌⊎◌, List, [], length, get_or, set, replicate, arith, refl, sym, ap, ◌∙◌, inl, inr}
+-- Spots of a ring of rows.
+use Rattle.std.proofs.Common.{◌≡◌, ◌≢◌, ℕ, ◌+◌, ◌*◌, ◌-◌, ◌/◌, ◌%◌, ◌<◌, ◌≤◌, Bool, true, false, cond, eqb, ltb, leb, ◌||◌, ◌&&◌, ◌⊎◌, List, [], ◌∷◌, length, get_or, set, replicate, arith, refl, sym, ap, ◌∙◌, inl, inr}
 use Rattle.std.proofs.lemmas.Bool.Decides.{nat_tests}
 use Rattle.std.proofs.lemmas.Bool.{cases_eq, cases_lt, eq-eqb, ne_eqb, cond-true, cond-false}
 use Rattle.std.proofs.lemmas.List.{get_or-set_same, get_or-set_other, get_or_past, get_or-replicate, length-replicate}
 use Rattle.sr_dup_window.specs.declared.lane_sets.Lanes.{Lanes}
 use Rattle.sr_dup_window.specs.LaneSets.{none}
 use Rattle.sr_dup_window.specs.Spots.{lanes_in, lanes_at, way_round, is_passed, IsWidth}
-use Rattle.sr_dup_window.proofs.RowLemmas.{no_lanes}
+use Rattle.sr_dup_window.proofs.RowLemmas.{zero_lanes, no_row_lanes}
 
 -- the lanes at a spot after a row is written
-set_row : (rows : List (List Lanes)) (i : ℕ) (row : List Lanes) (p : ℕ) → i < length rows → lanes_at (set rows i row) p ≡ cond (eqb (p / 64) i) (lanes_in row (p % 64)) (lanes_at rows p)
+set_row : (rows : List (List ℕ)) (i : ℕ) (row : List ℕ) (p : ℕ) → i < length rows → lanes_at (set rows i row) p ≡ cond (eqb (p / 64) i) (lanes_in row (p % 64)) (lanes_at rows p)
 set_row rows i row p h =
     elim (cases_eq (p / 64) i) [
       | inl e ↦ ap (λ r. lanes_in r (p % 64)) (ap (λ k. get_or (set rows i row) k []) e ∙ get_or-set_same rows i row [] h)
@@ -18,13 +18,13 @@ set_row rows i row p h =
           ∙ sym (cond-false (eqb (p / 64) i) (lanes_in row (p % 64)) (lanes_at rows p) (ne_eqb (p / 64) i ne))
     ]
 
--- writing one place of a row writes one spot
-pub written_place : (rows : List (List Lanes)) (row : List Lanes) (f : Lanes → Lanes) (spot p : ℕ) → spot < 64 * length rows → ((b : ℕ) → lanes_in row b ≡ cond (eqb b (spot % 64)) (f (lanes_in (get_or rows (spot / 64) []) b)) (lanes_in (get_or rows (spot / 64) []) b)) → lanes_at (set rows (spot / 64) row) p ≡ cond (eqb p spot) (f (lanes_at rows p)) (lanes_at rows p)
+-- writing one bit of a row writes one spot
+pub written_place : (rows : List (List ℕ)) (row : List ℕ) (f : Lanes → Lanes) (spot p : ℕ) → spot < 64 * length rows → ((b : ℕ) → b < 64 → lanes_in row b ≡ cond (eqb b (spot % 64)) (f (lanes_in (get_or rows (spot / 64) []) b)) (lanes_in (get_or rows (spot / 64) []) b)) → lanes_at (set rows (spot / 64) row) p ≡ cond (eqb p spot) (f (lanes_at rows p)) (lanes_at rows p)
 written_place rows row f spot p h writes =
     set_row rows (spot / 64) row p (omega arith)
     ∙ (elim (cases_eq (p / 64) (spot / 64)) as (λ _. cond (eqb (p / 64) (spot / 64)) (lanes_in row (p % 64)) (lanes_at rows p) ≡ cond (eqb p spot) (f (lanes_at rows p)) (lanes_at rows p)) [
       | inl e ↦ cond-true (eqb (p / 64) (spot / 64)) (lanes_in row (p % 64)) (lanes_at rows p) (eq-eqb (p / 64) (spot / 64) e)
-          ∙ writes (p % 64)
+          ∙ writes (p % 64) (omega arith)
           ∙ ap (λ i. cond (eqb (p % 64) (spot % 64)) (f (lanes_in (get_or rows i []) (p % 64))) (lanes_in (get_or rows i []) (p % 64))) (sym e)
           ∙ ap (λ t. cond t (f (lanes_at rows p)) (lanes_at rows p)) (same_test p spot e)
       | inr ne ↦ cond-false (eqb (p / 64) (spot / 64)) (lanes_in row (p % 64)) (lanes_at rows p) (ne_eqb (p / 64) (spot / 64) ne)
@@ -34,13 +34,13 @@ written_place rows row f spot p h writes =
     same_test : (p spot : ℕ) → p / 64 ≡ spot / 64 → eqb (p % 64) (spot % 64) ≡ eqb p spot
     same_test p spot e = grind (arith, nat_tests)
 
--- clearing places of a row clears a run of spots
-pub cleared_run : (rows : List (List Lanes)) (row : List Lanes) (start count p : ℕ) → start < 64 * length rows → start % 64 + count ≤ 64 → ((b : ℕ) → lanes_in row b ≡ cond (leb (start % 64) b && ltb b (start % 64 + count)) none (lanes_in (get_or rows (start / 64) []) b)) → lanes_at (set rows (start / 64) row) p ≡ cond (leb start p && ltb p (start + count)) none (lanes_at rows p)
+-- clearing bits of a row clears a run of spots
+pub cleared_run : (rows : List (List ℕ)) (row : List ℕ) (start count p : ℕ) → start < 64 * length rows → start % 64 + count ≤ 64 → ((b : ℕ) → b < 64 → lanes_in row b ≡ cond (leb (start % 64) b && ltb b (start % 64 + count)) none (lanes_in (get_or rows (start / 64) []) b)) → lanes_at (set rows (start / 64) row) p ≡ cond (leb start p && ltb p (start + count)) none (lanes_at rows p)
 cleared_run rows row start count p h within keeps =
     set_row rows (start / 64) row p (omega arith)
     ∙ (elim (cases_eq (p / 64) (start / 64)) as (λ _. cond (eqb (p / 64) (start / 64)) (lanes_in row (p % 64)) (lanes_at rows p) ≡ cond (leb start p && ltb p (start + count)) none (lanes_at rows p)) [
       | inl e ↦ cond-true (eqb (p / 64) (start / 64)) (lanes_in row (p % 64)) (lanes_at rows p) (eq-eqb (p / 64) (start / 64) e)
-          ∙ keeps (p % 64)
+          ∙ keeps (p % 64) (omega arith)
           ∙ ap (λ i. cond (leb (start % 64) (p % 64) && ltb (p % 64) (start % 64 + count)) none (lanes_in (get_or rows i []) (p % 64))) (sym e)
           ∙ ap (λ t. cond t none (lanes_at rows p)) (same_test p start count e)
       | inr ne ↦ cond-false (eqb (p / 64) (start / 64)) (lanes_in row (p % 64)) (lanes_at rows p) (ne_eqb (p / 64) (start / 64) ne)
@@ -63,7 +63,7 @@ run_wide from done run start p h g i j (inl at) q = grind (arith, nat_tests)
 run_wide from done run start p h g i j (inr at) q = grind (arith, nat_tests)
 
 -- what is left to clear after one more run of spots
-pub run_cleared : (w from done run start : ℕ) (rows mid new : List (List Lanes)) → IsWidth w → from < w → done + run < w → start < w → run ≤ 64 - start % 64 → (start ≡ from + 1 + done) ⊎ (start + w ≡ from + 1 + done) → ((p : ℕ) → p < w → lanes_at mid p ≡ cond (is_passed w from done p) none (lanes_at rows p)) → ((p : ℕ) → lanes_at new p ≡ cond (leb start p && ltb p (start + run)) none (lanes_at mid p)) → (p : ℕ) → p < w → lanes_at new p ≡ cond (is_passed w from (done + run) p) none (lanes_at rows p)
+pub run_cleared : (w from done run start : ℕ) (rows mid new : List (List ℕ)) → IsWidth w → from < w → done + run < w → start < w → run ≤ 64 - start % 64 → (start ≡ from + 1 + done) ⊎ (start + w ≡ from + 1 + done) → ((p : ℕ) → p < w → lanes_at mid p ≡ cond (is_passed w from done p) none (lanes_at rows p)) → ((p : ℕ) → lanes_at new p ≡ cond (leb start p && ltb p (start + run)) none (lanes_at mid p)) → (p : ℕ) → p < w → lanes_at new p ≡ cond (is_passed w from (done + run) p) none (lanes_at rows p)
 run_cleared w from done run start rows mid new width h g i j at before after p q =
     after p
     ∙ ap (λ x. cond (leb start p && ltb p (start + run)) none x) (before p q)
@@ -89,20 +89,20 @@ run_cleared w from done run start rows mid new width h g i j at before after p q
         rw e (run_wide from done run start p a b c j (elim at [ inl k ↦ inl k | inr k ↦ inr (omega arith) ]) d)
 
 -- nothing is passed over at first
-pub none_cleared : (w from : ℕ) (rows : List (List Lanes)) (p : ℕ) → lanes_at rows p ≡ cond (is_passed w from 0 p) none (lanes_at rows p)
+pub none_cleared : (w from : ℕ) (rows : List (List ℕ)) (p : ℕ) → lanes_at rows p ≡ cond (is_passed w from 0 p) none (lanes_at rows p)
 none_cleared w from rows p = ap (λ t. cond t none (lanes_at rows p)) (sym (no_step (way_round w from p)))
   where
     no_step : (d : ℕ) → (ltb 0 d && leb d 0) ≡ false
     no_step d = grind (arith, nat_tests)
 
--- rows of no lanes have none at any spot
-pub cleared_place : (rows : List (List Lanes)) (n p : ℕ) → length rows ≡ n → ((k : ℕ) → k < n → get_or rows k [] ≡ replicate 64 none) → lanes_at rows p ≡ none
-cleared_place rows n p e empty =
+-- rows of zeros have no spot
+pub cleared_place : (rows : List (List ℕ)) (n p : ℕ) → length rows ≡ n → ((k : ℕ) → k < n → get_or rows k [] ≡ 0 ∷ 0 ∷ 0 ∷ 0 ∷ 0 ∷ 0 ∷ []) → lanes_at rows p ≡ none
+cleared_place rows n p e zeros =
     elim (cases_lt (p / 64) n) [
-      | inl h ↦ ap (λ row. lanes_in row (p % 64)) (empty (p / 64) h) ∙ no_lanes 64 (p % 64)
-      | inr h ↦ ap (λ row. lanes_in row (p % 64)) (get_or_past rows (p / 64) [] (omega arith)) ∙ get_or_past [] (p % 64) none (omega arith)
+      | inl h ↦ ap (λ row. lanes_in row (p % 64)) (zeros (p / 64) h) ∙ zero_lanes (p % 64)
+      | inr h ↦ ap (λ row. lanes_in row (p % 64)) (get_or_past rows (p / 64) [] (omega arith)) ∙ no_row_lanes (p % 64)
     ]
 
--- so have those that `begin` makes
-pub empty_rows : (n p : ℕ) → lanes_at (replicate n (replicate 64 none)) p ≡ none
-empty_rows n p = cleared_place (replicate n (replicate 64 none)) n p (length-replicate n (replicate 64 none)) (λ k h. get_or-replicate n k (replicate 64 none) [] h)
+-- a ring of zeros, as `begin` makes it
+pub zero_ring : (n p : ℕ) → lanes_at (replicate n (0 ∷ 0 ∷ 0 ∷ 0 ∷ 0 ∷ 0 ∷ [])) p ≡ none
+zero_ring n p = cleared_place (replicate n (0 ∷ 0 ∷ 0 ∷ 0 ∷ 0 ∷ 0 ∷ [])) n p (length-replicate n (0 ∷ 0 ∷ 0 ∷ 0 ∷ 0 ∷ 0 ∷ [])) (λ k h. get_or-replicate n k (0 ∷ 0 ∷ 0 ∷ 0 ∷ 0 ∷ 0 ∷ []) [] h)

@@ -91,19 +91,6 @@ lanes_where-same f g same = λ i. lanes_where (λ lane. same lane i)
 pub known-lanes_where : (test : Lane → Bool) → known (lanes_where test) ≡ lanes_where test
 known-lanes_where test = lanes_where-same (has (lanes_where test)) test (has-lanes_where test)
 
--- nor a greater number than six bits have
-pub lanes_where-small : (test : Lane → Bool) → (lanes_where test).0 < 64
-lanes_where-small test =
-    omega (
-      arith,
-      flag_small (test H),
-      flag_small (test A),
-      flag_small (test B),
-      flag_small (test C),
-      flag_small (test GotA),
-      flag_small (test GotB),
-    )
-
 pub has-none : (lane : Lane) → has none lane ≡ false
 has-none H = refl
 has-none A = refl
@@ -190,13 +177,6 @@ known_bits_are n =
     16 * x + 32 * bit_at n 5) (flag_of_bit n 4)
     ∙ ap (λ x. flag (eqb (bit_at n 0) 1) + 2 * flag (eqb (bit_at n 1) 1) + 4 * flag (eqb (bit_at n 2) 1) + 8 * flag (eqb (bit_at n 3) 1) +
     16 * flag (eqb (bit_at n 4) 1) + 32 * x) (flag_of_bit n 5)
-
--- a number of six bits has no others
-pub known-small : (lanes : Lanes) → lanes.0 < 64 → known lanes ≡ lanes
-known-small lanes h =
-    let set : ℕ → Lanes = λ n. record { 0 = n } in
-    let few : lanes.0 % 64 ≡ lanes.0 = omega arith in
-    ap set (sym (known_bits_are lanes.0) ∙ and_mask lanes.0 6 ∙ few)
 
 -- the set of a number's bits, and its lanes
 pub lanes_from_bits : (n : ℕ) (test : Lane → Bool) → ((lane : Lane) → eqb (bit_at n (index_of lane)) 1 ≡ test lane) →

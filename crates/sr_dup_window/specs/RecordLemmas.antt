@@ -1,11 +1,11 @@
 -- What is known of a record without looking into it.
-use Rattle.std.proofs.Common.{◌≡◌, ℕ, ◌+◌, ◌-◌, ◌*◌, ◌/◌, ◌%◌, ◌<◌, ◌||◌, eqb, IsTrue, length, get_or, arith, sym, ap, ◌∙◌, inl, inr}
+use Rattle.std.proofs.Common.{◌≡◌, ℕ, ◌+◌, ◌-◌, ◌*◌, ◌/◌, ◌%◌, ◌<◌, ◌||◌, eqb, IsTrue, [], length, get_or, arith, sym, ap, ◌∙◌, inl, inr}
 use Rattle.std.proofs.lemmas.Bool.{or_cases, eqb-true}
 use Rattle.std.proofs.lemmas.List.FromFn.{length-map-range_with_len, get_or-map-range_with_len}
 use Rattle.sr_dup_window.specs.declared.record.Record.{Record}
 use Rattle.sr_dup_window.specs.LaneSets.{none, known, is_empty}
-use Rattle.sr_dup_window.specs.LaneLemmas.{known-small}
-use Rattle.sr_dup_window.specs.Spots.{lanes_at, IsWidth}
+use Rattle.sr_dup_window.specs.LaneLemmas.{known-lanes_where}
+use Rattle.sr_dup_window.specs.Spots.{has_bit, lanes_at, IsWidth}
 use Rattle.sr_dup_window.specs.Windows.{window_of, marks_of}
 use Rattle.sr_dup_window.specs.Records.{IsWhole}
 use Rattle.sr_dup_window.specs.WindowLemmas.{width-some}
@@ -42,9 +42,7 @@ record-whole {N} r =
       some = ap is_empty (marks-at r 0 some_window ∙ ap (λ p. lanes_at r.rows (p % (64 * N))) (same r.reference.0 r.carried)) ∙ r.some;
       plain = λ k h.
           let place = (r.reference.0 + (65536 - k)) % 65536 % (64 * N) in
-          ap known (marks-at r k h)
-          ∙ known-small (lanes_at r.rows place) ((r.whole.each (place / 64) (omega (arith, some_window))).small (place % 64))
-          ∙ sym (marks-at r k h);
+          ap known (marks-at r k h) ∙ known-lanes_where (has_bit (get_or r.rows (place / 64) []) (place % 64)) ∙ sym (marks-at r k h);
     }
   where
     same : (n : ℕ) → n < 65536 → (n + (65536 - 0)) % 65536 ≡ n

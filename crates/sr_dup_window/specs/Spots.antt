@@ -1,4 +1,4 @@
--- Rows of 64 sets of lanes as a list of spots that goes round: spot p is place `p mod 64` of row `p / 64`.
+-- Rows of six words of 64 bits, one for each lane, as a ring of spots: spot p is bit `p mod 64` of row `p / 64`.
 use Rattle.std.specs.Prelude.{
   ◌≡◌,
   ◌⊎◌,
@@ -7,34 +7,43 @@ use Rattle.std.specs.Prelude.{
   ◌-◌,
   ◌/◌,
   ◌%◌,
+  ◌==◌,
   ◌&&◌,
   nat_lt,
   nat_le,
   ◌<◌,
+  ◌^◌,
   Bool,
   List,
   [],
   length,
+  slice_index,
   slice_index_or,
 }
+use Rattle.std.specs.Int.{bit_at}
+use Rattle.sr_dup_window.specs.declared.lane_sets.Lane.{Lane}
 use Rattle.sr_dup_window.specs.declared.lane_sets.Lanes.{Lanes}
-use Rattle.sr_dup_window.specs.LaneSets.{none}
+use Rattle.sr_dup_window.specs.LaneSets.{index_of, lanes_where}
 
--- the lanes at a place of a row
-abbrev pub lanes_in : List Lanes → ℕ → Lanes
-lanes_in row place = slice_index_or row place none
+-- whether a row has a bit on a lane
+abbrev pub has_bit : List ℕ → ℕ → Lane → Bool
+has_bit row bit lane = bit_at (slice_index row (index_of lane)) bit == 1
 
--- the lanes at a spot
-abbrev pub lanes_at : List (List Lanes) → ℕ → Lanes
+-- the lanes on which a row has a bit
+abbrev pub lanes_in : List ℕ → ℕ → Lanes
+lanes_in row bit = lanes_where (has_bit row bit)
+
+-- the lanes on which the ring has a spot
+abbrev pub lanes_at : List (List ℕ) → ℕ → Lanes
 lanes_at rows spot = lanes_in (slice_index_or rows (spot / 64) []) (spot % 64)
 
--- 64 sets of lanes, without bits that stand for no lane
-pub record IsRow (row : List Lanes) : Type 0 where
-  pub many : length row ≡ 64
-  pub small : (place : ℕ) → (lanes_in row place).0 < 64
+-- six words of 64 bits
+pub record IsRow (row : List ℕ) : Type 0 where
+  pub six : length row ≡ 6
+  pub small : (i : ℕ) → slice_index row i < 2 ^ 64
 
 -- that many rows
-pub record AreRows (count : ℕ) (rows : List (List Lanes)) : Type 0 where
+pub record AreRows (count : ℕ) (rows : List (List ℕ)) : Type 0 where
   pub many : length rows ≡ count
   pub each : (i : ℕ) → i < count → IsRow (slice_index_or rows i [])
 

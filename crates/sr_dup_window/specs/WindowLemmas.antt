@@ -359,7 +359,7 @@ same-numbers w a b f g m n s t same =
     same-windows w a b f g m s (subst P top t) (λ lane k h. same lane (m -ℤ pos k))
 
 -- the test says whether two windows are one
-pub Decides-lanes : (a b : Lanes) → Decides (eqb a.0 b.0) (a ≡ b)
+Decides-lanes : (a b : Lanes) → Decides (eqb a.0 b.0) (a ≡ b)
 Decides-lanes a b = Decides-like (eqb a.0 b.0) (λ e. λ i. record { 0 = e i }) (λ e. ap (λ (l : Lanes). l.0) e) (Decides-eqb a.0 b.0)
 
 pub Decides-same_window : (a b : Window) → Decides (same_window a b) (a ≡ b)

@@ -16,7 +16,7 @@ pub struct Apart;
 
 /// The numbers that one source has lately used, lane by lane: the greatest of them, its reference, and which of the
 /// `64 * N - 1` numbers before it. N is 16 or 32 (choice of this project). Number n stands at the spot `n mod 64N` of a
-/// list that goes round, an octet for each number: so one load tells all its lanes.
+/// ring of bits, in which the six lanes' words of the same 64 numbers lie side by side.
 #[derive(Clone, Copy, PartialEq, Eq, Debug)]
 pub struct Record<const N: usize> {
     reference: Seq,
@@ -41,7 +41,7 @@ impl<const N: usize> Record<N> {
         ensures value { window_of result ≡ window_begun (64 * N) seq.0 lanes }
         ensures stands { Begins (64 * N) (window_of result) seq.0 lanes }
     {
-        let mut rows = [[Lanes::NONE; 64]; N];
+        let mut rows = [[0; 6]; N];
         mark(&mut rows, seq.0 as usize % (64 * N), lanes);
         Record {
             reference: seq,

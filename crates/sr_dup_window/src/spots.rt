@@ -1,17 +1,17 @@
-//! Rows as a list of spots that goes round: spot p is place `p mod 64` of row `p / 64`.
+//! Rows as a ring of spots: spot p is bit `p mod 64` of row `p / 64`.
 ghost use Rattle.std.specs.Prelude.{◌≡◌, ◌==◌, ◌||◌, ◌&&◌, nat_le, nat_lt, ℕ, ◌+◌, ◌*◌, ◌%◌, ◌<◌, ◌≤◌, length, if◌then◌else◌};
 ghost use Rattle.sr_dup_window.specs.LaneSets.{none, union};
 ghost use Rattle.sr_dup_window.specs.Spots.{lanes_at, is_passed, AreRows, IsWidth};
 
 use crate::lane_sets::Lanes;
-use crate::rows::{Row, clear_in, mark_in, put_in, unite_row};
+use crate::rows::{Row, clear_in, lanes_in, mark_in, put_in, unite_row};
 
 /// The lanes at a spot.
 pub(crate) fn lanes_at(rows: &[Row], spot: usize) -> Lanes
     requires { spot < 64 * length rows.now }
     ensures { result ≡ lanes_at rows.now spot }
 {
-    rows[spot / 64][spot % 64]
+    lanes_in(&rows[spot / 64], (spot % 64) as u32)
 }
 
 /// Adds lanes at a spot.
@@ -22,7 +22,7 @@ pub(crate) fn mark(rows: &mut [Row], spot: usize, lanes: Lanes)
     ensures lanes { (p : ℕ) → lanes_at rows.new p
         ≡ (if p == spot then union (lanes_at rows.old p) lanes else lanes_at rows.old p) }
 {
-    mark_in(&mut rows[spot / 64], spot % 64, lanes);
+    mark_in(&mut rows[spot / 64], (spot % 64) as u32, lanes);
 }
 
 /// Puts lanes at a spot, instead of those that were there.
@@ -33,19 +33,20 @@ pub(crate) fn put(rows: &mut [Row], spot: usize, lanes: Lanes)
     ensures lanes { (p : ℕ) → lanes_at rows.new p
         ≡ (if p == spot then union none lanes else lanes_at rows.old p) }
 {
-    put_in(&mut rows[spot / 64], spot % 64, lanes);
+    put_in(&mut rows[spot / 64], (spot % 64) as u32, lanes);
 }
 
 /// Clears `count` spots of one row, from `start` on.
 fn clear_run(rows: &mut [Row], start: usize, count: usize)
     requires within { start < 64 * length rows.old }
+    requires some { 0 < count }
     requires one_row { start % 64 + count ≤ 64 }
     requires whole { AreRows (length rows.old) rows.old }
     ensures whole { AreRows (length rows.old) rows.new }
     ensures lanes { (p : ℕ) → lanes_at rows.new p
         ≡ (if nat_le start p && nat_lt p (start + count) then none else lanes_at rows.old p) }
 {
-    clear_in(&mut rows[start / 64], start % 64, count);
+    clear_in(&mut rows[start / 64], (start % 64) as u32, count as u32);
 }
 
 /// Clears the `count` spots after `from`, going round, a row at a time.
@@ -75,7 +76,7 @@ pub(crate) fn clear_all(rows: &mut [Row])
     ensures lanes { (p : ℕ) → lanes_at rows.new p ≡ none }
 {
     for row in rows.iter_mut() {
-        *row = [Lanes::NONE; 64];
+        *row = [0; 6];
     }
 }
 
