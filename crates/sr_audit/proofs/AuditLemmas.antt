@@ -18,9 +18,6 @@ use Rattle.std.proofs.Common.{
   None,
   Some,
   is_some,
-  Result,
-  Ok,
-  Err,
   arith,
   refl,
   sym,
@@ -31,7 +28,7 @@ use Rattle.std.proofs.Common.{
   inr,
   length-append,
 }
-use Rattle.std.specs.Prelude.{◌^◌, ◌⊎◌, OnOk, OnErr}
+use Rattle.std.specs.Prelude.{◌^◌}
 use Rattle.std.specs.Map.{lookup, set_value}
 use Rattle.std.proofs.lemmas.Bool.{cases_Bool}
 use Rattle.std.proofs.lemmas.Map.{length-set_value}
@@ -41,6 +38,7 @@ use Rattle.sr_frame.specs.AddressLemmas.{mac_same, mac_symm, mac_refl}
 use Rattle.sr_slots.specs.EntryLemmas.{lookup-set, lookup-push}
 use Rattle.sr_audit.specs.declared.arrival.Arrival.{Arrival}
 use Rattle.sr_audit.specs.declared.source.Source.{Source}
+use Rattle.sr_audit.specs.declared.span.Spans.{Spans}
 use Rattle.sr_audit.specs.Limits.{most_audited}
 use Rattle.sr_audit.specs.Taken.{HasTaken}
 use Rattle.sr_audit.specs.Audits.{Sent, of, IsEntryFor, Audits}
@@ -55,18 +53,18 @@ length-of m (x ∷ xs) =
     ]
 
 -- more sources
-stands_later : (count more : ℕ) (xs : List Arrival) (o : Option Source) → count ≤ more → IsEntryFor count xs o → IsEntryFor more xs o
-stands_later count more xs None le (inl none) = inl none
-stands_later count more xs None le (inr full) = inr (omega (arith, le, full))
-stands_later count more xs (Some s) le taken = taken
+stands_later : (spans : Spans) (count more : ℕ) (xs : List Arrival) (o : Option Source) → count ≤ more → IsEntryFor spans count xs o → IsEntryFor spans more xs o
+stands_later spans count more xs None le (inl none) = inl none
+stands_later spans count more xs None le (inr full) = inr (omega (arith, le, full))
+stands_later spans count more xs (Some s) le taken = taken
 
 -- an entry for a source that has none
-pub audits_made : (xs : List Sent) (entries : List (Mac × Source)) (src : Mac) (s : Source) → Audits xs entries →
-    lookup (mac_eq src) entries ≡ None → length entries < most_audited → HasTaken [] s → Audits xs (entries ++ (src, s) ∷ [])
-audits_made xs entries src s audits absent few empty =
+pub audits_made : (spans : Spans) (xs : List Sent) (entries : List (Mac × Source)) (src : Mac) (s : Source) → Audits spans xs entries →
+    lookup (mac_eq src) entries ≡ None → length entries < most_audited → HasTaken spans [] s → Audits spans xs (entries ++ (src, s) ∷ [])
+audits_made spans xs entries src s audits absent few empty =
     record { each = λ m. rw (lookup-push src m s entries absent) (by m (mac_eq src m) refl) }
   where
-    none : IsEntryFor (length entries) (of src xs) None → of src xs ≡ []
+    none : IsEntryFor spans (length entries) (of src xs) None → of src xs ≡ []
     none (inl nothing) = nothing
     none (inr full) = absurd (omega (arith, few, full))
 
@@ -74,77 +72,67 @@ audits_made xs entries src s audits absent few empty =
     longer = omega (arith, length-append entries ((src, s) ∷ []))
 
     by : (m : Mac) (t : Bool) → mac_eq src m ≡ t →
-        IsEntryFor (length (entries ++ (src, s) ∷ [])) (of m xs) (cond t (Some s) (lookup (mac_eq m) entries))
+        IsEntryFor spans (length (entries ++ (src, s) ∷ [])) (of m xs) (cond t (Some s) (lookup (mac_eq m) entries))
     by m true same =
         let nothing : of m xs ≡ [] =
-        ap (λ k. of k xs) (sym (mac_same src m same)) ∙ none (subst (IsEntryFor (length entries) (of src xs)) absent (audits.each src)) in
-        subst (λ ys. HasTaken ys s) (sym nothing) empty
-    by m false other = stands_later (length entries) (length (entries ++ (src, s) ∷ [])) (of m xs) (lookup (mac_eq m) entries) longer
+        ap (λ k. of k xs) (sym (mac_same src m same)) ∙ none (subst (IsEntryFor spans (length entries) (of src xs)) absent (audits.each src)) in
+        subst (λ ys. HasTaken spans ys s) (sym nothing) empty
+    by m false other = stands_later spans (length entries) (length (entries ++ (src, s) ∷ [])) (of m xs) (lookup (mac_eq m) entries) longer
         (audits.each m)
 
 -- an arrival of a source that has no entry, where there are so many
-pub audits_left : (xs : List Sent) (entries : List (Mac × Source)) (src : Mac) (x : Arrival) → Audits xs entries →
-    is_some (lookup (mac_eq src) entries) ≡ false → most_audited ≤ length entries → Audits ((src, x) ∷ xs) entries
-audits_left xs entries src x audits absent full = record { each = λ m. by m (mac_eq m src) refl }
+pub audits_left : (spans : Spans) (xs : List Sent) (entries : List (Mac × Source)) (src : Mac) (x : Arrival) → Audits spans xs entries →
+    is_some (lookup (mac_eq src) entries) ≡ false → most_audited ≤ length entries → Audits spans ((src, x) ∷ xs) entries
+audits_left spans xs entries src x audits absent full = record { each = λ m. by m (mac_eq m src) refl }
   where
-    left : (ys : List Arrival) (o : Option Source) → is_some o ≡ false → IsEntryFor (length entries) ys o
+    left : (ys : List Arrival) (o : Option Source) → is_some o ≡ false → IsEntryFor spans (length entries) ys o
     left ys None lacks = inr full
     left ys (Some s) lacks = absurd cc
 
     by : (m : Mac) (t : Bool) → mac_eq m src ≡ t →
-        IsEntryFor (length entries) (cond t (x ∷ of m xs) (of m xs)) (lookup (mac_eq m) entries)
+        IsEntryFor spans (length entries) (cond t (x ∷ of m xs) (of m xs)) (lookup (mac_eq m) entries)
     by m true same = left (x ∷ of m xs) (lookup (mac_eq m) entries) (ap (λ k. is_some (lookup (mac_eq k) entries)) (mac_same m src same) ∙ absent)
     by m false other = audits.each m
 
 -- an entry that changed, and the arrival that it took
-pub audits_taken : (xs : List Sent) (entries : List (Mac × Source)) (src : Mac) (x : Arrival) (was is : Source) → length xs + 1 < 2 ^ 64 →
+pub audits_taken : (spans : Spans) (xs : List Sent) (entries : List (Mac × Source)) (src : Mac) (x : Arrival) (was is : Source) → length xs + 1 < 2 ^ 64 →
     lookup (mac_eq src) entries ≡ Some was →
-    ((ys : List Arrival) → length ys + 1 < 2 ^ 64 → HasTaken ys was → HasTaken (x ∷ ys) is) → Audits xs entries →
-    Audits ((src, x) ∷ xs) (set_value (mac_eq src) entries is)
-audits_taken xs entries src x was is few found takes audits =
+    ((ys : List Arrival) → length ys + 1 < 2 ^ 64 → HasTaken spans ys was → HasTaken spans (x ∷ ys) is) → Audits spans xs entries →
+    Audits spans ((src, x) ∷ xs) (set_value (mac_eq src) entries is)
+audits_taken spans xs entries src x was is few found takes audits =
     record {
       each = λ m. rw (lookup-set src m is entries (ap is_some found), length-set_value (mac_eq src) entries is)
           (by m (mac_eq m src) refl);
     }
   where
-    own : (m : Mac) → m ≡ src → HasTaken (x ∷ of m xs) is
+    own : (m : Mac) → m ≡ src → HasTaken spans (x ∷ of m xs) is
     own m same = takes (of m xs) (omega (arith, few, length-of m xs))
-        (subst (IsEntryFor (length entries) (of m xs)) (ap (λ k. lookup (mac_eq k) entries) same ∙ found) (audits.each m))
+        (subst (IsEntryFor spans (length entries) (of m xs)) (ap (λ k. lookup (mac_eq k) entries) same ∙ found) (audits.each m))
 
     by : (m : Mac) (t : Bool) → mac_eq m src ≡ t →
-        IsEntryFor (length entries) (cond (mac_eq m src) (x ∷ of m xs) (of m xs)) (cond (mac_eq src m) (Some is) (lookup (mac_eq m) entries))
+        IsEntryFor spans (length entries) (cond (mac_eq m src) (x ∷ of m xs) (of m xs)) (cond (mac_eq src m) (Some is) (lookup (mac_eq m) entries))
     by m true same = rw (same, mac_symm src m ∙ same) (own m (mac_same m src same))
     by m false other = rw (other, mac_symm src m ∙ other) (audits.each m)
 
 -- an entry that changed in nothing that was taken
-pub audits_kept : (xs : List Sent) (entries : List (Mac × Source)) (src : Mac) (was is : Source) →
-    lookup (mac_eq src) entries ≡ Some was → is.numbers ≡ was.numbers → Audits xs entries → Audits xs (set_value (mac_eq src) entries is)
-audits_kept xs entries src was is found same audits =
+pub audits_kept : (spans : Spans) (xs : List Sent) (entries : List (Mac × Source)) (src : Mac) (was is : Source) →
+    lookup (mac_eq src) entries ≡ Some was → ((ys : List Arrival) → HasTaken spans ys was → HasTaken spans ys is) → Audits spans xs entries → Audits spans xs (set_value (mac_eq src) entries is)
+audits_kept spans xs entries src was is found keeps audits =
     record {
       each = λ m. rw (lookup-set src m is entries (ap is_some found), length-set_value (mac_eq src) entries is)
           (by m (mac_eq src m) refl);
     }
   where
-    by : (m : Mac) (t : Bool) → mac_eq src m ≡ t → IsEntryFor (length entries) (of m xs) (cond t (Some is) (lookup (mac_eq m) entries))
+    by : (m : Mac) (t : Bool) → mac_eq src m ≡ t → IsEntryFor spans (length entries) (of m xs) (cond t (Some is) (lookup (mac_eq m) entries))
     by m true own =
-        let taken : HasTaken (of m xs) was =
-        subst (IsEntryFor (length entries) (of m xs)) (ap (λ k. lookup (mac_eq k) entries) (sym (mac_same src m own)) ∙ found) (audits.each m) in
-        rw same taken
+        keeps (of m xs) (subst (IsEntryFor spans (length entries) (of m xs))
+        (ap (λ k. lookup (mac_eq k) entries) (sym (mac_same src m own)) ∙ found) (audits.each m))
     by m false other = audits.each m
 
 -- the entry that was made is there
 pub made_is : (entries : List (Mac × Source)) (src : Mac) (s : Source) → lookup (mac_eq src) entries ≡ None →
     true ≡ is_some (lookup (mac_eq src) (entries ++ (src, s) ∷ []))
 made_is entries src s absent = rw (lookup-push src src s entries absent, mac_refl src) refl
-
--- what follows from what holds of one outcome
-pub on_ok_more : {X E P Q : Type 0} (r : Result X E) → (P → Q) → OnOk r P → OnOk r Q
-on_ok_more (Ok x) f p = f p
-on_ok_more (Err e) f p = p
-
-pub on_err_more : {X E P Q : Type 0} (r : Result X E) → (P → Q) → OnErr r P → OnErr r Q
-on_err_more (Ok x) f p = p
-on_err_more (Err e) f p = f p
 
 -- a look-up that finds nothing
 pub nothing_there : {X : Type 0} (o : Option X) → is_some o ≡ false → o ≡ None

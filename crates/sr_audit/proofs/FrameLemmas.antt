@@ -1,26 +1,5 @@
 -- How the counts of a stretch change with one copy more.
-use Rattle.std.proofs.Common.{
-  ◌≡◌,
-  ℕ,
-  ◌+◌,
-  Bool,
-  true,
-  false,
-  cond,
-  ◌||◌,
-  ◌&&◌,
-  List,
-  [],
-  ◌∷◌,
-  ℤ,
-  arith,
-  refl,
-  sym,
-  ap,
-  ◌∙◌,
-  inl,
-  inr,
-}
+use Rattle.std.proofs.Common.{◌≡◌, ℕ, ◌+◌, Bool, true, false, cond, ◌||◌, List, [], ◌∷◌, ℤ, arith, refl, sym, ap, ◌∙◌, inl, inr}
 use Rattle.std.specs.Prelude.{count_by}
 use Rattle.std.specs.Ordering.{int_eq}
 use Rattle.std.proofs.lemmas.Bool.{cases_Bool, false_from_ne_true}
@@ -29,6 +8,7 @@ use Rattle.std.proofs.lemmas.List.Sums.{sum_by-cons}
 use Rattle.sr_audit.specs.declared.side.Side.{Side}
 use Rattle.sr_audit.specs.declared.side.Side.TheVariants.{A, B}
 use Rattle.sr_audit.specs.Stretches.{Placed, same_side, came}
+use Rattle.sr_audit.specs.Edges.{first_time, frames_at}
 use Rattle.sr_audit.specs.Tallies.{frames, frames_with}
 
 pub count-cons : {X : Type 0} (p : X → Bool) (x : X) (xs : List X) → count_by p (x ∷ xs) ≡ cond (p x) 1 0 + count_by p xs
@@ -145,22 +125,30 @@ once m (y ∷ s) =
           ]
     ]
 
--- what one copy more does to how many frames pass a test
-pub frames_with-more : (test : Bool → Bool → Bool) (y : Placed) (s : List Placed) →
-    frames_with test (y ∷ s)
-    + cond (came A y.number s || came B y.number s) (cond (test (came A y.number s) (came B y.number s)) 1 0) 0
-    ≡ frames_with test s + cond (test (same_side A y.side || came A y.number s) (same_side B y.side || came B y.number s)) 1 0
-frames_with-more test y s =
+-- when the first copy of another frame came, or of this one
+pub first_other : (n : ℤ) (y : Placed) (s : List Placed) → int_eq n y.number ≡ false → first_time n (y ∷ s) ≡ first_time n s
+first_other n y s other = rw other refl
+
+-- what one copy more does to how many frames pass a test, also of when the first copy came
+pub frames_at-more : (test : Bool → Bool → ℕ → Bool) (y : Placed) (s : List Placed) (t : ℕ) → first_time y.number (y ∷ s) ≡ t →
+    frames_at test (y ∷ s)
+    + cond (came A y.number s || came B y.number s) (cond (test (came A y.number s) (came B y.number s) (first_time y.number s)) 1 0) 0
+    ≡ frames_at test s
+    + cond (test (same_side A y.side || came A y.number s) (same_side B y.side || came B y.number s) t) 1 0
+frames_at-more test y s t first =
     let m = y.number in
-    let p : ℤ → Bool = λ n. test (came A n s) (came B n s) in
-    let q : ℤ → Bool = λ n. test (came A n (y ∷ s)) (came B n (y ∷ s)) in
+    let p : ℤ → Bool = λ n. test (came A n s) (came B n s) (first_time n s) in
+    let q : ℤ → Bool = λ n. test (came A n (y ∷ s)) (came B n (y ∷ s)) (first_time n (y ∷ s)) in
     let same : (n : ℤ) → int_eq n m ≡ false → q n ≡ p n =
-    λ n other. ap (λ b. test b (came B n (y ∷ s))) (came-other A n y s other) ∙ ap (test (came A n s)) (came-other B n y s other) in
+    λ n other. ap (λ b. test b (came B n (y ∷ s)) (first_time n (y ∷ s))) (came-other A n y s other)
+    ∙ ap (λ b. test (came A n s) b (first_time n (y ∷ s))) (came-other B n y s other)
+    ∙ ap (test (came A n s) (came B n s)) (first_other n y s other) in
     let own : int_eq m m ≡ true = (Decides-int_eq m m).1 refl in
-    let here : q m ≡ test (same_side A y.side || came A m s) (same_side B y.side || came B m s) =
-    ap (λ b. test b (came B m (y ∷ s))) (came-same A m y s own)
-    ∙ ap (test (same_side A y.side || came A m s)) (came-same B m y s own) in
-    let here_one : cond (q m) 1 0 ≡ cond (test (same_side A y.side || came A m s) (same_side B y.side || came B m s)) 1 0 =
+    let here : q m ≡ test (same_side A y.side || came A m s) (same_side B y.side || came B m s) t =
+    ap (λ b. test b (came B m (y ∷ s)) (first_time m (y ∷ s))) (came-same A m y s own)
+    ∙ ap (λ b. test (same_side A y.side || came A m s) b (first_time m (y ∷ s))) (came-same B m y s own)
+    ∙ ap (test (same_side A y.side || came A m s) (same_side B y.side || came B m s)) first in
+    let here_one : cond (q m) 1 0 ≡ cond (test (same_side A y.side || came A m s) (same_side B y.side || came B m s) t) 1 0 =
     ap (λ b. cond b 1 0) here in
     elim (cases_Bool (came A m s || came B m s)) [
       | inl known ↦
@@ -171,8 +159,15 @@ frames_with-more test y s =
           let alike : count_by q (frames s) ≡ count_by p (frames s) = same_without p q m same (frames s) times in
           let head : count_by q (m ∷ frames s) ≡ cond (q m) 1 0 + count_by q (frames s) = count-cons q m (frames s) in
           rw new (joined (count_by q (m ∷ frames s)) (cond (q m) 1 0) (count_by q (frames s)) (count_by p (frames s))
-          (cond (test (same_side A y.side || came A m s) (same_side B y.side || came B m s)) 1 0) head alike here_one)
+          (cond (test (same_side A y.side || came A m s) (same_side B y.side || came B m s) t) 1 0) head alike here_one)
     ]
   where
     joined : (c h t u k : ℕ) → c ≡ h + t → t ≡ u → h ≡ k → c + 0 ≡ u + k
     joined c h t u k e f g = omega arith
+
+-- what one copy more does to how many frames pass a test
+pub frames_with-more : (test : Bool → Bool → Bool) (y : Placed) (s : List Placed) →
+    frames_with test (y ∷ s)
+    + cond (came A y.number s || came B y.number s) (cond (test (came A y.number s) (came B y.number s)) 1 0) 0
+    ≡ frames_with test s + cond (test (same_side A y.side || came A y.number s) (same_side B y.side || came B y.number s)) 1 0
+frames_with-more test y s = frames_at-more (λ a b time. test a b) y s (first_time y.number (y ∷ s)) refl

@@ -1,35 +1,12 @@
 -- The figures of all stretches with one copy more.
-use Rattle.std.proofs.Common.{
-  ◌≡◌,
-  ℕ,
-  ◌+◌,
-  ◌≤◌,
-  Bool,
-  true,
-  false,
-  cond,
-  ◌||◌,
-  ◌&&◌,
-  not,
-  List,
-  [],
-  ◌∷◌,
-  length,
-  arith,
-  refl,
-  sym,
-  ap,
-  ◌∙◌,
-}
-use Rattle.std.specs.Prelude.{count_by, sum_by}
+use Rattle.std.proofs.Common.{◌≡◌, ℕ, ◌+◌, ◌≤◌, Bool, true, false, cond, ◌||◌, ◌&&◌, not, List, [], ◌∷◌, length, arith, refl}
+use Rattle.std.specs.Prelude.{sum_by}
 use Rattle.std.proofs.lemmas.List.Sums.{sum_by-cons}
 use Rattle.sr_audit.specs.declared.side.Side.{Side}
 use Rattle.sr_audit.specs.declared.side.Side.TheVariants.{A, B}
-use Rattle.sr_audit.specs.declared.tally.Came.{Came}
-use Rattle.sr_audit.specs.declared.tally.Tally.{Tally}
 use Rattle.sr_audit.specs.Counting.{more_if, less_if, joins, tally_with}
 use Rattle.sr_audit.specs.Stretches.{Placed, same_side, came}
-use Rattle.sr_audit.specs.Tallies.{frames, frames_with, by_both, by_a_alone, by_b_alone, copies, repeats, tally_of}
+use Rattle.sr_audit.specs.Tallies.{frames_with, by_both, by_a_alone, by_b_alone, copies, repeats, tally_of}
 use Rattle.sr_audit.proofs.FrameLemmas.{count-cons, frames_with-more}
 
 -- every copy came in at one side

@@ -5,6 +5,7 @@ use Rattle.sr_frame.specs.declared.fields.Mac.{Mac}
 use Rattle.sr_frame.specs.Addresses.{mac_eq}
 use Rattle.sr_audit.specs.declared.arrival.Arrival.{Arrival}
 use Rattle.sr_audit.specs.declared.source.Source.{Source}
+use Rattle.sr_audit.specs.declared.span.Spans.{Spans}
 use Rattle.sr_audit.specs.Limits.{most_audited}
 use Rattle.sr_audit.specs.Taken.{HasTaken}
 
@@ -18,10 +19,10 @@ of m [] = []
 of m (x ∷ before) = if mac_eq m x.0 then x.1 ∷ of m before else of m before
 
 -- what is kept of a source says of its arrivals; nothing is kept where none came, or where so many sources came before
-abbrev pub IsEntryFor : ℕ → List Arrival → Option Source → Type 0
-IsEntryFor count xs None = (xs ≡ []) ⊎ (most_audited ≤ count)
-IsEntryFor count xs (Some s) = HasTaken xs s
+abbrev pub IsEntryFor : Spans → ℕ → List Arrival → Option Source → Type 0
+IsEntryFor spans count xs None = (xs ≡ []) ⊎ (most_audited ≤ count)
+IsEntryFor spans count xs (Some s) = HasTaken spans xs s
 
 -- these arrivals were taken, newest first: each source says of its own
-pub record Audits (xs : List Sent) (entries : List (Mac × Source)) : Type 0 where
-  pub each : (m : Mac) → IsEntryFor (length entries) (of m xs) (lookup (mac_eq m) entries)
+pub record Audits (spans : Spans) (xs : List Sent) (entries : List (Mac × Source)) : Type 0 where
+  pub each : (m : Mac) → IsEntryFor spans (length entries) (of m xs) (lookup (mac_eq m) entries)

@@ -1,8 +1,9 @@
 -- Figures with one copy more.
-use Rattle.std.specs.Prelude.{ℕ, ◌+◌, ◌-◌, ◌^◌, min, Bool, true, false, not, ◌&&◌, ◌||◌, if◌then◌else◌}
+use Rattle.std.specs.Prelude.{ℕ, ◌+◌, ◌-◌, ◌^◌, min, Bool, not, ◌&&◌, ◌||◌, if◌then◌else◌}
 use Rattle.sr_audit.specs.declared.side.Side.{Side}
 use Rattle.sr_audit.specs.declared.side.Side.TheVariants.{A, B}
 use Rattle.sr_audit.specs.declared.tally.Came.{Came}
+use Rattle.sr_audit.specs.declared.tally.Sides.{Sides}
 use Rattle.sr_audit.specs.declared.tally.Tally.{Tally}
 use Rattle.sr_audit.specs.Stretches.{same_side}
 
@@ -31,3 +32,24 @@ tally_with t side came = record {
     b = more_if t.repeats.b (same_side B side && came.b);
   };
 }
+
+-- counts of both sides with one more, or one less, at a side, where a test holds
+abbrev pub more_at : Sides → Side → Bool → Sides
+more_at s side is_one = record {
+  a = more_if s.a (same_side A side && is_one);
+  b = more_if s.b (same_side B side && is_one);
+}
+
+abbrev pub less_at : Sides → Side → Bool → Sides
+less_at s side is_one = record {
+  a = less_if s.a (same_side A side && is_one);
+  b = less_if s.b (same_side B side && is_one);
+}
+
+-- copies came before by some side, or by this one
+abbrev pub has_come : Came → Bool
+has_come came = came.a || came.b
+
+abbrev pub came_before_at : Came → Side → Bool
+came_before_at came A = came.a
+came_before_at came B = came.b

@@ -1,9 +1,13 @@
 -- The limits of an audit.
-use Rattle.std.specs.Prelude.{ℕ}
+use Rattle.std.specs.Prelude.{ℕ, ◌%◌}
 
 -- how many numbers of a source are remembered, up to the greatest one: as many as a duplicate table remembers (choice of this project)
 abbrev pub kept_numbers : ℕ
 kept_numbers = 1024
+
+-- the place of a number in a list of as many
+abbrev pub place_in : ℕ → ℕ
+place_in seq = seq % kept_numbers
 
 -- how long a source is silent whose next number begins an epoch, in nanoseconds: EntryForgetTime (IEC 62439-3 clauses 4 and 5)
 abbrev pub epoch_gap : ℕ

@@ -29,6 +29,11 @@ top_number [] = pos 0
 top_number (y ∷ []) = y.number
 top_number (y ∷ z ∷ before) = greater (top_number (z ∷ before)) y.number
 
+-- when the newest copy of a stretch came
+abbrev pub newest_time : List Placed → ℕ
+newest_time [] = 0
+newest_time (y ∷ before) = y.time
+
 -- the number lies more than 1023 ahead
 abbrev pub is_far : Distance → Bool
 is_far (Behind k) = false

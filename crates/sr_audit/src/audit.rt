@@ -1,9 +1,5 @@
 //! The figures of two captures.
 
-ghost use Rattle.std.specs.Prelude.{◌≡◌, ◌+◌, ◌^◌, ◌<◌, List, ◌∷◌, length, OnOk, OnErr};
-ghost use Rattle.sr_audit.specs.declared.arrival.Arrival.{Arrival};
-ghost use Rattle.sr_audit.specs.Taken.{HasTaken};
-
 use crate::arrival::Arrival;
 use crate::side::Side;
 use crate::source::Source;
@@ -24,30 +20,23 @@ pub struct Audit {
     left_out: u64,
 }
 
-/// Makes room for an arrival of a source, and takes it.
-fn take(source: &mut Source, x: Arrival, spans: &Spans) -> Result<(), NoMemory>
-    ensures taken { OnOk result ((xs : List Arrival) → length xs + 1 < 2 ^ 64
-        → HasTaken xs source.old → HasTaken (x ∷ xs) source.new) }
-    ensures same { OnErr result (source.new.numbers ≡ source.old.numbers) }
-{
-    source.make_room()?;
-    source.note(x, spans);
-    Ok(())
-}
-
 impl Audit {
     ghost use Rattle.std.specs.Prelude.{◌≡◌, ◌+◌, ◌^◌, ◌<◌, ◌≤◌, List, [], ◌∷◌, length, true, false, is_some, IfOk, IfSome, OnOk, OnErr};
-    ghost use Rattle.std.specs.Map.{lookup};
+    ghost use Rattle.std.specs.List.{IsDistinct};
+    ghost use Rattle.std.specs.Map.{lookup, keys_of};
     ghost use Rattle.sr_frame.specs.declared.fields.Mac.{Mac};
     ghost use Rattle.sr_frame.specs.Addresses.{mac_eq};
     ghost use Rattle.sr_audit.specs.declared.arrival.Arrival.{Arrival};
-    ghost use Rattle.sr_audit.specs.Taken.{HasTaken};
+    ghost use Rattle.sr_audit.specs.declared.span.Spans.{Spans};
+    ghost use Rattle.sr_audit.specs.Taken.{TakesArrival, KeepsTaken};
     ghost use Rattle.sr_audit.specs.Audits.{Audits, Sent};
     ghost use Rattle.sr_audit.specs.Limits.{most_audited};
 
     /// No arrival came. The spans of the captures are known.
     pub fn new(alloc: Global, keys: Keys, spans: Spans) -> Audit
-        ensures { Audits [] result.sources.entries }
+        ensures audits { Audits spans [] result.sources.entries }
+        ensures spans { result.spans ≡ spans }
+        ensures none { result.left_out ≡ 0 }
     {
         Audit {
             alloc,
@@ -59,12 +48,14 @@ impl Audit {
 
     /// Makes an entry for an address, unless it has one. False: there are 1024.
     fn make_entry(&mut self, src: Mac) -> Result<bool, NoMemory>
-        ensures audits { (xs : List Sent) → Audits xs self.old.sources.entries
-            → Audits xs self.new.sources.entries }
+        ensures audits { (spans : Spans) (xs : List Sent)
+            → Audits spans xs self.old.sources.entries
+            → Audits spans xs self.new.sources.entries }
         ensures made { IfOk result (λ made.
             made ≡ is_some (lookup (mac_eq src) self.new.sources.entries)) }
         ensures full { IfOk result (λ made.
             made ≡ false → most_audited ≤ length self.new.sources.entries) }
+        ensures spans { self.new.spans ≡ self.old.spans }
     {
         if self.sources.get(src).is_some() {
             return Ok(true);
@@ -72,54 +63,53 @@ impl Audit {
         if self.sources.len() >= MOST_SOURCES {
             return Ok(false);
         }
-        self.sources.append(src, Source::new(self.alloc))?;
+        let source = Source::new(self.alloc)?;
+        self.sources.append(src, source)?;
         Ok(true)
     }
 
     /// Has the entry of a source take its next arrival. None: it has no entry.
-    fn take_at(&mut self, src: Mac, x: Arrival) -> Option<Result<(), NoMemory>>
+    fn take_at(&mut self, src: Mac, x: Arrival) -> Option<()>
         ensures found { is_some result ≡ is_some (lookup (mac_eq src) self.old.sources.entries) }
-        ensures taken { IfSome result (λ taken. OnOk taken ((xs : List Sent)
-            → length xs + 1 < 2 ^ 64 → Audits xs self.old.sources.entries
-            → Audits ((src, x) ∷ xs) self.new.sources.entries)) }
-        ensures same { IfSome result (λ taken. OnErr taken ((xs : List Sent)
-            → Audits xs self.old.sources.entries → Audits xs self.new.sources.entries)) }
+        ensures taken { IfSome result (λ _. (xs : List Sent)
+            → length xs + 1 < 2 ^ 64 → Audits self.old.spans xs self.old.sources.entries
+            → Audits self.old.spans ((src, x) ∷ xs) self.new.sources.entries) }
+        ensures spans { self.new.spans ≡ self.old.spans }
     {
         let spans = self.spans;
-        let taken = self.sources.update_at(
+        self.sources.update_at(
             None,
             src,
-            |source: &mut Source| -> Result<(), NoMemory>
-                ensures taken { OnOk result ((xs : List Arrival) → length xs + 1 < 2 ^ 64
-                    → HasTaken xs source.old → HasTaken (x ∷ xs) source.new) }
-                ensures same { OnErr result (source.new.numbers ≡ source.old.numbers) }
-            { take(source, x, &spans) },
+            |source: &mut Source| -> ()
+                ensures { TakesArrival spans x source.old source.new }
+            { source.note(x, &spans) },
         )?;
-        Some(taken)
+        Some(())
     }
 
     /// Takes the next arrival of a source that has an entry.
-    fn note_known(&mut self, src: Mac, x: Arrival) -> Result<(), NoMemory>
+    fn note_known(&mut self, src: Mac, x: Arrival)
         requires { is_some (lookup (mac_eq src) self.old.sources.entries) ≡ true }
-        ensures taken { OnOk result ((xs : List Sent) → length xs + 1 < 2 ^ 64
-            → Audits xs self.old.sources.entries
-            → Audits ((src, x) ∷ xs) self.new.sources.entries) }
-        ensures same { OnErr result ((xs : List Sent) → Audits xs self.old.sources.entries
-            → Audits xs self.new.sources.entries) }
+        ensures taken { (xs : List Sent) → length xs + 1 < 2 ^ 64
+            → Audits self.old.spans xs self.old.sources.entries
+            → Audits self.old.spans ((src, x) ∷ xs) self.new.sources.entries }
+        ensures spans { self.new.spans ≡ self.old.spans }
     {
         self.take_at(src, x).unwrap()
     }
 
     /// Has the entry of an address take a supervision frame. None: it has no entry.
     fn hear_at(&mut self, mac: Mac, kind: u8, side: Side, time: u64) -> Option<()>
-        ensures { (xs : List Sent) → Audits xs self.old.sources.entries
-            → Audits xs self.new.sources.entries }
+        ensures audits { (spans : Spans) (xs : List Sent)
+            → Audits spans xs self.old.sources.entries
+            → Audits spans xs self.new.sources.entries }
+        ensures spans { self.new.spans ≡ self.old.spans }
     {
         self.sources.update_at(
             None,
             mac,
             |source: &mut Source| -> ()
-                ensures { source.new.numbers ≡ source.old.numbers }
+                ensures { KeepsTaken source.old source.new }
             { source.hear(kind, side, time) },
         )?;
         Some(())
@@ -131,26 +121,31 @@ impl Audit {
     /// `NoMemory` where a growth was refused: no arrival was taken.
     pub fn note(&mut self, src: Mac, x: Arrival) -> Result<(), NoMemory>
         ensures taken { OnOk result ((xs : List Sent) → length xs + 1 < 2 ^ 64
-            → Audits xs self.old.sources.entries
-            → Audits ((src, x) ∷ xs) self.new.sources.entries) }
-        ensures same { OnErr result ((xs : List Sent) → Audits xs self.old.sources.entries
-            → Audits xs self.new.sources.entries) }
+            → Audits self.old.spans xs self.old.sources.entries
+            → Audits self.old.spans ((src, x) ∷ xs) self.new.sources.entries) }
+        ensures same { OnErr result ((spans : Spans) (xs : List Sent)
+            → Audits spans xs self.old.sources.entries
+            → Audits spans xs self.new.sources.entries) }
+        ensures spans { self.new.spans ≡ self.old.spans }
     {
         if self.make_entry(src)? {
-            self.note_known(src, x)
+            self.note_known(src, x);
+            Ok(())
         } else {
             self.left_out = self.left_out.saturating_add(1);
             Ok(())
         }
     }
 
-    /// Takes a supervision frame for an address.
+    /// Takes a supervision frame for an address. One for an address beyond the 1024th is passed over.
     ///
     /// # Errors
     /// `NoMemory` where a growth was refused.
     pub fn hear(&mut self, mac: Mac, kind: u8, side: Side, time: u64) -> Result<(), NoMemory>
-        ensures { (xs : List Sent) → Audits xs self.old.sources.entries
-            → Audits xs self.new.sources.entries }
+        ensures audits { (spans : Spans) (xs : List Sent)
+            → Audits spans xs self.old.sources.entries
+            → Audits spans xs self.new.sources.entries }
+        ensures spans { self.new.spans ≡ self.old.spans }
     {
         if self.make_entry(mac)? {
             let _known = self.hear_at(mac, kind, side, time);
@@ -167,7 +162,8 @@ impl Audit {
 
     /// How many sources there are.
     pub fn len(&self) -> usize
-        ensures { result ≡ length self.now.sources.entries }
+        ensures len { result ≡ length self.now.sources.entries }
+        ensures unique { IsDistinct mac_eq (keys_of self.now.sources.entries) }
     {
         self.sources.len()
     }

@@ -4,6 +4,7 @@ use crate::arrival::Arrival;
 use crate::look::{Look, Step};
 use crate::side::Side;
 use crate::tally::Sides;
+use sr_sequence::Distance;
 
 /// How far the numbers of the current stretch reach, and the figures of all. Numbers are counted from the first of the stretch.
 #[derive(Clone, Copy, Debug, PartialEq, Eq)]
@@ -67,8 +68,12 @@ impl Extent {
                 self.jumps = self.jumps.saturating_add(1);
                 self.begin();
             }
-            Step::Behind(steps) => return self.greatest.saturating_sub(i64::from(steps)),
-            Step::Ahead(steps) => return self.greatest.saturating_add(i64::from(steps)),
+            Step::On(Distance::Behind(steps)) => {
+                return self.greatest.saturating_sub(i64::from(steps));
+            }
+            Step::On(Distance::Ahead(steps)) => {
+                return self.greatest.saturating_add(i64::from(steps));
+            }
         }
         0
     }

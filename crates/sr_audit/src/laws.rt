@@ -1,9 +1,20 @@
-//! Laws of the figures of a source.
+//! Laws of the figures of sources.
 
-ghost use Rattle.sr_audit.specs.Laws.{CopiesAddUp};
+ghost use Rattle.sr_audit.specs.Laws.{CopiesAddUp, LostCopiesAddUp, SourcesAddUp};
 
 /// Of whatever arrivals, the copies that came in at a side are as many as the pairs, the frames that came by this side alone and the
 /// repeats together, and the copies of both sides are all arrivals.
 pub fn copies_add_up()
     ensures { CopiesAddUp }
+{}
+
+/// Of whatever arrivals, the copies that came in at a side are as many as the pairs, the frames that the other side lost, those at the
+/// edges of the other side's capture and the repeats together.
+pub fn lost_copies_add_up()
+    ensures { LostCopiesAddUp }
+{}
+
+/// The copies of a side, of all sources that have figures, are as many as the arrivals of these sources at that side.
+pub fn sources_add_up()
+    ensures { SourcesAddUp }
 {}

@@ -7,7 +7,7 @@ use crate::numbers::{KEPT_NUMBERS, Numbers};
 use crate::side::Side;
 use crate::span::Spans;
 use sr_frame::{Mac, NoMemory};
-use sr_sequence::Seq;
+use sr_sequence::{Distance, Seq};
 use sr_slots::{Keys, Ranked, Slots};
 use std::alloc::{AllocError, Global};
 
@@ -176,17 +176,15 @@ impl Pending {
         }
     }
 
-    /// Lists all that waits, from the least number on.
+    /// Lists all that waits of a stretch with that greatest number, from the least number on.
     fn end_stretch(
         &mut self,
         src: Mac,
+        greatest: Seq,
         spans: &Spans,
         list: &mut Vec<Listed>,
     ) -> Result<(), NoMemory> {
-        let Some(numbers) = &self.numbers else {
-            return Ok(());
-        };
-        let mut seq = Seq(numbers.greatest().0.wrapping_sub(KEPT_NUMBERS));
+        let mut seq = Seq(greatest.0.wrapping_sub(KEPT_NUMBERS));
         for _ in 0..KEPT_NUMBERS {
             seq = seq.next();
             self.settle(src, seq, spans, list)?;
@@ -195,12 +193,13 @@ impl Pending {
         Ok(())
     }
 
-    /// What an arrival is to the stretch.
-    fn look(&self, x: Arrival) -> Look {
-        match &self.numbers {
-            Some(numbers) => numbers.look(x),
-            None => Look::FIRST,
-        }
+    /// Lists all that waits, where something came.
+    fn end(&mut self, src: Mac, spans: &Spans, list: &mut Vec<Listed>) -> Result<(), NoMemory> {
+        let Some(numbers) = &self.numbers else {
+            return Ok(());
+        };
+        let greatest = numbers.greatest();
+        self.end_stretch(src, greatest, spans, list)
     }
 
     /// Goes on to the number of an arrival, so many steps ahead. The places of all on the way are those of numbers 1024 behind.
@@ -240,19 +239,22 @@ impl Pending {
         self.reach = self.reach.max(steps);
     }
 
-    /// Goes to the number of an arrival.
+    /// Goes to the number of an arrival, in a stretch with that greatest number or behind it.
     fn step(
         &mut self,
         x: Copied,
         step: Step,
+        greatest: Seq,
         spans: &Spans,
         list: &mut Vec<Listed>,
     ) -> Result<(), NoMemory> {
         match step {
             Step::First => Ok(()),
-            Step::Restart | Step::Resume | Step::Jump => self.end_stretch(x.src, spans, list),
-            Step::Ahead(steps) => self.go_ahead(x, steps, spans, list),
-            Step::Behind(steps) => {
+            Step::Restart | Step::Resume | Step::Jump => {
+                self.end_stretch(x.src, greatest, spans, list)
+            }
+            Step::On(Distance::Ahead(steps)) => self.go_ahead(x, steps, spans, list),
+            Step::On(Distance::Behind(steps)) => {
                 self.go_back(x.arrival, steps);
                 Ok(())
             }
@@ -275,18 +277,28 @@ impl Pending {
         append(list, pair)
     }
 
+    /// The greatest number of the stretch, and what an arrival is to it. Its number is then taken.
+    fn look(&mut self, x: Arrival) -> (Seq, Look) {
+        match self.numbers.as_mut() {
+            Some(numbers) => {
+                let greatest = numbers.greatest();
+                (greatest, numbers.take(x))
+            }
+            None => {
+                self.numbers = Some(Numbers::begin(x));
+                (x.seq, Look::FIRST)
+            }
+        }
+    }
+
     /// Takes the next arrival of the source, and lists what is decided.
     fn note(&mut self, x: Copied, spans: &Spans, list: &mut Vec<Listed>) -> Result<(), NoMemory> {
         if !self.is_listed {
             return Ok(());
         }
         self.make_room()?;
-        let look = self.look(x.arrival);
-        self.step(x, look.step, spans, list)?;
-        match self.numbers.as_mut() {
-            Some(numbers) => numbers.note(x.arrival),
-            None => self.numbers = Some(Numbers::begin(x.arrival)),
-        }
+        let (greatest, look) = self.look(x.arrival);
+        self.step(x, look.step, greatest, spans, list)?;
         let Arrival { side, seq, time } = x.arrival;
         match (side, look.came.a, look.came.b) {
             (Side::A, false, false) => self.put(seq, Fate::ByA, time, x.packet),
@@ -362,11 +374,9 @@ impl Listing {
     /// `NoMemory` where a growth was refused.
     pub fn finish(&mut self, src: Mac, list: &mut Vec<Listed>) -> Result<(), NoMemory> {
         let spans = self.spans;
-        let ended = self.sources.update_at(
-            None,
-            src,
-            |pending| pending.end_stretch(src, &spans, list),
-        );
+        let ended = self
+            .sources
+            .update_at(None, src, |pending| pending.end(src, &spans, list));
         ended.unwrap_or(Ok(()))
     }
 }

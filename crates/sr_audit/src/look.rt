@@ -1,6 +1,7 @@
 //! What an arrival is to the stretch of its source.
 
 use crate::tally::Came;
+use sr_sequence::Distance;
 
 /// How an arrival stands to the stretch before it.
 #[derive(Clone, Copy, Debug, PartialEq, Eq)]
@@ -13,10 +14,8 @@ pub(crate) enum Step {
     Resume,
     /// It begins a stretch: its number lies more than 1023 ahead.
     Jump,
-    /// Its number lies that far behind the greatest one.
-    Behind(u16),
-    /// Its number lies that far ahead.
-    Ahead(u16),
+    /// It goes on with the stretch: its number lies there from the greatest one, at most 1023 ahead.
+    On(Distance),
 }
 
 /// What an arrival is to the stretch of its source.

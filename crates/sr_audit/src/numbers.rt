@@ -11,6 +11,7 @@ ghost use Rattle.sr_audit.specs.Stretches.{stretches, is_far};
 ghost use Rattle.sr_audit.specs.Tallies.{tally_of};
 ghost use Rattle.sr_audit.specs.Counting.{tally_with};
 ghost use Rattle.sr_audit.specs.Lanes.{side_lane};
+ghost use Rattle.sr_audit.specs.Looks.{step_by, look_at};
 
 use crate::arrival::Arrival;
 use crate::look::{Look, Step};
@@ -64,10 +65,27 @@ impl Numbers {
         ensures { (xs : List Arrival) → length xs + 1 < 2 ^ 64
             → FollowsArrivals xs self.old → FollowsArrivals (x ∷ xs) self.new }
     {
+        let _look = self.take(x);
+    }
+
+    /// Takes the next arrival of the source, and answers what it is to the stretch before it.
+    pub(crate) fn take(&mut self, x: Arrival) -> Look
+        ensures taken { (xs : List Arrival) → length xs + 1 < 2 ^ 64
+            → FollowsArrivals xs self.old → FollowsArrivals (x ∷ xs) self.new }
+        ensures look { (xs : List Arrival) → FollowsArrivals xs self.old
+            → result ≡ look_at (stretches xs) x }
+    {
+        let step = self.step(x);
         if self.goes_on(x) {
-            self.go_on(x);
+            let came = self.came(x);
+            self.go_on(x, came);
+            Look { step, came }
         } else {
             self.begin_again(x);
+            Look {
+                step,
+                came: Came::NEITHER,
+            }
         }
     }
 
@@ -90,7 +108,9 @@ impl Numbers {
     }
 
     /// How an arrival stands to the stretch.
-    fn step(&self, x: Arrival) -> Step {
+    fn step(&self, x: Arrival) -> Step
+        ensures { result ≡ step_by (window_of self.now.seen).reference self.now.last x }
+    {
         let reference = self.seen.reference();
         if self.is_silent(x) {
             return if x.seq == reference.next() {
@@ -99,10 +119,11 @@ impl Numbers {
                 Step::Restart
             };
         }
-        match place(reference, x.seq, KEPT_NUMBERS) {
-            Distance::Behind(steps) => Step::Behind(steps),
-            Distance::Ahead(steps) if steps < KEPT_NUMBERS => Step::Ahead(steps),
-            Distance::Ahead(_) => Step::Jump,
+        let distance = place(reference, x.seq, KEPT_NUMBERS);
+        if is_far(distance) {
+            Step::Jump
+        } else {
+            Step::On(distance)
         }
     }
 
@@ -120,19 +141,6 @@ impl Numbers {
         self.seen.reference()
     }
 
-    /// What an arrival that comes next is to the stretch.
-    pub(crate) fn look(&self, x: Arrival) -> Look {
-        let came = if self.goes_on(x) {
-            self.came(x)
-        } else {
-            Came::NEITHER
-        };
-        Look {
-            step: self.step(x),
-            came,
-        }
-    }
-
     /// By which sides copies of the frame of an arrival came, where the arrival goes on with the stretch.
     fn came(&self, x: Arrival) -> Came
         ensures a { result.a ≡ has_of kept_numbers (window_of self.now.seen) (side_lane A) x.seq.0 }
@@ -144,17 +152,14 @@ impl Numbers {
         }
     }
 
-    /// Takes an arrival that goes on with the stretch.
-    fn go_on(&mut self, x: Arrival)
+    /// Takes an arrival that goes on with the stretch, where copies of its frame came before by some sides.
+    fn go_on(&mut self, x: Arrival, came: Came)
         ensures seen { window_of self.new.seen ≡ window_noted kept_numbers (window_of self.old.seen)
             x.seq.0 (only (side_lane x.side)) }
         ensures last { self.new.last ≡ x.time }
-        ensures tally { self.new.tally ≡ tally_with self.old.tally x.side (record {
-          a = has_of kept_numbers (window_of self.old.seen) (side_lane A) x.seq.0;
-          b = has_of kept_numbers (window_of self.old.seen) (side_lane B) x.seq.0;
-        }) }
+        ensures tally { self.new.tally ≡ tally_with self.old.tally x.side came }
     {
-        self.tally = self.tally.with(x.side, self.came(x));
+        self.tally = self.tally.with(x.side, came);
         let _fresh = self.seen.note(x.seq, Lanes::only(x.side.lane()));
         self.last = x.time;
     }

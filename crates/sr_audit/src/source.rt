@@ -1,17 +1,19 @@
 //! What is kept of a source.
 
 ghost use Rattle.std.specs.Prelude.{◌≡◌};
+ghost use Rattle.sr_audit.specs.Limits.{place_in};
 ghost use Rattle.sr_audit.specs.Shown.{frames_in};
 
 use crate::alive::Alive;
 use crate::arrival::Arrival;
 use crate::extent::Extent;
 use crate::look::Look;
-use crate::numbers::{KEPT_NUMBERS, Numbers};
+use crate::moments::Moments;
+use crate::numbers::Numbers;
 use crate::side::Side;
 use crate::skew::Skews;
 use crate::span::Spans;
-use crate::tally::{Sides, Tally};
+use crate::tally::{Came, Sides, Tally};
 use sr_frame::NoMemory;
 use sr_slots::Ranked;
 use std::alloc::Global;
@@ -88,8 +90,7 @@ fn frames_in(tally: Tally) -> u64
 #[derive(Drop)]
 pub struct Source {
     numbers: Option<Numbers>,
-    /// When the first copy of each of the last 1024 numbers came, by the number modulo 1024.
-    moments: Vec<u64>,
+    moments: Moments,
     edges: Sides,
     extent: Extent,
     skews: Skews,
@@ -106,51 +107,46 @@ impl Ranked for Source {
 }
 
 impl Source {
-    ghost use Rattle.std.specs.Prelude.{◌≡◌, ◌+◌, ◌^◌, ◌<◌, List, [], ◌∷◌, length};
+    ghost use Rattle.std.specs.Prelude.{◌≡◌, ◌+◌, ◌^◌, ◌<◌, List, [], ◌∷◌, length, false, slice_set, slice_index_or, IfOk};
     ghost use Rattle.sr_audit.specs.declared.arrival.Arrival.{Arrival};
+    ghost use Rattle.sr_audit.specs.declared.span.Spans.{Spans};
+    ghost use Rattle.sr_audit.specs.Counting.{more_at, less_at};
+    ghost use Rattle.sr_audit.specs.Edges.{is_beyond, edges_of, edges_with, moments_with};
+    ghost use Rattle.sr_audit.specs.Lanes.{other_side};
+    ghost use Rattle.sr_audit.specs.Looks.{look_at};
     ghost use Rattle.sr_audit.specs.Stretches.{stretches};
     ghost use Rattle.sr_audit.specs.Tallies.{tally_of};
-    ghost use Rattle.sr_audit.specs.Taken.{HasTaken};
+    ghost use Rattle.sr_audit.specs.Taken.{IsKeptIn, HasTaken, TakesArrival, KeepsTaken};
     ghost use Rattle.sr_audit.specs.Shown.{figures_of, tally_in};
 
     /// A source of which nothing came.
-    pub(crate) fn new(alloc: Global) -> Source
-        ensures { HasTaken [] result }
+    ///
+    /// # Errors
+    /// `NoMemory` where a growth was refused.
+    pub(crate) fn new(alloc: Global) -> Result<Source, NoMemory>
+        ensures { IfOk result (λ source. (spans : Spans) → HasTaken spans [] source) }
     {
-        Source {
+        Ok(Source {
             numbers: None,
-            moments: Vec::new(alloc),
+            moments: Moments::new(alloc)?,
             edges: Sides::NONE,
             extent: Extent::NONE,
             skews: Skews::NONE,
             alive: None,
-        }
+        })
     }
 
-    /// Makes room for the times of 1024 numbers.
-    ///
-    /// # Errors
-    /// `NoMemory` where the growth was refused.
-    pub(crate) fn make_room(&mut self) -> Result<(), NoMemory>
-        ensures { self.new.numbers ≡ self.old.numbers }
-    {
-        if self.moments.is_empty() {
-            self.moments.resize(KEPT_NUMBERS as usize, 0)?;
-        }
-        Ok(())
-    }
-
-    /// What an arrival is to the stretch; it is then taken.
+    /// What an arrival is to the stretch; its number is then taken.
     fn look(&mut self, x: Arrival) -> Look
-        ensures { (xs : List Arrival) → length xs + 1 < 2 ^ 64 → HasTaken xs self.old
-            → HasTaken (x ∷ xs) self.new }
+        ensures taken { (xs : List Arrival) → length xs + 1 < 2 ^ 64
+            → IsKeptIn xs self.old.numbers → IsKeptIn (x ∷ xs) self.new.numbers }
+        ensures look { (xs : List Arrival) → IsKeptIn xs self.old.numbers
+            → result ≡ look_at (stretches xs) x }
+        ensures moments { self.new.moments.times.items ≡ self.old.moments.times.items }
+        ensures edges { self.new.edges ≡ self.old.edges }
     {
         match self.numbers.as_mut() {
-            Some(numbers) => {
-                let look = numbers.look(x);
-                numbers.note(x);
-                look
-            }
+            Some(numbers) => numbers.take(x),
             None => {
                 self.numbers = Some(Numbers::begin(x));
                 Look::FIRST
@@ -160,66 +156,62 @@ impl Source {
 
     /// Takes the first copy of a frame.
     fn open(&mut self, x: Arrival, spans: &Spans)
-        ensures { self.new.numbers ≡ self.old.numbers }
+        ensures numbers { self.new.numbers ≡ self.old.numbers }
+        ensures moments { self.new.moments.times.items
+            ≡ slice_set self.old.moments.times.items (place_in x.seq.0) x.time }
+        ensures edges { self.new.edges ≡ more_at self.old.edges x.side
+            (is_beyond spans.now (other_side x.side) x.time) }
     {
-        if let Some(moment) = self.moments.get_mut((x.seq.0 % KEPT_NUMBERS) as usize) {
-            *moment = x.time;
-        }
-        match x.side {
-            Side::A if spans.is_beyond(Side::B, x.time) => {
-                self.edges.a = self.edges.a.saturating_add(1);
-            }
-            Side::B if spans.is_beyond(Side::A, x.time) => {
-                self.edges.b = self.edges.b.saturating_add(1);
-            }
-            _ => {}
-        }
+        self.moments.put(x.seq, x.time);
+        let is_edge = spans.is_beyond(x.side.other(), x.time);
+        self.edges = self.edges.more_at(x.side, is_edge);
     }
 
     /// Takes the copy that makes a pair of a frame that came by the other side alone.
     fn join(&mut self, x: Arrival, spans: &Spans)
-        ensures { self.new.numbers ≡ self.old.numbers }
+        ensures numbers { self.new.numbers ≡ self.old.numbers }
+        ensures moments { self.new.moments.times.items ≡ self.old.moments.times.items }
+        ensures edges { self.new.edges ≡ less_at self.old.edges (other_side x.side)
+            (is_beyond spans.now x.side
+            (slice_index_or self.old.moments.times.items (place_in x.seq.0) 0)) }
     {
-        let first = self
-            .moments
-            .get((x.seq.0 % KEPT_NUMBERS) as usize)
-            .copied()
-            .unwrap_or(x.time);
+        let first = self.moments.at(x.seq);
+        let was_edge = spans.is_beyond(x.side, first);
+        self.edges = self.edges.less_at(x.side.other(), was_edge);
+        let apart = i128::from(x.time) - i128::from(first);
         match x.side {
-            Side::B => {
-                if spans.is_beyond(Side::B, first) {
-                    self.edges.a = self.edges.a.saturating_sub(1);
-                }
-                self.skews.note(i128::from(x.time) - i128::from(first));
-            }
-            Side::A => {
-                if spans.is_beyond(Side::A, first) {
-                    self.edges.b = self.edges.b.saturating_sub(1);
-                }
-                self.skews.note(i128::from(first) - i128::from(x.time));
-            }
+            Side::A => self.skews.note(-apart),
+            Side::B => self.skews.note(apart),
         }
     }
 
-    /// Takes the next arrival of the source. Its room was made.
+    /// Takes a copy of a frame of which copies came before by some sides.
+    fn pair(&mut self, x: Arrival, came: Came, spans: &Spans)
+        ensures numbers { self.new.numbers ≡ self.old.numbers }
+        ensures moments { self.new.moments.times.items
+            ≡ moments_with x came self.old.moments.times.items }
+        ensures edges { self.new.edges ≡ edges_with spans.now x.side x.time came
+            (slice_index_or self.old.moments.times.items (place_in x.seq.0) 0) self.old.edges }
+    {
+        if !came.is_some() {
+            self.open(x, spans);
+        } else if !came.by(x.side) {
+            self.join(x, spans);
+        }
+    }
+
+    /// Takes the next arrival of the source.
     pub(crate) fn note(&mut self, x: Arrival, spans: &Spans)
-        ensures { (xs : List Arrival) → length xs + 1 < 2 ^ 64 → HasTaken xs self.old
-            → HasTaken (x ∷ xs) self.new }
+        ensures { TakesArrival spans.now x self.old self.new }
     {
         let look = self.look(x);
         self.extent.note(x, look);
-        let came = look.came;
-        match x.side {
-            _ if !came.a && !came.b => self.open(x, spans),
-            Side::A if !came.a => self.join(x, spans),
-            Side::B if !came.b => self.join(x, spans),
-            _ => {}
-        }
+        self.pair(x, look.came, spans);
     }
 
     /// Takes a supervision frame for this address.
     pub(crate) fn hear(&mut self, kind: u8, side: Side, time: u64)
-        ensures { self.new.numbers ≡ self.old.numbers }
+        ensures { KeepsTaken self.old self.new }
     {
         let mut alive = self.alive.unwrap_or(Alive::begin(kind));
         alive.note(kind, side, time);
@@ -228,7 +220,7 @@ impl Source {
 
     /// How many copies and frames came.
     fn tally(&self) -> Tally
-        ensures tally { (xs : List Arrival) → HasTaken xs self.now
+        ensures tally { (spans : Spans) (xs : List Arrival) → HasTaken spans xs self.now
             → result ≡ tally_of (stretches xs) }
         ensures shown { result ≡ tally_in self.now.numbers }
     {
@@ -238,11 +230,13 @@ impl Source {
         }
     }
 
-    /// The figures of all arrivals. How many copies and frames came is proved; the edges, the order, the skews and what is told of
-    /// numbers that no frame had are tested alone.
+    /// The figures of all arrivals. How many copies and frames came is proved, and which of them came at an edge; the order, the skews and
+    /// what is told of numbers that no frame had are tested alone.
     pub fn figures(&self) -> Figures
-        ensures tally { (xs : List Arrival) → HasTaken xs self.now
+        ensures tally { (spans : Spans) (xs : List Arrival) → HasTaken spans xs self.now
             → result.tally ≡ tally_of (stretches xs) }
+        ensures edges { (spans : Spans) (xs : List Arrival) → HasTaken spans xs self.now
+            → result.edges ≡ edges_of spans (stretches xs) }
         ensures shown { result ≡ figures_of self.now }
     {
         let tally = self.tally();

@@ -1,5 +1,8 @@
 //! When a capture begins and ends.
 
+ghost use Rattle.std.specs.Prelude.{◌≡◌};
+ghost use Rattle.sr_audit.specs.Edges.{is_beyond};
+
 use crate::side::Side;
 
 /// The times of the first and the last packet of a capture, in nanoseconds.
@@ -39,7 +42,9 @@ impl Spans {
     }
 
     /// Whether a time is before the first packet of a side, or behind its last one.
-    pub fn is_beyond(&self, side: Side, time: u64) -> bool {
+    pub fn is_beyond(&self, side: Side, time: u64) -> bool
+        ensures { result ≡ is_beyond self.now side time }
+    {
         let span = match side {
             Side::A => self.a,
             Side::B => self.b,

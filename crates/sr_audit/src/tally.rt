@@ -1,7 +1,7 @@
 //! How many frames came by both sides, by one alone, and more than once.
 
 ghost use Rattle.std.specs.Prelude.{◌≡◌};
-ghost use Rattle.sr_audit.specs.Counting.{more_if, less_if, tally_with};
+ghost use Rattle.sr_audit.specs.Counting.{more_if, less_if, tally_with, more_at, less_at, has_come, came_before_at};
 
 use crate::side::Side;
 
@@ -17,6 +17,26 @@ pub struct Sides {
 impl Sides {
     /// Nothing was counted.
     pub const NONE: Sides = Sides { a: 0, b: 0 };
+
+    /// The counts with one more at a side, where a test holds.
+    pub(crate) fn more_at(self, side: Side, is_one: bool) -> Sides
+        ensures { result ≡ more_at self side is_one }
+    {
+        Sides {
+            a: more_if(self.a, side == Side::A && is_one),
+            b: more_if(self.b, side == Side::B && is_one),
+        }
+    }
+
+    /// The counts with one less at a side, where a test holds.
+    pub(crate) fn less_at(self, side: Side, is_one: bool) -> Sides
+        ensures { result ≡ less_at self side is_one }
+    {
+        Sides {
+            a: less_if(self.a, side == Side::A && is_one),
+            b: less_if(self.b, side == Side::B && is_one),
+        }
+    }
 }
 
 /// By which sides copies of a frame came.
@@ -31,6 +51,23 @@ pub struct Came {
 impl Came {
     /// No copy came.
     pub const NEITHER: Came = Came { a: false, b: false };
+
+    /// Whether one came by either side.
+    pub(crate) fn is_some(self) -> bool
+        ensures { result ≡ has_come self }
+    {
+        self.a || self.b
+    }
+
+    /// Whether one came by a side.
+    pub(crate) fn by(self, side: Side) -> bool
+        ensures { result ≡ came_before_at self side }
+    {
+        match side {
+            Side::A => self.a,
+            Side::B => self.b,
+        }
+    }
 }
 
 /// How many copies and frames of a source came. A count stays at 2^64 - 1.

@@ -1,4 +1,4 @@
-use Rattle.std.proofs.Common.{rules, ◌≡◌, ◌∙◌, ◌<◌, arith, sym, ap, false, length, None, is_some}
+use Rattle.std.proofs.Common.{rules, ◌≡◌, ◌<◌, arith, false, length, is_some}
 use Rattle.std.specs.Map.{lookup}
 use Rattle.sr_frame.specs.Addresses.{mac_eq}
 use Rattle.sr_audit.specs.Limits.{most_audited}
@@ -10,10 +10,11 @@ returns-clause-audits c =
     let lacks : is_some (lookup (mac_eq c.args.src) c.args.self.now.sources.entries) ≡ false = search rules in
     let absent = nothing_there (lookup (mac_eq c.args.src) c.args.self.now.sources.entries) lacks in
     let few : length c.args.self.now.sources.entries < most_audited = omega arith in
-    λ xs audits. rw c.in_ok-append.ensures.entries (audits_made xs c.args.self.now.sources.entries c.args.src c.new.result audits absent few c.new.ensures)
+    λ spans xs audits. rw c.in_ok-append.ensures.entries (audits_made spans xs c.args.self.now.sources.entries
+    c.args.src c.in_ok-source.source audits absent few (c.in_ok-source.ensures spans))
 
 pub returns-clause-made : goal.returns-clause-made
 returns-clause-made c =
     let lacks : is_some (lookup (mac_eq c.args.src) c.args.self.now.sources.entries) ≡ false = search rules in
     let absent = nothing_there (lookup (mac_eq c.args.src) c.args.self.now.sources.entries) lacks in
-    rw c.in_ok-append.ensures.entries (made_is c.args.self.now.sources.entries c.args.src c.new.result absent)
+    rw c.in_ok-append.ensures.entries (made_is c.args.self.now.sources.entries c.args.src c.in_ok-source.source absent)
