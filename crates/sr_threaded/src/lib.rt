@@ -1,0 +1,16 @@
+//! Networks of nodes on threads: each node has three workers, each on a thread of its own, and wires join them.
+#![tactic(auto)]
+
+mod fault;
+mod judging;
+mod kit;
+mod lists;
+mod losses;
+mod node;
+mod ring;
+mod wiring;
+
+pub use fault::NetworkFault;
+pub use judging::{Judgement, judge, judge_ring, settlement_of};
+pub use kit::{LineEnd, NodeEnd, NodeKit};
+pub use ring::run_ring;

@@ -1,0 +1,74 @@
+//! Lists that are made item by item, of any type. What is let go on the way is let go as any type is.
+
+use sr_frame::NoMemory;
+use std::alloc::Global;
+
+/// The two parts of each item.
+pub(crate) fn split_all<X: Drop, A: Drop, B: Drop, S: Fn(X) -> (A, B)>(
+    alloc: Global,
+    items: Vec<X>,
+    split: &S,
+) -> Result<(Vec<A>, Vec<B>), NoMemory>
+    requires { S.IsAlwaysCallable split.now }
+{
+    let mut first = Vec::new(alloc);
+    let mut second = Vec::new(alloc);
+    for item in items {
+        first.reserve(1)?;
+        second.reserve(1)?;
+        let (a, b) = split(item);
+        first.push_reserved(a);
+        second.push_reserved(b);
+    }
+    Ok((first, second))
+}
+
+/// What is made of each item and the one at its place in the other list.
+pub(crate) fn join_all<A: Drop, B: Drop, X: Drop, J: Fn(A, B) -> X>(
+    alloc: Global,
+    first: Vec<A>,
+    second: Vec<B>,
+    join: &J,
+) -> Result<Vec<X>, NoMemory>
+    requires { J.IsAlwaysCallable join.now }
+{
+    let mut all = Vec::new(alloc);
+    for (a, b) in first.into_iter().zip(second) {
+        all.reserve(1)?;
+        all.push_reserved(join(a, b));
+    }
+    Ok(all)
+}
+
+/// What succeeded, where all did; else the first fault.
+pub(crate) fn all_of<T: Drop, E: Copy + From<NoMemory> + Drop>(
+    alloc: Global,
+    outcomes: Vec<Result<T, E>>,
+) -> Result<Vec<T>, E> {
+    let mut all = Vec::new(alloc);
+    for outcome in outcomes {
+        let one = match outcome {
+            Ok(one) => one,
+            Err(fault) => return Err(fault),
+        };
+        if let Err(refused) = all.reserve(1) {
+            return Err(NoMemory::from(refused).into());
+        }
+        all.push_reserved(one);
+    }
+    Ok(all)
+}
+
+/// Both, where both succeeded; else the first fault.
+pub(crate) fn both_of<A: Drop, B: Drop, E: From<NoMemory> + Drop>(
+    first: Result<A, E>,
+    second: Result<B, NoMemory>,
+) -> Result<(A, B), E> {
+    match first {
+        Ok(a) => match second {
+            Ok(b) => Ok((a, b)),
+            Err(refused) => Err(refused.into()),
+        },
+        Err(fault) => Err(fault),
+    }
+}

@@ -1,0 +1,209 @@
+//! One node of a threaded network.
+
+ghost use Rattle.std.specs.Prelude.{◌≡◌, IfOk, vec_len};
+
+use crate::lists::{both_of, split_all};
+use crate::losses::lost_in_all;
+use crate::{LineEnd, NodeEnd};
+use sr_forwarding::{Framing, Role};
+use sr_frame::NoMemory;
+use sr_lines::Line;
+use sr_node::NodeOf;
+use sr_ports::{Kept, Log, Pass, Passes, Segment, SharedNode, rotate, settle};
+use sr_workers::{CrewFault, Feed, Kit, WorkerEnd, run_workers};
+use std::alloc::Global;
+use std::marker::Brand;
+use std::sync::Wait;
+use std::sync::ledger::{Blank, Ledger};
+use std::thread::Threads;
+
+/// A node at its wires.
+#[derive(Drop)]
+pub(crate) struct Wired<N: Role, G: Framing, F: Feed> {
+    pub(crate) node: NodeOf<N>,
+    pub(crate) a: G,
+    pub(crate) b: G,
+    pub(crate) host: G,
+    pub(crate) at_a: Line<F>,
+    pub(crate) at_b: Line<F>,
+    pub(crate) at_host: Line<F>,
+    pub(crate) turns: u64,
+    pub(crate) alloc: Global,
+}
+
+// What a worker has beside its pass.
+#[derive(Drop)]
+struct Gear<G: Framing, F: Feed> {
+    framing: G,
+    line: Line<F>,
+}
+
+fn kit_of<L: Ledger, G: Framing, F: Feed>(
+    pass: Pass<L>,
+    gear: Gear<G, F>,
+) -> Kit<Pass<L>, Line<F>, G> {
+    let Gear { framing, line } = gear;
+    Kit {
+        pass,
+        feed: line,
+        framing,
+    }
+}
+
+// The kits of the workers at A, at B and of the host.
+fn kits_of<L: Ledger, G: Framing, F: Feed>(
+    alloc: Global,
+    passes: Passes<L>,
+    a: Gear<G, F>,
+    b: Gear<G, F>,
+    host: Gear<G, F>,
+) -> Result<Vec<Kit<Pass<L>, Line<F>, G>>, NoMemory>
+    ensures { IfOk result (λ kits. vec_len kits ≡ 3) }
+{
+    let mut kits = Vec::with_capacity(alloc, 3)?;
+    kits.push_reserved(kit_of(passes.a, a));
+    kits.push_reserved(kit_of(passes.b, b));
+    kits.push_reserved(kit_of(passes.host, host));
+    Ok(kits)
+}
+
+// The log of a worker, and what it ended with beside.
+fn parts_of<L: Ledger, F: Feed>(done: (Pass<L>, WorkerEnd<Line<F>>)) -> (Log, LineEnd<F>) {
+    let (pass, end) = done;
+    drop(pass);
+    let WorkerEnd {
+        feed,
+        log,
+        unread,
+        fault,
+        held,
+    } = end;
+    let beside = LineEnd {
+        line: feed,
+        unread,
+        fault,
+        held,
+    };
+    (log, beside)
+}
+
+// What a node ends with.
+fn end_of<F: Feed>(segment: Segment, logs: Vec<Log>, ends: Vec<LineEnd<F>>) -> NodeEnd<F> {
+    let settlement = settle(segment.entries.as_slice(), logs.as_slice());
+    let lost = lost_in_all(ends.as_slice());
+    NodeEnd {
+        segment,
+        logs,
+        ends,
+        settlement,
+        lost,
+    }
+}
+
+// What a node ends with, of its history and of its workers' ends.
+fn closed<L: Ledger, F: Feed>(
+    alloc: Global,
+    segment: Segment,
+    ends: Vec<(Pass<L>, WorkerEnd<Line<F>>)>,
+) -> Result<NodeEnd<F>, CrewFault> {
+    let split = |done: (Pass<L>, WorkerEnd<Line<F>>)| -> (Log, LineEnd<F>) { parts_of(done) };
+    match split_all(alloc, ends, &split) {
+        Ok((logs, ends)) => Ok(end_of(segment, logs, ends)),
+        Err(refused) => {
+            drop(segment);
+            Err(refused.into())
+        }
+    }
+}
+
+// The history of a node whose workers have ended.
+fn history_of<N: Role, L: Ledger>(kept: Kept<N, L>) -> Result<Segment, NoMemory> {
+    let mut kept = kept;
+    let segment = rotate(&mut kept);
+    drop(kept);
+    segment
+}
+
+// The workers of a node, and what it ends with.
+fn work<
+    N: Role + Send,
+    L: Ledger + Send + Sync,
+    G: Framing + Send,
+    F: Feed + Send,
+    W: Threads + Wait + Sync,
+>(
+    rt: &W,
+    alloc: Global,
+    shared: SharedNode<N, L>,
+    kits: Vec<Kit<Pass<L>, Line<F>, G>>,
+    turns: u64,
+) -> Result<NodeEnd<F>, CrewFault>
+    requires { vec_len kits ≡ 3 }
+{
+    let crew = run_workers(rt, alloc, &shared, kits, turns);
+    let history = history_of(shared.into_kept());
+    match both_of(crew, history) {
+        Ok((ends, segment)) => closed(alloc, segment, ends),
+        Err(fault) => Err(fault),
+    }
+}
+
+// One node under its lock, with three workers.
+fn run_node<
+    N: Role + Send,
+    L: Ledger + Send + Sync,
+    G: Framing + Send,
+    F: Feed + Send,
+    W: Threads + Wait + Sync,
+>(rt: &W, wired: Wired<N, G, F>, blank: Blank) -> Result<NodeEnd<F>, CrewFault>
+    requires name { blank.name ≡ L.name }
+    requires parts { blank.parts ≡ L.parts }
+    requires five { L.parts ≡ 5 }
+{
+    let Wired {
+        node,
+        a,
+        b,
+        host,
+        at_a,
+        at_b,
+        at_host,
+        turns,
+        alloc,
+    } = wired;
+    let a = Gear {
+        framing: a,
+        line: at_a,
+    };
+    let b = Gear {
+        framing: b,
+        line: at_b,
+    };
+    let host = Gear {
+        framing: host,
+        line: at_host,
+    };
+    match SharedNode::<N, L>::new(alloc, node, blank) {
+        Ok((shared, passes)) => match kits_of(alloc, passes, a, b, host) {
+            Ok(kits) => work(rt, alloc, shared, kits, turns),
+            Err(refused) => {
+                drop(shared);
+                Err(refused.into())
+            }
+        },
+        Err(refused) => {
+            drop((a, b, host));
+            Err(refused.into())
+        }
+    }
+}
+
+/// One node under its lock, with three workers on a thread each, until they have ended.
+pub(crate) fn run_branded<
+    N: Role + Send,
+    G: Framing + Send,
+    F: Feed + Send,
+    W: Threads + Wait + Sync,
+>(rt: &W, wired: Wired<N, G, F>) -> Result<NodeEnd<F>, CrewFault> {
+    run_node::<N, Brand, G, F, W>(rt, wired, Blank::new(5))
+}
