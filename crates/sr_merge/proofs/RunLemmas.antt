@@ -56,7 +56,7 @@ use Rattle.sr_dup_runs.specs.RunLemmas.{each_pair_is_new_once}
 use Rattle.sr_merge.specs.declared.came.FrameId.{FrameId}
 use Rattle.sr_merge.specs.Limits.{millisecond}
 use Rattle.sr_merge.specs.Merging.{packet_of, Merging, shown_arrival, answer_for, is_new_by, is_new, sources_told}
-use Rattle.sr_merge.specs.MergeRuns.{Numbered, IsNumber, HasWhole, MergeTurn, took, wrote, MergeRun, reads, written_in, arrival_in, arrivals_read, is_first, firsts, newest_arrival, AreInTime, EachFrameIsWrittenOnce, known_after, news, WhatIsNewIsWritten}
+use Rattle.sr_merge.specs.MergeRuns.{Numbered, IsNumber, HasWhole, MergeTurn, took, wrote, MergeRun, reads, written_in, arrival_as, arrivals_read, is_first, firsts, newest_arrival, AreInTime, EachFrameIsWrittenOnce, known_after, news, WhatIsNewIsWritten}
 use Rattle.sr_merge.proofs.WaitingLemmas.{waits_list}
 
 -- what is written in every run
@@ -87,11 +87,11 @@ noting a = record { arrival = a; lanes = only H }
 -- a packet is none to the record
 abbrev IsQuiet : Sources → ℕ → Option FrameId → Option ℤ → Type 0
 IsQuiet s time frame whole =
-    (arrival_in time frame whole ≡ []) × (sources_told s time frame ≡ s) × (is_new s time frame ≡ true)
+    (arrival_as time frame whole ≡ []) × (sources_told s time frame ≡ s) × (is_new s time frame ≡ true)
 
 -- or it is an arrival that the record answers
 abbrev IsTold : Sources → ℕ → Option FrameId → Option ℤ → Type 0
-IsTold s time frame whole = (a : Arrival) × (fresh : Lanes) × (arrival_in time frame whole ≡ a ∷ [])
+IsTold s time frame whole = (a : Arrival) × (fresh : Lanes) × (arrival_as time frame whole ≡ a ∷ [])
     × Takes window s (arrived (noting a) fresh) (sources_told s time frame)
     × (is_new s time frame ≡ has fresh H)
 
@@ -103,14 +103,14 @@ quiet_or_told s time (Some f) whole h = by (answer_for s f time) refl h
     by : (o : Option Lanes) → answer_for s f time ≡ o → IsNumber f o whole →
         IsQuiet s time (Some f) whole ⊎ IsTold s time (Some f) whole
     by None is e = inl (
-      ap (arrival_in time (Some f)) e,
+      ap (arrival_as time (Some f)) e,
       ap (λ o. left_by window o s (shown_arrival f time)) is,
       ap is_new_by is,
     )
     by (Some fresh) is (n, e, seq) = inr (
       record { src = f.src; number = n; time = time / millisecond },
       fresh,
-      ap (arrival_in time (Some f)) e,
+      ap (arrival_as time (Some f)) e,
       (
         refl,
         ap (λ q. arrive_answer window s f.src q (only H) (time / millisecond)) (sym seq) ∙ is,

@@ -71,13 +71,13 @@ written_in (took x ∷ before) = written_in before
 written_in (wrote p ∷ before) = written_in before ++ p ∷ []
 
 -- the numbered arrival that a packet is, if it is one; the record counts milliseconds
-abbrev pub arrival_in : ℕ → Option FrameId → Option ℤ → List Arrival
-arrival_in time None whole = []
-arrival_in time (Some f) None = []
-arrival_in time (Some f) (Some n) = record { src = f.src; number = n; time = time / millisecond } ∷ []
+abbrev pub arrival_as : ℕ → Option FrameId → Option ℤ → List Arrival
+arrival_as time None whole = []
+arrival_as time (Some f) None = []
+arrival_as time (Some f) (Some n) = record { src = f.src; number = n; time = time / millisecond } ∷ []
 
 abbrev pub arrival_read : Numbered → List Arrival
-arrival_read x = arrival_in x.packet.came.time x.packet.came.frame x.whole
+arrival_read x = arrival_as x.packet.came.time x.packet.came.frame x.whole
 
 abbrev pub arrivals_read : List Numbered → List Arrival
 arrivals_read [] = []

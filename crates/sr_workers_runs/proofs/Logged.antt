@@ -6,7 +6,6 @@ use Rattle.sr_frame.specs.declared.ports.Port.TheVariants as port
 use Rattle.sr_forwarding.specs.Parcels.{ParcelImage}
 use Rattle.sr_node.specs.Answers.{IsAnswerOf, SaysTaken}
 use Rattle.sr_node.specs.Images.{State}
-use Rattle.sr_node.specs.Starts.{Start, begun_as}
 use Rattle.sr_node.specs.Steps.{Step}
 use Rattle.sr_node.specs.Outboxes.{box_at}
 use Rattle.sr_node.specs.declared.event.Event.{Event}
@@ -155,8 +154,8 @@ part_is ps (l ∷ []) is = is
 part_is ps (l ∷ m ∷ ls) is = absurd is
 
 pub logged_once : AnswersBelong → EnteredOnce → LoggedOnce
-logged_once belong once start number t es ls turns w o are steady settled own here =
+logged_once belong once origin number s t es ls turns w o begins are steady settled own here =
     let part_of = λ (v : Worker). part_is (part v es) (logs_of v ls) (settled v) in
     let owns = λ (v : Worker). subst (λ x. AreOwn v x) (sym (part_of v)) (own v) in
-    let handed = handed_is belong number [] (begun_as start) t es turns w o are owns here in
-    ap (λ l. parcels_in l ++ box_at t.core.out o) (sym (part_of w)) ∙ ap (λ l. l ++ box_at t.core.out o) (sym handed) ∙ once start number t es turns o are steady
+    let handed = handed_is belong number [] s t es turns w o are owns here in
+    ap (λ l. parcels_in l ++ box_at t.core.out o) (sym (part_of w)) ∙ ap (λ l. l ++ box_at t.core.out o) (sym handed) ∙ once origin number s t es turns o begins are steady

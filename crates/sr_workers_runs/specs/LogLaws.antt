@@ -2,13 +2,13 @@
 use Rattle.std.specs.Prelude.{◌≡◌, ℕ, ℤ, List, [], ◌∷◌, ◌++◌}
 use Rattle.sr_frame.specs.declared.ports.Port.{Port}
 use Rattle.sr_node.specs.Images.{State}
-use Rattle.sr_node.specs.Starts.{Start, begun_as}
 use Rattle.sr_node.specs.Outboxes.{box_at}
 use Rattle.sr_node.specs.declared.event.Event.{Event}
 use Rattle.sr_node.specs.declared.event.Answer.{Answer}
+use Rattle.sr_node_runs.specs.Origins.{Origin, BeginsAs, stands_before}
 use Rattle.sr_node_runs.specs.NodeRuns.{Turn}
-use Rattle.sr_node_runs.specs.Brought.{went, parcels_of}
-use Rattle.sr_node_runs.specs.SteadyNodes.{IsSteady}
+use Rattle.sr_node_runs.specs.Brought.{went_after, parcels_of}
+use Rattle.sr_node_runs.specs.SteadyNodes.{IsSteadyFrom}
 use Rattle.sr_ports.specs.declared.entry.Entry.{Entry}
 use Rattle.sr_ports.specs.declared.log.Log.{Log}
 use Rattle.sr_ports.specs.declared.settling.Settlement.TheVariants.{Settled}
@@ -27,11 +27,11 @@ pairs_in_first (l ∷ ls) = l.pairs.items
 abbrev pub written_by : Worker → List Log → List (Event × Answer)
 written_by w ls = pairs_in_first (logs_of w ls)
 
--- of a steady history from a new node on, which the logs settle: what the worker of a port took out and what waits there is what
--- went there, in order
+-- of a steady history from a node on that begins so, new or resumed, which the logs settle: what the worker of a port took out and what
+-- waits there is what went there, in order
 abbrev pub LoggedOnce : Type 0
 LoggedOnce =
-    (start : Start) (number : ℕ → ℤ) (t : State) (es : List Entry) (ls : List Log) (turns : List Turn) (w : Worker) (o : Port)
-    → AreTurns number [] (begun_as start) es t turns → IsSteady start turns
+    (origin : Origin) (number : ℕ → ℤ) (s t : State) (es : List Entry) (ls : List Log) (turns : List Turn) (w : Worker) (o : Port)
+    → BeginsAs origin s → AreTurns number [] s es t turns → IsSteadyFrom origin turns
     → IsSettlement es ls Settled → ((v : Worker) → AreOwn v (written_by v ls)) → ServesPort w o
-    → parcels_in (written_by w ls) ++ box_at t.core.out o ≡ parcels_of (went o turns)
+    → parcels_in (written_by w ls) ++ box_at t.core.out o ≡ parcels_of (went_after (stands_before origin) o turns)
