@@ -267,27 +267,44 @@ def made_lacks(root):
                 yield path, number + 1, "makes want of memory, and passes on none"
 
 
+# The node that the words of a command line name has fixed keys, until a run draws its own.
+FIXED_KEYS = {"crates/sr_cli/src/command_line.rt"}
+
+
 def dropped_keys(root):
     """Keys that are given go on: a `with_keys` hands them to each table that it makes, and fixed ones stand in a `new` or
-    a `with` alone. No clause can see them, since no answer depends on them."""
+    a `with` alone. What runs a node of the command line draws keys, and keys that are drawn go on too. No clause can see them,
+    since no answer depends on them."""
     sources = [path for path in sorted(root.glob("crates/*/src/**/*.rt")) if path.name != "tests.rt"]
     sources = [path for path in sources if not path.relative_to(root).parts[1].endswith("_tests")]
     keyed = {name for path in sources for name in re.findall(r"\b(\w+)::with_keys\(", path.read_text())}
     for path in sources:
-        function, begun, hands_on = "", 0, True
+        name = path.relative_to(root).as_posix()
+        function, begun, hands_on, drawn, runs = "", 0, True, None, False
         for number, line in [*numbered(path), (0, "fn")]:
             code = line.split("//")[0]
             found = re.match(r"\s*(?:pub(?:\(crate\))? )?(?:const )?fn\b ?(\w*)", code)
             if found:
                 if not hands_on:
                     yield path, begun, "drops the keys that it is given"
-                function, begun, hands_on = found[1], number, found[1] != "with_keys"
+                if drawn is False:
+                    yield path, begun, "drops the keys that it draws"
+                if runs and drawn is None:
+                    yield path, begun, "runs a node of the command line under fixed keys"
+                function, begun, hands_on, drawn, runs = found[1], number, found[1] != "with_keys", None, False
             elif function == "with_keys":
                 hands_on = hands_on or re.search(r"\bkeys\b", code) is not None
                 if any(name in keyed for name in re.findall(r"\b(\w+)::(?:new|with)\(", code)):
                     yield path, number, "makes a table without the keys that it is given"
-            if re.search(r"with_keys\(.*Keys::FIXED", code) and function not in ("new", "with"):
-                yield path, number, "makes a table with fixed keys outside a `new` or a `with`"
+            if not found and name.startswith("crates/sr_cli/"):
+                runs = runs or re.search(r"\brun_on\(", code) is not None
+                if "Keys::new(" in code:
+                    drawn = False
+                elif drawn is False:
+                    drawn = re.search(r"\bkeys\b", code) is not None
+            if "Keys::FIXED" in code and function not in ("new", "with"):
+                if name not in FIXED_KEYS or not re.fullmatch(r"\s*keys: Keys::FIXED,\s*", code):
+                    yield path, number, "has fixed keys outside a `new` or a `with`"
 
 
 def stripped(text):

@@ -117,10 +117,23 @@ class Lint(unittest.TestCase):
             ("Two::with_keys(two)", 4, "drops the keys that it is given"),
             ("keys, One::new()", 5, "makes a table without the keys that it is given"),
             ("keys, One::with(two)", 5, "makes a table without the keys that it is given"),
-            ("keys, Two::with_keys(Keys::FIXED)", 5, "makes a table with fixed keys outside a `new` or a `with`"),
+            ("keys, Two::with_keys(Keys::FIXED)", 5, "has fixed keys outside a `new` or a `with`"),
+            ("keys, Keys::FIXED", 5, "has fixed keys outside a `new` or a `with`"),
         ]:
             found = self.findings({source: given.replace("CALL", call)})
             self.assertEqual(found, [f"{source}:{number}: {text}"], call)
+
+    def test_undrawn_keys(self):
+        source = "crates/sr_cli/src/one.rt"
+        drawn = "fn one() {\n    let Ok(keys) = Keys::new(rt) else {\n        return;\n    };\n    run_on(SETUP);\n}\n"
+        for text, wanted in [
+            (drawn.replace("SETUP", "Setup { keys, ..*setup }"), []),
+            (drawn.replace("SETUP", "setup"), [f"{source}:1: drops the keys that it draws"]),
+            ("fn one() {\n    run_on(setup);\n}\n", [f"{source}:1: runs a node of the command line under fixed keys"]),
+            ("fn run_on(setup: Setup) {\n    run(setup);\n}\n", []),
+        ]:
+            found = [it for it in self.findings({source: text}) if it.startswith(source)]
+            self.assertEqual(found, wanted, text)
 
     def test_missing_files(self):
         text = IN_ORDER["README.md"]
