@@ -35,6 +35,16 @@ _seamless() {
     "audit --to") ;;
     "audit --list") ;;
     "audit --format") words="text json csv" ;;
+    "merge --a") COMPREPLY=($(compgen -f -- "$2")) && return ;;
+    "merge --b") COMPREPLY=($(compgen -f -- "$2")) && return ;;
+    "merge --write") COMPREPLY=($(compgen -f -- "$2")) && return ;;
+    "merge --network") words="prp hsr" ;;
+    "merge --shift-a") ;;
+    "merge --shift-b") ;;
+    "merge --fcs") words="4" ;;
+    "merge --from") ;;
+    "merge --to") ;;
+    "merge --only") words="lost" ;;
     "ring --nodes") ;;
     "ring --mode") words="h x" ;;
     "ring --window") words="1024 2048" ;;
@@ -43,11 +53,12 @@ _seamless() {
     "lan --window") words="1024 2048" ;;
     *)
         case "$COMP_CWORD ${COMP_WORDS[1]}" in
-        "1 "*) words="replay status script audit ring lan --help --version" ;;
+        "1 "*) words="replay status script audit merge ring lan --help --version" ;;
         *" replay") words="--role --mac --lan --net --mode --window --help" ;;
         *" status") words="--role --mac --lan --net --mode --window --counters --help" ;;
         *" script") words="--a --b --c --shift-a --shift-b --shift-c --fcs --from --to --tick --help" ;;
         *" audit") words="--a --b --mirror --network --shift-a --shift-b --fcs --from --to --list --format --check --help" ;;
+        *" merge") words="--a --b --write --network --shift-a --shift-b --fcs --from --to --keep --only --help" ;;
         *" ring") words="--nodes --mode --window --help" ;;
         *" lan") words="--nodes --mode --window --help" ;;
         esac

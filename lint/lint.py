@@ -332,7 +332,7 @@ def untested_lines(root):
     squashed = lambda text: "".join(text.split())
     files = [path for path in sorted(root.glob("examples/*")) if path.suffix in (".script", ".expected", ".status")]
     files += [path for name in ("stdin", "stdout", "stderr") for path in sorted(root.glob(f"examples/cases/*/{name}"))]
-    lines = [squashed(line) for path in files for line in path.read_text().split("\n")]
+    lines = [squashed(line) for path in files for line in path.read_text(errors="replace").split("\n")]
     if (root / "check").exists():
         lines += [squashed(line.replace("echo ", "", 1)) for _, line in numbered(root / "check")]
     for page in program_pages(root):

@@ -5,6 +5,7 @@ ghost use Rattle.std.specs.Prelude.{◌<◌, ◌≤◌};
 use crate::address::mac_of;
 use crate::audit_line::{AuditTask, audit_command, audit_task, format_words, network_words};
 use crate::examples;
+use crate::merge_line::{MergeTask, merge_command, merge_task, scope_words};
 use crate::plant_line::{plant_command, plant_of};
 use crate::refusal::Refused;
 use crate::script_line::{ScriptTask, script_command, script_task};
@@ -35,6 +36,7 @@ pub struct Words<'a> {
     windows: [PossibleValue<'a>; 2],
     networks: [PossibleValue<'a>; 2],
     formats: [PossibleValue<'a>; 3],
+    scopes: [PossibleValue<'a>; 1],
 }
 
 impl<'a> Words<'a> {
@@ -68,6 +70,7 @@ impl<'a> Words<'a> {
             ],
             networks: network_words(),
             formats: format_words(),
+            scopes: scope_words(),
         }
     }
 }
@@ -255,6 +258,8 @@ fn command<'a>(alloc: Global, words: &'a Words<'a>) -> Result<Command<'a>, Alloc
     let command = with(command, script_command(alloc));
     let audit = audit_command(alloc, words.networks.as_slice(), words.formats.as_slice());
     let command = with(command, audit);
+    let merge = merge_command(alloc, words.networks.as_slice(), words.scopes.as_slice());
+    let command = with(command, merge);
     let ring = plant_command(
         alloc,
         words,
@@ -347,6 +352,8 @@ pub enum Task<'a> {
     Script(ScriptTask<'a>),
     /// Print the figures of captures.
     Audit(AuditTask<'a>),
+    /// Write captures as one.
+    Merge(MergeTask<'a>),
     /// Run a script on a plant.
     Plant(PlantSetup),
 }
@@ -362,6 +369,12 @@ fn task_in<'a>(matches: &ArgMatches<'a>) -> Result<Task<'a>, Refused> {
     if let Some(audit) = matches.subcommand_matches("audit") {
         return match audit_task(audit) {
             Ok(task) => Ok(Task::Audit(task)),
+            Err(name) => Err(Refused::Option(name)),
+        };
+    }
+    if let Some(merge) = matches.subcommand_matches("merge") {
+        return match merge_task(merge) {
+            Ok(task) => Ok(Task::Merge(task)),
             Err(name) => Err(Refused::Option(name)),
         };
     }

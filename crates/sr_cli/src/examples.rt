@@ -35,6 +35,13 @@ pub const AUDIT: &str = "Examples:
   A nightly test of a ring, which ends with status 3 where a figure tells of a fault:
     seamless audit --network hsr --a ring-a.pcap --b ring-b.pcap --check";
 
+/// Of `merge`.
+pub const MERGE: &str = "Examples:
+  Two captures of a PRP network as one, which shows what each LAN lost:
+    seamless merge --a lan-a.pcap --b lan-b.pcap -w merged.pcapng
+  The frames of a ring that came by one direction alone, seen by Wireshark's own tool:
+    seamless merge --network hsr --a ring-a.pcap --b ring-b.pcap --only lost -w - | tshark -r -";
+
 /// Of `ring`.
 pub const RING: &str = "Examples:
   A ring of four nodes, of which a link is cut:

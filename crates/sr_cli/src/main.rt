@@ -10,6 +10,8 @@ mod flaws;
 mod forms;
 mod hints;
 mod line_flaws;
+mod merge;
+mod merge_line;
 mod pipes;
 mod plant_line;
 mod progress;
@@ -23,6 +25,7 @@ mod word_flaws;
 
 use audit::run_audit;
 use command_line::{Task, Words, task_of};
+use merge::run_merge;
 use progress::Progress;
 use refusal::Refused;
 use running::{play, run_node};
@@ -75,6 +78,7 @@ fn start<R: AllocGlobal + Print + Eprint + Input + Env + Files + RandomSource>(
     match task_of(rt.alloc(), &known, words.as_slice()) {
         Ok(Task::Script(task)) => run_script(rt, &task, progress).map_err(|()| RUN_FAILED),
         Ok(Task::Audit(task)) => run_audit(rt, &task, progress),
+        Ok(Task::Merge(task)) => run_merge(rt, &task, progress).map_err(|()| RUN_FAILED),
         Ok(Task::Run(report, setup)) => run_node(rt, report, &setup).map_err(|()| RUN_FAILED),
         Ok(Task::Plant(setup)) => play(rt, &setup).map_err(|()| RUN_FAILED),
         Err(refused) => tell_refused(rt, refused),

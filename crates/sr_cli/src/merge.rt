@@ -1,0 +1,164 @@
+//! The subcommand `merge`: opens the captures and the file that is written, and says what was merged.
+
+use crate::hints::letter_of;
+use crate::merge_line::MergeTask;
+use crate::pipes::Pipe;
+use crate::progress::Progress;
+use crate::script::{Opened, open_file, tell_ended};
+use sr_capture_merge::{Counts, Scope, merge};
+use sr_capture_script::{Captures, Inlet, ScriptFault};
+use sr_slots::Keys;
+use std::fs::File;
+use std::io::{self, BufWriter, Write};
+use std::os::unix::fs::MetadataExt;
+use std::random::RandomSource;
+use std::rt::Files;
+
+/// Whether two paths lead to one file, as far as can be told.
+fn is_one_file<R: Files>(rt: &R, path: &str, other: &str) -> bool {
+    match (std::fs::metadata(rt, path), std::fs::metadata(rt, other)) {
+        (Ok(own), Ok(other)) => own.dev() == other.dev() && own.ino() == other.ino(),
+        _ => false,
+    }
+}
+
+/// Whether the file that is to be written is the capture of an inlet, which is told then.
+fn is_capture<R: Eprint + Files>(rt: &R, inlet: Inlet, path: Option<&str>, out: &str) -> bool {
+    let Some(path) = path else {
+        return false;
+    };
+    if out == "-" || !is_one_file(rt, path, out) {
+        return false;
+    }
+    let letter = letter_of(inlet);
+    let _ = eprintln!(rt; "fault write");
+    let _ = eprintln!(rt; "{out} is the capture of {letter}");
+    true
+}
+
+/// Opens the captures. Standard error is told where that fails.
+fn open<'a, R: AllocGlobal + Eprint + Files>(
+    rt: &'a R,
+    task: &MergeTask<'_>,
+    progress: Progress,
+) -> Result<Captures<Opened<'a, R>>, ()> {
+    let interfaces = task.options.interfaces;
+    let Ok(a) = open_file(rt, Inlet::A, task.a, interfaces.a, progress) else {
+        return Err(());
+    };
+    let Ok(b) = open_file(rt, Inlet::B, task.b, interfaces.b, progress) else {
+        return Err(());
+    };
+    match Captures::open(rt.alloc(), a, b, None, &task.options) {
+        Ok(captures) => Ok(captures),
+        Err(fault) => {
+            tell_ended(rt, fault, false);
+            Err(())
+        }
+    }
+}
+
+/// Says what was left out, or could not be told.
+fn tell_odd<R: Eprint>(rt: &R, counts: &Counts) {
+    let Counts {
+        cut,
+        long,
+        untold,
+        ..
+    } = *counts;
+    if cut > 0 {
+        let _ = eprintln!(rt; "{cut} packets are left out: the recorder cut them");
+    }
+    if long > 0 {
+        let _ = eprintln!(rt; "{long} packets are left out: they are longer than a frame");
+    }
+    if untold > 0 {
+        let _ = eprintln!(rt;
+            "{untold} packets of sources beyond the 1024th are there as they came"
+        );
+    }
+}
+
+/// Says what was merged.
+fn tell_counts<R: Eprint>(rt: &R, scope: Scope, counts: &Counts) {
+    match scope {
+        Scope::All => {
+            let _ = eprintln!(rt; "{counts}");
+        }
+        Scope::Lost => {
+            let written = counts.written;
+            let _ = eprintln!(rt; "{counts}; {written} written");
+        }
+    }
+    tell_odd(rt, counts);
+}
+
+/// Merges the captures into a writer.
+fn merge_into<'a, R: AllocGlobal + Eprint + Files, W: Write + Drop>(
+    rt: &'a R,
+    task: &MergeTask<'_>,
+    keys: Keys,
+    mut captures: Captures<Opened<'a, R>>,
+    out: W,
+) -> Result<(), ()> {
+    let Ok(mut writer) = BufWriter::new(rt.alloc(), Pipe::new(out)) else {
+        tell_ended(rt, ScriptFault::NoMemory, false);
+        return Err(());
+    };
+    let choice = task.options.choice;
+    let (counts, outcome) = merge(
+        rt.alloc(),
+        keys,
+        &mut captures,
+        &choice,
+        &task.plan,
+        &mut writer,
+    );
+    let flushed = writer.flush();
+    let is_closed = writer.get_ref().is_closed();
+    let outcome = match outcome {
+        Ok(()) if flushed.is_err() => Err(ScriptFault::Write),
+        other => other,
+    };
+    match outcome {
+        Ok(()) => {
+            tell_counts(rt, task.plan.scope, &counts);
+            Ok(())
+        }
+        Err(fault) => {
+            if let ScriptFault::File(_, _) = fault {
+                tell_counts(rt, task.plan.scope, &counts);
+            }
+            tell_ended(rt, fault, is_closed);
+            Err(())
+        }
+    }
+}
+
+/// Merges the captures into the file that is named, or into standard output. What was merged is told on standard error, and so is a fault.
+pub fn run_merge<R: AllocGlobal + Print + Eprint + Files + RandomSource>(
+    rt: &R,
+    task: &MergeTask<'_>,
+    progress: Progress,
+) -> Result<(), ()> {
+    if is_capture(rt, Inlet::A, task.a, task.out) || is_capture(rt, Inlet::B, task.b, task.out) {
+        return Err(());
+    }
+    let Ok(keys) = Keys::new(rt) else {
+        let _ = eprintln!(rt; "fault read");
+        return Err(());
+    };
+    let captures = open(rt, task, progress)?;
+    if task.out == "-" {
+        return merge_into(rt, task, keys, captures, io::writer(rt));
+    }
+    match File::create(rt, task.out) {
+        Ok(file) => merge_into(rt, task, keys, captures, file),
+        Err(_) => {
+            let out = task.out;
+            let _ = eprintln!(rt; "fault write");
+            let _ = eprintln!(rt; "{out}: it can't be written");
+            Err(())
+        }
+    }
+}
