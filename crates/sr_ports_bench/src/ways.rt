@@ -1,7 +1,7 @@
 //! The ways in which an event comes to a node.
 
 use crate::events::Subject;
-use sr_forwarding::Danp;
+use sr_forwarding::{Danp, Parcel};
 use sr_frame::NoMemory;
 use sr_node::{Event, NodeOf};
 use sr_ports::{Kept, Passes, Segment, SharedNode, enter, rotate};
@@ -43,13 +43,24 @@ impl Subject for Alone {
     }
 }
 
+/// The copy of an event that a journal keeps. It is not inlined: the compiler leaves out what is written and never read.
+#[inline(never)]
+fn event_copy(alloc: Global, event: &Event) -> Result<Event, NoMemory> {
+    event.try_clone(alloc)
+}
+
+/// The copy that a journal keeps of a parcel that is taken out.
+#[inline(never)]
+fn parcel_copy(alloc: Global, parcel: &Parcel) -> Result<Parcel, NoMemory> {
+    parcel.try_clone(alloc)
+}
+
 /// Copies what a journal keeps of this event and of its answer.
 fn copies(alloc: Global, node: &NodeOf<Danp>, event: &Event) -> Result<(), NoMemory> {
-    let twin = event.try_clone(alloc)?;
-    drop(twin);
+    drop(event_copy(alloc, event)?);
     if let Event::Take { port } = event {
         if let Some(parcel) = node.front(*port) {
-            drop(parcel.try_clone(alloc)?);
+            drop(parcel_copy(alloc, parcel)?);
         }
     }
     Ok(())
