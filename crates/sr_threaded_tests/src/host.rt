@@ -1,0 +1,113 @@
+//! A host over memory, and the framings of a ring's node.
+
+use sr_forwarding::{Framing, HsrFraming, ParcelView, PlainFraming, ReadFault};
+use sr_frame::Frame;
+use sr_workers::{Feed, FeedFault, Given, Turn};
+use std::sync::atomic::{AtomicU64, Ordering};
+use std::sync::{Arc, Wait};
+use std::thread;
+
+/// How a port of a ring's node carries frames.
+#[derive(Clone, Copy)]
+pub enum At {
+    /// At A or B.
+    Ring(HsrFraming),
+    /// At the host.
+    Host,
+}
+
+impl Framing for At {
+    ghost use Rattle.sr_threaded_tests.specs.Meanings.{meaning_of};
+
+    ghost meaning = { meaning_of };
+
+    fn read<'a>(&self, octets: &'a [u8]) -> Result<ParcelView<'a>, ReadFault> {
+        match self {
+            At::Ring(framing) => framing.read(octets),
+            At::Host => PlainFraming.read(octets),
+        }
+    }
+
+    fn write(&self, out: &mut Vec<u8>, parcel: &ParcelView<'_>) -> Result<(), ReadFault> {
+        match self {
+            At::Ring(framing) => framing.write(out, parcel),
+            At::Host => PlainFraming.write(out, parcel),
+        }
+    }
+}
+
+/// A host that sends a frame, or none, is idle ever after, and counts what it is given. In its first `next` it waits, for so
+/// many looks, until so many hosts were asked.
+#[derive(Drop)]
+pub struct Host {
+    /// What it sends first.
+    pub frame: Option<Frame>,
+    /// How many hosts were asked.
+    pub asked: Arc<AtomicU64>,
+    /// For how many it waits.
+    pub until: u64,
+    /// How often it looks.
+    pub looks: u64,
+    /// How many waited in vain.
+    pub missed: Arc<AtomicU64>,
+    /// Whether it was asked.
+    pub begun: bool,
+    /// How many frames it was given.
+    pub given: u64,
+}
+
+impl Host {
+    // Waits for the others.
+    fn meet(&mut self) {
+        if self.looks == 0 {
+            return;
+        }
+        self.asked.fetch_add(1, Ordering::SeqCst);
+        for _look in 0..self.looks {
+            if self.asked.load(Ordering::SeqCst) >= self.until {
+                return;
+            }
+            thread::yield_now();
+        }
+        if self.asked.load(Ordering::SeqCst) < self.until {
+            self.missed.fetch_add(1, Ordering::SeqCst);
+        }
+    }
+}
+
+impl Feed for Host {
+    ghost use Rattle.std.specs.Prelude.{[], false};
+
+    ghost tells = { λ _. false };
+
+    ghost handed = { λ _. [] };
+
+    ghost given = { λ _. [] };
+
+    ghost ended = { λ _. false };
+
+    ghost failed = { λ _. 0 };
+
+    fn next<W: Wait>(&mut self, _rt: &W, into: &mut Vec<u8>) -> Result<Turn, FeedFault> {
+        if !self.begun {
+            self.begun = true;
+            self.meet();
+            into.clear();
+            if let Some(frame) = &self.frame {
+                if into.extend_from_slice(frame.octets()).is_ok() {
+                    return Ok(Turn::Frame(0));
+                }
+            }
+        }
+        Ok(Turn::Idle)
+    }
+
+    fn give<W: Wait>(&mut self, _rt: &W, _octets: &[u8]) -> Result<Given, FeedFault> {
+        self.given = self.given.saturating_add(1);
+        Ok(Given::Put)
+    }
+
+    fn failures(&self) -> u64 {
+        0
+    }
+}

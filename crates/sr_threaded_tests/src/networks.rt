@@ -1,0 +1,255 @@
+//! Runs of threaded networks, and what is looked for in them.
+
+use crate::host::{At, Host};
+use sr_forwarding::{Danh, HsrFraming};
+use sr_frame::{Frame, Mac};
+use sr_lines::Line;
+use sr_node::{Answer, Event, NodeOf};
+use sr_ports::{Log, Settlement, Worker};
+use sr_sequence::Seq;
+use sr_threaded::{Judgement, NetworkFault, NodeEnd, NodeKit, run_ring, settlement_of};
+use std::alloc::Global;
+use std::process::Abort;
+use std::sync::atomic::{AtomicU64, Ordering};
+use std::sync::{Arc, Wait};
+use std::test::*;
+use std::thread::Threads;
+
+/// A step of a test.
+#[derive(Clone, Copy)]
+pub(super) enum Step {
+    /// A ring of so many nodes and turns settles, and hands up what its first node sends at most once at each other; in one of so
+    /// many runs all others hand it up.
+    All(u8, u64, u32),
+    /// A ring of so many nodes and turns settles.
+    Each(u8, u64),
+    /// A ring of so many nodes is refused.
+    Refused(u8),
+}
+
+const GROUP_FRAME: [u8; 15] = [
+    0xff, 0xff, 0xff, 0xff, 0xff, 0xff, 2, 0, 0, 0, 0, 0, 0x88, 0xb5, 1,
+];
+
+// How often a host looks whether the other was asked.
+const LOOKS: u64 = 100_000_000;
+
+// What a run shows.
+#[derive(Clone, Copy)]
+struct Seen {
+    well: bool,
+    all: bool,
+}
+
+fn host_of(
+    alloc: Global,
+    number: u8,
+    asked: &Arc<AtomicU64>,
+    missed: &Arc<AtomicU64>,
+) -> Option<Host> {
+    let asked = Arc::try_clone(asked).ok()?;
+    let missed = Arc::try_clone(missed).ok()?;
+    let frame = if number == 0 {
+        Some(Frame::copy(alloc, &GROUP_FRAME).ok()?)
+    } else {
+        None
+    };
+    Some(Host {
+        frame,
+        asked,
+        until: 2,
+        looks: if number < 2 { LOOKS } else { 0 },
+        missed,
+        begun: false,
+        given: 0,
+    })
+}
+
+fn kit_of(
+    alloc: Global,
+    number: u8,
+    asked: &Arc<AtomicU64>,
+    missed: &Arc<AtomicU64>,
+) -> Option<NodeKit<Danh, At, Host>> {
+    let feed = host_of(alloc, number, asked, missed)?;
+    match NodeOf::new(alloc, Danh::new(Mac([2, 0, 0, 0, 0, number]))) {
+        Ok(node) => Some(NodeKit {
+            node,
+            a: At::Ring(HsrFraming { path: 0 }),
+            b: At::Ring(HsrFraming { path: 1 }),
+            host: At::Host,
+            feed,
+        }),
+        Err(_) => None,
+    }
+}
+
+fn kits_of(
+    alloc: Global,
+    count: u8,
+    asked: &Arc<AtomicU64>,
+    missed: &Arc<AtomicU64>,
+) -> Option<Vec<NodeKit<Danh, At, Host>>> {
+    let mut kits = Vec::new(alloc);
+    for number in 0..count {
+        match kit_of(alloc, number, asked, missed) {
+            Some(kit) => kits.push(kit).ok()?,
+            None => return None,
+        }
+    }
+    Some(kits)
+}
+
+// How many frames the host of a node was given.
+fn given_to(end: &NodeEnd<Host>) -> u64 {
+    match end.ends.last() {
+        Some(last) => match &last.line {
+            Line::Host(host) => host.given,
+            _ => 9,
+        },
+        None => 9,
+    }
+}
+
+fn is_first_send(pair: &(Event, Answer)) -> bool {
+    match &pair.1 {
+        Answer::Sent(number) => *number == Seq(64511),
+        _ => false,
+    }
+}
+
+fn has_sent(logs: &[Log]) -> bool {
+    for log in logs {
+        for pair in log.pairs.as_slice() {
+            if log.worker == Worker::Host && is_first_send(pair) {
+                return true;
+            }
+        }
+    }
+    false
+}
+
+fn are_long(logs: &[Log], turns: u64) -> bool {
+    for log in logs {
+        if (log.pairs.len() as u64) < turns {
+            return false;
+        }
+    }
+    logs.len() == 3
+}
+
+fn are_whole(end: &NodeEnd<Host>) -> bool {
+    for one in end.ends.as_slice() {
+        if one.fault.is_some() || one.held.is_some() || one.unread > 0 {
+            return false;
+        }
+    }
+    end.ends.len() == 3
+}
+
+// Whether all is well with a node's end.
+fn is_well(end: &NodeEnd<Host>, judged: Judgement, number: usize, turns: u64) -> bool {
+    let settled = settlement_of(end.settlement, judged) == Settlement::Settled;
+    let most = if number == 0 { 0 } else { 1 };
+    let sends = number == 0 && turns > 0;
+    settled
+        && are_long(end.logs.as_slice(), turns)
+        && are_whole(end)
+        && has_sent(end.logs.as_slice()) == sends
+        && given_to(end) <= most
+        && end.lost == 0
+}
+
+fn look(ends: &[NodeEnd<Host>], judged: &[Judgement], turns: u64) -> Seen {
+    let mut well = ends.len() == judged.len();
+    let mut all = true;
+    for (number, (end, one)) in ends.iter().zip(judged.iter()).enumerate() {
+        well = well && is_well(end, *one, number, turns);
+        all = all && (number == 0 || given_to(end) == 1);
+    }
+    Seen { well, all }
+}
+
+fn look_at(
+    ran: Result<(Vec<NodeEnd<Host>>, Vec<Judgement>), NetworkFault>,
+    turns: u64,
+) -> Result<Seen, NetworkFault> {
+    match ran {
+        Ok((ends, judged)) => {
+            let seen = look(ends.as_slice(), judged.as_slice(), turns);
+            drop(ends);
+            Ok(seen)
+        }
+        Err(fault) => Err(fault),
+    }
+}
+
+// Runs a ring. None for want of memory in the making.
+fn run<W: Threads + Wait + Sync>(
+    rt: &W,
+    alloc: Global,
+    count: u8,
+    turns: u64,
+) -> Option<Result<Seen, NetworkFault>> {
+    let asked = Arc::new(alloc, AtomicU64::new(0)).ok()?;
+    let missed = Arc::new(alloc, AtomicU64::new(0)).ok()?;
+    match kits_of(alloc, count, &asked, &missed) {
+        Some(kits) => {
+            let seen = look_at(run_ring(rt, alloc, kits, turns), turns);
+            if missed.load(Ordering::SeqCst) > 0 {
+                return None;
+            }
+            Some(seen)
+        }
+        None => None,
+    }
+}
+
+fn all_hand_up<W: Threads + Wait + Sync>(
+    rt: &W,
+    alloc: Global,
+    count: u8,
+    turns: u64,
+    runs: u32,
+) -> bool {
+    for _ in 0..runs {
+        match run(rt, alloc, count, turns) {
+            Some(Ok(seen)) => {
+                if !seen.well {
+                    return false;
+                }
+                if seen.all {
+                    return true;
+                }
+            }
+            _ => return false,
+        }
+    }
+    false
+}
+
+fn holds<W: Threads + Wait + Sync>(rt: &W, alloc: Global, step: Step) -> bool {
+    match step {
+        Step::All(count, turns, runs) => all_hand_up(rt, alloc, count, turns, runs),
+        Step::Each(count, turns) => match run(rt, alloc, count, turns) {
+            Some(Ok(seen)) => seen.well,
+            _ => false,
+        },
+        Step::Refused(count) => match run(rt, alloc, count, 1) {
+            Some(Err(fault)) => fault == NetworkFault::Size,
+            _ => false,
+        },
+    }
+}
+
+/// Goes through the steps, and fails at the first that does not hold.
+pub(super) fn expect_steps<W: Threads + Wait + Sync + Abort + AllocGlobal>(rt: &W, steps: &[Step]) {
+    let mut place = 0usize;
+    for step in steps {
+        if !holds(rt, rt.alloc(), *step) {
+            break;
+        }
+        place += 1;
+    }
+    assert_eq!(rt; place, steps.len());
+}

@@ -1,0 +1,85 @@
+//! A wire takes 256 frames, and then hands back.
+
+ghost use Rattle.std.specs.Prelude.{◌≡◌};
+
+use sr_frame::Frame;
+use sr_wires::{SendPass, TakePass, Wire};
+use std::alloc::Global;
+use std::sync::Wait;
+use std::test::*;
+
+// The last of 256 numbers.
+const LAST: u8 = 255;
+
+// A frame that tells its number.
+fn frame_of(alloc: Global, number: u8) -> Option<Frame> {
+    let octets = [2, 0, 0, 0, 0, 1, 2, 0, 0, 0, 0, 2, 0x88, 0xb5, number];
+    Frame::copy(alloc, &octets).ok()
+}
+
+// Whether the wire takes a frame of this number.
+fn puts<W: Wait>(rt: &W, alloc: Global, wire: &Wire, send: &mut SendPass, number: u8) -> bool
+    requires { send.old.wire ≡ wire.now }
+    ensures { send.new.wire ≡ wire.now }
+{
+    match frame_of(alloc, number) {
+        Some(frame) => wire.put(rt, send, frame).is_ok(),
+        None => false,
+    }
+}
+
+// Whether the next frame that is taken has this number.
+fn takes<W: Wait>(rt: &W, wire: &Wire, take: &mut TakePass, number: u8) -> bool
+    requires { take.old.wire ≡ wire.now }
+    ensures { take.new.wire ≡ wire.now }
+{
+    match wire.take(rt, take) {
+        Some(frame) => frame.octets().last() == Some(&number),
+        None => false,
+    }
+}
+
+// Whether the wire takes so many frames as may wait.
+fn fills<W: Wait>(rt: &W, alloc: Global, wire: &Wire, send: &mut SendPass) -> bool
+    requires { send.old.wire ≡ wire.now }
+    ensures { send.new.wire ≡ wire.now }
+{
+    for number in 0..=LAST {
+        if !puts(rt, alloc, wire, send, number) {
+            return false;
+        }
+    }
+    true
+}
+
+// Whether these frames come out in order.
+fn empties<W: Wait>(rt: &W, wire: &Wire, take: &mut TakePass) -> bool
+    requires { take.old.wire ≡ wire.now }
+    ensures { take.new.wire ≡ wire.now }
+{
+    for number in 0..=LAST {
+        if !takes(rt, wire, take, number) {
+            return false;
+        }
+    }
+    true
+}
+
+// Whether the wire takes 256 frames, hands the next one back, and hands them out in order, and no more.
+fn holds<W: Wait>(rt: &W, alloc: Global) -> bool {
+    match Wire::new(alloc) {
+        Ok((wire, mut send, mut take)) => {
+            fills(rt, alloc, &wire, &mut send)
+                && !puts(rt, alloc, &wire, &mut send, 7)
+                && empties(rt, &wire, &mut take)
+                && !takes(rt, &wire, &mut take, 7)
+        }
+        Err(_) => false,
+    }
+}
+
+#[test]
+fn a_wire_takes_256_frames(rt: HostRuntime) {
+    let holds = holds(&rt, rt.alloc());
+    assert!(&rt; holds);
+}
