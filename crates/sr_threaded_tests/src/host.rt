@@ -17,9 +17,9 @@ pub enum At {
 }
 
 impl Framing for At {
-    ghost use Rattle.sr_threaded_tests.specs.Meanings.{meaning_of};
+    ghost use Rattle.sr_threaded_tests.specs.Meanings.{meaning_at};
 
-    ghost meaning = { meaning_of };
+    ghost meaning = { meaning_at };
 
     fn read<'a>(&self, octets: &'a [u8]) -> Result<ParcelView<'a>, ReadFault> {
         match self {

@@ -184,7 +184,7 @@ fn look_at(
     }
 }
 
-// Runs a ring. None for want of memory in the making.
+// Runs a ring. None where an allocation failed in the making, or where a host waited in vain.
 fn run<W: Threads + Wait + Sync>(
     rt: &W,
     alloc: Global,
