@@ -242,14 +242,18 @@ fn holds<W: Threads + Wait + Sync>(rt: &W, alloc: Global, step: Step) -> bool {
     }
 }
 
+// The place of the first step that does not hold.
+fn first_wrong<W: Threads + Wait + Sync>(rt: &W, alloc: Global, steps: &[Step]) -> Option<usize> {
+    for (place, step) in steps.iter().enumerate() {
+        if !holds(rt, alloc, *step) {
+            return Some(place);
+        }
+    }
+    None
+}
+
 /// Goes through the steps, and fails at the first that does not hold.
 pub(super) fn expect_steps<W: Threads + Wait + Sync + Abort + AllocGlobal>(rt: &W, steps: &[Step]) {
-    let mut place = 0usize;
-    for step in steps {
-        if !holds(rt, rt.alloc(), *step) {
-            break;
-        }
-        place += 1;
-    }
-    assert_eq!(rt; place, steps.len());
+    let wrong = first_wrong(rt, rt.alloc(), steps);
+    assert_eq!(rt; wrong, None);
 }
