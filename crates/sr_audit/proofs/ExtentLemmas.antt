@@ -440,7 +440,7 @@ reach_begun ss x e few keeps =
     none_more side = omega (arith, sum_by-cons (order side) (stretch_begun x) ss, one_copy side x.side (pos x.seq.0) x.time)
 
 -- no stretch is empty
-no_empty : (xs : List Arrival) (rest : List (List Placed)) → stretches xs ≡ [] ∷ rest → ⊥
+pub no_empty : (xs : List Arrival) (rest : List (List Placed)) → stretches xs ≡ [] ∷ rest → ⊥
 no_empty [] rest e = cc
 no_empty (x ∷ xs) rest e = by (stretches xs) e
   where

@@ -170,7 +170,7 @@ frames_fit (y ∷ before) =
     subst (λ c. c ≤ k) all (count_within (bottom_number s) k s)
 
 -- each frame came by both sides or by one alone
-frames_split : (s : List Placed) → frames_with by_both s + frames_with by_a_alone s + frames_with by_b_alone s ≡ length (frames s)
+pub frames_split : (s : List Placed) → frames_with by_both s + frames_with by_a_alone s + frames_with by_b_alone s ≡ length (frames s)
 frames_split s =
     three (λ n. came A n s) (λ n. came B n s) (frames s) ∙ all_counted (λ n. came A n s || came B n s) s (λ n some. some)
   where
