@@ -1,20 +1,16 @@
 -- A plant after one of its copies was carried.
-use Rattle.std.proofs.Common.{◌≡◌, ℕ, zero, suc, ◌<◌, List, [], ◌∷◌, length, slice_get, Option, Some, None, inl, inr, sym, subst, arith}
+use Rattle.std.proofs.Common.{◌≡◌, ℕ, ◌<◌, List, length, slice_get, Option, Some, None, inl, inr, sym, subst}
 use Rattle.sr_forwarding.specs.Parcels.{ParcelImage}
 use Rattle.sr_node.specs.Images.{State, time_at}
 use Rattle.sr_plant.specs.declared.event.PlantEvent.TheVariants.{Carry}
 use Rattle.sr_plant.specs.declared.fault.PlantFault.{PlantFault}
 use Rattle.sr_plant.specs.declared.arriving.Arriving.{Arriving}
 use Rattle.sr_plant.specs.Copies.{Copy}
+use Rattle.sr_plant.specs.Topologies.{framing_of}
 use Rattle.sr_plant.specs.Plants.{Plant, IsInOrder}
 use Rattle.sr_plant.specs.Steps.{Carried, Fails, acted, without}
 use Rattle.sr_plant.specs.Carrying.{OneComesAs, TakesOut, LosesThem, FailsToLand}
-use Rattle.sr_plant.proofs.OrderLemmas.{each_got, arrived_kind, acted_in_order, without_in_order}
-
-got_within : {X : Type 0} (xs : List X) (i : ℕ) (x : X) → slice_get xs i ≡ Some x → i < length xs
-got_within [] i x at = absurd (cc)
-got_within (y ∷ ys) zero x at = omega arith
-got_within (y ∷ ys) (suc i) x at = let r = got_within ys i x at in omega (arith, r)
+use Rattle.sr_plant.proofs.OrderLemmas.{each_got, got_within, arrived_kind, acted_in_order, without_in_order}
 
 -- the place is one of the copies'
 pub copy_within : (s : Plant) (place : ℕ) (a : Arriving) → OneComesAs s.topology s.flight place (Some a) → place < length s.flight
@@ -30,7 +26,7 @@ receiver_within s place a order one =
 -- what the receiver refuses for its own sake
 pub carry_fails : (s : Plant) (place now : ℕ) (a : Arriving) (before : State) (f : PlantFault) →
     OneComesAs s.topology s.flight place (Some a) → slice_get s.nodes a.node ≡ Some before → now ≡ s.clock →
-    FailsToLand s.topology before a.port a.octets now f → Fails s (Carry place) f
+    FailsToLand (framing_of s.topology a.node a.port) before a.port a.octets now f → Fails s (Carry place) f
 carry_fails s place now a before f one there clock fails = elim fails [
   | inl memory ↦ inl memory
   | inr told ↦ inr (
@@ -42,7 +38,7 @@ carry_fails s place now a before f one there clock fails = elim fails [
       before = before;
       written = one.2.written;
       there = rw one.2.node at there;
-      refused = rw (one.2.port, clock) at told.1;
+      refused = rw (one.2.node, one.2.port, clock) at told.1;
     },
     told.2,
     told.3,
@@ -53,7 +49,7 @@ carry_fails s place now a before f one there clock fails = elim fails [
 pub taken_comes : (s : Plant) (place now : ℕ) (a : Arriving) (before : State) (at_a at_b : Option ParcelImage)
     (up up_after : List ParcelImage) (u : State) (t : Plant) →
     OneComesAs s.topology s.flight place (Some a) → slice_get s.nodes a.node ≡ Some before → now ≡ s.clock →
-    (out : TakesOut s.topology before a.port a.octets now at_a at_b up up_after u) →
+    (out : TakesOut (framing_of s.topology a.node a.port) before a.port a.octets now at_a at_b up up_after u) →
     t ≡ acted (without s place) a.node out.after s.clock → Carried s place t
 taken_comes s place now a before at_a at_b up up_after u t one there clock out plant = (
   one.0,
@@ -65,7 +61,7 @@ taken_comes s place now a before at_a at_b up up_after u t one there clock out p
     after = out.after;
     written = one.2.written;
     there = rw one.2.node at there;
-    taken = rw (one.2.port, clock) at out.taken;
+    taken = rw (one.2.node, one.2.port, clock) at out.taken;
     plant = rw one.2.node at plant;
   }),
 )
@@ -73,7 +69,7 @@ taken_comes s place now a before at_a at_b up up_after u t one there clock out p
 pub taken_in_order : (s : Plant) (place now : ℕ) (a : Arriving) (before : State) (at_a at_b : Option ParcelImage)
     (up up_after : List ParcelImage) (u : State) (t : Plant) → IsInOrder s →
     slice_get s.nodes a.node ≡ Some before →
-    (out : TakesOut s.topology before a.port a.octets now at_a at_b up up_after u) →
+    (out : TakesOut (framing_of s.topology a.node a.port) before a.port a.octets now at_a at_b up up_after u) →
     t ≡ acted (without s place) a.node out.after s.clock → IsInOrder t
 taken_in_order s place now a before at_a at_b up up_after u t order there out plant =
     let kind = arrived_kind before a.port out.taken.0 (time_at before now) out.answer out.after out.taken.3 in
@@ -82,7 +78,7 @@ taken_in_order s place now a before at_a at_b up up_after u t order there out pl
 -- what the receiver refuses for the copy's sake
 pub lost_goes : (s : Plant) (place now : ℕ) (a : Arriving) (before : State) (up up_after : List ParcelImage) (u : State) (t : Plant) →
     OneComesAs s.topology s.flight place (Some a) → slice_get s.nodes a.node ≡ Some before → now ≡ s.clock →
-    LosesThem s.topology before a.port a.octets now up up_after u → t ≡ without s place → Carried s place t
+    LosesThem (framing_of s.topology a.node a.port) before a.port a.octets now up up_after u → t ≡ without s place → Carried s place t
 lost_goes s place now a before up up_after u t one there clock lost plant = (
   one.0,
   one.1,
@@ -95,7 +91,7 @@ lost_goes s place now a before up up_after u t one there clock lost plant = (
         before = before;
         written = one.2.written;
         there = rw one.2.node at there;
-        refused = rw (one.2.port, clock) at lost.refused;
+        refused = rw (one.2.node, one.2.port, clock) at lost.refused;
       },
     ),
     plant,

@@ -1,5 +1,5 @@
 -- A plant stays in order.
-use Rattle.std.proofs.Common.{◌≡◌, ℕ, zero, suc, ◌+◌, ◌<◌, ◌==◌, Bool, true, List, [], ◌∷◌, length, map, not, slice_get, slice_set, Option, Some, None, refl, sym, ◌∙◌, subst, inl, inr, take, drop, arith}
+use Rattle.std.proofs.Common.{◌≡◌, ℕ, zero, suc, ◌+◌, ◌<◌, ◌==◌, Bool, true, List, [], ◌∷◌, length, map, not, slice_get, slice_set, Option, Some, None, ◌⊎◌, refl, sym, ap, ◌∙◌, subst, inl, inr, take, drop, arith}
 use Rattle.std.specs.List.{filter}
 use Rattle.std.proofs.lemmas.Bool.{cases_Bool}
 use Rattle.std.proofs.lemmas.Bool.Decides.{nat_tests}
@@ -31,7 +31,7 @@ use Rattle.sr_plant.specs.declared.topology.Topology.TheVariants.{Ring, TwinLan}
 use Rattle.sr_plant.specs.Topologies.{net_of, kind_of}
 use Rattle.sr_plant.specs.Copies.{Copy, is_on, is_stopped}
 use Rattle.sr_plant.specs.Puts.{copy_over, all_put, put_out, those_passing}
-use Rattle.sr_plant.specs.Plants.{Plant, IsEmptied, IsInOrder}
+use Rattle.sr_plant.specs.Plants.{Plant, IsEmptied, AreKinds, IsInOrder}
 use Rattle.sr_plant.specs.Steps.{emptied, acted, Acts, without}
 use Rattle.sr_plant.proofs.PutLemmas.{lan_append}
 
@@ -44,6 +44,30 @@ pub each_got : {X : Type 0} (P : X → Type 0) (xs : List X) (i : ℕ) (x : X) �
 each_got P [] i x each at = absurd (cc)
 each_got P (y ∷ ys) zero x each at = let same : y ≡ x = cc in (omega arith, rw (← same) each.0)
 each_got P (y ∷ ys) (suc i) x each at = let r = each_got P ys i x each.1 at in (omega (arith, r.0), r.1)
+
+pub got_within : {X : Type 0} (xs : List X) (i : ℕ) (x : X) → slice_get xs i ≡ Some x → i < length xs
+got_within [] i x at = absurd (cc)
+got_within (y ∷ ys) zero x at = omega arith
+got_within (y ∷ ys) (suc i) x at = let r = got_within ys i x at in omega (arith, r)
+
+-- what a list has at a place of which one was set: the new one there, or what it had
+got_set : {X : Type 0} (xs : List X) (i : ℕ) (y : X) (k : ℕ) (x : X) → slice_get (slice_set xs i y) k ≡ Some x →
+    ((k ≡ i) × (x ≡ y)) ⊎ (slice_get xs k ≡ Some x)
+got_set [] i y k x at = absurd (cc)
+got_set (z ∷ zs) zero y zero x at = let e : y ≡ x = cc in inl (refl, sym e)
+got_set (z ∷ zs) zero y (suc k) x at = inr at
+got_set (z ∷ zs) (suc i) y zero x at = inr at
+got_set (z ∷ zs) (suc i) y (suc k) x at = elim (got_set zs i y k x at) [
+  | inl set ↦ inl (ap suc set.0, set.1)
+  | inr old ↦ inr old
+]
+
+-- a node takes a place where its kind is the topology's
+kinds_set : (t : Topology) (ns : List State) (i : ℕ) (u : State) → AreKinds t ns → u.role.kind ≡ kind_of t i → AreKinds t (slice_set ns i u)
+kinds_set t ns i u kinds kind k n at = elim (got_set ns i u k n at) [
+  | inl set ↦ rw (set.0, set.1) kind
+  | inr old ↦ kinds k n old
+]
 
 pub each_filter : {X : Type 0} (P : X → Type 0) (p : X → Bool) (xs : List X) → Each P xs → Each P (filter p xs)
 each_filter P p [] each = tt
@@ -95,14 +119,14 @@ net_within TwinLan n k A within = subst (λ (b : ℕ). Each (λ h. h.to.node < b
 net_within TwinLan n k B within = subst (λ (b : ℕ). Each (λ h. h.to.node < b) (lan_hops B n k (other_members n k))) (omega arith) (others_within k n 0 B n)
 net_within TwinLan n k C within = tt
 
-copies_within : (n : ℕ) (o : Port) (p : ParcelImage) (hs : List Hop) → Each (λ h. h.to.node < n) hs → Each (λ c. c.hop.to.node < n) (map (copy_over o p) hs)
-copies_within n o p [] each = tt
-copies_within n o p (h ∷ hs) each = (each.0, copies_within n o p hs each.1)
+copies_within : (n k : ℕ) (o : Port) (p : ParcelImage) (hs : List Hop) → Each (λ h. h.to.node < n) hs → Each (λ c. c.hop.to.node < n) (map (copy_over k o p) hs)
+copies_within n k o p [] each = tt
+copies_within n k o p (h ∷ hs) each = (each.0, copies_within n k o p hs each.1)
 
 put_within : (t : Topology) (n k : ℕ) (o : Port) (ps : List ParcelImage) → k < n → Each (λ c. c.hop.to.node < n) (all_put t n k o ps)
 put_within t n k o [] within = tt
 put_within t n k o (p ∷ ps) within =
-    each_append (λ (c : Copy). c.hop.to.node < n) _ _ (copies_within n o p (net_of t n k o) (net_within t n k o within)) (put_within t n k o ps within)
+    each_append (λ (c : Copy). c.hop.to.node < n) _ _ (copies_within n k o p (net_of t n k o) (net_within t n k o within)) (put_within t n k o ps within)
 
 -- a node keeps its kind
 learned_kind : (kind : RoleKind) (port : Port) (r : RoleImage) (h : Header) (now : ℕ) → (learned_at kind port r h now).kind ≡ r.kind
@@ -149,15 +173,15 @@ pub acted_in_order : (s : Plant) (i now : ℕ) (before u : State) → IsInOrder 
     IsInOrder (acted s i u now)
 acted_in_order s i now before u order there kind =
     let same : length (slice_set s.nodes i (emptied u)) ≡ length s.nodes = length-set s.nodes i (emptied u) in
-    let got = each_got (λ n. n.role.kind ≡ kind_of s.topology) s.nodes i before order.kinds there in
+    let within = got_within s.nodes i before there in
     let n = length s.nodes in
     let out = u.core.out in
     let put : Each (λ c. c.hop.to.node < n) (put_out s.topology n i out) =
-    each_append (λ (c : Copy). c.hop.to.node < n) _ _ (put_within s.topology n i A out.a got.0) (each_append (λ (c : Copy). c.hop.to.node < n) _ _ (put_within s.topology n i B out.b got.0) (put_within s.topology n i C out.c got.0)) in
+    each_append (λ (c : Copy). c.hop.to.node < n) _ _ (put_within s.topology n i A out.a within) (each_append (λ (c : Copy). c.hop.to.node < n) _ _ (put_within s.topology n i B out.b within) (put_within s.topology n i C out.c within)) in
     let flight = each_append (λ (c : Copy). c.hop.to.node < n) s.flight (those_passing s.cut (put_out s.topology n i out)) order.receivers (each_filter (λ (c : Copy). c.hop.to.node < n) (λ c. not (is_stopped s.cut c)) (put_out s.topology n i out) put) in
     record {
       size = rw same order.size;
-      kinds = each_set (λ n. n.role.kind ≡ kind_of s.topology) s.nodes i (emptied u) order.kinds (kind ∙ got.1);
+      kinds = kinds_set s.topology s.nodes i (emptied u) order.kinds (kind ∙ order.kinds i before there);
       emptied = each_set IsEmptied s.nodes i (emptied u) order.emptied refl;
       links = rw same order.links;
       hosts = rw same (length-set _ i _ ∙ order.hosts);

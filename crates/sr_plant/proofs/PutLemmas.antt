@@ -86,26 +86,26 @@ hops_all TwinLan n k A within = lan_below A 0 k n
 hops_all TwinLan n k B within = lan_below B n k n
 hops_all TwinLan n k C within = none_below n
 
-passing_more : (cut : List Bool) (o : Port) (p : ParcelImage) (before : List Hop) (more : Option Hop) →
-    those_passing cut (map (copy_over o p) (before ++ option_to_list more))
-    ≡ those_passing cut (map (copy_over o p) before) ++ those_passing cut (map (copy_over o p) (option_to_list more))
-passing_more cut o p before more =
-    ap (those_passing cut) (map-append (copy_over o p) before (option_to_list more))
-    ∙ filter-append (λ c. not (is_stopped cut c)) (map (copy_over o p) before) (map (copy_over o p) (option_to_list more))
+passing_more : (cut : List Bool) (k : ℕ) (o : Port) (p : ParcelImage) (before : List Hop) (more : Option Hop) →
+    those_passing cut (map (copy_over k o p) (before ++ option_to_list more))
+    ≡ those_passing cut (map (copy_over k o p) before) ++ those_passing cut (map (copy_over k o p) (option_to_list more))
+passing_more cut k o p before more =
+    ap (those_passing cut) (map-append (copy_over k o p) before (option_to_list more))
+    ∙ filter-append (λ c. not (is_stopped cut c)) (map (copy_over k o p) before) (map (copy_over k o p) (option_to_list more))
 
 -- the copies to one node more
-pub put_more : (cut : List Bool) (o : Port) (p : ParcelImage) (to : ℕ → Option Hop) (i j : ℕ) (base so_far new : List Copy) → j ≡ suc i →
-    so_far ≡ base ++ those_passing cut (map (copy_over o p) (hops_below to i)) →
-    new ≡ so_far ++ those_passing cut (map (copy_over o p) (option_to_list (to i))) →
-    new ≡ base ++ those_passing cut (map (copy_over o p) (hops_below to j))
-put_more cut o p to i j base so_far new next before one =
-    rw (next, passing_more cut o p (hops_below to i) (to i))
-    (one ∙ (ap (λ (cs : List Copy). cs ++ those_passing cut (map (copy_over o p) (option_to_list (to i)))) before
-    ∙ append_assoc base (those_passing cut (map (copy_over o p) (hops_below to i))) (those_passing cut (map (copy_over o p) (option_to_list (to i))))))
+pub put_more : (cut : List Bool) (k : ℕ) (o : Port) (p : ParcelImage) (to : ℕ → Option Hop) (i j : ℕ) (base so_far new : List Copy) → j ≡ suc i →
+    so_far ≡ base ++ those_passing cut (map (copy_over k o p) (hops_below to i)) →
+    new ≡ so_far ++ those_passing cut (map (copy_over k o p) (option_to_list (to i))) →
+    new ≡ base ++ those_passing cut (map (copy_over k o p) (hops_below to j))
+put_more cut k o p to i j base so_far new next before one =
+    rw (next, passing_more cut k o p (hops_below to i) (to i))
+    (one ∙ (ap (λ (cs : List Copy). cs ++ those_passing cut (map (copy_over k o p) (option_to_list (to i)))) before
+    ∙ append_assoc base (those_passing cut (map (copy_over k o p) (hops_below to i))) (those_passing cut (map (copy_over k o p) (option_to_list (to i))))))
 
 -- the copies to all
 pub put_to_all : (t : Topology) (n k : ℕ) (o : Port) (cut : List Bool) (p : ParcelImage) (i : ℕ) (base new : List Copy) → k < n → i ≡ n →
-    new ≡ base ++ those_passing cut (map (copy_over o p) (hops_below (hop_to t n k o) i)) →
+    new ≡ base ++ those_passing cut (map (copy_over k o p) (hops_below (hop_to t n k o) i)) →
     new ≡ base ++ those_passing cut (copies_put t n k o p)
 put_to_all t n k o cut p i base new within all so_far =
     so_far ∙ rw (all, hops_all t n k o within) refl

@@ -2,6 +2,7 @@
 use Rattle.std.specs.Prelude.{◌≡◌, ◌⊎◌, ℕ, true, false, List, Option, None, Some, slice_get}
 use Rattle.sr_forwarding.specs.declared.fault.ReadFault.{ReadFault}
 use Rattle.sr_forwarding.specs.Encoding.{IsWritten, write_fault}
+use Rattle.sr_forwarding.specs.Framings.{FramingImage}
 use Rattle.sr_forwarding.specs.Parcels.{ParcelImage}
 use Rattle.sr_frame.specs.declared.ports.Port.{Port}
 use Rattle.sr_node.specs.declared.event.Answer.{Answer}
@@ -23,41 +24,41 @@ use Rattle.sr_plant.specs.Steps.{is_loss}
 pub record IsHeaded (t : Topology) (c : Copy) (a : Arriving) : Type 0 where
   pub node : a.node ≡ c.hop.to.node
   pub port : a.port ≡ c.hop.to.port
-  pub written : IsWritten (framing_of t c.outlet) c.parcel.form c.parcel a.octets
+  pub written : IsWritten (framing_of t c.from c.outlet) c.parcel.form c.parcel a.octets
 
 -- or not at all, where its outlet has no octets for it
 abbrev pub ComesAs : Topology → Copy → Option Arriving → Type 0
-ComesAs t c None = (fault : ReadFault) × (write_fault (framing_of t c.outlet) c.parcel ≡ Some fault)
+ComesAs t c None = (fault : ReadFault) × (write_fault (framing_of t c.from c.outlet) c.parcel ≡ Some fault)
 ComesAs t c (Some a) = IsHeaded t c a
 
 -- so the copy at a place comes
 abbrev pub OneComesAs : Topology → List Copy → ℕ → Option Arriving → Type 0
 OneComesAs t cs place a = (c : Copy) × (slice_get cs place ≡ Some c) × ComesAs t c a
 
--- a node takes octets and is emptied
-pub record TakesOut (t : Topology) (s : State) (port : Port) (octets : List ℕ) (now : ℕ) (at_a at_b : Option ParcelImage)
+-- a node takes octets, which its port carries so, and is emptied
+pub record TakesOut (framing : FramingImage) (s : State) (port : Port) (octets : List ℕ) (now : ℕ) (at_a at_b : Option ParcelImage)
     (before up_after : List ParcelImage) (u : State) : Type 0 where
   pub answer : Answer
   pub after : State
-  pub taken : OctetsArrived (framing_of t port) s port octets now answer after
+  pub taken : OctetsArrived framing s port octets now answer after
   pub gives : GivesOut after at_a at_b before up_after u
 
 -- a node refuses octets so that they are lost, and stays as it is
-pub record LosesThem (t : Topology) (s : State) (port : Port) (octets : List ℕ) (now : ℕ) (before up_after : List ParcelImage) (u : State) :
-    Type 0 where
+pub record LosesThem (framing : FramingImage) (s : State) (port : Port) (octets : List ℕ) (now : ℕ) (before up_after : List ParcelImage)
+    (u : State) : Type 0 where
   pub fault : StepFault
-  pub refused : OctetsRefused (framing_of t port) s port octets now fault
+  pub refused : OctetsRefused framing s port octets now fault
   pub loss : is_loss fault ≡ true
   pub same : u ≡ s
   pub up : up_after ≡ before
 
 -- so octets come to a node: they are lost, or it takes them
-abbrev pub Lands : Topology → State → Port → List ℕ → ℕ → Landing → List ParcelImage → List ParcelImage → State → Type 0
-Lands t s port octets now Lost before up_after u = LosesThem t s port octets now before up_after u
-Lands t s port octets now (Taken at_a at_b) before up_after u = TakesOut t s port octets now at_a at_b before up_after u
+abbrev pub Lands : FramingImage → State → Port → List ℕ → ℕ → Landing → List ParcelImage → List ParcelImage → State → Type 0
+Lands framing s port octets now Lost before up_after u = LosesThem framing s port octets now before up_after u
+Lands framing s port octets now (Taken at_a at_b) before up_after u = TakesOut framing s port octets now at_a at_b before up_after u
 
 -- why octets come to no node: a growth was refused, or the node refuses them and they are not lost
-abbrev pub FailsToLand : Topology → State → Port → List ℕ → ℕ → PlantFault → Type 0
-FailsToLand t s port octets now f =
+abbrev pub FailsToLand : FramingImage → State → Port → List ℕ → ℕ → PlantFault → Type 0
+FailsToLand framing s port octets now f =
     (f ≡ NoMemory)
-    ⊎ ((fault : StepFault) × OctetsRefused (framing_of t port) s port octets now fault × (is_loss fault ≡ false) × (f ≡ Node fault))
+    ⊎ ((fault : StepFault) × OctetsRefused framing s port octets now fault × (is_loss fault ≡ false) × (f ≡ Node fault))

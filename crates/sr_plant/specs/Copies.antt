@@ -5,10 +5,11 @@ use Rattle.sr_frame.specs.declared.ports.Port.{Port}
 use Rattle.sr_forwarding.specs.Parcels.{ParcelImage}
 use Rattle.sr_plant_laws.specs.Ledger.{Hop}
 
--- a copy in flight: where it leads and the links that it is on, the outlet that put it out, and the parcel, whose octets are those that
--- the framing of this outlet writes
+-- a copy in flight: where it leads and the links that it is on, the node and the outlet that put it out, and the parcel, whose octets are
+-- those that the framing of this outlet writes
 pub record Copy : Type 0 where
   pub hop : Hop
+  pub from : ℕ
   pub outlet : Port
   pub parcel : ParcelImage
 

@@ -39,7 +39,7 @@ abbrev pub hop_of : Hop → Step
 hop_of h = record { to = record { node = h.node; port = h.port }; links = h.first ∷ option_to_list h.second }
 
 abbrev pub copy_in : Slab Kept → Flying → Copy
-copy_in kept f = record { hop = hop_of f.hop; outlet = f.outlet; parcel = parcel_of (get kept f.key) }
+copy_in kept f = record { hop = hop_of f.hop; from = f.from; outlet = f.outlet; parcel = parcel_of (get kept f.key) }
 
 -- the copies as they are
 abbrev pub copies_in : Slab Kept → List Flying → List Copy

@@ -1,5 +1,6 @@
 pub mod Limits
 pub mod Topologies
+pub mod PortFramings
 pub mod Copies
 pub mod Flights
 pub mod Puts

@@ -1,5 +1,5 @@
 -- A plant as data: nodes, and what is between them.
-use Rattle.std.specs.Prelude.{◌≡◌, ℕ, ◌<◌, ◌≤◌, Bool, List, length}
+use Rattle.std.specs.Prelude.{◌≡◌, ℕ, ◌<◌, ◌≤◌, Bool, List, length, Some, slice_get}
 use Rattle.sr_forwarding.specs.Parcels.{ParcelImage}
 use Rattle.sr_node.specs.Images.{State}
 use Rattle.sr_node.specs.Outboxes.{boxes_empty}
@@ -45,11 +45,15 @@ plant_of topology nodes traffic handed = record {
 abbrev pub IsEmptied : State → Type 0
 IsEmptied s = s.core.out ≡ boxes_empty
 
--- As a plant is between its events: it has 16 nodes at most, they are of the kind of its topology and nothing waits in them, each link and
+-- each node is of the kind that its topology has there
+abbrev pub AreKinds : Topology → List State → Type 0
+AreKinds t ns = (k : ℕ) (n : State) → slice_get ns k ≡ Some n → n.role.kind ≡ kind_of t k
+
+-- As a plant is between its events: it has 16 nodes at most, they are of the kinds of its topology and nothing waits in them, each link and
 -- each host has its place, and each copy in flight leads to a node.
 pub record IsInOrder (s : Plant) : Type 0 where
   pub size : length s.nodes ≤ most_nodes
-  pub kinds : Each (λ n. n.role.kind ≡ kind_of s.topology) s.nodes
+  pub kinds : AreKinds s.topology s.nodes
   pub emptied : Each IsEmptied s.nodes
   pub links : length s.cut ≡ link_count s.topology (length s.nodes)
   pub hosts : length s.handed ≡ length s.nodes

@@ -14,12 +14,13 @@ use Rattle.sr_plant.specs.declared.topology.Topology.TheVariants.{Ring, TwinLan}
 use Rattle.sr_plant.specs.Topologies.{net_of}
 use Rattle.sr_plant.specs.Copies.{Copy, is_stopped}
 
-abbrev pub copy_over : Port → ParcelImage → Hop → Copy
-copy_over o p h = record { hop = h; outlet = o; parcel = p }
+-- node k puts a parcel out at an outlet, over a hop
+abbrev pub copy_over : ℕ → Port → ParcelImage → Hop → Copy
+copy_over k o p h = record { hop = h; from = k; outlet = o; parcel = p }
 
 -- of n nodes, node k puts a parcel out at an outlet: a copy for each hop from there
 abbrev pub copies_put : Topology → ℕ → ℕ → Port → ParcelImage → List Copy
-copies_put t n k o p = map (copy_over o p) (net_of t n k o)
+copies_put t n k o p = map (copy_over k o p) (net_of t n k o)
 
 -- all that waits at an outlet, in its order
 abbrev pub all_put : Topology → ℕ → ℕ → Port → List ParcelImage → List Copy

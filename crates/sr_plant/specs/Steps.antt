@@ -65,24 +65,24 @@ pub record Comes (s : Plant) (place : ℕ) (c : Copy) (t : Plant) : Type 0 where
   pub before : State
   pub answer : Answer
   pub after : State
-  pub written : IsWritten (framing_of s.topology c.outlet) c.parcel.form c.parcel octets
+  pub written : IsWritten (framing_of s.topology c.from c.outlet) c.parcel.form c.parcel octets
   pub there : slice_get s.nodes c.hop.to.node ≡ Some before
-  pub taken : OctetsArrived (framing_of s.topology c.hop.to.port) before c.hop.to.port octets s.clock answer after
+  pub taken : OctetsArrived (framing_of s.topology c.hop.to.node c.hop.to.port) before c.hop.to.port octets s.clock answer after
   pub plant : t ≡ acted (without s place) c.hop.to.node after s.clock
 
 -- the receiver refuses it with this fault
 pub record IsRefused (s : Plant) (c : Copy) (fault : StepFault) : Type 0 where
   pub octets : List ℕ
   pub before : State
-  pub written : IsWritten (framing_of s.topology c.outlet) c.parcel.form c.parcel octets
+  pub written : IsWritten (framing_of s.topology c.from c.outlet) c.parcel.form c.parcel octets
   pub there : slice_get s.nodes c.hop.to.node ≡ Some before
-  pub refused : OctetsRefused (framing_of s.topology c.hop.to.port) before c.hop.to.port octets s.clock fault
+  pub refused : OctetsRefused (framing_of s.topology c.hop.to.node c.hop.to.port) before c.hop.to.port octets s.clock fault
 
 -- the copy is lost: its receiver refuses it, or its outlet has no octets for it
 abbrev pub IsLost : Plant → Copy → Type 0
 IsLost s c =
     ((fault : StepFault) × (is_loss fault ≡ true) × IsRefused s c fault)
-    ⊎ ((fault : ReadFault) × (write_fault (framing_of s.topology c.outlet) c.parcel ≡ Some fault))
+    ⊎ ((fault : ReadFault) × (write_fault (framing_of s.topology c.from c.outlet) c.parcel ≡ Some fault))
 
 -- the copy at a place is carried
 abbrev pub Carried : Plant → ℕ → Plant → Type 0

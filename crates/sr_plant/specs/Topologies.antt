@@ -1,9 +1,7 @@
 -- How the nodes of a plant are joined.
-use Rattle.std.specs.Prelude.{ℕ, ◌+◌}
+use Rattle.std.specs.Prelude.{ℕ, ◌+◌, Option, None, Some}
 use Rattle.sr_frame.specs.declared.ports.Port.{Port}
-use Rattle.sr_frame.specs.declared.ports.Port.TheVariants.{H, A, B, C}
-use Rattle.sr_prp_trailer.specs.declared.trailer.Lan.TheVariants as lan
-use Rattle.sr_forwarding.specs.Framings.{FramingImage, Tagged, Trailed, Ordinary}
+use Rattle.sr_forwarding.specs.Framings.{FramingImage, Ordinary, framing_at}
 use Rattle.sr_forwarding.specs.declared.role_image.RoleKind.{RoleKind}
 use Rattle.sr_forwarding.specs.declared.role_image.RoleKind.TheVariants.{Danp, Danh}
 use Rattle.sr_plant_laws.specs.Ledger.{Net}
@@ -23,18 +21,19 @@ abbrev pub link_count : Topology → ℕ → ℕ
 link_count Ring n = n
 link_count TwinLan n = n + n
 
--- the kind of the nodes: doubly attached nodes of an HSR ring (IEC 62439-3 clause 5), or of two LANs of a PRP network (clause 4)
-abbrev pub kind_of : Topology → RoleKind
-kind_of Ring = Danh
-kind_of TwinLan = Danp
+-- the kind of node k: a doubly attached node of an HSR ring (IEC 62439-3 clause 5), or of two LANs of a PRP network (clause 4)
+abbrev pub kind_of : Topology → ℕ → RoleKind
+kind_of Ring k = Danh
+kind_of TwinLan k = Danp
 
--- how frames are carried at a port: with a tag in a ring, whose path is that of the outlet's direction, and with a trailer in a LAN
-abbrev pub framing_of : Topology → Port → FramingImage
-framing_of Ring H = Ordinary
-framing_of Ring A = Tagged 0
-framing_of Ring B = Tagged 1
-framing_of Ring C = Ordinary
-framing_of TwinLan H = Ordinary
-framing_of TwinLan A = Trailed lan.A 0
-framing_of TwinLan B = Trailed lan.B 0
-framing_of TwinLan C = Ordinary
+abbrev pub or_ordinary : Option FramingImage → FramingImage
+or_ordinary None = Ordinary
+or_ordinary (Some f) = f
+
+-- how frames are carried at a port of a node of this kind: as ordinary ones where it has no such port
+abbrev pub carriage : RoleKind → Port → FramingImage
+carriage kind port = or_ordinary (framing_at kind port)
+
+-- how frames are carried at a port of node k
+abbrev pub framing_of : Topology → ℕ → Port → FramingImage
+framing_of t k port = carriage (kind_of t k) port

@@ -3,14 +3,14 @@
 ghost use Rattle.std.specs.Prelude.{◌≡◌, true, false, IfOk, IfErr, OnErr};
 ghost use Rattle.sr_node.specs.Octets.{OctetsArrived, OctetsRefused};
 ghost use Rattle.sr_plant.specs.Images.{state_of};
-ghost use Rattle.sr_plant.specs.Topologies.{framing_of};
+ghost use Rattle.sr_plant.specs.PortFramings.{framed};
 ghost use Rattle.sr_plant.specs.Plants.{IsEmptied};
 ghost use Rattle.sr_plant.specs.Steps.{is_loss};
 ghost use Rattle.sr_plant.specs.Flights.{hop_of};
 ghost use Rattle.sr_plant.specs.Carrying.{ComesAs, Lands, FailsToLand};
 
+use crate::flight::Flying;
 use crate::giving::take_out;
-use crate::hop::Hop;
 use crate::port_framing::PortFraming;
 use crate::{PlantFault, Topology};
 use sr_forwarding::{Framing, Parcel, ReadFault, Role};
@@ -32,21 +32,22 @@ impl Arriving {
     pub(crate) fn of(
         alloc: Global,
         topology: Topology,
-        hop: Hop,
-        outlet: Port,
+        flying: Flying,
         parcel: &Parcel,
     ) -> Result<Option<Arriving>, NoMemory>
         ensures { IfOk result (λ a. ComesAs topology
-            (record { hop = hop_of hop; outlet = outlet; parcel = parcel.now }) a) }
+            (record {
+              hop = hop_of flying.hop;
+              from = flying.from;
+              outlet = flying.outlet;
+              parcel = parcel.now;
+            }) a) }
     {
-        let framing = PortFraming {
-            topology,
-            port: outlet,
-        };
+        let framing = topology.framing_of(flying.from, flying.outlet);
         match framing.encode(alloc, parcel) {
             Ok(octets) => Ok(Some(Arriving {
-                node: hop.node,
-                port: hop.port,
+                node: flying.hop.node,
+                port: flying.hop.port,
                 octets,
             })),
             Err(ReadFault::NoMemory) => Err(NoMemory),
@@ -77,43 +78,43 @@ fn refused(fault: StepFault) -> Result<Landing, PlantFault>
 
 // Octets come in at a port of a node of the plant.
 fn arrive<R: Role>(
-    topology: Topology,
+    framing: PortFraming,
     node: &mut NodeOf<R>,
     port: Port,
     octets: &[u8],
     now: u64,
 ) -> Result<Answer, StepFault>
-    ensures ok { IfOk result (λ a. OctetsArrived (framing_of topology port)
+    ensures ok { IfOk result (λ a. OctetsArrived (framed framing)
         (state_of R.meaning node.old) port octets.now now a
         (state_of R.meaning node.new)) }
-    ensures err { IfErr result (λ f. OctetsRefused (framing_of topology port)
+    ensures err { IfErr result (λ f. OctetsRefused (framed framing)
         (state_of R.meaning node.old) port octets.now now f) }
     ensures same { OnErr result (state_of R.meaning node.new
         ≡ state_of R.meaning node.old) }
 {
-    node.arrive(&PortFraming { topology, port }, port, octets, now)
+    node.arrive(&framing, port, octets, now)
 }
 
 /// A copy comes to its receiver, what that has for its host goes up, and what came out at A and at B is answered. The
 /// growth comes first.
 pub(crate) fn arrive_out<R: Role>(
-    topology: Topology,
+    framing: PortFraming,
     node: &mut NodeOf<R>,
     up: &mut Vec<Parcel>,
     arriving: &Arriving,
     now: u64,
 ) -> Result<Landing, PlantFault>
     requires { IsEmptied (state_of R.meaning node.old) }
-    ensures ok { IfOk result (λ l. Lands topology (state_of R.meaning node.old)
+    ensures ok { IfOk result (λ l. Lands (framed framing) (state_of R.meaning node.old)
         arriving.now.port arriving.now.octets now l up.old.items up.new.items
         (state_of R.meaning node.new)) }
-    ensures err { IfErr result (λ f. FailsToLand topology (state_of R.meaning node.old)
+    ensures err { IfErr result (λ f. FailsToLand (framed framing) (state_of R.meaning node.old)
         arriving.now.port arriving.now.octets now f) }
     ensures same { OnErr result ((state_of R.meaning node.new
         ≡ state_of R.meaning node.old) × (up.new.items ≡ up.old.items)) }
 {
     up.reserve(1)?;
-    if let Err(fault) = arrive(topology, node, arriving.port, arriving.octets.octets(), now) {
+    if let Err(fault) = arrive(framing, node, arriving.port, arriving.octets.octets(), now) {
         return refused(fault);
     }
     let (a, b) = take_out(node, up);

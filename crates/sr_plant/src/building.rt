@@ -24,7 +24,7 @@ fn hosts(alloc: Global, count: usize) -> Result<Vec<Vec<Parcel>>, NoMemory>
 }
 
 impl<R: Role> PlantOf<R> {
-    /// A new plant of these nodes, 2 to 16, each with an address of its own, of the kind of the topology, and with no
+    /// A new plant of these nodes, 2 to 16, each with an address of its own, of its kind in the topology, and with no
     /// frame waiting. BadPlant exactly where they are not so. NoMemory: a growth was refused.
     pub fn new(
         alloc: Global,

@@ -29,9 +29,10 @@ impl<R: Role> PlantOf<R> {
         let nodes = self.nodes.len();
         self.traffic.reserve(nodes)?;
         let node = arriving.node;
+        let framing = self.topology.framing_of(node, arriving.port);
         let now = self.traffic.clock();
         let landing = arrive_out(
-            self.topology,
+            framing,
             &mut self.nodes[node],
             &mut self.handed[node],
             arriving,

@@ -22,11 +22,12 @@ use std::alloc::Global;
 use std::collections::VecDeque;
 use std::marker::Model;
 
-/// A copy in flight: where its parcel is kept, where it leads, and the outlet that put it out.
+/// A copy in flight: where its parcel is kept, where it leads, and the node and the outlet that put it out.
 #[derive(Clone, Copy)]
 pub(crate) struct Flying {
     pub(crate) key: usize,
     pub(crate) hop: Hop,
+    pub(crate) from: usize,
     pub(crate) outlet: Port,
 }
 
@@ -185,7 +186,7 @@ impl Flight {
     {
         let flying = self.places[place];
         match self.kept.get(flying.key) {
-            Some(entry) => Arriving::of(alloc, topology, flying.hop, flying.outlet, &entry.parcel),
+            Some(entry) => Arriving::of(alloc, topology, flying, &entry.parcel),
             None => Ok(None),
         }
     }

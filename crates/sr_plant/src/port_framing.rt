@@ -1,57 +1,80 @@
 //! How the ports of a plant's nodes carry frames.
 
-use crate::Topology;
-use sr_forwarding::{Framing, HsrFraming, ParcelView, PlainFraming, PrpFraming, ReadFault};
+ghost use Rattle.std.specs.Prelude.{◌≡◌, ◌≤◌, ◌<◌};
+ghost use Rattle.sr_forwarding.specs.Limits.{greatest_net};
+ghost use Rattle.sr_forwarding.specs.Framings.{Tagged, Trailed};
+ghost use Rattle.sr_plant.specs.PortFramings.{framed, network_of};
+ghost use Rattle.sr_plant.specs.Topologies.{carriage};
+
+use sr_forwarding::{
+    Framing, HsrFraming, ParcelView, PlainFraming, PrpFraming, ReadFault, RoleKind,
+};
 use sr_frame::Port;
 use sr_prp_trailer::Lan;
 
-/// A ring, at A.
-const RING_A: HsrFraming = HsrFraming { path: 0 };
-
-/// A ring, at B.
-const RING_B: HsrFraming = HsrFraming { path: 1 };
-
-/// LAN A of a PRP network, at a node of that network.
-const LAN_A: PrpFraming = PrpFraming {
-    lan: Lan::A,
-    net: 0,
-};
-
-/// LAN B.
-const LAN_B: PrpFraming = PrpFraming {
-    lan: Lan::B,
-    net: 0,
-};
-
-/// How a port of a node carries frames, in a plant of this topology.
+/// How a port of a node carries frames.
 #[derive(Clone, Copy)]
-pub(crate) struct PortFraming {
-    pub(crate) topology: Topology,
-    pub(crate) port: Port,
+pub(crate) enum PortFraming {
+    /// As ordinary ones.
+    Plain(PlainFraming),
+    /// With the tag of a ring.
+    Tag(HsrFraming),
+    /// With the trailer of a LAN.
+    Trailer(PrpFraming),
 }
 
 impl Framing for PortFraming {
-    ghost use Rattle.sr_plant.specs.Topologies.{framing_of};
+    ghost use Rattle.sr_plant.specs.PortFramings.{framed};
 
-    ghost meaning = { λ f. framing_of f.topology f.port };
+    ghost meaning = { framed };
 
     fn read<'a>(&self, octets: &'a [u8]) -> Result<ParcelView<'a>, ReadFault> {
-        match (self.topology, self.port) {
-            (Topology::Ring, Port::A) => RING_A.read(octets),
-            (Topology::Ring, Port::B) => RING_B.read(octets),
-            (Topology::TwinLan, Port::A) => LAN_A.read(octets),
-            (Topology::TwinLan, Port::B) => LAN_B.read(octets),
-            (_, Port::H | Port::C) => PlainFraming.read(octets),
+        match self {
+            PortFraming::Plain(framing) => framing.read(octets),
+            PortFraming::Tag(framing) => framing.read(octets),
+            PortFraming::Trailer(framing) => framing.read(octets),
         }
     }
 
     fn write(&self, out: &mut Vec<u8>, parcel: &ParcelView<'_>) -> Result<(), ReadFault> {
-        match (self.topology, self.port) {
-            (Topology::Ring, Port::A) => RING_A.write(out, parcel),
-            (Topology::Ring, Port::B) => RING_B.write(out, parcel),
-            (Topology::TwinLan, Port::A) => LAN_A.write(out, parcel),
-            (Topology::TwinLan, Port::B) => LAN_B.write(out, parcel),
-            (_, Port::H | Port::C) => PlainFraming.write(out, parcel),
+        match self {
+            PortFraming::Plain(framing) => framing.write(out, parcel),
+            PortFraming::Tag(framing) => framing.write(out, parcel),
+            PortFraming::Trailer(framing) => framing.write(out, parcel),
+        }
+    }
+}
+
+// A port of a ring, by the path of what it writes anew.
+fn tag(path: u8) -> PortFraming
+    requires { path < 16 }
+    ensures { framed result ≡ Tagged path }
+{
+    PortFraming::Tag(HsrFraming { path })
+}
+
+// A port of a LAN of the network of this number, which is 0 at a node of the network.
+fn trailer(lan: Lan, net: u8) -> PortFraming
+    requires { net ≤ 6 }
+    ensures { framed result ≡ Trailed lan net }
+{
+    PortFraming::Trailer(PrpFraming { lan, net })
+}
+
+impl PortFraming {
+    /// The framing of a port of a node of this kind.
+    pub(crate) fn of(kind: RoleKind, port: Port) -> PortFraming
+        requires { network_of kind ≤ greatest_net }
+        ensures { framed result ≡ carriage kind port }
+    {
+        match (kind, port) {
+            (RoleKind::Danp, Port::A) => trailer(Lan::A, 0),
+            (RoleKind::Danp, Port::B) => trailer(Lan::B, 0),
+            (_, Port::A) => tag(0),
+            (_, Port::B) => tag(1),
+            (RoleKind::Prp { lan, net }, Port::C) => trailer(lan, net),
+            (RoleKind::Hsr, Port::C) => tag(0),
+            (_, Port::C | Port::H) => PortFraming::Plain(PlainFraming),
         }
     }
 }

@@ -32,7 +32,8 @@ fn put_copy(
     ensures counted { AreCounted kept.new places.new.items }
     ensures used { AreUsedBut key kept.new }
     ensures copies { copies_in kept.new places.new.items ≡ copies_in kept.old places.old.items
-        ++ those_passing cut.now (map (copy_over outlet.port (parcel_of (get kept.old key)))
+        ++ those_passing cut.now
+        (map (copy_over outlet.node outlet.port (parcel_of (get kept.old key)))
         (option_to_list (hop_to outlet.topology outlet.nodes outlet.node outlet.port to))) }
     ensures there { IsSome (get kept.new key) }
     ensures parcel { parcel_of (get kept.new key) ≡ parcel_of (get kept.old key) }
@@ -47,8 +48,13 @@ fn put_copy(
     if hop.is_stopped(cut) {
         return;
     }
-    let outlet = outlet.port;
-    attach(kept, places, Flying { key, hop, outlet });
+    let flying = Flying {
+        key,
+        hop,
+        from: outlet.node,
+        outlet: outlet.port,
+    };
+    attach(kept, places, flying);
 }
 
 /// The copies of a parcel that is kept: one for each node to which the outlet leads over no link that is cut.

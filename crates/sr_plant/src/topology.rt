@@ -1,11 +1,14 @@
 //! How the nodes of a plant are joined.
 
 ghost use Rattle.std.specs.Prelude.{◌≡◌, ◌≤◌};
-ghost use Rattle.sr_plant.specs.Topologies.{link_count};
-ghost use Rattle.sr_plant.specs.Building.{is_kind_of};
+ghost use Rattle.sr_forwarding.specs.Limits.{greatest_net};
+ghost use Rattle.sr_plant.specs.PortFramings.{framed, network_of};
+ghost use Rattle.sr_plant.specs.Topologies.{link_count, kind_of, framing_of};
 ghost use Rattle.sr_plant.specs.Limits.{most_nodes};
 
+use crate::port_framing::PortFraming;
 use sr_forwarding::RoleKind;
+use sr_frame::Port;
 
 /// How the nodes of a plant are joined.
 #[derive(Clone, Copy, Debug, PartialEq, Eq)]
@@ -19,14 +22,22 @@ pub enum Topology {
 }
 
 impl Topology {
-    /// Whether nodes of this kind are joined so.
-    pub(crate) fn is_kind(self, kind: RoleKind) -> bool
-        ensures { result ≡ is_kind_of self kind }
+    /// The kind of a node.
+    pub fn kind_of(self, _node: usize) -> RoleKind
+        ensures kind { result ≡ kind_of self _node }
+        ensures net { network_of result ≤ greatest_net }
     {
-        match (self, kind) {
-            (Topology::Ring, RoleKind::Danh) | (Topology::TwinLan, RoleKind::Danp) => true,
-            _ => false,
+        match self {
+            Topology::Ring => RoleKind::Danh,
+            Topology::TwinLan => RoleKind::Danp,
         }
+    }
+
+    /// How a port of a node carries frames.
+    pub(crate) fn framing_of(self, node: usize, port: Port) -> PortFraming
+        ensures { framed result ≡ framing_of self node port }
+    {
+        PortFraming::of(self.kind_of(node), port)
     }
 
     /// How many links join so many nodes.

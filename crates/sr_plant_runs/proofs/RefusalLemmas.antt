@@ -14,6 +14,7 @@ use Rattle.sr_forwarding.specs.declared.fault.ReadFault.TheVariants as read
 use Rattle.sr_forwarding.specs.declared.form.Form.{Form}
 use Rattle.sr_forwarding.specs.declared.form.Form.TheVariants as form
 use Rattle.sr_forwarding.specs.declared.outlets.Outlets.{Outlets}
+use Rattle.sr_forwarding.specs.declared.role_image.RoleKind.{RoleKind}
 use Rattle.sr_forwarding.specs.declared.role_image.RoleKind.TheVariants as kind
 use Rattle.sr_forwarding.specs.Decoding.{IsRead, IsUnread}
 use Rattle.sr_forwarding.specs.Encoding.{IsWritten, write_fault}
@@ -52,23 +53,23 @@ use Rattle.sr_plant_runs.proofs.TableLemmas.{table_at, table_got, lanes_of}
 use Rattle.sr_plant_runs.proofs.ZipLemmas.{zip_at}
 
 -- what is read at a side has a number where it needs one
-tagged_enough : (t : Topology) (s : State) (port : Port) (octets : List ℕ) (q : ParcelImage) → s.role.kind ≡ kind_of t → is_side port ≡ true → IsRead (framing_of t port) octets q → is_untagged s.role.kind port q.form ≡ false
-tagged_enough Ring s A octets q fits side is = ap (λ (x : ParcelImage). is_untagged s.role.kind A x.form) is.parcel
-tagged_enough Ring s B octets q fits side is = ap (λ (x : ParcelImage). is_untagged s.role.kind B x.form) is.parcel
-tagged_enough TwinLan s A octets q fits side is = ap (λ k. is_untagged k A q.form) fits ∙ by q.form
+tagged_enough : (t : Topology) (k : ℕ) (s : State) (port : Port) (octets : List ℕ) (q : ParcelImage) → s.role.kind ≡ kind_of t k → is_side port ≡ true → IsRead (framing_of t k port) octets q → is_untagged s.role.kind port q.form ≡ false
+tagged_enough Ring k s A octets q fits side is = ap (λ (x : ParcelImage). is_untagged s.role.kind A x.form) is.parcel
+tagged_enough Ring k s B octets q fits side is = ap (λ (x : ParcelImage). is_untagged s.role.kind B x.form) is.parcel
+tagged_enough TwinLan k s A octets q fits side is = ap (λ (x : RoleKind). is_untagged x A q.form) fits ∙ by q.form
   where
     by : (f : Form) → is_untagged kind.Danp A f ≡ false
     by form.Plain = refl
     by form.Hsr = refl
     by form.Prp = refl
-tagged_enough TwinLan s B octets q fits side is = ap (λ k. is_untagged k B q.form) fits ∙ by q.form
+tagged_enough TwinLan k s B octets q fits side is = ap (λ (x : RoleKind). is_untagged x B q.form) fits ∙ by q.form
   where
     by : (f : Form) → is_untagged kind.Danp B f ≡ false
     by form.Plain = refl
     by form.Hsr = refl
     by form.Prp = refl
-tagged_enough t s H octets q fits side is = absurd cc
-tagged_enough t s C octets q fits side is = absurd cc
+tagged_enough t k s H octets q fits side is = absurd cc
+tagged_enough t k s C octets q fits side is = absurd cc
 
 -- the table of the node always answers
 abbrev Answers : ℕ → Sources → Type 0
@@ -114,8 +115,8 @@ takes_all s port q now side tagged all = ap (λ f. is_loss (or_no_memory f)) (af
 small_enough : (t : Topology) (starts : List Start) → is_plant t (map begun_as starts) ≡ true → length starts ≤ 16
 small_enough t starts is =
     let ns = map begun_as starts in
-    let a = and_parts (nat_le fewest_nodes (length ns) && nat_le (length ns) most_nodes && are_fit t ns) (are_apart ns) is in
-    let b = and_parts (nat_le fewest_nodes (length ns) && nat_le (length ns) most_nodes) (are_fit t ns) a.0 in
+    let a = and_parts (nat_le fewest_nodes (length ns) && nat_le (length ns) most_nodes && are_fit t 0 ns) (are_apart ns) is in
+    let b = and_parts (nat_le fewest_nodes (length ns) && nat_le (length ns) most_nodes) (are_fit t 0 ns) a.0 in
     let c = and_parts (nat_le fewest_nodes (length ns)) (nat_le (length ns) most_nodes) b.0 in
     let d : length ns ≤ 16 = (let e = c.1 in grind (arith, nat_tests, e)) in
     let same = length-map starts begun_as in
@@ -124,7 +125,7 @@ small_enough t starts is =
 pub never_lost : (t : Topology) (starts : List Start) (turns : List Turn) (s : Plant) (run : PlantRun t starts turns s) → HaveOwnAddresses starts → (place : ℕ) (c : Copy) → slice_get s.flight place ≡ Some c → IsLost s c → ⊥
 never_lost t starts turns s run own place c at lost = elim lost [
   | inl refused ↦ absurd (by_node refused.0 refused.1 refused.2)
-  | inr unwritten ↦ absurd (fly.arrives.goes unwritten.0 (subst (λ x. write_fault (framing_of x c.outlet) c.parcel ≡ Some unwritten.0) told.like.topology unwritten.1))
+  | inr unwritten ↦ absurd (fly.arrives.goes unwritten.0 (subst (λ x. write_fault (framing_of x c.from c.outlet) c.parcel ≡ Some unwritten.0) told.like.topology unwritten.1))
 ]
   where
     told : RunTold t starts turns s run
@@ -135,9 +136,9 @@ never_lost t starts turns s run own place c at lost = elim lost [
 
     by_node : (fault : StepFault) → is_loss fault ≡ true → IsRefused s c fault → ⊥
     by_node fault loss r = elim r.refused [
-      | inl unread ↦ absurd (fly.arrives.comes r.octets unread.0 (subst (λ x. IsWritten (framing_of x c.outlet) c.parcel.form c.parcel r.octets) told.like.topology r.written) (subst (λ x. IsUnread (framing_of x c.hop.to.port) r.octets unread.0) told.like.topology unread.1))
+      | inl unread ↦ absurd (fly.arrives.comes r.octets unread.0 (subst (λ x. IsWritten (framing_of x c.from c.outlet) c.parcel.form c.parcel r.octets) told.like.topology r.written) (subst (λ x. IsUnread (framing_of x c.hop.to.node c.hop.to.port) r.octets unread.0) told.like.topology unread.1))
       | inr not_taken ↦ absurd (true≢false (sym loss ∙ ap is_loss not_taken.2 ∙ takes_all r.before c.hop.to.port not_taken.0 (time_at r.before s.clock) fly.port
-          (tagged_enough t r.before c.hop.to.port r.octets not_taken.0 was.kind fly.port (subst (λ x. IsRead (framing_of x c.hop.to.port) r.octets not_taken.0) told.like.topology not_taken.1)) all))
+          (tagged_enough t c.hop.to.node r.before c.hop.to.port r.octets not_taken.0 was.kind fly.port (subst (λ x. IsRead (framing_of x c.hop.to.node c.hop.to.port) r.octets not_taken.0) told.like.topology not_taken.1)) all))
     ]
       where
         was : IsNode t starts s.clock (done_in told.history) c.hop.to.node r.before

@@ -113,7 +113,7 @@ sends x m w = record {
 
 -- a copy in a LAN
 abbrev copy : Port → ℕ → Copy
-copy o link = record { hop = record { to = record { node = 1; port = o }; links = link ∷ suc link ∷ [] }; outlet = o; parcel = plain_parcel greeting (Some number) }
+copy o link = record { hop = record { to = record { node = 1; port = o }; links = link ∷ suc link ∷ [] }; from = 0; outlet = o; parcel = plain_parcel greeting (Some number) }
 
 -- the receiver before, after the first copy, and after the second
 abbrev receiver : Mode → Width → State
@@ -126,14 +126,14 @@ abbrev half_carried : Settings → Mode → Width → Plant
 half_carried x m w = acted (without (sent_plant x m w) 0) 1 (with_first m w) 0
 
 -- what it answers to both
-first_taken : (m : Mode) (w : Width) → OctetsArrived (framing_of TwinLan A) (receiver m w) A (carried lan.A) 0 (answer.Passed (to (H ∷ []))) (with_first m w)
+first_taken : (m : Mode) (w : Width) → OctetsArrived (framing_of TwinLan 1 A) (receiver m w) A (carried lan.A) 0 (answer.Passed (to (H ∷ []))) (with_first m w)
 first_taken mode.H w = (parcel_in lan.A, inl (read lan.A), refl, (refl, (None, says_nothing, refl, refl)))
 first_taken mode.X w = (parcel_in lan.A, inl (read lan.A), refl, (refl, (None, says_nothing, refl, refl)))
 
 abbrev with_both : Mode → Width → State
 with_both m w = passed (emptied (with_first m w)) B (going_on (emptied (with_first m w)) B (parcel_in lan.B)) (receiver m w).core.next 0 (to []) None
 
-second_taken : (m : Mode) (w : Width) → OctetsArrived (framing_of TwinLan B) (emptied (with_first m w)) B (carried lan.B) 0 (answer.Passed (to [])) (with_both m w)
+second_taken : (m : Mode) (w : Width) → OctetsArrived (framing_of TwinLan 1 B) (emptied (with_first m w)) B (carried lan.B) 0 (answer.Passed (to [])) (with_both m w)
 unfolding no_marks
 second_taken mode.H width.Narrow = (parcel_in lan.B, inl (read lan.B), refl, (refl, (None, says_nothing, refl, refl)))
 second_taken mode.H width.Wide = (parcel_in lan.B, inl (read lan.B), refl, (refl, (None, says_nothing, refl, refl)))

@@ -6,10 +6,11 @@ use Rattle.std.proofs.lemmas.Bool.{and_parts, cases_lt}
 use Rattle.std.proofs.lemmas.Bool.Decides.{nat_tests}
 use Rattle.sr_plant.specs.declared.topology.Topology.{Topology}
 use Rattle.sr_plant.specs.declared.topology.Topology.TheVariants.{Ring, TwinLan}
+use Rattle.sr_plant.specs.Topologies.{kind_of}
 use Rattle.sr_plant.specs.Building.{is_plant}
 use Rattle.sr_node.specs.declared.mode.Settings.{Settings}
 use Rattle.sr_node.specs.Images.{State}
-use Rattle.sr_plant_script.specs.Members.{new_node, new_nodes}
+use Rattle.sr_plant_script.specs.Members.{IsMemberKind, new_node, new_nodes}
 
 -- so many nodes make a plant, or are fewer than two
 abbrev is_made : Topology → Settings → ℕ → Bool
@@ -37,6 +38,11 @@ two_or_more n b h e = grind (arith, nat_tests)
 
 pub makes_plant : (t : Topology) (x : Settings) (n : ℕ) → 2 ≤ n → n ≤ 16 → is_plant t (new_nodes t x n) ≡ true
 makes_plant t x n least most = two_or_more n (is_plant t (new_nodes t x n)) least (made_below t x 17 n (all_made t x) (omega arith))
+
+-- its nodes are of kinds that a plant has
+pub are_members : (t : Topology) (k : ℕ) → IsMemberKind (kind_of t k)
+are_members Ring k = tt
+are_members TwinLan k = tt
 
 -- one node more
 pub nodes_more : {N : Type 0} (ns : List N) (f : N → State) (t : Topology) (x : Settings) (n : ℕ) (m : N) → map f ns ≡ new_nodes t x n → f m ≡ new_node t x n

@@ -1,16 +1,23 @@
 //! The nodes of a script's plant.
 
 ghost use Rattle.std.specs.Prelude.{◌≡◌, ◌<◌};
-ghost use Rattle.sr_plant_script.specs.Members.{mac_of};
+ghost use Rattle.sr_plant_script.specs.Members.{mac_of, routed_as, IsMemberKind};
 
 use sr_forwarding::{DanhRouting, DanpRouting, Header, Outlets, OwnRole, Port, RoleKind, Routing};
 use sr_frame::Mac;
-use sr_plant::Topology;
+use sr_redbox::{HsrRouting, PrpRouting};
 
-/// Where frames go at a node of a plant: as at a doubly attached node of what the plant is.
+/// Where frames go at a node of a plant.
 #[derive(Clone, Copy, Drop)]
-pub(crate) struct MemberRouting {
-    pub(crate) topology: Topology,
+pub(crate) enum MemberRouting {
+    /// A doubly attached node of a PRP network (IEC 62439-3 clause 4).
+    Danp,
+    /// A doubly attached node of an HSR ring (IEC 62439-3 clause 5).
+    Danh,
+    /// A RedBox between a ring and this LAN of this PRP network.
+    Prp(PrpRouting),
+    /// A RedBox between two rings.
+    Hsr,
 }
 
 /// The role of a node of a plant.
@@ -18,25 +25,48 @@ pub(crate) type Member = OwnRole<MemberRouting>;
 
 impl Routing for MemberRouting {
     ghost use Rattle.sr_forwarding.specs.OwnRoles.{StandsAlone};
-    ghost use Rattle.sr_plant.specs.Topologies.{kind_of};
-    ghost use Rattle.sr_plant.specs.declared.topology.Topology.TheVariants.{Ring, TwinLan};
+    ghost use Rattle.sr_plant_script.specs.Members.{routed_as};
+    ghost use Rattle.sr_plant_script.specs.declared.members.MemberRouting.TheVariants as member;
 
-    ghost routed = { λ r. kind_of r.topology };
+    ghost routed = { routed_as };
 
-    ghost alone = { λ r.
-        elim r.topology as (λ t. StandsAlone (kind_of t)) [ Ring ↦ tt | TwinLan ↦ tt ] };
+    ghost alone = { λ r. elim r as (λ m. StandsAlone (routed_as m))
+        [ member.Danp ↦ tt | member.Danh ↦ tt | member.Prp p ↦ tt | member.Hsr ↦ tt ] };
 
     fn kind(&self) -> RoleKind {
-        match self.topology {
-            Topology::Ring => RoleKind::Danh,
-            Topology::TwinLan => RoleKind::Danp,
+        match self {
+            MemberRouting::Danp => RoleKind::Danp,
+            MemberRouting::Danh => RoleKind::Danh,
+            MemberRouting::Prp(routing) => RoleKind::Prp {
+                lan: routing.lan,
+                net: routing.net,
+            },
+            MemberRouting::Hsr => RoleKind::Hsr,
         }
     }
 
     fn outlets(&self, mac: Mac, header: &Header, inlet: Port) -> Outlets {
-        match self.topology {
-            Topology::Ring => DanhRouting.outlets(mac, header, inlet),
-            Topology::TwinLan => DanpRouting.outlets(mac, header, inlet),
+        match self {
+            MemberRouting::Danp => DanpRouting.outlets(mac, header, inlet),
+            MemberRouting::Danh => DanhRouting.outlets(mac, header, inlet),
+            MemberRouting::Prp(routing) => routing.outlets(mac, header, inlet),
+            MemberRouting::Hsr => HsrRouting.outlets(mac, header, inlet),
+        }
+    }
+}
+
+impl MemberRouting {
+    /// Where frames go at a node of this kind.
+    pub(crate) fn of(kind: RoleKind) -> MemberRouting
+        requires { IsMemberKind kind }
+        ensures { routed_as result ≡ kind }
+    {
+        match kind {
+            RoleKind::Danp => MemberRouting::Danp,
+            RoleKind::Danh => MemberRouting::Danh,
+            RoleKind::San => unreachable!(),
+            RoleKind::Prp { lan, net } => MemberRouting::Prp(PrpRouting { lan, net }),
+            RoleKind::Hsr => MemberRouting::Hsr,
         }
     }
 }

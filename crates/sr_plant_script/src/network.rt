@@ -4,10 +4,9 @@ ghost use Rattle.std.specs.Prelude.{◌≡◌, ◌≤◌, ◌<◌, ℕ, map, len
 ghost use Rattle.sr_node.specs.Images.{node_state};
 ghost use Rattle.sr_forwarding.specs.RoleImages.{role_of};
 ghost use Rattle.sr_plant.specs.Limits.{most_nodes};
-ghost use Rattle.sr_plant.specs.Topologies.{kind_of};
 ghost use Rattle.sr_plant.specs.Plants.{Plant};
 ghost use Rattle.sr_plant.specs.Steps.{PlantStep, PlantRefuses, plant_refusal};
-ghost use Rattle.sr_plant_script.specs.Members.{new_nodes, start_of};
+ghost use Rattle.sr_plant_script.specs.Members.{new_nodes, routed_as, start_of};
 ghost use Rattle.sr_plant_script.specs.Happenings.{taken_up};
 
 use crate::members::{Member, MemberRouting, mac_of};
@@ -29,18 +28,18 @@ impl Model for Network {
     ghost use Rattle.std.specs.Prelude.{map};
     ghost use Rattle.sr_node.specs.Images.{node_state};
     ghost use Rattle.sr_forwarding.specs.RoleImages.{role_of};
-    ghost use Rattle.sr_plant.specs.Topologies.{kind_of};
+    ghost use Rattle.sr_plant_script.specs.Members.{routed_as};
     ghost use Rattle.sr_plant.specs.Plants.{Plant, plant_of, IsInOrder};
 
     ghost Value = { Plant };
 
     ghost view = { λ n. plant_of n.plant.topology
-        (map (λ m. node_state (role_of (kind_of m.role.routing.topology) m.role.mac) m.core)
+        (map (λ m. node_state (role_of (routed_as m.role.routing) m.role.mac) m.core)
         n.plant.nodes.items)
         n.plant.traffic (map (λ h. h.items) n.plant.handed.items) };
 
     ghost invariant = { λ n. IsInOrder (plant_of n.plant.topology
-        (map (λ m. node_state (role_of (kind_of m.role.routing.topology) m.role.mac) m.core)
+        (map (λ m. node_state (role_of (routed_as m.role.routing) m.role.mac) m.core)
         n.plant.nodes.items)
         n.plant.traffic (map (λ h. h.items) n.plant.handed.items)) };
 }
@@ -54,12 +53,13 @@ fn new_nodes(
 ) -> Result<Vec<NodeOf<Member>>, NoMemory>
     requires { count ≤ most_nodes }
     ensures { IfOk result (λ ns.
-        map (λ m. node_state (role_of (kind_of m.role.routing.topology) m.role.mac) m.core) ns.items
+        map (λ m. node_state (role_of (routed_as m.role.routing) m.role.mac) m.core) ns.items
         ≡ new_nodes topology settings count) }
 {
     let mut nodes = Vec::with_capacity(alloc, count)?;
     for number in 0..count {
-        let role = OwnRole::of(mac_of(number), MemberRouting { topology });
+        let routing = MemberRouting::of(topology.kind_of(number));
+        let role = OwnRole::of(mac_of(number), routing);
         nodes.push_reserved(NodeOf::with(alloc, role, settings)?);
     }
     Ok(nodes)

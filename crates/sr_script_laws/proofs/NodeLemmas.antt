@@ -5,21 +5,19 @@ use Rattle.std.proofs.lemmas.List.{append-nil, append_assoc}
 use Rattle.sr_frame.specs.declared.ports.Port.{Port}
 use Rattle.sr_frame.specs.declared.ports.Port.TheVariants.{H, A, B, C}
 use Rattle.sr_forwarding.specs.Parcels.{ParcelImage}
-use Rattle.sr_node.specs.declared.event.Event.{Event}
 use Rattle.sr_node.specs.declared.event.Event.TheVariants as event
 use Rattle.sr_node.specs.Images.{State}
 use Rattle.sr_node.specs.Outboxes.{box_at}
 use Rattle.sr_node.specs.Starts.{Start}
-use Rattle.sr_node_runs.specs.NodeRuns.{Turn, happened, Run}
+use Rattle.sr_node_runs.specs.NodeRuns.{Turn, Run}
 use Rattle.sr_node_runs.specs.Origins.{new}
-use Rattle.sr_node_runs.specs.Brought.{is_at, parcels_of, taken, went}
+use Rattle.sr_node_runs.specs.Brought.{is_at, taken}
 use Rattle.sr_node_runs.specs.Emptying.{takes_all, EmptiesOutlets, TakesWhatWaits}
 use Rattle.sr_node_runs.specs.NodeLaws.{EachOnce}
 use Rattle.sr_session.specs.Runs.{Replies}
 use Rattle.sr_script.specs.declared.reading.Command.{Command}
 use Rattle.sr_script.specs.declared.reading.Command.TheVariants.{Skip, Arrive, Send, Tick}
 use Rattle.sr_script.specs.declared.setups.RoleName.{RoleName}
-use Rattle.sr_script.specs.declared.setups.Setup.{Setup}
 use Rattle.sr_script.specs.Replies.{emptied, Emptied, AllEmptied, ArrivesSo, StepsSo, Obeys, Replied, replay_dialogue}
 use Rattle.sr_script.specs.Stations.{Station, start_of}
 use Rattle.sr_script.specs.Texts.{refusal_line}

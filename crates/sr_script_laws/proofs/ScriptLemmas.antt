@@ -20,7 +20,7 @@ use Rattle.sr_plant_script.specs.declared.command.Command.{Command}
 use Rattle.sr_plant_script.specs.declared.command.Command.TheVariants.{Skip, Send, On, Tick, Flow}
 use Rattle.sr_plant_script.specs.declared.command.Receiver.{Receiver}
 use Rattle.sr_plant_script.specs.declared.setup.PlantSetup.{PlantSetup}
-use Rattle.sr_plant_script.specs.Happenings.{event_on, IsTaken, IsTold, IsOver, Happens, Carries, Flows}
+use Rattle.sr_plant_script.specs.Happenings.{event_on, IsTaken, IsOver, Happens, Carries, Flows}
 use Rattle.sr_plant_script.specs.Members.{mac_of, new_node, new_nodes, start_of}
 use Rattle.sr_plant_script.specs.Replies.{Sends, Obeys, Replied, plant_dialogue}
 use Rattle.sr_plant_script.specs.Sendings.{sent_octets, send_refusal}
@@ -181,7 +181,7 @@ lines_on t starts w s number (line ∷ lines) text u run at (front, v, last, pla
 begun_nodes : (t : Topology) (x : Settings) (n : ℕ) → map begun_as (starts_below t x n) ≡ new_nodes t x n
 begun_nodes t x zero = refl
 begun_nodes t x (suc n) =
-    map-append begun_as (starts_below t x n) (record { role = role_of (kind_of t) (mac_of n); settings = x } ∷ [])
+    map-append begun_as (starts_below t x n) (record { role = role_of (kind_of t n) (mac_of n); settings = x } ∷ [])
     ∙ ap (λ (l : List State). l ++ new_node t x n ∷ []) (begun_nodes t x n)
 
 abbrev where_it_begins : PlantSetup → Where

@@ -29,7 +29,7 @@ use Rattle.sr_plant_script.specs.Texts.{all_up_lines}
 abbrev pub starts_below : Topology → Settings → ℕ → List Start
 starts_below t settings zero = []
 starts_below t settings (suc n) =
-    starts_below t settings n ++ record { role = role_of (kind_of t) (mac_of n); settings = settings } ∷ []
+    starts_below t settings n ++ record { role = role_of (kind_of t n) (mac_of n); settings = settings } ∷ []
 
 abbrev pub starts_of : PlantSetup → List Start
 starts_of setup = starts_below setup.topology setup.settings setup.nodes

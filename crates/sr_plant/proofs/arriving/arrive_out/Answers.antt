@@ -1,26 +1,26 @@
 use Rattle.std.proofs.Common.{ℕ, List, subst}
 use Rattle.sr_node.specs.Images.{node_state, time_at}
 use Rattle.sr_node.specs.Octets.{OctetsRefused}
-use Rattle.sr_plant.specs.Topologies.{framing_of}
+use Rattle.sr_plant.specs.PortFramings.{framed}
 use Rattle.sr_plant.proofs.GivenLemmas.{arrived_few}
 use Rattle.sr_plant.proofs.LandLemmas.{fails, loses}
 use Rattle.sr_plant.proofs.arriving.arrive_out.Goals as goal
 
 pub returns-in-Err-clause-err : goal.returns-in-Err-clause-err
 returns-in-Err-clause-err g c =
-    let t = c.args.topology in
+    let framing = framed c.args.framing in
     let s = node_state (g.R.Role.meaning c.args.node.now.role) c.args.node.now.core in
     let a = c.args.arriving.now in
-    let refused = subst (λ (octets : List ℕ). OctetsRefused (framing_of t a.port) s a.port octets c.args.now c.in-Err.fault) c.octets.ensures.whole c.in-Err.ensures.err in
-    fails t s a.port a.octets c.args.now c.in-Err.fault c.refused.result refused c.refused.ensures.err
+    let refused = subst (λ (octets : List ℕ). OctetsRefused framing s a.port octets c.args.now c.in-Err.fault) c.octets.ensures.whole c.in-Err.ensures.err in
+    fails framing s a.port a.octets c.args.now c.in-Err.fault c.refused.result refused c.refused.ensures.err
 
 pub returns-in-Err-clause-ok : goal.returns-in-Err-clause-ok
 returns-in-Err-clause-ok g c =
-    let t = c.args.topology in
+    let framing = framed c.args.framing in
     let s = node_state (g.R.Role.meaning c.args.node.now.role) c.args.node.now.core in
     let a = c.args.arriving.now in
-    let refused = subst (λ (octets : List ℕ). OctetsRefused (framing_of t a.port) s a.port octets c.args.now c.in-Err.fault) c.octets.ensures.whole c.in-Err.ensures.err in
-    loses t s a.port a.octets c.args.now c.in-Err.fault c.refused.result _ _ _ refused c.in-Err.ensures.same c.in_ok-reserve.ensures.items c.refused.ensures.ok
+    let refused = subst (λ (octets : List ℕ). OctetsRefused framing s a.port octets c.args.now c.in-Err.fault) c.octets.ensures.whole c.in-Err.ensures.err in
+    loses framing s a.port a.octets c.args.now c.in-Err.fault c.refused.result _ _ _ refused c.in-Err.ensures.same c.in_ok-reserve.ensures.items c.refused.ensures.ok
 
 pub take_out-a-requires-clause-few : goal.take_out-a-requires-clause-few
 take_out-a-requires-clause-few g c =

@@ -4,7 +4,7 @@ use Rattle.sr_plant.specs.Building.{are_fit}
 use Rattle.sr_plant.proofs.fitness.are_fit.Given as goal
 
 -- what is left to look at says whether all are
-abbrev pub invariant-loop-node : goal.invariant-loop-node
-invariant-loop-node g l =
-    are_fit l.topology (map (λ n. node_state (g.R.Role.meaning n.role) n.core) l.nodes)
-    ≡ are_fit l.topology (drop l.node-index (map (λ n. node_state (g.R.Role.meaning n.role) n.core) l.nodes))
+abbrev pub invariant-loop-place : goal.invariant-loop-place
+invariant-loop-place g l =
+    are_fit l.topology 0 (map (λ n. node_state (g.R.Role.meaning n.role) n.core) l.nodes)
+    ≡ are_fit l.topology l.place (drop l.place (map (λ n. node_state (g.R.Role.meaning n.role) n.core) l.nodes))

@@ -14,11 +14,11 @@ loop-to-preserved c =
     let o = c.args.outlet in
     let to = hop_to o.topology o.nodes o.node o.port in
     let one = e.copies
-    ∙ ap (λ (p : ParcelImage). copies_in c.loop-to.kept c.loop-to.places.items ++ those_passing c.args.cut.now (map (copy_over o.port p) (option_to_list (to c.loop-to.to)))) l.parcel in
+    ∙ ap (λ (p : ParcelImage). copies_in c.loop-to.kept c.loop-to.places.items ++ those_passing c.args.cut.now (map (copy_over o.node o.port p) (option_to_list (to c.loop-to.to)))) l.parcel in
     record {
       counted = e.counted;
       used = e.used;
-      copies = put_more c.args.cut.now o.port (parcel_of (get c.args.kept.now c.args.key)) to c.loop-to.to (c.loop-to.to + 1) (copies_in c.args.kept.now c.args.places.now.items) (copies_in c.loop-to.kept c.loop-to.places.items) (copies_in c.put_copy.new.kept c.put_copy.new.places.items) (omega arith) l.copies one;
+      copies = put_more c.args.cut.now o.node o.port (parcel_of (get c.args.kept.now c.args.key)) to c.loop-to.to (c.loop-to.to + 1) (copies_in c.args.kept.now c.args.places.now.items) (copies_in c.loop-to.kept c.loop-to.places.items) (copies_in c.put_copy.new.kept c.put_copy.new.places.items) (omega arith) l.copies one;
       there = e.there;
       parcel = e.parcel ∙ l.parcel;
       kept_len = e.kept_len ∙ l.kept_len;

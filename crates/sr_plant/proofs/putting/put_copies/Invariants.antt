@@ -10,7 +10,7 @@ invariant-loop-to l = record {
   counted : AreCounted l.kept l.places.items;
   used : AreUsedBut l.key l.kept;
   copies : copies_in l.kept l.places.items ≡ copies_in l.fn.kept l.fn.places.items
-      ++ those_passing l.cut (map (copy_over l.outlet.port (parcel_of (get l.fn.kept l.key)))
+      ++ those_passing l.cut (map (copy_over l.outlet.node l.outlet.port (parcel_of (get l.fn.kept l.key)))
       (hops_below (hop_to l.outlet.topology l.outlet.nodes l.outlet.node l.outlet.port) l.to));
   there : IsSome (get l.kept l.key);
   parcel : parcel_of (get l.kept l.key) ≡ parcel_of (get l.fn.kept l.key);

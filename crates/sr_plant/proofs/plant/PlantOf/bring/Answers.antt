@@ -41,7 +41,7 @@ returns-in_err-landing-clause-err g c =
     let there = at_map (λ n. node_state (g.R.Role.meaning n.role) n.core) p.nodes.items a.node n c.index_mut.ensures.value within in
     let clock = c.clock-now.ensures ∙ r.rest.1 in
     let told : Fails s (Carry c.args.place) c.in_err-landing.field-0.0 =
-    carry_fails s c.args.place c.clock-now.result a (node_state (g.R.Role.meaning n.role) n.core) c.in_err-landing.field-0.0 c.requires.there there clock c.in_err-landing.ensures.err in
+    carry_fails s c.args.place c.clock-now.result a (node_state (g.R.Role.meaning n.role) n.core) c.in_err-landing.field-0.0 c.requires.there there clock (rw c.framing_of-framing.ensures at c.in_err-landing.ensures.err) in
     search rules
 
 pub returns-in_err-landing-clause-same : goal.returns-in_err-landing-clause-same
@@ -68,7 +68,7 @@ returns-in-Taken-clause-ok g c =
     omega (arith, receiver_within s c.args.place a c.requires.in_order c.requires.there, length-map p.nodes.items (λ n. node_state (g.R.Role.meaning n.role) n.core)) in
     let there = at_map (λ n. node_state (g.R.Role.meaning n.role) n.core) p.nodes.items a.node n c.index_mut.ensures.value within in
     let clock = c.clock-now.ensures ∙ r.rest.1 in
-    let out = rw c.in-Taken.is at c.in_ok-landing.ensures.ok in
+    let out = rw (c.in-Taken.is, c.framing_of-framing.ensures) at c.in_ok-landing.ensures.ok in
     let v = c.remove.ensures in
     let nodes = map-set (λ n. node_state (g.R.Role.meaning n.role) n.core) p.nodes.items a.node c.arrive_out.new.node in
     let hosts = map-set (λ h. h.items) p.handed.items a.node c.arrive_out.new.up in
@@ -100,7 +100,7 @@ returns-in-Taken-clause-in_order g c =
     omega (arith, receiver_within s c.args.place a c.requires.in_order c.requires.there, length-map p.nodes.items (λ n. node_state (g.R.Role.meaning n.role) n.core)) in
     let there = at_map (λ n. node_state (g.R.Role.meaning n.role) n.core) p.nodes.items a.node n c.index_mut.ensures.value within in
     let clock = c.clock-now.ensures ∙ r.rest.1 in
-    let out = rw c.in-Taken.is at c.in_ok-landing.ensures.ok in
+    let out = rw (c.in-Taken.is, c.framing_of-framing.ensures) at c.in_ok-landing.ensures.ok in
     let v = c.remove.ensures in
     let nodes = map-set (λ n. node_state (g.R.Role.meaning n.role) n.core) p.nodes.items a.node c.arrive_out.new.node in
     let hosts = map-set (λ h. h.items) p.handed.items a.node c.arrive_out.new.up in
@@ -132,7 +132,7 @@ returns-in_default-clause-ok g c =
     omega (arith, receiver_within s c.args.place a c.requires.in_order c.requires.there, length-map p.nodes.items (λ n. node_state (g.R.Role.meaning n.role) n.core)) in
     let there = at_map (λ n. node_state (g.R.Role.meaning n.role) n.core) p.nodes.items a.node n c.index_mut.ensures.value within in
     let clock = c.clock-now.ensures ∙ r.rest.1 in
-    let lost = rw c.in_default.is at c.in_ok-landing.ensures.ok in
+    let lost = rw (c.in_default.is, c.framing_of-framing.ensures) at c.in_ok-landing.ensures.ok in
     let v = c.remove.ensures in
     let nodes = map-set_same (λ n. node_state (g.R.Role.meaning n.role) n.core) p.nodes.items a.node c.arrive_out.new.node n (lost.same ∙ ap (λ n. node_state (g.R.Role.meaning n.role) n.core) c.index_mut.ensures.value) in
     let hosts = map-set_same (λ h. h.items) p.handed.items a.node c.arrive_out.new.up c.index_mut-2.result.now (lost.up ∙ ap (λ h. h.items) c.index_mut-2.ensures.value) in
@@ -151,7 +151,7 @@ returns-in_default-clause-in_order g c =
     omega (arith, receiver_within s c.args.place a c.requires.in_order c.requires.there, length-map p.nodes.items (λ n. node_state (g.R.Role.meaning n.role) n.core)) in
     let there = at_map (λ n. node_state (g.R.Role.meaning n.role) n.core) p.nodes.items a.node n c.index_mut.ensures.value within in
     let clock = c.clock-now.ensures ∙ r.rest.1 in
-    let lost = rw c.in_default.is at c.in_ok-landing.ensures.ok in
+    let lost = rw (c.in_default.is, c.framing_of-framing.ensures) at c.in_ok-landing.ensures.ok in
     let v = c.remove.ensures in
     let nodes = map-set_same (λ n. node_state (g.R.Role.meaning n.role) n.core) p.nodes.items a.node c.arrive_out.new.node n (lost.same ∙ ap (λ n. node_state (g.R.Role.meaning n.role) n.core) c.index_mut.ensures.value) in
     let hosts = map-set_same (λ h. h.items) p.handed.items a.node c.arrive_out.new.up c.index_mut-2.result.now (lost.up ∙ ap (λ h. h.items) c.index_mut-2.ensures.value) in

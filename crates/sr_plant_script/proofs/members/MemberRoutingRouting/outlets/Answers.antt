@@ -1,7 +1,13 @@
 use Rattle.sr_plant_script.proofs.members.MemberRoutingRouting.outlets.Goals as goal
 
-pub returns-in-Ring : goal.returns-in-Ring
-returns-in-Ring c now = rw c.in-Ring.is (c.outlets.ensures now)
+pub returns-in-Danp : goal.returns-in-Danp
+returns-in-Danp c now = rw c.in-Danp.is (c.outlets.ensures now)
 
-pub returns-in-TwinLan : goal.returns-in-TwinLan
-returns-in-TwinLan c now = rw c.in-TwinLan.is (c.outlets-in-TwinLan.ensures now)
+pub returns-in-Danh : goal.returns-in-Danh
+returns-in-Danh c now = rw c.in-Danh.is (c.outlets-in-Danh.ensures now)
+
+pub returns-in-Prp : goal.returns-in-Prp
+returns-in-Prp c now = rw c.in-Prp.is (c.outlets-in-Prp.ensures now)
+
+pub returns-in-Hsr : goal.returns-in-Hsr
+returns-in-Hsr c now = rw c.in-Hsr.is (c.outlets-in-Hsr.ensures now)
