@@ -4,9 +4,10 @@ ghost use Rattle.std.specs.Prelude.{◌<◌, ◌≤◌};
 
 use crate::address::mac_of;
 use crate::audit_line::{AuditTask, audit_command, audit_task, format_words, network_words};
+use crate::coupled_line::{ring_lan_command, ring_lan_of, two_rings_command, two_rings_of};
 use crate::examples;
 use crate::merge_line::{MergeTask, merge_command, merge_task, scope_words};
-use crate::plant_line::{plant_command, plant_of};
+use crate::plant_line::{plant_command, ring_of, twin_lan_of};
 use crate::refusal::Refused;
 use crate::script_line::{ScriptTask, script_command, script_task};
 use clap::builder::PossibleValue;
@@ -14,7 +15,7 @@ use clap::error::ErrorKind;
 use clap::{Arg, ArgAction, ArgGroup, ArgMatches, Command, Error};
 use sr_dup_table::Width;
 use sr_node::{Mode, Settings};
-use sr_plant_script::{PlantSetup, Topology};
+use sr_plant_script::PlantSetup;
 use sr_prp_trailer::Lan;
 use sr_script::{PrpRouting, RoleName, Setup};
 use sr_slots::Keys;
@@ -275,7 +276,9 @@ fn command<'a>(alloc: Global, words: &'a Words<'a>) -> Result<Command<'a>, Alloc
         "Runs a script on doubly attached nodes of two LANs",
         examples::LAN,
     );
-    with(command, lan)
+    let command = with(command, lan);
+    let command = with(command, ring_lan_command(alloc, words));
+    with(command, two_rings_command(alloc, words))
 }
 
 /// The number of a network, of a word that the parser let through.
@@ -379,10 +382,19 @@ fn task_in<'a>(matches: &ArgMatches<'a>) -> Result<Task<'a>, Refused> {
         };
     }
     if let Some(ring) = matches.subcommand_matches("ring") {
-        return Ok(Task::Plant(plant_of(Topology::Ring, ring)));
+        return Ok(Task::Plant(ring_of(ring)));
     }
     if let Some(lan) = matches.subcommand_matches("lan") {
-        return Ok(Task::Plant(plant_of(Topology::TwinLan, lan)));
+        return Ok(Task::Plant(twin_lan_of(lan)));
+    }
+    if let Some(ring_lan) = matches.subcommand_matches("ring-lan") {
+        return Ok(Task::Plant(ring_lan_of(ring_lan)));
+    }
+    if let Some(two_rings) = matches.subcommand_matches("two-rings") {
+        return match two_rings_of(two_rings) {
+            Some(setup) => Ok(Task::Plant(setup)),
+            None => Err(Refused::Option("joins")),
+        };
     }
     if let Some(replay) = matches.subcommand_matches("replay") {
         return Ok(Task::Run(Report::Frames, setup_of(replay)?));

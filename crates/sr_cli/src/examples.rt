@@ -55,3 +55,17 @@ pub const LAN: &str = "Examples:
     printf 'cut 1\\nsend 0 all 01\\nflow\\n' | seamless lan --nodes 3
   The same traffic where the first copy is lost:
     printf 'send 0 all 01\\ndrop 0\\nflow\\n' | seamless lan --nodes 3";
+
+/// Of `ring-lan`.
+pub const RING_LAN: &str = "Examples:
+  A ring of four nodes and LANs of two, where the box of LAN A is lost:
+    seamless ring-lan --ring 4 --lan 2 < examples/lost-redbox.script
+  What a node of the LANs sends to all:
+    printf 'send 4 all 01\\nflow\\n' | seamless ring-lan --ring 4 --lan 1";
+
+/// Of `two-rings`.
+pub const TWO_RINGS: &str = "Examples:
+  Two rings of four nodes with two joins, of which one is cut:
+    seamless two-rings --left 4 --right 4 --joins 2 < examples/cut-join.script
+  What a node of the left ring sends to one of the right:
+    printf 'send 2 5 01\\nflow\\n' | seamless two-rings --left 3 --right 3 --joins 1";

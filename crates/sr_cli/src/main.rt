@@ -5,6 +5,7 @@ mod address;
 mod audit;
 mod audit_line;
 mod command_line;
+mod coupled_line;
 mod examples;
 mod flaws;
 mod forms;

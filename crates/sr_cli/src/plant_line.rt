@@ -5,7 +5,7 @@ ghost use Rattle.sr_plant.specs.Limits.{fewest_nodes, most_nodes};
 
 use crate::command_line::{Words, settings_of, with_settings};
 use clap::{Arg, ArgMatches, Command};
-use sr_plant_script::{PlantSetup, Topology};
+use sr_plant_script::PlantSetup;
 use std::alloc::{AllocError, Global};
 
 /// What the parser knows of a subcommand for a plant: `--nodes 2..16`.
@@ -30,7 +30,7 @@ pub fn plant_command<'a>(
 }
 
 /// How many nodes there are, by a word that the parser let through.
-fn count_of(word: &str) -> usize
+pub fn count_of(word: &str) -> usize
     ensures least { fewest_nodes ≤ result }
     ensures most { result ≤ most_nodes }
 {
@@ -40,12 +40,14 @@ fn count_of(word: &str) -> usize
     }
 }
 
-/// The plant that the subcommand asks for.
-pub fn plant_of(topology: Topology, matches: &ArgMatches<'_>) -> PlantSetup {
+/// The ring that the subcommand asks for.
+pub fn ring_of(matches: &ArgMatches<'_>) -> PlantSetup {
     let nodes = matches.get_str("nodes").map_or(2, count_of);
-    PlantSetup {
-        topology,
-        nodes,
-        settings: settings_of(matches),
-    }
+    PlantSetup::ring(nodes, settings_of(matches))
+}
+
+/// The two LANs that the subcommand asks for.
+pub fn twin_lan_of(matches: &ArgMatches<'_>) -> PlantSetup {
+    let nodes = matches.get_str("nodes").map_or(2, count_of);
+    PlantSetup::twin_lan(nodes, settings_of(matches))
 }

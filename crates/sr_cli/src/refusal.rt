@@ -36,6 +36,8 @@ fn wanted(name: &str) -> &'static str {
         "list" => "--list takes lost, wrong and pairs, joined by commas",
         "shift" => "the shifts are more than 146 years apart",
         "from" | "to" => "--from and --to take whole milliseconds from the earliest packet on",
+        "joins" =>
+            "a link joins a box of each ring, and a ring has more nodes than boxes: --joins is less than --left and --right",
         "tick" => "--tick takes whole milliseconds, at least 1",
         _ => "a shift is a whole number of milliseconds, as 500 or -500",
     }

@@ -1,14 +1,13 @@
 -- A plant after one of its nodes acted.
-use Rattle.std.proofs.Common.{◌≡◌, ℕ, zero, suc, ◌<◌, Bool, not, List, [], ◌∷◌, ◌++◌, length, map, get_or, slice_get, slice_set, slice_index_or, Option, Some, refl, sym, ap, ◌∙◌, append_assoc, arith}
+use Rattle.std.proofs.Common.{◌≡◌, ℕ, zero, suc, ◌<◌, Bool, not, List, [], ◌∷◌, ◌++◌, length, map, get_or, slice_get, slice_set, slice_index_or, Some, refl, sym, ap, ◌∙◌, append_assoc, arith}
 use Rattle.std.specs.Option.{option_to_list}
-use Rattle.std.proofs.lemmas.List.{append-nil}
 use Rattle.std.proofs.lemmas.List.Elements.{filter-append}
 use Rattle.sr_frame.specs.declared.ports.Port.TheVariants.{A, B, C}
 use Rattle.sr_forwarding.specs.Parcels.{ParcelImage}
 use Rattle.sr_node.specs.Images.{State}
 use Rattle.sr_plant_laws.specs.Lists.{Each}
 use Rattle.sr_plant.specs.declared.topology.Topology.{Topology}
-use Rattle.sr_plant.specs.declared.topology.Topology.TheVariants.{Ring, TwinLan}
+use Rattle.sr_plant.specs.declared.giving.Given.{Given}
 use Rattle.sr_plant.specs.Copies.{Copy, is_stopped}
 use Rattle.sr_plant.specs.Puts.{all_put, put_out, those_passing}
 use Rattle.sr_plant.specs.Plants.{Plant}
@@ -31,30 +30,30 @@ or_map f [] i n d here within = absurd (omega arith)
 or_map f (m ∷ ms) zero n d here within = ap f (sym here)
 or_map f (m ∷ ms) (suc i) n d here within = or_map f ms i n d here (omega arith)
 
--- nothing leads from an interlink
-nothing_put : (t : Topology) (n k : ℕ) (ps : List ParcelImage) → all_put t n k C ps ≡ []
-nothing_put t n k [] = refl
-nothing_put Ring n k (p ∷ ps) = nothing_put Ring n k ps
-nothing_put TwinLan n k (p ∷ ps) = nothing_put TwinLan n k ps
-
--- what is put out at A, and then at B
+-- what is put out at A, then at B, and then at C
 put_in_turn : (t : Topology) (n k : ℕ) (cut : List Bool) (u : State) (flight : List Copy) →
-    (flight ++ those_passing cut (all_put t n k A u.core.out.a)) ++ those_passing cut (all_put t n k B u.core.out.b)
+    ((flight ++ those_passing cut (all_put t n k A u.core.out.a)) ++ those_passing cut (all_put t n k B u.core.out.b))
+    ++ those_passing cut (all_put t n k C u.core.out.c)
     ≡ flight ++ those_passing cut (put_out t n k u.core.out)
 put_in_turn t n k cut u flight =
+    let passes = λ (x : Copy). not (is_stopped cut x) in
     let a = all_put t n k A u.core.out.a in
     let b = all_put t n k B u.core.out.b in
-    let both : those_passing cut (a ++ b) ≡ those_passing cut a ++ those_passing cut b = filter-append (λ c. not (is_stopped cut c)) a b in
-    let all : put_out t n k u.core.out ≡ a ++ b = rw (nothing_put t n k u.core.out.c) (ap (λ (x : List Copy). a ++ x) (append-nil b)) in
-    rw (all, both) (append_assoc flight (those_passing cut a) (those_passing cut b))
+    let c = all_put t n k C u.core.out.c in
+    let both : those_passing cut (b ++ c) ≡ those_passing cut b ++ those_passing cut c = filter-append passes b c in
+    let all : those_passing cut (a ++ (b ++ c)) ≡ those_passing cut a ++ those_passing cut (b ++ c) = filter-append passes a (b ++ c) in
+    rw (all, both)
+    (append_assoc (flight ++ those_passing cut a) (those_passing cut b) (those_passing cut c)
+    ∙ append_assoc flight (those_passing cut a) (those_passing cut b ++ those_passing cut c))
 
-pub acted_is : (s : Plant) (i now : ℕ) (u : State) (at_a at_b : Option ParcelImage) (nodes : List State) (flight : List Copy) (cut : List Bool) (clock : ℕ) (handed : List (List ParcelImage)) →
+pub acted_is : (s : Plant) (i now : ℕ) (u : State) (given : Given) (nodes : List State) (flight : List Copy) (cut : List Bool) (clock : ℕ) (handed : List (List ParcelImage)) →
     nodes ≡ slice_set s.nodes i (emptied u) →
-    flight ≡ (s.flight ++ those_passing s.cut (all_put s.topology (length s.nodes) i A (option_to_list at_a)))
-    ++ those_passing s.cut (all_put s.topology (length s.nodes) i B (option_to_list at_b)) →
-    option_to_list at_a ≡ u.core.out.a → option_to_list at_b ≡ u.core.out.b →
+    flight ≡ ((s.flight ++ those_passing s.cut (all_put s.topology (length s.nodes) i A (option_to_list given.a)))
+    ++ those_passing s.cut (all_put s.topology (length s.nodes) i B (option_to_list given.b)))
+    ++ those_passing s.cut (all_put s.topology (length s.nodes) i C (option_to_list given.c)) →
+    option_to_list given.a ≡ u.core.out.a → option_to_list given.b ≡ u.core.out.b → option_to_list given.c ≡ u.core.out.c →
     cut ≡ s.cut → clock ≡ now → handed ≡ slice_set s.handed i (slice_index_or s.handed i [] ++ u.core.out.h) →
     record { topology = s.topology; nodes = nodes; flight = flight; cut = cut; clock = clock; handed = handed } ≡ acted s i u now
-acted_is s i now u at_a at_b nodes flight cut clock handed n f a b c t h =
-    let whole = (rw (a, b) at f) ∙ put_in_turn s.topology (length s.nodes) i s.cut u s.flight in
-    rw (n, whole, c, t, h) refl
+acted_is s i now u given nodes flight cut clock handed n f a b c cuts t h =
+    let whole = (rw (a, b, c) at f) ∙ put_in_turn s.topology (length s.nodes) i s.cut u s.flight in
+    rw (n, whole, cuts, t, h) refl

@@ -1,9 +1,10 @@
 -- A plant after one of its copies was carried.
-use Rattle.std.proofs.Common.{◌≡◌, ℕ, ◌<◌, List, length, slice_get, Option, Some, None, inl, inr, sym, subst}
+use Rattle.std.proofs.Common.{◌≡◌, ℕ, ◌<◌, List, length, slice_get, Some, None, inl, inr, sym, subst}
 use Rattle.sr_forwarding.specs.Parcels.{ParcelImage}
 use Rattle.sr_node.specs.Images.{State, time_at}
 use Rattle.sr_plant.specs.declared.event.PlantEvent.TheVariants.{Carry}
 use Rattle.sr_plant.specs.declared.fault.PlantFault.{PlantFault}
+use Rattle.sr_plant.specs.declared.giving.Given.{Given}
 use Rattle.sr_plant.specs.declared.arriving.Arriving.{Arriving}
 use Rattle.sr_plant.specs.Copies.{Copy}
 use Rattle.sr_plant.specs.Topologies.{framing_of}
@@ -46,12 +47,12 @@ carry_fails s place now a before f one there clock fails = elim fails [
 ]
 
 -- what the receiver takes
-pub taken_comes : (s : Plant) (place now : ℕ) (a : Arriving) (before : State) (at_a at_b : Option ParcelImage)
+pub taken_comes : (s : Plant) (place now : ℕ) (a : Arriving) (before : State) (given : Given)
     (up up_after : List ParcelImage) (u : State) (t : Plant) →
     OneComesAs s.topology s.flight place (Some a) → slice_get s.nodes a.node ≡ Some before → now ≡ s.clock →
-    (out : TakesOut (framing_of s.topology a.node a.port) before a.port a.octets now at_a at_b up up_after u) →
+    (out : TakesOut (framing_of s.topology a.node a.port) before a.port a.octets now given up up_after u) →
     t ≡ acted (without s place) a.node out.after s.clock → Carried s place t
-taken_comes s place now a before at_a at_b up up_after u t one there clock out plant = (
+taken_comes s place now a before given up up_after u t one there clock out plant = (
   one.0,
   one.1,
   inl (record {
@@ -66,12 +67,12 @@ taken_comes s place now a before at_a at_b up up_after u t one there clock out p
   }),
 )
 
-pub taken_in_order : (s : Plant) (place now : ℕ) (a : Arriving) (before : State) (at_a at_b : Option ParcelImage)
+pub taken_in_order : (s : Plant) (place now : ℕ) (a : Arriving) (before : State) (given : Given)
     (up up_after : List ParcelImage) (u : State) (t : Plant) → IsInOrder s →
     slice_get s.nodes a.node ≡ Some before →
-    (out : TakesOut (framing_of s.topology a.node a.port) before a.port a.octets now at_a at_b up up_after u) →
+    (out : TakesOut (framing_of s.topology a.node a.port) before a.port a.octets now given up up_after u) →
     t ≡ acted (without s place) a.node out.after s.clock → IsInOrder t
-taken_in_order s place now a before at_a at_b up up_after u t order there out plant =
+taken_in_order s place now a before given up up_after u t order there out plant =
     let kind = arrived_kind before a.port out.taken.0 (time_at before now) out.answer out.after out.taken.3 in
     subst IsInOrder (sym plant) (acted_in_order (without s place) a.node s.clock before out.after (without_in_order s place order) there kind)
 

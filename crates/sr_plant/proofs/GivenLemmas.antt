@@ -32,7 +32,7 @@ only_one (p ∷ q ∷ qs) few = absurd (omega arith)
 -- all four outlets, one after the other
 pub taken_out : (s t u v w : State) (up a b c : Option ParcelImage) → IsAtMostOneEach s.core.out →
     Took s H (answer.Taken up) t → Took t A (answer.Taken a) u → Took u B (answer.Taken b) v → Took v C (answer.Taken c) w →
-    (option_to_list up ≡ s.core.out.h) × (option_to_list a ≡ s.core.out.a) × (option_to_list b ≡ s.core.out.b) × (w ≡ emptied s)
+    (option_to_list up ≡ s.core.out.h) × (option_to_list a ≡ s.core.out.a) × (option_to_list b ≡ s.core.out.b) × (option_to_list c ≡ s.core.out.c) × (w ≡ emptied s)
 taken_out s t u v w up a b c few h1 a1 b1 c1 =
     let a2 = rw h1.1 at a1 in
     let b2 = rw a2.1 at b1 in
@@ -41,7 +41,7 @@ taken_out s t u v w up a b c few h1 a1 b1 c1 =
     let x = only_one s.core.out.a few.a in
     let y = only_one s.core.out.b few.b in
     let z = only_one s.core.out.c few.c in
-    (rw h1.0 h.0, rw a2.0 x.0, rw b2.0 y.0, c2.1 ∙ rw (h.1, x.1, y.1, z.1) refl)
+    (rw h1.0 h.0, rw a2.0 x.0, rw b2.0 y.0, rw c2.0 z.0, c2.1 ∙ rw (h.1, x.1, y.1, z.1) refl)
 
 few_copy : (wanted : Bool) (p : ParcelImage) → length (with_copy [] (copy_if wanted p)) ≤ 1
 few_copy true p = omega arith

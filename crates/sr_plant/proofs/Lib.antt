@@ -1,9 +1,11 @@
 pub mod ListLemmas
 pub mod BuildingLemmas
 pub mod FlightLemmas
-pub mod PutLemmas
+pub mod HopLemmas
+mod PutLemmas
 pub mod GivenLemmas
 pub mod ActLemmas
 pub mod OrderLemmas
 pub mod LandLemmas
 pub mod CarryLemmas
+pub mod CoupledLemmas

@@ -1,5 +1,5 @@
 -- A plant stays in order.
-use Rattle.std.proofs.Common.{◌≡◌, ℕ, zero, suc, ◌+◌, ◌<◌, ◌==◌, Bool, true, List, [], ◌∷◌, length, map, not, slice_get, slice_set, Option, Some, None, ◌⊎◌, refl, sym, ap, ◌∙◌, subst, inl, inr, take, drop, arith}
+use Rattle.std.proofs.Common.{◌≡◌, ℕ, zero, suc, ◌+◌, ◌-◌, ◌*◌, ◌<◌, ◌≤◌, ◌==◌, nat_lt, Bool, true, List, [], ◌∷◌, length, map, not, slice_get, slice_set, Option, Some, None, ◌⊎◌, refl, sym, ap, ◌∙◌, subst, inl, inr, take, drop, arith}
 use Rattle.std.specs.List.{filter}
 use Rattle.std.proofs.lemmas.Bool.{cases_Bool}
 use Rattle.std.proofs.lemmas.Bool.Decides.{nat_tests}
@@ -23,17 +23,21 @@ use Rattle.sr_node.specs.Steps.{Step}
 use Rattle.sr_plant_laws.specs.Lists.{Each}
 use Rattle.sr_plant_laws.specs.ListLemmas.{each_append}
 use Rattle.sr_plant_laws.specs.Ledger.{Hop}
-use Rattle.sr_plant_laws.specs.RingParts.{onward, backward}
-use Rattle.sr_plant_laws.specs.Rings.{beyond}
+use Rattle.sr_plant_laws.specs.Rings.{ring}
 use Rattle.sr_plant_laws.specs.TwinLans.{other_members, lan_hops}
+use Rattle.sr_plant_laws.specs.RingLans.{others, lan_copies, ring_lan}
+use Rattle.sr_plant_laws.specs.TwoRings.{TwoShape, shifted, over_hops, is_joined, AreJoins, two_rings}
+use Rattle.sr_plant.specs.declared.shapes.RingLanShape.{RingLanShape}
+use Rattle.sr_plant.specs.declared.shapes.TwoRingsShape.{TwoRingsShape}
+use Rattle.sr_plant.specs.PortFramings.{HaveNets}
 use Rattle.sr_plant.specs.declared.topology.Topology.{Topology}
-use Rattle.sr_plant.specs.declared.topology.Topology.TheVariants.{Ring, TwinLan}
-use Rattle.sr_plant.specs.Topologies.{net_of, kind_of}
+use Rattle.sr_plant.specs.declared.topology.Topology.TheVariants.{Ring, TwinLan, RingLan, TwoRings}
+use Rattle.sr_plant.specs.Topologies.{net_of, kind_of, IsJoinedAs, IsRingLan, AreTwoRings, lan_shape, two_shape, joins_of}
 use Rattle.sr_plant.specs.Copies.{Copy, is_on, is_stopped}
 use Rattle.sr_plant.specs.Puts.{copy_over, all_put, put_out, those_passing}
 use Rattle.sr_plant.specs.Plants.{Plant, IsEmptied, AreKinds, IsInOrder}
 use Rattle.sr_plant.specs.Steps.{emptied, acted, Acts, without}
-use Rattle.sr_plant.proofs.PutLemmas.{lan_append}
+use Rattle.sr_plant.proofs.HopLemmas.{lan_append, lan_more, before_inside, next_inside, in_right}
 
 each_set : {X : Type 0} (P : X → Type 0) (xs : List X) (i : ℕ) (y : X) → Each P xs → P y → Each P (slice_set xs i y)
 each_set P [] i y each one = tt
@@ -97,36 +101,129 @@ others_within k (suc n) m p first =
       | inr not ↦ rw (not, lan_append p first k (other_members n k) (n ∷ [])) (each_append (λ (h : Hop). h.to.node < suc n + m) (lan_hops p first k (other_members n k)) (lan_hops p first k (n ∷ [])) below (omega arith, tt))
     ]
 
-next_within : (n k : ℕ) → k < n → beyond n onward k < n
-next_within n k within = elim (cases_Bool (k + 1 == n)) [
-  | inl is ↦ rw is (omega arith)
-  | inr not ↦ rw not (grind (arith, nat_tests))
+-- through LANs behind a ring
+lans_within : (p : Port) (own first r d k m : ℕ) → r + d ≤ m → Each (λ h. h.to.node < m) (lan_copies p own first (others r d k))
+lans_within p own first r zero k m fits = tt
+lans_within p own first r (suc d) k m fits =
+    let before = lans_within p own first r d k m (omega (arith, fits)) in
+    elim (cases_Bool (r + d == k)) [
+      | inl is ↦ rw is before
+      | inr not ↦ rw (not, lan_more p own first (others r d k) ((r + d) ∷ [])) (each_append (λ (h : Hop). h.to.node < m) (lan_copies p own first (others r d k)) (lan_copies p own first ((r + d) ∷ [])) before (omega (arith, fits), tt))
+    ]
+
+ring_lan_within : (s : RingLanShape) (n k : ℕ) (o : Port) → IsRingLan s n → Each (λ h. h.to.node < n) (ring_lan (lan_shape s) k o)
+ring_lan_within s n k H joined = tt
+ring_lan_within s n k A joined = elim (cases_Bool (nat_lt k s.ring)) [
+  | inl inside ↦
+      let less : k < s.ring = grind (arith, nat_tests) in
+      let next = before_inside s.ring k less in
+      let sum = joined.sum in
+      rw inside (omega (arith, next, sum), tt)
+  | inr outside ↦
+      let sum = joined.sum in
+      let a = joined.a_inside in
+      rw outside (omega (arith, a, sum), lans_within A k 0 s.ring s.lan k n (omega (arith, sum)))
+]
+ring_lan_within s n k B joined = elim (cases_Bool (nat_lt k s.ring)) [
+  | inl inside ↦
+      let less : k < s.ring = grind (arith, nat_tests) in
+      let next = next_inside s.ring k less in
+      let sum = joined.sum in
+      rw inside (omega (arith, next, sum), tt)
+  | inr outside ↦
+      let sum = joined.sum in
+      let b = joined.b_inside in
+      rw outside (omega (arith, b, sum), lans_within B (s.lan + 1 + k) (s.lan + 1) s.ring s.lan k n (omega (arith, sum)))
+]
+ring_lan_within s n k C joined =
+    let sum = joined.sum in
+    elim (cases_Bool (k == s.box_a)) [
+      | inl is ↦ rw is (lans_within A (s.ring + s.lan) 0 s.ring s.lan k n (omega (arith, sum)))
+      | inr not_a ↦ elim (cases_Bool (k == s.box_b)) [
+        | inl is ↦ rw (not_a, is) (lans_within B (s.ring + 2 * s.lan + 1) (s.lan + 1) s.ring s.lan k n (omega (arith, sum)))
+        | inr not_b ↦ rw (not_a, not_b) tt
+      ]
+    ]
+
+-- round the right ring, and over to the other one
+shift_within : (left right : ℕ) (hs : List Hop) → Each (λ h. h.to.node < right) hs → Each (λ h. h.to.node < left + right) (map (shifted left) hs)
+shift_within left right [] each = tt
+shift_within left right (h ∷ hs) each = let low = each.0 in (omega (arith, low), shift_within left right hs each.1)
+
+over_within : (s : TwoShape) (link : ℕ) (js : List (ℕ × ℕ)) (k : ℕ) → AreJoins s js → Each (λ h. h.to.node < s.left + s.right) (over_hops link js k)
+over_within s link [] k joins = tt
+over_within s link (j ∷ js) k joins = elim (cases_Bool (k == j.0)) [
+  | inl left ↦ rw left (joins.2, tt)
+  | inr not_left ↦ elim (cases_Bool (k == j.1)) [
+    | inl right ↦ let low = joins.0 in rw (not_left, right) (omega (arith, low), tt)
+    | inr neither ↦ rw (not_left, neither) (over_within s (link + 1) js k joins.5)
+  ]
 ]
 
-before_within : (n k : ℕ) → k < n → beyond n backward k < n
-before_within n k within = elim (cases_Bool (k == 0)) [
-  | inl is ↦ rw is (omega arith)
-  | inr not ↦ rw not (grind (arith, nat_tests))
+two_rings_within : (s : TwoRingsShape) (n k : ℕ) (o : Port) → k < n → AreTwoRings s n → Each (λ h. h.to.node < n) (two_rings (two_shape s) k o)
+two_rings_within s n k H within joined = tt
+two_rings_within s n k A within joined = elim (cases_Bool (nat_lt k s.left)) [
+  | inl inside ↦
+      let less : k < s.left = grind (arith, nat_tests) in
+      let next = before_inside s.left k less in
+      let sum = joined.sum in
+      rw inside (omega (arith, next, sum), tt)
+  | inr outside ↦
+      let less = in_right s.left s.right n k within joined.sum outside in
+      rw outside (subst (λ (b : ℕ). Each (λ h. h.to.node < b) (map (shifted s.left) (ring s.right (k - s.left) A))) joined.sum (shift_within s.left s.right (ring s.right (k - s.left) A) (before_inside s.right (k - s.left) less, tt)))
 ]
+two_rings_within s n k B within joined = elim (cases_Bool (nat_lt k s.left)) [
+  | inl inside ↦
+      let less : k < s.left = grind (arith, nat_tests) in
+      let next = next_inside s.left k less in
+      let sum = joined.sum in
+      rw inside (omega (arith, next, sum), tt)
+  | inr outside ↦
+      let less = in_right s.left s.right n k within joined.sum outside in
+      rw outside (subst (λ (b : ℕ). Each (λ h. h.to.node < b) (map (shifted s.left) (ring s.right (k - s.left) B))) joined.sum (shift_within s.left s.right (ring s.right (k - s.left) B) (next_inside s.right (k - s.left) less, tt)))
+]
+two_rings_within s n k C within joined =
+    subst (λ (b : ℕ). Each (λ h. h.to.node < b) (over_hops (s.left + s.right) (joins_of s) k)) joined.sum (over_within (two_shape s) (s.left + s.right) (joins_of s) k joined.joins)
 
-net_within : (t : Topology) (n k : ℕ) (o : Port) → k < n → Each (λ h. h.to.node < n) (net_of t n k o)
-net_within Ring n k H within = tt
-net_within Ring n k A within = (before_within n k within, tt)
-net_within Ring n k B within = (next_within n k within, tt)
-net_within Ring n k C within = tt
-net_within TwinLan n k H within = tt
-net_within TwinLan n k A within = subst (λ (b : ℕ). Each (λ h. h.to.node < b) (lan_hops A 0 k (other_members n k))) (omega arith) (others_within k n 0 A 0)
-net_within TwinLan n k B within = subst (λ (b : ℕ). Each (λ h. h.to.node < b) (lan_hops B n k (other_members n k))) (omega arith) (others_within k n 0 B n)
-net_within TwinLan n k C within = tt
+net_within : (t : Topology) (n k : ℕ) (o : Port) → k < n → IsJoinedAs t n → Each (λ h. h.to.node < n) (net_of t n k o)
+net_within Ring n k H within joined = tt
+net_within Ring n k A within joined = (before_inside n k within, tt)
+net_within Ring n k B within joined = (next_inside n k within, tt)
+net_within Ring n k C within joined = tt
+net_within TwinLan n k H within joined = tt
+net_within TwinLan n k A within joined = subst (λ (b : ℕ). Each (λ h. h.to.node < b) (lan_hops A 0 k (other_members n k))) (omega arith) (others_within k n 0 A 0)
+net_within TwinLan n k B within joined = subst (λ (b : ℕ). Each (λ h. h.to.node < b) (lan_hops B n k (other_members n k))) (omega arith) (others_within k n 0 B n)
+net_within TwinLan n k C within joined = tt
+net_within (RingLan s) n k o within joined = ring_lan_within s n k o joined
+net_within (TwoRings s) n k o within joined = two_rings_within s n k o within joined
+
+-- the network of each node has a number that a ring can tell
+pub nets_fit : (t : Topology) (n : ℕ) → IsJoinedAs t n → HaveNets t
+nets_fit Ring n joined k = omega arith
+nets_fit TwinLan n joined k = omega arith
+nets_fit (RingLan s) n joined k = elim (cases_Bool (nat_lt k s.ring)) [
+  | inl inside ↦ elim (cases_Bool (k == s.box_a)) [
+    | inl is ↦ rw (inside, is) joined.fits
+    | inr not_a ↦ elim (cases_Bool (k == s.box_b)) [
+      | inl is ↦ rw (inside, not_a, is) joined.fits
+      | inr not_b ↦ rw (inside, not_a, not_b) (omega arith)
+    ]
+  ]
+  | inr outside ↦ rw outside (omega arith)
+]
+nets_fit (TwoRings s) n joined k = elim (cases_Bool (is_joined (joins_of s) k)) [
+  | inl is ↦ rw is (omega arith)
+  | inr not ↦ rw not (omega arith)
+]
 
 copies_within : (n k : ℕ) (o : Port) (p : ParcelImage) (hs : List Hop) → Each (λ h. h.to.node < n) hs → Each (λ c. c.hop.to.node < n) (map (copy_over k o p) hs)
 copies_within n k o p [] each = tt
 copies_within n k o p (h ∷ hs) each = (each.0, copies_within n k o p hs each.1)
 
-put_within : (t : Topology) (n k : ℕ) (o : Port) (ps : List ParcelImage) → k < n → Each (λ c. c.hop.to.node < n) (all_put t n k o ps)
-put_within t n k o [] within = tt
-put_within t n k o (p ∷ ps) within =
-    each_append (λ (c : Copy). c.hop.to.node < n) _ _ (copies_within n k o p (net_of t n k o) (net_within t n k o within)) (put_within t n k o ps within)
+put_within : (t : Topology) (n k : ℕ) (o : Port) (ps : List ParcelImage) → k < n → IsJoinedAs t n → Each (λ c. c.hop.to.node < n) (all_put t n k o ps)
+put_within t n k o [] within joined = tt
+put_within t n k o (p ∷ ps) within joined =
+    each_append (λ (c : Copy). c.hop.to.node < n) _ _ (copies_within n k o p (net_of t n k o) (net_within t n k o within joined)) (put_within t n k o ps within joined)
 
 -- a node keeps its kind
 learned_kind : (kind : RoleKind) (port : Port) (r : RoleImage) (h : Header) (now : ℕ) → (learned_at kind port r h now).kind ≡ r.kind
@@ -177,10 +274,11 @@ acted_in_order s i now before u order there kind =
     let n = length s.nodes in
     let out = u.core.out in
     let put : Each (λ c. c.hop.to.node < n) (put_out s.topology n i out) =
-    each_append (λ (c : Copy). c.hop.to.node < n) _ _ (put_within s.topology n i A out.a within) (each_append (λ (c : Copy). c.hop.to.node < n) _ _ (put_within s.topology n i B out.b within) (put_within s.topology n i C out.c within)) in
+    each_append (λ (c : Copy). c.hop.to.node < n) _ _ (put_within s.topology n i A out.a within order.joined) (each_append (λ (c : Copy). c.hop.to.node < n) _ _ (put_within s.topology n i B out.b within order.joined) (put_within s.topology n i C out.c within order.joined)) in
     let flight = each_append (λ (c : Copy). c.hop.to.node < n) s.flight (those_passing s.cut (put_out s.topology n i out)) order.receivers (each_filter (λ (c : Copy). c.hop.to.node < n) (λ c. not (is_stopped s.cut c)) (put_out s.topology n i out) put) in
     record {
       size = rw same order.size;
+      joined = rw same order.joined;
       kinds = kinds_set s.topology s.nodes i (emptied u) order.kinds (kind ∙ order.kinds i before there);
       emptied = each_set IsEmptied s.nodes i (emptied u) order.emptied refl;
       links = rw same order.links;
@@ -197,6 +295,7 @@ pub cut_in_order : (s : Plant) (link : ℕ) → IsInOrder s →
     IsInOrder (record s { flight = filter (λ c. not (is_on link c)) s.flight; cut = slice_set s.cut link true })
 cut_in_order s link order = record {
   size = order.size;
+  joined = order.joined;
   kinds = order.kinds;
   emptied = order.emptied;
   links = length-set s.cut link true ∙ order.links;
@@ -208,6 +307,7 @@ cut_in_order s link order = record {
 pub without_in_order : (s : Plant) (place : ℕ) → IsInOrder s → IsInOrder (without s place)
 without_in_order s place order = record {
   size = order.size;
+  joined = order.joined;
   kinds = order.kinds;
   emptied = order.emptied;
   links = order.links;

@@ -1,5 +1,6 @@
 -- Of what nodes a plant is made, and how it begins.
-use Rattle.std.specs.Prelude.{ℕ, suc, Bool, true, false, not, ◌&&◌, ◌==◌, nat_le, List, [], ◌∷◌, length, replicate}
+use Rattle.std.specs.Prelude.{ℕ, suc, ◌+◌, Bool, true, false, not, ◌&&◌, ◌==◌, nat_le, nat_lt, Option}
+use Rattle.std.specs.Prelude.{None, Some, List, [], ◌∷◌, length, replicate}
 use Rattle.std.specs.List.{list_any}
 use Rattle.sr_frame.specs.declared.fields.Mac.{Mac}
 use Rattle.sr_frame.specs.Addresses.{mac_eq}
@@ -10,10 +11,15 @@ use Rattle.sr_forwarding.specs.declared.role_image.RoleKind.{RoleKind}
 use Rattle.sr_forwarding.specs.declared.role_image.RoleKind.TheVariants.{Danp, Danh, San, Prp, Hsr}
 use Rattle.sr_node.specs.Images.{State}
 use Rattle.sr_node.specs.Outboxes.{Outboxes}
+use Rattle.sr_forwarding.specs.Limits.{greatest_net}
+use Rattle.sr_plant.specs.declared.shapes.RingLanShape.{RingLanShape}
+use Rattle.sr_plant.specs.declared.shapes.TwoRingsShape.{TwoRingsShape}
+use Rattle.sr_plant.specs.declared.shapes.Join.{Join}
 use Rattle.sr_plant.specs.declared.topology.Topology.{Topology}
+use Rattle.sr_plant.specs.declared.topology.Topology.TheVariants.{Ring, TwinLan, RingLan, TwoRings}
 use Rattle.sr_plant.specs.declared.fault.PlantFault.{PlantFault}
 use Rattle.sr_plant.specs.declared.fault.PlantFault.TheVariants.{BadPlant, NoMemory}
-use Rattle.sr_plant.specs.Limits.{fewest_nodes, most_nodes}
+use Rattle.sr_plant.specs.Limits.{fewest_nodes, most_nodes, fewest_with_boxes, most_in_lans}
 use Rattle.sr_plant.specs.Topologies.{link_count, kind_of}
 use Rattle.sr_plant.specs.Plants.{Plant}
 
@@ -52,15 +58,59 @@ are_fit topology k (n ∷ ns) = is_fit topology k n && are_fit topology (suc k) 
 abbrev pub has_address : Mac → List State → Bool
 has_address mac ns = list_any (λ n. mac_eq n.role.mac mac) ns
 
+-- no node of the ones has the address of one of the others
+abbrev pub are_apart_from : List State → List State → Bool
+are_apart_from [] others = true
+are_apart_from (n ∷ ns) others = not (has_address n.role.mac others) && are_apart_from ns others
+
 -- no two nodes have one address
 abbrev pub are_apart : List State → Bool
 are_apart [] = true
 are_apart (n ∷ ns) = not (has_address n.role.mac ns) && are_apart ns
 
--- of these nodes a plant is made: 2 to 16, each with an address of its own, of its kind in the topology, and with no frame waiting
+-- not fewer and not more
+abbrev pub is_between : ℕ → ℕ → ℕ → Bool
+is_between fewest most n = nat_le fewest n && nat_le n most
+
+-- the boxes of the two LANs are two nodes of the ring, and their network has a number of a ring's
+abbrev pub has_boxes : RingLanShape → Bool
+has_boxes s =
+    nat_lt s.box_a s.ring && nat_lt s.box_b s.ring && not (s.box_a == s.box_b) && is_between 1 greatest_net s.net
+
+-- from a box of the left ring to one of the right
+abbrev pub is_join : TwoRingsShape → Join → Bool
+is_join s j = nat_lt j.left s.left && nat_le s.left j.right && nat_lt j.right (s.left + s.right)
+
+-- the second join, if there is one, joins two other boxes
+abbrev pub is_second_join : TwoRingsShape → Option Join → Bool
+is_second_join s None = true
+is_second_join s (Some j) = is_join s j && not (j.left == s.first.left) && not (j.right == s.first.right)
+
+-- So many nodes are joined so: 2 to 16 in a ring or in two LANs; 3 to 16 in a ring with 1 to 14 in LANs behind it; 2 to 16 in each of two
+-- rings.
+abbrev pub is_size : Topology → ℕ → Bool
+is_size Ring n = is_between fewest_nodes most_nodes n
+is_size TwinLan n = is_between fewest_nodes most_nodes n
+is_size (RingLan s) n =
+    is_between fewest_with_boxes most_nodes s.ring && is_between 1 most_in_lans s.lan && s.ring + s.lan == n && has_boxes s
+is_size (TwoRings s) n =
+    is_between fewest_nodes most_nodes s.left && is_between fewest_nodes most_nodes s.right && s.left + s.right == n
+    && is_join s s.first && is_second_join s s.second
+
+-- of these nodes a plant is made: so many as are joined so, each with an address of its own, of its kind in the topology, and with no frame
+-- waiting
 abbrev pub is_plant : Topology → List State → Bool
-is_plant topology ns =
-    nat_le fewest_nodes (length ns) && nat_le (length ns) most_nodes && are_fit topology 0 ns && are_apart ns
+is_plant topology ns = is_size topology (length ns) && are_fit topology 0 ns && are_apart ns
+
+-- no list is longer than that of a ring
+abbrev pub are_few : List State → List State → Bool
+are_few ns ms = nat_le (length ns) most_nodes && nat_le (length ms) most_nodes
+
+-- of the nodes of two lists a plant is made, the second ones behind the first
+abbrev pub is_plant_of_both : Topology → List State → List State → Bool
+is_plant_of_both topology ns ms =
+    is_size topology (length ns + length ms) && are_fit topology 0 ns && are_fit topology (length ns) ms
+    && are_apart ns && are_apart ms && are_apart_from ns ms
 
 -- a new plant of them: nothing is in flight, no link is cut, and nothing was handed up
 abbrev pub opening : Topology → List State → Plant

@@ -12,6 +12,7 @@ use Rattle.sr_node.specs.Octets.{OctetsArrived, OctetsRefused}
 use Rattle.sr_plant.specs.declared.topology.Topology.{Topology}
 use Rattle.sr_plant.specs.declared.fault.PlantFault.{PlantFault}
 use Rattle.sr_plant.specs.declared.fault.PlantFault.TheVariants.{Node, NoMemory}
+use Rattle.sr_plant.specs.declared.giving.Given.{Given}
 use Rattle.sr_plant.specs.declared.arriving.Arriving.{Arriving}
 use Rattle.sr_plant.specs.declared.arriving.Landing.{Landing}
 use Rattle.sr_plant.specs.declared.arriving.Landing.TheVariants.{Lost, Taken}
@@ -36,12 +37,12 @@ abbrev pub OneComesAs : Topology → List Copy → ℕ → Option Arriving → T
 OneComesAs t cs place a = (c : Copy) × (slice_get cs place ≡ Some c) × ComesAs t c a
 
 -- a node takes octets, which its port carries so, and is emptied
-pub record TakesOut (framing : FramingImage) (s : State) (port : Port) (octets : List ℕ) (now : ℕ) (at_a at_b : Option ParcelImage)
+pub record TakesOut (framing : FramingImage) (s : State) (port : Port) (octets : List ℕ) (now : ℕ) (given : Given)
     (before up_after : List ParcelImage) (u : State) : Type 0 where
   pub answer : Answer
   pub after : State
   pub taken : OctetsArrived framing s port octets now answer after
-  pub gives : GivesOut after at_a at_b before up_after u
+  pub gives : GivesOut after given before up_after u
 
 -- a node refuses octets so that they are lost, and stays as it is
 pub record LosesThem (framing : FramingImage) (s : State) (port : Port) (octets : List ℕ) (now : ℕ) (before up_after : List ParcelImage)
@@ -55,7 +56,7 @@ pub record LosesThem (framing : FramingImage) (s : State) (port : Port) (octets 
 -- so octets come to a node: they are lost, or it takes them
 abbrev pub Lands : FramingImage → State → Port → List ℕ → ℕ → Landing → List ParcelImage → List ParcelImage → State → Type 0
 Lands framing s port octets now Lost before up_after u = LosesThem framing s port octets now before up_after u
-Lands framing s port octets now (Taken at_a at_b) before up_after u = TakesOut framing s port octets now at_a at_b before up_after u
+Lands framing s port octets now (Taken given) before up_after u = TakesOut framing s port octets now given before up_after u
 
 -- why octets come to no node: a growth was refused, or the node refuses them and they are not lost
 abbrev pub FailsToLand : FramingImage → State → Port → List ℕ → ℕ → PlantFault → Type 0

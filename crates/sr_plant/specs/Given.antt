@@ -1,5 +1,5 @@
 -- What a node gives out after one event, where nothing waited before it.
-use Rattle.std.specs.Prelude.{◌≡◌, ◌≤◌, List, ◌++◌, length, Option, None}
+use Rattle.std.specs.Prelude.{◌≡◌, ◌≤◌, List, ◌++◌, length, None}
 use Rattle.std.specs.Option.{option_to_list}
 use Rattle.sr_forwarding.specs.Parcels.{ParcelImage}
 use Rattle.sr_node.specs.declared.event.Answer.{Answer}
@@ -7,6 +7,7 @@ use Rattle.sr_node.specs.declared.event.Event.{Event}
 use Rattle.sr_node.specs.Images.{State}
 use Rattle.sr_node.specs.Outboxes.{Outboxes}
 use Rattle.sr_node.specs.Steps.{Step, refusal_of}
+use Rattle.sr_plant.specs.declared.giving.Given.{Given}
 use Rattle.sr_plant.specs.Steps.{emptied}
 
 -- at each outlet one parcel at most
@@ -16,18 +17,18 @@ pub record IsAtMostOneEach (o : Outboxes) : Type 0 where
   pub b : length o.b ≤ 1
   pub c : length o.c ≤ 1
 
--- a node in state u was emptied: what it has for its host went up, and these came out at A and B
-pub record GivesOut (u : State) (at_a at_b : Option ParcelImage) (before up_after : List ParcelImage) (t : State) : Type 0 where
-  pub a : option_to_list at_a ≡ u.core.out.a
-  pub b : option_to_list at_b ≡ u.core.out.b
+-- a node in state u was emptied: what it has for its host went up, and this came out at A, B and C
+pub record GivesOut (u : State) (given : Given) (before up_after : List ParcelImage) (t : State) : Type 0 where
+  pub a : option_to_list given.a ≡ u.core.out.a
+  pub b : option_to_list given.b ≡ u.core.out.b
+  pub c : option_to_list given.c ≡ u.core.out.c
   pub up : up_after ≡ before ++ u.core.out.h
   pub rest : t ≡ emptied u
 
 -- a node takes an event and is emptied
-pub record StepsOut (s : State) (event : Event) (at_a at_b : Option ParcelImage) (before up_after : List ParcelImage) (t : State) :
-    Type 0 where
+pub record StepsOut (s : State) (event : Event) (given : Given) (before up_after : List ParcelImage) (t : State) : Type 0 where
   pub answer : Answer
   pub after : State
   pub fits : refusal_of s event ≡ None
   pub step : Step s event answer after
-  pub gives : GivesOut after at_a at_b before up_after t
+  pub gives : GivesOut after given before up_after t

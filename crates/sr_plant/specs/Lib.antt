@@ -10,3 +10,4 @@ pub mod Steps
 pub mod Given
 pub mod Carrying
 pub mod Building
+pub mod Coupled

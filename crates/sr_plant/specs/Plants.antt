@@ -5,8 +5,8 @@ use Rattle.sr_node.specs.Images.{State}
 use Rattle.sr_node.specs.Outboxes.{boxes_empty}
 use Rattle.sr_plant_laws.specs.Lists.{Each}
 use Rattle.sr_plant.specs.declared.topology.Topology.{Topology}
-use Rattle.sr_plant.specs.Limits.{most_nodes}
-use Rattle.sr_plant.specs.Topologies.{link_count, kind_of}
+use Rattle.sr_plant.specs.Limits.{most_members}
+use Rattle.sr_plant.specs.Topologies.{link_count, kind_of, IsJoinedAs}
 use Rattle.sr_plant.specs.Copies.{Copy}
 
 -- what clauses see of the copies in flight: the copies, and room for so many more parcels and copies
@@ -49,10 +49,11 @@ IsEmptied s = s.core.out ≡ boxes_empty
 abbrev pub AreKinds : Topology → List State → Type 0
 AreKinds t ns = (k : ℕ) (n : State) → slice_get ns k ≡ Some n → n.role.kind ≡ kind_of t k
 
--- As a plant is between its events: it has 16 nodes at most, they are of the kinds of its topology and nothing waits in them, each link and
--- each host has its place, and each copy in flight leads to a node.
+-- As a plant is between its events: it has 32 nodes at most, they are joined as its topology says and of its kinds, and nothing waits in
+-- them; each link and each host has its place, and each copy in flight leads to a node.
 pub record IsInOrder (s : Plant) : Type 0 where
-  pub size : length s.nodes ≤ most_nodes
+  pub size : length s.nodes ≤ most_members
+  pub joined : IsJoinedAs s.topology (length s.nodes)
   pub kinds : AreKinds s.topology s.nodes
   pub emptied : Each IsEmptied s.nodes
   pub links : length s.cut ≡ link_count s.topology (length s.nodes)

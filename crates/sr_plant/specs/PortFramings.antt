@@ -1,8 +1,11 @@
 -- The framings that ports of a plant's nodes have.
-use Rattle.std.specs.Prelude.{ℕ}
+use Rattle.std.specs.Prelude.{ℕ, ◌≤◌}
 use Rattle.sr_forwarding.specs.Framings.{FramingImage, Tagged, Trailed, Ordinary}
 use Rattle.sr_forwarding.specs.declared.role_image.RoleKind.{RoleKind}
 use Rattle.sr_forwarding.specs.declared.role_image.RoleKind.TheVariants.{Danp, Danh, San, Prp, Hsr}
+use Rattle.sr_forwarding.specs.Limits.{greatest_net}
+use Rattle.sr_plant.specs.declared.topology.Topology.{Topology}
+use Rattle.sr_plant.specs.Topologies.{kind_of}
 use Rattle.sr_plant.specs.declared.port_framing.PortFraming.{PortFraming}
 use Rattle.sr_plant.specs.declared.port_framing.PortFraming.TheVariants.{Plain, Tag, Trailer}
 
@@ -18,3 +21,7 @@ network_of Danp = 0
 network_of Danh = 0
 network_of San = 0
 network_of Hsr = 0
+
+-- the network of each node has a number that a ring can tell
+abbrev pub HaveNets : Topology → Type 0
+HaveNets t = (k : ℕ) → network_of (kind_of t k) ≤ greatest_net

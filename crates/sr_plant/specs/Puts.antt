@@ -1,5 +1,6 @@
 -- What nodes put out, and where it leads.
-use Rattle.std.specs.Prelude.{ℕ, zero, suc, ◌+◌, ◌==◌, Bool, not, List, [], ◌∷◌, ◌++◌, map, Option, None, Some, if◌then◌else◌}
+use Rattle.std.specs.Prelude.{ℕ, zero, suc, ◌+◌, ◌-◌, ◌*◌, ◌==◌, nat_lt, Bool, not, List, [], ◌∷◌}
+use Rattle.std.specs.Prelude.{◌++◌, map, Option, None, Some, option_map, if◌then◌else◌}
 use Rattle.std.specs.List.{filter}
 use Rattle.std.specs.Option.{option_to_list}
 use Rattle.sr_frame.specs.declared.ports.Port.{Port}
@@ -9,9 +10,13 @@ use Rattle.sr_node.specs.Outboxes.{Outboxes}
 use Rattle.sr_plant_laws.specs.Ledger.{Hop}
 use Rattle.sr_plant_laws.specs.RingParts.{onward, backward}
 use Rattle.sr_plant_laws.specs.Rings.{beyond}
+use Rattle.sr_plant_laws.specs.TwoRings.{shifted}
+use Rattle.sr_plant_laws.specs.Ways.{interlink_of}
+use Rattle.sr_plant.specs.declared.shapes.RingLanShape.{RingLanShape}
+use Rattle.sr_plant.specs.declared.shapes.TwoRingsShape.{TwoRingsShape}
 use Rattle.sr_plant.specs.declared.topology.Topology.{Topology}
-use Rattle.sr_plant.specs.declared.topology.Topology.TheVariants.{Ring, TwinLan}
-use Rattle.sr_plant.specs.Topologies.{net_of}
+use Rattle.sr_plant.specs.declared.topology.Topology.TheVariants.{Ring, TwinLan, RingLan, TwoRings}
+use Rattle.sr_plant.specs.Topologies.{net_of, joins_of}
 use Rattle.sr_plant.specs.Copies.{Copy, is_stopped}
 
 -- node k puts a parcel out at an outlet, over a hop
@@ -35,14 +40,72 @@ put_out t n k out = all_put t n k A out.a ++ (all_put t n k B out.b ++ all_put t
 abbrev pub those_passing : List Bool → List Copy → List Copy
 those_passing cut cs = filter (λ c. not (is_stopped cut c)) cs
 
+-- round a ring of n nodes, from a port of node k to node j
+abbrev pub ring_hop_to : ℕ → ℕ → Port → ℕ → Option Hop
+ring_hop_to n k H j = None
+ring_hop_to n k A j = if j == beyond n backward k then Some (record { to = record { node = j; port = B }; links = j ∷ [] }) else None
+ring_hop_to n k B j = if j == beyond n onward k then Some (record { to = record { node = j; port = A }; links = k ∷ [] }) else None
+ring_hop_to n k C j = None
+
+-- through two LANs of n nodes
+abbrev pub twin_hop_to : ℕ → ℕ → Port → ℕ → Option Hop
+twin_hop_to n k H j = None
+twin_hop_to n k A j = if j == k then None else Some (record { to = record { node = j; port = A }; links = (0 + k) ∷ (0 + j) ∷ [] })
+twin_hop_to n k B j = if j == k then None else Some (record { to = record { node = j; port = B }; links = (n + k) ∷ (n + j) ∷ [] })
+twin_hop_to n k C j = None
+
+-- through a LAN behind a ring of so many nodes: from node k, on its own link, to node j at this port, on that node's
+abbrev pub lan_hop_to : ℕ → Port → ℕ → ℕ → ℕ → ℕ → Option Hop
+lan_hop_to ring port own first k j =
+    if nat_lt j ring then None
+    else if j == k then None
+    else Some (record { to = record { node = j; port = port }; links = own ∷ (first + j) ∷ [] })
+
+-- from a node of the LANs, to the box of this LAN on the box's link, or to another node of them
+abbrev pub to_box_or_lan : ℕ → ℕ → ℕ → Port → ℕ → ℕ → ℕ → ℕ → Option Hop
+to_box_or_lan ring box over port own first k j =
+    if j == box then Some (record { to = interlink_of box; links = own ∷ over ∷ [] }) else lan_hop_to ring port own first k j
+
+-- over the link between two boxes, from node k to node j; links are numbered in the order of the joins
+abbrev pub over_to : ℕ → List (ℕ × ℕ) → ℕ → ℕ → Option Hop
+over_to link [] k j = None
+over_to link (x ∷ xs) k j =
+    if k == x.0 then (if j == x.1 then Some (record { to = interlink_of x.1; links = link ∷ [] }) else None)
+    else if k == x.1 then (if j == x.0 then Some (record { to = interlink_of x.0; links = link ∷ [] }) else None)
+    else over_to (link + 1) xs k j
+
+-- a hop to a node of the right ring, where this says those of a ring by itself
+abbrev pub beyond_left : ℕ → (ℕ → Option Hop) → ℕ → Option Hop
+beyond_left left to j = if nat_lt j left then None else option_map (shifted left) (to (j - left))
+
+-- round the ring and through the LANs behind it
+abbrev pub ring_lan_hop_to : RingLanShape → ℕ → Port → ℕ → Option Hop
+ring_lan_hop_to s k H j = None
+ring_lan_hop_to s k A j =
+    if nat_lt k s.ring then ring_hop_to s.ring k A j else to_box_or_lan s.ring s.box_a (s.ring + s.lan) A k 0 k j
+ring_lan_hop_to s k B j =
+    if nat_lt k s.ring then ring_hop_to s.ring k B j
+    else to_box_or_lan s.ring s.box_b (s.ring + 2 * s.lan + 1) B (s.lan + 1 + k) (s.lan + 1) k j
+ring_lan_hop_to s k C j =
+    if k == s.box_a then lan_hop_to s.ring A (s.ring + s.lan) 0 k j
+    else if k == s.box_b then lan_hop_to s.ring B (s.ring + 2 * s.lan + 1) (s.lan + 1) k j
+    else None
+
+-- round two rings, and from one to the other
+abbrev pub two_rings_hop_to : TwoRingsShape → ℕ → Port → ℕ → Option Hop
+two_rings_hop_to s k H j = None
+two_rings_hop_to s k A j =
+    if nat_lt k s.left then ring_hop_to s.left k A j else beyond_left s.left (ring_hop_to s.right (k - s.left) A) j
+two_rings_hop_to s k B j =
+    if nat_lt k s.left then ring_hop_to s.left k B j else beyond_left s.left (ring_hop_to s.right (k - s.left) B) j
+two_rings_hop_to s k C j = over_to (s.left + s.right) (joins_of s) k j
+
 -- the hop from there to node j, if there is one
 abbrev pub hop_to : Topology → ℕ → ℕ → Port → ℕ → Option Hop
-hop_to t n k H j = None
-hop_to Ring n k A j = if j == beyond n backward k then Some (record { to = record { node = j; port = B }; links = j ∷ [] }) else None
-hop_to Ring n k B j = if j == beyond n onward k then Some (record { to = record { node = j; port = A }; links = k ∷ [] }) else None
-hop_to TwinLan n k A j = if j == k then None else Some (record { to = record { node = j; port = A }; links = (0 + k) ∷ (0 + j) ∷ [] })
-hop_to TwinLan n k B j = if j == k then None else Some (record { to = record { node = j; port = B }; links = (n + k) ∷ (n + j) ∷ [] })
-hop_to t n k C j = None
+hop_to Ring n k o j = ring_hop_to n k o j
+hop_to TwinLan n k o j = twin_hop_to n k o j
+hop_to (RingLan s) n k o j = ring_lan_hop_to s k o j
+hop_to (TwoRings s) n k o j = two_rings_hop_to s k o j
 
 -- the hops to the nodes below m
 abbrev pub hops_below : (ℕ → Option Hop) → ℕ → List Hop

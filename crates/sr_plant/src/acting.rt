@@ -8,20 +8,20 @@ ghost use Rattle.sr_plant.specs.Plants.{IsEmptied, IsInOrder};
 ghost use Rattle.sr_plant.specs.Given.{StepsOut};
 ghost use Rattle.sr_plant.specs.Steps.{Acts, NodeRefuses};
 
-use crate::giving::take_out;
+use crate::giving::{Given, take_out};
 use crate::{PlantFault, PlantOf};
 use sr_forwarding::{Parcel, Role};
 use sr_node::{Event, NodeOf};
 
-// A node takes an event, what it has for its host goes up, and what came out at A and at B is answered. The growth comes
+// A node takes an event, what it has for its host goes up, and what came out at its ports is answered. The growth comes
 // first.
 fn step_out<R: Role>(
     node: &mut NodeOf<R>,
     up: &mut Vec<Parcel>,
     event: &Event,
-) -> Result<(Option<Parcel>, Option<Parcel>), PlantFault>
+) -> Result<Given, PlantFault>
     requires { IsEmptied (state_of R.meaning node.old) }
-    ensures ok { IfOk result (λ g. StepsOut (state_of R.meaning node.old) event.now g.0 g.1
+    ensures ok { IfOk result (λ g. StepsOut (state_of R.meaning node.old) event.now g
         up.old.items up.new.items (state_of R.meaning node.new)) }
     ensures err { IfErr result (λ f. (f ≡ PlantFault.NoMemory)
         ⊎ (f ≡ PlantFault.Node
@@ -51,8 +51,7 @@ impl<R: Role> PlantOf<R> {
         let nodes = self.nodes.len();
         self.traffic.reserve(nodes)?;
         let given = step_out(&mut self.nodes[node], &mut self.handed[node], event)?;
-        self.traffic
-            .put(self.topology, nodes, node, given.0, given.1);
+        self.traffic.put(self.topology, nodes, node, given);
         self.traffic.set_clock(now);
         Ok(())
     }

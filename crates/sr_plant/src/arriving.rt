@@ -3,14 +3,14 @@
 ghost use Rattle.std.specs.Prelude.{◌≡◌, true, false, IfOk, IfErr, OnErr};
 ghost use Rattle.sr_node.specs.Octets.{OctetsArrived, OctetsRefused};
 ghost use Rattle.sr_plant.specs.Images.{state_of};
-ghost use Rattle.sr_plant.specs.PortFramings.{framed};
+ghost use Rattle.sr_plant.specs.PortFramings.{framed, HaveNets};
 ghost use Rattle.sr_plant.specs.Plants.{IsEmptied};
 ghost use Rattle.sr_plant.specs.Steps.{is_loss};
 ghost use Rattle.sr_plant.specs.Flights.{hop_of};
 ghost use Rattle.sr_plant.specs.Carrying.{ComesAs, Lands, FailsToLand};
 
 use crate::flight::Flying;
-use crate::giving::take_out;
+use crate::giving::{Given, take_out};
 use crate::port_framing::PortFraming;
 use crate::{PlantFault, Topology};
 use sr_forwarding::{Framing, Parcel, ReadFault, Role};
@@ -35,6 +35,7 @@ impl Arriving {
         flying: Flying,
         parcel: &Parcel,
     ) -> Result<Option<Arriving>, NoMemory>
+        requires { HaveNets topology }
         ensures { IfOk result (λ a. ComesAs topology
             (record {
               hop = hop_of flying.hop;
@@ -61,8 +62,8 @@ impl Arriving {
 pub(crate) enum Landing {
     /// The receiver refuses it, and it is lost.
     Lost,
-    /// The receiver takes it, and puts these out at A and at B.
-    Taken(Option<Parcel>, Option<Parcel>),
+    /// The receiver takes it, and puts this out at its ports.
+    Taken(Given),
 }
 
 // What a refusal by the receiver comes to: the copy is lost, or the plant refuses it too.
@@ -95,8 +96,8 @@ fn arrive<R: Role>(
     node.arrive(&framing, port, octets, now)
 }
 
-/// A copy comes to its receiver, what that has for its host goes up, and what came out at A and at B is answered. The
-/// growth comes first.
+/// A copy comes to its receiver, what that has for its host goes up, and what came out at its ports is answered.
+/// The growth comes first.
 pub(crate) fn arrive_out<R: Role>(
     framing: PortFraming,
     node: &mut NodeOf<R>,
@@ -117,6 +118,5 @@ pub(crate) fn arrive_out<R: Role>(
     if let Err(fault) = arrive(framing, node, arriving.port, arriving.octets.octets(), now) {
         return refused(fault);
     }
-    let (a, b) = take_out(node, up);
-    Ok(Landing::Taken(a, b))
+    Ok(Landing::Taken(take_out(node, up)))
 }

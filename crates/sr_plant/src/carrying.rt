@@ -39,8 +39,8 @@ impl<R: Role> PlantOf<R> {
             now,
         )?;
         self.traffic.remove(place);
-        if let Landing::Taken(a, b) = landing {
-            self.traffic.put(self.topology, nodes, node, a, b);
+        if let Landing::Taken(given) = landing {
+            self.traffic.put(self.topology, nodes, node, given);
         }
         Ok(())
     }

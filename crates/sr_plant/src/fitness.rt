@@ -1,23 +1,18 @@
 //! Whether nodes make a plant.
 
-ghost use Rattle.std.specs.Prelude.{◌≡◌, ◌≤◌, length};
+ghost use Rattle.std.specs.Prelude.{◌≡◌, ◌<◌, length};
 ghost use Rattle.sr_plant.specs.Images.{state_of, states_of};
-ghost use Rattle.sr_plant.specs.Building.{is_lan, is_kind, is_fit, are_fit, has_address, are_apart, is_plant};
+ghost use Rattle.sr_plant.specs.Building.{is_lan, is_kind, is_fit, are_fit, has_address, are_apart, are_apart_from, is_plant, are_few, is_plant_of_both};
 
 use crate::Topology;
+use crate::size::MOST_NODES;
 use sr_forwarding::{Role, RoleKind};
 use sr_frame::{Mac, Port};
 use sr_node::NodeOf;
 use sr_prp_trailer::Lan;
 
-/// The fewest nodes of a plant.
-const FEWEST_NODES: usize = 2;
-
-/// The most nodes of a plant.
-const MOST_NODES: usize = 16;
-
-// Whether both are one LAN.
-fn is_lan(lan: Lan, other: Lan) -> bool
+/// Whether both are one LAN.
+pub(crate) fn is_lan(lan: Lan, other: Lan) -> bool
     ensures { result ≡ is_lan lan other }
 {
     matches!((lan, other), (Lan::A, Lan::A) | (Lan::B, Lan::B))
@@ -50,12 +45,13 @@ fn is_fit<R: Role>(topology: Topology, place: usize, node: &NodeOf<R>) -> bool
         && node.waiting(Port::C) == 0
 }
 
-// Whether all are.
-fn are_fit<R: Role>(topology: Topology, nodes: &[NodeOf<R>]) -> bool
-    ensures { result ≡ are_fit topology 0 (states_of R.meaning nodes.now) }
+// Whether all are, from this place on.
+fn are_fit<R: Role>(topology: Topology, first: usize, nodes: &[NodeOf<R>]) -> bool
+    requires { first < 1000 }
+    ensures { result ≡ are_fit topology first (states_of R.meaning nodes.now) }
 {
     for (place, node) in nodes.iter().enumerate() {
-        if !is_fit(topology, place, node) {
+        if !is_fit(topology, first + place, node) {
             return false;
         }
     }
@@ -88,12 +84,48 @@ fn are_apart<R: Role>(nodes: &[NodeOf<R>]) -> bool
     true
 }
 
+// Whether no node of the ones has the address of one of the others.
+fn are_apart_from<R: Role>(nodes: &[NodeOf<R>], others: &[NodeOf<R>]) -> bool
+    ensures { result ≡ are_apart_from
+        (states_of R.meaning nodes.now) (states_of R.meaning others.now) }
+{
+    for node in nodes {
+        if has_address(node.mac(), others) {
+            return false;
+        }
+    }
+    true
+}
+
 /// Whether a plant of this topology is made of these nodes.
 pub(crate) fn is_plant<R: Role>(topology: Topology, nodes: &[NodeOf<R>]) -> bool
     ensures { result ≡ is_plant topology (states_of R.meaning nodes.now) }
 {
-    FEWEST_NODES <= nodes.len()
-        && nodes.len() <= MOST_NODES
-        && are_fit(topology, nodes)
+    topology.is_size(nodes.len()) && are_fit(topology, 0, nodes) && are_apart(nodes)
+}
+
+/// Whether these are no more than the nodes of a ring, and those behind them neither.
+pub(crate) fn are_few<R: Role>(nodes: &[NodeOf<R>], behind: &[NodeOf<R>]) -> bool
+    ensures { result ≡ are_few (states_of R.meaning nodes.now) (states_of R.meaning behind.now) }
+{
+    nodes.len() <= MOST_NODES && behind.len() <= MOST_NODES
+}
+
+/// Whether one is made of these nodes and those behind them.
+pub(crate) fn is_plant_of_both<R: Role>(
+    topology: Topology,
+    nodes: &[NodeOf<R>],
+    behind: &[NodeOf<R>],
+) -> bool
+    requires nodes { length nodes.now < 1000 }
+    requires behind { length behind.now < 1000 }
+    ensures { result ≡ is_plant_of_both topology
+        (states_of R.meaning nodes.now) (states_of R.meaning behind.now) }
+{
+    topology.is_size(nodes.len() + behind.len())
+        && are_fit(topology, 0, nodes)
+        && are_fit(topology, nodes.len(), behind)
         && are_apart(nodes)
+        && are_apart(behind)
+        && are_apart_from(nodes, behind)
 }

@@ -4,10 +4,12 @@ ghost use Rattle.std.specs.Prelude.{◌≡◌, ◌≤◌, ◌<◌, ◌+◌, [], 
 ghost use Rattle.std.specs.VecDeque.{deque_len, deque_capacity};
 ghost use Rattle.slab.specs.Slab.{get, slab_len};
 ghost use Rattle.sr_plant.specs.Copies.{is_on, Doubles};
-ghost use Rattle.sr_plant.specs.Limits.{most_nodes};
+ghost use Rattle.sr_plant.specs.Limits.{most_members};
 ghost use Rattle.sr_plant.specs.Puts.{all_put, those_passing};
 ghost use Rattle.sr_plant.specs.Flights.{AreCounted, AreUsed, AreUsedBut, copy_in, copies_in, parcel_of};
 ghost use Rattle.sr_plant.specs.Carrying.{OneComesAs};
+ghost use Rattle.sr_plant.specs.PortFramings.{HaveNets};
+ghost use Rattle.sr_plant.specs.Topologies.{IsJoinedAs};
 
 use crate::Topology;
 use crate::arriving::Arriving;
@@ -43,7 +45,7 @@ impl Model for Flight {
     ghost use Rattle.std.specs.VecDeque.{deque_len, deque_capacity};
     ghost use Rattle.slab.specs.Slab.{slab_len};
     ghost use Rattle.sr_plant.specs.Plants.{FlightValue};
-    ghost use Rattle.sr_plant.specs.Limits.{most_nodes};
+    ghost use Rattle.sr_plant.specs.Limits.{most_members};
     ghost use Rattle.sr_plant.specs.Puts.{all_put, those_passing};
     ghost use Rattle.sr_plant.specs.Flights.{AreCounted, AreUsed, copies_in};
 
@@ -157,8 +159,9 @@ impl Flight {
 
     /// A parcel is put out at an outlet, if there is one: a copy for each node to which it leads over no link that is cut.
     pub(crate) fn put(&mut self, outlet: Outlet, parcel: Option<Parcel>, cut: &[bool])
-        requires small { outlet.nodes ≤ most_nodes }
+        requires small { outlet.nodes ≤ most_members }
         requires node { outlet.node < outlet.nodes }
+        requires joined { IsJoinedAs outlet.topology outlet.nodes }
         requires parcels { 1 ≤ self.old.parcels }
         requires places { outlet.nodes ≤ self.old.places }
         ensures copies { self.new.copies ≡ self.old.copies ++ those_passing cut.now
@@ -181,7 +184,8 @@ impl Flight {
         topology: Topology,
         place: usize,
     ) -> Result<Option<Arriving>, NoMemory>
-        requires { place < length self.now.copies }
+        requires nets { HaveNets topology }
+        requires place { place < length self.now.copies }
         ensures { IfOk result (λ a. OneComesAs topology self.now.copies place a) }
     {
         let flying = self.places[place];

@@ -19,20 +19,25 @@ fn append(list: &mut Vec<Parcel>, parcel: Option<Parcel>)
     }
 }
 
-/// Takes out all that waits in a node, where it is at most one parcel at each outlet: the host's goes up, and those of A
-/// and B are answered. What waits at an interlink leads nowhere.
-pub(crate) fn take_out<R: Role>(
-    node: &mut NodeOf<R>,
-    up: &mut Vec<Parcel>,
-) -> (Option<Parcel>, Option<Parcel>)
+/// What came out of a node at its ports.
+#[derive(Drop)]
+pub(crate) struct Given {
+    pub(crate) a: Option<Parcel>,
+    pub(crate) b: Option<Parcel>,
+    pub(crate) c: Option<Parcel>,
+}
+
+/// Takes out all that waits in a node, where it is at most one parcel at each outlet: the host's goes up, and those of its
+/// ports are answered.
+pub(crate) fn take_out<R: Role>(node: &mut NodeOf<R>, up: &mut Vec<Parcel>) -> Given
     requires few { IsAtMostOneEach (state_of R.meaning node.old).core.out }
     requires room { vec_len up.old < vec_capacity up.old }
-    ensures { GivesOut (state_of R.meaning node.old) result.0 result.1
+    ensures { GivesOut (state_of R.meaning node.old) result
         up.old.items up.new.items (state_of R.meaning node.new) }
 {
     append(up, node.take(Port::H));
     let a = node.take(Port::A);
     let b = node.take(Port::B);
-    let _ = node.take(Port::C);
-    (a, b)
+    let c = node.take(Port::C);
+    Given { a, b, c }
 }

@@ -1,4 +1,5 @@
-//! Whole networks as values: rings, and two LANs, of nodes and the copies of frames between them.
+//! Whole networks as values: rings, two LANs, a ring with two LANs, two rings, of nodes and the copies of frames between
+//! them.
 #![tactic(auto)]
 
 mod acting;
@@ -6,6 +7,8 @@ mod applying;
 mod arriving;
 mod building;
 mod carrying;
+mod coupled;
+mod coupled_hops;
 mod event;
 mod fault;
 mod fitness;
@@ -19,14 +22,19 @@ mod plant;
 mod port_framing;
 mod putting;
 mod ring;
+mod ring_hops;
+mod shapes;
+mod size;
 mod topology;
 mod traffic;
 mod twin_lan;
 
+pub use coupled::{Coupled, CoupledOf};
 pub use event::PlantEvent;
 pub use fault::PlantFault;
 pub use plant::{Plant, PlantOf};
 pub use ring::{Ring, RingOf};
+pub use shapes::{Join, RingLanShape, TwoRingsShape};
 pub use topology::Topology;
 pub use traffic::Traffic;
 pub use twin_lan::{TwinLan, TwinLanOf};

@@ -3,8 +3,9 @@
 ghost use Rattle.std.specs.Prelude.{◌≡◌, ◌≤◌, ◌<◌, ◌+◌, ◌++◌, map, option_to_list, IsSome};
 ghost use Rattle.std.specs.VecDeque.{deque_len, deque_capacity};
 ghost use Rattle.slab.specs.Slab.{get, slab_len};
-ghost use Rattle.sr_plant.specs.Limits.{most_nodes};
+ghost use Rattle.sr_plant.specs.Limits.{most_members};
 ghost use Rattle.sr_plant.specs.Flights.{AreCounted, AreUsedBut, copies_in, parcel_of};
+ghost use Rattle.sr_plant.specs.Topologies.{IsJoinedAs};
 ghost use Rattle.sr_plant.specs.Puts.{copy_over, copies_put, those_passing, hop_to};
 
 use crate::flight::{Flying, attach};
@@ -22,8 +23,9 @@ fn put_copy(
     to: usize,
     cut: &[bool],
 )
-    requires small { outlet.nodes ≤ most_nodes }
+    requires small { outlet.nodes ≤ most_members }
     requires node { outlet.node < outlet.nodes }
+    requires joined { IsJoinedAs outlet.topology outlet.nodes }
     requires to { to < outlet.nodes }
     requires room { deque_len places.old < deque_capacity places.old }
     requires counted { AreCounted kept.old places.old.items }
@@ -65,8 +67,9 @@ pub(crate) fn put_copies(
     key: usize,
     cut: &[bool],
 )
-    requires small { outlet.nodes ≤ most_nodes }
+    requires small { outlet.nodes ≤ most_members }
     requires node { outlet.node < outlet.nodes }
+    requires joined { IsJoinedAs outlet.topology outlet.nodes }
     requires room { deque_len places.old + outlet.nodes ≤ deque_capacity places.old }
     requires counted { AreCounted kept.old places.old.items }
     requires used { AreUsedBut key kept.old }

@@ -1,12 +1,12 @@
 //! How the nodes of a plant are joined.
 
 ghost use Rattle.std.specs.Prelude.{◌≡◌, ◌≤◌};
-ghost use Rattle.sr_forwarding.specs.Limits.{greatest_net};
-ghost use Rattle.sr_plant.specs.PortFramings.{framed, network_of};
-ghost use Rattle.sr_plant.specs.Topologies.{link_count, kind_of, framing_of};
-ghost use Rattle.sr_plant.specs.Limits.{most_nodes};
+ghost use Rattle.sr_plant.specs.PortFramings.{framed, HaveNets};
+ghost use Rattle.sr_plant.specs.Topologies.{link_count, kind_of, framing_of, IsJoinedAs};
+ghost use Rattle.sr_plant.specs.Limits.{most_members};
 
 use crate::port_framing::PortFraming;
+use crate::{RingLanShape, TwoRingsShape};
 use sr_forwarding::RoleKind;
 use sr_frame::Port;
 
@@ -19,22 +19,30 @@ pub enum Topology {
     /// Two LANs, A and B, of doubly attached nodes (IEC 62439-3 clause 4). Of n nodes link i is that of node i in LAN A,
     /// and link n + i that in LAN B.
     TwinLan,
+    /// A ring with two RedBoxes of one PRP network, and doubly attached nodes of the LANs of this network.
+    RingLan(RingLanShape),
+    /// Two rings that are joined by RedBoxes.
+    TwoRings(TwoRingsShape),
 }
 
 impl Topology {
     /// The kind of a node.
-    pub fn kind_of(self, _node: usize) -> RoleKind
-        ensures kind { result ≡ kind_of self _node }
-        ensures net { network_of result ≤ greatest_net }
+    pub fn kind_of(self, node: usize) -> RoleKind
+        ensures { result ≡ kind_of self node }
     {
         match self {
             Topology::Ring => RoleKind::Danh,
             Topology::TwinLan => RoleKind::Danp,
+            Topology::RingLan(shape) if node < shape.ring => shape.kind_in_ring(node),
+            Topology::RingLan(_) => RoleKind::Danp,
+            Topology::TwoRings(shape) if shape.is_box(node) => RoleKind::Hsr,
+            Topology::TwoRings(_) => RoleKind::Danh,
         }
     }
 
     /// How a port of a node carries frames.
     pub(crate) fn framing_of(self, node: usize, port: Port) -> PortFraming
+        requires { HaveNets self }
         ensures { framed result ≡ framing_of self node port }
     {
         PortFraming::of(self.kind_of(node), port)
@@ -42,12 +50,15 @@ impl Topology {
 
     /// How many links join so many nodes.
     pub(crate) fn link_count(self, nodes: usize) -> usize
-        requires { nodes ≤ most_nodes }
+        requires small { nodes ≤ most_members }
+        requires joined { IsJoinedAs self nodes }
         ensures { result ≡ link_count self nodes }
     {
         match self {
             Topology::Ring => nodes,
             Topology::TwinLan => nodes + nodes,
+            Topology::RingLan(shape) => shape.ring + 2 * shape.lan + 2,
+            Topology::TwoRings(shape) => shape.left + shape.right + shape.joins(),
         }
     }
 }

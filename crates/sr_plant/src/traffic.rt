@@ -1,16 +1,18 @@
 //! What is between the nodes of a plant.
 
-ghost use Rattle.std.specs.Prelude.{◌≡◌, ◌≤◌, ◌<◌, ◌+◌, ◌++◌, [], true, false, not, length, filter, remove, replicate, slice_set, option_to_list, IfOk, OnOk, OnErr};
-ghost use Rattle.sr_plant.specs.Limits.{most_nodes};
+ghost use Rattle.std.specs.Prelude.{◌≡◌, ◌≤◌, ◌<◌, ◌*◌, ◌++◌, [], true, false, not, length, filter, remove, replicate, slice_set, option_to_list, IfOk, OnOk, OnErr};
+ghost use Rattle.sr_plant.specs.Limits.{most_members};
 ghost use Rattle.sr_plant.specs.Copies.{is_on, Doubles};
 ghost use Rattle.sr_plant.specs.Puts.{all_put, those_passing};
 ghost use Rattle.sr_plant.specs.Carrying.{OneComesAs};
+ghost use Rattle.sr_plant.specs.PortFramings.{HaveNets};
+ghost use Rattle.sr_plant.specs.Topologies.{IsJoinedAs};
 
 use crate::Topology;
 use crate::arriving::Arriving;
 use crate::flight::Flight;
+use crate::giving::Given;
 use crate::outlet::Outlet;
-use sr_forwarding::Parcel;
 use sr_frame::{NoMemory, Port};
 use std::alloc::Global;
 use std::marker::Model;
@@ -83,35 +85,33 @@ impl Traffic {
         self.alloc
     }
 
-    /// Room for what a node puts out at A and B, to so many nodes. NoMemory: a growth was refused. Nothing that shows
+    /// Room for what a node puts out at its ports, to so many nodes. NoMemory: a growth was refused. Nothing that shows
     /// changes.
     pub(crate) fn reserve(&mut self, nodes: usize) -> Result<(), NoMemory>
-        requires { nodes ≤ most_nodes }
+        requires { nodes ≤ most_members }
         ensures copies { self.new.flight.copies ≡ self.old.flight.copies }
         ensures rest { (self.new.cut ≡ self.old.cut) × (self.new.clock ≡ self.old.clock) }
-        ensures parcels { OnOk result (2 ≤ self.new.flight.parcels) }
-        ensures places { OnOk result (nodes + nodes ≤ self.new.flight.places) }
+        ensures parcels { OnOk result (3 ≤ self.new.flight.parcels) }
+        ensures places { OnOk result (3 * nodes ≤ self.new.flight.places) }
     {
-        self.flight.reserve(2, nodes + nodes)
+        self.flight.reserve(3, 3 * nodes)
     }
 
-    /// What a node puts out at A and B, for which there is room, is in flight behind all else, but for what is put on a
+    /// What a node puts out at its ports, for which there is room, is in flight behind all else, but for what is put on a
     /// link that is cut.
-    pub(crate) fn put(
-        &mut self,
-        topology: Topology,
-        nodes: usize,
-        node: usize,
-        a: Option<Parcel>,
-        b: Option<Parcel>,
-    )
-        requires small { nodes ≤ most_nodes }
+    pub(crate) fn put(&mut self, topology: Topology, nodes: usize, node: usize, given: Given)
+        requires small { nodes ≤ most_members }
         requires node { node < nodes }
-        requires parcels { 2 ≤ self.old.flight.parcels }
-        requires places { nodes + nodes ≤ self.old.flight.places }
-        ensures copies { self.new.flight.copies ≡ (self.old.flight.copies
-            ++ those_passing self.old.cut (all_put topology nodes node Port.A (option_to_list a)))
-            ++ those_passing self.old.cut (all_put topology nodes node Port.B (option_to_list b)) }
+        requires joined { IsJoinedAs topology nodes }
+        requires parcels { 3 ≤ self.old.flight.parcels }
+        requires places { 3 * nodes ≤ self.old.flight.places }
+        ensures copies { self.new.flight.copies ≡ ((self.old.flight.copies
+            ++ those_passing self.old.cut
+            (all_put topology nodes node Port.A (option_to_list given.a)))
+            ++ those_passing self.old.cut
+            (all_put topology nodes node Port.B (option_to_list given.b)))
+            ++ those_passing self.old.cut
+            (all_put topology nodes node Port.C (option_to_list given.c)) }
         ensures rest { (self.new.cut ≡ self.old.cut) × (self.new.clock ≡ self.old.clock) }
     {
         let outlet = Outlet {
@@ -120,12 +120,17 @@ impl Traffic {
             node,
             port: Port::A,
         };
-        self.flight.put(outlet, a, &self.cut);
+        self.flight.put(outlet, given.a, &self.cut);
         let outlet = Outlet {
             port: Port::B,
             ..outlet
         };
-        self.flight.put(outlet, b, &self.cut);
+        self.flight.put(outlet, given.b, &self.cut);
+        let outlet = Outlet {
+            port: Port::C,
+            ..outlet
+        };
+        self.flight.put(outlet, given.c, &self.cut);
     }
 
     /// The copy at a place as it comes to its receiver. None where its outlet has no octets for it. NoMemory: a growth was
@@ -135,7 +140,8 @@ impl Traffic {
         topology: Topology,
         place: usize,
     ) -> Result<Option<Arriving>, NoMemory>
-        requires { place < length self.now.flight.copies }
+        requires nets { HaveNets topology }
+        requires place { place < length self.now.flight.copies }
         ensures { IfOk result (λ a. OneComesAs topology self.now.flight.copies place a) }
     {
         self.flight.arriving(self.alloc, topology, place)

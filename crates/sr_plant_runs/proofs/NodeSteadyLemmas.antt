@@ -34,14 +34,14 @@ use Rattle.sr_plant_laws.specs.Ports.{is_side}
 use Rattle.sr_plant_laws.specs.RingLaws.{RingIsSteady}
 use Rattle.sr_plant_laws.specs.Steadiness.{is_arrival_at, arrival_of, arrivals_at, AllSteady}
 use Rattle.sr_plant.specs.declared.topology.Topology.{Topology}
-use Rattle.sr_plant.specs.declared.topology.Topology.TheVariants.{Ring, TwinLan}
+use Rattle.sr_plant.specs.declared.topology.Topology.TheVariants.{Ring, TwinLan, RingLan, TwoRings}
 use Rattle.sr_plant.specs.declared.event.PlantEvent.{PlantEvent}
 use Rattle.sr_plant.specs.declared.event.PlantEvent.TheVariants.{Send, Carry, Drop, Repeat, Cut, Mend, Tick}
 use Rattle.sr_plant.specs.Copies.{Copy}
 use Rattle.sr_plant.specs.Plants.{Plant}
 use Rattle.sr_plant.specs.Steps.{Acts, Comes, PlantStep}
 use Rattle.sr_plant.specs.Topologies.{net_of}
-use Rattle.sr_plant_runs.specs.PlantRuns.{Turn, PlantRun}
+use Rattle.sr_plant_runs.specs.PlantRuns.{Turn, PlantRun, IsSingle}
 use Rattle.sr_plant_runs.specs.Histories.{mac_at, HaveOwnAddresses, CarriesAs, Zip}
 use Rattle.sr_plant_runs.specs.NodeTurns.{acted_turns, carried_turns, event_turns, node_turns, NodesPutOutOnce}
 use Rattle.sr_plant_runs.specs.NodeSteady.{number_of_copy, number_carried, run_numbers, NodesRunSteadily, NodesPutOutWithin}
@@ -321,17 +321,17 @@ AreOf numbers [] = Unit {0}
 AreOf numbers (turn ∷ before) =
     AreOf numbers before × (numbers (length before) ≡ number_carried (marks before turn.before) turn.event)
 
-run_shown : (t : Topology) (starts : List Start) (own : HaveOwnAddresses starts) (turns : List Turn) (s : Plant) (run : PlantRun t starts turns s)
+run_shown : (t : Topology) (single : IsSingle t) (starts : List Start) (own : HaveOwnAddresses starts) (turns : List Turn) (s : Plant) (run : PlantRun t starts turns s)
     (k : ℕ) (numbers : ℕ → ℤ) → AreOf numbers turns →
-    (arrivals (node_turns k numbers t starts turns s run) ≡ arrivals_at (mac_at starts) k (done_in (run_told t starts own turns s run).history))
+    (arrivals (node_turns k numbers t starts turns s run) ≡ arrivals_at (mac_at starts) k (done_in (run_told t single starts own turns s run).history))
     × AreNumbered (node_turns k numbers t starts turns s run)
 unfolding run_told
-run_shown t starts own [] s run k numbers are = (refl, tt)
-run_shown t starts own (turn ∷ before) s run k numbers are =
-    let earlier = run_told t starts own before turn.before run.0 in
+run_shown t single starts own [] s run k numbers are = (refl, tt)
+run_shown t single starts own (turn ∷ before) s run k numbers are =
+    let earlier = run_told t single starts own before turn.before run.0 in
     let addresses = addresses_of t starts (made t starts before turn.before run.0) own in
     let told = step_told t starts addresses (done_in earlier.history) turn.before s earlier.plant turn.event earlier.like run.1 run.2 in
-    let so_far = run_shown t starts own before turn.before run.0 k numbers are.0 in
+    let so_far = run_shown t single starts own before turn.before run.0 k numbers are.0 in
     let shows = event_shown t starts addresses (done_in earlier.history) turn.before s earlier.plant turn.event (marks before turn.before) run.2
     earlier.like earlier.marked told k (node_turns k numbers t starts before turn.before run.0) in
     let now = subst (λ n. ShowsAs starts k (node_turns k numbers t starts before turn.before run.0)
@@ -349,27 +349,29 @@ are_of numbers (turn ∷ before) same = (
   same (length before) (omega arith) ∙ rw (eq-eqb (length before) (length before) refl) refl,
 )
 
-all_steady : RingIsSteady → LansAreSteady → (t : Topology) (starts : List Start) (own : HaveOwnAddresses starts) (turns : List Turn) (s : Plant)
-    (run : PlantRun t starts turns s) → IsWithinLimits starts turns → AllSteady (widths_of starts) (mac_at starts) (done_in (run_told t starts own turns s run).history)
-all_steady rings lans Ring starts own turns s run limits =
-    let r = run_told Ring starts own turns s run in
+all_steady : RingIsSteady → LansAreSteady → (t : Topology) (single : IsSingle t) (starts : List Start) (own : HaveOwnAddresses starts) (turns : List Turn) (s : Plant)
+    (run : PlantRun t starts turns s) → IsWithinLimits starts turns → AllSteady (widths_of starts) (mac_at starts) (done_in (run_told t single starts own turns s run).history)
+all_steady rings lans Ring single starts own turns s run limits =
+    let r = run_told Ring single starts own turns s run in
     rings (length starts) (mac_at starts) (widths_of starts) r.history r.plant (ring_run starts turns s run r)
     (have_tables Ring starts own turns s (made Ring starts turns s run) run r).addressed
     (have_tables Ring starts own turns s (made Ring starts turns s run) run r).widths (r.limits limits)
-all_steady rings lans TwinLan starts own turns s run limits =
-    let r = run_told TwinLan starts own turns s run in
+all_steady rings lans TwinLan single starts own turns s run limits =
+    let r = run_told TwinLan single starts own turns s run in
     lans (length starts) (mac_at starts) (widths_of starts) r.history r.plant (lan_run starts turns s run r)
     (have_tables TwinLan starts own turns s (made TwinLan starts turns s run) run r).addressed
     (have_tables TwinLan starts own turns s (made TwinLan starts turns s run) run r).widths (r.limits limits)
+all_steady rings lans (RingLan x) single starts own turns s run limits = absurd single
+all_steady rings lans (TwoRings x) single starts own turns s run limits = absurd single
 
 pub nodes_run_steadily : RingIsSteady → LansAreSteady → NodesRunSteadily
-nodes_run_steadily rings lans t starts turns s run k start width own limits =
-    let shown = run_shown t starts own turns s run k (run_numbers turns) (are_of (run_numbers turns) turns (λ n less. refl)) in (
+nodes_run_steadily rings lans t starts turns s run k start single width own limits =
+    let shown = run_shown t single starts own turns s run k (run_numbers turns) (are_of (run_numbers turns) turns (λ n less. refl)) in (
       shown.1,
-      subst (λ w. AreSteady w (arrivals (node_turns k (run_numbers turns) t starts turns s run))) (sym width) (subst (AreSteady ((widths_of starts).at k)) (sym shown.0) (all_steady rings lans t starts own turns s run limits k).0),
+      subst (λ w. AreSteady w (arrivals (node_turns k (run_numbers turns) t starts turns s run))) (sym width) (subst (AreSteady ((widths_of starts).at k)) (sym shown.0) (all_steady rings lans t single starts own turns s run limits k).0),
     )
 
 pub nodes_put_out_within : NodesRunSteadily → NodesPutOutOnce → NodesPutOutWithin
-nodes_put_out_within steady once t starts turns s run k start m o is at own limits =
+nodes_put_out_within steady once t starts turns s run k start m o single is at own limits =
     once t starts turns s run k (run_numbers turns) start m o is at
-    (steady t starts turns s run k start (sym (width_got (least_width starts) starts k start is)) own limits)
+    (steady t starts turns s run k start single (sym (width_got (least_width starts) starts k start is)) own limits)

@@ -1,8 +1,7 @@
 -- In a plant of nodes that began new, no copy that is carried is refused.
-use Rattle.std.proofs.Common.{◌≡◌, inl, inr, ℕ, ◌<◌, ◌≤◌, ◌&&◌, nat_le, Bool, true, false, List, [], ◌∷◌, map, length, Option, None, Some, slice_get, refl, sym, ap, ◌∙◌, subst, arith, if◌then◌else◌}
+use Rattle.std.proofs.Common.{◌≡◌, inl, inr, ℕ, ◌<◌, ◌≤◌, Bool, true, false, List, [], ◌∷◌, map, length, Option, None, Some, slice_get, refl, sym, ap, ◌∙◌, subst, arith, if◌then◌else◌}
 use Rattle.std.specs.Option.{option_map}
-use Rattle.std.proofs.lemmas.Bool.{and_parts, true≢false}
-use Rattle.std.proofs.lemmas.Bool.Decides.{nat_tests}
+use Rattle.std.proofs.lemmas.Bool.{true≢false}
 use Rattle.std.proofs.lemmas.List.{length-map}
 use Rattle.sr_frame.specs.declared.fields.Mac.{Mac}
 use Rattle.sr_frame.specs.declared.ports.Port.{Port}
@@ -32,16 +31,15 @@ use Rattle.sr_plant_laws.specs.ListLemmas.{each_map}
 use Rattle.sr_plant_laws.specs.PlantEvents.{done_in}
 use Rattle.sr_plant_laws.specs.Ports.{is_side}
 use Rattle.sr_plant.specs.declared.topology.Topology.{Topology}
-use Rattle.sr_plant.specs.declared.topology.Topology.TheVariants.{Ring, TwinLan}
+use Rattle.sr_plant.specs.declared.topology.Topology.TheVariants.{Ring, TwinLan, RingLan, TwoRings}
 use Rattle.sr_plant.specs.declared.event.PlantEvent.{PlantEvent}
 use Rattle.sr_plant.specs.declared.event.PlantEvent.TheVariants.{Send, Carry, Drop, Repeat, Cut, Mend, Tick}
-use Rattle.sr_plant.specs.Building.{are_fit, are_apart, is_plant}
+use Rattle.sr_plant.specs.Building.{is_plant}
 use Rattle.sr_plant.specs.Copies.{Copy}
-use Rattle.sr_plant.specs.Limits.{fewest_nodes, most_nodes}
 use Rattle.sr_plant.specs.Plants.{Plant}
 use Rattle.sr_plant.specs.Steps.{is_loss, IsRefused, IsLost}
 use Rattle.sr_plant.specs.Topologies.{framing_of, kind_of, net_of}
-use Rattle.sr_plant_runs.specs.PlantRuns.{Turn, PlantRun}
+use Rattle.sr_plant_runs.specs.PlantRuns.{Turn, PlantRun, IsSingle}
 use Rattle.sr_plant_runs.specs.Histories.{mac_at, in_mode_x, HaveOwnAddresses}
 use Rattle.sr_plant_runs.specs.TableWidths.{widths_of}
 use Rattle.sr_plant_runs.specs.Unbroken.{RefusesNothing, IsUnrefused}
@@ -51,25 +49,30 @@ use Rattle.sr_plant_runs.proofs.HistoryRunLemmas.{RunTold, run_told, made}
 use Rattle.sr_plant_runs.proofs.LikeLemmas.{IsNode, FliesAs}
 use Rattle.sr_plant_runs.proofs.TableLemmas.{table_at, table_got, lanes_of}
 use Rattle.sr_plant_runs.proofs.ZipLemmas.{zip_at}
+use Rattle.sr_plant.proofs.BuildingLemmas.{plant_is_small}
 
 -- what is read at a side has a number where it needs one
-tagged_enough : (t : Topology) (k : ℕ) (s : State) (port : Port) (octets : List ℕ) (q : ParcelImage) → s.role.kind ≡ kind_of t k → is_side port ≡ true → IsRead (framing_of t k port) octets q → is_untagged s.role.kind port q.form ≡ false
-tagged_enough Ring k s A octets q fits side is = ap (λ (x : ParcelImage). is_untagged s.role.kind A x.form) is.parcel
-tagged_enough Ring k s B octets q fits side is = ap (λ (x : ParcelImage). is_untagged s.role.kind B x.form) is.parcel
-tagged_enough TwinLan k s A octets q fits side is = ap (λ (x : RoleKind). is_untagged x A q.form) fits ∙ by q.form
+tagged_enough : (t : Topology) → IsSingle t → (k : ℕ) (s : State) (port : Port) (octets : List ℕ) (q : ParcelImage) → s.role.kind ≡ kind_of t k → is_side port ≡ true → IsRead (framing_of t k port) octets q → is_untagged s.role.kind port q.form ≡ false
+tagged_enough Ring single k s A octets q fits side is = ap (λ (x : ParcelImage). is_untagged s.role.kind A x.form) is.parcel
+tagged_enough Ring single k s B octets q fits side is = ap (λ (x : ParcelImage). is_untagged s.role.kind B x.form) is.parcel
+tagged_enough TwinLan single k s A octets q fits side is = ap (λ (x : RoleKind). is_untagged x A q.form) fits ∙ by q.form
   where
     by : (f : Form) → is_untagged kind.Danp A f ≡ false
     by form.Plain = refl
     by form.Hsr = refl
     by form.Prp = refl
-tagged_enough TwinLan k s B octets q fits side is = ap (λ (x : RoleKind). is_untagged x B q.form) fits ∙ by q.form
+tagged_enough TwinLan single k s B octets q fits side is = ap (λ (x : RoleKind). is_untagged x B q.form) fits ∙ by q.form
   where
     by : (f : Form) → is_untagged kind.Danp B f ≡ false
     by form.Plain = refl
     by form.Hsr = refl
     by form.Prp = refl
-tagged_enough t k s H octets q fits side is = absurd cc
-tagged_enough t k s C octets q fits side is = absurd cc
+tagged_enough t single k s H octets q fits side is = absurd cc
+tagged_enough t single k s C octets q fits side is = absurd cc
+tagged_enough (RingLan x) single k s A octets q fits side is = absurd single
+tagged_enough (TwoRings x) single k s A octets q fits side is = absurd single
+tagged_enough (RingLan x) single k s B octets q fits side is = absurd single
+tagged_enough (TwoRings x) single k s B octets q fits side is = absurd single
 
 -- the table of the node always answers
 abbrev Answers : ℕ → Sources → Type 0
@@ -112,24 +115,20 @@ takes_all s port q now side tagged all = ap (λ f. is_loss (or_no_memory f)) (af
         (λ none. goes_somewhere s.core.mode s.core.width s.core.sources port (header_of (going_on s port q)).src (going_on s port q).seq (wanted_at s port (going_on s port q) now) now all none)
 
 -- so no copy is lost where it comes in
-small_enough : (t : Topology) (starts : List Start) → is_plant t (map begun_as starts) ≡ true → length starts ≤ 16
+small_enough : (t : Topology) (starts : List Start) → is_plant t (map begun_as starts) ≡ true → length starts ≤ 32
 small_enough t starts is =
-    let ns = map begun_as starts in
-    let a = and_parts (nat_le fewest_nodes (length ns) && nat_le (length ns) most_nodes && are_fit t 0 ns) (are_apart ns) is in
-    let b = and_parts (nat_le fewest_nodes (length ns) && nat_le (length ns) most_nodes) (are_fit t 0 ns) a.0 in
-    let c = and_parts (nat_le fewest_nodes (length ns)) (nat_le (length ns) most_nodes) b.0 in
-    let d : length ns ≤ 16 = (let e = c.1 in grind (arith, nat_tests, e)) in
+    let small = plant_is_small t (map begun_as starts) is in
     let same = length-map starts begun_as in
-    omega (arith, d, same)
+    omega (arith, small, same)
 
-pub never_lost : (t : Topology) (starts : List Start) (turns : List Turn) (s : Plant) (run : PlantRun t starts turns s) → HaveOwnAddresses starts → (place : ℕ) (c : Copy) → slice_get s.flight place ≡ Some c → IsLost s c → ⊥
-never_lost t starts turns s run own place c at lost = elim lost [
+pub never_lost : (t : Topology) → IsSingle t → (starts : List Start) (turns : List Turn) (s : Plant) (run : PlantRun t starts turns s) → HaveOwnAddresses starts → (place : ℕ) (c : Copy) → slice_get s.flight place ≡ Some c → IsLost s c → ⊥
+never_lost t single starts turns s run own place c at lost = elim lost [
   | inl refused ↦ absurd (by_node refused.0 refused.1 refused.2)
   | inr unwritten ↦ absurd (fly.arrives.goes unwritten.0 (subst (λ x. write_fault (framing_of x c.from c.outlet) c.parcel ≡ Some unwritten.0) told.like.topology unwritten.1))
 ]
   where
     told : RunTold t starts turns s run
-    told = run_told t starts own turns s run
+    told = run_told t single starts own turns s run
 
     fly : FliesAs t starts c (zip_at (FliesAs t starts) s.flight place c told.plant.flight told.like.flight at).here
     fly = (zip_at (FliesAs t starts) s.flight place c told.plant.flight told.like.flight at).related
@@ -138,7 +137,7 @@ never_lost t starts turns s run own place c at lost = elim lost [
     by_node fault loss r = elim r.refused [
       | inl unread ↦ absurd (fly.arrives.comes r.octets unread.0 (subst (λ x. IsWritten (framing_of x c.from c.outlet) c.parcel.form c.parcel r.octets) told.like.topology r.written) (subst (λ x. IsUnread (framing_of x c.hop.to.node c.hop.to.port) r.octets unread.0) told.like.topology unread.1))
       | inr not_taken ↦ absurd (true≢false (sym loss ∙ ap is_loss not_taken.2 ∙ takes_all r.before c.hop.to.port not_taken.0 (time_at r.before s.clock) fly.port
-          (tagged_enough t c.hop.to.node r.before c.hop.to.port r.octets not_taken.0 was.kind fly.port (subst (λ x. IsRead (framing_of x c.hop.to.node c.hop.to.port) r.octets not_taken.0) told.like.topology not_taken.1)) all))
+          (tagged_enough t single c.hop.to.node r.before c.hop.to.port r.octets not_taken.0 was.kind fly.port (subst (λ x. IsRead (framing_of x c.hop.to.node c.hop.to.port) r.octets not_taken.0) told.like.topology not_taken.1)) all))
     ]
       where
         was : IsNode t starts s.clock (done_in told.history) c.hop.to.node r.before
@@ -152,13 +151,13 @@ never_lost t starts turns s run own place c at lost = elim lost [
         all : Answers r.before.core.width r.before.core.sources
         all = answers (mac_at starts) (length starts) (small_enough t starts (made t starts turns s run)) r.before.core.width r.before.core.sources table
 
-pub unrefused : (t : Topology) (starts : List Start) (turns : List Turn) (s : Plant) → PlantRun t starts turns s → HaveOwnAddresses starts → IsUnrefused turns
-unrefused t starts [] s run own = tt
-unrefused t starts (turn ∷ before) s run own = (by turn.event, unrefused t starts before turn.before run.0 own)
+pub unrefused : (t : Topology) (starts : List Start) (turns : List Turn) (s : Plant) → IsSingle t → PlantRun t starts turns s → HaveOwnAddresses starts → IsUnrefused turns
+unrefused t starts [] s single run own = tt
+unrefused t starts (turn ∷ before) s single run own = (by turn.event, unrefused t starts before turn.before single run.0 own)
   where
     by : (e : PlantEvent) → RefusesNothing turn.before e
     by (Send i frame) = tt
-    by (Carry place) = λ c at lost. never_lost t starts before turn.before run.0 own place c at lost
+    by (Carry place) = λ c at lost. never_lost t single starts before turn.before run.0 own place c at lost
     by (Drop place) = tt
     by (Repeat place) = tt
     by (Cut link) = tt

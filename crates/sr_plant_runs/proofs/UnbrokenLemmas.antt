@@ -223,7 +223,7 @@ rings_hand_up_all tell starts turns s run own limits whole none i j role frame s
     let r = tell starts turns s run own in
     let found = find_sent Ring starts turns s run r.history r.plant r.run.run r.told.events i frame seq some in
     let f = found.0 in
-    let kept = loses_nothing Ring starts turns s run r.history r.plant r.run.run r.told.events whole (unrefused Ring starts turns s run own) in
+    let kept = loses_nothing Ring starts turns s run r.history r.plant r.run.run r.told.events whole (unrefused Ring starts turns s tt run own) in
     let way = arc (length starts) f (law.turns r.history) (open_all (ring (length starts)) r.history r.plant f kept) i j other
     (subst (λ k. k < length starts) found.1.source found.1.shows.member) (address_at starts j role at).1 in
     let whole_arc : HasWholeArc (length starts) r.history f j = subst (λ k. (w : Way) × (m : ℕ) × IsWhole (ring (length starts)) (ring_part (length starts)) f (law.turns r.history) w k m j) (sym found.1.source) way in
@@ -252,7 +252,7 @@ lans_hand_up_all tell starts turns s run own limits whole none i j role frame se
     let r = tell starts turns s run own in
     let found = find_sent TwinLan starts turns s run r.history r.plant r.run.run r.told.events i frame seq some in
     let f = found.0 in
-    let kept = loses_nothing TwinLan starts turns s run r.history r.plant r.run.run r.told.events whole (unrefused TwinLan starts turns s run own) in
+    let kept = loses_nothing TwinLan starts turns s run r.history r.plant r.run.run r.told.events whole (unrefused TwinLan starts turns s tt run own) in
     let made : 0 < made_in (twin_lans n) (in_lan_a j) f (law.turns r.history) =
     put_makes (twin_lans n) (law.turns r.history) i A (in_lan_a j) f refl found.1.put (hop_of A 0 i j (other_members n i) (member_of n i j (address_at starts j role at).1 other)) in
     let whole_copy : HasWholeCopy n r.history f j = λ same. (let a = kept.lost (in_lan_a j) f in let b = kept.lost (in_lan_b j) f in omega (arith, same, a, b, made)) in

@@ -5,7 +5,9 @@ use Rattle.sr_node.specs.StartLemmas.{has_width}
 use Rattle.sr_node.specs.Starts.{Start, begun_as, width_of}
 use Rattle.sr_plant_laws.specs.Widths.{AreWidths}
 use Rattle.sr_plant.specs.declared.topology.Topology.{Topology}
+use Rattle.sr_plant.specs.declared.topology.Topology.TheVariants.{Ring, TwinLan, RingLan, TwoRings}
 use Rattle.sr_plant.specs.Building.{is_plant}
+use Rattle.sr_plant.proofs.BuildingLemmas.{plant_is_joined}
 use Rattle.sr_plant_runs.specs.TableWidths.{least_width, greatest_width, width_at, widths_of}
 
 lesser : (a b : ℕ) → IsWidth a → IsWidth b → IsWidth (min a b)
@@ -34,8 +36,22 @@ above_each high other (r ∷ starts) zero le all = omega (arith, all)
 above_each high other (r ∷ starts) (suc k) le all = above_each high other starts k le (omega (arith, all))
 
 -- a plant has nodes
+some_nodes : (t : Topology) → is_plant t [] ≡ true → ⊥
+some_nodes Ring is = let no : false ≡ true = is in absurd cc
+some_nodes TwinLan is = let no : false ≡ true = is in absurd cc
+some_nodes (RingLan s) is =
+    let joined = plant_is_joined (RingLan s) [] is in
+    let sum = joined.sum in
+    let a = joined.a_inside in
+    omega (arith, sum, a)
+some_nodes (TwoRings s) is =
+    let joined = plant_is_joined (TwoRings s) [] is in
+    let sum = joined.sum in
+    let first = joined.joins.0 in
+    omega (arith, sum, first)
+
 pub are_widths : (t : Topology) (starts : List Start) → is_plant t (map begun_as starts) ≡ true → AreWidths (widths_of starts)
-are_widths t [] is = let no : false ≡ true = is in absurd cc
+are_widths t [] is = absurd (some_nodes t is)
 are_widths t (r ∷ starts) is =
     let least = least_width (r ∷ starts) in
     let greatest = greatest_width (r ∷ starts) in

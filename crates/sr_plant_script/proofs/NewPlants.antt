@@ -1,48 +1,95 @@
--- Of new nodes, 2 to 16, a plant is made.
-use Rattle.std.proofs.Common.{◌≡◌, ℕ, zero, suc, ◌+◌, ◌<◌, ◌≤◌, Bool, true, List, [], ◌∷◌, ◌++◌, map, ap, refl, ◌∙◌, add-one, arith, inl, inr}
-use Rattle.std.specs.Prelude.{◌&&◌, ◌||◌, nat_lt}
+-- Of new nodes a plant is made.
+use Rattle.std.proofs.Common.{◌≡◌, ℕ, zero, suc, ◌+◌, ◌<◌, ◌≤◌, ◌==◌, true, false, not, nat_lt, List, [], ◌∷◌, ◌++◌, length, map, ap, refl, ◌∙◌, add-one, arith, inl, inr, length-append}
 use Rattle.std.proofs.lemmas.List.{map-append}
-use Rattle.std.proofs.lemmas.Bool.{and_parts, cases_lt}
+use Rattle.std.proofs.lemmas.Bool.{and_parts, cases_Bool, eq-eqb}
 use Rattle.std.proofs.lemmas.Bool.Decides.{nat_tests}
+use Rattle.sr_forwarding.specs.declared.role_image.RoleKind.{RoleKind}
+use Rattle.sr_forwarding.specs.declared.role_image.RoleKind.TheVariants as kind
+use Rattle.sr_prp_trailer.specs.declared.trailer.Lan.{Lan}
+use Rattle.sr_prp_trailer.specs.declared.trailer.Lan.TheVariants as lan
+use Rattle.sr_frame.specs.Addresses.{mac_eq}
+use Rattle.sr_plant_laws.specs.TwoRings.{is_joined}
 use Rattle.sr_plant.specs.declared.topology.Topology.{Topology}
-use Rattle.sr_plant.specs.declared.topology.Topology.TheVariants.{Ring, TwinLan}
-use Rattle.sr_plant.specs.Topologies.{kind_of}
-use Rattle.sr_plant.specs.Building.{is_plant}
+use Rattle.sr_plant.specs.declared.topology.Topology.TheVariants.{Ring, TwinLan, RingLan, TwoRings}
+use Rattle.sr_plant.specs.Topologies.{IsJoinedAs, kind_of, joins_of}
+use Rattle.sr_plant.specs.Building.{is_lan, is_kind, is_size, has_address, are_fit, are_apart, are_apart_from, is_plant}
+use Rattle.sr_plant.proofs.BuildingLemmas.{fit_append, apart_append}
 use Rattle.sr_node.specs.declared.mode.Settings.{Settings}
 use Rattle.sr_node.specs.Images.{State}
-use Rattle.sr_plant_script.specs.Members.{IsMemberKind, new_node, new_nodes}
+use Rattle.sr_plant_script.specs.Members.{IsMemberKind, mac_of, new_node, new_nodes}
 
--- so many nodes make a plant, or are fewer than two
-abbrev is_made : Topology → Settings → ℕ → Bool
-is_made t x n = nat_lt n 2 || is_plant t (new_nodes t x n)
+-- a kind is itself
+is_lan_itself : (l : Lan) → is_lan l l ≡ true
+is_lan_itself lan.A = refl
+is_lan_itself lan.B = refl
 
-abbrev are_made_below : Topology → Settings → ℕ → Bool
-are_made_below t x zero = true
-are_made_below t x (suc n) = is_made t x n && are_made_below t x n
+is_kind_itself : (k : RoleKind) → is_kind k k ≡ true
+is_kind_itself kind.Danp = refl
+is_kind_itself kind.Danh = refl
+is_kind_itself kind.San = refl
+is_kind_itself (kind.Prp l n) = rw (is_lan_itself l, eq-eqb n n refl) refl
+is_kind_itself kind.Hsr = refl
 
-made_below : (t : Topology) (x : Settings) (n k : ℕ) → are_made_below t x n ≡ true → k < n → is_made t x k ≡ true
-made_below t x zero k h lt = absurd (omega arith)
-made_below t x (suc n) k h lt =
-    let parts = and_parts (is_made t x n) (are_made_below t x n) h in
-    elim (cases_lt k n) [
-      | inl below ↦ made_below t x n k parts.1 below
-      | inr top ↦ let e : k ≡ n = omega arith in rw e parts.0
+count_new : (t : Topology) (x : Settings) (n : ℕ) → length (new_nodes t x n) ≡ n
+count_new t x zero = refl
+count_new t x (suc n) =
+    let before = count_new t x n in
+    rw (length-append (new_nodes t x n) (new_node t x n ∷ []), before) (omega arith)
+
+-- each is of its kind
+new_are_fit : (t : Topology) (x : Settings) (n : ℕ) → are_fit t 0 (new_nodes t x n) ≡ true
+new_are_fit t x zero = refl
+new_are_fit t x (suc n) =
+    let place : 0 + length (new_nodes t x n) ≡ n = (let c = count_new t x n in omega (arith, c)) in
+    rw (fit_append t 0 (new_nodes t x n) (new_node t x n ∷ []), new_are_fit t x n, place, is_kind_itself (kind_of t n)) refl
+
+-- they are apart from one that comes later
+apart_from_later : (t : Topology) (x : Settings) (n k : ℕ) → n ≤ k → are_apart_from (new_nodes t x n) (new_node t x k ∷ []) ≡ true
+apart_from_later t x zero k before = refl
+apart_from_later t x (suc n) k before =
+    let rest = apart_from_later t x n k (omega (arith, before)) in
+    let other : mac_eq (mac_of k) (mac_of n) ≡ false = later_address n k (omega (arith, before)) in
+    apart_more (new_nodes t x n) (new_node t x n) (new_node t x k ∷ []) rest (rw other refl)
+  where
+    later_address : (i k : ℕ) → i < k → mac_eq (mac_of k) (mac_of i) ≡ false
+    later_address i k less = elim (cases_Bool (k == i)) [
+      | inl is ↦ (let same : k ≡ i = grind (arith, nat_tests, is) in absurd (omega (arith, less, same)))
+      | inr not ↦ rw not refl
     ]
 
-all_made : (t : Topology) (x : Settings) → are_made_below t x 17 ≡ true
-all_made Ring x = refl
-all_made TwinLan x = refl
+    apart_more : (ns : List State) (n : State) (others : List State) → are_apart_from ns others ≡ true → are_apart_from (n ∷ []) others ≡ true →
+        are_apart_from (ns ++ n ∷ []) others ≡ true
+    apart_more [] n others all one = one
+    apart_more (m ∷ ns) n others all one =
+        let p = and_parts (not (has_address m.role.mac others)) (are_apart_from ns others) all in
+        rw (p.0, apart_more ns n others p.1 one) refl
 
-two_or_more : (n : ℕ) (b : Bool) → 2 ≤ n → (nat_lt n 2 || b) ≡ true → b ≡ true
-two_or_more n b h e = grind (arith, nat_tests)
+new_are_apart : (t : Topology) (x : Settings) (n : ℕ) → are_apart (new_nodes t x n) ≡ true
+new_are_apart t x zero = refl
+new_are_apart t x (suc n) =
+    rw (apart_append (new_nodes t x n) (new_node t x n ∷ []), new_are_apart t x n, apart_from_later t x n n (omega arith)) refl
 
-pub makes_plant : (t : Topology) (x : Settings) (n : ℕ) → 2 ≤ n → n ≤ 16 → is_plant t (new_nodes t x n) ≡ true
-makes_plant t x n least most = two_or_more n (is_plant t (new_nodes t x n)) least (made_below t x 17 n (all_made t x) (omega arith))
+pub makes_plant : (t : Topology) (x : Settings) (n : ℕ) → is_size t n ≡ true → is_plant t (new_nodes t x n) ≡ true
+makes_plant t x n sized = rw (count_new t x n, sized, new_are_fit t x n, new_are_apart t x n) refl
 
 -- its nodes are of kinds that a plant has
-pub are_members : (t : Topology) (k : ℕ) → IsMemberKind (kind_of t k)
-are_members Ring k = tt
-are_members TwinLan k = tt
+pub are_members : (t : Topology) (n : ℕ) → IsJoinedAs t n → (k : ℕ) → IsMemberKind (kind_of t k)
+are_members Ring n joined k = tt
+are_members TwinLan n joined k = tt
+are_members (RingLan s) n joined k = elim (cases_Bool (nat_lt k s.ring)) [
+  | inl inside ↦ elim (cases_Bool (k == s.box_a)) [
+    | inl is ↦ rw (inside, is) (joined.numbered, joined.fits)
+    | inr not_a ↦ elim (cases_Bool (k == s.box_b)) [
+      | inl is ↦ rw (inside, not_a, is) (joined.numbered, joined.fits)
+      | inr not_b ↦ rw (inside, not_a, not_b) tt
+    ]
+  ]
+  | inr outside ↦ rw outside tt
+]
+are_members (TwoRings s) n joined k = elim (cases_Bool (is_joined (joins_of s) k)) [
+  | inl is ↦ rw is tt
+  | inr not ↦ rw not tt
+]
 
 -- one node more
 pub nodes_more : {N : Type 0} (ns : List N) (f : N → State) (t : Topology) (x : Settings) (n : ℕ) (m : N) → map f ns ≡ new_nodes t x n → f m ≡ new_node t x n

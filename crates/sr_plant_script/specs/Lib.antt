@@ -1,4 +1,5 @@
 pub mod Members
+pub mod Setups
 pub mod Commands
 pub mod Sendings
 pub mod Texts

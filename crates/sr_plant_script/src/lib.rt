@@ -1,4 +1,5 @@
-//! Scripts of rings and twin networks: what happens to a plant, line by line, and what its hosts are handed.
+//! Scripts of rings, of twin networks and of coupled ones: what happens to a plant, line by line, and what its hosts are
+//! handed.
 #![tactic(auto)]
 
 mod answering;
@@ -17,5 +18,5 @@ mod setup;
 pub use command::{Command, Receiver, Verb};
 pub use laws::setups_make_plants;
 pub use running::run_plant;
-pub use setup::PlantSetup;
+pub use setup::{Joins, PlantSetup};
 pub use sr_plant::Topology;

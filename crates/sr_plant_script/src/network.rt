@@ -3,7 +3,8 @@
 ghost use Rattle.std.specs.Prelude.{◌≡◌, ◌≤◌, ◌<◌, ℕ, map, length, replicate, [], None, IfOk, IfErr, OnOk, OnErr};
 ghost use Rattle.sr_node.specs.Images.{node_state};
 ghost use Rattle.sr_forwarding.specs.RoleImages.{role_of};
-ghost use Rattle.sr_plant.specs.Limits.{most_nodes};
+ghost use Rattle.sr_plant.specs.Limits.{most_members};
+ghost use Rattle.sr_plant.specs.Topologies.{IsJoinedAs};
 ghost use Rattle.sr_plant.specs.Plants.{Plant};
 ghost use Rattle.sr_plant.specs.Steps.{PlantStep, PlantRefuses, plant_refusal};
 ghost use Rattle.sr_plant_script.specs.Members.{new_nodes, routed_as, start_of};
@@ -51,7 +52,8 @@ fn new_nodes(
     settings: Settings,
     count: usize,
 ) -> Result<Vec<NodeOf<Member>>, NoMemory>
-    requires { count ≤ most_nodes }
+    requires few { count ≤ most_members }
+    requires joined { IsJoinedAs topology count }
     ensures { IfOk result (λ ns.
         map (λ m. node_state (role_of (routed_as m.role.routing) m.role.mac) m.core) ns.items
         ≡ new_nodes topology settings count) }
@@ -88,7 +90,7 @@ impl Network {
     /// How many nodes it has.
     pub(crate) fn node_count(&self) -> usize
         ensures count { result ≡ length self.now.nodes }
-        ensures few { result ≤ most_nodes }
+        ensures few { result ≤ most_members }
     {
         self.plant.nodes.len()
     }

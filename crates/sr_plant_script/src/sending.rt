@@ -1,7 +1,7 @@
 //! Frames that hosts of a plant send.
 
 ghost use Rattle.std.specs.Prelude.{◌≡◌, ◌<◌, ◌≤◌, ℕ, List, length, true, Some, None, IfOk};
-ghost use Rattle.sr_plant.specs.Limits.{most_nodes};
+ghost use Rattle.sr_plant.specs.Limits.{most_members};
 ghost use Rattle.sr_plant_script.specs.Sendings.{is_there, send_refusal, receiver_address, sent_octets, most_payload};
 
 use crate::command::Receiver;
@@ -48,7 +48,7 @@ pub(crate) fn send_refusal(
 
 /// The address of a receiver.
 fn address_of(receiver: Receiver) -> Mac
-    requires { is_there most_nodes receiver ≡ true }
+    requires { is_there most_members receiver ≡ true }
     ensures { result.0 ≡ receiver_address receiver }
 {
     match receiver {
@@ -64,8 +64,8 @@ pub(crate) fn sent_frame(
     receiver: Receiver,
     payload: &[u8],
 ) -> Result<Frame, AllocError>
-    requires sender { node < most_nodes }
-    requires receiver { is_there most_nodes receiver ≡ true }
+    requires sender { node < most_members }
+    requires receiver { is_there most_members receiver ≡ true }
     requires short { length payload.now ≤ most_payload }
     ensures { IfOk result (λ f. f ≡ sent_octets node receiver payload.now) }
 {

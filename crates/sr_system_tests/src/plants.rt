@@ -1,5 +1,6 @@
 //! Tests of `sr_plant`, above it, so that its own functions are proved once; and of the words of all faults below it.
 
+mod coupled;
 mod faults;
 mod frames;
 mod makers;

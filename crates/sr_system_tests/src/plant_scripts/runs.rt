@@ -15,11 +15,11 @@ fn setup_of(topology: Topology, nodes: usize, settings: Settings) -> Option<Plan
     if nodes < 2 || nodes > 16 {
         return None;
     }
-    Some(PlantSetup {
-        topology,
-        nodes,
-        settings,
-    })
+    match topology {
+        Topology::Ring => Some(PlantSetup::ring(nodes, settings)),
+        Topology::TwinLan => Some(PlantSetup::twin_lan(nodes, settings)),
+        Topology::RingLan(_) | Topology::TwoRings(_) => None,
+    }
 }
 
 /// Appends a text so many times.

@@ -22,8 +22,8 @@ returns-in-Err-clause-ok g c =
     let refused = subst (λ (octets : List ℕ). OctetsRefused framing s a.port octets c.args.now c.in-Err.fault) c.octets.ensures.whole c.in-Err.ensures.err in
     loses framing s a.port a.octets c.args.now c.in-Err.fault c.refused.result _ _ _ refused c.in-Err.ensures.same c.in_ok-reserve.ensures.items c.refused.ensures.ok
 
-pub take_out-a-requires-clause-few : goal.take_out-a-requires-clause-few
-take_out-a-requires-clause-few g c =
+pub take_out-requires-clause-few : goal.take_out-requires-clause-few
+take_out-requires-clause-few g c =
     let s = node_state (g.R.Role.meaning c.args.node.now.role) c.args.node.now.core in
     let o = c.in_default.ensures.ok in
     arrived_few s c.args.arriving.now.port o.0 (time_at s c.args.now) c.in_default.field-0 (node_state (g.R.Role.meaning c.arrive.new.node.role) c.arrive.new.node.core) c.requires o.3

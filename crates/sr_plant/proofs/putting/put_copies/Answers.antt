@@ -30,4 +30,4 @@ loop-to-preserved c =
 pub returns-clause-copies : goal.returns-clause-copies
 returns-clause-copies c =
     let o = c.args.outlet in
-    put_to_all o.topology o.nodes o.node o.port c.args.cut.now (parcel_of (get c.args.kept.now c.args.key)) c.loop-to.to (copies_in c.args.kept.now c.args.places.now.items) (copies_in c.loop-to.kept c.loop-to.places.items) c.requires.node (omega arith) c.loop-to.invariant.copies
+    put_to_all o.topology o.nodes o.node o.port c.args.cut.now (parcel_of (get c.args.kept.now c.args.key)) c.loop-to.to (copies_in c.args.kept.now c.args.places.now.items) (copies_in c.loop-to.kept c.loop-to.places.items) c.requires.node c.requires.joined (omega arith) c.loop-to.invariant.copies

@@ -9,12 +9,12 @@ use Rattle.sr_plant_script.proofs.NewPlants.{are_members, nodes_more}
 use Rattle.sr_plant_script.proofs.network.new_nodes.Goals as goal
 
 pub of-routing-requires : goal.of-routing-requires
-of-routing-requires c = rw c.kind_of.ensures.kind (are_members c.args.topology c.loop-number.number)
+of-routing-requires c = rw c.kind_of.ensures (are_members c.args.topology c.args.count c.requires.joined c.loop-number.number)
 
 pub loop-number-preserved : goal.loop-number-preserved
 loop-number-preserved c =
     let role = c.of-role.result in
-    let kind = ap routed_as c.of-role.ensures.routing ∙ (c.of-routing.ensures ∙ c.kind_of.ensures.kind) in
+    let kind = ap routed_as c.of-role.ensures.routing ∙ (c.of-routing.ensures ∙ c.kind_of.ensures) in
     let made : begun (role_of (routed_as role.routing) role.mac) c.args.settings ≡ new_node c.args.topology c.args.settings c.loop-number.number =
     ap (λ (k : RoleKind). begun (role_of k role.mac) c.args.settings) kind
     ∙ ap (λ (mac : Mac). begun (role_of (kind_of c.args.topology c.loop-number.number) mac) c.args.settings) (c.of-role.ensures.mac ∙ c.mac_of.ensures) in

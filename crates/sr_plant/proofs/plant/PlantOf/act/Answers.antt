@@ -1,4 +1,4 @@
-use Rattle.std.proofs.Common.{◌≡◌, ◌<◌, ◌⊎◌, ◌++◌, List, [], length, map, slice_set, refl, sym, ap, ◌∙◌, inl, inr, arith, rules}
+use Rattle.std.proofs.Common.{◌≡◌, ◌<◌, ◌⊎◌, ◌++◌, List, [], length, map, slice_set, refl, sym, ap, ◌∙◌, inl, inr, subst, ℕ, arith, rules}
 use Rattle.std.proofs.Math.Seq.{map-set_same}
 use Rattle.std.proofs.lemmas.List.{map-set, length-map}
 use Rattle.sr_forwarding.specs.Parcels.{ParcelImage}
@@ -8,6 +8,7 @@ use Rattle.sr_plant.specs.Plants.{TrafficValue, plant_of, IsEmptied}
 use Rattle.sr_plant.specs.Steps.{NodeRefuses}
 use Rattle.sr_plant.proofs.ActLemmas.{each_at, at_map, or_map, acted_is}
 use Rattle.sr_plant.proofs.OrderLemmas.{acts_in_order}
+use Rattle.sr_plant.specs.Topologies.{IsJoinedAs}
 use Rattle.sr_plant.proofs.plant.PlantOf.act.Goals as goal
 
 pub step_out-requires : goal.step_out-requires
@@ -61,11 +62,12 @@ returns-clause-ok g c =
       there = there;
       fits = h.fits;
       step = h.step;
-      plant = acted_is s c.args.node c.args.now h.after c.in_ok-given.given.0 c.in_ok-given.given.1 _ _ _ _ _
+      plant = acted_is s c.args.node c.args.now h.after c.in_ok-given.given _ _ _ _ _
           (nodes ∙ ap (λ (u : State). slice_set s.nodes c.args.node u) h.gives.rest)
           (ap (λ (t : TrafficValue). t.flight.copies) c.set_clock.ensures ∙ (rw (r.copies, r.rest.0, count) at c.put.ensures.copies))
           h.gives.a
           h.gives.b
+          h.gives.c
           (ap (λ (t : TrafficValue). t.cut) c.set_clock.ensures ∙ (c.put.ensures.rest.0 ∙ r.rest.0))
           (ap (λ (t : TrafficValue). t.clock) c.set_clock.ensures)
           (hosts ∙ ap (λ (q : List ParcelImage). slice_set s.handed c.args.node q) (h.gives.up ∙ ap (λ (q : List ParcelImage). q ++ h.after.core.out.h) (sym host)));
@@ -76,3 +78,10 @@ returns-clause-in_order g c =
     let p = c.args.self.now in
     let s = plant_of p.topology (map (λ n. node_state (g.R.Role.meaning n.role) n.core) p.nodes.items) p.traffic (map (λ h. h.items) p.handed.items) in
     acts_in_order s c.args.node c.args.now c.args.event.now _ c.requires.in_order (returns-clause-ok g c)
+
+pub put-requires-clause-joined : goal.put-requires-clause-joined
+put-requires-clause-joined g c =
+    let p = c.args.self.now in
+    let count : length (map (λ n. node_state (g.R.Role.meaning n.role) n.core) p.nodes.items) ≡ c.len-nodes.result =
+    omega (arith, c.len-nodes.ensures, p.nodes.ok, length-map p.nodes.items (λ n. node_state (g.R.Role.meaning n.role) n.core)) in
+    subst (λ (n : ℕ). IsJoinedAs p.topology n) count c.requires.in_order.joined

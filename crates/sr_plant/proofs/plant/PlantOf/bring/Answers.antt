@@ -1,4 +1,4 @@
-use Rattle.std.proofs.Common.{◌≡◌, ◌<◌, ◌++◌, List, [], length, map, slice_set, refl, sym, ap, ◌∙◌, arith, rules}
+use Rattle.std.proofs.Common.{◌≡◌, ◌<◌, ◌++◌, List, [], length, map, slice_set, refl, sym, ap, ◌∙◌, subst, ℕ, arith, rules}
 use Rattle.std.proofs.Math.Seq.{map-set_same}
 use Rattle.std.proofs.lemmas.List.{map-set, length-map}
 use Rattle.sr_forwarding.specs.Parcels.{ParcelImage}
@@ -8,6 +8,8 @@ use Rattle.sr_plant.specs.Plants.{plant_of, IsEmptied}
 use Rattle.sr_plant.specs.Steps.{Fails, acted, without}
 use Rattle.sr_plant.proofs.ActLemmas.{each_at, at_map, or_map, acted_is}
 use Rattle.sr_plant.proofs.CarryLemmas.{copy_within, receiver_within, carry_fails, taken_comes, taken_in_order, lost_goes, lost_in_order}
+use Rattle.sr_plant.specs.Topologies.{IsJoinedAs}
+use Rattle.sr_plant.proofs.OrderLemmas.{nets_fit}
 use Rattle.sr_plant.proofs.plant.PlantOf.bring.Goals as goal
 
 pub arrive_out-requires : goal.arrive_out-requires
@@ -79,15 +81,16 @@ returns-in-Taken-clause-ok g c =
     let host = or_map (λ h. h.items) p.handed.items a.node c.index_mut-2.result.now [] c.index_mut-2.ensures.value hosted in
     let t = plant_of p.topology (map (λ n. node_state (g.R.Role.meaning n.role) n.core) (slice_set p.nodes.items a.node c.arrive_out.new.node)) c.put.new.self (map (λ h. h.items) (slice_set p.handed.items a.node c.arrive_out.new.up)) in
     let plant : t ≡ acted (without s c.args.place) a.node out.after s.clock =
-    acted_is (without s c.args.place) a.node s.clock out.after c.in-Taken.a c.in-Taken.b _ _ _ _ _
+    acted_is (without s c.args.place) a.node s.clock out.after c.in-Taken.given _ _ _ _ _
     (nodes ∙ ap (λ (u : State). slice_set s.nodes a.node u) out.gives.rest)
     (rw (v.copies, r.copies, v.rest.0, r.rest.0, count) at c.put.ensures.copies)
     out.gives.a
     out.gives.b
+    out.gives.c
     (c.put.ensures.rest.0 ∙ (v.rest.0 ∙ r.rest.0))
     (c.put.ensures.rest.1 ∙ (v.rest.1 ∙ r.rest.1))
     (hosts ∙ ap (λ (q : List ParcelImage). slice_set s.handed a.node q) (out.gives.up ∙ ap (λ (q : List ParcelImage). q ++ out.after.core.out.h) (sym host))) in
-    taken_comes s c.args.place c.clock-now.result a (node_state (g.R.Role.meaning n.role) n.core) c.in-Taken.a c.in-Taken.b _ _ _ t c.requires.there there clock out plant
+    taken_comes s c.args.place c.clock-now.result a (node_state (g.R.Role.meaning n.role) n.core) c.in-Taken.given _ _ _ t c.requires.there there clock out plant
 
 pub returns-in-Taken-clause-in_order : goal.returns-in-Taken-clause-in_order
 returns-in-Taken-clause-in_order g c =
@@ -111,15 +114,16 @@ returns-in-Taken-clause-in_order g c =
     let host = or_map (λ h. h.items) p.handed.items a.node c.index_mut-2.result.now [] c.index_mut-2.ensures.value hosted in
     let t = plant_of p.topology (map (λ n. node_state (g.R.Role.meaning n.role) n.core) (slice_set p.nodes.items a.node c.arrive_out.new.node)) c.put.new.self (map (λ h. h.items) (slice_set p.handed.items a.node c.arrive_out.new.up)) in
     let plant : t ≡ acted (without s c.args.place) a.node out.after s.clock =
-    acted_is (without s c.args.place) a.node s.clock out.after c.in-Taken.a c.in-Taken.b _ _ _ _ _
+    acted_is (without s c.args.place) a.node s.clock out.after c.in-Taken.given _ _ _ _ _
     (nodes ∙ ap (λ (u : State). slice_set s.nodes a.node u) out.gives.rest)
     (rw (v.copies, r.copies, v.rest.0, r.rest.0, count) at c.put.ensures.copies)
     out.gives.a
     out.gives.b
+    out.gives.c
     (c.put.ensures.rest.0 ∙ (v.rest.0 ∙ r.rest.0))
     (c.put.ensures.rest.1 ∙ (v.rest.1 ∙ r.rest.1))
     (hosts ∙ ap (λ (q : List ParcelImage). slice_set s.handed a.node q) (out.gives.up ∙ ap (λ (q : List ParcelImage). q ++ out.after.core.out.h) (sym host))) in
-    taken_in_order s c.args.place c.clock-now.result a (node_state (g.R.Role.meaning n.role) n.core) c.in-Taken.a c.in-Taken.b _ _ _ t c.requires.in_order there out plant
+    taken_in_order s c.args.place c.clock-now.result a (node_state (g.R.Role.meaning n.role) n.core) c.in-Taken.given _ _ _ t c.requires.in_order there out plant
 
 pub returns-in_default-clause-ok : goal.returns-in_default-clause-ok
 returns-in_default-clause-ok g c =
@@ -158,3 +162,13 @@ returns-in_default-clause-in_order g c =
     let t = plant_of p.topology (map (λ n. node_state (g.R.Role.meaning n.role) n.core) (slice_set p.nodes.items a.node c.arrive_out.new.node)) c.remove.new.self (map (λ h. h.items) (slice_set p.handed.items a.node c.arrive_out.new.up)) in
     let plant : t ≡ without s c.args.place = rw (nodes, hosts, v.copies, r.copies, v.rest.0, r.rest.0, v.rest.1, r.rest.1) refl in
     lost_in_order s c.args.place t c.requires.in_order plant
+
+pub framing_of-framing-requires : goal.framing_of-framing-requires
+framing_of-framing-requires g c = nets_fit c.args.self.now.topology _ c.requires.in_order.joined
+
+pub put-requires-clause-joined : goal.put-requires-clause-joined
+put-requires-clause-joined g c =
+    let p = c.args.self.now in
+    let count : length (map (λ n. node_state (g.R.Role.meaning n.role) n.core) p.nodes.items) ≡ c.len-nodes.result =
+    omega (arith, c.len-nodes.ensures, p.nodes.ok, length-map p.nodes.items (λ n. node_state (g.R.Role.meaning n.role) n.core)) in
+    subst (λ (n : ℕ). IsJoinedAs p.topology n) count c.requires.in_order.joined

@@ -1,0 +1,222 @@
+//! Coupled networks.
+
+ghost use Rattle.std.specs.Prelude.{◌≡◌, ◌≤◌, ◌<◌, ◌++◌, ◌&&◌, nat_le, length, slice_get, true, IfOk, OnOk, IfErr};
+ghost use Rattle.sr_plant.specs.Images.{plant_state, states_of};
+ghost use Rattle.sr_plant.specs.Plants.{IsInOrder};
+ghost use Rattle.sr_plant.specs.PortFramings.{network_of};
+ghost use Rattle.sr_plant.specs.Building.{is_plant, opening, plant_fault};
+ghost use Rattle.sr_plant.specs.Coupled.{is_sought, box_place, network_in, second_of, ring_lan_of, two_rings_of};
+
+use crate::fitness::{are_few, is_lan, is_plant_of_both};
+use crate::{Join, PlantFault, PlantOf, RingLanShape, Topology, TwoRingsShape};
+use sr_forwarding::{Role, RoleKind};
+use sr_node::NodeOf;
+use sr_prp_trailer::Lan;
+use std::alloc::Global;
+
+/// Which box is sought.
+#[derive(Clone, Copy)]
+pub(crate) enum Sought {
+    /// One whose interlink is this LAN of a PRP network.
+    LanBox(Lan),
+    /// One between two rings.
+    RingBox,
+}
+
+// Whether a node of this kind is such a box.
+fn is_sought(sought: Sought, kind: RoleKind) -> bool
+    ensures { result ≡ is_sought sought kind }
+{
+    match (sought, kind) {
+        (Sought::LanBox(lan), RoleKind::Prp { lan: to, .. }) => is_lan(lan, to),
+        (Sought::RingBox, RoleKind::Hsr) => true,
+        _ => false,
+    }
+}
+
+// Whether a node of this kind, at this place, is the first that counts.
+fn is_found(sought: Sought, from: usize, place: usize, kind: RoleKind) -> bool
+    ensures { result ≡ (nat_le from place && is_sought sought kind) }
+{
+    from <= place && is_sought(sought, kind)
+}
+
+// The place of the first such box at this place or behind it, else how many nodes there are.
+fn box_place<R: Role>(sought: Sought, from: usize, nodes: &[NodeOf<R>]) -> usize
+    ensures place { result ≡ box_place sought from 0 (states_of R.meaning nodes.now) }
+    ensures within { result ≤ length nodes.now }
+{
+    for (place, node) in nodes.iter().enumerate() {
+        if is_found(sought, from, place, node.kind()) {
+            return place;
+        }
+    }
+    nodes.len()
+}
+
+// The number of the network of a box.
+fn network_of(kind: RoleKind) -> u8
+    ensures { result ≡ network_of kind }
+{
+    match kind {
+        RoleKind::Prp { net, .. } => net,
+        RoleKind::Danp | RoleKind::Danh | RoleKind::San | RoleKind::Hsr => 0,
+    }
+}
+
+// The number of the network of the node at a place, if there is one.
+fn network_in<R: Role>(nodes: &[NodeOf<R>], place: usize) -> u8
+    ensures { result ≡ network_in (slice_get (states_of R.meaning nodes.now) place) }
+{
+    match nodes.get(place) {
+        Some(node) => network_of(node.kind()),
+        None => 0,
+    }
+}
+
+// How a ring and the nodes of two LANs are joined.
+fn ring_lan_of<R: Role>(ring: &[NodeOf<R>], lan: &[NodeOf<R>]) -> Topology
+    ensures { result
+        ≡ ring_lan_of (states_of R.meaning ring.now) (states_of R.meaning lan.now) }
+{
+    let box_a = box_place(Sought::LanBox(Lan::A), 0, ring);
+    Topology::RingLan(RingLanShape {
+        ring: ring.len(),
+        lan: lan.len(),
+        box_a,
+        box_b: box_place(Sought::LanBox(Lan::B), 0, ring),
+        net: network_in(ring, box_a),
+    })
+}
+
+// The second boxes of two rings of so many nodes are joined where both have one.
+fn second_of(left: usize, right: usize, left_box: usize, right_box: usize) -> Option<Join>
+    requires left { left < 1000 }
+    requires right { right < 1000 }
+    ensures { result ≡ second_of left right left_box right_box }
+{
+    if left_box < left && right_box < right {
+        Some(Join {
+            left: left_box,
+            right: left + right_box,
+        })
+    } else {
+        None
+    }
+}
+
+// How two rings are joined.
+fn two_rings_of<R: Role>(left: &[NodeOf<R>], right: &[NodeOf<R>]) -> Topology
+    requires left { length left.now < 1000 }
+    requires right { length right.now < 1000 }
+    ensures { result
+        ≡ two_rings_of (states_of R.meaning left.now) (states_of R.meaning right.now) }
+{
+    let first_left = box_place(Sought::RingBox, 0, left);
+    let first_right = box_place(Sought::RingBox, 0, right);
+    let second_left = box_place(Sought::RingBox, first_left + 1, left);
+    let second_right = box_place(Sought::RingBox, first_right + 1, right);
+    Topology::TwoRings(TwoRingsShape {
+        left: left.len(),
+        right: right.len(),
+        first: Join {
+            left: first_left,
+            right: left.len() + first_right,
+        },
+        second: second_of(left.len(), right.len(), second_left, second_right),
+    })
+}
+
+/// A coupled network of nodes over this role: a ring with the two LANs of a PRP network, or two rings (IEC 62439-3
+/// clauses 4 and 5).
+#[derive(Drop)]
+pub struct CoupledOf<R: Drop> {
+    /// The nodes, and what is between them.
+    pub plant: PlantOf<R>,
+}
+
+/// A coupled network of nodes over any role.
+pub type Coupled = CoupledOf<Box<dyn Role + Send>>;
+
+// A plant of this topology, of these nodes and those behind them.
+fn plant_of_both<R: Role>(
+    alloc: Global,
+    topology: Topology,
+    first: Vec<NodeOf<R>>,
+    behind: Vec<NodeOf<R>>,
+) -> Result<CoupledOf<R>, PlantFault>
+    requires first { length first.items < 1000 }
+    requires behind { length behind.items < 1000 }
+    ensures begun { IfOk result (λ c. plant_state R.meaning c.plant
+        ≡ opening topology (states_of R.meaning first.items ++ states_of R.meaning behind.items)) }
+    ensures in_order { IfOk result (λ c. IsInOrder (plant_state R.meaning c.plant)) }
+    ensures ok { OnOk result (is_plant topology
+        (states_of R.meaning first.items ++ states_of R.meaning behind.items) ≡ true) }
+    ensures err { IfErr result (λ f. f ≡ plant_fault (is_plant topology
+        (states_of R.meaning first.items ++ states_of R.meaning behind.items))) }
+{
+    if !is_plant_of_both(topology, &first, &behind) {
+        return Err(PlantFault::BadPlant);
+    }
+    let (mut nodes, mut rest) = (first, behind);
+    nodes.append(&mut rest)?;
+    let plant = PlantOf::new(alloc, topology, nodes)?;
+    Ok(CoupledOf { plant })
+}
+
+impl<R: Role> CoupledOf<R> {
+    /// A new ring with two LANs behind it. The ring has 3 to 16 nodes: two boxes of the kind `Prp`, of one network, the one
+    /// with LAN A and the other with LAN B, and else nodes of the kind `Danh`. The LANs have 1 to 14 nodes of the kind
+    /// `Danp`. Each node has an address of its own, and no frame waiting. `BadPlant` exactly where they are not so.
+    /// `NoMemory`: a growth was refused.
+    pub fn ring_lan(
+        alloc: Global,
+        ring: Vec<NodeOf<R>>,
+        lan: Vec<NodeOf<R>>,
+    ) -> Result<CoupledOf<R>, PlantFault>
+        ensures begun { IfOk result (λ c. plant_state R.meaning c.plant
+            ≡ opening
+            (ring_lan_of (states_of R.meaning ring.items) (states_of R.meaning lan.items))
+            (states_of R.meaning ring.items ++ states_of R.meaning lan.items)) }
+        ensures in_order { IfOk result (λ c. IsInOrder (plant_state R.meaning c.plant)) }
+        ensures ok { OnOk result (is_plant
+            (ring_lan_of (states_of R.meaning ring.items) (states_of R.meaning lan.items))
+            (states_of R.meaning ring.items ++ states_of R.meaning lan.items) ≡ true) }
+        ensures err { IfErr result (λ f. f ≡ plant_fault (is_plant
+            (ring_lan_of (states_of R.meaning ring.items) (states_of R.meaning lan.items))
+            (states_of R.meaning ring.items ++ states_of R.meaning lan.items))) }
+    {
+        if !are_few(&ring, &lan) {
+            return Err(PlantFault::BadPlant);
+        }
+        let topology = ring_lan_of(&ring, &lan);
+        plant_of_both(alloc, topology, ring, lan)
+    }
+
+    /// Two new rings that are joined. Each has 2 to 16 nodes, and both have as many boxes of the kind `Hsr`, one or two, and
+    /// else nodes of the kind `Danh`. The first boxes of both are joined, and the second ones. Each node has an address of
+    /// its own, and no frame waiting. `BadPlant` exactly where they are not so. `NoMemory`: a growth was refused.
+    pub fn two_rings(
+        alloc: Global,
+        left: Vec<NodeOf<R>>,
+        right: Vec<NodeOf<R>>,
+    ) -> Result<CoupledOf<R>, PlantFault>
+        ensures begun { IfOk result (λ c. plant_state R.meaning c.plant
+            ≡ opening
+            (two_rings_of (states_of R.meaning left.items) (states_of R.meaning right.items))
+            (states_of R.meaning left.items ++ states_of R.meaning right.items)) }
+        ensures in_order { IfOk result (λ c. IsInOrder (plant_state R.meaning c.plant)) }
+        ensures ok { OnOk result (is_plant
+            (two_rings_of (states_of R.meaning left.items) (states_of R.meaning right.items))
+            (states_of R.meaning left.items ++ states_of R.meaning right.items) ≡ true) }
+        ensures err { IfErr result (λ f. f ≡ plant_fault (is_plant
+            (two_rings_of (states_of R.meaning left.items) (states_of R.meaning right.items))
+            (states_of R.meaning left.items ++ states_of R.meaning right.items))) }
+    {
+        if !are_few(&left, &right) {
+            return Err(PlantFault::BadPlant);
+        }
+        let topology = two_rings_of(&left, &right);
+        plant_of_both(alloc, topology, left, right)
+    }
+}

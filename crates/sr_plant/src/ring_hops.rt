@@ -1,0 +1,52 @@
+//! Round a ring.
+
+ghost use Rattle.std.specs.Prelude.{◌≡◌, ◌<◌, None, IfSome, option_map};
+ghost use Rattle.sr_plant_laws.specs.RingParts.{onward, backward};
+ghost use Rattle.sr_plant_laws.specs.Rings.{beyond};
+ghost use Rattle.sr_plant.specs.Flights.{hop_of};
+ghost use Rattle.sr_plant.specs.Puts.{ring_hop_to};
+
+use crate::hop::Hop;
+use sr_frame::Port;
+
+// The next node of a ring.
+fn next(node: usize, nodes: usize) -> usize
+    requires { node < nodes }
+    ensures next { result ≡ beyond nodes onward node }
+    ensures inside { result < nodes }
+{
+    if node + 1 == nodes { 0 } else { node + 1 }
+}
+
+// The node before it.
+fn previous(node: usize, nodes: usize) -> usize
+    requires { node < nodes }
+    ensures previous { result ≡ beyond nodes backward node }
+    ensures inside { result < nodes }
+{
+    if node == 0 { nodes - 1 } else { node - 1 }
+}
+
+/// The hop round a ring of so many nodes, from a port of one to another, if it leads there.
+pub(crate) fn ring_hop(nodes: usize, node: usize, port: Port, to: usize) -> Option<Hop>
+    requires { node < nodes }
+    ensures hop { option_map hop_of result ≡ ring_hop_to nodes node port to }
+    ensures inside { IfSome result (λ h.
+        (h.node < nodes) × (h.first < nodes) × (h.second ≡ None)) }
+{
+    match port {
+        Port::A if to == previous(node, nodes) => Some(Hop {
+            node: to,
+            port: Port::B,
+            first: to,
+            second: None,
+        }),
+        Port::B if to == next(node, nodes) => Some(Hop {
+            node: to,
+            port: Port::A,
+            first: node,
+            second: None,
+        }),
+        _ => None,
+    }
+}
