@@ -24,12 +24,12 @@ use Rattle.sr_plant_runs.proofs.UnbrokenLemmas.{loses_nothing, ideal_for, open_a
 pub rings_each_once : RingHandsUpTheIdeal → RingHandsUpOnce → RingLosesNothing → HandsUpEachOnce Ring
 rings_each_once ideal once loses starts turns s run own limits whole none j role ps at there =
     let n = length starts in
-    let r = run_told Ring tt starts own turns s run in
+    let r = run_told Ring starts own turns s run in
     let premises = ring_premises starts own turns s run r limits in
     let all = loses n (mac_at starts) (in_mode_x starts) (widths_of starts) lanes_of r.history r.plant premises ((history_of Ring starts turns s run r).quiet none) in
     let up = each_once starts turns j ps (done_in r.history) r.sends (ideal n r.history r.plant premises.happened j)
     (once n (mac_at starts) (in_mode_x starts) (widths_of starts) lanes_of r.history r.plant premises j) (r.like.up j ps there) in
-    let kept = loses_nothing Ring starts turns s run r.history r.plant r.run r.told whole (unrefused Ring starts turns s tt run own) in (
+    let kept = loses_nothing Ring starts turns s run r.history r.plant r.run r.told whole (unrefused Ring starts turns s run own) in (
       up.0,
       up.1,
       up.2,
@@ -44,12 +44,12 @@ rings_each_once ideal once loses starts turns s run own limits whole none j role
 pub lans_each_once : LansHandUpTheIdeal → LansHandUpOnce → LansLoseNothing → HandsUpEachOnce TwinLan
 lans_each_once ideal once loses starts turns s run own limits whole none j role ps at there =
     let n = length starts in
-    let r = run_told TwinLan tt starts own turns s run in
+    let r = run_told TwinLan starts own turns s run in
     let premises = lan_premises starts own turns s run r limits in
     let all = loses n (mac_at starts) (in_mode_x starts) (widths_of starts) lanes_of r.history r.plant premises ((history_of TwinLan starts turns s run r).quiet none) in
     let up = each_once starts turns j ps (done_in r.history) r.sends (ideal n r.history r.plant premises.happened j)
     (once n (mac_at starts) (in_mode_x starts) (widths_of starts) lanes_of r.history r.plant premises j) (r.like.up j ps there) in
-    let kept = loses_nothing TwinLan starts turns s run r.history r.plant r.run r.told whole (unrefused TwinLan starts turns s tt run own) in (
+    let kept = loses_nothing TwinLan starts turns s run r.history r.plant r.run r.told whole (unrefused TwinLan starts turns s run own) in (
       up.0,
       up.1,
       up.2,

@@ -6,7 +6,6 @@ use Rattle.sr_plant_laws.specs.Handlings.{Handling}
 use Rattle.sr_plant_laws.specs.Ledger.{PlantTurn}
 use Rattle.sr_plant_laws.specs.PlantEvents.{Event, History}
 use Rattle.sr_plant_laws.specs.PlantEvents as law
-use Rattle.sr_plant_laws.specs.Ports.{is_side}
 use Rattle.sr_node.specs.LifeChecks.{is_due}
 use Rattle.sr_node.specs.Starts.{Start}
 use Rattle.sr_plant.specs.declared.topology.Topology.{Topology}
@@ -14,28 +13,28 @@ use Rattle.sr_plant.specs.declared.event.PlantEvent.TheVariants.{Send, Carry, Ti
 use Rattle.sr_plant.specs.Plants.{Plant}
 use Rattle.sr_plant.specs.Steps.{PlantStep}
 use Rattle.sr_plant.specs.Topologies.{net_of}
-use Rattle.sr_plant_runs.specs.PlantRuns.{Turn, PlantRun, IsSingle}
-use Rattle.sr_plant_runs.specs.Histories.{HaveOwnAddresses, NumbersAs, IsTurnOf, AreTold}
+use Rattle.sr_plant_runs.specs.PlantRuns.{Turn, PlantRun}
+use Rattle.sr_plant_runs.specs.Histories.{HaveOwnAddresses, is_outlet, NumbersAs, IsTurnOf, AreTold}
 use Rattle.sr_plant_runs.proofs.RefusalLemmas.{never_lost}
 
 -- a carry that is told as a loss, in no history of any run
-pub no_carry_is_told_as_lost : (t : Topology) → IsSingle t → (starts : List Start) → HaveOwnAddresses starts → (before : List Turn) (u : Plant) (place : ℕ) (s : Plant) (run : PlantRun t starts (record { before = u; event = Carry place } ∷ before) s)
+pub no_carry_is_told_as_lost : (t : Topology) (starts : List Start) → HaveOwnAddresses starts → (before : List Turn) (u : Plant) (place : ℕ) (s : Plant) (run : PlantRun t starts (record { before = u; event = Carry place } ∷ before) s)
     (e : Event × PlantTurn) (es : History) (p : law.Plant) (story : law.PlantRun (net_of t (length starts)) (e ∷ es) p) →
     AreTold t starts (record { before = u; event = Carry place } ∷ before) s run (e ∷ es) p story → e.1.came ≡ [] → ⊥
-no_carry_is_told_as_lost t single starts own before u place s run e es p story told none = by run.2 told.2
+no_carry_is_told_as_lost t starts own before u place s run e es p story told none = by run.2 told.2
   where
     by : (step : PlantStep u (Carry place) s) → IsTurnOf starts u (Carry place) s step story.0 e.1 → ⊥
     by (c, at, inl comes) pins =
         let came : e.1.came ≡ pins.0 ∷ [] = pins.2.0 in
         absurd cc
-    by (c, at, inr lost) pins = never_lost t single starts before u run.0 own place c at lost.0
+    by (c, at, inr lost) pins = never_lost t starts before u run.0 own place c at lost.0
 
 -- a host's frame that is told as put out nowhere, or under another number
 pub no_send_is_told_as_silent : (starts : List Start) (s v : Plant) (i : ℕ) (frame : List ℕ) (step : PlantStep s (Send i frame) v) (p : law.Plant) (turn : PlantTurn) → IsTurnOf starts s (Send i frame) v step p turn →
-    (d : Handling) → turn.did ≡ Some d → (o : Port) → is_side o ≡ true → d.went o ≡ false → ⊥
+    (d : Handling) → turn.did ≡ Some d → (o : Port) → is_outlet o step.before.role.kind ≡ true → d.went o ≡ false → ⊥
 no_send_is_told_as_silent starts s v i frame step p turn pins d did o side silent =
     let n : NumbersAs starts i step.before frame step.after (Some d) = subst (λ x. NumbersAs starts i step.before frame step.after x) did pins in
-    true≢false (sym side ∙ sym (n.sides o) ∙ silent)
+    true≢false (sym side ∙ sym (n.outlets o) ∙ silent)
 
 pub no_send_is_told_under_another_number : (starts : List Start) (s v : Plant) (i : ℕ) (frame : List ℕ) (step : PlantStep s (Send i frame) v) (p : law.Plant) (turn : PlantTurn) → IsTurnOf starts s (Send i frame) v step p turn →
     (d : Handling) → turn.did ≡ Some d → step.before.core.next.0 ≢ d.frame.number % 65536 → ⊥

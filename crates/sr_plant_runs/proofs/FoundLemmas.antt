@@ -60,7 +60,7 @@ found_at net starts ds s v p q (Send k octets) acts turn i frame seq (d, node, s
     sent = inl (n.inlet, refl);
     source = n.source ∙ here;
     shows = subst (λ o. Shows starts (padded o) seq d.frame) same (subst (λ x. Shows starts (padded octets) x d.frame) number n.shows);
-    put = inl (n.node ∙ here, refl, n.sides A);
+    put = inl (n.node ∙ here, refl, n.outlets A);
     least = subst (λ o. least_len o ≤ length o) same fits;
   }),
   sends.sending.number ∙ ap (λ x. first_number + sent_count x ds) (n.node ∙ here),

@@ -14,7 +14,7 @@ use Rattle.sr_forwarding.specs.Octets.{src_in}
 use Rattle.sr_forwarding.specs.Parcels.{ParcelImage}
 use Rattle.sr_node.specs.declared.event.Event.{Event}
 use Rattle.sr_node.specs.declared.event.Event.TheVariants as node
-use Rattle.sr_node.specs.Arriving.{is_plain_at_interlink, going_on}
+use Rattle.sr_node.specs.Arriving.{is_plain, is_plain_at_interlink, going_on}
 use Rattle.sr_node.specs.Images.{State, time_at}
 use Rattle.sr_node.specs.Outboxes.{box_at}
 use Rattle.sr_node.specs.Starts.{Start}
@@ -27,29 +27,27 @@ use Rattle.sr_plant_laws.specs.Frames.{Frame}
 use Rattle.sr_plant_laws.specs.Handlings.{Handling, is_sending}
 use Rattle.sr_plant_laws.specs.Ledger.{Hop, Net, PlantTurn}
 use Rattle.sr_plant_laws.specs.Ledger as ledger
-use Rattle.sr_plant_laws.specs.LanLaws.{LansAreSteady}
 use Rattle.sr_plant_laws.specs.PlantEvents.{done_in, IsTakenOut, Refuses, Ends, Takes, Ticks, Carries, Moves}
 use Rattle.sr_plant_laws.specs.PlantEvents as law
-use Rattle.sr_plant_laws.specs.Ports.{is_side}
-use Rattle.sr_plant_laws.specs.RingLaws.{RingIsSteady}
-use Rattle.sr_plant_laws.specs.Steadiness.{is_arrival_at, arrival_of, arrivals_at, AllSteady}
+use Rattle.sr_plant_laws.specs.Steadiness.{is_arrival_at, arrival_of, arrivals_at, AllSteady, MembersAreSteady}
 use Rattle.sr_plant.specs.declared.topology.Topology.{Topology}
-use Rattle.sr_plant.specs.declared.topology.Topology.TheVariants.{Ring, TwinLan, RingLan, TwoRings}
 use Rattle.sr_plant.specs.declared.event.PlantEvent.{PlantEvent}
 use Rattle.sr_plant.specs.declared.event.PlantEvent.TheVariants.{Send, Carry, Drop, Repeat, Cut, Mend, Tick}
 use Rattle.sr_plant.specs.Copies.{Copy}
 use Rattle.sr_plant.specs.Plants.{Plant}
 use Rattle.sr_plant.specs.Steps.{Acts, Comes, PlantStep}
 use Rattle.sr_plant.specs.Topologies.{net_of}
-use Rattle.sr_plant_runs.specs.PlantRuns.{Turn, PlantRun, IsSingle}
+use Rattle.sr_plant_runs.specs.PlantRuns.{Turn, PlantRun}
 use Rattle.sr_plant_runs.specs.Histories.{mac_at, HaveOwnAddresses, CarriesAs, Zip}
 use Rattle.sr_plant_runs.specs.NodeTurns.{acted_turns, carried_turns, event_turns, node_turns, NodesPutOutOnce}
 use Rattle.sr_plant_runs.specs.NodeSteady.{number_of_copy, number_carried, run_numbers, NodesRunSteadily, NodesPutOutWithin}
 use Rattle.sr_plant_runs.specs.TableWidths.{least_width, widths_of}
 use Rattle.sr_plant_runs.specs.Traffic.{Numbering, marks, IsWithinLimits}
-use Rattle.sr_plant_runs.proofs.CarriedLemmas.{here, fly, says, own_is, now, step_told}
-use Rattle.sr_plant_runs.proofs.HistoryLemmas.{Addresses, StepTold, got_beside, got_ghost}
-use Rattle.sr_plant_runs.proofs.HistoryRunLemmas.{run_told, addresses_of, made, have_tables, ring_run, lan_run}
+use Rattle.sr_plant_laws.specs.ListLemmas.{each_map}
+use Rattle.sr_plant_laws.proofs.RingLawLemmas.{consistent_in}
+use Rattle.sr_plant_runs.proofs.CarriedLemmas.{here, fly, says, own_is, now, step_told, no_plain}
+use Rattle.sr_plant_runs.proofs.HistoryLemmas.{IsMadeOf, StepTold, got_beside, got_ghost, IsGood}
+use Rattle.sr_plant_runs.proofs.HistoryRunLemmas.{run_told, made_of, made, have_tables}
 use Rattle.sr_plant_runs.proofs.LikeLemmas.{FliesAs, Like}
 use Rattle.sr_plant_runs.proofs.MarkLemmas.{Marks, beside_out}
 use Rattle.sr_plant_runs.proofs.WidthLemmas.{width_got}
@@ -116,14 +114,14 @@ either_way : {X : Type 0} (b : Bool) (x : X) → (if b then x else x) ≡ x
 either_way true x = refl
 either_way false x = refl
 
-at_no_interlink : (port : Port) (form : Form) → is_side port ≡ true → is_plain_at_interlink port form ≡ false
-at_no_interlink H form side = absurd cc
-at_no_interlink A form side = refl
-at_no_interlink B form side = refl
-at_no_interlink C form side = absurd cc
+at_no_interlink : (port : Port) (form : Form) → is_plain form ≡ false → is_plain_at_interlink port form ≡ false
+at_no_interlink H form tagged = refl
+at_no_interlink A form tagged = refl
+at_no_interlink B form tagged = refl
+at_no_interlink C form tagged = tagged
 
 -- a copy that is taken by its receiver, or that is the receiver's own
-module _ (t : Topology) (starts : List Start) (own : Addresses starts) (ds : List Handling) (s v : Plant) (p : law.Plant) (place : ℕ)
+module _ (t : Topology) (starts : List Start) (own : IsMadeOf t starts) (ds : List Handling) (s v : Plant) (p : law.Plant) (place : ℕ)
     (c : Copy) (like : Like t starts s p ds) (at : slice_get s.flight place ≡ Some c) (comes : Comes s place c v) (n : ℤ) where
   abbrev g : ledger.Copy
   g = (here t starts own ds s v p place c like at comes).here
@@ -154,14 +152,14 @@ module _ (t : Topology) (starts : List Start) (own : Addresses starts) (ds : Lis
   -- under a number of other 16 bits than its frame's it is taken in no steady run
   pub no_copy_is_taken_under_another_number : IsNumbered n came → wire n ≢ wire (pos g.frame.number) → ⊥
   no_copy_is_taken_under_another_number numbered other =
-      let own : IsCarriedUnless false n q.seq = subst (λ b. IsCarriedUnless b n q.seq) (at_no_interlink c.hop.to.port q.form flown.port) numbered in
+      let own : IsCarriedUnless false n q.seq = subst (λ b. IsCarriedUnless b n q.seq) (at_no_interlink c.hop.to.port q.form (no_plain t starts own ds s v p place c like at comes)) numbered in
       let carried : flown.seq.0 ≡ wire n = subst (IsCarried n) number_is own in
       other (sym carried ∙ flown.shows.number)
 
   module _ (is : n ≡ pos g.frame.number) where
     is_numbered : IsNumbered n came
     is_numbered =
-        subst (λ b. IsCarriedUnless b n q.seq) (sym (at_no_interlink c.hop.to.port q.form flown.port))
+        subst (λ b. IsCarriedUnless b n q.seq) (sym (at_no_interlink c.hop.to.port q.form (no_plain t starts own ds s v p place c like at comes)))
         (subst (IsCarried n) (sym number_is) (subst (λ x. flown.seq.0 ≡ wire x) (sym is) flown.shows.number))
 
     arrives_as : (turns : List runs.Turn) →
@@ -175,7 +173,7 @@ module _ (t : Topology) (starts : List Start) (own : Addresses starts) (ds : Lis
             ≡ arrival_if (header_of q).src (number_if q.seq n) (time_at comes.before s.clock)
         plainly =
             ap (λ b. arrival_if (header_of q).src (number_if (if b then Some comes.before.core.next else q.seq) (if b then next_number turns else n)) (time_at comes.before s.clock))
-            (at_no_interlink c.hop.to.port q.form flown.port)
+            (at_no_interlink c.hop.to.port q.form (no_plain t starts own ds s v p place c like at comes))
 
         numbered : arrival_if (header_of q).src (number_if q.seq n) (time_at comes.before s.clock)
             ≡ record { src = (header_of q).src; number = n; time = time_at comes.before s.clock } ∷ []
@@ -260,7 +258,7 @@ carried_number t starts s p ms place g zip rest out =
     ap number_of_copy b.there ∙ ap pos b.related.1
 
 -- any event
-event_shown : (t : Topology) (starts : List Start) (own : Addresses starts) (ds : List Handling) (s v : Plant) (p : law.Plant) (e : PlantEvent)
+event_shown : (t : Topology) (starts : List Start) (own : IsMadeOf t starts) (ds : List Handling) (s v : Plant) (p : law.Plant) (e : PlantEvent)
     (ms : List Numbering) (step : PlantStep s e v) → Like t starts s p ds → Zip Marks ms p.flight → (told : StepTold t starts ds s p e v step)
     (k : ℕ) (turns : List runs.Turn) → ShowsAs starts k turns (event_turns k s e v step (number_carried ms e) turns) told.turn.did
 event_shown t starts own ds s v p (Send i frame) ms acts like zip told k turns =
@@ -321,17 +319,17 @@ AreOf numbers [] = Unit {0}
 AreOf numbers (turn ∷ before) =
     AreOf numbers before × (numbers (length before) ≡ number_carried (marks before turn.before) turn.event)
 
-run_shown : (t : Topology) (single : IsSingle t) (starts : List Start) (own : HaveOwnAddresses starts) (turns : List Turn) (s : Plant) (run : PlantRun t starts turns s)
+run_shown : (t : Topology) (starts : List Start) (own : HaveOwnAddresses starts) (turns : List Turn) (s : Plant) (run : PlantRun t starts turns s)
     (k : ℕ) (numbers : ℕ → ℤ) → AreOf numbers turns →
-    (arrivals (node_turns k numbers t starts turns s run) ≡ arrivals_at (mac_at starts) k (done_in (run_told t single starts own turns s run).history))
+    (arrivals (node_turns k numbers t starts turns s run) ≡ arrivals_at (mac_at starts) k (done_in (run_told t starts own turns s run).history))
     × AreNumbered (node_turns k numbers t starts turns s run)
 unfolding run_told
-run_shown t single starts own [] s run k numbers are = (refl, tt)
-run_shown t single starts own (turn ∷ before) s run k numbers are =
-    let earlier = run_told t single starts own before turn.before run.0 in
-    let addresses = addresses_of t starts (made t starts before turn.before run.0) own in
+run_shown t starts own [] s run k numbers are = (refl, tt)
+run_shown t starts own (turn ∷ before) s run k numbers are =
+    let earlier = run_told t starts own before turn.before run.0 in
+    let addresses = made_of t starts (made t starts before turn.before run.0) own in
     let told = step_told t starts addresses (done_in earlier.history) turn.before s earlier.plant turn.event earlier.like run.1 run.2 in
-    let so_far = run_shown t single starts own before turn.before run.0 k numbers are.0 in
+    let so_far = run_shown t starts own before turn.before run.0 k numbers are.0 in
     let shows = event_shown t starts addresses (done_in earlier.history) turn.before s earlier.plant turn.event (marks before turn.before) run.2
     earlier.like earlier.marked told k (node_turns k numbers t starts before turn.before run.0) in
     let now = subst (λ n. ShowsAs starts k (node_turns k numbers t starts before turn.before run.0)
@@ -349,29 +347,23 @@ are_of numbers (turn ∷ before) same = (
   same (length before) (omega arith) ∙ rw (eq-eqb (length before) (length before) refl) refl,
 )
 
-all_steady : RingIsSteady → LansAreSteady → (t : Topology) (single : IsSingle t) (starts : List Start) (own : HaveOwnAddresses starts) (turns : List Turn) (s : Plant)
-    (run : PlantRun t starts turns s) → IsWithinLimits starts turns → AllSteady (widths_of starts) (mac_at starts) (done_in (run_told t single starts own turns s run).history)
-all_steady rings lans Ring single starts own turns s run limits =
-    let r = run_told Ring single starts own turns s run in
-    rings (length starts) (mac_at starts) (widths_of starts) r.history r.plant (ring_run starts turns s run r)
-    (have_tables Ring starts own turns s (made Ring starts turns s run) run r).addressed
-    (have_tables Ring starts own turns s (made Ring starts turns s run) run r).widths (r.limits limits)
-all_steady rings lans TwinLan single starts own turns s run limits =
-    let r = run_told TwinLan single starts own turns s run in
-    lans (length starts) (mac_at starts) (widths_of starts) r.history r.plant (lan_run starts turns s run r)
-    (have_tables TwinLan starts own turns s (made TwinLan starts turns s run) run r).addressed
-    (have_tables TwinLan starts own turns s (made TwinLan starts turns s run) run r).widths (r.limits limits)
-all_steady rings lans (RingLan x) single starts own turns s run limits = absurd single
-all_steady rings lans (TwoRings x) single starts own turns s run limits = absurd single
+all_steady : MembersAreSteady → (t : Topology) (starts : List Start) (own : HaveOwnAddresses starts) (turns : List Turn) (s : Plant)
+    (run : PlantRun t starts turns s) → IsWithinLimits starts turns → AllSteady (widths_of starts) (mac_at starts) (done_in (run_told t starts own turns s run).history)
+all_steady steady t starts own turns s run limits =
+    let r = run_told t starts own turns s run in
+    let tables = have_tables t starts own turns s (made t starts turns s run) run r in
+    steady (length starts) (mac_at starts) (widths_of starts) (done_in r.history) tables.widths tables.addressed
+    (each_map (IsGood t starts) (λ d. d.frame.src < length starts) (λ d g. g.source) (done_in r.history) r.good)
+    (consistent_in (net_of t (length starts)) r.history r.plant r.run) (r.limits limits)
 
-pub nodes_run_steadily : RingIsSteady → LansAreSteady → NodesRunSteadily
-nodes_run_steadily rings lans t starts turns s run k start single width own limits =
-    let shown = run_shown t single starts own turns s run k (run_numbers turns) (are_of (run_numbers turns) turns (λ n less. refl)) in (
+pub nodes_run_steadily : MembersAreSteady → NodesRunSteadily
+nodes_run_steadily steady t starts turns s run k start width own limits =
+    let shown = run_shown t starts own turns s run k (run_numbers turns) (are_of (run_numbers turns) turns (λ n less. refl)) in (
       shown.1,
-      subst (λ w. AreSteady w (arrivals (node_turns k (run_numbers turns) t starts turns s run))) (sym width) (subst (AreSteady ((widths_of starts).at k)) (sym shown.0) (all_steady rings lans t single starts own turns s run limits k).0),
+      subst (λ w. AreSteady w (arrivals (node_turns k (run_numbers turns) t starts turns s run))) (sym width) (subst (AreSteady ((widths_of starts).at k)) (sym shown.0) (all_steady steady t starts own turns s run limits k).0),
     )
 
 pub nodes_put_out_within : NodesRunSteadily → NodesPutOutOnce → NodesPutOutWithin
-nodes_put_out_within steady once t starts turns s run k start m o single is at own limits =
+nodes_put_out_within steady once t starts turns s run k start m o is at own limits =
     once t starts turns s run k (run_numbers turns) start m o is at
-    (steady t starts turns s run k start single (sym (width_got (least_width starts) starts k start is)) own limits)
+    (steady t starts turns s run k start (sym (width_got (least_width starts) starts k start is)) own limits)

@@ -93,7 +93,7 @@ module _ (net : Net) (starts : List Start) (ds : List Handling) (p : law.Plant) 
       (same_frame d.frame d'.frame (x.source ∙ sym y.source)
       (a.sending.number ∙ ap (λ k. first_number + sent_count k ds) node ∙ sym b.sending.number) (x.shows.dest ∙ sym y.shows.dest)
       (sym x.shows.supervision ∙ y.shows.supervision) (a.sending.time ∙ time ∙ sym b.sending.time)
-      (sym x.shows.octets ∙ y.shows.octets)) time (λ o. x.wants o ∙ sym (y.wants o)) (λ o. x.sides o ∙ sym (y.sides o))
+      (sym x.shows.octets ∙ y.shows.octets)) time (λ o. x.wants o ∙ sym (y.wants o)) (λ o. x.outlets o ∙ sym (y.outlets o))
 
   -- so is what the sending of one handling leaves
   sends_same : (now : ℕ) (d d' : Handling) (turn turn' : PlantTurn) (after after' : law.Plant) → Sends net ds p now d turn after →

@@ -14,6 +14,7 @@ use Rattle.sr_forwarding.specs.Parcels.{ParcelImage}
 use Rattle.sr_forwarding.specs.RoleImages.{is_group}
 use Rattle.sr_node.specs.Images.{State, time_at}
 use Rattle.sr_node.specs.Starts.{Start}
+use Rattle.sr_box_laws.specs.Members.{is_to_group}
 use Rattle.sr_plant_laws.specs.Frames.{Dest, one, group, is_only, is_for, Frame}
 use Rattle.sr_plant_laws.specs.Handlings.{Handling}
 use Rattle.sr_plant_laws.specs.Ideal.{IsIdeal}
@@ -37,7 +38,7 @@ use Rattle.sr_plant.specs.Plants.{Plant}
 use Rattle.sr_plant.specs.Steps.{PlantStep}
 use Rattle.sr_plant.specs.Topologies.{net_of}
 use Rattle.sr_plant_runs.specs.PlantRuns.{Turn, PlantRun}
-use Rattle.sr_plant_runs.specs.Histories.{mac_at, Shows, ParcelShows, is_for_all, event_of, NumbersAs, IsTurnOf, AreTold}
+use Rattle.sr_plant_runs.specs.Histories.{mac_at, Shows, ParcelShows, event_of, NumbersAs, IsTurnOf, AreTold}
 use Rattle.sr_plant_runs.specs.RunLaws.{RingsAreTold, TwinLansAreTold}
 use Rattle.sr_plant_runs.specs.Sent.{IsSendOf, is_meant_for}
 use Rattle.sr_plant_runs.specs.Unbroken.{TakesNothingAway, IsUnbroken, RefusesNothing, IsUnrefused, IsFrameSent, HandsUpAll}
@@ -126,7 +127,7 @@ found_now starts s v p (Send k octets) acts turn ds i frame seq pins send = by t
         sent = inl (n.inlet, refl);
         source = n.source ∙ here;
         shows = subst (λ o. Shows starts (padded o) seq d.frame) same (subst (λ x. Shows starts (padded octets) x d.frame) number n.shows);
-        put = inl (n.node ∙ here, refl, n.sides A);
+        put = inl (n.node ∙ here, refl, n.outlets A);
         least = subst (λ o. least_len o ≤ length o) same fits;
       },
     )
@@ -147,7 +148,7 @@ find_sent t starts (turn ∷ before) s run (e ∷ es) p story told i frame seq (
     (earlier.0, found_later starts i frame seq earlier.0 (done_in es) (option_to_list e.1.did) earlier.1)
 
 -- it is ideal for whom it is meant
-either : (a b : Bool) (d : Dest) (j : ℕ) → a ≡ is_only j d → b ≡ is_for_all d → (a || b) ≡ true → is_for j d ≡ true
+either : (a b : Bool) (d : Dest) (j : ℕ) → a ≡ is_only j d → b ≡ is_to_group d → (a || b) ≡ true → is_for j d ≡ true
 either a b (one k) j e f meant = sym e ∙ sym (or_none a) ∙ ap (λ x. a || x) (sym f) ∙ meant
   where
     or_none : (x : Bool) → (x || false) ≡ x
@@ -223,7 +224,7 @@ rings_hand_up_all tell starts turns s run own limits whole none i j role frame s
     let r = tell starts turns s run own in
     let found = find_sent Ring starts turns s run r.history r.plant r.run.run r.told.events i frame seq some in
     let f = found.0 in
-    let kept = loses_nothing Ring starts turns s run r.history r.plant r.run.run r.told.events whole (unrefused Ring starts turns s tt run own) in
+    let kept = loses_nothing Ring starts turns s run r.history r.plant r.run.run r.told.events whole (unrefused Ring starts turns s run own) in
     let way = arc (length starts) f (law.turns r.history) (open_all (ring (length starts)) r.history r.plant f kept) i j other
     (subst (λ k. k < length starts) found.1.source found.1.shows.member) (address_at starts j role at).1 in
     let whole_arc : HasWholeArc (length starts) r.history f j = subst (λ k. (w : Way) × (m : ℕ) × IsWhole (ring (length starts)) (ring_part (length starts)) f (law.turns r.history) w k m j) (sym found.1.source) way in
@@ -252,7 +253,7 @@ lans_hand_up_all tell starts turns s run own limits whole none i j role frame se
     let r = tell starts turns s run own in
     let found = find_sent TwinLan starts turns s run r.history r.plant r.run.run r.told.events i frame seq some in
     let f = found.0 in
-    let kept = loses_nothing TwinLan starts turns s run r.history r.plant r.run.run r.told.events whole (unrefused TwinLan starts turns s tt run own) in
+    let kept = loses_nothing TwinLan starts turns s run r.history r.plant r.run.run r.told.events whole (unrefused TwinLan starts turns s run own) in
     let made : 0 < made_in (twin_lans n) (in_lan_a j) f (law.turns r.history) =
     put_makes (twin_lans n) (law.turns r.history) i A (in_lan_a j) f refl found.1.put (hop_of A 0 i j (other_members n i) (member_of n i j (address_at starts j role at).1 other)) in
     let whole_copy : HasWholeCopy n r.history f j = λ same. (let a = kept.lost (in_lan_a j) f in let b = kept.lost (in_lan_b j) f in omega (arith, same, a, b, made)) in

@@ -1,5 +1,6 @@
 -- The widths of a plant's tables are widths, and lie between the least and the greatest.
-use Rattle.std.proofs.Common.{◌≡◌, inl, inr, ℕ, zero, suc, ◌≤◌, min, true, false, List, [], ◌∷◌, map, Some, slice_get, refl, ap, arith}
+use Rattle.std.proofs.Common.{◌≡◌, inl, inr, ℕ, zero, suc, ◌≤◌, min, true, List, [], ◌∷◌, map, Some, slice_get, refl, sym, ap, arith}
+use Rattle.std.proofs.lemmas.Bool.{true≢false}
 use Rattle.sr_dup_window.specs.Spots.{IsWidth}
 use Rattle.sr_node.specs.StartLemmas.{has_width}
 use Rattle.sr_node.specs.Starts.{Start, begun_as, width_of}
@@ -7,7 +8,8 @@ use Rattle.sr_plant_laws.specs.Widths.{AreWidths}
 use Rattle.sr_plant.specs.declared.topology.Topology.{Topology}
 use Rattle.sr_plant.specs.declared.topology.Topology.TheVariants.{Ring, TwinLan, RingLan, TwoRings}
 use Rattle.sr_plant.specs.Building.{is_plant}
-use Rattle.sr_plant.proofs.BuildingLemmas.{plant_is_joined}
+use Rattle.sr_plant.specs.Topologies.{IsJoinedAs}
+use Rattle.sr_plant.proofs.BuildingLemmas.{opening_in_order}
 use Rattle.sr_plant_runs.specs.TableWidths.{least_width, greatest_width, width_at, widths_of}
 
 lesser : (a b : ℕ) → IsWidth a → IsWidth b → IsWidth (min a b)
@@ -36,22 +38,14 @@ above_each high other (r ∷ starts) zero le all = omega (arith, all)
 above_each high other (r ∷ starts) (suc k) le all = above_each high other starts k le (omega (arith, all))
 
 -- a plant has nodes
-some_nodes : (t : Topology) → is_plant t [] ≡ true → ⊥
-some_nodes Ring is = let no : false ≡ true = is in absurd cc
-some_nodes TwinLan is = let no : false ≡ true = is in absurd cc
-some_nodes (RingLan s) is =
-    let joined = plant_is_joined (RingLan s) [] is in
-    let sum = joined.sum in
-    let a = joined.a_inside in
-    omega (arith, sum, a)
-some_nodes (TwoRings s) is =
-    let joined = plant_is_joined (TwoRings s) [] is in
-    let sum = joined.sum in
-    let first = joined.joins.0 in
-    omega (arith, sum, first)
-
 pub are_widths : (t : Topology) (starts : List Start) → is_plant t (map begun_as starts) ≡ true → AreWidths (widths_of starts)
-are_widths t [] is = absurd (some_nodes t is)
+are_widths t [] is = absurd (no_nodes t is (opening_in_order t [] is).joined)
+  where
+    no_nodes : (t : Topology) → is_plant t [] ≡ true → IsJoinedAs t 0 → ⊥
+    no_nodes Ring is joined = true≢false (sym is)
+    no_nodes TwinLan is joined = true≢false (sym is)
+    no_nodes (RingLan s) is joined = let sum = joined.sum in let inside = joined.a_inside in omega (arith, sum, inside)
+    no_nodes (TwoRings s) is joined = let sum = joined.sum in let left = joined.joins.0 in omega (arith, sum, left)
 are_widths t (r ∷ starts) is =
     let least = least_width (r ∷ starts) in
     let greatest = greatest_width (r ∷ starts) in

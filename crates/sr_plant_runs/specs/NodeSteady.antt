@@ -12,7 +12,7 @@ use Rattle.sr_plant.specs.declared.event.PlantEvent.TheVariants.{Send, Carry, Dr
 use Rattle.sr_plant.specs.Plants.{Plant}
 use Rattle.sr_plant_runs.specs.Histories.{HaveOwnAddresses}
 use Rattle.sr_plant_runs.specs.NodeTurns.{node_turns}
-use Rattle.sr_plant_runs.specs.PlantRuns.{Turn, PlantRun, IsSingle}
+use Rattle.sr_plant_runs.specs.PlantRuns.{Turn, PlantRun}
 use Rattle.sr_plant_runs.specs.TableWidths.{widths_of}
 use Rattle.sr_plant_runs.specs.Traffic.{Numbering, marks, IsWithinLimits}
 
@@ -42,7 +42,7 @@ run_numbers (turn ∷ before) n =
 abbrev pub NodesRunSteadily : Type 0
 NodesRunSteadily =
     (t : Topology) (starts : List Start) (turns : List Turn) (s : Plant) (run : PlantRun t starts turns s) (k : ℕ) (start : Start) →
-    IsSingle t → width_of start ≡ (widths_of starts).at k → HaveOwnAddresses starts → IsWithinLimits starts turns →
+    width_of start ≡ (widths_of starts).at k → HaveOwnAddresses starts → IsWithinLimits starts turns →
     IsSteady start (node_turns k (run_numbers turns) t starts turns s run)
 
 -- So what a node put out at an outlet in the whole run of the plant is, in order, what came in and is wanted there, each pair of source
@@ -50,7 +50,7 @@ NodesRunSteadily =
 abbrev pub NodesPutOutWithin : Type 0
 NodesPutOutWithin =
     (t : Topology) (starts : List Start) (turns : List Turn) (s : Plant) (run : PlantRun t starts turns s) (k : ℕ) (start : Start)
-    (m : State) (o : Port) → IsSingle t → slice_get starts k ≡ Some start → slice_get s.nodes k ≡ Some m → HaveOwnAddresses starts →
+    (m : State) (o : Port) → slice_get starts k ≡ Some start → slice_get s.nodes k ≡ Some m → HaveOwnAddresses starts →
     IsWithinLimits starts turns →
     taken o (node_turns k (run_numbers turns) t starts turns s run)
     ≡ parcels_of (went o (node_turns k (run_numbers turns) t starts turns s run))

@@ -12,7 +12,7 @@ use Rattle.sr_plant.specs.declared.event.PlantEvent.TheVariants.{Send, Carry, Dr
 use Rattle.sr_plant.specs.Copies.{Copy}
 use Rattle.sr_plant.specs.Plants.{Plant}
 use Rattle.sr_plant.specs.Steps.{IsLost}
-use Rattle.sr_plant_runs.specs.PlantRuns.{Turn, PlantRun, IsSingle}
+use Rattle.sr_plant_runs.specs.PlantRuns.{Turn, PlantRun}
 use Rattle.sr_plant_runs.specs.Histories.{HaveOwnAddresses}
 use Rattle.sr_plant_runs.specs.Sent.{IsSendOf, is_meant_for}
 use Rattle.sr_plant_runs.specs.Traffic.{IsWithinLimits}
@@ -51,8 +51,7 @@ IsFrameSent frame seq p = (plain_of p ≡ padded frame) × (p.seq ≡ Some seq)
 -- was dropped, was put on a link that is cut, or was on a link when it was cut.
 abbrev pub LossesAreDropsAndCuts : Type 0
 LossesAreDropsAndCuts =
-    (t : Topology) (starts : List Start) (turns : List Turn) (s : Plant) → IsSingle t → PlantRun t starts turns s →
-    HaveOwnAddresses starts →
+    (t : Topology) (starts : List Start) (turns : List Turn) (s : Plant) → PlantRun t starts turns s → HaveOwnAddresses starts →
     IsUnrefused turns
 
 -- In every run within the limits in which nothing is dropped or cut, and at whose end nothing is in flight: each frame that a host sent,

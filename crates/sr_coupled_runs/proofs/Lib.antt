@@ -1,0 +1,3 @@
+mod CoupledLemmas
+mod NoneBackLemmas
+mod EachOnceLemmas

@@ -1,0 +1,2 @@
+pub mod CoupledLaws
+pub mod NoneBack
