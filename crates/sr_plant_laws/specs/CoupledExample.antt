@@ -1,4 +1,5 @@
--- An example that computes: a ring with two LANs, one of which is cut off. All premises of the laws hold of it.
+-- Two examples that compute: a ring with two LANs, one of which is cut off, and two rings with a cut link. All premises of the laws hold of
+-- them.
 use Rattle.std.specs.Prelude.{◌≡◌, ℕ, false, List, [], ◌∷◌, Some}
 use Rattle.sr_frame.specs.declared.ports.Port.{Port}
 use Rattle.sr_frame.specs.declared.ports.Port.TheVariants.{H, A, B, C}
@@ -12,6 +13,8 @@ use Rattle.sr_plant_laws.specs.PlantEvents.{send, carry, drop, cut, Plant, IsQui
 use Rattle.sr_plant_laws.specs.Ideal.{IsIdeal}
 use Rattle.sr_plant_laws.specs.Examples.{mac, no_one, mixed, lanes_noted, taken}
 use Rattle.sr_plant_laws.specs.RingLans.{Shape, ring_lan_routes, RingLanPremises, HasWholeWay}
+use Rattle.sr_plant_laws.specs.TwoRings.{TwoShape, two_rings_routes, TwoRingsPremises}
+use Rattle.sr_plant_laws.specs.TwoRings as rings
 
 -- members 0 and 1 are the boxes of LAN A and of LAN B, 2 is a doubly attached node of the ring, and 3 one of the LANs
 abbrev pub small : Shape
@@ -56,3 +59,53 @@ pub record CutLanLosesNothing : Type 0 where
   pub ideal : IsIdeal 2 g (done_in coupled_events)
   pub whole : HasWholeWay small coupled_events g 2
   pub one : handed_at 2 ≡ g ∷ []
+
+-- members 0 and 1 are those of the left ring, 2 and 3 those of the right one; 0 and 2 are boxes that are joined
+abbrev pub small_rings : TwoShape
+small_rings = record { left = 2; right = 2; joins = (0, 2) ∷ [] }
+
+-- the first frame of member 1, for member 3 alone
+abbrev pub h : Frame
+h = record { src = 1; number = first_number; dest = one 3; supervision = false; time = 0; octets = [] }
+
+abbrev pub sent_over : Handling
+sent_over = record { node = 1; inlet = H; frame = h; time = 0; wanted = is_side; went = is_side }
+
+abbrev pub arrives_over : ℕ → Port → Handling
+arrives_over k p = record {
+  node = k;
+  inlet = p;
+  frame = h;
+  time = 0;
+  wanted = two_rings_routes small_rings k h p;
+  went = two_rings_routes small_rings k h p;
+}
+
+abbrev pub copy_of : ℕ → Port → List ℕ → Copy
+copy_of k p links = record { hop = record { to = record { node = k; port = p }; links = links }; frame = h }
+
+-- Link 1 of the left ring is cut. The frame comes to box 0 by link 0, goes over the join to box 2, and round the right ring both ways; what
+-- box 0 sends on round its own ring is lost, and so is the second copy to member 3.
+abbrev pub joined_events : History
+joined_events =
+    (drop 0, record idle_turn { lost = copy_of 3 A (2 ∷ []) ∷ [] })
+    ∷ (carry 0, taken (arrives_over 3 B) (copy_of 3 B (3 ∷ [])) [])
+    ∷ (carry 0, taken (arrives_over 2 C) (copy_of 2 C (4 ∷ [])) [])
+    ∷ (carry 0, taken (arrives_over 0 B) (copy_of 0 B (0 ∷ [])) (copy_of 1 B (1 ∷ []) ∷ []))
+    ∷ (send 1, record { did = Some sent_over; doubled = []; lost = copy_of 0 A (1 ∷ []) ∷ []; came = [] })
+    ∷ (cut 1, idle_turn)
+    ∷ []
+
+abbrev pub quiet_pair : Plant
+quiet_pair = record { flight = []; cuts = 1 ∷ []; clock = 0 }
+
+-- all premises hold, a way over the join is whole, and member 3 handed the frame up
+abbrev pub handed_over : ℕ → List Frame
+handed_over j = handed j (done_in joined_events)
+
+pub record CutJoinedRingLosesNothing : Type 0 where
+  pub premises : TwoRingsPremises small_rings mac no_one mixed lanes_noted joined_events quiet_pair
+  pub quiet : IsQuiet quiet_pair
+  pub ideal : IsIdeal 3 h (done_in joined_events)
+  pub whole : rings.HasWholeWay small_rings joined_events h 3
+  pub one : handed_over 3 ≡ h ∷ []
