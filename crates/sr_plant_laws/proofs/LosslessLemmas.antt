@@ -33,7 +33,7 @@ use Rattle.sr_plant_laws.proofs.RingLemmas.{only_one}
 use Rattle.sr_plant_laws.proofs.TwoRingsLemmas.{joins_lead_over, two_rings_lose_nothing}
 
 -- every link is open
-open_all : (net : Net) (es : History) (f : Frame) → LosesNone es → (q : Place) → IsOpen net f (turns es) q
+pub open_all : (net : Net) (es : History) (f : Frame) → LosesNone es → (q : Place) → IsOpen net f (turns es) q
 open_all net es f none q = by (made_in net q f (turns es)) refl
   where
     by : (made : ℕ) → made_in net q f (turns es) ≡ made → IsOpen net f (turns es) q
@@ -73,10 +73,10 @@ module _ (net : Net) (r : RingPart) (base n : ℕ) (f : Frame) (ts : List PlantT
             | inr g ↦ absurd (ne (omega (arith, le, g)))
           ]
 
-next_number : (n k : ℕ) → k + 1 < n → beyond n onward k ≡ k + 1
+pub next_number : (n k : ℕ) → k + 1 < n → beyond n onward k ≡ k + 1
 next_number n k less = rw (ne_eqb (k + 1) n (λ e. absurd (omega (arith, e, less)))) refl
 
-last_number : (n k : ℕ) → 0 < k → beyond n backward k ≡ k - 1
+pub last_number : (n k : ℕ) → 0 < k → beyond n backward k ≡ k - 1
 last_number n k more = rw (ne_eqb k 0 (λ e. absurd (omega (arith, e, more)))) refl
 
 -- a LAN leads to each doubly attached node

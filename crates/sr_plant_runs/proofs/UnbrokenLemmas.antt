@@ -1,8 +1,8 @@
 -- In a network in which nothing is dropped, cut or refused, nothing is lost.
-use Rattle.std.proofs.Common.{Option, ◌≡◌, ◌≢◌, inl, inr, ℕ, zero, suc, ◌+◌, ◌-◌, ◌<◌, ◌≤◌, ◌==◌, ◌||◌, not, Bool, true, false, List, [], ◌∷◌, ◌++◌, length, None, Some, slice_get, refl, sym, ap, ◌∙◌, subst, arith}
+use Rattle.std.proofs.Common.{Option, ◌≡◌, ◌≢◌, inl, inr, ℕ, zero, suc, ◌<◌, ◌≤◌, ◌==◌, ◌||◌, not, Bool, true, false, List, [], ◌∷◌, ◌++◌, length, None, Some, slice_get, refl, sym, ap, ◌∙◌, subst, arith}
 use Rattle.std.specs.List.{filter}
 use Rattle.std.specs.Option.{option_to_list}
-use Rattle.std.proofs.lemmas.Bool.{cases_Bool, cases_eq, cases_lt, ne_eqb}
+use Rattle.std.proofs.lemmas.Bool.{cases_Bool, cases_eq, ne_eqb}
 use Rattle.std.proofs.lemmas.Bool.Decides.{nat_tests}
 use Rattle.sr_frame.specs.declared.ports.Port.{Port}
 use Rattle.sr_frame.specs.declared.ports.Port.TheVariants.{A}
@@ -26,10 +26,11 @@ use Rattle.sr_plant_laws.specs.ListLemmas.{one_left, one_right}
 use Rattle.sr_plant_laws.specs.PlantEvents.{History, done_in, Moves}
 use Rattle.sr_plant_laws.specs.PlantEvents as law
 use Rattle.sr_plant_laws.specs.RingLaws.{HasWholeArc}
-use Rattle.sr_plant_laws.specs.RingParts.{Way, onward, backward, place_beyond, IsWhole}
-use Rattle.sr_plant_laws.specs.Rings.{ring, ring_part, beyond}
+use Rattle.sr_plant_laws.specs.RingParts.{Way, IsWhole}
+use Rattle.sr_plant_laws.specs.Rings.{ring, ring_part}
 use Rattle.sr_plant_laws.specs.TwinLans.{twin_lans, other_members, lan_hops, in_lan_a, in_lan_b}
 use Rattle.sr_plant_laws.proofs.LedgerLemmas.{put_makes}
+use Rattle.sr_plant_laws.proofs.LosslessLemmas.{open_all as all_open, any_arc, next_number, last_number}
 use Rattle.sr_plant.specs.declared.topology.Topology.{Topology}
 use Rattle.sr_plant.specs.declared.topology.Topology.TheVariants.{Ring, TwinLan}
 use Rattle.sr_plant.specs.declared.event.PlantEvent.{PlantEvent}
@@ -177,47 +178,13 @@ one_is starts i frame seq f ds found (p ∷ ps) (inr rest) = inr (one_is starts 
 
 -- where nothing was lost, links are open
 pub open_all : (net : Net) (es : History) (p : law.Plant) (f : Frame) → LosesNothing es p → (q : Place) → IsOpen net f (law.turns es) q
-open_all net es p f none q = by (made_in net q f (law.turns es)) refl
-  where
-    by : (made : ℕ) → made_in net q f (law.turns es) ≡ made → IsOpen net f (law.turns es) q
-    by zero e = inl e
-    by (suc n) e = inr (λ same. let l = none.lost q f in omega (arith, e, same, l))
+open_all net es p f none q = all_open net es f none.lost q
 
--- an arc leads from each node to each other
-module _ (n : ℕ) (f : Frame) (ts : List PlantTurn) (free : (q : Place) → IsOpen (ring n) f ts q) where
-  up : (gap i j : ℕ) → i + gap + 1 ≡ j → j < n → IsWhole (ring n) (ring_part n) f ts onward i gap j
-  up zero i j e less =
-      let next : beyond n onward i ≡ j = (let ne : (i + 1 == n) ≡ false = ne_eqb (i + 1) n (λ x. absurd (omega (arith, x, e, less))) in rw ne (omega (arith, e))) in
-      (free (place_beyond (ring_part n) onward i), next)
-  up (suc gap) i j e less =
-      let next : beyond n onward i ≡ i + 1 = (let ne : (i + 1 == n) ≡ false = ne_eqb (i + 1) n (λ x. absurd (omega (arith, x, e, less))) in rw ne refl) in
-      (free (place_beyond (ring_part n) onward i), subst (λ k. IsWhole (ring n) (ring_part n) f ts onward k gap j) (sym next) (up gap (i + 1) j (omega (arith, e)) less))
-
-  down : (gap i j : ℕ) → j + gap + 1 ≡ i → IsWhole (ring n) (ring_part n) f ts backward i gap j
-  down zero i j e =
-      let next : beyond n backward i ≡ j = (let ne : (i == 0) ≡ false = ne_eqb i 0 (λ x. absurd (omega (arith, x, e))) in rw ne (omega (arith, e))) in
-      (free (place_beyond (ring_part n) backward i), next)
-  down (suc gap) i j e =
-      let next : beyond n backward i ≡ i - 1 = (let ne : (i == 0) ≡ false = ne_eqb i 0 (λ x. absurd (omega (arith, x, e))) in rw ne refl) in
-      (free (place_beyond (ring_part n) backward i), subst (λ k. IsWhole (ring n) (ring_part n) f ts backward k gap j) (sym next) (down gap (i - 1) j (omega (arith, e))))
-
-  pub arc : (i j : ℕ) → i ≢ j → i < n → j < n → (w : Way) × (m : ℕ) × IsWhole (ring n) (ring_part n) f ts w i m j
-  arc i j other a b = elim (cases_lt i j) [
-    | inl less ↦ (onward, j - i - 1, up (j - i - 1) i j (omega (arith, less)) b)
-    | inr more ↦ (backward, i - j - 1, down (i - j - 1) i j (below more))
-  ]
-    where
-      below : j ≤ i → j + (i - j - 1) + 1 ≡ i
-      below more = elim (cases_eq i j) [
-        | inl e ↦ absurd (other e)
-        | inr ne ↦ (let less : j < i = strict more ne in omega (arith, less))
-      ]
-        where
-          strict : j ≤ i → i ≢ j → j < i
-          strict le ne = elim (cases_lt j i) [
-            | inl l ↦ l
-            | inr g ↦ absurd (ne (omega (arith, le, g)))
-          ]
+-- an arc leads from each node of a ring to each other
+pub arc : (n : ℕ) (f : Frame) (ts : List PlantTurn) (free : (q : Place) → IsOpen (ring n) f ts q) (i j : ℕ) → i ≢ j → i < n → j < n → (w : Way) × (m : ℕ) × IsWhole (ring n) (ring_part n) f ts w i m j
+arc n f ts free i j other a b =
+    any_arc (ring n) (ring_part n) 0 n f ts (λ k low less. next_number n k (omega (arith, less))) (λ k more less. last_number n k more) free
+    i j other (omega arith) (omega (arith, a)) (omega arith) (omega (arith, b))
 
 pub rings_hand_up_all : RingsAreTold → HandsUpAll Ring
 rings_hand_up_all tell starts turns s run own limits whole none i j role frame seq ps some other at there meant host =
