@@ -26,6 +26,11 @@ given_of g (Host f) = g f
 given_of g (Ring c) = c.ends.send.frames
 given_of g (Lan l) = []
 
+abbrev pub losses_of : {F : Type 0} → (F → ℕ) → Line F → ℕ
+losses_of n (Host f) = n f
+losses_of n (Ring c) = c.counts.lost
+losses_of n (Lan l) = l.counts.lost
+
 abbrev pub ended_of : {F : Type 0} → (F → Bool) → Line F → Bool
 ended_of e (Host f) = e f
 ended_of e (Ring c) = c.counts.ended

@@ -1,8 +1,7 @@
 //! Two wires between a port and its neighbour's.
 
-ghost use Rattle.std.specs.Prelude.{◌≡◌, ◌++◌, ◌<◌, IfOk, OnErr};
-ghost use Rattle.sr_lines.specs.Losses.{lost_after};
-ghost use Rattle.sr_workers.specs.Told.{put_of};
+ghost use Rattle.std.specs.Prelude.{◌≡◌, ◌++◌, ◌<◌, ◌≤◌, IfOk, OnErr};
+ghost use Rattle.sr_workers.specs.Told.{put_of, lost_after};
 
 use crate::Ends;
 use crate::counts::Counts;
@@ -54,6 +53,7 @@ impl Cable {
         ensures kept { OnErr result (self.new.counts.lost ≡ self.old.counts.lost) }
         ensures ended { self.new.counts.ended ≡ self.old.counts.ended }
         ensures failed { OnErr result (self.old.counts.failures < self.new.counts.failures) }
+        ensures counted { self.old.counts.failures ≤ self.new.counts.failures }
     {
         match Frame::copy(self.alloc, octets) {
             Ok(frame) => match self.ends.put(rt, frame) {
@@ -85,6 +85,8 @@ impl Feed for Cable {
     ghost handed = { λ c. frames_of c.ends.take.frames };
 
     ghost given = { λ c. c.ends.send.frames };
+
+    ghost losses = { λ c. c.counts.lost };
 
     ghost ended = { λ c. c.counts.ended };
 

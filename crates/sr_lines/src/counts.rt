@@ -1,7 +1,7 @@
 //! What a line counts.
 
 ghost use Rattle.std.specs.Prelude.{◌≡◌, ◌+◌, ◌^◌, OnOk, OnErr, true};
-ghost use Rattle.sr_lines.specs.Losses.{lost_after};
+ghost use Rattle.sr_workers.specs.Told.{lost_after};
 
 use sr_workers::{FeedFault, Given};
 

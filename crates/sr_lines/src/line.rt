@@ -33,13 +33,15 @@ impl<F: Feed> Line<F> {
 }
 
 impl<F: Feed> Feed for Line<F> {
-    ghost use Rattle.sr_lines.specs.Handed.{tells_of, handed_of, given_of, ended_of, failed_of};
+    ghost use Rattle.sr_lines.specs.Handed.{tells_of, handed_of, given_of, losses_of, ended_of, failed_of};
 
     ghost tells = { tells_of F.tells };
 
     ghost handed = { handed_of F.handed };
 
     ghost given = { given_of F.given };
+
+    ghost losses = { losses_of F.losses };
 
     ghost ended = { ended_of F.ended };
 

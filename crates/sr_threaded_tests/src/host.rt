@@ -84,6 +84,8 @@ impl Feed for Host {
 
     ghost given = { λ _. [] };
 
+    ghost losses = { λ _. 0 };
+
     ghost ended = { λ _. false };
 
     ghost failed = { λ _. 0 };

@@ -1,5 +1,5 @@
 -- What the steps of a worker add.
-use Rattle.std.proofs.Common.{◌≡◌, ◌≢◌, ◌≤◌, ℕ, ◌+◌, List, [], ◌∷◌, ◌++◌, length, Option, Some, None, Bool, true, false, refl, sym, ap, ◌∙◌, subst, arith, append-nil, append_assoc, length-append, rules, lit≤, inl, inr, ◌⊎◌}
+use Rattle.std.proofs.Common.{◌≡◌, ◌≢◌, ◌≤◌, ◌<◌, ℕ, ◌+◌, List, [], ◌∷◌, ◌++◌, length, Option, Some, None, Bool, true, false, refl, sym, ap, ◌∙◌, subst, arith, append-nil, append_assoc, length-append, rules, lit≤, inl, inr, ◌⊎◌}
 use Rattle.std.specs.Prelude.{if◌then◌else◌}
 use Rattle.sr_frame.specs.declared.ports.Port.{Port}
 use Rattle.sr_forwarding.specs.Parcels.{ParcelImage}
@@ -16,11 +16,11 @@ use Rattle.sr_workers.specs.declared.feed.Turn.{Turn}
 use Rattle.sr_workers.specs.declared.feed.Turn.TheVariants as turn
 use Rattle.sr_workers.specs.declared.feed.Given.{Given}
 use Rattle.sr_workers.specs.Told.{Told, told_of, put_of, IsLastTurn}
-use Rattle.sr_workers.specs.Work.{Moment, moment, Did, DidLast, Finished, Stopped, Became, GivesEach, AreOwn, ServesPort, brought_in, parcels_in, nones_in, nones_of, parcels_held, puts, AreWritable}
+use Rattle.sr_workers.specs.Work.{Moment, moment, Did, DidLast, Finished, Stopped, Became, GivesEach, AreOwn, ServesPort, brought_in, parcels_in, nones_in, nones_of, parcels_held, puts, losses_after, AreWritable}
 use Rattle.sr_workers.specs.declared.fault.WorkerFault.TheVariants as fault
 use Rattle.sr_workers.specs.Worked.{Begun, Ended, beginning, ending, Worked}
 use Rattle.sr_workers.specs.Turns.{Brings, Out}
-use Rattle.sr_workers.proofs.Lists.{brought-append, parcels_in-append, nones_in-append, puts-append, AreOwn-append, Became-append, Sends-append}
+use Rattle.sr_workers.proofs.Lists.{brought-append, parcels_in-append, nones_in-append, puts-append, losses-append, AreOwn-append, Became-append, Sends-append}
 
 -- what was done first, and what was done then
 pub did_more : (tells : Bool) (w : Worker) (f : FramingImage) (n n' : ℕ) (held : List ParcelImage) (lost : List Told) (s m t : Moment) → Did tells w f n [] [] s m → Did tells w f n' held lost m t → Did tells w f (n + n') held lost s t
@@ -43,17 +43,19 @@ did_more tells w f n n' held lost s m t p q =
       sends = Sends-append f p.sent q.sent p.gave q.gave p.sends q.sends;
       given =
           λ tell. q.given tell ∙ ap (λ l. l ++ puts q.gave) (p.given tell) ∙ append_assoc s.given (puts p.gave) (puts q.gave) ∙ ap (λ l. s.given ++ l) (sym (puts-append p.gave q.gave));
+      short = q.short ∙ ap (λ n. losses_after n q.gave) p.short ∙ sym (losses-append s.losses p.gave q.gave);
+      failures = omega (arith, p.failures, q.failures);
       writable = q.writable;
       nones = omega (arith, nones_in-append p.pairs q.pairs, p.nones, q.nones);
     }
 
 pub last_more : (tells : Bool) (w : Worker) (f : FramingImage) (reason : WorkerFault) (held : Option ParcelImage) (n n' : ℕ) (s m t : Moment) → Did tells w f n [] [] s m → DidLast tells w f reason held n' m t → DidLast tells w f reason held (n + n') s t
 last_more tells w f reason held n n' s m t p q =
-    record { lost = q.lost; did = did_more tells w f n n' (parcels_held held) q.lost s m t p q.did; one = q.one; only = q.only }
+    record { lost = q.lost; did = did_more tells w f n n' (parcels_held held) q.lost s m t p q.did; one = q.one; only = q.only; failed = λ is. omega (arith, p.failures, q.failed is) }
 
 -- nothing was entered; something may have been handed out, and is lost
-pub did_nothing : (tells : Bool) (w : Worker) (f : FramingImage) (lost : List Told) (s t : Moment) → t.count ≡ s.count → t.pairs ≡ s.pairs → t.unread ≡ s.unread → (tells ≡ true → t.handed ≡ s.handed ++ lost) → (tells ≡ true → t.given ≡ s.given) → Did tells w f 0 [] lost s t
-did_nothing tells w f lost s t count pairs unread handed given =
+pub did_nothing : (tells : Bool) (w : Worker) (f : FramingImage) (lost : List Told) (s t : Moment) → t.count ≡ s.count → t.pairs ≡ s.pairs → t.unread ≡ s.unread → (tells ≡ true → t.handed ≡ s.handed ++ lost) → (tells ≡ true → t.given ≡ s.given) → t.losses ≡ s.losses → s.failed ≤ t.failed → Did tells w f 0 [] lost s t
+did_nothing tells w f lost s t count pairs unread handed given losses failed =
     record {
       pairs = [];
       told = [];
@@ -69,13 +71,15 @@ did_nothing tells w f lost s t count pairs unread handed given =
       taken = refl;
       sends = GivesEach.nothing;
       given = λ tell. given tell ∙ sym (append-nil s.given);
+      short = losses;
+      failures = failed;
       writable = tt;
       nones = refl;
     }
 
 -- nothing was there to take
-pub took_none : (tells : Bool) (w : Worker) (f : FramingImage) (port : Port) (s t : Moment) → ServesPort w port → t.count ≡ s.count + 1 → t.pairs ≡ s.pairs ++ (Take port, Taken None) ∷ [] → t.unread ≡ s.unread → (tells ≡ true → t.handed ≡ s.handed) → (tells ≡ true → t.given ≡ s.given) → Did tells w f 1 [] [] s t
-took_none tells w f port s t serves count pairs unread handed given =
+pub took_none : (tells : Bool) (w : Worker) (f : FramingImage) (port : Port) (s t : Moment) → ServesPort w port → t.count ≡ s.count + 1 → t.pairs ≡ s.pairs ++ (Take port, Taken None) ∷ [] → t.unread ≡ s.unread → (tells ≡ true → t.handed ≡ s.handed) → (tells ≡ true → t.given ≡ s.given) → t.losses ≡ s.losses → s.failed ≤ t.failed → Did tells w f 1 [] [] s t
+took_none tells w f port s t serves count pairs unread handed given losses failed =
     record {
       pairs = (Take port, Taken None) ∷ [];
       told = [];
@@ -91,13 +95,15 @@ took_none tells w f port s t serves count pairs unread handed given =
       taken = refl;
       sends = GivesEach.nothing;
       given = λ tell. given tell ∙ sym (append-nil s.given);
+      short = losses;
+      failures = failed;
       writable = tt;
       nones = refl;
     }
 
 -- a parcel was taken, and was given as its encoding, if it has one
-pub took_some : (tells : Bool) (w : Worker) (f : FramingImage) (port : Port) (p : ParcelImage) (s t : Moment) → ServesPort w port → t.count ≡ s.count + 1 → t.pairs ≡ s.pairs ++ (Take port, Taken (Some p)) ∷ [] → t.unread ≡ s.unread → (tells ≡ true → t.handed ≡ s.handed) → Out tells f p s.given t.given → Did tells w f 0 [] [] s t
-took_some tells w f port p s t serves count pairs unread handed out =
+pub took_some : (tells : Bool) (w : Worker) (f : FramingImage) (port : Port) (p : ParcelImage) (s t : Moment) → ServesPort w port → t.count ≡ s.count + 1 → t.pairs ≡ s.pairs ++ (Take port, Taken (Some p)) ∷ [] → t.unread ≡ s.unread → (tells ≡ true → t.handed ≡ s.handed) → Out tells f p s.given t.given s.losses t.losses → s.failed ≤ t.failed → Did tells w f 0 [] [] s t
+took_some tells w f port p s t serves count pairs unread handed out failed =
     record {
       pairs = (Take port, Taken (Some p)) ∷ [];
       told = [];
@@ -113,13 +119,15 @@ took_some tells w f port p s t serves count pairs unread handed out =
       taken = refl;
       sends = out.sends;
       given = out.given;
+      short = out.short;
+      failures = failed;
       writable = tt;
       nones = refl;
     }
 
 -- a parcel that can be written was taken, and was not given
-pub took_held : (tells : Bool) (w : Worker) (f : FramingImage) (port : Port) (p : ParcelImage) (reason : WorkerFault) (held : Option ParcelImage) (s t : Moment) → reason ≡ fault.FeedFault → held ≡ Some p → ServesPort w port → t.count ≡ s.count + 1 → t.pairs ≡ s.pairs ++ (Take port, Taken (Some p)) ∷ [] → t.unread ≡ s.unread → (tells ≡ true → t.handed ≡ s.handed) → (tells ≡ true → t.given ≡ s.given) → write_fault f p ≡ None → DidLast tells w f reason held 0 s t
-took_held tells w f port p reason held s t failed is serves count pairs unread handed given writable =
+pub took_held : (tells : Bool) (w : Worker) (f : FramingImage) (port : Port) (p : ParcelImage) (reason : WorkerFault) (held : Option ParcelImage) (s t : Moment) → reason ≡ fault.FeedFault → held ≡ Some p → ServesPort w port → t.count ≡ s.count + 1 → t.pairs ≡ s.pairs ++ (Take port, Taken (Some p)) ∷ [] → t.unread ≡ s.unread → (tells ≡ true → t.handed ≡ s.handed) → (tells ≡ true → t.given ≡ s.given) → write_fault f p ≡ None → t.losses ≡ s.losses → s.failed < t.failed → DidLast tells w f reason held 0 s t
+took_held tells w f port p reason held s t reason_is is serves count pairs unread handed given writable losses failed =
     record {
       lost = [];
       did =
@@ -138,20 +146,29 @@ took_held tells w f port p reason held s t failed is serves count pairs unread h
             taken = refl;
             sends = GivesEach.nothing;
             given = λ tell. given tell ∙ sym (append-nil s.given);
+            short = losses;
+            failures = omega (arith, failed);
             writable = (writable, tt);
             nones = refl;
           });
       one = lit≤ tt;
-      only = λ bare. absurd (bare failed);
+      only = λ bare. absurd (bare reason_is);
+      failed = λ _. failed;
     }
 
-pub last_nothing : (tells : Bool) (w : Worker) (f : FramingImage) (reason : WorkerFault) (held : Option ParcelImage) (lost : List Told) (s t : Moment) → held ≡ None → length lost ≤ 1 → Did tells w f 0 [] lost s t → DidLast tells w f reason held 0 s t
-last_nothing tells w f reason held lost s t is one did =
-    record { lost = lost; did = subst (λ h. Did tells w f 0 (parcels_held h) lost s t) (sym is) did; one = one; only = λ _. is }
+pub last_nothing : (tells : Bool) (w : Worker) (f : FramingImage) (reason : WorkerFault) (held : Option ParcelImage) (lost : List Told) (s t : Moment) → held ≡ None → length lost ≤ 1 → Did tells w f 0 [] lost s t → (reason ≡ fault.FeedFault → s.failed < t.failed) → DidLast tells w f reason held 0 s t
+last_nothing tells w f reason held lost s t is one did failed =
+    record {
+      lost = lost;
+      did = subst (λ h. Did tells w f 0 (parcels_held h) lost s t) (sym is) did;
+      one = one;
+      only = λ _. is;
+      failed = failed;
+    }
 
 -- what a turn brings
-pub did_bring : (tells : Bool) (w : Worker) (f : FramingImage) (turn : Turn) (octets : List ℕ) (s t : Moment) → Brings w f turn octets s.count t.count s.pairs t.pairs s.unread t.unread → (tells ≡ true → t.handed ≡ s.handed ++ told_of turn octets) → (tells ≡ true → t.given ≡ s.given) → Did tells w f 0 [] [] s t
-did_bring tells w f turn octets s t b handed given =
+pub did_bring : (tells : Bool) (w : Worker) (f : FramingImage) (turn : Turn) (octets : List ℕ) (s t : Moment) → Brings w f turn octets s.count t.count s.pairs t.pairs s.unread t.unread → (tells ≡ true → t.handed ≡ s.handed ++ told_of turn octets) → (tells ≡ true → t.given ≡ s.given) → t.losses ≡ s.losses → s.failed ≤ t.failed → Did tells w f 0 [] [] s t
+did_bring tells w f turn octets s t b handed given losses failed =
     record {
       pairs = b.pairs;
       told = told_of turn octets;
@@ -167,18 +184,20 @@ did_bring tells w f turn octets s t b handed given =
       taken = b.taken;
       sends = GivesEach.nothing;
       given = λ tell. given tell ∙ sym (append-nil s.given);
+      short = losses;
+      failures = failed;
       writable = tt;
       nones = b.nones;
     }
 
 -- nothing was done, and nothing handed out
-pub last_still : (tells : Bool) (w : Worker) (f : FramingImage) (reason : WorkerFault) (held : Option ParcelImage) (s t : Moment) → held ≡ None → t.count ≡ s.count → t.pairs ≡ s.pairs → t.unread ≡ s.unread → (tells ≡ true → t.handed ≡ s.handed) → (tells ≡ true → t.given ≡ s.given) → DidLast tells w f reason held 0 s t
-last_still tells w f reason held s t is count pairs unread handed given =
-    last_nothing tells w f reason held [] s t is (lit≤ tt) (did_nothing tells w f [] s t count pairs unread (λ tell. handed tell ∙ sym (append-nil s.handed)) given)
+pub last_still : (tells : Bool) (w : Worker) (f : FramingImage) (reason : WorkerFault) (held : Option ParcelImage) (s t : Moment) → held ≡ None → t.count ≡ s.count → t.pairs ≡ s.pairs → t.unread ≡ s.unread → (tells ≡ true → t.handed ≡ s.handed) → (tells ≡ true → t.given ≡ s.given) → t.losses ≡ s.losses → s.failed ≤ t.failed → (reason ≡ fault.FeedFault → s.failed < t.failed) → DidLast tells w f reason held 0 s t
+last_still tells w f reason held s t is count pairs unread handed given losses failed risen =
+    last_nothing tells w f reason held [] s t is (lit≤ tt) (did_nothing tells w f [] s t count pairs unread (λ tell. handed tell ∙ sym (append-nil s.handed)) given losses failed) risen
 
-pub did_still : (tells : Bool) (w : Worker) (f : FramingImage) (s t : Moment) → t.count ≡ s.count → t.pairs ≡ s.pairs → t.unread ≡ s.unread → (tells ≡ true → t.handed ≡ s.handed) → (tells ≡ true → t.given ≡ s.given) → Did tells w f 0 [] [] s t
-did_still tells w f s t count pairs unread handed given =
-    did_nothing tells w f [] s t count pairs unread (λ tell. handed tell ∙ sym (append-nil s.handed)) given
+pub did_still : (tells : Bool) (w : Worker) (f : FramingImage) (s t : Moment) → t.count ≡ s.count → t.pairs ≡ s.pairs → t.unread ≡ s.unread → (tells ≡ true → t.handed ≡ s.handed) → (tells ≡ true → t.given ≡ s.given) → t.losses ≡ s.losses → s.failed ≤ t.failed → Did tells w f 0 [] [] s t
+did_still tells w f s t count pairs unread handed given losses failed =
+    did_nothing tells w f [] s t count pairs unread (λ tell. handed tell ∙ sym (append-nil s.handed)) given losses failed
 
 -- the same of what is the same
 pub did_as : (tells tells' : Bool) (w w' : Worker) (f : FramingImage) (n n' : ℕ) (held : List ParcelImage) (lost : List Told) (s t : Moment) → tells ≡ tells' → w ≡ w' → n ≡ n' → Did tells w f n held lost s t → Did tells' w' f n' held lost s t
@@ -187,15 +206,15 @@ did_as tells tells' w w' f n n' held lost s t tell who count p =
 
 pub last_as : (tells tells' : Bool) (w w' : Worker) (f : FramingImage) (reason : WorkerFault) (held : Option ParcelImage) (n n' : ℕ) (s t : Moment) → tells ≡ tells' → w ≡ w' → n ≡ n' → DidLast tells w f reason held n s t → DidLast tells' w' f reason held n' s t
 last_as tells tells' w w' f reason held n n' s t tell who count p =
-    record { lost = p.lost; did = did_as tells tells' w w' f n n' (parcels_held held) p.lost s t tell who count p.did; one = p.one; only = p.only }
+    record { lost = p.lost; did = did_as tells tells' w w' f n n' (parcels_held held) p.lost s t tell who count p.did; one = p.one; only = p.only; failed = p.failed }
 
 pub at_end : (P : Type 0) (t : Turn) → t ≡ turn.End → (IsLastTurn t → P) → P
 at_end P t is f = f (subst IsLastTurn (sym is) tt)
 
 -- the feed's end hands nothing out
-pub did_end : (tells : Bool) (w : Worker) (f : FramingImage) (x : Turn) (octets : List ℕ) (s t : Moment) → x ≡ turn.End → t.count ≡ s.count → t.pairs ≡ s.pairs → t.unread ≡ s.unread → (tells ≡ true → t.handed ≡ s.handed ++ told_of x octets) → (tells ≡ true → t.given ≡ s.given) → Did tells w f 0 [] [] s t
-did_end tells w f x octets s t is count pairs unread handed given =
-    did_still tells w f s t count pairs unread (λ tell. handed tell ∙ ap (λ y. s.handed ++ told_of y octets) is ∙ append-nil s.handed) given
+pub did_end : (tells : Bool) (w : Worker) (f : FramingImage) (x : Turn) (octets : List ℕ) (s t : Moment) → x ≡ turn.End → t.count ≡ s.count → t.pairs ≡ s.pairs → t.unread ≡ s.unread → (tells ≡ true → t.handed ≡ s.handed ++ told_of x octets) → (tells ≡ true → t.given ≡ s.given) → t.losses ≡ s.losses → s.failed ≤ t.failed → Did tells w f 0 [] [] s t
+did_end tells w f x octets s t is count pairs unread handed given losses failed =
+    did_still tells w f s t count pairs unread (λ tell. handed tell ∙ ap (λ y. s.handed ++ told_of y octets) is ∙ append-nil s.handed) given losses failed
 
 told_few : (t : Turn) (octets : List ℕ) → length (told_of t octets) ≤ 1
 told_few (turn.Frame now) octets = lit≤ tt
@@ -204,9 +223,9 @@ told_few turn.Idle octets = lit≤ tt
 told_few turn.End octets = lit≤ tt
 
 -- what was handed out is lost
-pub last_lost : (tells : Bool) (w : Worker) (f : FramingImage) (reason : WorkerFault) (held : Option ParcelImage) (turn : Turn) (octets : List ℕ) (s t : Moment) → held ≡ None → t.count ≡ s.count → t.pairs ≡ s.pairs → t.unread ≡ s.unread → (tells ≡ true → t.handed ≡ s.handed ++ told_of turn octets) → (tells ≡ true → t.given ≡ s.given) → DidLast tells w f reason held 0 s t
-last_lost tells w f reason held turn octets s t is count pairs unread handed given =
-    last_nothing tells w f reason held (told_of turn octets) s t is (told_few turn octets) (did_nothing tells w f (told_of turn octets) s t count pairs unread handed given)
+pub last_lost : (tells : Bool) (w : Worker) (f : FramingImage) (reason : WorkerFault) (held : Option ParcelImage) (turn : Turn) (octets : List ℕ) (s t : Moment) → held ≡ None → t.count ≡ s.count → t.pairs ≡ s.pairs → t.unread ≡ s.unread → (tells ≡ true → t.handed ≡ s.handed ++ told_of turn octets) → (tells ≡ true → t.given ≡ s.given) → t.losses ≡ s.losses → s.failed ≤ t.failed → reason ≢ fault.FeedFault → DidLast tells w f reason held 0 s t
+last_lost tells w f reason held turn octets s t is count pairs unread handed given losses failed other =
+    last_nothing tells w f reason held (told_of turn octets) s t is (told_few turn octets) (did_nothing tells w f (told_of turn octets) s t count pairs unread handed given losses failed) (λ fails. absurd (other fails))
 
 pub nones_zero : (w : Worker) → 0 ≡ nones_of w 0
 nones_zero who.A = refl
@@ -224,6 +243,20 @@ nones_more who.Host n = refl
 
 some_none : (x : WorkerFault) → Some x ≢ None
 some_none x is = cc
+
+some_same : (x y : WorkerFault) → Some x ≡ Some y → x ≡ y
+some_same x y is = cc
+
+-- a fault that is no feed's says nothing of the feed
+pub no_feed : (P : Type 0) (x : WorkerFault) → x ≢ fault.FeedFault → x ≡ fault.FeedFault → P
+no_feed P x other is = absurd (other is)
+
+memory_is_no_feed : fault.NoMemory ≢ fault.FeedFault
+memory_is_no_feed is = cc
+
+-- what came of a failed allocation says nothing of the feed
+pub no_feed_of : (P : Type 0) (x : WorkerFault) → x ≡ fault.NoMemory → x ≡ fault.FeedFault → P
+no_feed_of P x memory is = absurd (memory_is_no_feed (sym memory ∙ is))
 
 -- the feed's end after so many rounds
 pub finished_end : (tells : Bool) (w : Worker) (f : FramingImage) (turns rounds : ℕ) (s m t : Moment) (ended : Bool) → rounds ≤ turns → Did tells w f (nones_of w rounds) [] [] s m → Did tells w f 0 [] [] m t → ended ≡ true → Finished tells w f turns s t ended
@@ -268,7 +301,7 @@ stopped_as tells w f turns reason held held' s s' t t' is begin end p =
 
 -- how a worker ends
 pub worked_whole : (b : Begun) (e : Ended) → e.fault ≡ None → e.held ≡ None → Finished b.tells b.worker b.framing b.turns (beginning b) (ending e) e.ended → Worked b e
-worked_whole b e fault held p =
+worked_whole b e none held p =
     record {
       rounds = p.rounds;
       lost = [];
@@ -276,6 +309,7 @@ worked_whole b e fault held p =
       few = p.few;
       one = lit≤ tt;
       only = λ _. held;
+      failed = λ failed. absurd (some_none fault.FeedFault (sym failed ∙ none));
       whole = λ _. record { lost_none = refl; made = p.made };
     }
 
@@ -288,5 +322,6 @@ worked_last b e reason is p =
       few = p.few;
       one = p.last.one;
       only = λ bare. p.last.only (λ failed. bare (is ∙ ap (λ x. Some x) failed));
+      failed = λ failed. p.last.failed (some_same reason fault.FeedFault (sym is ∙ failed));
       whole = λ none. absurd (some_none reason (sym is ∙ none));
     }

@@ -1,5 +1,5 @@
 -- What a feed tells.
-use Rattle.std.specs.Prelude.{ℕ, List, [], ◌∷◌}
+use Rattle.std.specs.Prelude.{ℕ, ◌+◌, ◌-◌, ◌^◌, min, List, [], ◌∷◌}
 use Rattle.sr_workers.specs.declared.feed.Turn.{Turn}
 use Rattle.sr_workers.specs.declared.feed.Turn.TheVariants as turn
 use Rattle.sr_workers.specs.declared.feed.Given.{Given}
@@ -27,3 +27,8 @@ IsLastTurn turn.End = Unit {0}
 abbrev pub put_of : Given → List ℕ → List (List ℕ)
 put_of given.Put octets = octets ∷ []
 put_of given.Lost octets = []
+
+-- how many frames are lost: one more where this one is, up to the greatest number
+abbrev pub lost_after : ℕ → Given → ℕ
+lost_after n given.Put = n
+lost_after n given.Lost = min (n + 1) (2 ^ 64 - 1)

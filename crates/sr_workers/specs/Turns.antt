@@ -17,7 +17,7 @@ use Rattle.sr_workers.specs.declared.feed.Given.{Given}
 use Rattle.sr_workers.specs.declared.becoming.Becoming.{Becoming}
 use Rattle.sr_workers.specs.declared.becoming.Becoming.TheVariants as becoming
 use Rattle.sr_workers.specs.Told.{Told, told_of}
-use Rattle.sr_workers.specs.Work.{Became, GivesEach, IsArrivalAt, IsOwn, AreOwn, brought_in, parcels_in, nones_in, puts, IsFrameEvent}
+use Rattle.sr_workers.specs.Work.{Became, GivesEach, IsArrivalAt, AreOwn, brought_in, parcels_in, nones_in, puts, losses_after}
 
 -- octets at a port are their arrival, or unread
 abbrev pub IsReadAt : FramingImage → Port → List ℕ → ℕ → Becoming → Type 0
@@ -73,8 +73,9 @@ pub record Brings (w : Worker) (f : FramingImage) (turn : Turn) (octets : List �
   pub taken : parcels_in pairs ≡ []
   pub nones : nones_in pairs ≡ 0
 
--- what a feed was given of a parcel
-pub record Out (tells : Bool) (f : FramingImage) (p : ParcelImage) (g g' : List (List ℕ)) : Type 0 where
+-- what a feed was given of a parcel, and how many are lost then
+pub record Out (tells : Bool) (f : FramingImage) (p : ParcelImage) (g g' : List (List ℕ)) (n n' : ℕ) : Type 0 where
   pub gave : List (Given × List ℕ)
   pub sends : GivesEach f (p ∷ []) gave
   pub given : tells ≡ true → g' ≡ g ++ puts gave
+  pub short : n' ≡ losses_after n gave

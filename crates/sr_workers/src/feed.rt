@@ -1,7 +1,7 @@
 //! Where a worker's frames come from, and where they go.
 
-ghost use Rattle.std.specs.Prelude.{◌≡◌, ◌<◌, ◌++◌, ℕ, List, Bool, true, IfOk, OnErr};
-ghost use Rattle.sr_workers.specs.Told.{Told, told_of, put_of, IsLastTurn};
+ghost use Rattle.std.specs.Prelude.{◌≡◌, ◌<◌, ◌≤◌, ◌++◌, ℕ, List, Bool, true, IfOk, OnErr};
+ghost use Rattle.sr_workers.specs.Told.{Told, told_of, put_of, lost_after, IsLastTurn};
 
 use crate::FeedFault;
 use std::sync::Wait;
@@ -39,6 +39,9 @@ pub trait Feed: Drop {
     /// The frames that were put, in order: those that it was given but for the lost ones.
     ghost given: { Self → List (List ℕ) };
 
+    /// How many of the frames that it was given were lost, up to the greatest number of 64 bits.
+    ghost losses: { Self → ℕ };
+
     /// It has answered `End`.
     ghost ended: { Self → Bool };
 
@@ -53,8 +56,10 @@ pub trait Feed: Drop {
         ensures unhanded { tells self.old ≡ true
             → OnErr result (handed self.new ≡ handed self.old) }
         ensures given { tells self.old ≡ true → given self.new ≡ given self.old }
+        ensures losses { losses self.new ≡ losses self.old }
         ensures ended { IfOk result (λ t. IsLastTurn t → ended self.new ≡ true) }
-        ensures failed { OnErr result (failed self.old < failed self.new) };
+        ensures failed { OnErr result (failed self.old < failed self.new) }
+        ensures counted { failed self.old ≤ failed self.new };
 
     /// Takes a frame.
     fn give<W: Wait>(&mut self, rt: &W, octets: &[u8]) -> Result<Given, FeedFault>
@@ -64,8 +69,11 @@ pub trait Feed: Drop {
         ensures ungiven { tells self.old ≡ true
             → OnErr result (given self.new ≡ given self.old) }
         ensures handed { tells self.old ≡ true → handed self.new ≡ handed self.old }
+        ensures losses { IfOk result (λ g. losses self.new ≡ lost_after (losses self.old) g) }
+        ensures unlost { OnErr result (losses self.new ≡ losses self.old) }
         ensures ended { ended self.new ≡ ended self.old }
-        ensures failed { OnErr result (failed self.old < failed self.new) };
+        ensures failed { OnErr result (failed self.old < failed self.new) }
+        ensures counted { failed self.old ≤ failed self.new };
 
     /// How often it failed.
     fn failures(&self) -> u64

@@ -45,12 +45,12 @@ fn one_turn<E: Enters, F: Feed, G: Framing, W: Wait>(
     ensures unread { post.new.unread ≤ post.old.unread + 1 }
     ensures room { OnOk result (HasFrameRoom lists.new) }
     ensures ok { IfOk result (λ more. MatchBool more
-        (Does E.whose E.count F.tells F.handed F.given (G.meaning framing.now)
+        (Does E.whose E.count F.tells F.handed F.given F.losses F.failed (G.meaning framing.now)
         (nones_of (E.whose post.old.seat) 1) post.old post.new)
         ((F.ended post.new.feed ≡ true) × Does E.whose E.count F.tells F.handed F.given
-        (G.meaning framing.now) 0 post.old post.new)) }
+        F.losses F.failed (G.meaning framing.now) 0 post.old post.new)) }
     ensures err { IfErr result (λ stop. DoesLast E.whose E.count F.tells F.handed F.given
-        (G.meaning framing.now) stop.fault stop.held post.old post.new) }
+        F.losses F.failed (G.meaning framing.now) stop.fault stop.held post.old post.new) }
 {
     let turn = match post.feed.next(rt, &mut lists.incoming) {
         Ok(Turn::End) => return Ok(false),
@@ -87,12 +87,13 @@ fn make_turns<E: Enters, F: Feed, G: Framing, W: Wait>(
     ensures whose { E.whose post.new.seat ≡ E.whose post.old.seat }
     ensures worker { post.new.log.worker ≡ post.old.log.worker }
     ensures ok { OnOk result (Finished (F.tells post.old.feed) (E.whose post.old.seat)
-        (G.meaning framing.now) turns (post_moment E.count F.handed F.given post.old)
-        (post_moment E.count F.handed F.given post.new) (F.ended post.new.feed)) }
+        (G.meaning framing.now) turns
+        (post_moment E.count F.handed F.given F.losses F.failed post.old)
+        (post_moment E.count F.handed F.given F.losses F.failed post.new) (F.ended post.new.feed)) }
     ensures err { IfErr result (λ stop. Stopped (F.tells post.old.feed) (E.whose post.old.seat)
         (G.meaning framing.now) turns stop.fault stop.held
-        (post_moment E.count F.handed F.given post.old)
-        (post_moment E.count F.handed F.given post.new)) }
+        (post_moment E.count F.handed F.given F.losses F.failed post.old)
+        (post_moment E.count F.handed F.given F.losses F.failed post.new)) }
 {
     let mut lists = match Lists::new(alloc) {
         Ok(lists) => lists,
@@ -159,8 +160,9 @@ pub fn run_worker<E: Enters, F: Feed, G: Framing, W: Wait>(
     ensures log { result.1.log.worker ≡ E.whose kit.pass }
     ensures worked { Worked
         (worker_begun (E.whose kit.pass) (G.meaning kit.framing) turns (E.count kit.pass)
-        (F.tells kit.feed) (F.handed kit.feed) (F.given kit.feed))
-        (ended F.handed F.given F.ended (E.count result.0) result.1) }
+        (F.tells kit.feed) (F.handed kit.feed) (F.given kit.feed)
+        (F.losses kit.feed) (F.failed kit.feed))
+        (ended F.handed F.given F.losses F.failed F.ended (E.count result.0) result.1) }
 {
     let Kit {
         pass: seat,

@@ -56,6 +56,8 @@ impl Feed for Hand {
 
     ghost given = { λ _. [] };
 
+    ghost losses = { λ _. 0 };
+
     ghost ended = { λ _. true };
 
     ghost failed = { λ h. h.failures };

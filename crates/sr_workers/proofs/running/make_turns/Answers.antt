@@ -1,6 +1,6 @@
 use Rattle.std.proofs.Common.{rules, ap, ◌∙◌, refl, true, false, sym, arith}
 use Rattle.sr_workers.specs.Work.{nones_of}
-use Rattle.sr_workers.proofs.Steps.{did_still, did_as, did_more, last_as, last_still, nones_zero, nones_more, finished_end, finished_all, stopped_at, stopped_first}
+use Rattle.sr_workers.proofs.Steps.{did_still, did_as, did_more, last_as, last_still, nones_zero, nones_more, finished_end, finished_all, stopped_at, stopped_first, no_feed_of}
 use Rattle.sr_workers.proofs.Bringing.{match_true, match_false}
 use Rattle.sr_workers.proofs.running.make_turns.Goals as goal
 
@@ -11,11 +11,11 @@ loop-turn-init g c = (
   refl,
   refl,
   search rules,
-  did_as _ _ _ _ _ 0 _ _ _ _ _ refl refl (nones_zero _) (did_still _ _ _ _ _ refl refl refl (λ _. refl) (λ _. refl)),
+  did_as _ _ _ _ _ 0 _ _ _ _ _ refl refl (nones_zero _) (did_still _ _ _ _ _ refl refl refl (λ _. refl) (λ _. refl) refl (omega arith)),
 )
 
 pub returns-in-Err-clause-err : goal.returns-in-Err-clause-err
-returns-in-Err-clause-err g c = stopped_first _ _ _ _ _ _ _ _ (last_still _ _ _ _ _ _ _ refl refl refl refl (λ _. refl) (λ _. refl))
+returns-in-Err-clause-err g c = stopped_first _ _ _ _ _ _ _ _ (last_still _ _ _ _ _ _ _ refl refl refl refl (λ _. refl) (λ _. refl) refl (omega arith) (no_feed_of _ _ c.into.ensures))
 
 pub returns-in-Ok-false-clause-ok : goal.returns-in-Ok-false-clause-ok
 returns-in-Ok-false-clause-ok g c =

@@ -6,7 +6,7 @@ use Rattle.sr_workers.proofs.running.make_turns.Given as goal
 abbrev pub invariant-loop-turn : goal.invariant-loop-turn
 invariant-loop-turn g l =
     let whose = g.E.Enters.whose in
-    let moment = post_moment g.E.Enters.count g.F.Feed.handed g.F.Feed.given in
+    let moment = post_moment g.E.Enters.count g.F.Feed.handed g.F.Feed.given g.F.Feed.losses g.F.Feed.failed in
     (l.post.unread ≤ l._turn)
     × (whose l.post.seat ≡ whose l.fn.post.seat)
     × (l.post.log.worker ≡ l.fn.post.log.worker)

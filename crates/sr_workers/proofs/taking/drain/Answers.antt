@@ -1,10 +1,10 @@
-use Rattle.std.proofs.Common.{rules, ap, ◌∙◌, refl, true, false, sym}
+use Rattle.std.proofs.Common.{rules, ap, ◌∙◌, refl, true, false, sym, arith}
 use Rattle.sr_workers.proofs.Bringing.{none_as}
 use Rattle.sr_workers.proofs.Steps.{did_still, did_more, did_as, last_more, last_as}
 use Rattle.sr_workers.proofs.taking.drain.Goals as goal
 
 pub loop-init : goal.loop-init
-loop-init g c = (refl, refl, refl, refl, refl, c.requires.room, did_still _ _ _ _ _ refl refl refl (λ _. refl) (λ _. refl))
+loop-init g c = (refl, refl, refl, refl, refl, c.requires.room, did_still _ _ _ _ _ refl refl refl (λ _. refl) (λ _. refl) refl (omega arith))
 
 pub loop-preserved : goal.loop-preserved
 loop-preserved g c =
