@@ -78,6 +78,10 @@ impl Host {
 impl Feed for Host {
     ghost use Rattle.std.specs.Prelude.{[], false};
 
+    ghost Name = { Unit {0} };
+
+    ghost name = { λ _. tt };
+
     ghost tells = { λ _. false };
 
     ghost handed = { λ _. [] };

@@ -94,10 +94,13 @@ pub record Worked (b : Begun) (e : Ended) : Type 0 where
   pub failed : e.fault ≡ Some fault.FeedFault → b.failed < e.failed
   pub whole : e.fault ≡ None → EndsWhole b.turns rounds e.ended lost
 
--- a worker that began with this pass, feed and framing ended so: the pass and the log are its own, and what it did is as above
-pub record EndedAs {F : Type 0} (tells : F → Bool) (handed : F → List Told) (given : F → List (List ℕ)) (losses : F → ℕ)
-    (failed : F → ℕ) (has_ended : F → Bool) (f : FramingImage) (turns : ℕ) (old : Stamp) (feed : F) (new : Stamp) (e : WorkerEnd F) : Type 0 where
+-- a worker that began with this pass, feed and framing ended so: the pass and the log are its own, of its feed stays what does, and
+-- what it did is as above
+pub record EndedAs {F N : Type 0} (name : F → N) (tells : F → Bool) (handed : F → List Told) (given : F → List (List ℕ)) (losses : F → ℕ)
+    (failed : F → ℕ) (has_ended : F → Bool) (f : FramingImage) (turns : ℕ) (old : Stamp) (feed : F) (new : Stamp)
+    (e : WorkerEnd F) : Type 0 where
   pub pass : new.worker ≡ old.worker
   pub log : e.log.worker ≡ old.worker
+  pub feed_name : name e.feed ≡ name feed
   pub worked : Worked (worker_begun old.worker f turns old.count (tells feed) (handed feed) (given feed)
       (losses feed) (failed feed)) (ended handed given losses failed has_ended new.count e)

@@ -30,6 +30,12 @@ pub enum Given {
 
 /// Where a worker's frames come from, and where they go.
 pub trait Feed: Drop {
+    /// The type of what of it stays as it is.
+    ghost Name: { Type 0 };
+
+    /// What of it stays as it is, as which wires it has.
+    ghost name: { Self → Name };
+
     /// Whether it tells what it handed out and what was put.
     ghost tells: { Self → Bool };
 
@@ -50,6 +56,7 @@ pub trait Feed: Drop {
 
     /// What comes next.
     fn next<W: Wait>(&mut self, rt: &W, into: &mut Vec<u8>) -> Result<Turn, FeedFault>
+        ensures name { name self.new ≡ name self.old }
         ensures tells { tells self.new ≡ tells self.old }
         ensures handed { tells self.old ≡ true → IfOk result (λ t.
             handed self.new ≡ handed self.old ++ told_of t into.new.items) }
@@ -63,6 +70,7 @@ pub trait Feed: Drop {
 
     /// Takes a frame.
     fn give<W: Wait>(&mut self, rt: &W, octets: &[u8]) -> Result<Given, FeedFault>
+        ensures name { name self.new ≡ name self.old }
         ensures tells { tells self.new ≡ tells self.old }
         ensures given { tells self.old ≡ true → IfOk result (λ g.
             given self.new ≡ given self.old ++ put_of g octets.now) }

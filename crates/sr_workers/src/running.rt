@@ -41,6 +41,7 @@ fn one_turn<E: Enters, F: Feed, G: Framing, W: Wait>(
     requires room { HasFrameRoom lists.old }
     ensures whose { E.whose post.new.seat ≡ E.whose post.old.seat }
     ensures worker { post.new.log.worker ≡ post.old.log.worker }
+    ensures name { F.name post.new.feed ≡ F.name post.old.feed }
     ensures tells { F.tells post.new.feed ≡ F.tells post.old.feed }
     ensures unread { post.new.unread ≤ post.old.unread + 1 }
     ensures room { OnOk result (HasFrameRoom lists.new) }
@@ -86,6 +87,7 @@ fn make_turns<E: Enters, F: Feed, G: Framing, W: Wait>(
     requires { post.old.unread ≡ 0 }
     ensures whose { E.whose post.new.seat ≡ E.whose post.old.seat }
     ensures worker { post.new.log.worker ≡ post.old.log.worker }
+    ensures name { F.name post.new.feed ≡ F.name post.old.feed }
     ensures ok { OnOk result (Finished (F.tells post.old.feed) (E.whose post.old.seat)
         (G.meaning framing.now) turns
         (post_moment E.count F.handed F.given F.losses F.failed post.old)
@@ -158,6 +160,7 @@ pub fn run_worker<E: Enters, F: Feed, G: Framing, W: Wait>(
 ) -> (E, WorkerEnd<F>)
     ensures whose { E.whose result.0 ≡ E.whose kit.pass }
     ensures log { result.1.log.worker ≡ E.whose kit.pass }
+    ensures name { F.name result.1.feed ≡ F.name kit.feed }
     ensures worked { Worked
         (worker_begun (E.whose kit.pass) (G.meaning kit.framing) turns (E.count kit.pass)
         (F.tells kit.feed) (F.handed kit.feed) (F.given kit.feed)

@@ -109,6 +109,10 @@ impl Feed for Script {
     ghost use Rattle.std.specs.Prelude.{true};
     ghost use Rattle.sr_workers.specs.Scripts.{has_told, was_given, has_lost};
 
+    ghost Name = { Unit {0} };
+
+    ghost name = { λ _. tt };
+
     ghost tells = { λ _. true };
 
     ghost handed = { has_told };

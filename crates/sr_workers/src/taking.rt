@@ -32,6 +32,7 @@ fn put_out<F: Feed, G: Framing, W: Wait>(
 ) -> Result<(), FeedFault>
     requires { MAX_FRAME_LEN ≤ vec_capacity outgoing.old }
     ensures room { MAX_FRAME_LEN ≤ vec_capacity outgoing.new }
+    ensures name { F.name feed.new ≡ F.name feed.old }
     ensures tells { F.tells feed.new ≡ F.tells feed.old }
     ensures handed { F.tells feed.old ≡ true → F.handed feed.new ≡ F.handed feed.old }
     ensures ended { F.ended feed.new ≡ F.ended feed.old }
@@ -83,6 +84,7 @@ fn take_one<E: Enters, F: Feed, G: Framing, W: Wait>(
     ensures whose { E.whose post.new.seat ≡ E.whose post.old.seat }
     ensures worker { post.new.log.worker ≡ post.old.log.worker }
     ensures unread { post.new.unread ≡ post.old.unread }
+    ensures name { F.name post.new.feed ≡ F.name post.old.feed }
     ensures tells { F.tells post.new.feed ≡ F.tells post.old.feed }
     ensures ended { F.ended post.new.feed ≡ F.ended post.old.feed }
     ensures room { OnOk result (HasFrameRoom lists.new) }
@@ -145,6 +147,7 @@ pub(crate) fn drain<E: Enters, F: Feed, G: Framing, W: Wait>(
     ensures whose { E.whose post.new.seat ≡ E.whose post.old.seat }
     ensures worker { post.new.log.worker ≡ post.old.log.worker }
     ensures unread { post.new.unread ≡ post.old.unread }
+    ensures name { F.name post.new.feed ≡ F.name post.old.feed }
     ensures tells { F.tells post.new.feed ≡ F.tells post.old.feed }
     ensures ended { F.ended post.new.feed ≡ F.ended post.old.feed }
     ensures room { OnOk result (HasFrameRoom lists.new) }

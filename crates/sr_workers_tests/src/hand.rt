@@ -50,6 +50,10 @@ impl Hand {
 impl Feed for Hand {
     ghost use Rattle.std.specs.Prelude.{[], false, true};
 
+    ghost Name = { Unit {0} };
+
+    ghost name = { λ _. tt };
+
     ghost tells = { λ _. false };
 
     ghost handed = { λ _. [] };
@@ -74,7 +78,8 @@ impl Feed for Hand {
         if self.asked == 1 {
             into.clear();
             if into.extend_from_slice(&self.frame).is_err() {
-                return Ok(Turn::End);
+                self.failures += 1;
+                return Err(FeedFault);
             }
             return Ok(Turn::Frame(0));
         }

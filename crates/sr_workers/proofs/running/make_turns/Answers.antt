@@ -10,6 +10,7 @@ loop-turn-init g c = (
   refl,
   refl,
   refl,
+  refl,
   search rules,
   did_as _ _ _ _ _ 0 _ _ _ _ _ refl refl (nones_zero _) (did_still _ _ _ _ _ refl refl refl (λ _. refl) (λ _. refl) refl (omega arith)),
 )
@@ -21,12 +22,12 @@ pub returns-in-Ok-false-clause-ok : goal.returns-in-Ok-false-clause-ok
 returns-in-Ok-false-clause-ok g c =
     let was = c.loop-turn.invariant in
     let end = match_false _ _ c.in-Ok-false.field-0 c.in-Ok-false.field-0-test c.in-Ok-false.ensures.ok in
-    finished_end _ _ _ _ c.loop-turn._turn _ _ _ _ (search rules) was.5 (did_as _ _ _ _ _ _ _ _ _ _ _ was.3 was.1 refl end.1) end.0
+    finished_end _ _ _ _ c.loop-turn._turn _ _ _ _ (search rules) was.6 (did_as _ _ _ _ _ _ _ _ _ _ _ was.3 was.1 refl end.1) end.0
 
 pub returns-in-Err-one_turn-clause-err : goal.returns-in-Err-one_turn-clause-err
 returns-in-Err-one_turn-clause-err g c =
     let was = c.loop-turn.invariant in
-    stopped_at _ _ _ _ c.loop-turn._turn _ _ _ _ _ (search rules) was.5 (last_as _ _ _ _ _ _ _ _ _ _ _ was.3 was.1 refl c.in-Err-one_turn.ensures.err)
+    stopped_at _ _ _ _ c.loop-turn._turn _ _ _ _ _ (search rules) was.6 (last_as _ _ _ _ _ _ _ _ _ _ _ was.3 was.1 refl c.in-Err-one_turn.ensures.err)
 
 pub loop-turn-preserved : goal.loop-turn-preserved
 loop-turn-preserved g c =
@@ -37,5 +38,6 @@ loop-turn-preserved g c =
       search rules,
       search rules,
       search rules,
-      did_as _ _ _ _ _ _ _ _ _ _ _ refl refl (nones_more _ c.loop-turn._turn) (did_more _ _ _ _ _ _ _ _ _ _ was.5 (did_as _ _ _ _ _ _ _ _ _ _ _ was.3 was.1 (ap (λ w. nones_of w 1) was.1) more)),
+      search rules,
+      did_as _ _ _ _ _ _ _ _ _ _ _ refl refl (nones_more _ c.loop-turn._turn) (did_more _ _ _ _ _ _ _ _ _ _ was.6 (did_as _ _ _ _ _ _ _ _ _ _ _ was.3 was.1 (ap (λ w. nones_of w 1) was.1) more)),
     )

@@ -11,6 +11,7 @@ invariant-loop-turn g l =
     × (whose l.post.seat ≡ whose l.fn.post.seat)
     × (l.post.log.worker ≡ l.fn.post.log.worker)
     × (g.F.Feed.tells l.post.feed ≡ g.F.Feed.tells l.fn.post.feed)
+    × (g.F.Feed.name l.post.feed ≡ g.F.Feed.name l.fn.post.feed)
     × HasFrameRoom l.lists
     × Did (g.F.Feed.tells l.fn.post.feed) (whose l.fn.post.seat) (g.G.Framing.meaning l.framing) (nones_of (whose l.fn.post.seat) l._turn) [] []
     (moment l.fn.post) (moment l.post)
