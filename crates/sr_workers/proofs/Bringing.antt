@@ -1,7 +1,6 @@
 -- What a turn brings.
-use Rattle.std.proofs.Common.{◌≡◌, ◌≢◌, ◌≤◌, ℕ, ◌+◌, List, [], ◌∷◌, ◌++◌, length, Option, Some, None, Bool, true, false, refl, sym, ap, ◌∙◌, subst, arith, append-nil, append_assoc, length-append, rules, true≢false}
+use Rattle.std.proofs.Common.{◌≡◌, ◌≢◌, ℕ, ◌+◌, List, [], ◌∷◌, ◌++◌, None, Bool, true, false, refl, sym, ap, ◌∙◌, subst, arith, append-nil, true≢false}
 use Rattle.std.specs.Prelude.{MatchBool, ◌↔◌, if◌then◌else◌}
-use Rattle.sr_frame.specs.declared.ports.Port.{Port}
 use Rattle.sr_frame.specs.declared.ports.Port.TheVariants as port
 use Rattle.sr_forwarding.specs.declared.fault.ReadFault.{ReadFault}
 use Rattle.sr_forwarding.specs.declared.fault.ReadFault.TheVariants.{NoMemory}
@@ -21,7 +20,7 @@ use Rattle.sr_workers.specs.declared.becoming.Becoming.{Becoming}
 use Rattle.sr_workers.specs.declared.becoming.Becoming.TheVariants as becoming
 use Rattle.sr_node.specs.Answers.{IsAnswerOf, SaysTaken}
 use Rattle.sr_workers.specs.Told.{Told, Framed, Timed, told_of, put_of, lost_after}
-use Rattle.sr_workers.specs.Work.{Became, entered, unread, GivesEach, unwritten, gave, IsEventOf, IsOwn, brought_by, parcel_in, none_in, puts}
+use Rattle.sr_workers.specs.Work.{Became, entered, unread, GivesEach, unwritten, gave, IsEventOf, IsOwn, brought_by, parcel_in, none_in}
 use Rattle.sr_workers.specs.Turns.{Brings, Becomes, Out}
 
 -- what was handed out is the worker's own, and no Take

@@ -1,5 +1,5 @@
 -- What is said of lists side by side.
-use Rattle.std.proofs.Common.{◌≡◌, ◌≢◌, ◌≤◌, ℕ, ◌+◌, List, [], ◌∷◌, ◌++◌, length, Option, Some, None, refl, sym, ap, ◌∙◌, subst, arith, append-nil, append_assoc, rules}
+use Rattle.std.proofs.Common.{◌≡◌, ℕ, ◌+◌, List, [], ◌∷◌, ◌++◌, refl, sym, ap, ◌∙◌, subst, arith, append_assoc}
 use Rattle.sr_forwarding.specs.Parcels.{ParcelImage}
 use Rattle.sr_forwarding.specs.Framings.{FramingImage}
 use Rattle.sr_node.specs.declared.event.Event.{Event}
@@ -7,7 +7,7 @@ use Rattle.sr_node.specs.declared.event.Answer.{Answer}
 use Rattle.sr_ports.specs.declared.worker.Worker.{Worker}
 use Rattle.sr_workers.specs.declared.feed.Given.{Given}
 use Rattle.sr_workers.specs.Told.{Told, put_of, lost_after}
-use Rattle.sr_workers.specs.Work.{AreOwn, IsOwn, Became, entered, unread, GivesEach, unwritten, gave, brought_in, brought_by, parcels_in, parcel_in, nones_in, none_in, puts, losses_after}
+use Rattle.sr_workers.specs.Work.{AreOwn, Became, entered, unread, GivesEach, unwritten, gave, brought_in, brought_by, parcels_in, parcel_in, nones_in, puts, losses_after}
 
 pub brought-append : (xs ys : List (Event × Answer)) → brought_in (xs ++ ys) ≡ brought_in xs ++ brought_in ys
 brought-append [] ys = refl

@@ -1,22 +1,18 @@
 -- What the steps of a worker add.
-use Rattle.std.proofs.Common.{◌≡◌, ◌≢◌, ◌≤◌, ◌<◌, ℕ, ◌+◌, List, [], ◌∷◌, ◌++◌, length, Option, Some, None, Bool, true, false, refl, sym, ap, ◌∙◌, subst, arith, append-nil, append_assoc, length-append, rules, lit≤, inl, inr, ◌⊎◌}
-use Rattle.std.specs.Prelude.{if◌then◌else◌}
+use Rattle.std.proofs.Common.{◌≡◌, ◌≢◌, ◌≤◌, ◌<◌, ℕ, ◌+◌, List, [], ◌∷◌, ◌++◌, length, Option, Some, None, Bool, true, refl, sym, ap, ◌∙◌, subst, arith, append-nil, append_assoc, length-append, lit≤, inl, inr}
 use Rattle.sr_frame.specs.declared.ports.Port.{Port}
 use Rattle.sr_forwarding.specs.Parcels.{ParcelImage}
 use Rattle.sr_forwarding.specs.Framings.{FramingImage}
 use Rattle.sr_forwarding.specs.Encoding.{write_fault}
-use Rattle.sr_node.specs.declared.event.Event.{Event}
-use Rattle.sr_node.specs.declared.event.Event.TheVariants.{Arrive, Send, Tick, Take}
-use Rattle.sr_node.specs.declared.event.Answer.{Answer}
-use Rattle.sr_node.specs.declared.event.Answer.TheVariants.{Own, Passed, Sent, Ticked, Taken}
+use Rattle.sr_node.specs.declared.event.Event.TheVariants.{Take}
+use Rattle.sr_node.specs.declared.event.Answer.TheVariants.{Taken}
 use Rattle.sr_ports.specs.declared.worker.Worker.{Worker}
 use Rattle.sr_ports.specs.declared.worker.Worker.TheVariants as who
 use Rattle.sr_workers.specs.declared.fault.WorkerFault.{WorkerFault}
 use Rattle.sr_workers.specs.declared.feed.Turn.{Turn}
 use Rattle.sr_workers.specs.declared.feed.Turn.TheVariants as turn
-use Rattle.sr_workers.specs.declared.feed.Given.{Given}
-use Rattle.sr_workers.specs.Told.{Told, told_of, put_of, IsLastTurn}
-use Rattle.sr_workers.specs.Work.{Moment, moment, Did, DidLast, Finished, Stopped, Became, GivesEach, AreOwn, ServesPort, brought_in, parcels_in, nones_in, nones_of, parcels_held, puts, losses_after, AreWritable}
+use Rattle.sr_workers.specs.Told.{Told, told_of, IsLastTurn}
+use Rattle.sr_workers.specs.Work.{Moment, Did, DidLast, Finished, Stopped, Became, GivesEach, ServesPort, brought_in, parcels_in, nones_of, parcels_held, puts, losses_after}
 use Rattle.sr_workers.specs.declared.fault.WorkerFault.TheVariants as fault
 use Rattle.sr_workers.specs.Worked.{Begun, Ended, beginning, ending, Worked}
 use Rattle.sr_workers.specs.Turns.{Brings, Out}

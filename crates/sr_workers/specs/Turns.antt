@@ -1,13 +1,11 @@
 -- What a turn of a feed becomes, and what it brings.
-use Rattle.std.specs.Prelude.{◌≡◌, ◌≤◌, ◌⊎◌, ℕ, ◌+◌, Bool, true, List, [], ◌∷◌, ◌++◌, length, Option, Some, None, if◌then◌else◌}
+use Rattle.std.specs.Prelude.{◌≡◌, ℕ, ◌+◌, Bool, true, List, [], ◌∷◌, ◌++◌, length}
 use Rattle.sr_frame.specs.declared.ports.Port.{Port}
 use Rattle.sr_frame.specs.declared.ports.Port.TheVariants as port
 use Rattle.sr_forwarding.specs.Parcels.{ParcelImage}
 use Rattle.sr_forwarding.specs.Framings.{FramingImage}
-use Rattle.sr_forwarding.specs.Decoding.{IsRead}
-use Rattle.sr_forwarding.specs.Encoding.{write_fault}
 use Rattle.sr_node.specs.declared.event.Event.{Event}
-use Rattle.sr_node.specs.declared.event.Event.TheVariants.{Arrive, Send, Tick, Take}
+use Rattle.sr_node.specs.declared.event.Event.TheVariants.{Send, Tick}
 use Rattle.sr_node.specs.declared.event.Answer.{Answer}
 use Rattle.sr_ports.specs.declared.worker.Worker.{Worker}
 use Rattle.sr_ports.specs.declared.worker.Worker.TheVariants as who
@@ -16,7 +14,7 @@ use Rattle.sr_workers.specs.declared.feed.Turn.TheVariants as turn
 use Rattle.sr_workers.specs.declared.feed.Given.{Given}
 use Rattle.sr_workers.specs.declared.becoming.Becoming.{Becoming}
 use Rattle.sr_workers.specs.declared.becoming.Becoming.TheVariants as becoming
-use Rattle.sr_workers.specs.Told.{Told, told_of}
+use Rattle.sr_workers.specs.Told.{told_of}
 use Rattle.sr_workers.specs.Work.{Became, GivesEach, IsArrivalAt, AreOwn, brought_in, parcels_in, nones_in, puts, losses_after}
 
 -- octets at a port are their arrival, or unread

@@ -1,6 +1,6 @@
-use Rattle.std.proofs.Common.{rules, ap, ◌∙◌, refl, true, false, sym, arith}
+use Rattle.std.proofs.Common.{rules, ap, refl, arith}
 use Rattle.sr_workers.specs.Work.{nones_of}
-use Rattle.sr_workers.proofs.Steps.{did_still, did_as, did_more, last_as, last_still, nones_zero, nones_more, finished_end, finished_all, stopped_at, stopped_first, no_feed_of}
+use Rattle.sr_workers.proofs.Steps.{did_still, did_as, did_more, last_as, last_still, nones_zero, nones_more, finished_end, stopped_at, stopped_first, no_feed_of}
 use Rattle.sr_workers.proofs.Bringing.{match_true, match_false}
 use Rattle.sr_workers.proofs.running.make_turns.Goals as goal
 

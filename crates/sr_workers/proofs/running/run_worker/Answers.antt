@@ -1,4 +1,4 @@
-use Rattle.std.proofs.Common.{rules, refl, ap, ◌∙◌, sym, subst, Some, None, []}
+use Rattle.std.proofs.Common.{ap, sym}
 use Rattle.sr_workers.specs.Work.{moment}
 use Rattle.sr_workers.proofs.Steps.{finished_as, stopped_as, worked_whole, worked_last}
 use Rattle.sr_workers.proofs.running.run_worker.Goals as goal

@@ -1,4 +1,4 @@
-use Rattle.std.proofs.Common.{rules, ap, ◌∙◌, refl, true, false, sym, arith}
+use Rattle.std.proofs.Common.{rules, refl, arith}
 use Rattle.sr_workers.proofs.Bringing.{none_as}
 use Rattle.sr_workers.proofs.Steps.{did_still, did_more, did_as, last_more, last_as}
 use Rattle.sr_workers.proofs.taking.drain.Goals as goal

@@ -1,4 +1,4 @@
-use Rattle.std.proofs.Common.{rules, refl, ap, ◌∙◌, sym, arith, Err}
+use Rattle.std.proofs.Common.{rules, ap, Err}
 use Rattle.sr_workers.proofs.Bringing.{out_gave, out_none, unwritable}
 use Rattle.sr_workers.proofs.taking.put_out.Goals as goal
 

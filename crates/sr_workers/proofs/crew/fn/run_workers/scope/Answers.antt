@@ -1,4 +1,4 @@
-use Rattle.std.proofs.Common.{rules, ◌≡◌, ◌<◌, ℕ, vec_len, vec_items, get_or, sym, ap, ◌∙◌, arith, subst}
+use Rattle.std.proofs.Common.{rules, ◌<◌, ℕ, vec_len, get_or, ap, ◌∙◌, subst}
 use Rattle.sr_ports.specs.Stamps.{Stamp, stamp}
 use Rattle.sr_workers.specs.Worked.{EndedAs}
 use Rattle.sr_workers.proofs.crew.fn.run_workers.scope.Goals as goal
