@@ -123,9 +123,15 @@ impl Lan {
 impl Feed for Lan {
     ghost use Rattle.std.specs.Prelude.{false, []};
 
+    ghost Name = { Unit {0} };
+
+    ghost name = { λ _. tt };
+
     ghost tells = { λ _. false };
 
     ghost handed = { λ _. [] };
+
+    ghost asked = { λ _. 0 };
 
     ghost given = { λ _. [] };
 

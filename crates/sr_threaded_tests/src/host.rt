@@ -86,6 +86,8 @@ impl Feed for Host {
 
     ghost handed = { λ _. [] };
 
+    ghost asked = { λ _. 0 };
+
     ghost given = { λ _. [] };
 
     ghost losses = { λ _. 0 };

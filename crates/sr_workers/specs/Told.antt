@@ -17,6 +17,13 @@ told_of (turn.Tick now) octets = Timed now ∷ []
 told_of turn.Idle octets = []
 told_of turn.End octets = []
 
+-- a turn counts, but for the end
+abbrev pub turns_in : Turn → ℕ
+turns_in (turn.Frame now) = 1
+turns_in (turn.Tick now) = 1
+turns_in turn.Idle = 1
+turns_in turn.End = 0
+
 abbrev pub IsLastTurn : Turn → Type 0
 IsLastTurn (turn.Frame now) = ⊥
 IsLastTurn (turn.Tick now) = ⊥

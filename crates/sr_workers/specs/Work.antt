@@ -117,19 +117,21 @@ abbrev pub losses_after : ℕ → List (Given × List ℕ) → ℕ
 losses_after n [] = n
 losses_after n (x ∷ xs) = losses_after (lost_after n x.0) xs
 
--- what shows of a worker: how many events it entered, its log, what its feed handed out and put, how many frames that lost and how
--- often it failed, and how much was unread
+-- what shows of a worker: how many events it entered, its log, what its feed handed out and in how many turns, what it put, how many
+-- frames it lost and how often it failed, and how much was unread
 pub record Moment : Type 0 where
   pub count : ℕ
   pub pairs : List (Event × Answer)
   pub handed : List Told
+  pub asked : ℕ
   pub given : List (List ℕ)
   pub losses : ℕ
   pub failed : ℕ
   pub unread : ℕ
 
-abbrev pub moment : ℕ → List (Event × Answer) → List Told → List (List ℕ) → ℕ → ℕ → ℕ → Moment
-moment n ps h g l k u = record { count = n; pairs = ps; handed = h; given = g; losses = l; failed = k; unread = u }
+abbrev pub moment : ℕ → List (Event × Answer) → List Told → ℕ → List (List ℕ) → ℕ → ℕ → ℕ → Moment
+moment n ps h a g l k u =
+    record { count = n; pairs = ps; handed = h; asked = a; given = g; losses = l; failed = k; unread = u }
 
 -- the framing can write each of these parcels
 abbrev pub AreWritable : FramingImage → List ParcelImage → Type 0
@@ -138,8 +140,9 @@ AreWritable f (p ∷ ps) = (write_fault f p ≡ None) × AreWritable f ps
 
 -- From s to t the worker entered these events, each in its log, and none that is not its own. What its feed handed out became
 -- those that are no takes, but for what is lost. The parcels that it took out and can write were given to the feed as they are
--- written, but for those that are held; the feed counts as lost just those that it did not put. So many takes found nothing.
-pub record Did (tells : Bool) (w : Worker) (f : FramingImage) (none : ℕ) (held : List ParcelImage) (lost : List Told)
+-- written, but for those that are held; the feed counts as lost just those that it did not put. So many takes found nothing, and the
+-- feed answered so many turns.
+pub record Did (tells : Bool) (w : Worker) (f : FramingImage) (none asks : ℕ) (held : List ParcelImage) (lost : List Told)
     (s t : Moment) : Type 0 where
   pub pairs : List (Event × Answer)
   pub told : List Told
@@ -151,6 +154,7 @@ pub record Did (tells : Bool) (w : Worker) (f : FramingImage) (none : ℕ) (held
   pub own : AreOwn w pairs
   pub became : Became w f told (brought_in pairs) unread
   pub handed : tells ≡ true → t.handed ≡ s.handed ++ told ++ lost
+  pub asked : tells ≡ true → t.asked ≡ s.asked + asks
   pub counted : t.unread ≡ s.unread + unread
   pub taken : parcels_in pairs ≡ sent ++ held
   pub sends : GivesEach f sent gave
@@ -178,15 +182,16 @@ parcels_held (Some p) = p ∷ []
 pub record DidLast (tells : Bool) (w : Worker) (f : FramingImage) (reason : WorkerFault) (held : Option ParcelImage) (none : ℕ)
     (s t : Moment) : Type 0 where
   pub lost : List Told
-  pub did : Did tells w f none (parcels_held held) lost s t
+  pub asks : ℕ
+  pub did : Did tells w f none asks (parcels_held held) lost s t
   pub one : length lost ≤ 1
   pub only : reason ≢ fault.FeedFault → held ≡ None
   pub failed : reason ≡ fault.FeedFault → s.failed < t.failed
 
--- the worker made so many rounds and no more than its turns, and these were all, or its feed has ended
+-- the worker made so many rounds, a turn of its feed each, and no more than its turns; these were all, or its feed has ended
 pub record Finished (tells : Bool) (w : Worker) (f : FramingImage) (turns : ℕ) (s t : Moment) (ended : Bool) : Type 0 where
   pub rounds : ℕ
-  pub did : Did tells w f (nones_of w rounds) [] [] s t
+  pub did : Did tells w f (nones_of w rounds) rounds [] [] s t
   pub few : rounds ≤ turns
   pub made : (rounds ≡ turns) ⊎ (ended ≡ true)
 

@@ -30,8 +30,8 @@ impl<L: Ledger, F: Feed, G: Framing> Promise<(Pass<L>, WorkerEnd<F>)> for Begun<
     ghost use Rattle.sr_ports.specs.Stamps.{stamp};
     ghost use Rattle.sr_workers.specs.Worked.{EndedAs};
 
-    ghost kept_by = { λ b d. EndedAs F.name F.tells F.handed F.given F.losses F.failed F.ended
-        (G.meaning b.framing.value) b.turns (stamp b.worker b.count) b.feed.value d.0 d.1 };
+    ghost kept_by = { λ b d. EndedAs F.name F.tells F.handed F.asked F.given F.losses F.failed
+        F.ended (G.meaning b.framing.value) b.turns (stamp b.worker b.count) b.feed.value d.0 d.1 };
 }
 
 // Starts one worker. `NoThread` where no thread can be started.
@@ -61,7 +61,7 @@ fn start<
         framing: Snapshot::of(&kit.framing),
     };
     let work = move || -> (Pass<L>, WorkerEnd<F>)
-        ensures { EndedAs F.name F.tells F.handed F.given F.losses F.failed F.ended
+        ensures { EndedAs F.name F.tells F.handed F.asked F.given F.losses F.failed F.ended
             (G.meaning kit.framing) turns kit.pass kit.feed result.0 result.1 }
     { work_at(rt, alloc, shared, kit, turns) };
     match scope.spawn_with(promise, work) {
@@ -78,7 +78,7 @@ fn work_at<R: Role, L: Ledger, F: Feed, G: Framing, W: Wait>(
     kit: Kit<Pass<L>, F, G>,
     turns: u64,
 ) -> (Pass<L>, WorkerEnd<F>)
-    ensures { EndedAs F.name F.tells F.handed F.given F.losses F.failed F.ended
+    ensures { EndedAs F.name F.tells F.handed F.asked F.given F.losses F.failed F.ended
         (G.meaning kit.framing) turns kit.pass kit.feed result.0 result.1 }
 {
     let Kit {
@@ -153,7 +153,7 @@ pub fn run_workers<
     ensures len { IfOk result (λ v. vec_len v ≡ vec_len kits) }
     ensures each { IfOk result (λ v. (i : ℕ) (k : _) (d : _) → i < vec_len kits
         → let kit = slice_index_or kits.items i k in let done = slice_index_or v.items i d in
-        EndedAs F.name F.tells F.handed F.given F.losses F.failed F.ended
+        EndedAs F.name F.tells F.handed F.asked F.given F.losses F.failed F.ended
         (G.meaning kit.framing) turns kit.pass kit.feed done.0 done.1) }
 {
     thread::scope(
@@ -164,7 +164,7 @@ pub fn run_workers<
                 × ((i : ℕ) (k : _) (d : _) → i < vec_len kits
                 → let kit = slice_index_or kits.items i k in
                 let done = slice_index_or v.items i d in
-                EndedAs F.name F.tells F.handed F.given F.losses F.failed F.ended
+                EndedAs F.name F.tells F.handed F.asked F.given F.losses F.failed F.ended
                 (G.meaning kit.framing) turns kit.pass kit.feed done.0 done.1)) }
         {
             let handles = match start_all::<_, R, L, F, G, W>(

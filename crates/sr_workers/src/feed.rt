@@ -1,7 +1,7 @@
 //! Where a worker's frames come from, and where they go.
 
-ghost use Rattle.std.specs.Prelude.{◌≡◌, ◌<◌, ◌≤◌, ◌++◌, ℕ, List, Bool, true, IfOk, OnErr};
-ghost use Rattle.sr_workers.specs.Told.{Told, told_of, put_of, lost_after, IsLastTurn};
+ghost use Rattle.std.specs.Prelude.{◌≡◌, ◌<◌, ◌≤◌, ◌+◌, ◌++◌, ℕ, List, Bool, true, IfOk, OnErr};
+ghost use Rattle.sr_workers.specs.Told.{Told, told_of, turns_in, put_of, lost_after, IsLastTurn};
 
 use crate::FeedFault;
 use std::sync::Wait;
@@ -45,6 +45,9 @@ pub trait Feed: Drop {
     /// The frames that were put, in order: those that it was given but for the lost ones.
     ghost given: { Self → List (List ℕ) };
 
+    /// How many turns it answered before its end.
+    ghost asked: { Self → ℕ };
+
     /// How many of the frames that it was given were lost, up to the greatest number of 64 bits.
     ghost losses: { Self → ℕ };
 
@@ -62,6 +65,10 @@ pub trait Feed: Drop {
             handed self.new ≡ handed self.old ++ told_of t into.new.items) }
         ensures unhanded { tells self.old ≡ true
             → OnErr result (handed self.new ≡ handed self.old) }
+        ensures asked { tells self.old ≡ true → IfOk result (λ t.
+            asked self.new ≡ asked self.old + turns_in t) }
+        ensures unasked { tells self.old ≡ true
+            → OnErr result (asked self.new ≡ asked self.old) }
         ensures given { tells self.old ≡ true → given self.new ≡ given self.old }
         ensures losses { losses self.new ≡ losses self.old }
         ensures ended { IfOk result (λ t. IsLastTurn t → ended self.new ≡ true) }
@@ -77,6 +84,7 @@ pub trait Feed: Drop {
         ensures ungiven { tells self.old ≡ true
             → OnErr result (given self.new ≡ given self.old) }
         ensures handed { tells self.old ≡ true → handed self.new ≡ handed self.old }
+        ensures asked { tells self.old ≡ true → asked self.new ≡ asked self.old }
         ensures losses { IfOk result (λ g. losses self.new ≡ lost_after (losses self.old) g) }
         ensures unlost { OnErr result (losses self.new ≡ losses self.old) }
         ensures ended { ended self.new ≡ ended self.old }

@@ -117,6 +117,8 @@ impl Feed for Script {
 
     ghost handed = { has_told };
 
+    ghost asked = { λ s. s.next };
+
     ghost given = { was_given };
 
     ghost losses = { has_lost };

@@ -35,6 +35,7 @@ fn put_out<F: Feed, G: Framing, W: Wait>(
     ensures name { F.name feed.new ≡ F.name feed.old }
     ensures tells { F.tells feed.new ≡ F.tells feed.old }
     ensures handed { F.tells feed.old ≡ true → F.handed feed.new ≡ F.handed feed.old }
+    ensures asked { F.tells feed.old ≡ true → F.asked feed.new ≡ F.asked feed.old }
     ensures ended { F.ended feed.new ≡ F.ended feed.old }
     ensures ok { OnOk result (Out (F.tells feed.old) (G.meaning framing.now) parcel.now
         (F.given feed.old) (F.given feed.new) (F.losses feed.old) (F.losses feed.new)) }
@@ -88,9 +89,9 @@ fn take_one<E: Enters, F: Feed, G: Framing, W: Wait>(
     ensures tells { F.tells post.new.feed ≡ F.tells post.old.feed }
     ensures ended { F.ended post.new.feed ≡ F.ended post.old.feed }
     ensures room { OnOk result (HasFrameRoom lists.new) }
-    ensures ok { IfOk result (λ some. Does E.whose E.count F.tells F.handed F.given
-        F.losses F.failed (G.meaning framing.now) (if some then 0 else 1) post.old post.new) }
-    ensures err { IfErr result (λ stop. DoesLast E.whose E.count F.tells F.handed F.given
+    ensures ok { IfOk result (λ some. Does E.whose E.count F.tells F.handed F.asked F.given
+        F.losses F.failed (G.meaning framing.now) (if some then 0 else 1) 0 post.old post.new) }
+    ensures err { IfErr result (λ stop. DoesLast E.whose E.count F.tells F.handed F.asked F.given
         F.losses F.failed (G.meaning framing.now) stop.fault stop.held post.old post.new) }
 {
     let event = Event::Take { port };
@@ -151,9 +152,9 @@ pub(crate) fn drain<E: Enters, F: Feed, G: Framing, W: Wait>(
     ensures tells { F.tells post.new.feed ≡ F.tells post.old.feed }
     ensures ended { F.ended post.new.feed ≡ F.ended post.old.feed }
     ensures room { OnOk result (HasFrameRoom lists.new) }
-    ensures ok { OnOk result (Does E.whose E.count F.tells F.handed F.given
-        F.losses F.failed (G.meaning framing.now) 1 post.old post.new) }
-    ensures err { IfErr result (λ stop. DoesLast E.whose E.count F.tells F.handed F.given
+    ensures ok { OnOk result (Does E.whose E.count F.tells F.handed F.asked F.given
+        F.losses F.failed (G.meaning framing.now) 1 0 post.old post.new) }
+    ensures err { IfErr result (λ stop. DoesLast E.whose E.count F.tells F.handed F.asked F.given
         F.losses F.failed (G.meaning framing.now) stop.fault stop.held post.old post.new) }
 {
     for _ in rt.forever() {

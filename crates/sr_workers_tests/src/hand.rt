@@ -58,6 +58,8 @@ impl Feed for Hand {
 
     ghost handed = { λ _. [] };
 
+    ghost asked = { λ _. 0 };
+
     ghost given = { λ _. [] };
 
     ghost losses = { λ _. 0 };

@@ -12,17 +12,17 @@ loop-turn-init g c = (
   refl,
   refl,
   search rules,
-  did_as _ _ _ _ _ 0 _ _ _ _ _ refl refl (nones_zero _) (did_still _ _ _ _ _ refl refl refl (λ _. refl) (λ _. refl) refl (omega arith)),
+  did_as _ _ _ _ _ 0 _ 0 _ _ _ _ _ refl refl (nones_zero _) refl (did_still _ _ _ _ _ refl refl refl (λ _. refl) (λ _. refl) (λ _. refl) refl (omega arith)),
 )
 
 pub returns-in-Err-clause-err : goal.returns-in-Err-clause-err
-returns-in-Err-clause-err g c = stopped_first _ _ _ _ _ _ _ _ (last_still _ _ _ _ _ _ _ refl refl refl refl (λ _. refl) (λ _. refl) refl (omega arith) (no_feed_of _ _ c.into.ensures))
+returns-in-Err-clause-err g c = stopped_first _ _ _ _ _ _ _ _ (last_still _ _ _ _ _ _ _ refl refl refl refl (λ _. refl) (λ _. refl) (λ _. refl) refl (omega arith) (no_feed_of _ _ c.into.ensures))
 
 pub returns-in-Ok-false-clause-ok : goal.returns-in-Ok-false-clause-ok
 returns-in-Ok-false-clause-ok g c =
     let was = c.loop-turn.invariant in
     let end = match_false _ _ c.in-Ok-false.field-0 c.in-Ok-false.field-0-test c.in-Ok-false.ensures.ok in
-    finished_end _ _ _ _ c.loop-turn._turn _ _ _ _ (search rules) was.6 (did_as _ _ _ _ _ _ _ _ _ _ _ was.3 was.1 refl end.1) end.0
+    finished_end _ _ _ _ c.loop-turn._turn _ _ _ _ (search rules) was.6 (did_as _ _ _ _ _ _ _ _ _ _ _ _ _ was.3 was.1 refl refl end.1) end.0
 
 pub returns-in-Err-one_turn-clause-err : goal.returns-in-Err-one_turn-clause-err
 returns-in-Err-one_turn-clause-err g c =
@@ -39,5 +39,5 @@ loop-turn-preserved g c =
       search rules,
       search rules,
       search rules,
-      did_as _ _ _ _ _ _ _ _ _ _ _ refl refl (nones_more _ c.loop-turn._turn) (did_more _ _ _ _ _ _ _ _ _ _ was.6 (did_as _ _ _ _ _ _ _ _ _ _ _ was.3 was.1 (ap (λ w. nones_of w 1) was.1) more)),
+      did_as _ _ _ _ _ _ _ _ _ _ _ _ _ refl refl (nones_more _ c.loop-turn._turn) refl (did_more _ _ _ _ _ _ _ _ _ _ _ _ was.6 (did_as _ _ _ _ _ _ _ _ _ _ _ _ _ was.3 was.1 (ap (λ w. nones_of w 1) was.1) refl more)),
     )
