@@ -79,12 +79,11 @@ impl Cable {
 
 impl Feed for Cable {
     ghost use Rattle.std.specs.Prelude.{true};
-    ghost use Rattle.atomic_table.specs.Seated.{TableId};
     ghost use Rattle.sr_lines.specs.Handed.{frames_of};
 
-    ghost Name = { TableId × TableId };
+    ghost Name = { Unit {0} };
 
-    ghost name = { λ c. (c.ends.send.wire, c.ends.take.wire) };
+    ghost name = { λ _. tt };
 
     ghost tells = { λ _. true };
 
