@@ -200,17 +200,26 @@ fn shown<L: Ledger>(kept: &Kept<Danp, L>) -> (u64, usize, [usize; 3]) {
     (kept.node.time(), kept.journal.len(), waiting)
 }
 
-/// Enters the event once. None where an allocation failed: then nothing shows of it.
-fn entered<L: Ledger, W: Wait>(
-    rt: &W,
-    behind: &mut Behind<L>,
-    event: &Event,
-) -> Option<Result<Answer, EnterFault>> {
+/// What comes of an event.
+#[derive(Drop)]
+enum Came {
+    /// An allocation failed, and nothing shows of the event.
+    Nothing,
+    /// An allocation failed, and something has changed.
+    Changed,
+    Answered(Result<Answer, EnterFault>),
+}
+
+/// Enters the event once.
+fn entered<L: Ledger, W: Wait>(rt: &W, behind: &mut Behind<L>, event: &Event) -> Came {
     let mut kept = behind.shared.kept.lock(rt);
     let before = shown(&*kept);
     match enter(&mut *kept, &mut behind.pass, event) {
-        Err(EnterFault::Step(StepFault::NoMemory)) if shown(&*kept) == before => None,
-        answer => Some(answer),
+        Err(EnterFault::Step(StepFault::NoMemory)) => match shown(&*kept) == before {
+            true => Came::Nothing,
+            false => Came::Changed,
+        },
+        answer => Came::Answered(answer),
     }
 }
 
@@ -227,13 +236,13 @@ fn entered_as<L: Ledger, W: Wait>(
             continue;
         }
         match (entered(rt, behind, &event), wanted) {
-            (None, _) => continue,
-            (Some(Ok(answer)), Ok(other)) => {
+            (Came::Nothing, _) => continue,
+            (Came::Answered(Ok(answer)), Ok(other)) => {
                 let is_same = answer == *other;
                 behind.log.push(event, answer);
                 return is_same;
             }
-            (Some(Err(EnterFault::Step(fault))), Err(other)) => return fault == *other,
+            (Came::Answered(Err(EnterFault::Step(fault))), Err(other)) => return fault == *other,
             _ => return false,
         }
     }

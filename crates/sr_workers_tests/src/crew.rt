@@ -3,7 +3,7 @@
 use super::hand::Halt::{Ends, Fails, Refuses};
 use super::runs::Outcome::{Holds, Stops, Whole};
 use super::runs::Step::{
-    self, Free, FreeInBoxes, Gate, GateInBoxes, Halts, Turns, WriteGate, WriteGateInBoxes,
+    self, Flood, Free, FreeInBoxes, Gate, GateInBoxes, Halts, Turns, WriteGate, WriteGateInBoxes,
 };
 use super::runs::expect_steps;
 use sr_ports::Worker::{A, B, Host};
@@ -25,6 +25,9 @@ const ONE_WRITES: &[Step] = &[
 
 // Nobody waits.
 const NOBODY_WAITS: &[Step] = &[Free, FreeInBoxes];
+
+// Both ports bring more nodes than a node remembers.
+const FLOODS: &[Step] = &[Flood(3000, 40)];
 
 // Each for so many turns, past the end of all feeds.
 const SO_MANY_TURNS: &[Step] = &[Turns(0), Turns(1), Turns(2), Turns(3), Turns(4)];
@@ -76,6 +79,11 @@ fn one_worker_goes_on_while_another_writes(rt: HostRuntime) {
 #[test]
 fn what_was_taken_is_given_or_held_whatever_allocation_fails(rt: HostRuntime) {
     expect_steps(&rt, NOBODY_WAITS);
+}
+
+#[test]
+fn what_the_host_sends_goes_out_while_frames_of_new_nodes_flood_in(rt: HostRuntime) {
+    expect_steps(&rt, FLOODS);
 }
 
 #[test]

@@ -18,11 +18,15 @@ pub enum Halt {
     Refuses(u64),
 }
 
-/// A feed that hands out a frame and then nothing for some turns, and then ends. While it waits for frames it goes on.
+/// A feed that hands out frames and then nothing for some turns, and then ends. While it waits for frames it goes on.
 #[derive(Drop)]
 pub struct Hand {
     /// What it hands out first.
     pub frame: [u8; 66],
+    /// So many frames it hands out.
+    pub frames: u64,
+    /// Whether each is of another node.
+    pub floods: bool,
     /// How many turns it has in all.
     pub turns: u64,
     /// For so many frames it waits.
@@ -42,6 +46,15 @@ pub struct Hand {
 }
 
 impl Hand {
+    // The next frame of a flood is of another node.
+    fn turn_to_next(&mut self) {
+        if self.floods {
+            let [high, low] = ((self.asked % 65536) as u16).to_be_bytes();
+            self.frame[9] = high;
+            self.frame[10] = low;
+        }
+    }
+
     fn has_ended(&self) -> bool {
         self.asked > self.turns && (self.given >= self.wanted || self.asked > self.patience)
     }
@@ -77,7 +90,8 @@ impl Feed for Hand {
             self.failures += 1;
             return Err(FeedFault);
         }
-        if self.asked == 1 {
+        if self.asked <= self.frames {
+            self.turn_to_next();
             into.clear();
             if into.extend_from_slice(&self.frame).is_err() {
                 self.failures += 1;

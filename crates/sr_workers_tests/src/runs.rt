@@ -35,6 +35,8 @@ pub enum Step {
     Free,
     /// So with role and framings in boxes.
     FreeInBoxes,
+    /// A and B bring so many frames each, all of other nodes. The host sends so many.
+    Flood(u64, u64),
     /// Each for so many turns, and no feed waits for a frame.
     Turns(u64),
     /// The feed of one stops. How many frames the feeds of A, B and the host wait for, and what comes of it.
@@ -60,6 +62,8 @@ struct Run {
     turns: u64,
     halts: [Halt; 3],
     wanted: [u64; 3],
+    // How many frames a port and the host hand out.
+    frames: [u64; 2],
     outcome: Outcome,
 }
 
@@ -73,6 +77,8 @@ pub enum Outcome {
     Answered,
     /// No worker has a fault.
     Whole,
+    /// No worker has a fault, each frame of a port is handed up or counted as unread, and so many frames of the host go out at both.
+    Flooded(u64, u64),
     /// This worker alone has a fault, and found nothing to take so often.
     Stops(Worker, usize),
     /// This worker alone has a fault, and holds the parcel that it took out last.
@@ -154,10 +160,12 @@ fn frame_of(to: u8, from: u8, end: [u8; 6]) -> [u8; 66] {
     octets
 }
 
-fn hand_of(frame: [u8; 66], halt: Halt, wanted: u64, seen: Arc<AtomicU64>) -> Hand {
+fn hand_of(frame: [u8; 66], frames: u64, halt: Halt, wanted: u64, seen: Arc<AtomicU64>) -> Hand {
     Hand {
         frame,
-        turns: 2,
+        frames,
+        floods: frames > 1 && frame[11] != 1,
+        turns: frames.saturating_add(1),
         wanted,
         patience: LOOKS,
         halt,
@@ -260,21 +268,39 @@ pub(super) struct Gear<C: Drop> {
 fn gear_a(run: &Run, flags: &Flags) -> Result<Gear<Carriage>, AllocError> {
     let framing = carriage_of(run, Worker::A, way_of(Lan::A), flags)?;
     let seen = Arc::try_clone(&flags.out)?;
-    let feed = hand_of(frame_of(1, 2, TRAILER_A), run.halts[0], run.wanted[0], seen);
+    let feed = hand_of(
+        frame_of(1, 2, TRAILER_A),
+        run.frames[0],
+        run.halts[0],
+        run.wanted[0],
+        seen,
+    );
     Ok(Gear { feed, framing })
 }
 
 fn gear_b(run: &Run, flags: &Flags) -> Result<Gear<Carriage>, AllocError> {
     let framing = carriage_of(run, Worker::B, way_of(Lan::B), flags)?;
     let seen = Arc::try_clone(&flags.out)?;
-    let feed = hand_of(frame_of(1, 2, TRAILER_B), run.halts[1], run.wanted[1], seen);
+    let feed = hand_of(
+        frame_of(1, 3, TRAILER_B),
+        run.frames[0],
+        run.halts[1],
+        run.wanted[1],
+        seen,
+    );
     Ok(Gear { feed, framing })
 }
 
 fn gear_host(run: &Run, flags: &Flags) -> Result<Gear<Carriage>, AllocError> {
     let framing = carriage_of(run, Worker::Host, Way::Host, flags)?;
     let seen = Arc::try_clone(&flags.up)?;
-    let feed = hand_of(frame_of(2, 1, [0; 6]), run.halts[2], run.wanted[2], seen);
+    let feed = hand_of(
+        frame_of(2, 1, [0; 6]),
+        run.frames[1],
+        run.halts[2],
+        run.wanted[2],
+        seen,
+    );
     Ok(Gear { feed, framing })
 }
 
@@ -587,6 +613,7 @@ fn is_outcome(shown: &Shown, outcome: Outcome) -> bool {
         Outcome::First(worker) => is_answered(shown) && shown.first == Some(worker),
         Outcome::Answered => is_answered(shown),
         Outcome::Whole => is_whole(shown),
+        Outcome::Flooded(frames, sends) => is_flooded(shown, frames, sends),
         Outcome::Stops(worker, nones) => {
             let mark = shown.marks[place_of(worker)];
             has_fault_at(shown, worker) && mark.nones == nones && !mark.held
@@ -596,6 +623,19 @@ fn is_outcome(shown: &Shown, outcome: Outcome) -> bool {
             has_fault_at(shown, worker) && mark.held && mark.held_last
         }
     }
+}
+
+// Each frame of a port is handed up or counted as unread, some are, and each frame of the host went out at both ports.
+fn is_flooded(shown: &Shown, frames: u64, sends: u64) -> bool {
+    let [a, b, host] = shown.marks;
+    is_whole(shown)
+        && (a.ups as u64).saturating_add(a.unread) == frames
+        && (b.ups as u64).saturating_add(b.unread) == frames
+        && a.unread > 0
+        && b.unread > 0
+        && host.sent as u64 == sends
+        && host.unread == 0
+        && (a.given, b.given) == (sends, sends)
 }
 
 // What holds of each run, whatever allocation fails.
@@ -624,6 +664,7 @@ fn run_of(step: Step) -> Run {
         turns: ENOUGH,
         halts: [Halt::Never; 3],
         wanted: [1, 1, 2],
+        frames: [1, 1],
         outcome: Outcome::Whole,
     };
     match step {
@@ -648,6 +689,11 @@ fn run_of(step: Step) -> Run {
         Step::Free => {
             run.wanted = [0; 3];
             run.outcome = Outcome::Answered;
+        }
+        Step::Flood(frames, sends) => {
+            run.frames = [frames, sends];
+            run.wanted = [sends, sends, 0];
+            run.outcome = Outcome::Flooded(frames, sends);
         }
         Step::FreeInBoxes => {
             run.boxed = true;

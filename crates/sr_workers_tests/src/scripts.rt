@@ -49,7 +49,8 @@ struct Counts {
     ticks: usize,
     sent: usize,
     takes: usize,
-    given: [Option<[u8; 6]>; 2],
+    first: Option<[u8; 6]>,
+    second: Option<[u8; 6]>,
 }
 
 // What comes of a worker.
@@ -86,7 +87,8 @@ const STEPS: &[Step] = &[
             ticks: 2,
             sent: 0,
             takes: 0,
-            given: [None, None],
+            first: None,
+            second: None,
         },
     },
     Step {
@@ -99,7 +101,8 @@ const STEPS: &[Step] = &[
             ticks: 2,
             sent: 2,
             takes: 5,
-            given: [None, None],
+            first: None,
+            second: None,
         },
     },
     Step {
@@ -112,7 +115,8 @@ const STEPS: &[Step] = &[
             ticks: 0,
             sent: 1,
             takes: 1,
-            given: [None, None],
+            first: None,
+            second: None,
         },
     },
     Step {
@@ -125,7 +129,8 @@ const STEPS: &[Step] = &[
             ticks: 0,
             sent: 0,
             takes: 2,
-            given: [FIRST, None],
+            first: FIRST,
+            second: None,
         },
     },
     Step {
@@ -138,7 +143,8 @@ const STEPS: &[Step] = &[
             ticks: 0,
             sent: 0,
             takes: 4,
-            given: [FIRST, SECOND],
+            first: FIRST,
+            second: SECOND,
         },
     },
     Step {
@@ -151,7 +157,8 @@ const STEPS: &[Step] = &[
             ticks: 0,
             sent: 0,
             takes: 0,
-            given: [None, None],
+            first: None,
+            second: None,
         },
     },
 ];
@@ -191,22 +198,24 @@ fn end_of(frame: &[u8]) -> Option<[u8; 6]> {
 }
 
 // The ends of the first two frames that a feed was given. None where there are more.
-fn ends_of(given: &[Frame]) -> Option<[Option<[u8; 6]>; 2]> {
+fn ends_of(given: &[Frame]) -> Option<(Option<[u8; 6]>, Option<[u8; 6]>)> {
     match given {
-        [] => Some([None, None]),
-        [first] => Some([end_of(first.octets()), None]),
-        [first, second] => Some([end_of(first.octets()), end_of(second.octets())]),
+        [] => Some((None, None)),
+        [first] => Some((end_of(first.octets()), None)),
+        [first, second] => Some((end_of(first.octets()), end_of(second.octets()))),
         _ => None,
     }
 }
 
 fn counts_of(end: &WorkerEnd<Script>) -> Option<Counts> {
+    let (first, second) = ends_of(end.feed.given())?;
     let mut counts = Counts {
         unread: end.unread,
         ticks: 0,
         sent: 0,
         takes: 0,
-        given: ends_of(end.feed.given())?,
+        first,
+        second,
     };
     for (_, answer) in &end.log.pairs {
         match answer {
