@@ -28,7 +28,7 @@ use Rattle.std.proofs.Common.{
   inr,
   length-append,
 }
-use Rattle.std.specs.Prelude.{◌^◌}
+use Rattle.std.specs.Prelude.{◌^◌, IfNone}
 use Rattle.std.specs.Map.{lookup, set_value}
 use Rattle.std.proofs.lemmas.Bool.{cases_Bool}
 use Rattle.std.proofs.lemmas.Map.{length-set_value}
@@ -138,3 +138,8 @@ made_is entries src s absent = rw (lookup-push src src s entries absent, mac_ref
 pub nothing_there : {X : Type 0} (o : Option X) → is_some o ≡ false → o ≡ None
 nothing_there None lacks = refl
 nothing_there (Some x) lacks = absurd cc
+
+-- what holds where there is no answer
+pub without_answer : {X : Type 0} {P : Type 0} (o : Option X) → is_some o ≡ false → IfNone o P → P
+without_answer None lacks holds = holds
+without_answer (Some x) lacks holds = absurd cc

@@ -78,7 +78,7 @@ came_below side (y ∷ z ∷ before) n is =
           (greater_up (top_number (z ∷ before)) y.number)
     ]
 
-some_below : (s : List Placed) (n : ℤ) → (came A n s || came B n s) ≡ true → n ≤ℤ top_number s
+pub some_below : (s : List Placed) (n : ℤ) → (came A n s || came B n s) ≡ true → n ≤ℤ top_number s
 some_below s n some = by (came A n s) (came B n s) refl refl some
   where
     by : (a b : Bool) → came A n s ≡ a → came B n s ≡ b → (a || b) ≡ true → n ≤ℤ top_number s

@@ -91,7 +91,7 @@ still_some false true false b some = refl
 still_some false false false b some = some
 
 -- a frame that came is there once, and another is not there
-once : (m : ℤ) (s : List Placed) → count_by (λ n. int_eq n m) (frames s) ≡ cond (came A m s || came B m s) 1 0
+pub once : (m : ℤ) (s : List Placed) → count_by (λ n. int_eq n m) (frames s) ≡ cond (came A m s || came B m s) 1 0
 once m [] = refl
 once m (y ∷ s) =
     let ih : count_by (λ n. int_eq n m) (frames s) ≡ cond (came A m s || came B m s) 1 0 = once m s in

@@ -3,5 +3,7 @@ pub mod TallyLemmas
 pub mod AuditLemmas
 pub mod FollowLemmas
 pub mod EdgeLemmas
+pub mod ExtentLemmas
+pub mod FitLemmas
 pub mod LawLemmas
 pub mod SourceLemmas

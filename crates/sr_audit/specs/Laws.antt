@@ -13,6 +13,7 @@ use Rattle.sr_audit.specs.declared.tally.Sides.{Sides}
 use Rattle.sr_audit.specs.declared.tally.Tally.{Tally}
 use Rattle.sr_audit.specs.Audits.{Sent, Audits}
 use Rattle.sr_audit.specs.Edges.{edges_of}
+use Rattle.sr_audit.specs.Extents.{length_of, neither_of}
 use Rattle.sr_audit.specs.Shown.{tally_in}
 use Rattle.sr_audit.specs.Stretches.{same_side, stretches}
 use Rattle.sr_audit.specs.Tallies.{tally_of}
@@ -33,6 +34,12 @@ pub record EdgesAddUp (t : Tally) (edges : Sides) : Type 0 where
 
 abbrev pub LostCopiesAddUp : Type 0
 LostCopiesAddUp = (spans : Spans) (xs : List Arrival) → EdgesAddUp (tally_of (stretches xs)) (edges_of spans (stretches xs))
+
+-- each number of a stretch, from the least to the greatest, is that of a pair, of a frame that one side lost, of one that came at an edge
+-- of the other capture, or of no frame
+abbrev pub NumbersAddUp : Type 0
+NumbersAddUp = (spans : Spans) (xs : List Arrival) → let ss = stretches xs in let t = tally_of ss in let edges = edges_of spans ss in
+    t.pairs + (t.alone.a - edges.a) + (t.alone.b - edges.b) + edges.a + edges.b + sum_by neither_of ss ≡ sum_by length_of ss
 
 -- how many copies a tally has of a side
 abbrev pub rx_at : Side → Tally → ℕ

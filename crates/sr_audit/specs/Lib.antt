@@ -1,12 +1,14 @@
 pub mod Audits
 pub mod Counting
 pub mod Edges
+pub mod Extents
 pub mod Faults
 pub mod Following
 pub mod Lanes
 pub mod Laws
 pub mod Limits
 pub mod Looks
+pub mod Reaching
 pub mod Shown
 pub mod Stretches
 pub mod Taken

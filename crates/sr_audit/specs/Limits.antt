@@ -1,5 +1,5 @@
 -- The limits of an audit.
-use Rattle.std.specs.Prelude.{ℕ, ◌%◌}
+use Rattle.std.specs.Prelude.{ℕ, ◌%◌, ◌^◌}
 
 -- how many numbers of a source are remembered, up to the greatest one: as many as a duplicate table remembers (choice of this project)
 abbrev pub kept_numbers : ℕ
@@ -16,3 +16,8 @@ epoch_gap = 400000000
 -- how many sources have figures (choice of this project)
 abbrev pub most_audited : ℕ
 most_audited = 1024
+
+-- of how many arrivals of a source the lengths of its stretches are exact: each makes a stretch longer by at most 1024 numbers, and their
+-- sum is kept in 64 bits (choice of this project)
+abbrev pub exact_arrivals : ℕ
+exact_arrivals = 2 ^ 53

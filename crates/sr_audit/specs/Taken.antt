@@ -1,11 +1,13 @@
 -- What is kept of a source says of the source's arrivals.
-use Rattle.std.specs.Prelude.{◌≡◌, ◌+◌, ◌^◌, ◌<◌, List, [], ◌∷◌, length, Option, Some, None}
+use Rattle.std.specs.Prelude.{◌≡◌, ◌+◌, ◌^◌, ◌<◌, ◌≤◌, List, [], ◌∷◌, length, Option, Some, None}
 use Rattle.sr_audit.specs.declared.arrival.Arrival.{Arrival}
 use Rattle.sr_audit.specs.declared.numbers.Numbers.{Numbers}
 use Rattle.sr_audit.specs.declared.source.Source.{Source}
 use Rattle.sr_audit.specs.declared.span.Spans.{Spans}
 use Rattle.sr_audit.specs.Edges.{KeepsEdges}
 use Rattle.sr_audit.specs.Following.{FollowsArrivals}
+use Rattle.sr_audit.specs.Limits.{exact_arrivals}
+use Rattle.sr_audit.specs.Reaching.{KeepsExtent}
 use Rattle.sr_audit.specs.Stretches.{stretches}
 
 -- no arrival, or what the record follows
@@ -17,6 +19,7 @@ IsKeptIn xs (Some n) = FollowsArrivals xs n
 pub record HasTaken (spans : Spans) (xs : List Arrival) (s : Source) : Type 0 where
   pub numbers : IsKeptIn xs s.numbers
   pub edges : KeepsEdges spans (stretches xs) s.moments.times.items s.edges
+  pub extent : length xs ≤ exact_arrivals → KeepsExtent xs s.extent
 
 -- one arrival more was taken
 pub record TakesArrival (spans : Spans) (x : Arrival) (old new : Source) : Type 0 where

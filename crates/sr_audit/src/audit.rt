@@ -21,7 +21,7 @@ pub struct Audit {
 }
 
 impl Audit {
-    ghost use Rattle.std.specs.Prelude.{◌≡◌, ◌+◌, ◌^◌, ◌<◌, ◌≤◌, List, [], ◌∷◌, length, true, false, is_some, IfOk, IfSome, OnOk, OnErr};
+    ghost use Rattle.std.specs.Prelude.{◌≡◌, ◌+◌, ◌^◌, ◌<◌, ◌≤◌, List, [], ◌∷◌, length, true, false, is_some, IfOk, IfSome, IfNone, OnOk, OnErr};
     ghost use Rattle.std.specs.List.{IsDistinct};
     ghost use Rattle.std.specs.Map.{lookup, keys_of};
     ghost use Rattle.sr_frame.specs.declared.fields.Mac.{Mac};
@@ -75,6 +75,7 @@ impl Audit {
             → length xs + 1 < 2 ^ 64 → Audits self.old.spans xs self.old.sources.entries
             → Audits self.old.spans ((src, x) ∷ xs) self.new.sources.entries) }
         ensures spans { self.new.spans ≡ self.old.spans }
+        ensures none { IfNone result (self.new.sources ≡ self.old.sources) }
     {
         let spans = self.spans;
         self.sources.update_at(
@@ -128,6 +129,9 @@ impl Audit {
             → Audits spans xs self.new.sources.entries) }
         ensures spans { self.new.spans ≡ self.old.spans }
     {
+        if self.take_at(src, x).is_some() {
+            return Ok(());
+        }
         if self.make_entry(src)? {
             self.note_known(src, x);
             Ok(())

@@ -1,6 +1,6 @@
 //! Laws of the figures of sources.
 
-ghost use Rattle.sr_audit.specs.Laws.{CopiesAddUp, LostCopiesAddUp, SourcesAddUp};
+ghost use Rattle.sr_audit.specs.Laws.{CopiesAddUp, LostCopiesAddUp, NumbersAddUp, SourcesAddUp};
 
 /// Of whatever arrivals, the copies that came in at a side are as many as the pairs, the frames that came by this side alone and the
 /// repeats together, and the copies of both sides are all arrivals.
@@ -12,6 +12,12 @@ pub fn copies_add_up()
 /// edges of the other side's capture and the repeats together.
 pub fn lost_copies_add_up()
     ensures { LostCopiesAddUp }
+{}
+
+/// Of whatever arrivals, the pairs, the frames that one side lost, those at the edges of a capture and the numbers that no frame had are as
+/// many as the numbers of the stretches, from the least to the greatest of each.
+pub fn numbers_add_up()
+    ensures { NumbersAddUp }
 {}
 
 /// The copies of a side, of all sources that have figures, are as many as the arrivals of these sources at that side.

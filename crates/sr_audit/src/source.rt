@@ -107,7 +107,7 @@ impl Ranked for Source {
 }
 
 impl Source {
-    ghost use Rattle.std.specs.Prelude.{◌≡◌, ◌+◌, ◌^◌, ◌<◌, List, [], ◌∷◌, length, false, slice_set, slice_index_or, IfOk};
+    ghost use Rattle.std.specs.Prelude.{◌≡◌, ◌+◌, ◌^◌, ◌<◌, ◌≤◌, List, [], ◌∷◌, length, sum_by, false, slice_set, slice_index_or, IfOk};
     ghost use Rattle.sr_audit.specs.declared.arrival.Arrival.{Arrival};
     ghost use Rattle.sr_audit.specs.declared.span.Spans.{Spans};
     ghost use Rattle.sr_audit.specs.Counting.{more_at, less_at};
@@ -115,7 +115,9 @@ impl Source {
     ghost use Rattle.sr_audit.specs.Lanes.{other_side};
     ghost use Rattle.sr_audit.specs.Looks.{look_at};
     ghost use Rattle.sr_audit.specs.Stretches.{stretches};
-    ghost use Rattle.sr_audit.specs.Tallies.{tally_of};
+    ghost use Rattle.sr_audit.specs.Tallies.{tally_of, at_sides};
+    ghost use Rattle.sr_audit.specs.Extents.{neither_of, order, jumps_of, restarts_of};
+    ghost use Rattle.sr_audit.specs.Limits.{exact_arrivals};
     ghost use Rattle.sr_audit.specs.Taken.{IsKeptIn, HasTaken, TakesArrival, KeepsTaken};
     ghost use Rattle.sr_audit.specs.Shown.{figures_of, tally_in};
 
@@ -144,6 +146,7 @@ impl Source {
             → result ≡ look_at (stretches xs) x }
         ensures moments { self.new.moments.times.items ≡ self.old.moments.times.items }
         ensures edges { self.new.edges ≡ self.old.edges }
+        ensures extent { self.new.extent ≡ self.old.extent }
     {
         match self.numbers.as_mut() {
             Some(numbers) => numbers.take(x),
@@ -161,6 +164,7 @@ impl Source {
             ≡ slice_set self.old.moments.times.items (place_in x.seq.0) x.time }
         ensures edges { self.new.edges ≡ more_at self.old.edges x.side
             (is_beyond spans.now (other_side x.side) x.time) }
+        ensures extent { self.new.extent ≡ self.old.extent }
     {
         self.moments.put(x.seq, x.time);
         let is_edge = spans.is_beyond(x.side.other(), x.time);
@@ -174,6 +178,7 @@ impl Source {
         ensures edges { self.new.edges ≡ less_at self.old.edges (other_side x.side)
             (is_beyond spans.now x.side
             (slice_index_or self.old.moments.times.items (place_in x.seq.0) 0)) }
+        ensures extent { self.new.extent ≡ self.old.extent }
     {
         let first = self.moments.at(x.seq);
         let was_edge = spans.is_beyond(x.side, first);
@@ -192,6 +197,7 @@ impl Source {
             ≡ moments_with x came self.old.moments.times.items }
         ensures edges { self.new.edges ≡ edges_with spans.now x.side x.time came
             (slice_index_or self.old.moments.times.items (place_in x.seq.0) 0) self.old.edges }
+        ensures extent { self.new.extent ≡ self.old.extent }
     {
         if !came.is_some() {
             self.open(x, spans);
@@ -205,7 +211,7 @@ impl Source {
         ensures { TakesArrival spans.now x self.old self.new }
     {
         let look = self.look(x);
-        self.extent.note(x, look);
+        self.extent.note(x.side, look);
         self.pair(x, look.came, spans);
     }
 
@@ -230,13 +236,20 @@ impl Source {
         }
     }
 
-    /// The figures of all arrivals. How many copies and frames came is proved, and which of them came at an edge; the order, the skews and
-    /// what is told of numbers that no frame had are tested alone.
+    /// The figures of all arrivals. Those of the skews are tested alone.
     pub fn figures(&self) -> Figures
         ensures tally { (spans : Spans) (xs : List Arrival) → HasTaken spans xs self.now
             → result.tally ≡ tally_of (stretches xs) }
         ensures edges { (spans : Spans) (xs : List Arrival) → HasTaken spans xs self.now
             → result.edges ≡ edges_of spans (stretches xs) }
+        ensures neither { (spans : Spans) (xs : List Arrival) → length xs ≤ exact_arrivals
+            → HasTaken spans xs self.now → result.neither ≡ sum_by neither_of (stretches xs) }
+        ensures order { (spans : Spans) (xs : List Arrival) → length xs ≤ exact_arrivals
+            → HasTaken spans xs self.now → result.order ≡ at_sides order (stretches xs) }
+        ensures jumps { (spans : Spans) (xs : List Arrival) → length xs ≤ exact_arrivals
+            → HasTaken spans xs self.now → result.jumps ≡ jumps_of xs }
+        ensures restarts { (spans : Spans) (xs : List Arrival) → length xs ≤ exact_arrivals
+            → HasTaken spans xs self.now → result.restarts ≡ restarts_of xs }
         ensures shown { result ≡ figures_of self.now }
     {
         let tally = self.tally();

@@ -1,3 +1,3 @@
-pub mod WaitingLemmas
-pub mod TakenLemmas
+pub mod PlaceLemmas
 pub mod RunLemmas
+pub mod WaitingLemmas

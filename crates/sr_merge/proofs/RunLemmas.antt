@@ -55,18 +55,18 @@ use Rattle.sr_dup_runs.specs.TableRuns.{
 use Rattle.sr_dup_runs.specs.RunLemmas.{each_pair_is_new_once}
 use Rattle.sr_merge.specs.declared.came.FrameId.{FrameId}
 use Rattle.sr_merge.specs.Limits.{millisecond}
-use Rattle.sr_merge.specs.Merging.{packet_of, Merging, shown_arrival, answer_for, is_new_by, is_new, sources_told}
-use Rattle.sr_merge.specs.MergeRuns.{Numbered, IsNumber, HasWhole, MergeTurn, took, wrote, MergeRun, reads, written_in, arrival_as, arrivals_read, is_first, firsts, newest_arrival, AreInTime, EachFrameIsWrittenOnce, known_after, news, WhatIsNewIsWritten}
+use Rattle.sr_merge.specs.Merging.{Merging, shown_arrival, answer_for, is_new_by, is_new, sources_told}
+use Rattle.sr_merge.specs.MergeRuns.{Numbered, IsNumber, HasWhole, MergeTurn, took, wrote, MergeRun, reads, written_in, packets_in, arrival_as, arrivals_read, is_first, firsts, newest_arrival, AreInTime, EachFrameIsWrittenOnce, known_after, news, WhatIsNewIsWritten}
 use Rattle.sr_merge.proofs.WaitingLemmas.{waits_list}
 
 -- what is written in every run
 pub what_is_new_is_written : WhatIsNewIsWritten
-what_is_new_is_written [] m run = (run.0, ap (map packet_of) run.1)
-what_is_new_is_written (wrote p ∷ before) m (old, run, (sources, w, same, list)) =
+what_is_new_is_written [] m run = (run.0, ap packets_in run.1)
+what_is_new_is_written (wrote w ∷ before) m (old, run, (sources, list)) =
     let e = what_is_new_is_written before old run in (
       sources ∙ e.0,
-      append_assoc (written_in before) (p ∷ []) (map packet_of m.waiting)
-          ∙ ap (λ l. written_in before ++ l) (sym (ap (map packet_of) list ∙ ap (λ q. q ∷ map packet_of m.waiting) same))
+      append_assoc (written_in before) (w.packet ∷ []) (packets_in m.waiting)
+          ∙ ap (λ l. written_in before ++ l) (sym (ap packets_in list))
           ∙ e.1,
     )
 what_is_new_is_written (took x ∷ before) m (old, run, (named, taken)) =
@@ -74,8 +74,8 @@ what_is_new_is_written (took x ∷ before) m (old, run, (named, taken)) =
     let time = x.packet.came.time in
     let frame = x.packet.came.frame in (
       taken.sources ∙ ap (λ s. sources_told s time frame) e.0,
-      ap (λ l. written_in before ++ l) (waits_list (is_new old.sources time frame) x.packet old.waiting m.waiting taken.waiting)
-          ∙ sym (append_assoc (written_in before) (map packet_of old.waiting) (cond (is_new old.sources time frame) (x.packet ∷ []) []))
+      ap (λ l. written_in before ++ l) (ap packets_in taken.waiting ∙ waits_list (is_new old.sources time frame) x.packet old.waiting)
+          ∙ sym (append_assoc (written_in before) (packets_in old.waiting) (cond (is_new old.sources time frame) (x.packet ∷ []) []))
           ∙ ap (λ l. l ++ cond (is_new old.sources time frame) (x.packet ∷ []) []) e.1
           ∙ ap (λ s. news (reads before) ++ cond (is_new s time frame) (x.packet ∷ []) []) e.0,
     )
@@ -130,7 +130,7 @@ record Follows (xs : List Numbered) : Type 0 where
 
 follows : (turns : List MergeTurn) (m : Merging) → MergeRun turns m → Follows (reads turns)
 follows [] m run = record { turns = []; run = refl; notings = refl; late = refl; order = λ h. h }
-follows (wrote p ∷ before) m (old, run, rest) = follows before old run
+follows (wrote w ∷ before) m (old, run, rest) = follows before old run
 follows (took x ∷ before) m (old, run, (named, taken)) =
     let time = x.packet.came.time in
     let frame = x.packet.came.frame in
@@ -173,7 +173,7 @@ arrivals_noted (a ∷ xs) = ap (λ l. a ∷ l) (arrivals_noted xs)
 new_firsts : (turns : List MergeTurn) (m : Merging) → MergeRun turns m → AreInTime (arrivals_read (reads turns)) →
     AreSteady window (arrivals_read (reads turns)) → news (reads turns) ≡ firsts (reads turns)
 new_firsts [] m run order steady = refl
-new_firsts (wrote p ∷ before) m (old, run, rest) order steady = new_firsts before old run order steady
+new_firsts (wrote w ∷ before) m (old, run, rest) order steady = new_firsts before old run order steady
 new_firsts (took x ∷ before) m (old, run, (named, taken)) order steady =
     let time = x.packet.came.time in
     let frame = x.packet.came.frame in

@@ -1,3 +1,4 @@
 pub mod Limits
 pub mod Merging
+pub mod KeyLemmas
 pub mod MergeRuns

@@ -25,9 +25,8 @@ use Rattle.sr_dup_table.specs.Limits.{window}
 use Rattle.sr_dup_table.specs.Sources.{Sources}
 use Rattle.sr_dup_runs.specs.TableRuns.{Arrival, is_copy, AreSteady}
 use Rattle.sr_merge.specs.declared.came.FrameId.{FrameId}
-use Rattle.sr_merge.specs.declared.waiting.Waiting.{Waiting}
 use Rattle.sr_merge.specs.Limits.{millisecond}
-use Rattle.sr_merge.specs.Merging.{Read, packet_of, Merging, answer_for, is_new, sources_told, TakesIn}
+use Rattle.sr_merge.specs.Merging.{Read, Pending, Merging, answer_for, is_new, sources_told, TakesIn}
 
 -- a packet that was taken, and the whole number of its frame: none where it has no number, or where the record was full and could not tell
 pub record Numbered : Type 0 where
@@ -46,12 +45,12 @@ HasWhole s time (Some f) whole = IsNumber f (answer_for s f time) whole
 -- what happens to a merge: a packet is taken, or the first one that waits is written
 pub data MergeTurn : Type 0 where
   took : (x : Numbered) → MergeTurn
-  wrote : (p : Read) → MergeTurn
+  wrote : (w : Pending) → MergeTurn
 
 -- a turn leads from what was kept to what is
 abbrev pub Turns : Merging → MergeTurn → Merging → Type 0
 Turns old (took x) new = HasWhole old.sources x.packet.came.time x.packet.came.frame x.whole × TakesIn old x.packet new
-Turns old (wrote p) new = (new.sources ≡ old.sources) × (w : Waiting) × (packet_of w ≡ p) × (old.waiting ≡ w ∷ new.waiting)
+Turns old (wrote w) new = (new.sources ≡ old.sources) × (old.waiting ≡ w ∷ new.waiting)
 
 -- the turns lead a new merge to what it keeps
 abbrev pub MergeRun : List MergeTurn → Merging → Type 0
@@ -62,13 +61,17 @@ MergeRun (turn ∷ before) m = (old : Merging) × MergeRun before old × Turns o
 abbrev pub reads : List MergeTurn → List Numbered
 reads [] = []
 reads (took x ∷ before) = x ∷ reads before
-reads (wrote p ∷ before) = reads before
+reads (wrote w ∷ before) = reads before
 
 -- the packets that were written, in order
 abbrev pub written_in : List MergeTurn → List Read
 written_in [] = []
 written_in (took x ∷ before) = written_in before
-written_in (wrote p ∷ before) = written_in before ++ p ∷ []
+written_in (wrote w ∷ before) = written_in before ++ w.packet ∷ []
+
+-- the packets that wait
+abbrev pub packets_in : List Pending → List Read
+packets_in ws = map (λ w. w.packet) ws
 
 -- the numbered arrival that a packet is, if it is one; the record counts milliseconds
 abbrev pub arrival_as : ℕ → Option FrameId → Option ℤ → List Arrival
@@ -108,7 +111,7 @@ AreInTime (a ∷ before) = AreInTime before × (newest_arrival before ≤ a.time
 abbrev pub EachFrameIsWrittenOnce : Type 0
 EachFrameIsWrittenOnce = (turns : List MergeTurn) (m : Merging) → MergeRun turns m → AreInTime (arrivals_read (reads turns)) →
     AreSteady window (arrivals_read (reads turns)) →
-    written_in turns ++ map packet_of m.waiting ≡ firsts (reads turns)
+    written_in turns ++ packets_in m.waiting ≡ firsts (reads turns)
 
 -- what the record knows after some packets
 abbrev pub known_after : List Numbered → Sources
@@ -124,4 +127,4 @@ news (x ∷ before) =
 -- in every run what was written and what waits are the packets that the record answers as new
 abbrev pub WhatIsNewIsWritten : Type 0
 WhatIsNewIsWritten = (turns : List MergeTurn) (m : Merging) → MergeRun turns m →
-    (m.sources ≡ known_after (reads turns)) × (written_in turns ++ map packet_of m.waiting ≡ news (reads turns))
+    (m.sources ≡ known_after (reads turns)) × (written_in turns ++ packets_in m.waiting ≡ news (reads turns))

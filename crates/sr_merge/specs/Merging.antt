@@ -2,27 +2,30 @@
 use Rattle.std.specs.Prelude.{
   ◌≡◌,
   ℕ,
+  ◌+◌,
   ◌-◌,
   ◌/◌,
-  ◌<◌,
+  ◌%◌,
+  ◌^◌,
   Bool,
   true,
   false,
   ◌&&◌,
+  ◌||◌,
   nat_eq,
   nat_lt,
+  zero,
+  suc,
   List,
   [],
   ◌∷◌,
   ◌++◌,
-  length,
-  set,
-  slice_index_or,
   Option,
   None,
   Some,
   if◌then◌else◌,
 }
+use Rattle.std.specs.HashMap.{HashMap, get}
 use Rattle.sr_frame.specs.Addresses.{mac_eq}
 use Rattle.sr_dup_window.specs.declared.lane_sets.Lane.TheVariants.{H}
 use Rattle.sr_dup_window.specs.declared.lane_sets.Lanes.{Lanes}
@@ -32,7 +35,9 @@ use Rattle.sr_dup_table.specs.Sources.{Sources}
 use Rattle.sr_dup_table.specs.Ageing.{TableArrival, answer_to, left_by}
 use Rattle.sr_audit.specs.declared.side.Side.{Side}
 use Rattle.sr_audit.specs.declared.side.Side.TheVariants.{A, B}
+use Rattle.sr_audit.specs.Lanes.{other_side}
 use Rattle.sr_merge.specs.declared.came.Came.{Came}
+use Rattle.sr_merge.specs.declared.came.FrameAt.{FrameAt}
 use Rattle.sr_merge.specs.declared.came.FrameId.{FrameId}
 use Rattle.sr_merge.specs.declared.packet.Packet.{Packet}
 use Rattle.sr_merge.specs.declared.waiting.Verdict.{Verdict}
@@ -52,49 +57,93 @@ pub record Read : Type 0 where
 abbrev pub read_of : Packet → Read
 read_of p = record { came = p.came; number = p.number; is_astray = p.is_astray; octets = p.front.now ++ p.back.now }
 
--- the packet that waits
+-- a packet that waits, and whether a copy of it came by the other side
+pub record Pending : Type 0 where
+  pub packet : Read
+  pub is_met : Bool
+
 abbrev pub packet_of : Waiting → Read
 packet_of w = record { came = w.came; number = w.number; is_astray = w.is_astray; octets = w.octets.items }
+
+abbrev pub pending_of : Waiting → Pending
+pending_of w = record { packet = packet_of w; is_met = w.is_met }
+
+-- a packet of which no copy came yet
+abbrev pub unmet : Read → Pending
+unmet p = record { packet = p; is_met = false }
 
 -- what a merge keeps: what the duplicate record knows, and the packets that were not written yet, in the order in which they came
 pub record Merging : Type 0 where
   pub sources : Sources
-  pub waiting : List Waiting
+  pub waiting : List Pending
 
 -- the first of the packets that wait
-abbrev pub next_written : List Waiting → Option Waiting
+abbrev pub next_written : List Pending → Option Pending
 next_written [] = None
 next_written (w ∷ rest) = Some w
 
--- the two sides of a network
-abbrev pub are_both_sides : Side → Side → Bool
-are_both_sides A A = false
-are_both_sides A B = true
-are_both_sides B A = true
-are_both_sides B B = false
+abbrev pub is_same_side : Side → Side → Bool
+is_same_side A A = true
+is_same_side A B = false
+is_same_side B A = false
+is_same_side B B = true
 
--- a packet of this frame
-abbrev pub is_same_frame : FrameId → Option FrameId → Bool
-is_same_frame f None = false
-is_same_frame f (Some own) = nat_eq own.seq.0 f.seq.0 && mac_eq own.src f.src
+-- whether these are copies of one frame by one side
+abbrev pub at_eq : FrameAt → FrameAt → Bool
+at_eq x y = mac_eq x.frame.src y.frame.src && (nat_eq x.frame.seq.0 y.frame.seq.0 && is_same_side x.side y.side)
 
--- a packet that comes now is a copy of one that waits: of one frame, by the other side and less than 400 ms behind it
-abbrev pub is_late_copy : Came → FrameId → Waiting → Bool
-is_late_copy came f w = is_same_frame f w.came.frame && (are_both_sides w.came.side came.side && nat_lt (came.time - w.came.time) copy_time)
+-- the frame of a packet and its side, where it has a number
+abbrev pub frame_at : Side → Option FrameId → Option FrameAt
+frame_at side None = None
+frame_at side (Some f) = Some (record { frame = f; side = side })
+
+-- whether a packet is a copy of this frame by this side
+abbrev pub is_copy_at : Option FrameAt → FrameAt → Bool
+is_copy_at None key = false
+is_copy_at (Some own) key = at_eq own key
+
+abbrev pub is_copy_of : FrameAt → Pending → Bool
+is_copy_of key w = is_copy_at (frame_at w.packet.came.side w.packet.came.frame) key
+
+-- one place farther, or here where none is farther
+abbrev pub farther : Bool → Option ℕ → Option ℕ
+farther here (Some at) = Some (at + 1)
+farther true None = Some 0
+farther false None = None
+
+-- the place of the newest copy of a frame by a side
+abbrev pub newest_copy : FrameAt → List Pending → Option ℕ
+newest_copy key [] = None
+newest_copy key (w ∷ ws) = farther (is_copy_of key w) (newest_copy key ws)
+
+-- a packet, of which a copy comes at this time by the other side: it counts within 400 ms
+abbrev pub met : ℕ → Pending → Pending
+met time w = record w { is_met = w.is_met || nat_lt (time - w.packet.came.time) copy_time }
+
+-- a copy comes of the packet at a place
+abbrev pub meet : ℕ → ℕ → List Pending → List Pending
+meet time at [] = []
+meet time zero (w ∷ ws) = met time w ∷ ws
+meet time (suc at) (w ∷ ws) = w ∷ meet time at ws
+
+abbrev pub meet_at : ℕ → Option ℕ → List Pending → List Pending
+meet_at time None ws = ws
+meet_at time (Some at) ws = meet time at ws
+
+-- a copy that is not written is noted at the newest copy of its frame by the other side that waits
+abbrev pub copy_noted : Came → Option FrameId → List Pending → List Pending
+copy_noted came None ws = ws
+copy_noted came (Some f) ws = meet_at came.time (newest_copy (record { frame = f; side = other_side came.side }) ws) ws
 
 -- by which sides a packet came, if that is known when one comes at this time
-abbrev pub verdict_by : ℕ → Waiting → Option FrameId → Option Verdict
+abbrev pub verdict_by : ℕ → Pending → Option FrameId → Option Verdict
 verdict_by now w None = Some verdict.Unnumbered
 verdict_by now w (Some f) = if w.is_met
     then Some verdict.Both
-    else (if nat_lt (now - w.came.time) copy_time then None else Some verdict.Alone)
+    else (if nat_lt (now - w.packet.came.time) copy_time then None else Some verdict.Alone)
 
-abbrev pub verdict_of : ℕ → Waiting → Option Verdict
-verdict_of now w = verdict_by now w w.came.frame
-
--- the packet with a copy by the other side
-abbrev pub met : Waiting → Waiting
-met w = record w { is_met = true }
+abbrev pub verdict_of : ℕ → Pending → Option Verdict
+verdict_of now w = verdict_by now w w.packet.came.frame
 
 -- what the duplicate record is shown of a copy: whether its frame was handed up, in milliseconds
 abbrev pub shown_arrival : FrameId → ℕ → TableArrival
@@ -119,33 +168,35 @@ abbrev pub sources_told : Sources → ℕ → Option FrameId → Sources
 sources_told s time None = s
 sources_told s time (Some f) = left_by window (answer_for s f time) s (shown_arrival f time)
 
--- at this place a packet waits that a packet that comes now is a copy of
-abbrev pub IsCopyAt : Came → FrameId → List Waiting → ℕ → Type 0
-IsCopyAt came f ws at = (at < length ws) × ((d : Waiting) → is_late_copy came f (slice_index_or ws at d) ≡ true)
-
--- no packet waits that a packet that comes now is a copy of
-abbrev pub HasNoCopy : Came → FrameId → List Waiting → Type 0
-HasNoCopy came f ws = (at : ℕ) (d : Waiting) → at < length ws → is_late_copy came f (slice_index_or ws at d) ≡ false
-
--- the packet at a place has a copy by the other side now; without a place there is none to have it
-abbrev pub MeetsAt : Came → FrameId → Option ℕ → List Waiting → List Waiting → Type 0
-MeetsAt came f None old new = HasNoCopy came f old × (new ≡ old)
-MeetsAt came f (Some at) old new = IsCopyAt came f old at × ((d : Waiting) → new ≡ set old at (met (slice_index_or old at d)))
-
--- a packet that is not written is a copy of one that waits, if there is such a one
-abbrev pub IsMet : Came → Option FrameId → List Waiting → List Waiting → Type 0
-IsMet came None old new = new ≡ old
-IsMet came (Some f) old new = (at : Option ℕ) × MeetsAt came f at old new
-
--- a packet that is written waits behind all others, and no copy of it came yet
-abbrev pub Keeps : Read → List Waiting → List Waiting → Type 0
-Keeps p old new = (w : Waiting) × (packet_of w ≡ p) × (w.is_met ≡ false) × (new ≡ old ++ w ∷ [])
-
-abbrev pub WaitsIf : Bool → Read → List Waiting → List Waiting → Type 0
-WaitsIf true p old new = Keeps p old new
-WaitsIf false p old new = IsMet p.came p.came.frame old new
+-- a packet that is written waits behind all others; any other is noted
+abbrev pub waiting_behind : Bool → Read → List Pending → List Pending
+waiting_behind true p ws = ws ++ unmet p ∷ []
+waiting_behind false p ws = copy_noted p.came p.came.frame ws
 
 -- a packet is taken
 pub record TakesIn (old : Merging) (p : Read) (new : Merging) : Type 0 where
   pub sources : new.sources ≡ sources_told old.sources p.came.time p.came.frame
-  pub waiting : WaitsIf (is_new old.sources p.came.time p.came.frame) p old.waiting new.waiting
+  pub waiting : new.waiting ≡ waiting_behind (is_new old.sources p.came.time p.came.frame) p old.waiting
+
+-- where a packet is noted that waits at a place, when so many are gone: their sum in 64 bits
+abbrev pub noted_place : ℕ → Option ℕ → Option ℕ
+noted_place gone None = None
+noted_place gone (Some at) = Some ((gone + at) % 2 ^ 64)
+
+-- of each frame and side the place of the newest copy is noted
+abbrev pub HasPlaces : {S : Type 0} → ℕ → HashMap FrameAt ℕ S → List Pending → Type 0
+HasPlaces gone map ws = (key : FrameAt) → get at_eq map key ≡ noted_place gone (newest_copy key ws)
+
+-- a place is noted at a frame and a side
+abbrev pub PutsPlace : {S : Type 0} → FrameAt → ℕ → HashMap FrameAt ℕ S → HashMap FrameAt ℕ S → Type 0
+PutsPlace own place old new = (key : FrameAt) → get at_eq new key ≡ (if at_eq own key then Some place else get at_eq old key)
+
+-- what is left of what is noted, where this place is forgotten
+abbrev pub unless_place : ℕ → Option ℕ → Option ℕ
+unless_place place None = None
+unless_place place (Some at) = if nat_eq at place then None else Some at
+
+-- a place is forgotten at a frame and a side
+abbrev pub ForgetsPlace : {S : Type 0} → FrameAt → ℕ → HashMap FrameAt ℕ S → HashMap FrameAt ℕ S → Type 0
+ForgetsPlace own place old new = (key : FrameAt) → get at_eq new key
+    ≡ (if at_eq own key then unless_place place (get at_eq old key) else get at_eq old key)

@@ -2,10 +2,10 @@
 #![tactic(auto)]
 
 mod came;
-mod finding;
 mod laws;
 mod merge;
 mod packet;
+mod queue;
 mod waiting;
 
 pub use came::{Came, FrameId};

@@ -1,20 +1,20 @@
 //! The merge: packets are taken one by one in the order of their times, and wait for their verdict in that order.
 
-ghost use Rattle.std.specs.Prelude.{◌≡◌, ◌++◌, true, Some, is_some, IfOk, OnOk, OnErr};
+ghost use Rattle.std.specs.Prelude.{◌≡◌, ◌++◌, true, Some, is_some, IfOk, OnOk};
 ghost use Rattle.sr_slots.specs.Places.{IsFound};
 ghost use Rattle.sr_dup_table.specs.Limits.{window};
+ghost use Rattle.sr_dup_table.specs.Sources.{is_ready};
 ghost use Rattle.sr_merge.specs.Merging.{answer_for, sources_told};
 
-use crate::came::{Came, FrameId};
-use crate::finding::newest_copy;
+use crate::came::FrameId;
 use crate::packet::Packet;
+use crate::queue::Queue;
 use crate::waiting::Waiting;
 use sr_dup_table::DupTable;
 use sr_dup_window::{Lane, Lanes};
 use sr_frame::NoMemory;
 use sr_slots::{Keys, Spot};
 use std::alloc::Global;
-use std::collections::VecDeque;
 use std::marker::Model;
 
 /// The nanoseconds of a millisecond.
@@ -22,9 +22,6 @@ const MILLISECOND: u64 = 1_000_000;
 
 /// Once so many packets wait, the first one is to be written without a verdict (choice of this project).
 pub const MOST_WAITING: usize = 262_144;
-
-/// How many hints there are of where frames wait.
-const HINTS: usize = 65_536;
 
 /// The most lists of octets that are used again.
 const MOST_SPARE: usize = 4096;
@@ -34,11 +31,7 @@ const MOST_SPARE: usize = 4096;
 pub struct Merge {
     alloc: Global,
     table: DupTable,
-    waiting: VecDeque<Waiting>,
-    // Where the frame of a place waits, counted from the first packet that ever waited. A hint may be wrong.
-    hints: Vec<u64>,
-    // How many packets waited and were dropped.
-    gone: u64,
+    queue: Queue,
     // How many packets were taken as they came, since the table was full.
     untold: u64,
     spare: Vec<Vec<u8>>,
@@ -53,46 +46,38 @@ impl Model for Merge {
 
     ghost view = { λ m. record {
       sources = m.table.sources;
-      waiting = m.waiting.items;
+      waiting = m.queue;
     } };
 
     ghost invariant = { λ m. m.table.width ≡ window };
 }
 
-/// The place of the hint of a frame.
-fn hint_of(frame: FrameId) -> usize {
-    let [_, _, _, _, high, low] = frame.src.0;
-    let address = u16::from(high)
-        .wrapping_mul(256)
-        .wrapping_add(u16::from(low));
-    usize::from(address.wrapping_mul(40_503) ^ frame.seq.0)
-}
-
-/// Notes a copy that the table can take.
-fn note(table: &mut DupTable, spot: Option<Spot>, frame: FrameId, time: u64) -> Result<(), NoMemory>
-    requires width { table.old.width ≡ window }
-    requires spot { IsFound spot table.old.sources frame.src }
-    requires told { is_some (answer_for table.old.sources frame time) ≡ true }
-    ensures width { table.new.width ≡ window }
-    ensures sources { OnOk result (table.new.sources
-        ≡ sources_told table.old.sources time (Some frame)) }
-    ensures err { OnErr result (table.new.sources ≡ table.old.sources) }
+/// Makes the table ready for a copy that it can take. Nothing that shows changes.
+fn make_ready(table: &mut DupTable, spot: Option<Spot>, frame: FrameId) -> Result<(), NoMemory>
+    requires { IsFound spot table.old.sources frame.src }
+    ensures width { table.new.width ≡ table.old.width }
+    ensures sources { table.new.sources ≡ table.old.sources }
+    ensures ready { OnOk result (is_ready table.new.held table.new.sources frame.src ≡ true) }
 {
     if spot.is_none() {
         table.reserve(frame.src)?;
     }
+    Ok(())
+}
+
+/// Notes a copy that the table can take.
+fn note(table: &mut DupTable, spot: Option<Spot>, frame: FrameId, time: u64)
+    requires width { table.old.width ≡ window }
+    requires spot { IsFound spot table.old.sources frame.src }
+    requires ready { is_ready table.old.held table.old.sources frame.src ≡ true }
+    requires told { is_some (answer_for table.old.sources frame time) ≡ true }
+    ensures width { table.new.width ≡ window }
+    ensures sources { table.new.sources ≡ sources_told table.old.sources time (Some frame) }
+{
     let now = time / MILLISECOND;
     table
         .arrive_at(spot, frame.src, frame.seq, Lanes::H, now)
         .unwrap();
-    Ok(())
-}
-
-/// So many hints of nothing.
-fn hints_of(alloc: Global, count: usize) -> Result<Vec<u64>, NoMemory> {
-    let mut hints = Vec::with_capacity(alloc, count)?;
-    hints.resize(count, 0)?;
-    Ok(hints)
 }
 
 /// An empty list with room for so many.
@@ -111,9 +96,9 @@ fn joined(mut list: Vec<u8>, front: &[u8], back: &[u8]) -> Result<Vec<u8>, NoMem
 }
 
 impl Merge {
-    ghost use Rattle.std.specs.Prelude.{◌≡◌, ◌↔◌, ◌<◌, ◌≤◌, ◌++◌, ◌∷◌, [], length, drop, true, false, None, Some, IfOk, OnOk, OnErr, IfSome, IfNone, is_some};
+    ghost use Rattle.std.specs.Prelude.{◌≡◌, ◌↔◌, ◌++◌, ◌∷◌, [], length, drop, true, None, Some, IfOk, OnOk, OnErr, IfSome, is_some};
     ghost use Rattle.sr_slots.specs.Places.{IsFound};
-    ghost use Rattle.sr_merge.specs.Merging.{next_written, read_of, packet_of, answer_for, sources_told, HasNoCopy, IsCopyAt, IsMet, TakesIn, Keeps};
+    ghost use Rattle.sr_merge.specs.Merging.{next_written, read_of, pending_of, unmet, copy_noted, answer_for, sources_told, TakesIn};
 
     /// Nothing came in yet.
     ///
@@ -123,14 +108,11 @@ impl Merge {
         ensures sources { IfOk result (λ merge. merge.sources ≡ []) }
         ensures waiting { IfOk result (λ merge. merge.waiting ≡ []) }
     {
-        let hints = hints_of(alloc, HINTS)?;
         let spare = spare_of(alloc, MOST_SPARE)?;
         Ok(Merge {
             alloc,
             table: DupTable::with_keys(alloc, keys),
-            waiting: VecDeque::new(alloc),
-            hints,
-            gone: 0,
+            queue: Queue::new(alloc, keys),
             untold: 0,
             spare,
         })
@@ -140,7 +122,7 @@ impl Merge {
     pub fn len(&self) -> usize
         ensures { result ≡ length self.now.waiting }
     {
-        self.waiting.len()
+        self.queue.len()
     }
 
     /// How many packets were taken as they came, since 1024 other sources were live.
@@ -151,9 +133,10 @@ impl Merge {
     /// The packet that is to be written next.
     pub fn front(&self) -> Option<&Waiting>
         ensures none { result ≡ None ↔ (next_written self.now.waiting ≡ None) }
-        ensures some { IfSome result (λ w. next_written self.now.waiting ≡ Some w.now) }
+        ensures some { IfSome result (λ w.
+            next_written self.now.waiting ≡ Some (pending_of w.now)) }
     {
-        self.waiting.front()
+        self.queue.front()
     }
 
     /// Drops the packet that was written.
@@ -161,20 +144,18 @@ impl Merge {
         ensures sources { self.new.sources ≡ self.old.sources }
         ensures waiting { self.new.waiting ≡ drop 1 self.old.waiting }
     {
-        if let Some(written) = self.waiting.pop_front() {
-            self.gone = self.gone.wrapping_add(1);
-            if self.spare.len() < self.spare.capacity() {
-                let Waiting { octets, .. } = written;
-                self.spare.push_reserved(octets);
-            }
+        if let Some(written) = self.queue.pop()
+            && self.spare.len() < self.spare.capacity()
+        {
+            let Waiting { octets, .. } = written;
+            self.spare.push_reserved(octets);
         }
     }
 
     /// What is kept of a packet. Nothing that shows changes.
     fn kept(&mut self, packet: Packet<'_>) -> Result<Waiting, NoMemory>
         ensures same { self.new ≡ self.old }
-        ensures packet { IfOk result (λ w. packet_of w ≡ read_of packet.entry) }
-        ensures alone { IfOk result (λ w. w.is_met ≡ false) }
+        ensures unmet { IfOk result (λ w. pending_of w ≡ unmet (read_of packet.entry)) }
     {
         let list = match self.spare.pop() {
             Some(list) => list,
@@ -193,14 +174,12 @@ impl Merge {
     /// Has a packet wait of which no earlier copy can be told.
     fn keep(&mut self, packet: Packet<'_>) -> Result<(), NoMemory>
         ensures sources { self.new.sources ≡ self.old.sources }
-        ensures kept { OnOk result
-            (Keeps (read_of packet.entry) self.old.waiting self.new.waiting) }
+        ensures kept { OnOk result (self.new.waiting
+            ≡ self.old.waiting ++ unmet (read_of packet.entry) ∷ []) }
         ensures err { OnErr result (self.new ≡ self.old) }
     {
         let waiting = self.kept(packet)?;
-        self.waiting.reserve(1)?;
-        self.waiting.push_back_reserved(waiting);
-        Ok(())
+        self.queue.push(waiting)
     }
 
     /// Has the first copy of a frame wait, and notes it.
@@ -214,57 +193,36 @@ impl Merge {
         requires told { is_some (answer_for self.old.sources frame packet.came.time) ≡ true }
         ensures sources { OnOk result (self.new.sources
             ≡ sources_told self.old.sources packet.entry.came.time (Some frame)) }
-        ensures kept { OnOk result
-            (Keeps (read_of packet.entry) self.old.waiting self.new.waiting) }
+        ensures kept { OnOk result (self.new.waiting
+            ≡ self.old.waiting ++ unmet (read_of packet.entry) ∷ []) }
         ensures err { OnErr result (self.new ≡ self.old) }
     {
         let waiting = self.kept(packet)?;
-        self.waiting.reserve(1)?;
-        note(&mut self.table, spot, frame, packet.came.time)?;
-        self.waiting.push_back_reserved(waiting);
-        self.set_hint(frame);
+        make_ready(&mut self.table, spot, frame)?;
+        self.queue.push(waiting)?;
+        note(&mut self.table, spot, frame, packet.came.time);
         Ok(())
     }
 
-    /// Notes where the frame waits that was put last.
-    fn set_hint(&mut self, frame: FrameId)
-        ensures { self.new ≡ self.old }
+    /// Notes a copy that is not written, at the record and at the packet that it is a copy of.
+    fn note_copy(
+        &mut self,
+        packet: Packet<'_>,
+        frame: FrameId,
+        spot: Option<Spot>,
+    ) -> Result<(), NoMemory>
+        requires spot { IsFound spot self.old.sources frame.src }
+        requires told { is_some (answer_for self.old.sources frame packet.came.time) ≡ true }
+        ensures sources { OnOk result (self.new.sources
+            ≡ sources_told self.old.sources packet.entry.came.time (Some frame)) }
+        ensures noted { OnOk result (self.new.waiting
+            ≡ copy_noted packet.entry.came (Some frame) self.old.waiting) }
+        ensures err { OnErr result (self.new ≡ self.old) }
     {
-        let last = (self.waiting.len() as u64).wrapping_sub(1);
-        let place = self.gone.wrapping_add(last);
-        if let Some(hint) = self.hints.get_mut(hint_of(frame)) {
-            *hint = place;
-        }
-    }
-
-    /// The place that the hint of a frame names.
-    fn hinted(&self, frame: FrameId) -> usize {
-        match self.hints.get(hint_of(frame)) {
-            Some(hint) => hint.wrapping_sub(self.gone) as usize,
-            None => usize::MAX,
-        }
-    }
-
-    /// The place of a packet that one that comes now is a copy of: that of its hint, or the newest one.
-    fn find(&self, came: Came, frame: FrameId) -> Option<usize>
-        ensures some { IfSome result (λ at. IsCopyAt came frame self.now.waiting at) }
-        ensures none { IfNone result (HasNoCopy came frame self.now.waiting) }
-    {
-        let at = self.hinted(frame);
-        if at < self.waiting.len() && self.waiting[at].is_met_by(came, frame) {
-            return Some(at);
-        }
-        newest_copy(&self.waiting, came, frame)
-    }
-
-    /// Notes a copy that is not written at the packet that it is a copy of.
-    fn meet(&mut self, came: Came, frame: FrameId)
-        ensures sources { self.new.sources ≡ self.old.sources }
-        ensures met { IsMet came (Some frame) self.old.waiting self.new.waiting }
-    {
-        if let Some(at) = self.find(came, frame) {
-            self.waiting[at].is_met = true;
-        }
+        make_ready(&mut self.table, spot, frame)?;
+        note(&mut self.table, spot, frame, packet.came.time);
+        self.queue.note(packet.came, frame);
+        Ok(())
     }
 
     /// Takes a copy of a frame.
@@ -280,12 +238,10 @@ impl Merge {
             return Ok(());
         };
         if look.fresh.has(Lane::H) {
-            self.keep_first(packet, frame, look.spot)?;
-            return Ok(());
+            self.keep_first(packet, frame, look.spot)
+        } else {
+            self.note_copy(packet, frame, look.spot)
         }
-        note(&mut self.table, look.spot, frame, packet.came.time)?;
-        self.meet(packet.came, frame);
-        Ok(())
     }
 
     /// Takes a packet. It waits to be written where it has no number, where no earlier copy of its frame is known, or where 1024 other

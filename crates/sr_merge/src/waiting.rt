@@ -1,10 +1,9 @@
 //! Packets that wait until it is known by which sides their frames came.
 
 ghost use Rattle.std.specs.Prelude.{◌≡◌};
-ghost use Rattle.sr_merge.specs.Merging.{are_both_sides, is_late_copy, verdict_of};
+ghost use Rattle.sr_merge.specs.Merging.{pending_of, verdict_of};
 
-use crate::came::{Came, FrameId};
-use sr_audit::Side;
+use crate::came::Came;
 
 /// A copy that comes so many nanoseconds behind the first one, or later, is no longer waited for: 400 ms, as long as a silent source
 /// is remembered (choice of this project).
@@ -36,35 +35,10 @@ pub struct Waiting {
     pub octets: Vec<u8>,
 }
 
-/// Whether two sides are the two of a network.
-fn is_apart(own: Side, other: Side) -> bool
-    ensures { result ≡ are_both_sides own other }
-{
-    match (own, other) {
-        (Side::A, Side::B) | (Side::B, Side::A) => true,
-        (Side::A, Side::A) | (Side::B, Side::B) => false,
-    }
-}
-
 impl Waiting {
-    /// Whether a packet that comes now is a copy of its frame, by the other side and in time.
-    pub(crate) fn is_met_by(&self, came: Came, frame: FrameId) -> bool
-        ensures { result ≡ is_late_copy came frame self.now }
-    {
-        match self.came.frame {
-            Some(own) => {
-                own.seq.0 == frame.seq.0
-                    && is_apart(self.came.side, came.side)
-                    && came.time.saturating_sub(self.came.time) < COPY_TIME
-                    && own.src == frame.src
-            }
-            None => false,
-        }
-    }
-
     /// By which sides it came, if that is known when a packet comes at this time. None: a copy may come yet.
     pub fn verdict(&self, now: u64) -> Option<Verdict>
-        ensures { result ≡ verdict_of now self.now }
+        ensures { result ≡ verdict_of now (pending_of self.now) }
     {
         if self.came.frame.is_none() {
             Some(Verdict::Unnumbered)

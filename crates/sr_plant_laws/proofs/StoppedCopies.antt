@@ -21,7 +21,7 @@ use Rattle.sr_plant_laws.specs.PlantEvents.{Plant, opening, PlantRun, done_in}
 use Rattle.sr_plant_laws.specs.Steadiness.{is_arrival_at}
 use Rattle.sr_plant_laws.specs.Tables.{AreAsked, is_kept_back, GoesWhereNew, Notes, MemberRun}
 use Rattle.sr_plant_laws.proofs.ExampleLemmas.{few, addressed, lanes_are, by_port, is_none_of, table_after}
-use Rattle.sr_plant_laws.specs.Examples.{mac, each_one, is_noted, lanes_noted, f, sent, first_copy, second_copy, copy_to}
+use Rattle.sr_plant_laws.specs.Examples.{mac, each_one, lanes_noted, f, sent, first_copy, second_copy, copy_to}
 use Rattle.sr_plant_laws.specs.RingParts.{onward}
 use Rattle.sr_plant_laws.specs.Rings.{ring, danh_routes}
 use Rattle.sr_plant_laws.specs.RingLaws.{RingPremises}

@@ -1,26 +1,24 @@
 -- Two rings, and ways through any rings.
-use Rattle.std.proofs.Common.{◌≡◌, ℕ, zero, suc, ◌+◌, ◌-◌, ◌<◌, ◌≤◌, ◌⊎◌, inl, inr, Bool, true, false, not, ◌&&◌, ◌||◌, List, [], ◌∷◌, map, arith, refl, sym, ap, ◌∙◌, subst}
-use Rattle.std.proofs.lemmas.Bool.{cases_Bool, ne_eqb, and_parts, and_from, or_cases, or_left, or_right, not-true, eqb-true, eq-eqb, ltb-true, ltb-false, lt-ltb, le-ltb, true≢false}
+use Rattle.std.proofs.Common.{◌≡◌, ℕ, zero, suc, ◌+◌, ◌-◌, ◌<◌, ◌≤◌, ◌⊎◌, inl, inr, true, false, not, ◌&&◌, List, [], ◌∷◌, map, arith, refl, sym, ap, ◌∙◌, subst}
+use Rattle.std.proofs.lemmas.Bool.{cases_Bool, ne_eqb, and_parts, and_from, or_left, or_right, not-true, eqb-true, eq-eqb, ltb-true, ltb-false, lt-ltb, le-ltb, true≢false}
 use Rattle.std.specs.Prelude.{◌==◌, nat_lt}
-use Rattle.sr_frame.specs.declared.fields.Mac.{Mac}
 use Rattle.sr_frame.specs.declared.ports.Port.{Port}
 use Rattle.sr_frame.specs.declared.ports.Port.TheVariants.{H, A, B, C}
-use Rattle.sr_dup_window.specs.declared.lane_sets.Lanes.{Lanes}
-use Rattle.sr_plant_laws.specs.Lists.{One, Each}
+use Rattle.sr_plant_laws.specs.Lists.{One}
 use Rattle.sr_plant_laws.specs.Ports.{is_at, is_side}
 use Rattle.sr_plant_laws.specs.Frames.{is_only, is_for, Frame}
 use Rattle.sr_plant_laws.specs.Handlings.{Handling, is_sending, IsSent, AreConsistent}
-use Rattle.sr_plant_laws.specs.OneNode.{Bars, bars_of, Routes, IsRouted, IsSound, WasPut, CameIn, ComesIn, AreExact}
-use Rattle.sr_plant_laws.specs.Ledger.{Hop, Net, PlantTurn, handlings, LedgerRun, IsOpen}
+use Rattle.sr_plant_laws.specs.OneNode.{Bars, bars_of, Routes, WasPut, CameIn, ComesIn, AreExact}
+use Rattle.sr_plant_laws.specs.Ledger.{Hop, Net, PlantTurn, handlings, LedgerRun}
 use Rattle.sr_plant_laws.specs.PlantEvents.{Plant, IsQuiet, History, turns, done_in}
 use Rattle.sr_plant_laws.specs.Ideal.{IsIdeal, IsHanded}
 use Rattle.sr_plant_laws.specs.RingParts.{Way, onward, backward, out_of, in_to, RingPart, IsRingPart, SendsRound, IsQuietRing, IsBeside, CameRound, IsWhole}
-use Rattle.sr_plant_laws.specs.Rings.{ring, beyond, danh_routes, ring_part}
-use Rattle.sr_plant_laws.specs.Ways.{interlink_of, AreJoined, SendsOver, box_routes}
-use Rattle.sr_plant_laws.specs.TwoRings.{Part, round, over, LeadsOver, IsWholeWay, TwoShape, all_members, is_left, is_right, is_joined, AreJoins, over_hops, shifted}
-use Rattle.sr_plant_laws.specs.TwoRings.{two_rings, two_rings_routes, left_ring, right_ring, rings_of, TwoRingsRun, TwoRingsPremises, LosesNothingOverRings, JoinsLeadOver}
+use Rattle.sr_plant_laws.specs.Rings.{ring, beyond, danh_routes}
+use Rattle.sr_plant_laws.specs.Ways.{interlink_of, SendsOver, box_routes}
+use Rattle.sr_plant_laws.specs.TwoRings.{Part, round, over, IsWholeWay, TwoShape, all_members, is_left, is_right, is_joined, AreJoins, over_hops, shifted}
+use Rattle.sr_plant_laws.specs.TwoRings.{two_rings, two_rings_routes, left_ring, right_ring, rings_of, TwoRingsRun, LosesNothingOverRings, JoinsLeadOver}
 use Rattle.sr_plant_laws.specs.TwoRings.{TwoRingsHandUpTheIdeal, TwoRingsLoseNothing}
-use Rattle.sr_plant_laws.specs.ListLemmas.{each_map, one_is, one_each}
+use Rattle.sr_plant_laws.specs.ListLemmas.{each_map}
 use Rattle.sr_plant_laws.proofs.FrameLemmas.{as_sending}
 use Rattle.sr_plant_laws.proofs.HostLemmas.{IsUpward, danh_up, hands_up_ideal, hands_up_once}
 use Rattle.sr_plant_laws.proofs.OneNodeLemmas.{claimed, goes, handed_up}
@@ -483,7 +481,7 @@ module _ (s : TwoShape) (bars : Bars) (es : History) (p : Plant) (r : TwoRingsRu
       from B outside came = inl refl
       from C outside came = inr (refl, joined came)
 
-  nothing_lost : LosesNothingOverRings s es
+  pub nothing_lost : LosesNothingOverRings s es
   nothing_lost f j ideal (part, here, inside, (parts, whole)) =
       elim (cases_Bool (is_only f.src f.dest)) [
         | inl self ↦ absurd (true≢false (sym (eq-eqb j f.src (sym (only_one f.src j f.dest self ideal.for))) ∙ ideal.other))

@@ -7,9 +7,9 @@ use Rattle.sr_frame.specs.declared.ports.Port.TheVariants.{H, A, B, C}
 use Rattle.sr_dup_window.specs.declared.lane_sets.Lanes.{Lanes}
 use Rattle.sr_plant_laws.specs.Lists.{Each}
 use Rattle.sr_plant_laws.specs.Frames.{is_only, Frame}
-use Rattle.sr_plant_laws.specs.Handlings.{Handling, IsSent}
-use Rattle.sr_plant_laws.specs.OneNode.{Bars, Routes, AreExact, IsSound, IsRouted}
-use Rattle.sr_plant_laws.specs.Ledger.{Place, Hop, Net, PlantTurn, made_in, lost_in}
+use Rattle.sr_plant_laws.specs.Handlings.{Handling}
+use Rattle.sr_plant_laws.specs.OneNode.{Routes, IsSound, IsRouted}
+use Rattle.sr_plant_laws.specs.Ledger.{Hop, Net, made_in, lost_in}
 use Rattle.sr_plant_laws.specs.PlantEvents.{Plant, IsQuiet, History, turns, done_in, PlantRun}
 use Rattle.sr_plant_laws.specs.Ideal.{IsIdeal, IsHanded, AreIdeal, AreOnce}
 use Rattle.sr_plant_laws.specs.RingParts.{Way, RingPart, IsWhole}

@@ -2,14 +2,12 @@
 use Rattle.std.specs.Prelude.{◌≡◌, ◌↔◌, ℕ, ◌+◌, ◌-◌, ◌<◌, ◌≤◌, nat_lt, Bool, true, false, not, ◌&&◌, ◌||◌, ◌==◌}
 use Rattle.std.specs.Prelude.{List, [], ◌∷◌, map, if◌then◌else◌}
 use Rattle.sr_frame.specs.declared.fields.Mac.{Mac}
-use Rattle.sr_frame.specs.declared.ports.Port.{Port}
 use Rattle.sr_frame.specs.declared.ports.Port.TheVariants.{H, A, B, C}
 use Rattle.sr_dup_window.specs.declared.lane_sets.Lanes.{Lanes}
 use Rattle.sr_plant_laws.specs.Lists.{One, Each}
-use Rattle.sr_plant_laws.specs.Ports.{is_at}
-use Rattle.sr_plant_laws.specs.Frames.{is_only, Frame}
-use Rattle.sr_plant_laws.specs.Handlings.{Handling, IsSent}
-use Rattle.sr_plant_laws.specs.OneNode.{Routes, CameIn, IsSound, IsRouted}
+use Rattle.sr_plant_laws.specs.Frames.{Frame}
+use Rattle.sr_plant_laws.specs.Handlings.{Handling}
+use Rattle.sr_plant_laws.specs.OneNode.{Routes, IsSound, IsRouted}
 use Rattle.sr_plant_laws.specs.Ledger.{Hop, Net, PlantTurn, IsOpen}
 use Rattle.sr_plant_laws.specs.PlantEvents.{Plant, IsQuiet, History, turns, done_in, PlantRun}
 use Rattle.sr_plant_laws.specs.Ideal.{IsIdeal, IsHanded, AreIdeal, AreOnce}

@@ -89,6 +89,30 @@ const FORMS: &[Step] = &[
     ),
 ];
 
+/// The head of a packet of 1,048,560 octets at 1 s.
+const LITTLE_LARGE: Part = These(&[
+    1, 0, 0, 0, 0, 0, 0, 0, 0xF0, 0xFF, 0x0F, 0, 0xF0, 0xFF, 0x0F, 0,
+]);
+
+// What is passed over is taken 65536 octets at a time, each of which asks once.
+const LARGE_PACKETS: &[Step] = &[Step::Patient(
+    &[
+        LITTLE_MICRO,
+        LITTLE,
+        LITTLE_ETHERNET,
+        LITTLE_LARGE,
+        Times(65535, &[0; 16]),
+        LITTLE_AT_1500_MICRO,
+    ],
+    32,
+    &[These(b"# A 1 long\nin A 500 ef01\n# A 2 packets, 0 cut, 1 long, 0 empty\n")],
+)];
+
+#[test]
+fn large_packets_are_passed_over(rt: HostRuntime) {
+    expect_steps(&rt, LARGE_PACKETS);
+}
+
 #[test]
 fn orders_and_units_are_told(rt: HostRuntime) {
     expect_steps(&rt, FORMS);

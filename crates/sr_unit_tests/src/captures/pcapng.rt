@@ -104,6 +104,31 @@ const LENGTHS: &[Step] = &[Step::File(
     None,
 )];
 
+/// A block that says nothing here, of 1,048,572 octets.
+const LARGE: Part = These(&[5, 0, 0, 0, 0xFC, 0xFF, 0x0F, 0]);
+
+const LARGE_END: Part = These(&[0xFC, 0xFF, 0x0F, 0]);
+
+// A block far beyond what is at hand is taken 65536 octets at a time, each of which asks once.
+const LARGE_BLOCKS: &[Step] = &[Step::Patient(
+    &[
+        LITTLE,
+        ETHERNET,
+        AT_1,
+        LARGE,
+        Times(65535, &[0; 16]),
+        LARGE_END,
+        AT_1500,
+    ],
+    48,
+    BOTH,
+)];
+
+#[test]
+fn large_blocks_are_passed_over(rt: HostRuntime) {
+    expect_steps(&rt, LARGE_BLOCKS);
+}
+
 #[test]
 fn the_longest_frames_are_read(rt: HostRuntime) {
     expect_steps(&rt, LENGTHS);

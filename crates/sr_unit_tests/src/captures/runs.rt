@@ -1,7 +1,7 @@
 //! The runs. Each function keeps to itself what it owns, and answers whether all was as it had to be, or None for want
 //! of memory.
 
-use super::failing::{Broken, Narrow};
+use super::failing::{Broken, Impatient, Narrow};
 use super::texts::{Text, joined};
 use sr_capture::{CaptureFault, Reason};
 use sr_capture_script::{
@@ -268,6 +268,19 @@ pub fn is_narrow(alloc: Global, file: Text, room: usize, fails: bool) -> Option<
         Err(ScriptFault::Write) => Some(fails),
         other => Some(is_ended(other, None)? && !fails),
     }
+}
+
+/// Whether a reader that is asked at most so often, and has 65536 octets at hand, gives this script.
+pub fn is_patient(alloc: Global, file: Text, calls: usize, wanted: Text) -> Option<bool> {
+    let octets = joined(alloc, file)?;
+    let wanted = joined(alloc, wanted)?;
+    let reader = Impatient {
+        octets: &octets,
+        calls,
+    };
+    let mut written: Vec<u8> = Vec::new(alloc);
+    let outcome = script(alloc, Some(reader), None, None, &ALL, &mut written);
+    Some(is_ended(outcome, None)? && written.as_slice() == wanted.as_slice())
 }
 
 /// The next of numbers without order.

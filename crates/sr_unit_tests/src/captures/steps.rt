@@ -3,7 +3,7 @@
 use super::listing::{Lists, are_listed};
 use super::runs::{
     Ending, Ends, Files, Manner, PLAIN, are_broken, are_endured, are_fronts, are_prefixes,
-    is_narrow, is_script, is_taken_up, is_told,
+    is_narrow, is_patient, is_script, is_taken_up, is_told,
 };
 use super::texts::Text;
 use super::written::{Given, is_unwritten, is_written};
@@ -30,6 +30,8 @@ pub enum Step {
     Listed(Text, Ends, u64, Lists),
     /// The writer takes so many octets, and whether it then fails.
     Narrow(Text, usize, bool),
+    /// A file whose reader fails when it is asked for octets more often than this, and its script.
+    Patient(Text, usize, Text),
     /// A file in which octets are changed, one after the other, so many times.
     Endured(Text, u32),
     /// A file with these packets, and the last line of its script. Memory may be refused once.
@@ -64,6 +66,7 @@ fn comes(alloc: Global, step: Step) -> Option<bool> {
         Step::Broken(file, ends) => are_broken(alloc, file, ends),
         Step::Listed(file, ends, begin, lists) => are_listed(alloc, file, ends, begin, lists),
         Step::Narrow(file, room, fails) => is_narrow(alloc, file, room, fails),
+        Step::Patient(file, calls, wanted) => is_patient(alloc, file, calls, wanted),
         Step::Endured(file, count) => are_endured(alloc, file, count),
         Step::TakenUp(file, ends, last) => is_taken_up(alloc, file, ends, last),
         Step::Told(reason, text) => is_told(alloc, reason, text),

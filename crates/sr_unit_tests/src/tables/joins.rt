@@ -82,6 +82,21 @@ const FULL_TABLES: &[Step] = &[
     Count(One, 0),
 ];
 
+// No time is too late: a source that was heard behind 2^32 ms, which are 49.7 days, at 2^40 ms, and at the end of all time.
+const LATE_SOURCES: &[Step] = &[
+    Hear(Two, 2, 5, 4294967296),
+    Merge(One, Two, 4294967296, Joined),
+    Knows(One, 2, 5, 4294967695, true),
+    Hear(Two, 3, 5, 1099511627776),
+    Merge(One, Two, 1099511627776, Joined),
+    Count(One, 1),
+    Knows(One, 3, 5, 1099511627776, true),
+    Hear(Two, 4, 5, 18446744073709551615),
+    Merge(One, Two, 18446744073709551615, Joined),
+    Count(One, 1),
+    Knows(One, 4, 5, 18446744073709551615, true),
+];
+
 // A full table goes into one that lacks all its sources, the 1024th among them.
 const FULL_INTO_EMPTY: &[Step] = &[
     Fill(One, 0, 1024, 1000),
@@ -108,6 +123,11 @@ fn silent_sources(rt: HostRuntime) {
 #[test]
 fn apart_sources(rt: HostRuntime) {
     expect_steps(&rt, APART_SOURCES);
+}
+
+#[test]
+fn late_sources(rt: HostRuntime) {
+    expect_steps(&rt, LATE_SOURCES);
 }
 
 #[test]
