@@ -1,5 +1,7 @@
 //! A feed that may stop at any of its calls.
 
+ghost use Rattle.std.specs.Prelude.{◌≡◌};
+
 use sr_workers::{Feed, FeedFault, Given, Turn};
 use std::sync::atomic::{AtomicU64, Ordering};
 use std::sync::{Arc, Wait};
@@ -47,7 +49,10 @@ pub struct Hand {
 
 impl Hand {
     // The next frame of a flood is of another node.
-    fn turn_to_next(&mut self) {
+    fn turn_to_next(&mut self)
+        ensures failures { self.new.failures ≡ self.old.failures }
+        ensures asked { self.new.asked ≡ self.old.asked }
+    {
         if self.floods {
             let [high, low] = ((self.asked % 65536) as u16).to_be_bytes();
             self.frame[9] = high;
