@@ -82,40 +82,6 @@ static int falls(void) {
     return 0;
 }
 
-// Half of the allocations between two marks are to be refused, and none before or behind them.
-static int marked(void) {
-    int refused[3] = {0, 0, 0};
-    for (int part = 0; part < 3; part++) {
-        for (int i = 0; i < 10; i++) {
-            void *volatile block = malloc(1);
-            refused[part] += !block;
-            free(block);
-        }
-        void *volatile mark = malloc(12345);
-        if (!mark)
-            return 1;
-        free(mark);
-    }
-    return !(refused[0] == 0 && refused[1] == 5 && refused[2] == 0);
-}
-
-// The program: two lines, for each of which memory is asked for. The planted one prints a line that is none before its fault.
-static int prints(int planted) {
-    for (int i = 0; i < 2; i++) {
-        void *volatile block = malloc(1);
-        if (!block) {
-            if (planted)
-                puts("up");
-            fflush(stdout);
-            fputs("fault memory\n", stderr);
-            return 1;
-        }
-        puts("line");
-        free(block);
-    }
-    return 0;
-}
-
 static void *work(void *call) { return adds(call, 0) ? call : NULL; }
 
 static int on_a_thread(int (*call)(void)) {
@@ -137,11 +103,7 @@ int main(int count, char **words) {
         : !strcmp(name, "leaks") ? leaks()
         : !strcmp(name, "falls") ? falls()
         : !strcmp(name, "thread") ? on_a_thread(add)
-        : !strcmp(name, "thread_early") ? on_a_thread(add_early)
-        : !strcmp(name, "marked") ? marked()
-        : !strcmp(name, "prints") ? prints(0)
-        : !strcmp(name, "prints_early") ? prints(1) : 0;
-    fflush(stdout);
+        : !strcmp(name, "thread_early") ? on_a_thread(add_early) : 0;
     _exit(status);
 }
 """
@@ -188,29 +150,6 @@ class Refuse(unittest.TestCase):
 
     def test_a_change_before_a_refusal_in_a_thread_is_found(self):
         self.assertEqual(len(self.swept("thread_early").faults), 5)
-
-    def test_allocations_between_marks_alone_are_refused(self):
-        to = f"{self.room.name}/marked"
-        env = refuse.environment(self.library, "every 2", to, REFUSE_MARK="12345")
-        ran = subprocess.run([f"{self.room.name}/planted_tests", "marked"], env=env, check=False)
-        found = refuse.Found()
-        found.read(refuse.told(to))
-        self.assertEqual((ran.returncode, found.refused, found.asked), (0, 5, 10))
-
-    def case(self, word):
-        folder = Path(self.room.name) / "cases" / word
-        folder.mkdir(parents=True, exist_ok=True)
-        (folder / "args").write_text(f"{word}\n")
-        with mock.patch.object(refuse, "CASES", str(folder.parent)):
-            return refuse.sweep_case(f"{self.room.name}/planted_tests", word, self.library, self.room.name)
-
-    def test_a_front_of_the_output_and_a_fault_passes(self):
-        found = self.case("prints")
-        self.assertEqual(found.faults, [])
-        self.assertGreaterEqual(found.refused, 2)
-
-    def test_an_output_that_is_no_front_is_found(self):
-        self.assertIn("no front of the output", " ".join(self.case("prints_early").faults))
 
     def told(self, listed, words=()):
         listing = Path(self.room.name) / "refused.txt"

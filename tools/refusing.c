@@ -6,8 +6,6 @@
 //     at N       the Nth alone
 //     every K    each Kth
 //
-// With REFUSE_MARK nothing is counted or refused until an allocation of so many octets, nor from the next such one on, and so on.
-//
 // What it found goes to the file that REFUSE_TO names: 'refused N of M' and 'live B' (the blocks that were never freed) at the end
 // of the run, 'at N' and how it ended for a child that did not end well or left blocks, 'threads N' where it came to a second
 // thread. A child has REFUSE_SECONDS, and at most REFUSE_MOST are made: half of them one after another, then fewer and fewer.
@@ -34,10 +32,10 @@ extern void __libc_free(void *block);
 
 enum way { NONE, EACH, AT, EVERY };
 static enum way way;
-static long number, mark, seconds = 10, most = 4000;
+static long number, seconds = 10, most = 4000;
 static int to = -1;
 static atomic_long asked, refused, live, children, next_child = 1, child_at;
-static atomic_int has_threads, is_off;
+static atomic_int has_threads;
 
 // Writes a line without the allocator.
 static void tell(const char *format, ...) {
@@ -61,8 +59,6 @@ __attribute__((constructor)) static void begin(void) {
         return;
     seconds = number_of("REFUSE_SECONDS", seconds);
     most = number_of("REFUSE_MOST", most);
-    mark = number_of("REFUSE_MARK", 0);
-    atomic_store(&is_off, mark != 0);
     to = file ? open(file, O_WRONLY | O_CREAT | O_APPEND | O_CLOEXEC, 0666) : -1;
     if (sscanf(word, "at %ld", &number) == 1)
         way = AT;
@@ -128,10 +124,8 @@ static int is_child(long at) {
     return 0;
 }
 
-static int is_refused(size_t size) {
-    if (mark && size == (size_t)mark)
-        atomic_fetch_xor(&is_off, 1);
-    if (way == NONE || atomic_load(&is_off) || (mark && size == (size_t)mark))
+static int is_refused(void) {
+    if (way == NONE)
         return 0;
     long at = atomic_fetch_add(&asked, 1) + 1;
     int is = way == AT ? at == number : way == EVERY ? at % number == 0 : is_child(at);
@@ -148,16 +142,16 @@ static void *counted(void *block) {
     return block;
 }
 
-void *malloc(size_t size) { return is_refused(size) ? NULL : counted(__libc_malloc(size)); }
+void *malloc(size_t size) { return is_refused() ? NULL : counted(__libc_malloc(size)); }
 
-void *calloc(size_t count, size_t size) { return is_refused(count * size) ? NULL : counted(__libc_calloc(count, size)); }
+void *calloc(size_t count, size_t size) { return is_refused() ? NULL : counted(__libc_calloc(count, size)); }
 
-void *memalign(size_t align, size_t size) { return is_refused(size) ? NULL : counted(__libc_memalign(align, size)); }
+void *memalign(size_t align, size_t size) { return is_refused() ? NULL : counted(__libc_memalign(align, size)); }
 
 void *aligned_alloc(size_t align, size_t size) { return memalign(align, size); }
 
 void *realloc(void *block, size_t size) {
-    if (is_refused(size))
+    if (is_refused())
         return NULL;
     void *moved = __libc_realloc(block, size);
     return block ? moved : counted(moved);

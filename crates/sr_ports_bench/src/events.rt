@@ -17,8 +17,6 @@ const FRAME_LEN: usize = 66;
 pub enum Work {
     /// A frame comes in, and the host takes it out.
     Frame,
-    /// A frame of another node each time comes in, and the host takes it out.
-    Flood,
     /// The host sends a frame, and each LAN takes it out.
     Send,
     /// Time passes. No life check is sent but the first time.
@@ -31,7 +29,6 @@ pub enum Work {
 pub fn work_of(name: &str) -> Option<Work> {
     match name {
         "frame" => Some(Work::Frame),
-        "flood" => Some(Work::Flood),
         "send" => Some(Work::Send),
         "tick" => Some(Work::Tick),
         "take" => Some(Work::Take),
@@ -45,13 +42,10 @@ pub trait Subject {
     fn take(&mut self, event: &Event) -> bool;
 }
 
-/// A frame of this source to the node under this number, from LAN A.
-fn parcel_of(alloc: Global, source: u16, number: u16) -> Result<Parcel, ReadFault> {
+/// Another node's frame to the node under this number, from LAN A.
+fn parcel_of(alloc: Global, number: u16) -> Result<Parcel, ReadFault> {
     let mut octets = [0; FRAME_LEN];
     octets[..14].copy_from_slice(&[2, 0, 0, 0, 0, 1, 2, 0, 0, 0, 0, 2, 8, 0]);
-    let [above, below] = source.to_be_bytes();
-    octets[9] = above;
-    octets[10] = below;
     let [high, low] = number.to_be_bytes();
     octets[FRAME_LEN - 6..].copy_from_slice(&[high, low, 0xa0, 52, 0x88, 0xfb]);
     let framing = PrpFraming {
@@ -73,12 +67,7 @@ fn event_of(alloc: Global, work: Work, number: u16) -> Option<Event> {
     match work {
         Work::Frame => Some(Event::Arrive {
             port: Port::A,
-            parcel: parcel_of(alloc, 0, number).ok()?,
-            now: 0,
-        }),
-        Work::Flood => Some(Event::Arrive {
-            port: Port::A,
-            parcel: parcel_of(alloc, number, 0).ok()?,
+            parcel: parcel_of(alloc, number).ok()?,
             now: 0,
         }),
         Work::Send => Some(Event::Send {
@@ -99,7 +88,7 @@ fn taken<S: Subject>(subject: &mut S, port: Port) -> u64 {
 fn once<S: Subject>(subject: &mut S, work: Work, event: &Event) -> u64 {
     let first = u64::from(subject.take(event));
     match work {
-        Work::Frame | Work::Flood => first.saturating_add(taken(subject, Port::H)),
+        Work::Frame => first.saturating_add(taken(subject, Port::H)),
         Work::Send => {
             let second = taken(subject, Port::A);
             first
@@ -135,15 +124,14 @@ fn segments_of<L: Ledger>(
     Some(segments)
 }
 
-/// Has a subject do this work so often and then close its journal so many times. How many events were answered.
+/// Has a subject enter so many ticks and then close its journal so many times. How many ticks were answered.
 pub fn rotated<L: Ledger>(
     alloc: Global,
     subject: &mut Entered<L>,
-    work: Work,
     entries: u32,
     times: u32,
 ) -> Option<u64> {
-    let count = done(alloc, subject, work, entries)?;
+    let count = done(alloc, subject, Work::Tick, entries)?;
     drop(segments_of(alloc, subject, times)?);
     Some(count)
 }

@@ -1,21 +1,18 @@
-//! Work to be measured from outside. `sr_ports_bench alone|copied|entered|locked frame|flood|send|tick|take TIMES` has a node take
+//! Work to be measured from outside. `sr_ports_bench alone|copied|entered|locked frame|send|tick|take TIMES` has a node take
 //! events of one kind so many times. `sr_ports_bench rotated ENTRIES TIMES` enters so many ticks, and then closes the journal so
-//! many times. `sr_ports_bench soaked SEED EVENTS` has a node behind a lock and a node alone take the same events, drawn by chance, and
-//! compares them, for `./refuse`. What comes before the work is the same for any number of times, so two runs tell what one time costs.
+//! many times. What comes before the work is the same for any number of times, so two runs tell what one time costs.
 #![tactic(auto)]
 
 ghost use Rattle.std.specs.Prelude.{◌≡◌};
 
 mod events;
-mod soak;
 mod ways;
 
 use events::{Subject, Work, done, rotated, work_of};
-use soak::{Behind, soaked};
 use sr_forwarding::Danp;
 use sr_frame::Mac;
 use sr_node::NodeOf;
-use sr_ports::{Kept, Log, SharedNode, Worker};
+use sr_ports::{Kept, SharedNode};
 use std::alloc::Global;
 use std::marker::Brand;
 use std::process::ExitCode;
@@ -53,10 +50,6 @@ enum Plan {
     Locked(Work),
     /// So many ticks are entered, and the journal is closed.
     Rotated(u32),
-    /// So many frames of new nodes are entered, and the journal is closed.
-    Flooded(u32),
-    /// Events of this seed are taken by two nodes.
-    Soaked(u64),
 }
 
 /// The plan of these words.
@@ -67,8 +60,6 @@ fn plan_of(way: &str, work: &str) -> Option<Plan> {
         "entered" => Some(Plan::Entered(work_of(work)?)),
         "locked" => Some(Plan::Locked(work_of(work)?)),
         "rotated" => Some(Plan::Rotated(work.parse().ok()?)),
-        "flooded" => Some(Plan::Flooded(work.parse().ok()?)),
-        "soaked" => Some(Plan::Soaked(work.parse().ok()?)),
         _ => None,
     }
 }
@@ -107,13 +98,7 @@ fn has_done<R: Wait>(
         Plan::Locked(work) => {
             enters_under_lock::<Brand, R>(rt, alloc, node, Blank::new(5), work, times)
         }
-        Plan::Soaked(seed) => soaks::<Brand, R>(rt, alloc, node, Blank::new(5), seed, times),
-        Plan::Rotated(entries) => {
-            rotates::<Brand>(alloc, node, Blank::new(5), Work::Tick, entries, times)
-        }
-        Plan::Flooded(entries) => {
-            rotates::<Brand>(alloc, node, Blank::new(5), Work::Flood, entries, times)
-        }
+        Plan::Rotated(entries) => rotates::<Brand>(alloc, node, Blank::new(5), entries, times),
     }
 }
 
@@ -160,12 +145,11 @@ fn enters_under_lock<L: Ledger, R: Wait>(
     }
 }
 
-/// The node gets a journal of this work, done so often, which is closed so many times.
+/// The node gets a journal of so many ticks, which is closed so many times.
 fn rotates<L: Ledger>(
     alloc: Global,
     node: NodeOf<Danp>,
     blank: Blank,
-    work: Work,
     entries: u32,
     times: u32,
 ) -> Option<u64>
@@ -176,33 +160,9 @@ fn rotates<L: Ledger>(
     match Kept::<Danp, L>::new(alloc, node, blank) {
         Ok((kept, passes)) => {
             let mut subject = Entered { kept, passes };
-            let count = rotated(alloc, &mut subject, work, entries, times);
+            let count = rotated(alloc, &mut subject, entries, times);
             drop(subject);
             count
-        }
-        Err(_) => None,
-    }
-}
-
-/// The node, behind a lock, and another one take so many events.
-fn soaks<L: Ledger, R: Wait>(
-    rt: &R,
-    alloc: Global,
-    node: NodeOf<Danp>,
-    blank: Blank,
-    seed: u64,
-    events: u32,
-) -> Option<u64>
-    requires name { blank.name ≡ L.name }
-    requires parts { blank.parts ≡ L.parts }
-    requires five { L.parts ≡ 5 }
-{
-    let other = NodeOf::new(alloc, Danp::new(OWN)).ok()?;
-    match SharedNode::<Danp, L>::new(alloc, node, blank) {
-        Ok((shared, passes)) => {
-            let log = Log::new(alloc, Worker::Host);
-            let pass = passes.host;
-            soaked(rt, alloc, Behind { shared, pass, log }, other, seed, events)
         }
         Err(_) => None,
     }

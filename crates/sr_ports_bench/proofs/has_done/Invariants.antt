@@ -8,6 +8,3 @@ ghosts-enters_under_lock g a = record { name = a.blank.name; parts = a.blank.par
 
 abbrev pub ghosts-rotates : goal.ghosts-rotates
 ghosts-rotates g a = record { name = a.blank.name; parts = a.blank.parts }
-
-abbrev pub ghosts-soaks : goal.ghosts-soaks
-ghosts-soaks g a = record { name = a.blank.name; parts = a.blank.parts }
