@@ -21,10 +21,20 @@ handed_of h (Host f) = h f
 handed_of h (Ring c) = frames_of c.ends.take.frames
 handed_of h (Lan l) = []
 
+abbrev pub asked_of : {F : Type 0} → (F → ℕ) → Line F → ℕ
+asked_of n (Host f) = n f
+asked_of n (Ring c) = c.counts.asked
+asked_of n (Lan l) = 0
+
 abbrev pub given_of : {F : Type 0} → (F → List (List ℕ)) → Line F → List (List ℕ)
 given_of g (Host f) = g f
 given_of g (Ring c) = c.ends.send.frames
 given_of g (Lan l) = []
+
+abbrev pub losses_of : {F : Type 0} → (F → ℕ) → Line F → ℕ
+losses_of n (Host f) = n f
+losses_of n (Ring c) = c.counts.lost
+losses_of n (Lan l) = l.counts.lost
 
 abbrev pub ended_of : {F : Type 0} → (F → Bool) → Line F → Bool
 ended_of e (Host f) = e f

@@ -1,8 +1,7 @@
 //! Two wires between a port and its neighbour's.
 
-ghost use Rattle.std.specs.Prelude.{◌≡◌, ◌++◌, ◌<◌, IfOk, OnErr};
-ghost use Rattle.sr_lines.specs.Losses.{lost_after};
-ghost use Rattle.sr_workers.specs.Told.{put_of};
+ghost use Rattle.std.specs.Prelude.{◌≡◌, ◌++◌, ◌<◌, ◌≤◌, IfOk, OnErr};
+ghost use Rattle.sr_workers.specs.Told.{put_of, lost_after};
 
 use crate::Ends;
 use crate::counts::Counts;
@@ -52,8 +51,10 @@ impl Cable {
         ensures lost { IfOk result (λ g. self.new.counts.lost
             ≡ lost_after self.old.counts.lost g) }
         ensures kept { OnErr result (self.new.counts.lost ≡ self.old.counts.lost) }
+        ensures asked { self.new.counts.asked ≡ self.old.counts.asked }
         ensures ended { self.new.counts.ended ≡ self.old.counts.ended }
         ensures failed { OnErr result (self.old.counts.failures < self.new.counts.failures) }
+        ensures counted { self.old.counts.failures ≤ self.new.counts.failures }
     {
         match Frame::copy(self.alloc, octets) {
             Ok(frame) => match self.ends.put(rt, frame) {
@@ -80,23 +81,37 @@ impl Feed for Cable {
     ghost use Rattle.std.specs.Prelude.{true};
     ghost use Rattle.sr_lines.specs.Handed.{frames_of};
 
+    ghost Name = { Unit {0} };
+
+    ghost name = { λ _. tt };
+
     ghost tells = { λ _. true };
 
     ghost handed = { λ c. frames_of c.ends.take.frames };
 
+    ghost asked = { λ c. c.counts.asked };
+
     ghost given = { λ c. c.ends.send.frames };
+
+    ghost losses = { λ c. c.counts.lost };
 
     ghost ended = { λ c. c.counts.ended };
 
     ghost failed = { λ c. c.counts.failures };
 
     fn next<W: Wait>(&mut self, rt: &W, into: &mut Vec<u8>) -> Result<Turn, FeedFault> {
+        // Nobody comes there: it would take 2^64 turns.
+        if self.counts.asked == u64::MAX {
+            self.counts.end();
+            return Ok(Turn::End);
+        }
         into.clear();
         if into.reserve(MAX_FRAME_LEN).is_err() {
             self.counts.fail()?;
             self.counts.end();
             return Ok(Turn::End);
         }
+        self.counts.asked += 1;
         match self.ends.take_next(rt) {
             None => Ok(Turn::Idle),
             Some(frame) => {

@@ -1,7 +1,7 @@
 //! What a line counts.
 
 ghost use Rattle.std.specs.Prelude.{◌≡◌, ◌+◌, ◌^◌, OnOk, OnErr, true};
-ghost use Rattle.sr_lines.specs.Losses.{lost_after};
+ghost use Rattle.sr_workers.specs.Told.{lost_after};
 
 use sr_workers::{FeedFault, Given};
 
@@ -10,6 +10,8 @@ use sr_workers::{FeedFault, Given};
 pub(crate) struct Counts {
     /// How often it failed.
     pub(crate) failures: u64,
+    /// How many turns it answered before its end.
+    pub(crate) asked: u64,
     /// How many frames were lost, up to the greatest number.
     pub(crate) lost: u64,
     /// It has answered `End`.
@@ -20,6 +22,7 @@ impl Counts {
     /// Nothing was counted yet.
     pub(crate) const NONE: Counts = Counts {
         failures: 0,
+        asked: 0,
         lost: 0,
         ended: false,
     };
@@ -28,6 +31,7 @@ impl Counts {
     pub(crate) fn fail(&mut self) -> Result<(), FeedFault>
         ensures ok { OnOk result (self.new.failures ≡ self.old.failures) }
         ensures err { OnErr result (self.new.failures ≡ self.old.failures + 1) }
+        ensures asked { self.new.asked ≡ self.old.asked }
         ensures lost { self.new.lost ≡ self.old.lost }
         ensures ended { self.new.ended ≡ self.old.ended }
     {
@@ -42,6 +46,7 @@ impl Counts {
     pub(crate) fn count(&mut self, given: Given)
         ensures lost { self.new.lost ≡ lost_after self.old.lost given }
         ensures failures { self.new.failures ≡ self.old.failures }
+        ensures asked { self.new.asked ≡ self.old.asked }
         ensures ended { self.new.ended ≡ self.old.ended }
     {
         match given {
@@ -54,6 +59,7 @@ impl Counts {
     pub(crate) fn end(&mut self)
         ensures ended { self.new.ended ≡ true }
         ensures failures { self.new.failures ≡ self.old.failures }
+        ensures asked { self.new.asked ≡ self.old.asked }
         ensures lost { self.new.lost ≡ self.old.lost }
     {
         self.ended = true;

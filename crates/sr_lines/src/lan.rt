@@ -1,7 +1,7 @@
 //! The wires between a port and those of all other nodes of a LAN.
 
-ghost use Rattle.std.specs.Prelude.{◌≡◌, ◌+◌, ◌<◌, OnOk, OnErr, IfOk};
-ghost use Rattle.sr_lines.specs.Losses.{lost_after};
+ghost use Rattle.std.specs.Prelude.{◌≡◌, ◌+◌, ◌<◌, ◌≤◌, OnOk, OnErr, IfOk};
+ghost use Rattle.sr_workers.specs.Told.{lost_after};
 
 use crate::Ends;
 use crate::counts::Counts;
@@ -88,6 +88,7 @@ impl Lan {
         ensures lost { self.new.counts.lost ≡ self.old.counts.lost }
         ensures ended { self.new.counts.ended ≡ self.old.counts.ended }
         ensures err { OnErr result (self.old.counts.failures < self.new.counts.failures) }
+        ensures counted { self.old.counts.failures ≤ self.new.counts.failures }
     {
         let mut all = true;
         for at in 0..self.ends.len() {
@@ -106,6 +107,7 @@ impl Lan {
         ensures kept { OnErr result (self.new.counts.lost ≡ self.old.counts.lost) }
         ensures ended { self.new.counts.ended ≡ self.old.counts.ended }
         ensures failed { OnErr result (self.old.counts.failures < self.new.counts.failures) }
+        ensures counted { self.old.counts.failures ≤ self.new.counts.failures }
     {
         match self.give_all(rt, octets) {
             Ok(true) => Ok(Given::Put),
@@ -121,11 +123,19 @@ impl Lan {
 impl Feed for Lan {
     ghost use Rattle.std.specs.Prelude.{false, []};
 
+    ghost Name = { Unit {0} };
+
+    ghost name = { λ _. tt };
+
     ghost tells = { λ _. false };
 
     ghost handed = { λ _. [] };
 
+    ghost asked = { λ _. 0 };
+
     ghost given = { λ _. [] };
+
+    ghost losses = { λ c. c.counts.lost };
 
     ghost ended = { λ c. c.counts.ended };
 

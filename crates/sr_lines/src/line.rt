@@ -33,13 +33,21 @@ impl<F: Feed> Line<F> {
 }
 
 impl<F: Feed> Feed for Line<F> {
-    ghost use Rattle.sr_lines.specs.Handed.{tells_of, handed_of, given_of, ended_of, failed_of};
+    ghost use Rattle.sr_lines.specs.Handed.{tells_of, handed_of, asked_of, given_of, losses_of, ended_of, failed_of};
+
+    ghost Name = { Unit {0} };
+
+    ghost name = { λ _. tt };
 
     ghost tells = { tells_of F.tells };
 
     ghost handed = { handed_of F.handed };
 
+    ghost asked = { asked_of F.asked };
+
     ghost given = { given_of F.given };
+
+    ghost losses = { losses_of F.losses };
 
     ghost ended = { ended_of F.ended };
 

@@ -78,11 +78,19 @@ impl Host {
 impl Feed for Host {
     ghost use Rattle.std.specs.Prelude.{[], false};
 
+    ghost Name = { Unit {0} };
+
+    ghost name = { λ _. tt };
+
     ghost tells = { λ _. false };
 
     ghost handed = { λ _. [] };
 
+    ghost asked = { λ _. 0 };
+
     ghost given = { λ _. [] };
+
+    ghost losses = { λ _. 0 };
 
     ghost ended = { λ _. false };
 

@@ -1,7 +1,6 @@
 -- What a turn brings.
-use Rattle.std.proofs.Common.{◌≡◌, ◌≢◌, ◌≤◌, ℕ, ◌+◌, List, [], ◌∷◌, ◌++◌, length, Option, Some, None, Bool, true, false, refl, sym, ap, ◌∙◌, subst, arith, append-nil, append_assoc, length-append, rules, true≢false}
+use Rattle.std.proofs.Common.{◌≡◌, ◌≢◌, ℕ, ◌+◌, List, [], ◌∷◌, ◌++◌, None, Bool, true, false, refl, sym, ap, ◌∙◌, subst, arith, append-nil, true≢false}
 use Rattle.std.specs.Prelude.{MatchBool, ◌↔◌, if◌then◌else◌}
-use Rattle.sr_frame.specs.declared.ports.Port.{Port}
 use Rattle.sr_frame.specs.declared.ports.Port.TheVariants as port
 use Rattle.sr_forwarding.specs.declared.fault.ReadFault.{ReadFault}
 use Rattle.sr_forwarding.specs.declared.fault.ReadFault.TheVariants.{NoMemory}
@@ -20,8 +19,8 @@ use Rattle.sr_workers.specs.declared.feed.Given.{Given}
 use Rattle.sr_workers.specs.declared.becoming.Becoming.{Becoming}
 use Rattle.sr_workers.specs.declared.becoming.Becoming.TheVariants as becoming
 use Rattle.sr_node.specs.Answers.{IsAnswerOf, SaysTaken}
-use Rattle.sr_workers.specs.Told.{Told, Framed, Timed, told_of, put_of}
-use Rattle.sr_workers.specs.Work.{Became, entered, unread, GivesEach, unwritten, gave, IsEventOf, IsOwn, brought_by, parcel_in, none_in, puts}
+use Rattle.sr_workers.specs.Told.{Told, Framed, Timed, told_of, put_of, lost_after}
+use Rattle.sr_workers.specs.Work.{Became, entered, unread, GivesEach, unwritten, gave, IsEventOf, IsOwn, brought_by, parcel_in, none_in}
 use Rattle.sr_workers.specs.Turns.{Brings, Becomes, Out}
 
 -- what was handed out is the worker's own, and no Take
@@ -160,14 +159,15 @@ pub brings_nothing : (w : Worker) (f : FramingImage) (turn : Turn) (octets : Lis
 brings_nothing w f turn octets b n ps u is becomes = nothing_at w f turn octets n ps u (subst (λ x. Becomes w f turn octets x) is becomes)
 
 -- a parcel was written, and given
-pub out_gave : (tells : Bool) (f : FramingImage) (p : ParcelImage) (g g' : List (List ℕ)) (given : Given) (q : ParcelImage) (old new octets : List ℕ) → q ≡ p → old ≡ [] → octets ≡ new → write_fault f q ≡ None → Appends f q old new → (tells ≡ true → g' ≡ g ++ put_of given octets) → Out tells f p g g'
-out_gave tells f p g g' given q old new octets view none is can written put =
+pub out_gave : (tells : Bool) (f : FramingImage) (p : ParcelImage) (g g' : List (List ℕ)) (n n' : ℕ) (given : Given) (q : ParcelImage) (old new octets : List ℕ) → q ≡ p → old ≡ [] → octets ≡ new → write_fault f q ≡ None → Appends f q old new → (tells ≡ true → g' ≡ g ++ put_of given octets) → n' ≡ lost_after n given → Out tells f p g g' n n'
+out_gave tells f p g g' n n' given q old new octets view none is can written put lost =
     let appends : Appends f p old new = subst (λ x. Appends f x old new) view written in
     let same : octets ≡ appends.written = is ∙ appends.appended ∙ ap (λ l. l ++ appends.written) none in
     record {
       gave = (given, octets) ∷ [];
       sends = gave p given octets [] [] (sym (ap (λ x. write_fault f x) view) ∙ can) (subst (λ x. IsWritten f p.form p x) (sym same) appends.is_written) GivesEach.nothing;
       given = λ tell. put tell ∙ ap (λ l. g ++ l) (sym (append-nil (put_of given octets)));
+      short = lost;
     }
 
 -- a parcel that was refused, and not for a failed allocation, can't be written
@@ -175,8 +175,9 @@ pub unwritable : (f : FramingImage) (p q : ParcelImage) (e : ReadFault) → q �
 unwritable f p q e view exact other none = other (exact.1 (ap (λ x. write_fault f x) view ∙ none))
 
 -- a parcel can't be written
-pub out_none : (tells : Bool) (f : FramingImage) (p : ParcelImage) (g : List (List ℕ)) → write_fault f p ≢ None → Out tells f p g g
-out_none tells f p g bare = record { gave = []; sends = unwritten p [] [] bare GivesEach.nothing; given = λ tell. sym (append-nil g) }
+pub out_none : (tells : Bool) (f : FramingImage) (p : ParcelImage) (g : List (List ℕ)) (n : ℕ) → write_fault f p ≢ None → Out tells f p g g n n
+out_none tells f p g n bare =
+    record { gave = []; sends = unwritten p [] [] bare GivesEach.nothing; given = λ tell. sym (append-nil g); short = refl }
 
 -- how often nothing was taken, by whether something was
 abbrev pub none_if : Bool → ℕ

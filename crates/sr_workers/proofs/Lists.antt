@@ -1,13 +1,13 @@
 -- What is said of lists side by side.
-use Rattle.std.proofs.Common.{◌≡◌, ◌≢◌, ◌≤◌, ℕ, ◌+◌, List, [], ◌∷◌, ◌++◌, length, Option, Some, None, refl, sym, ap, ◌∙◌, subst, arith, append-nil, append_assoc, rules}
+use Rattle.std.proofs.Common.{◌≡◌, ℕ, ◌+◌, List, [], ◌∷◌, ◌++◌, refl, sym, ap, ◌∙◌, subst, arith, append_assoc}
 use Rattle.sr_forwarding.specs.Parcels.{ParcelImage}
 use Rattle.sr_forwarding.specs.Framings.{FramingImage}
 use Rattle.sr_node.specs.declared.event.Event.{Event}
 use Rattle.sr_node.specs.declared.event.Answer.{Answer}
 use Rattle.sr_ports.specs.declared.worker.Worker.{Worker}
 use Rattle.sr_workers.specs.declared.feed.Given.{Given}
-use Rattle.sr_workers.specs.Told.{Told, put_of}
-use Rattle.sr_workers.specs.Work.{AreOwn, IsOwn, Became, entered, unread, GivesEach, unwritten, gave, brought_in, brought_by, parcels_in, parcel_in, nones_in, none_in, puts}
+use Rattle.sr_workers.specs.Told.{Told, put_of, lost_after}
+use Rattle.sr_workers.specs.Work.{AreOwn, Became, entered, unread, GivesEach, unwritten, gave, brought_in, brought_by, parcels_in, parcel_in, nones_in, puts, losses_after}
 
 pub brought-append : (xs ys : List (Event × Answer)) → brought_in (xs ++ ys) ≡ brought_in xs ++ brought_in ys
 brought-append [] ys = refl
@@ -24,6 +24,10 @@ nones_in-append (x ∷ xs) ys = omega (arith, nones_in-append xs ys)
 pub puts-append : (xs ys : List (Given × List ℕ)) → puts (xs ++ ys) ≡ puts xs ++ puts ys
 puts-append [] ys = refl
 puts-append (x ∷ xs) ys = ap (λ l. put_of x.0 x.1 ++ l) (puts-append xs ys) ∙ sym (append_assoc (put_of x.0 x.1) (puts xs) (puts ys))
+
+pub losses-append : (n : ℕ) (xs ys : List (Given × List ℕ)) → losses_after n (xs ++ ys) ≡ losses_after (losses_after n xs) ys
+losses-append n [] ys = refl
+losses-append n (x ∷ xs) ys = losses-append (lost_after n x.0) xs ys
 
 pub AreOwn-append : (w : Worker) (xs ys : List (Event × Answer)) → AreOwn w xs → AreOwn w ys → AreOwn w (xs ++ ys)
 AreOwn-append w [] ys p q = q

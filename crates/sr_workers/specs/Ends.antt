@@ -1,7 +1,5 @@
 -- Why a worker ends.
 use Rattle.std.specs.Prelude.{Option, None, Some}
-use Rattle.sr_frame.specs.declared.ports.Port.{Port}
-use Rattle.sr_node.specs.declared.fault.StepFault.{StepFault}
 use Rattle.sr_node.specs.declared.fault.StepFault.TheVariants.{Reading, Untagged, TableFull, OutboxFull, NoMemory}
 use Rattle.sr_ports.specs.declared.fault.EnterFault.{EnterFault}
 use Rattle.sr_ports.specs.declared.fault.EnterFault.TheVariants.{Step, JournalFull}

@@ -33,17 +33,20 @@ BringsTo whose count f turn octets p q =
     Brings (whose p.seat) f turn octets (count p.seat) (count q.seat) p.log.pairs.items q.log.pairs.items p.unread q.unread
 
 -- what shows of a post, by what shows of its seat and of its feed
-abbrev pub post_moment : {E F : Type 0} → (E → ℕ) → (F → List Told) → (F → List (List ℕ)) → Post E F → Moment
-post_moment count handed given p = moment (count p.seat) p.log.pairs.items (handed p.feed) (given p.feed) p.unread
+abbrev pub post_moment : {E F : Type 0} → (E → ℕ) → (F → List Told) → (F → ℕ) → (F → List (List ℕ)) → (F → ℕ) → (F → ℕ) → Post E F → Moment
+post_moment count handed asked given losses failed p =
+    moment (count p.seat) p.log.pairs.items (handed p.feed) (asked p.feed) (given p.feed) (losses p.feed) (failed p.feed) p.unread
 
 -- what the worker did from one moment to another
-abbrev pub Does : {E F : Type 0} → (E → Worker) → (E → ℕ) → (F → Bool) → (F → List Told) → (F → List (List ℕ))
-    → FramingImage → ℕ → Post E F → Post E F → Type 0
-Does whose count tells handed given f none p q =
-    Did (tells p.feed) (whose p.seat) f none [] [] (post_moment count handed given p) (post_moment count handed given q)
+abbrev pub Does : {E F : Type 0} → (E → Worker) → (E → ℕ) → (F → Bool) → (F → List Told) → (F → ℕ) → (F → List (List ℕ))
+    → (F → ℕ) → (F → ℕ) → FramingImage → ℕ → ℕ → Post E F → Post E F → Type 0
+Does whose count tells handed asked given losses failed f none asks p q =
+    Did (tells p.feed) (whose p.seat) f none asks [] []
+    (post_moment count handed asked given losses failed p) (post_moment count handed asked given losses failed q)
 
 -- what it did where it stops by a fault
-abbrev pub DoesLast : {E F : Type 0} → (E → Worker) → (E → ℕ) → (F → Bool) → (F → List Told) → (F → List (List ℕ))
-    → FramingImage → WorkerFault → Option ParcelImage → Post E F → Post E F → Type 0
-DoesLast whose count tells handed given f reason held p q =
-    DidLast (tells p.feed) (whose p.seat) f reason held 0 (post_moment count handed given p) (post_moment count handed given q)
+abbrev pub DoesLast : {E F : Type 0} → (E → Worker) → (E → ℕ) → (F → Bool) → (F → List Told) → (F → ℕ) → (F → List (List ℕ))
+    → (F → ℕ) → (F → ℕ) → FramingImage → WorkerFault → Option ParcelImage → Post E F → Post E F → Type 0
+DoesLast whose count tells handed asked given losses failed f reason held p q =
+    DidLast (tells p.feed) (whose p.seat) f reason held 0
+    (post_moment count handed asked given losses failed p) (post_moment count handed asked given losses failed q)

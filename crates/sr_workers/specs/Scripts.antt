@@ -28,3 +28,7 @@ will_tell s = all_told (drop s.next s.lines.items)
 
 abbrev pub was_given : Script → List (List ℕ)
 was_given s = s.given.items
+
+-- how many frames it was given and has not kept
+abbrev pub has_lost : Script → ℕ
+has_lost s = s.lost

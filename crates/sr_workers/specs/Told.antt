@@ -1,5 +1,5 @@
 -- What a feed tells.
-use Rattle.std.specs.Prelude.{ℕ, List, [], ◌∷◌}
+use Rattle.std.specs.Prelude.{ℕ, ◌+◌, ◌-◌, ◌^◌, min, List, [], ◌∷◌}
 use Rattle.sr_workers.specs.declared.feed.Turn.{Turn}
 use Rattle.sr_workers.specs.declared.feed.Turn.TheVariants as turn
 use Rattle.sr_workers.specs.declared.feed.Given.{Given}
@@ -17,6 +17,13 @@ told_of (turn.Tick now) octets = Timed now ∷ []
 told_of turn.Idle octets = []
 told_of turn.End octets = []
 
+-- a turn counts, but for the end
+abbrev pub turns_in : Turn → ℕ
+turns_in (turn.Frame now) = 1
+turns_in (turn.Tick now) = 1
+turns_in turn.Idle = 1
+turns_in turn.End = 0
+
 abbrev pub IsLastTurn : Turn → Type 0
 IsLastTurn (turn.Frame now) = ⊥
 IsLastTurn (turn.Tick now) = ⊥
@@ -27,3 +34,8 @@ IsLastTurn turn.End = Unit {0}
 abbrev pub put_of : Given → List ℕ → List (List ℕ)
 put_of given.Put octets = octets ∷ []
 put_of given.Lost octets = []
+
+-- how many frames are lost: one more where this one is, up to the greatest number
+abbrev pub lost_after : ℕ → Given → ℕ
+lost_after n given.Put = n
+lost_after n given.Lost = min (n + 1) (2 ^ 64 - 1)

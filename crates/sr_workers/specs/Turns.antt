@@ -1,13 +1,11 @@
 -- What a turn of a feed becomes, and what it brings.
-use Rattle.std.specs.Prelude.{◌≡◌, ◌≤◌, ◌⊎◌, ℕ, ◌+◌, Bool, true, List, [], ◌∷◌, ◌++◌, length, Option, Some, None, if◌then◌else◌}
+use Rattle.std.specs.Prelude.{◌≡◌, ℕ, ◌+◌, Bool, true, List, [], ◌∷◌, ◌++◌, length}
 use Rattle.sr_frame.specs.declared.ports.Port.{Port}
 use Rattle.sr_frame.specs.declared.ports.Port.TheVariants as port
 use Rattle.sr_forwarding.specs.Parcels.{ParcelImage}
 use Rattle.sr_forwarding.specs.Framings.{FramingImage}
-use Rattle.sr_forwarding.specs.Decoding.{IsRead}
-use Rattle.sr_forwarding.specs.Encoding.{write_fault}
 use Rattle.sr_node.specs.declared.event.Event.{Event}
-use Rattle.sr_node.specs.declared.event.Event.TheVariants.{Arrive, Send, Tick, Take}
+use Rattle.sr_node.specs.declared.event.Event.TheVariants.{Send, Tick}
 use Rattle.sr_node.specs.declared.event.Answer.{Answer}
 use Rattle.sr_ports.specs.declared.worker.Worker.{Worker}
 use Rattle.sr_ports.specs.declared.worker.Worker.TheVariants as who
@@ -16,8 +14,8 @@ use Rattle.sr_workers.specs.declared.feed.Turn.TheVariants as turn
 use Rattle.sr_workers.specs.declared.feed.Given.{Given}
 use Rattle.sr_workers.specs.declared.becoming.Becoming.{Becoming}
 use Rattle.sr_workers.specs.declared.becoming.Becoming.TheVariants as becoming
-use Rattle.sr_workers.specs.Told.{Told, told_of}
-use Rattle.sr_workers.specs.Work.{Became, GivesEach, IsArrivalAt, IsOwn, AreOwn, brought_in, parcels_in, nones_in, puts, IsFrameEvent}
+use Rattle.sr_workers.specs.Told.{told_of}
+use Rattle.sr_workers.specs.Work.{Became, GivesEach, IsArrivalAt, AreOwn, brought_in, parcels_in, nones_in, puts, losses_after}
 
 -- octets at a port are their arrival, or unread
 abbrev pub IsReadAt : FramingImage → Port → List ℕ → ℕ → Becoming → Type 0
@@ -73,8 +71,9 @@ pub record Brings (w : Worker) (f : FramingImage) (turn : Turn) (octets : List �
   pub taken : parcels_in pairs ≡ []
   pub nones : nones_in pairs ≡ 0
 
--- what a feed was given of a parcel
-pub record Out (tells : Bool) (f : FramingImage) (p : ParcelImage) (g g' : List (List ℕ)) : Type 0 where
+-- what a feed was given of a parcel, and how many are lost then
+pub record Out (tells : Bool) (f : FramingImage) (p : ParcelImage) (g g' : List (List ℕ)) (n n' : ℕ) : Type 0 where
   pub gave : List (Given × List ℕ)
   pub sends : GivesEach f (p ∷ []) gave
   pub given : tells ≡ true → g' ≡ g ++ puts gave
+  pub short : n' ≡ losses_after n gave

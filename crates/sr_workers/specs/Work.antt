@@ -1,5 +1,5 @@
 -- What a worker does.
-use Rattle.std.specs.Prelude.{◌≡◌, ◌≢◌, ◌≤◌, ◌⊎◌, ℕ, ◌+◌, Bool, true, List, [], ◌∷◌, ◌++◌, length, Option, Some, None}
+use Rattle.std.specs.Prelude.{◌≡◌, ◌≢◌, ◌≤◌, ◌<◌, ◌⊎◌, ℕ, ◌+◌, Bool, true, List, [], ◌∷◌, ◌++◌, length, Option, Some, None}
 use Rattle.sr_frame.specs.declared.ports.Port.{Port}
 use Rattle.sr_frame.specs.declared.ports.Port.TheVariants.{H, A, B, C}
 use Rattle.sr_forwarding.specs.Parcels.{ParcelImage}
@@ -15,7 +15,7 @@ use Rattle.sr_ports.specs.declared.worker.Worker.TheVariants as who
 use Rattle.sr_workers.specs.declared.fault.WorkerFault.{WorkerFault}
 use Rattle.sr_workers.specs.declared.fault.WorkerFault.TheVariants as fault
 use Rattle.sr_workers.specs.declared.feed.Given.{Given}
-use Rattle.sr_workers.specs.Told.{Told, Framed, Timed, put_of}
+use Rattle.sr_workers.specs.Told.{Told, Framed, Timed, put_of, lost_after}
 
 -- a worker serves a port: the host's serves H, and the Ager serves none
 abbrev pub ServesPort : Worker → Port → Type 0
@@ -112,16 +112,26 @@ abbrev pub puts : List (Given × List ℕ) → List (List ℕ)
 puts [] = []
 puts (x ∷ xs) = put_of x.0 x.1 ++ puts xs
 
--- what shows of a worker: how many events it entered, its log, what its feed handed out and put, and how much was unread
+-- how many are lost then, of so many before
+abbrev pub losses_after : ℕ → List (Given × List ℕ) → ℕ
+losses_after n [] = n
+losses_after n (x ∷ xs) = losses_after (lost_after n x.0) xs
+
+-- what shows of a worker: how many events it entered, its log, what its feed handed out and in how many turns, what it put, how many
+-- frames it lost and how often it failed, and how much was unread
 pub record Moment : Type 0 where
   pub count : ℕ
   pub pairs : List (Event × Answer)
   pub handed : List Told
+  pub asked : ℕ
   pub given : List (List ℕ)
+  pub losses : ℕ
+  pub failed : ℕ
   pub unread : ℕ
 
-abbrev pub moment : ℕ → List (Event × Answer) → List Told → List (List ℕ) → ℕ → Moment
-moment n ps h g u = record { count = n; pairs = ps; handed = h; given = g; unread = u }
+abbrev pub moment : ℕ → List (Event × Answer) → List Told → ℕ → List (List ℕ) → ℕ → ℕ → ℕ → Moment
+moment n ps h a g l k u =
+    record { count = n; pairs = ps; handed = h; asked = a; given = g; losses = l; failed = k; unread = u }
 
 -- the framing can write each of these parcels
 abbrev pub AreWritable : FramingImage → List ParcelImage → Type 0
@@ -130,8 +140,9 @@ AreWritable f (p ∷ ps) = (write_fault f p ≡ None) × AreWritable f ps
 
 -- From s to t the worker entered these events, each in its log, and none that is not its own. What its feed handed out became
 -- those that are no takes, but for what is lost. The parcels that it took out and can write were given to the feed as they are
--- written, but for those that are held. So many takes found nothing.
-pub record Did (tells : Bool) (w : Worker) (f : FramingImage) (none : ℕ) (held : List ParcelImage) (lost : List Told)
+-- written, but for those that are held; the feed counts as lost just those that it did not put. So many takes found nothing, and the
+-- feed answered so many turns.
+pub record Did (tells : Bool) (w : Worker) (f : FramingImage) (none asks : ℕ) (held : List ParcelImage) (lost : List Told)
     (s t : Moment) : Type 0 where
   pub pairs : List (Event × Answer)
   pub told : List Told
@@ -143,10 +154,13 @@ pub record Did (tells : Bool) (w : Worker) (f : FramingImage) (none : ℕ) (held
   pub own : AreOwn w pairs
   pub became : Became w f told (brought_in pairs) unread
   pub handed : tells ≡ true → t.handed ≡ s.handed ++ told ++ lost
+  pub asked : tells ≡ true → t.asked ≡ s.asked + asks
   pub counted : t.unread ≡ s.unread + unread
   pub taken : parcels_in pairs ≡ sent ++ held
   pub sends : GivesEach f sent gave
   pub given : tells ≡ true → t.given ≡ s.given ++ puts gave
+  pub short : t.losses ≡ losses_after s.losses gave
+  pub failures : s.failed ≤ t.failed
   pub writable : AreWritable f held
   pub nones : nones_in pairs ≡ none
 
@@ -163,18 +177,21 @@ abbrev pub parcels_held : Option ParcelImage → List ParcelImage
 parcels_held None = []
 parcels_held (Some p) = p ∷ []
 
--- a worker stops by a fault: one thing that was handed out is lost at most, and a parcel is held only where its feed failed
+-- a worker stops by a fault: one thing that was handed out is lost at most, a parcel is held only where its feed failed, and that is
+-- the fault only where it did
 pub record DidLast (tells : Bool) (w : Worker) (f : FramingImage) (reason : WorkerFault) (held : Option ParcelImage) (none : ℕ)
     (s t : Moment) : Type 0 where
   pub lost : List Told
-  pub did : Did tells w f none (parcels_held held) lost s t
+  pub asks : ℕ
+  pub did : Did tells w f none asks (parcels_held held) lost s t
   pub one : length lost ≤ 1
   pub only : reason ≢ fault.FeedFault → held ≡ None
+  pub failed : reason ≡ fault.FeedFault → s.failed < t.failed
 
--- the worker made so many rounds and no more than its turns, and these were all, or its feed has ended
+-- the worker made so many rounds, a turn of its feed each, and no more than its turns; these were all, or its feed has ended
 pub record Finished (tells : Bool) (w : Worker) (f : FramingImage) (turns : ℕ) (s t : Moment) (ended : Bool) : Type 0 where
   pub rounds : ℕ
-  pub did : Did tells w f (nones_of w rounds) [] [] s t
+  pub did : Did tells w f (nones_of w rounds) rounds [] [] s t
   pub few : rounds ≤ turns
   pub made : (rounds ≡ turns) ⊎ (ended ≡ true)
 

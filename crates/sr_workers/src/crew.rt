@@ -30,8 +30,8 @@ impl<L: Ledger, F: Feed, G: Framing> Promise<(Pass<L>, WorkerEnd<F>)> for Begun<
     ghost use Rattle.sr_ports.specs.Stamps.{stamp};
     ghost use Rattle.sr_workers.specs.Worked.{EndedAs};
 
-    ghost kept_by = { λ b d. EndedAs F.tells F.handed F.given F.ended (G.meaning b.framing.value)
-        b.turns (stamp b.worker b.count) b.feed.value d.0 d.1 };
+    ghost kept_by = { λ b d. EndedAs F.name F.tells F.handed F.asked F.given F.losses F.failed
+        F.ended (G.meaning b.framing.value) b.turns (stamp b.worker b.count) b.feed.value d.0 d.1 };
 }
 
 // Starts one worker. `NoThread` where no thread can be started.
@@ -61,8 +61,8 @@ fn start<
         framing: Snapshot::of(&kit.framing),
     };
     let work = move || -> (Pass<L>, WorkerEnd<F>)
-        ensures { EndedAs F.tells F.handed F.given F.ended (G.meaning kit.framing)
-            turns kit.pass kit.feed result.0 result.1 }
+        ensures { EndedAs F.name F.tells F.handed F.asked F.given F.losses F.failed F.ended
+            (G.meaning kit.framing) turns kit.pass kit.feed result.0 result.1 }
     { work_at(rt, alloc, shared, kit, turns) };
     match scope.spawn_with(promise, work) {
         Ok(handle) => Ok(handle),
@@ -78,8 +78,8 @@ fn work_at<R: Role, L: Ledger, F: Feed, G: Framing, W: Wait>(
     kit: Kit<Pass<L>, F, G>,
     turns: u64,
 ) -> (Pass<L>, WorkerEnd<F>)
-    ensures { EndedAs F.tells F.handed F.given F.ended (G.meaning kit.framing)
-        turns kit.pass kit.feed result.0 result.1 }
+    ensures { EndedAs F.name F.tells F.handed F.asked F.given F.losses F.failed F.ended
+        (G.meaning kit.framing) turns kit.pass kit.feed result.0 result.1 }
 {
     let Kit {
         pass,
@@ -153,8 +153,8 @@ pub fn run_workers<
     ensures len { IfOk result (λ v. vec_len v ≡ vec_len kits) }
     ensures each { IfOk result (λ v. (i : ℕ) (k : _) (d : _) → i < vec_len kits
         → let kit = slice_index_or kits.items i k in let done = slice_index_or v.items i d in
-        EndedAs F.tells F.handed F.given F.ended (G.meaning kit.framing)
-        turns kit.pass kit.feed done.0 done.1) }
+        EndedAs F.name F.tells F.handed F.asked F.given F.losses F.failed F.ended
+        (G.meaning kit.framing) turns kit.pass kit.feed done.0 done.1) }
 {
     thread::scope(
         thread::scope_env(),
@@ -164,8 +164,8 @@ pub fn run_workers<
                 × ((i : ℕ) (k : _) (d : _) → i < vec_len kits
                 → let kit = slice_index_or kits.items i k in
                 let done = slice_index_or v.items i d in
-                EndedAs F.tells F.handed F.given F.ended (G.meaning kit.framing)
-                turns kit.pass kit.feed done.0 done.1)) }
+                EndedAs F.name F.tells F.handed F.asked F.given F.losses F.failed F.ended
+                (G.meaning kit.framing) turns kit.pass kit.feed done.0 done.1)) }
         {
             let handles = match start_all::<_, R, L, F, G, W>(
                 scope, rt, alloc, shared, kits, turns,

@@ -1,6 +1,7 @@
 //! Why feeds, workers and crews stop.
 
-ghost use Rattle.std.specs.Prelude.{◌≡◌};
+ghost use Rattle.std.specs.Prelude.{◌≡◌, ◌≢◌, IfSome};
+ghost use Rattle.sr_workers.specs.declared.fault.WorkerFault.TheVariants.{FeedFault as Failed};
 ghost use Rattle.sr_workers.specs.Ends.{stop_of};
 
 use sr_frame::NoMemory;
@@ -49,7 +50,8 @@ impl From<FeedFault> for WorkerFault {
 
 /// Why a worker stops where an event is refused so. None: the worker goes on, and the event is lost.
 pub(crate) fn stop_of(fault: EnterFault) -> Option<WorkerFault>
-    ensures { result ≡ stop_of fault }
+    ensures stop { result ≡ stop_of fault }
+    ensures feed { IfSome result (λ f. f ≢ Failed) }
 {
     match fault {
         EnterFault::JournalFull => Some(WorkerFault::JournalFull),

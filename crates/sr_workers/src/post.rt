@@ -1,8 +1,9 @@
 //! A worker at work, and what it brings to its node.
 
-ghost use Rattle.std.specs.Prelude.{◌≡◌, ◌≤◌, ◌+◌, ◌<◌, ◌^◌, ◌∷◌, ◌++◌, [], IfOk, OnOk, OnErr, MatchBool, vec_capacity};
+ghost use Rattle.std.specs.Prelude.{◌≡◌, ◌≢◌, ◌≤◌, ◌+◌, ◌<◌, ◌^◌, ◌∷◌, ◌++◌, [], IfOk, IfErr, OnOk, OnErr, MatchBool, vec_capacity};
 ghost use Rattle.sr_node.specs.declared.event.Answer.{Answer};
 ghost use Rattle.sr_node.specs.Answers.{IsAnswerOf};
+ghost use Rattle.sr_workers.specs.declared.fault.WorkerFault.TheVariants.{FeedFault as Failed};
 ghost use Rattle.sr_workers.specs.Posts.{HasFrameRoom, Logged, BringsTo};
 
 use crate::becoming::{Becoming, event_of};
@@ -62,6 +63,7 @@ fn enter_logged<E: Enters, F: Feed, W: Wait>(
     ensures feed { post.new.feed ≡ post.old.feed }
     ensures unread { post.new.unread ≡ post.old.unread }
     ensures ok { IfOk result (λ entered. Logged E.count entered event post.old post.new) }
+    ensures fault { IfErr result (λ f. f ≢ Failed) }
     ensures count { OnErr result (E.count post.new.seat ≡ E.count post.old.seat) }
     ensures pairs { OnErr result (post.new.log.pairs.items ≡ post.old.log.pairs.items) }
 {
@@ -96,6 +98,7 @@ pub(crate) fn bring<E: Enters, F: Feed, G: Framing, W: Wait>(
     ensures unread { post.new.unread ≤ post.old.unread + 1 }
     ensures ok { OnOk result (BringsTo E.whose E.count (G.meaning framing.now) turn octets.now
         post.old post.new) }
+    ensures fault { IfErr result (λ f. f ≢ Failed) }
     ensures count { OnErr result (E.count post.new.seat ≡ E.count post.old.seat) }
     ensures pairs { OnErr result (post.new.log.pairs.items ≡ post.old.log.pairs.items) }
     ensures uncounted { OnErr result (post.new.unread ≡ post.old.unread) }

@@ -2,6 +2,8 @@
 
 ghost use Rattle.std.specs.Prelude.{◌≡◌, ◌≤◌, ◌+◌, ◌<◌, ◌^◌, [], true, false, Some, None, MatchBool, MatchOption, IfOk, OnOk, IfErr, OnErr};
 ghost use Rattle.sr_ports.specs.declared.worker.Worker.TheVariants.{Ager};
+ghost use Rattle.sr_workers.specs.declared.feed.Turn.TheVariants.{End};
+ghost use Rattle.sr_workers.specs.Told.{turns_in};
 ghost use Rattle.sr_workers.specs.Posts.{Does, DoesLast, HasFrameRoom, post_moment};
 ghost use Rattle.sr_workers.specs.Work.{Finished, Stopped, ServesPort, nones_of};
 ghost use Rattle.sr_workers.specs.Worked.{Worked, worker_begun, ended};
@@ -29,6 +31,16 @@ fn port_of(worker: Worker) -> Option<Port>
     }
 }
 
+// Whether a turn is the feed's end.
+fn is_last(turn: Turn) -> bool
+    ensures { MatchBool result (turn ≡ End) (turns_in turn ≡ 1) }
+{
+    match turn {
+        Turn::End => true,
+        Turn::Frame(_) | Turn::Tick(_) | Turn::Idle => false,
+    }
+}
+
 // One turn: what the feed hands out is entered, and what waits at the port is given to it. False at the feed's end.
 fn one_turn<E: Enters, F: Feed, G: Framing, W: Wait>(
     rt: &W,
@@ -41,19 +53,19 @@ fn one_turn<E: Enters, F: Feed, G: Framing, W: Wait>(
     requires room { HasFrameRoom lists.old }
     ensures whose { E.whose post.new.seat ≡ E.whose post.old.seat }
     ensures worker { post.new.log.worker ≡ post.old.log.worker }
+    ensures name { F.name post.new.feed ≡ F.name post.old.feed }
     ensures tells { F.tells post.new.feed ≡ F.tells post.old.feed }
     ensures unread { post.new.unread ≤ post.old.unread + 1 }
     ensures room { OnOk result (HasFrameRoom lists.new) }
     ensures ok { IfOk result (λ more. MatchBool more
-        (Does E.whose E.count F.tells F.handed F.given (G.meaning framing.now)
-        (nones_of (E.whose post.old.seat) 1) post.old post.new)
-        ((F.ended post.new.feed ≡ true) × Does E.whose E.count F.tells F.handed F.given
-        (G.meaning framing.now) 0 post.old post.new)) }
-    ensures err { IfErr result (λ stop. DoesLast E.whose E.count F.tells F.handed F.given
-        (G.meaning framing.now) stop.fault stop.held post.old post.new) }
+        (Does E.whose E.count F.tells F.handed F.asked F.given F.losses F.failed
+        (G.meaning framing.now) (nones_of (E.whose post.old.seat) 1) 1 post.old post.new)
+        ((F.ended post.new.feed ≡ true) × Does E.whose E.count F.tells F.handed F.asked F.given
+        F.losses F.failed (G.meaning framing.now) 0 0 post.old post.new)) }
+    ensures err { IfErr result (λ stop. DoesLast E.whose E.count F.tells F.handed F.asked F.given
+        F.losses F.failed (G.meaning framing.now) stop.fault stop.held post.old post.new) }
 {
     let turn = match post.feed.next(rt, &mut lists.incoming) {
-        Ok(Turn::End) => return Ok(false),
         Ok(turn) => turn,
         Err(failed) => {
             return Err(Stop {
@@ -62,6 +74,9 @@ fn one_turn<E: Enters, F: Feed, G: Framing, W: Wait>(
             });
         }
     };
+    if is_last(turn) {
+        return Ok(false);
+    }
     match bring(rt, alloc, framing, post, turn, &lists.incoming) {
         Ok(()) => {}
         Err(fault) => return Err(Stop { fault, held: None }),
@@ -86,13 +101,16 @@ fn make_turns<E: Enters, F: Feed, G: Framing, W: Wait>(
     requires { post.old.unread ≡ 0 }
     ensures whose { E.whose post.new.seat ≡ E.whose post.old.seat }
     ensures worker { post.new.log.worker ≡ post.old.log.worker }
+    ensures name { F.name post.new.feed ≡ F.name post.old.feed }
     ensures ok { OnOk result (Finished (F.tells post.old.feed) (E.whose post.old.seat)
-        (G.meaning framing.now) turns (post_moment E.count F.handed F.given post.old)
-        (post_moment E.count F.handed F.given post.new) (F.ended post.new.feed)) }
+        (G.meaning framing.now) turns
+        (post_moment E.count F.handed F.asked F.given F.losses F.failed post.old)
+        (post_moment E.count F.handed F.asked F.given F.losses F.failed post.new)
+        (F.ended post.new.feed)) }
     ensures err { IfErr result (λ stop. Stopped (F.tells post.old.feed) (E.whose post.old.seat)
         (G.meaning framing.now) turns stop.fault stop.held
-        (post_moment E.count F.handed F.given post.old)
-        (post_moment E.count F.handed F.given post.new)) }
+        (post_moment E.count F.handed F.asked F.given F.losses F.failed post.old)
+        (post_moment E.count F.handed F.asked F.given F.losses F.failed post.new)) }
 {
     let mut lists = match Lists::new(alloc) {
         Ok(lists) => lists,
@@ -157,10 +175,12 @@ pub fn run_worker<E: Enters, F: Feed, G: Framing, W: Wait>(
 ) -> (E, WorkerEnd<F>)
     ensures whose { E.whose result.0 ≡ E.whose kit.pass }
     ensures log { result.1.log.worker ≡ E.whose kit.pass }
+    ensures name { F.name result.1.feed ≡ F.name kit.feed }
     ensures worked { Worked
         (worker_begun (E.whose kit.pass) (G.meaning kit.framing) turns (E.count kit.pass)
-        (F.tells kit.feed) (F.handed kit.feed) (F.given kit.feed))
-        (ended F.handed F.given F.ended (E.count result.0) result.1) }
+        (F.tells kit.feed) (F.handed kit.feed) (F.asked kit.feed) (F.given kit.feed)
+        (F.losses kit.feed) (F.failed kit.feed))
+        (ended F.handed F.asked F.given F.losses F.failed F.ended (E.count result.0) result.1) }
 {
     let Kit {
         pass: seat,

@@ -1,7 +1,8 @@
 //! A feed over memory: what it hands out lies in a list, and what it is given is kept.
 
 ghost use Rattle.std.specs.Prelude.{◌≡◌, ◌+◌, [], IfOk, OnOk, OnErr};
-ghost use Rattle.sr_workers.specs.Told.{told_of, IsLastTurn};
+ghost use Rattle.sr_workers.specs.declared.feed.Given.TheVariants.{Lost};
+ghost use Rattle.sr_workers.specs.Told.{told_of, lost_after, IsLastTurn};
 ghost use Rattle.sr_workers.specs.Scripts.{told_by};
 
 use crate::{Feed, FeedFault, Given, Turn};
@@ -26,24 +27,27 @@ pub struct Script {
     lines: Vec<Line>,
     next: usize,
     given: Vec<Frame>,
+    lost: u64,
     ended: bool,
     failures: u64,
     alloc: Global,
 }
 
 impl Script {
-    ghost use Rattle.sr_workers.specs.Scripts.{all_told, has_told, will_tell, was_given};
+    ghost use Rattle.sr_workers.specs.Scripts.{all_told, has_told, will_tell, was_given, has_lost};
 
     /// A feed that hands these out.
     pub fn new(alloc: Global, lines: Vec<Line>) -> Script
         ensures handed { has_told result ≡ [] }
         ensures left { will_tell result ≡ all_told lines.items }
         ensures given { was_given result ≡ [] }
+        ensures lost { has_lost result ≡ 0 }
     {
         Script {
             lines,
             next: 0,
             given: Vec::new(alloc),
+            lost: 0,
             ended: false,
             failures: 0,
             alloc,
@@ -60,7 +64,7 @@ impl Script {
     // A growth was refused: that is a failure, or the end where there were as many as can be counted.
     fn fail(&mut self) -> Result<(), FeedFault>
         ensures same { (self.new.lines ≡ self.old.lines) × (self.new.next ≡ self.old.next)
-            × (self.new.given ≡ self.old.given) }
+            × (self.new.given ≡ self.old.given) × (self.new.lost ≡ self.old.lost) }
         ensures ok { OnOk result (self.new.failures ≡ self.old.failures) }
         ensures err { OnErr result (self.new.failures ≡ self.old.failures + 1) }
         ensures ended { self.new.ended ≡ self.old.ended }
@@ -70,6 +74,18 @@ impl Script {
         }
         self.failures += 1;
         Err(FeedFault)
+    }
+
+    // Counts a frame that is lost.
+    fn lose(&mut self) -> Given
+        ensures lost { self.new.lost ≡ lost_after self.old.lost Lost }
+        ensures same { (self.new.lines ≡ self.old.lines) × (self.new.next ≡ self.old.next)
+            × (self.new.given ≡ self.old.given) × (self.new.failures ≡ self.old.failures)
+            × (self.new.ended ≡ self.old.ended) }
+        ensures is { result ≡ Lost }
+    {
+        self.lost = self.lost.saturating_add(1);
+        Given::Lost
     }
 }
 
@@ -91,13 +107,21 @@ fn show(line: &Line, into: &mut Vec<u8>) -> Result<Turn, NoMemory>
 
 impl Feed for Script {
     ghost use Rattle.std.specs.Prelude.{true};
-    ghost use Rattle.sr_workers.specs.Scripts.{has_told, was_given};
+    ghost use Rattle.sr_workers.specs.Scripts.{has_told, was_given, has_lost};
+
+    ghost Name = { Unit {0} };
+
+    ghost name = { λ _. tt };
 
     ghost tells = { λ _. true };
 
     ghost handed = { has_told };
 
+    ghost asked = { λ s. s.next };
+
     ghost given = { was_given };
+
+    ghost losses = { has_lost };
 
     ghost ended = { λ s. s.ended };
 
@@ -120,7 +144,7 @@ impl Feed for Script {
     fn give<W: Wait>(&mut self, _rt: &W, octets: &[u8]) -> Result<Given, FeedFault> {
         if self.given.reserve(1).is_err() {
             self.fail()?;
-            return Ok(Given::Lost);
+            return Ok(self.lose());
         }
         match Frame::copy(self.alloc, octets) {
             Ok(frame) => {
@@ -129,9 +153,9 @@ impl Feed for Script {
             }
             Err(FrameFault::NoMemory) => {
                 self.fail()?;
-                Ok(Given::Lost)
+                Ok(self.lose())
             }
-            Err(_) => Ok(Given::Lost),
+            Err(_) => Ok(self.lose()),
         }
     }
 

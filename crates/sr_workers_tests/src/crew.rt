@@ -2,13 +2,32 @@
 
 use super::hand::Halt::{Ends, Fails, Refuses};
 use super::runs::Outcome::{Holds, Stops, Whole};
-use super::runs::Step::{self, Gate, GateInBoxes, Halts, Turns};
+use super::runs::Step::{
+    self, Flood, Free, FreeInBoxes, Gate, GateInBoxes, Halts, Turns, WriteGate, WriteGateInBoxes,
+};
 use super::runs::expect_steps;
 use sr_ports::Worker::{A, B, Host};
 
 // The framing of one port waits as it reads until the host was given the other's frame. So the other worker ran meanwhile, and
 // the lock was free.
 const ONE_WAITS: &[Step] = &[Gate(A, B), Gate(B, A), GateInBoxes(A, B), GateInBoxes(B, A)];
+
+// The framing of one port waits as it writes until two frames were given elsewhere, of which the other worker reads one only then.
+// So that worker ran meanwhile, and the lock was free.
+const ONE_WRITES: &[Step] = &[
+    WriteGate(A, B),
+    WriteGate(B, A),
+    WriteGate(Host, A),
+    WriteGate(Host, B),
+    WriteGateInBoxes(A, B),
+    WriteGateInBoxes(Host, A),
+];
+
+// Nobody waits.
+const NOBODY_WAITS: &[Step] = &[Free, FreeInBoxes];
+
+// Both ports bring more nodes than a node remembers.
+const FLOODS: &[Step] = &[Flood(3000, 40)];
 
 // Each for so many turns, past the end of all feeds.
 const SO_MANY_TURNS: &[Step] = &[Turns(0), Turns(1), Turns(2), Turns(3), Turns(4)];
@@ -50,6 +69,21 @@ const A_FEED_REFUSES: &[Step] = &[
 #[test]
 fn one_worker_goes_on_while_another_reads(rt: HostRuntime) {
     expect_steps(&rt, ONE_WAITS);
+}
+
+#[test]
+fn one_worker_goes_on_while_another_writes(rt: HostRuntime) {
+    expect_steps(&rt, ONE_WRITES);
+}
+
+#[test]
+fn what_was_taken_is_given_or_held_whatever_allocation_fails(rt: HostRuntime) {
+    expect_steps(&rt, NOBODY_WAITS);
+}
+
+#[test]
+fn what_the_host_sends_goes_out_while_frames_of_new_nodes_flood_in(rt: HostRuntime) {
+    expect_steps(&rt, FLOODS);
 }
 
 #[test]

@@ -1,5 +1,7 @@
 //! A feed that may stop at any of its calls.
 
+ghost use Rattle.std.specs.Prelude.{◌≡◌};
+
 use sr_workers::{Feed, FeedFault, Given, Turn};
 use std::sync::atomic::{AtomicU64, Ordering};
 use std::sync::{Arc, Wait};
@@ -18,11 +20,15 @@ pub enum Halt {
     Refuses(u64),
 }
 
-/// A feed that hands out a frame and then nothing for some turns, and then ends. While it waits for frames it goes on.
+/// A feed that hands out frames and then nothing for some turns, and then ends. While it waits for frames it goes on.
 #[derive(Drop)]
 pub struct Hand {
     /// What it hands out first.
     pub frame: [u8; 66],
+    /// So many frames it hands out.
+    pub frames: u64,
+    /// Whether each is of another node.
+    pub floods: bool,
     /// How many turns it has in all.
     pub turns: u64,
     /// For so many frames it waits.
@@ -42,6 +48,18 @@ pub struct Hand {
 }
 
 impl Hand {
+    // The next frame of a flood is of another node.
+    fn turn_to_next(&mut self)
+        ensures failures { self.new.failures ≡ self.old.failures }
+        ensures asked { self.new.asked ≡ self.old.asked }
+    {
+        if self.floods {
+            let [high, low] = ((self.asked % 65536) as u16).to_be_bytes();
+            self.frame[9] = high;
+            self.frame[10] = low;
+        }
+    }
+
     fn has_ended(&self) -> bool {
         self.asked > self.turns && (self.given >= self.wanted || self.asked > self.patience)
     }
@@ -50,11 +68,19 @@ impl Hand {
 impl Feed for Hand {
     ghost use Rattle.std.specs.Prelude.{[], false, true};
 
+    ghost Name = { Unit {0} };
+
+    ghost name = { λ _. tt };
+
     ghost tells = { λ _. false };
 
     ghost handed = { λ _. [] };
 
+    ghost asked = { λ _. 0 };
+
     ghost given = { λ _. [] };
+
+    ghost losses = { λ _. 0 };
 
     ghost ended = { λ _. true };
 
@@ -69,10 +95,12 @@ impl Feed for Hand {
             self.failures += 1;
             return Err(FeedFault);
         }
-        if self.asked == 1 {
+        if self.asked <= self.frames {
+            self.turn_to_next();
             into.clear();
             if into.extend_from_slice(&self.frame).is_err() {
-                return Ok(Turn::End);
+                self.failures += 1;
+                return Err(FeedFault);
             }
             return Ok(Turn::Frame(0));
         }

@@ -3,7 +3,7 @@
 ghost use Rattle.std.specs.Prelude.{◌≡◌, ◌<◌, IfSome, vec_len};
 
 use super::boxes::ran_boxed;
-use super::gate::{Carriage, Gate};
+use super::gate::{Act, Carriage, Gate, Way};
 use super::hand::{Halt, Hand};
 use sr_forwarding::{Danp, Framing, PrpFraming, Role};
 use sr_frame::{Mac, Port};
@@ -22,34 +22,63 @@ use std::thread::Threads;
 /// A run of the workers of A, B and the host, each of whose feeds has one frame.
 #[derive(Clone, Copy)]
 pub enum Step {
-    /// The first worker's framing waits until the host was given a frame, so the second worker's frame arrives first.
+    /// The first worker's framing waits as it reads until the host was given a frame, so the second worker's frame arrives first.
     Gate(Worker, Worker),
     /// So with role and framings in boxes.
     GateInBoxes(Worker, Worker),
+    /// The first worker's framing waits as it writes until frames were given to others. The second worker's framing waits as it
+    /// reads until that has begun, so its frame arrives while the first one writes.
+    WriteGate(Worker, Worker),
+    /// So with role and framings in boxes.
+    WriteGateInBoxes(Worker, Worker),
+    /// No feed waits for a frame, and each hands out all that it has.
+    Free,
+    /// So with role and framings in boxes.
+    FreeInBoxes,
+    /// A and B bring so many frames each, all of other nodes. The host sends so many.
+    Flood(u64, u64),
     /// Each for so many turns, and no feed waits for a frame.
     Turns(u64),
     /// The feed of one stops. How many frames the feeds of A, B and the host wait for, and what comes of it.
     Halts(Worker, Halt, [u64; 3], Outcome),
 }
 
+// Whose framing waits.
+#[derive(Clone, Copy)]
+enum Hold {
+    // Nobody's.
+    No,
+    // This worker's, as it reads.
+    Reads(Worker),
+    // The first worker's, as it writes; the second one's, as it reads, until the first one writes.
+    Writes(Worker, Worker),
+}
+
 // The run of a step.
 #[derive(Clone, Copy)]
 struct Run {
-    gate: Option<Worker>,
+    hold: Hold,
     boxed: bool,
     turns: u64,
     halts: [Halt; 3],
     wanted: [u64; 3],
+    // How many frames a port and the host hand out.
+    frames: [u64; 2],
     outcome: Outcome,
 }
 
-/// What a run comes to. Each settles, no gate is missed, and a worker has a fault just where its feed failed.
+/// What a run comes to. Each settles, no gate is missed, a worker has a fault just where its feed failed, and each parcel was given
+/// to a feed, is held, or waits at the node.
 #[derive(Clone, Copy)]
 pub enum Outcome {
     /// All frames are handed up and counted nowhere as unread, and the first arrival is this worker's.
     First(Worker),
+    /// All frames are handed up and counted nowhere as unread.
+    Answered,
     /// No worker has a fault.
     Whole,
+    /// No worker has a fault, each frame of a port is handed up or counted as unread, and so many frames of the host go out at both.
+    Flooded(u64, u64),
     /// This worker alone has a fault, and found nothing to take so often.
     Stops(Worker, usize),
     /// This worker alone has a fault, and holds the parcel that it took out last.
@@ -81,8 +110,14 @@ struct Mark {
     unread: u64,
     // Takes that found nothing.
     nones: usize,
+    // Takes that found a parcel.
+    taken: usize,
+    // What the feed was given.
+    given: u64,
     // Arrivals that were handed up.
     ups: usize,
+    // Frames that were sent.
+    sent: usize,
 }
 
 /// What shows of the workers and of the journal.
@@ -92,6 +127,8 @@ pub(super) struct Shown {
     settlement: Settlement,
     // Whose the first arrival of the journal is.
     first: Option<Worker>,
+    // What waits at A, B and the host.
+    waiting: [usize; 3],
 }
 
 // What shows of a run.
@@ -109,7 +146,10 @@ const BLANK_MARK: Mark = Mark {
     held_last: false,
     unread: 0,
     nones: 0,
+    taken: 0,
+    given: 0,
     ups: 0,
+    sent: 0,
 };
 
 // A frame of this source to this destination that ends so.
@@ -120,10 +160,12 @@ fn frame_of(to: u8, from: u8, end: [u8; 6]) -> [u8; 66] {
     octets
 }
 
-fn hand_of(frame: [u8; 66], halt: Halt, wanted: u64, seen: Arc<AtomicU64>) -> Hand {
+fn hand_of(frame: [u8; 66], frames: u64, halt: Halt, wanted: u64, seen: Arc<AtomicU64>) -> Hand {
     Hand {
         frame,
-        turns: 2,
+        frames,
+        floods: frames > 1 && frame[11] != 1,
+        turns: frames.saturating_add(1),
         wanted,
         patience: LOOKS,
         halt,
@@ -141,6 +183,10 @@ struct Flags {
     up: Arc<AtomicU64>,
     // What the ports were given.
     out: Arc<AtomicU64>,
+    // Framings that wait as they write.
+    writing: Arc<AtomicU64>,
+    // Framings that wait as they read.
+    reading: Arc<AtomicU64>,
     // Gates that were missed.
     missed: Arc<AtomicU64>,
 }
@@ -148,24 +194,68 @@ struct Flags {
 fn flags_of(alloc: Global) -> Result<Flags, AllocError> {
     let up = Arc::new(alloc, AtomicU64::new(0))?;
     let out = Arc::new(alloc, AtomicU64::new(0))?;
+    let writing = Arc::new(alloc, AtomicU64::new(0))?;
+    let reading = Arc::new(alloc, AtomicU64::new(0))?;
     let missed = Arc::new(alloc, AtomicU64::new(0))?;
-    Ok(Flags { up, out, missed })
+    Ok(Flags {
+        up,
+        out,
+        writing,
+        reading,
+        missed,
+    })
 }
 
-// The framing of a port, behind a gate where the run says so.
-fn carriage_of(run: &Run, worker: Worker, lan: Lan, flags: &Flags) -> Result<Carriage, AllocError> {
-    let framing = PrpFraming { lan, net: 0 };
-    if run.gate != Some(worker) {
-        return Ok(Carriage::Lan(framing));
-    }
-    let seen = Arc::try_clone(&flags.up)?;
+// A gate at reading that opens at the first of these.
+fn read_gate(seen: &Arc<AtomicU64>, flags: &Flags) -> Result<Option<Gate>, AllocError> {
+    let seen = Arc::try_clone(seen)?;
+    let begun = Arc::try_clone(&flags.reading)?;
     let missed = Arc::try_clone(&flags.missed)?;
-    Ok(Carriage::Gated(Gate {
-        framing,
+    Ok(Some(Gate {
+        act: Act::Read,
         seen,
+        until: 1,
         looks: LOOKS,
+        begun,
         missed,
     }))
+}
+
+// A gate at writing that opens where two frames were given elsewhere. One of them was still to be read.
+fn write_gate(seen: &Arc<AtomicU64>, flags: &Flags) -> Result<Option<Gate>, AllocError> {
+    let seen = Arc::try_clone(seen)?;
+    let begun = Arc::try_clone(&flags.writing)?;
+    let missed = Arc::try_clone(&flags.missed)?;
+    Ok(Some(Gate {
+        act: Act::Write,
+        seen,
+        until: 2,
+        looks: LOOKS,
+        begun,
+        missed,
+    }))
+}
+
+// What the framing of a worker waits for. What others are given is the host's, and where the host itself waits, the ports'.
+fn gate_of(run: &Run, worker: Worker, flags: &Flags) -> Result<Option<Gate>, AllocError> {
+    match run.hold {
+        Hold::Reads(at) if at == worker => read_gate(&flags.up, flags),
+        Hold::Writes(Worker::Host, _) if worker == Worker::Host => write_gate(&flags.out, flags),
+        Hold::Writes(at, _) if at == worker => write_gate(&flags.up, flags),
+        Hold::Writes(_, other) if other == worker => read_gate(&flags.writing, flags),
+        _ => Ok(None),
+    }
+}
+
+// The framing of a port.
+fn carriage_of(run: &Run, worker: Worker, way: Way, flags: &Flags) -> Result<Carriage, AllocError> {
+    let gate = gate_of(run, worker, flags)?;
+    Ok(Carriage { way, gate })
+}
+
+// How frames look at a LAN.
+fn way_of(lan: Lan) -> Way {
+    Way::Lan(PrpFraming { lan, net: 0 })
 }
 
 /// A feed, and the framing of its port.
@@ -176,26 +266,42 @@ pub(super) struct Gear<C: Drop> {
 }
 
 fn gear_a(run: &Run, flags: &Flags) -> Result<Gear<Carriage>, AllocError> {
-    let framing = carriage_of(run, Worker::A, Lan::A, flags)?;
+    let framing = carriage_of(run, Worker::A, way_of(Lan::A), flags)?;
     let seen = Arc::try_clone(&flags.out)?;
-    let feed = hand_of(frame_of(1, 2, TRAILER_A), run.halts[0], run.wanted[0], seen);
+    let feed = hand_of(
+        frame_of(1, 2, TRAILER_A),
+        run.frames[0],
+        run.halts[0],
+        run.wanted[0],
+        seen,
+    );
     Ok(Gear { feed, framing })
 }
 
 fn gear_b(run: &Run, flags: &Flags) -> Result<Gear<Carriage>, AllocError> {
-    let framing = carriage_of(run, Worker::B, Lan::B, flags)?;
+    let framing = carriage_of(run, Worker::B, way_of(Lan::B), flags)?;
     let seen = Arc::try_clone(&flags.out)?;
-    let feed = hand_of(frame_of(1, 2, TRAILER_B), run.halts[1], run.wanted[1], seen);
+    let feed = hand_of(
+        frame_of(1, 3, TRAILER_B),
+        run.frames[0],
+        run.halts[1],
+        run.wanted[1],
+        seen,
+    );
     Ok(Gear { feed, framing })
 }
 
 fn gear_host(run: &Run, flags: &Flags) -> Result<Gear<Carriage>, AllocError> {
+    let framing = carriage_of(run, Worker::Host, Way::Host, flags)?;
     let seen = Arc::try_clone(&flags.up)?;
-    let feed = hand_of(frame_of(2, 1, [0; 6]), run.halts[2], run.wanted[2], seen);
-    Ok(Gear {
-        feed,
-        framing: Carriage::Host,
-    })
+    let feed = hand_of(
+        frame_of(2, 1, [0; 6]),
+        run.frames[1],
+        run.halts[2],
+        run.wanted[2],
+        seen,
+    );
+    Ok(Gear { feed, framing })
 }
 
 fn kit_of<C: Drop, L: Ledger>(pass: Pass<L>, gear: Gear<C>) -> Kit<Pass<L>, Hand, C> {
@@ -243,14 +349,31 @@ fn ups_in(pairs: &[(Event, Answer)]) -> usize {
     ups
 }
 
-fn nones_in(pairs: &[(Event, Answer)]) -> usize {
-    let mut nones = 0usize;
+// How many answers are as wanted.
+fn answers_in(pairs: &[(Event, Answer)], wanted: Wanted) -> usize {
+    let mut count = 0usize;
     for (_, answer) in pairs {
-        if matches!(answer, Answer::Taken(None)) {
-            nones = nones.saturating_add(1);
+        if is_wanted(answer, wanted) {
+            count = count.saturating_add(1);
         }
     }
-    nones
+    count
+}
+
+// An answer of this kind.
+#[derive(Clone, Copy)]
+enum Wanted {
+    Nothing,
+    Parcel,
+    Sent,
+}
+
+fn is_wanted(answer: &Answer, wanted: Wanted) -> bool {
+    match wanted {
+        Wanted::Nothing => matches!(answer, Answer::Taken(None)),
+        Wanted::Parcel => matches!(answer, Answer::Taken(Some(_))),
+        Wanted::Sent => matches!(answer, Answer::Sent(_)),
+    }
 }
 
 // Whether the parcel that is held is what the last entry took out.
@@ -268,8 +391,11 @@ fn mark_of(end: &WorkerEnd<Hand>) -> Mark {
         held: end.held.is_some(),
         held_last: is_held_last(end),
         unread: end.unread,
-        nones: nones_in(&end.log.pairs),
+        nones: answers_in(&end.log.pairs, Wanted::Nothing),
+        taken: answers_in(&end.log.pairs, Wanted::Parcel),
+        given: end.feed.given,
         ups: ups_in(&end.log.pairs),
+        sent: answers_in(&end.log.pairs, Wanted::Sent),
     }
 }
 
@@ -332,11 +458,17 @@ fn settled<R: Role + Send, L: Ledger + Send + Sync, C: Framing + Send, W: Thread
     let kept = shared.into_kept();
     let settlement = settle(kept.journal.as_slice(), logs.as_slice());
     let first = first_arrival(kept.journal.as_slice());
+    let waiting = [
+        kept.node.waiting(Port::A),
+        kept.node.waiting(Port::B),
+        kept.node.waiting(Port::H),
+    ];
     drop(kept);
     Some(Shown {
         marks,
         settlement,
         first,
+        waiting,
     })
 }
 
@@ -422,13 +554,44 @@ fn place_of(worker: Worker) -> usize
     }
 }
 
-// A worker has the fault of its feed, just where that failed.
+// A worker has the fault of its feed, just where that failed, and holds a parcel there alone.
 fn is_fair(mark: Mark) -> bool {
     match mark.fault {
         Some(WorkerFault::FeedFault) => mark.failed,
-        Some(_) => false,
-        None => !mark.failed && !mark.held,
+        Some(WorkerFault::NoMemory) | None => !mark.failed && !mark.held,
+        Some(WorkerFault::JournalFull) => false,
     }
+}
+
+// Whether an allocation of this worker failed, or of its feed, which does not stop otherwise.
+fn is_short(mark: Mark, halt: Halt) -> bool {
+    match mark.fault {
+        Some(WorkerFault::NoMemory) => true,
+        Some(WorkerFault::FeedFault) => halt == Halt::Never,
+        _ => false,
+    }
+}
+
+// What went to a port was given to its feed, waits there, or is held: then the feed was asked to take it, and failed.
+fn is_all_there(went: usize, mark: Mark, waiting: usize) -> bool {
+    went == mark.taken.saturating_add(waiting) && mark.taken as u64 == mark.given
+}
+
+// What was handed up went to the host, and what the host sent to both LANs.
+fn is_nothing_lost(shown: &Shown) -> bool {
+    let [a, b, host] = shown.marks;
+    let [at_a, at_b, at_host] = shown.waiting;
+    is_all_there(a.ups.saturating_add(b.ups), host, at_host)
+        && is_all_there(host.sent, a, at_a)
+        && is_all_there(host.sent, b, at_b)
+}
+
+// All frames were handed up.
+fn is_answered(shown: &Shown) -> bool {
+    let [a, b, host] = shown.marks;
+    is_whole(shown)
+        && (a.ups, b.ups, host.sent) == (1, 1, 1)
+        && (a.unread, b.unread, host.unread) == (0, 0, 0)
 }
 
 fn has_fault_at(shown: &Shown, worker: Worker) -> bool {
@@ -446,15 +609,11 @@ fn is_whole(shown: &Shown) -> bool {
 }
 
 fn is_outcome(shown: &Shown, outcome: Outcome) -> bool {
-    let [a, b, host] = shown.marks;
     match outcome {
-        Outcome::First(worker) => {
-            is_whole(shown)
-                && shown.first == Some(worker)
-                && (a.ups, b.ups) == (1, 1)
-                && (a.unread, b.unread, host.unread) == (0, 0, 0)
-        }
+        Outcome::First(worker) => is_answered(shown) && shown.first == Some(worker),
+        Outcome::Answered => is_answered(shown),
         Outcome::Whole => is_whole(shown),
+        Outcome::Flooded(frames, sends) => is_flooded(shown, frames, sends),
         Outcome::Stops(worker, nones) => {
             let mark = shown.marks[place_of(worker)];
             has_fault_at(shown, worker) && mark.nones == nones && !mark.held
@@ -466,7 +625,21 @@ fn is_outcome(shown: &Shown, outcome: Outcome) -> bool {
     }
 }
 
-fn is_as_wanted(report: &Report, outcome: Outcome) -> bool {
+// Each frame of a port is handed up or counted as unread, some are, and each frame of the host went out at both ports.
+fn is_flooded(shown: &Shown, frames: u64, sends: u64) -> bool {
+    let [a, b, host] = shown.marks;
+    is_whole(shown)
+        && (a.ups as u64).saturating_add(a.unread) == frames
+        && (b.ups as u64).saturating_add(b.unread) == frames
+        && a.unread > 0
+        && b.unread > 0
+        && host.sent as u64 == sends
+        && host.unread == 0
+        && (a.given, b.given) == (sends, sends)
+}
+
+// What holds of each run, whatever allocation fails.
+fn is_sound(report: &Report) -> bool {
     let shown = &report.shown;
     let [a, b, host] = shown.marks;
     shown.settlement == Settlement::Settled
@@ -474,27 +647,58 @@ fn is_as_wanted(report: &Report, outcome: Outcome) -> bool {
         && is_fair(a)
         && is_fair(b)
         && is_fair(host)
-        && is_outcome(shown, outcome)
+        && is_nothing_lost(shown)
+}
+
+// Whether an allocation of a worker or of its feed failed.
+fn is_cut_short(report: &Report, run: &Run) -> bool {
+    let [a, b, host] = report.shown.marks;
+    let [halt_a, halt_b, halt_host] = run.halts;
+    is_short(a, halt_a) || is_short(b, halt_b) || is_short(host, halt_host)
 }
 
 fn run_of(step: Step) -> Run {
     let mut run = Run {
-        gate: None,
+        hold: Hold::No,
         boxed: false,
         turns: ENOUGH,
         halts: [Halt::Never; 3],
         wanted: [1, 1, 2],
+        frames: [1, 1],
         outcome: Outcome::Whole,
     };
     match step {
         Step::Gate(worker, other) => {
-            run.gate = Some(worker);
+            run.hold = Hold::Reads(worker);
             run.outcome = Outcome::First(other);
         }
         Step::GateInBoxes(worker, other) => {
-            run.gate = Some(worker);
+            run.hold = Hold::Reads(worker);
             run.boxed = true;
             run.outcome = Outcome::First(other);
+        }
+        Step::WriteGate(worker, other) => {
+            run.hold = Hold::Writes(worker, other);
+            run.outcome = Outcome::Answered;
+        }
+        Step::WriteGateInBoxes(worker, other) => {
+            run.hold = Hold::Writes(worker, other);
+            run.boxed = true;
+            run.outcome = Outcome::Answered;
+        }
+        Step::Free => {
+            run.wanted = [0; 3];
+            run.outcome = Outcome::Answered;
+        }
+        Step::Flood(frames, sends) => {
+            run.frames = [frames, sends];
+            run.wanted = [sends, sends, 0];
+            run.outcome = Outcome::Flooded(frames, sends);
+        }
+        Step::FreeInBoxes => {
+            run.boxed = true;
+            run.wanted = [0; 3];
+            run.outcome = Outcome::Answered;
         }
         Step::Turns(turns) => {
             run.turns = turns;
@@ -509,16 +713,26 @@ fn run_of(step: Step) -> Run {
     run
 }
 
-// Where a growth is refused the run is made again.
+// Whether the run, made anew, comes to what is wanted.
+fn goes_anew<W: Threads + Wait + Sync>(rt: &W, alloc: Global, run: &Run) -> bool {
+    match reported(rt, alloc, run) {
+        Some(report) => is_sound(&report) && is_outcome(&report.shown, run.outcome),
+        None => false,
+    }
+}
+
+// Where an allocation fails, before the workers begin or in one of them, the run is made anew.
 fn goes<W: Threads + Wait + Sync>(rt: &W, alloc: Global, step: Step) -> bool {
     let run = run_of(step);
-    let report = match reported(rt, alloc, &run) {
-        Some(report) => Some(report),
-        None => reported(rt, alloc, &run),
-    };
-    match report {
-        Some(report) => is_as_wanted(&report, run.outcome),
-        None => false,
+    match reported(rt, alloc, &run) {
+        Some(report) => {
+            is_sound(&report)
+                && match is_cut_short(&report, &run) {
+                    true => goes_anew(rt, alloc, &run),
+                    false => is_outcome(&report.shown, run.outcome),
+                }
+        }
+        None => goes_anew(rt, alloc, &run),
     }
 }
 

@@ -1,4 +1,4 @@
-use Rattle.std.proofs.Common.{rules, arith, ◌≡◌, ◌+◌, ◌<◌, ℕ, vec_len, vec_items, get_or, sym, ap, ◌∙◌, subst}
+use Rattle.std.proofs.Common.{rules, arith, ◌+◌, vec_items, get_or, sym, ap, ◌∙◌, subst}
 use Rattle.std.specs.Vec.Iter.{into_iter_items}
 use Rattle.sr_workers.specs.Crews.{IsStartOf}
 use Rattle.sr_workers.proofs.Rows.{behind, each_more}

@@ -1,6 +1,6 @@
-use Rattle.std.proofs.Common.{rules, ap, ◌∙◌, refl, true, false, sym, arith}
+use Rattle.std.proofs.Common.{rules, ap, refl, arith}
 use Rattle.sr_workers.specs.Work.{nones_of}
-use Rattle.sr_workers.proofs.Steps.{did_still, did_as, did_more, last_as, last_still, nones_zero, nones_more, finished_end, finished_all, stopped_at, stopped_first}
+use Rattle.sr_workers.proofs.Steps.{did_still, did_as, did_more, last_as, last_still, nones_zero, nones_more, finished_end, stopped_at, stopped_first, no_feed_of}
 use Rattle.sr_workers.proofs.Bringing.{match_true, match_false}
 use Rattle.sr_workers.proofs.running.make_turns.Goals as goal
 
@@ -10,23 +10,24 @@ loop-turn-init g c = (
   refl,
   refl,
   refl,
+  refl,
   search rules,
-  did_as _ _ _ _ _ 0 _ _ _ _ _ refl refl (nones_zero _) (did_still _ _ _ _ _ refl refl refl (λ _. refl) (λ _. refl)),
+  did_as _ _ _ _ _ 0 _ 0 _ _ _ _ _ refl refl (nones_zero _) refl (did_still _ _ _ _ _ refl refl refl (λ _. refl) (λ _. refl) (λ _. refl) refl (omega arith)),
 )
 
 pub returns-in-Err-clause-err : goal.returns-in-Err-clause-err
-returns-in-Err-clause-err g c = stopped_first _ _ _ _ _ _ _ _ (last_still _ _ _ _ _ _ _ refl refl refl refl (λ _. refl) (λ _. refl))
+returns-in-Err-clause-err g c = stopped_first _ _ _ _ _ _ _ _ (last_still _ _ _ _ _ _ _ refl refl refl refl (λ _. refl) (λ _. refl) (λ _. refl) refl (omega arith) (no_feed_of _ _ c.into.ensures))
 
 pub returns-in-Ok-false-clause-ok : goal.returns-in-Ok-false-clause-ok
 returns-in-Ok-false-clause-ok g c =
     let was = c.loop-turn.invariant in
     let end = match_false _ _ c.in-Ok-false.field-0 c.in-Ok-false.field-0-test c.in-Ok-false.ensures.ok in
-    finished_end _ _ _ _ c.loop-turn._turn _ _ _ _ (search rules) was.5 (did_as _ _ _ _ _ _ _ _ _ _ _ was.3 was.1 refl end.1) end.0
+    finished_end _ _ _ _ c.loop-turn._turn _ _ _ _ (search rules) was.6 (did_as _ _ _ _ _ _ _ _ _ _ _ _ _ was.3 was.1 refl refl end.1) end.0
 
 pub returns-in-Err-one_turn-clause-err : goal.returns-in-Err-one_turn-clause-err
 returns-in-Err-one_turn-clause-err g c =
     let was = c.loop-turn.invariant in
-    stopped_at _ _ _ _ c.loop-turn._turn _ _ _ _ _ (search rules) was.5 (last_as _ _ _ _ _ _ _ _ _ _ _ was.3 was.1 refl c.in-Err-one_turn.ensures.err)
+    stopped_at _ _ _ _ c.loop-turn._turn _ _ _ _ _ (search rules) was.6 (last_as _ _ _ _ _ _ _ _ _ _ _ was.3 was.1 refl c.in-Err-one_turn.ensures.err)
 
 pub loop-turn-preserved : goal.loop-turn-preserved
 loop-turn-preserved g c =
@@ -37,5 +38,6 @@ loop-turn-preserved g c =
       search rules,
       search rules,
       search rules,
-      did_as _ _ _ _ _ _ _ _ _ _ _ refl refl (nones_more _ c.loop-turn._turn) (did_more _ _ _ _ _ _ _ _ _ _ was.5 (did_as _ _ _ _ _ _ _ _ _ _ _ was.3 was.1 (ap (λ w. nones_of w 1) was.1) more)),
+      search rules,
+      did_as _ _ _ _ _ _ _ _ _ _ _ _ _ refl refl (nones_more _ c.loop-turn._turn) refl (did_more _ _ _ _ _ _ _ _ _ _ _ _ was.6 (did_as _ _ _ _ _ _ _ _ _ _ _ _ _ was.3 was.1 (ap (λ w. nones_of w 1) was.1) refl more)),
     )

@@ -1,41 +1,43 @@
-use Rattle.std.proofs.Common.{rules, ap, ◌∙◌, refl, sym, subst, ◌++◌}
+use Rattle.std.proofs.Common.{rules, ap, ◌∙◌, ◌≤◌, ◌+◌, refl, sym, subst, ◌++◌}
 use Rattle.sr_workers.specs.Told.{told_of}
 use Rattle.sr_workers.specs.Posts.{post_moment}
 use Rattle.sr_workers.specs.Work.{ServesPort, nones_of}
 use Rattle.sr_workers.proofs.Steps.{at_end, did_end, did_bring, did_more, did_as, last_still, last_lost, last_more, last_as}
 use Rattle.sr_workers.proofs.running.one_turn.Goals as goal
 
-pub returns-in-Ok-End-clause-ok : goal.returns-in-Ok-End-clause-ok
-returns-in-Ok-End-clause-ok g c =
-    (at_end _ _ c.in-Ok-End.field-0-is c.in-Ok-End.ensures.ended, did_end _ _ _ _ _ _ _ c.in-Ok-End.field-0-is refl refl refl c.in-Ok-End.ensures.handed c.next.ensures.given)
+pub returns-then-is_last-clause-ok : goal.returns-then-is_last-clause-ok
+returns-then-is_last-clause-ok g c =
+    (at_end _ _ c.if-is_last.ensures c.in-Ok.ensures.ended, did_end _ _ _ _ _ _ _ c.if-is_last.ensures refl refl refl c.in-Ok.ensures.handed c.in-Ok.ensures.asked c.next.ensures.given c.next.ensures.losses c.next.ensures.counted)
 
 pub returns-in-Err-clause-err : goal.returns-in-Err-clause-err
-returns-in-Err-clause-err g c = last_still _ _ _ _ _ _ _ refl refl refl refl c.in-Err.ensures.unhanded c.next.ensures.given
+returns-in-Err-clause-err g c =
+    last_still _ _ _ _ _ _ _ refl refl refl refl c.in-Err.ensures.unhanded c.in-Err.ensures.unasked c.next.ensures.given c.next.ensures.losses c.next.ensures.counted (λ _. c.in-Err.ensures.failed)
 
 pub returns-in-Err-bring-clause-err : goal.returns-in-Err-bring-clause-err
 returns-in-Err-bring-clause-err g c =
-    last_lost _ _ _ _ _ c.in-Ok.turn _ _ _ refl c.in-Err-bring.ensures.count c.in-Err-bring.ensures.pairs c.in-Err-bring.ensures.uncounted (λ tell. ap g.F.Feed.handed c.bring.ensures.feed ∙ c.in-Ok.ensures.handed tell) (λ tell. ap g.F.Feed.given c.bring.ensures.feed ∙ c.next.ensures.given tell)
+    last_lost _ _ _ _ _ c.in-Ok.turn _ _ _ refl c.in-Err-bring.ensures.count c.in-Err-bring.ensures.pairs c.in-Err-bring.ensures.uncounted (λ tell. ap g.F.Feed.handed c.bring.ensures.feed ∙ c.in-Ok.ensures.handed tell) (λ tell. ap g.F.Feed.asked c.bring.ensures.feed ∙ c.in-Ok.ensures.asked tell) (λ tell. ap g.F.Feed.given c.bring.ensures.feed ∙ c.next.ensures.given tell) (ap g.F.Feed.losses c.bring.ensures.feed ∙ c.next.ensures.losses) (subst (λ feed. g.F.Feed.failed c.args.post.now.feed ≤ g.F.Feed.failed feed) (sym c.bring.ensures.feed) c.next.ensures.counted) c.in-Err-bring.ensures.fault
 
 pub drain-requires-clause-serves : goal.drain-requires-clause-serves
 drain-requires-clause-serves g c = subst (λ w. ServesPort w c.in-Some.port) c.worker.ensures c.in-Some.ensures.port
 
 pub returns-in-None-clause-ok : goal.returns-in-None-clause-ok
 returns-in-None-clause-ok g c =
-    let s = post_moment g.E.Enters.count g.F.Feed.handed g.F.Feed.given c.args.post.now in
-    let m = post_moment g.E.Enters.count g.F.Feed.handed g.F.Feed.given c.bring.new.post in
-    did_as _ _ _ _ _ 0 _ _ _ _ _ refl refl (sym (ap (λ w. nones_of w 1) (sym (c.worker.ensures ∙ c.bring.ensures.whose)) ∙ c.in-None.ensures.once)) (did_bring _ _ _ c.in-Ok.turn _ s m c.in-Ok-bring.ensures.ok (λ tell. ap g.F.Feed.handed c.bring.ensures.feed ∙ c.in-Ok.ensures.handed tell ∙ ap (λ l. g.F.Feed.handed c.args.post.now.feed ++ told_of c.in-Ok.turn l) (search rules)) (λ tell. ap g.F.Feed.given c.bring.ensures.feed ∙ c.next.ensures.given tell))
+    let s = post_moment g.E.Enters.count g.F.Feed.handed g.F.Feed.asked g.F.Feed.given g.F.Feed.losses g.F.Feed.failed c.args.post.now in
+    let m = post_moment g.E.Enters.count g.F.Feed.handed g.F.Feed.asked g.F.Feed.given g.F.Feed.losses g.F.Feed.failed c.bring.new.post in
+    let first = did_bring _ _ _ 1 c.in-Ok.turn _ s m c.in-Ok-bring.ensures.ok (λ tell. ap g.F.Feed.handed c.bring.ensures.feed ∙ c.in-Ok.ensures.handed tell ∙ ap (λ l. g.F.Feed.handed c.args.post.now.feed ++ told_of c.in-Ok.turn l) (search rules)) (λ tell. ap g.F.Feed.asked c.bring.ensures.feed ∙ c.in-Ok.ensures.asked tell ∙ ap (λ n. g.F.Feed.asked c.args.post.now.feed + n) c.if-is_last.ensures) (λ tell. ap g.F.Feed.given c.bring.ensures.feed ∙ c.next.ensures.given tell) (ap g.F.Feed.losses c.bring.ensures.feed ∙ c.next.ensures.losses) (subst (λ feed. g.F.Feed.failed c.args.post.now.feed ≤ g.F.Feed.failed feed) (sym c.bring.ensures.feed) c.next.ensures.counted) in
+    did_as _ _ _ _ _ 0 _ 1 _ _ _ _ _ refl refl (sym (ap (λ w. nones_of w 1) (sym (c.worker.ensures ∙ c.bring.ensures.whose)) ∙ c.in-None.ensures.once)) refl first
 
 pub returns-in-Ok-drain-clause-ok : goal.returns-in-Ok-drain-clause-ok
 returns-in-Ok-drain-clause-ok g c =
-    let s = post_moment g.E.Enters.count g.F.Feed.handed g.F.Feed.given c.args.post.now in
-    let m = post_moment g.E.Enters.count g.F.Feed.handed g.F.Feed.given c.bring.new.post in
-    let first = did_bring _ _ _ c.in-Ok.turn _ s m c.in-Ok-bring.ensures.ok (λ tell. ap g.F.Feed.handed c.bring.ensures.feed ∙ c.in-Ok.ensures.handed tell ∙ ap (λ l. g.F.Feed.handed c.args.post.now.feed ++ told_of c.in-Ok.turn l) (search rules)) (λ tell. ap g.F.Feed.given c.bring.ensures.feed ∙ c.next.ensures.given tell) in
-    let then_ = did_as _ _ _ _ _ _ _ _ _ _ _ (ap g.F.Feed.tells c.bring.ensures.feed ∙ c.next.ensures.tells) c.bring.ensures.whose refl c.in-Ok-drain.ensures.ok in
-    did_as _ _ _ _ _ 1 _ _ _ _ _ refl refl (sym (ap (λ w. nones_of w 1) (sym (c.worker.ensures ∙ c.bring.ensures.whose)) ∙ c.in-Some.ensures.once)) (did_more _ _ _ 0 1 _ _ _ _ _ first then_)
+    let s = post_moment g.E.Enters.count g.F.Feed.handed g.F.Feed.asked g.F.Feed.given g.F.Feed.losses g.F.Feed.failed c.args.post.now in
+    let m = post_moment g.E.Enters.count g.F.Feed.handed g.F.Feed.asked g.F.Feed.given g.F.Feed.losses g.F.Feed.failed c.bring.new.post in
+    let first = did_bring _ _ _ 1 c.in-Ok.turn _ s m c.in-Ok-bring.ensures.ok (λ tell. ap g.F.Feed.handed c.bring.ensures.feed ∙ c.in-Ok.ensures.handed tell ∙ ap (λ l. g.F.Feed.handed c.args.post.now.feed ++ told_of c.in-Ok.turn l) (search rules)) (λ tell. ap g.F.Feed.asked c.bring.ensures.feed ∙ c.in-Ok.ensures.asked tell ∙ ap (λ n. g.F.Feed.asked c.args.post.now.feed + n) c.if-is_last.ensures) (λ tell. ap g.F.Feed.given c.bring.ensures.feed ∙ c.next.ensures.given tell) (ap g.F.Feed.losses c.bring.ensures.feed ∙ c.next.ensures.losses) (subst (λ feed. g.F.Feed.failed c.args.post.now.feed ≤ g.F.Feed.failed feed) (sym c.bring.ensures.feed) c.next.ensures.counted) in
+    let then_ = did_as _ _ _ _ _ _ _ _ _ _ _ _ _ (ap g.F.Feed.tells c.bring.ensures.feed ∙ c.next.ensures.tells) c.bring.ensures.whose refl refl c.in-Ok-drain.ensures.ok in
+    did_as _ _ _ _ _ 1 _ 1 _ _ _ _ _ refl refl (sym (ap (λ w. nones_of w 1) (sym (c.worker.ensures ∙ c.bring.ensures.whose)) ∙ c.in-Some.ensures.once)) refl (did_more _ _ _ 0 1 1 0 _ _ _ _ _ first then_)
 
 pub returns-in-Err-drain-clause-err : goal.returns-in-Err-drain-clause-err
 returns-in-Err-drain-clause-err g c =
-    let s = post_moment g.E.Enters.count g.F.Feed.handed g.F.Feed.given c.args.post.now in
-    let m = post_moment g.E.Enters.count g.F.Feed.handed g.F.Feed.given c.bring.new.post in
-    let first = did_bring _ _ _ c.in-Ok.turn _ s m c.in-Ok-bring.ensures.ok (λ tell. ap g.F.Feed.handed c.bring.ensures.feed ∙ c.in-Ok.ensures.handed tell ∙ ap (λ l. g.F.Feed.handed c.args.post.now.feed ++ told_of c.in-Ok.turn l) (search rules)) (λ tell. ap g.F.Feed.given c.bring.ensures.feed ∙ c.next.ensures.given tell) in
-    last_more _ _ _ _ _ 0 0 _ _ _ first (last_as _ _ _ _ _ _ _ _ _ _ _ (ap g.F.Feed.tells c.bring.ensures.feed ∙ c.next.ensures.tells) c.bring.ensures.whose refl c.in-Err-drain.ensures.err)
+    let s = post_moment g.E.Enters.count g.F.Feed.handed g.F.Feed.asked g.F.Feed.given g.F.Feed.losses g.F.Feed.failed c.args.post.now in
+    let m = post_moment g.E.Enters.count g.F.Feed.handed g.F.Feed.asked g.F.Feed.given g.F.Feed.losses g.F.Feed.failed c.bring.new.post in
+    let first = did_bring _ _ _ 1 c.in-Ok.turn _ s m c.in-Ok-bring.ensures.ok (λ tell. ap g.F.Feed.handed c.bring.ensures.feed ∙ c.in-Ok.ensures.handed tell ∙ ap (λ l. g.F.Feed.handed c.args.post.now.feed ++ told_of c.in-Ok.turn l) (search rules)) (λ tell. ap g.F.Feed.asked c.bring.ensures.feed ∙ c.in-Ok.ensures.asked tell ∙ ap (λ n. g.F.Feed.asked c.args.post.now.feed + n) c.if-is_last.ensures) (λ tell. ap g.F.Feed.given c.bring.ensures.feed ∙ c.next.ensures.given tell) (ap g.F.Feed.losses c.bring.ensures.feed ∙ c.next.ensures.losses) (subst (λ feed. g.F.Feed.failed c.args.post.now.feed ≤ g.F.Feed.failed feed) (sym c.bring.ensures.feed) c.next.ensures.counted) in
+    last_more _ _ _ _ _ 0 0 1 _ _ _ first (last_as _ _ _ _ _ _ _ _ _ _ _ (ap g.F.Feed.tells c.bring.ensures.feed ∙ c.next.ensures.tells) c.bring.ensures.whose refl c.in-Err-drain.ensures.err)

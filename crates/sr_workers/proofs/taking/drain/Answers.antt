@@ -1,10 +1,10 @@
-use Rattle.std.proofs.Common.{rules, ap, ◌∙◌, refl, true, false, sym}
+use Rattle.std.proofs.Common.{rules, refl, arith}
 use Rattle.sr_workers.proofs.Bringing.{none_as}
 use Rattle.sr_workers.proofs.Steps.{did_still, did_more, did_as, last_more, last_as}
 use Rattle.sr_workers.proofs.taking.drain.Goals as goal
 
 pub loop-init : goal.loop-init
-loop-init g c = (refl, refl, refl, refl, refl, c.requires.room, did_still _ _ _ _ _ refl refl refl (λ _. refl) (λ _. refl))
+loop-init g c = (refl, refl, refl, refl, refl, refl, c.requires.room, did_still _ _ _ _ _ refl refl refl (λ _. refl) (λ _. refl) (λ _. refl) refl (omega arith))
 
 pub loop-preserved : goal.loop-preserved
 loop-preserved g c =
@@ -15,14 +15,15 @@ loop-preserved g c =
       search rules,
       search rules,
       search rules,
-      did_more _ _ _ 0 0 _ _ _ _ _ was.6 (did_as _ _ _ _ _ _ _ _ _ _ _ was.3 was.0 (none_as _ _ c.in-Ok-true.field-0-test) c.in-Ok-true.ensures.ok),
+      search rules,
+      did_more _ _ _ 0 0 0 0 _ _ _ _ _ was.7 (did_as _ _ _ _ _ _ _ _ _ _ _ _ _ was.3 was.0 (none_as _ _ c.in-Ok-true.field-0-test) refl c.in-Ok-true.ensures.ok),
     )
 
 pub returns-in-Ok-false-clause-ok : goal.returns-in-Ok-false-clause-ok
 returns-in-Ok-false-clause-ok g c =
     let was = c.loop.invariant in
-    did_more _ _ _ 0 1 _ _ _ _ _ was.6 (did_as _ _ _ _ _ _ _ _ _ _ _ was.3 was.0 (none_as _ _ c.in-Ok-false.field-0-test) c.in-Ok-false.ensures.ok)
+    did_more _ _ _ 0 1 0 0 _ _ _ _ _ was.7 (did_as _ _ _ _ _ _ _ _ _ _ _ _ _ was.3 was.0 (none_as _ _ c.in-Ok-false.field-0-test) refl c.in-Ok-false.ensures.ok)
 
 pub returns-in-Err-clause-err : goal.returns-in-Err-clause-err
 returns-in-Err-clause-err g c =
-    let was = c.loop.invariant in last_more _ _ _ _ _ 0 0 _ _ _ was.6 (last_as _ _ _ _ _ _ _ _ _ _ _ was.3 was.0 refl c.in-Err.ensures.err)
+    let was = c.loop.invariant in last_more _ _ _ _ _ 0 0 0 _ _ _ was.7 (last_as _ _ _ _ _ _ _ _ _ _ _ was.3 was.0 refl c.in-Err.ensures.err)

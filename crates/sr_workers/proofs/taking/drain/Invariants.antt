@@ -8,6 +8,7 @@ invariant-loop g l =
     × (l.post.log.worker ≡ l.initial.post.log.worker)
     × (l.post.unread ≡ l.initial.post.unread)
     × (g.F.Feed.tells l.post.feed ≡ g.F.Feed.tells l.initial.post.feed)
+    × (g.F.Feed.name l.post.feed ≡ g.F.Feed.name l.initial.post.feed)
     × (g.F.Feed.ended l.post.feed ≡ g.F.Feed.ended l.initial.post.feed)
     × HasFrameRoom l.lists
-    × Does g.E.Enters.whose g.E.Enters.count g.F.Feed.tells g.F.Feed.handed g.F.Feed.given (g.G.Framing.meaning l.framing) 0 l.initial.post l.post
+    × Does g.E.Enters.whose g.E.Enters.count g.F.Feed.tells g.F.Feed.handed g.F.Feed.asked g.F.Feed.given g.F.Feed.losses g.F.Feed.failed (g.G.Framing.meaning l.framing) 0 0 l.initial.post l.post
