@@ -31,8 +31,8 @@ class Run:
 
 # The most octets that a test holds: half as many again as it needs.
 TESTS = {
-    # Seven sources, and what is written and read of them.
-    ("sr_unit_tests", "tables::snapshots::any_order"): 16_000,
+    # Tables of one source, and what is written and read of them.
+    ("sr_unit_tests", "tables::snapshots::restored"): 12_500,
     # Tables of 1024 sources in both widths.
     ("sr_unit_tests", "tables::snapshots::there_and_back"): 3_800_000,
     # Rings of a few nodes, whose hosts are handed some ten frames.
