@@ -44,8 +44,8 @@ fn is_same_worker(worker: Worker, other: Worker) -> bool
     }
 }
 
-// What the first log of this worker has, and nothing where it has none.
-fn pairs_of(worker: Worker, logs: &[Log]) -> &[(Event, Answer)]
+/// What the first log of this worker has, and nothing where it has none.
+pub(crate) fn pairs_of(worker: Worker, logs: &[Log]) -> &[(Event, Answer)]
     ensures { result.now ≡ pairs_of worker logs.now }
 {
     let mut rest = logs;
@@ -58,8 +58,8 @@ fn pairs_of(worker: Worker, logs: &[Log]) -> &[(Event, Answer)]
     &[]
 }
 
-// The judgement of both ports, A before B.
-fn judgement_of(a: bool, b: bool) -> Judgement
+/// The judgement of both ports, A before B.
+pub(crate) fn judgement_of(a: bool, b: bool) -> Judgement
     ensures { result ≡ judgement_of a b }
 {
     match (a, b) {

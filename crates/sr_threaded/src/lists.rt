@@ -1,5 +1,7 @@
 //! Lists that are made item by item, of any type. What is let go on the way is let go as any type is.
 
+ghost use Rattle.std.specs.Prelude.{◌≡◌, IfOk, vec_len};
+
 use sr_frame::NoMemory;
 use std::alloc::Global;
 
@@ -30,11 +32,17 @@ pub(crate) fn join_all<A: Drop, B: Drop, X: Drop, J: Fn(A, B) -> X>(
     second: Vec<B>,
     join: &J,
 ) -> Result<Vec<X>, NoMemory>
-    requires { J.IsAlwaysCallable join.now }
+    requires call { J.IsAlwaysCallable join.now }
+    requires len { vec_len first ≡ vec_len second }
+    ensures { IfOk result (λ v. vec_len v ≡ vec_len first) }
 {
     let mut all = Vec::new(alloc);
-    for (a, b) in first.into_iter().zip(second) {
-        all.reserve(1)?;
+    let mut others = second.into_iter();
+    for a in first {
+        if let Err(refused) = all.reserve(1) {
+            return Err(refused.into());
+        }
+        let b = others.next().unwrap();
         all.push_reserved(join(a, b));
     }
     Ok(all)
@@ -44,7 +52,9 @@ pub(crate) fn join_all<A: Drop, B: Drop, X: Drop, J: Fn(A, B) -> X>(
 pub(crate) fn all_of<T: Drop, E: Copy + From<NoMemory> + Drop>(
     alloc: Global,
     outcomes: Vec<Result<T, E>>,
-) -> Result<Vec<T>, E> {
+) -> Result<Vec<T>, E>
+    ensures { IfOk result (λ v. vec_len v ≡ vec_len outcomes) }
+{
     let mut all = Vec::new(alloc);
     for outcome in outcomes {
         let one = match outcome {

@@ -3,90 +3,53 @@
 ghost use Rattle.std.specs.Prelude.{◌≡◌, ◌<◌, ◌↔◌, ◌⊎◌, ℕ, vec_len, slice_index_or, IfOk, IsErrOf};
 ghost use Rattle.sr_threaded.specs.Judged.{IsJudged, before, behind};
 
-use crate::fault::of_crew;
 use crate::judging::judge_ring;
-use crate::lists::{all_of, join_all};
-use crate::node::{Wired, run_branded};
+use crate::lists::join_all;
+use crate::network::{FEWEST_NODES, MOST_NODES, run_wired, wired};
+use crate::node::Wired;
 use crate::wiring::ring_wires;
 use crate::{Judgement, NetworkFault, NodeEnd, NodeKit};
 use sr_forwarding::{Framing, Role};
 use sr_frame::NoMemory;
-use sr_lines::{Cable, Line};
-use sr_workers::{CrewFault, Feed};
+use sr_lines::{Cable, Ends, Line};
+use sr_workers::Feed;
 use std::alloc::Global;
 use std::sync::Wait;
-use std::thread;
 use std::thread::Threads;
 
-/// The fewest nodes of a network.
-const FEWEST_NODES: usize = 2;
-
-/// The most nodes of a network.
-const MOST_NODES: usize = 16;
-
 // A node of a ring at its wires.
-fn wired<N: Role, G: Framing, F: Feed>(
+fn in_ring<N: Role, G: Framing, F: Feed>(
     alloc: Global,
     kit: NodeKit<N, G, F>,
-    at_a: Cable,
-    at_b: Cable,
+    at: (Ends, Ends),
     turns: u64,
 ) -> Wired<N, G, F> {
-    let NodeKit {
-        node,
-        a,
-        b,
-        host,
-        feed,
-    } = kit;
-    Wired {
-        node,
-        a,
-        b,
-        host,
-        at_a: Line::Ring(at_a),
-        at_b: Line::Ring(at_b),
-        at_host: Line::Host(feed),
-        turns,
-        alloc,
-    }
+    let (at_a, at_b) = at;
+    let at_a = Line::Ring(Cable::new(alloc, at_a));
+    let at_b = Line::Ring(Cable::new(alloc, at_b));
+    wired(alloc, kit, at_a, at_b, turns)
 }
 
 // The nodes of a ring at their wires.
-fn all_wired<N: Role, G: Framing, F: Feed>(
+fn all_in_ring<N: Role, G: Framing, F: Feed>(
     alloc: Global,
     kits: Vec<NodeKit<N, G, F>>,
     turns: u64,
-) -> Result<Vec<Wired<N, G, F>>, NoMemory> {
-    let cables = match ring_wires(alloc, kits.len()) {
-        Ok(cables) => cables,
+) -> Result<Vec<Wired<N, G, F>>, NoMemory>
+    requires { 0 < vec_len kits }
+    ensures { IfOk result (λ v. vec_len v ≡ vec_len kits) }
+{
+    let ends = match ring_wires(alloc, kits.len()) {
+        Ok(ends) => ends,
         Err(refused) => {
             drop(kits);
             return Err(refused);
         }
     };
-    let join = |kit: NodeKit<N, G, F>, at: (Cable, Cable)| -> Wired<N, G, F> {
-        wired(alloc, kit, at.0, at.1, turns)
+    let join = |kit: NodeKit<N, G, F>, at: (Ends, Ends)| -> Wired<N, G, F> {
+        in_ring(alloc, kit, at, turns)
     };
-    join_all(alloc, kits, cables, &join)
-}
-
-// Runs nodes at their wires, each on a thread of its own.
-fn run_wired<N: Role + Send, G: Framing + Send, F: Feed + Send, W: Threads + Wait + Sync>(
-    rt: &W,
-    alloc: Global,
-    nodes: Vec<Wired<N, G, F>>,
-) -> Result<Vec<NodeEnd<F>>, NetworkFault>
-    ensures { IsErrOf result NetworkFault.Size → ⊥ }
-{
-    let work = |wired: Wired<N, G, F>| -> Result<NodeEnd<F>, CrewFault> { run_branded(rt, wired) };
-    match thread::map_vec(rt, nodes, &work) {
-        Ok(outcomes) => match all_of(alloc, outcomes) {
-            Ok(ends) => Ok(ends),
-            Err(fault) => Err(of_crew(fault)),
-        },
-        Err(refused) => Err(NoMemory::from(refused).into()),
-    }
+    join_all(alloc, kits, ends, &join)
 }
 
 // The ends of a ring's nodes, with what is judged of their wires.
@@ -94,6 +57,7 @@ fn judged<F: Feed>(
     alloc: Global,
     ends: Vec<NodeEnd<F>>,
 ) -> Result<(Vec<NodeEnd<F>>, Vec<Judgement>), NetworkFault>
+    ensures count { IfOk result (λ r. vec_len r.0 ≡ vec_len ends) }
     ensures each { IfOk result (λ r. (i : ℕ) (e : _) (j : _) → i < vec_len r.0 → IsJudged
         (slice_index_or r.0.items (before i (vec_len r.0)) e).logs.items
         (slice_index_or r.0.items i e).logs.items
@@ -122,7 +86,12 @@ pub fn run_ring<N: Role + Send, G: Framing + Send, F: Feed + Send, W: Threads + 
 ) -> Result<(Vec<NodeEnd<F>>, Vec<Judgement>), NetworkFault>
     ensures size { IsErrOf result NetworkFault.Size
         ↔ ((vec_len kits < 2) ⊎ (16 < vec_len kits)) }
+
+    // As many ends as kits, and as many judgements.
+    ensures count { IfOk result (λ r. vec_len r.0 ≡ vec_len kits) }
     ensures len { IfOk result (λ r. vec_len r.1 ≡ vec_len r.0) }
+
+    // Each node is told exactly whether its wires agree.
     ensures each { IfOk result (λ r. (i : ℕ) (e : _) (j : _) → i < vec_len r.0 → IsJudged
         (slice_index_or r.0.items (before i (vec_len r.0)) e).logs.items
         (slice_index_or r.0.items i e).logs.items
@@ -132,12 +101,15 @@ pub fn run_ring<N: Role + Send, G: Framing + Send, F: Feed + Send, W: Threads + 
     if kits.len() < FEWEST_NODES || kits.len() > MOST_NODES {
         return Err(NetworkFault::Size);
     }
-    let nodes = match all_wired(alloc, kits, turns) {
+    let nodes = match all_in_ring(alloc, kits, turns) {
         Ok(nodes) => nodes,
         Err(fault) => return Err(fault.into()),
     };
     match run_wired(rt, alloc, nodes) {
-        Ok(ends) => judged(alloc, ends),
+        Ok(ends) => match judged(alloc, ends) {
+            Ok(all) => Ok(all),
+            Err(fault) => Err(fault),
+        },
         Err(fault) => Err(fault),
     }
 }

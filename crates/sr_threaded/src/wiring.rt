@@ -1,10 +1,10 @@
 //! The wires of networks.
 
-ghost use Rattle.std.specs.Prelude.{◌≡◌, IfOk};
+ghost use Rattle.std.specs.Prelude.{◌≡◌, ◌<◌, IfOk, vec_len};
 ghost use Rattle.std.specs.Arc.{arc_value};
 
 use sr_frame::NoMemory;
-use sr_lines::{Cable, Ends};
+use sr_lines::Ends;
 use sr_wires::Wire;
 use std::alloc::{AllocError, Global};
 use std::sync::Arc;
@@ -20,7 +20,10 @@ fn shared(alloc: Global, wire: Wire) -> Result<Arc<Wire>, NoMemory>
 }
 
 // The two ends of a link of two wires, one each way.
-fn link(alloc: Global) -> Result<(Ends, Ends), NoMemory> {
+fn link(alloc: Global) -> Result<(Ends, Ends), NoMemory>
+    ensures on { IfOk result (λ r. r.0.send.wire ≡ r.1.take.wire) }
+    ensures back { IfOk result (λ r. r.1.send.wire ≡ r.0.take.wire) }
+{
     let (on, on_send, on_take) = Wire::new(alloc)?;
     let (back, back_send, back_take) = Wire::new(alloc)?;
     let on = shared(alloc, on)?;
@@ -32,18 +35,66 @@ fn link(alloc: Global) -> Result<(Ends, Ends), NoMemory> {
     Ok((first, second))
 }
 
-/// The wires at A and at B of each node of a ring of so many: from B of each to A of the next. NoMemory: an allocation failed.
-pub(crate) fn ring_wires(alloc: Global, count: usize) -> Result<Vec<(Cable, Cable)>, NoMemory> {
-    let mut cables = Vec::new(alloc);
+/// The ends at A and at B of each node of a ring of so many: from B of each to A of the next. NoMemory: an allocation failed.
+pub(crate) fn ring_wires(alloc: Global, count: usize) -> Result<Vec<(Ends, Ends)>, NoMemory>
+    requires { 0 < count }
+    ensures { IfOk result (λ v. vec_len v ≡ count) }
+{
+    let mut all = Vec::new(alloc);
     let (last_b, first_a) = link(alloc)?;
-    let mut at_a = Cable::new(alloc, first_a);
-    for _ in 1..count {
+    let mut at_a = first_a;
+    for _next in 1..count {
         let (at_b, next_a) = link(alloc)?;
-        cables.reserve(1)?;
-        cables.push_reserved((at_a, Cable::new(alloc, at_b)));
-        at_a = Cable::new(alloc, next_a);
+        all.reserve(1)?;
+        all.push_reserved((at_a, at_b));
+        at_a = next_a;
     }
-    cables.reserve(1)?;
-    cables.push_reserved((at_a, Cable::new(alloc, last_b)));
-    Ok(cables)
+    all.reserve(1)?;
+    all.push_reserved((at_a, last_b));
+    Ok(all)
+}
+
+// So many lists of no ends.
+fn no_ends(alloc: Global, count: usize) -> Result<Vec<Vec<Ends>>, NoMemory>
+    ensures { IfOk result (λ v. vec_len v ≡ count) }
+{
+    let mut rows = Vec::new(alloc);
+    for _row in 0..count {
+        rows.reserve(1)?;
+        rows.push_reserved(Vec::new(alloc));
+    }
+    Ok(rows)
+}
+
+// Joins a node to each of these.
+fn join_to(alloc: Global, first: &mut Vec<Ends>, others: &mut [Vec<Ends>]) -> Result<(), NoMemory> {
+    for other in others.iter_mut() {
+        let (here, there) = link(alloc)?;
+        first.reserve(1)?;
+        other.reserve(1)?;
+        first.push_reserved(here);
+        other.push_reserved(there);
+    }
+    Ok(())
+}
+
+// Joins each of these nodes to those behind it.
+fn join_each(alloc: Global, rows: &mut [Vec<Ends>]) -> Result<(), NoMemory> {
+    for at in 0..rows.len() {
+        let (_, behind) = rows.split_at_mut(at);
+        if let Some((first, others)) = behind.split_first_mut() {
+            join_to(alloc, first, others)?;
+        }
+    }
+    Ok(())
+}
+
+/// The ends of each of so many nodes at a LAN: the wires to and from each other node, in the order of the nodes. NoMemory: an
+/// allocation failed.
+pub(crate) fn lan_wires(alloc: Global, count: usize) -> Result<Vec<Vec<Ends>>, NoMemory>
+    ensures { IfOk result (λ v. vec_len v ≡ count) }
+{
+    let mut rows = no_ends(alloc, count)?;
+    join_each(alloc, rows.as_mut_slice())?;
+    Ok(rows)
 }

@@ -1,4 +1,4 @@
-use Rattle.std.proofs.Common.{rules, arith, ◌≡◌, ◌+◌, ◌<◌, ℕ, List, length, vec_len, vec_items, get_or, sym, ap, ◌∙◌, subst}
+use Rattle.std.proofs.Common.{rules, ◌<◌, List, length, vec_items, get_or, ap, ◌∙◌, subst}
 use Rattle.sr_ports.specs.declared.log.Log.{Log}
 use Rattle.sr_threaded.specs.Judged.{IsJudged, before, behind}
 use Rattle.sr_threaded.proofs.Rows.{any_default, push_each}

@@ -1,4 +1,4 @@
-use Rattle.std.proofs.Common.{rules, ◌≡◌, ◌<◌, ℕ, List, length, vec_len, get_or, sym, subst}
+use Rattle.std.proofs.Common.{rules, ◌≡◌, ◌<◌, ℕ, List, length, vec_len, get_or, subst}
 use Rattle.sr_threaded.specs.Judged.{IsJudged, before, behind}
 use Rattle.sr_threaded.specs.declared.kit.NodeEnd.{NodeEnd}
 use Rattle.sr_threaded.proofs.ring.judged.Goals as goal
