@@ -51,9 +51,18 @@ _seamless() {
     "lan --nodes") ;;
     "lan --mode") words="h x" ;;
     "lan --window") words="1024 2048" ;;
+    "ring-lan --ring") ;;
+    "ring-lan --lan") ;;
+    "ring-lan --mode") words="h x" ;;
+    "ring-lan --window") words="1024 2048" ;;
+    "two-rings --left") ;;
+    "two-rings --right") ;;
+    "two-rings --joins") ;;
+    "two-rings --mode") words="h x" ;;
+    "two-rings --window") words="1024 2048" ;;
     *)
         case "$COMP_CWORD ${COMP_WORDS[1]}" in
-        "1 "*) words="replay status script audit merge ring lan --help --version" ;;
+        "1 "*) words="replay status script audit merge ring lan ring-lan two-rings --help --version" ;;
         *" replay") words="--role --mac --lan --net --mode --window --help" ;;
         *" status") words="--role --mac --lan --net --mode --window --counters --help" ;;
         *" script") words="--a --b --c --shift-a --shift-b --shift-c --fcs --from --to --tick --help" ;;
@@ -61,6 +70,8 @@ _seamless() {
         *" merge") words="--a --b --write --network --shift-a --shift-b --fcs --from --to --keep --only --help" ;;
         *" ring") words="--nodes --mode --window --help" ;;
         *" lan") words="--nodes --mode --window --help" ;;
+        *" ring-lan") words="--ring --lan --mode --window --help" ;;
+        *" two-rings") words="--left --right --joins --mode --window --help" ;;
         esac
         ;;
     esac
