@@ -3,13 +3,13 @@ use Rattle.std.specs.Prelude.{ℕ, Bool, List, [], ◌∷◌, ◌++◌}
 use Rattle.sr_forwarding.specs.declared.role_image.RoleKind.{RoleKind}
 use Rattle.sr_forwarding.specs.declared.role_image.RoleKind.TheVariants.{Danp, Danh}
 use Rattle.sr_forwarding.specs.RoleImages.{role_of}
-use Rattle.sr_node.specs.Images.{State, begun, plain}
+use Rattle.sr_node.specs.Images.{State, begun, plain_settings}
 use Rattle.sr_plant.specs.Building.{is_plant}
 use Rattle.sr_plant.specs.Coupled.{ring_lan_of, two_rings_of}
 
 -- a new node of this kind, with the address 02:00:00:00:00:XX, XX being its number
 abbrev pub new_of : RoleKind → ℕ → State
-new_of kind number = begun (role_of kind (record { 0 = 2 ∷ 0 ∷ 0 ∷ 0 ∷ 0 ∷ number ∷ [] })) plain
+new_of kind number = begun (role_of kind (record { 0 = 2 ∷ 0 ∷ 0 ∷ 0 ∷ 0 ∷ number ∷ [] })) plain_settings
 
 -- a ring of three nodes, of which two are of these kinds
 abbrev pub ring_with : RoleKind → RoleKind → List State
