@@ -1,7 +1,7 @@
 -- One node more is reported.
 use Rattle.std.proofs.Common.{◌≡◌, ◌+◌, ◌++◌, ℕ, List, [], refl, sym, subst}
 use Rattle.sr_ports.specs.declared.settling.Settlement.{Settlement}
-use Rattle.sr_threaded_script.specs.Reports.{IsReport, AreReports, none, more, node_lines}
+use Rattle.sr_threaded_script.specs.Reports.{IsReport, none, more, node_lines}
 
 pub one_more : (n : ℕ) (text later : List ℕ) (given : List (List ℕ)) (s : Settlement) (lost : ℕ) → IsReport n text
     → later ≡ text ++ node_lines n given s lost → IsReport (n + 1) later

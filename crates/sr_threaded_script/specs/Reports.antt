@@ -1,5 +1,5 @@
 -- What is printed of the nodes of a threaded network.
-use Rattle.std.specs.Prelude.{◌≡◌, ◌<◌, ◌^◌, ℕ, ◌+◌, List, [], ◌∷◌, ◌++◌, length, codes}
+use Rattle.std.specs.Prelude.{◌≡◌, ℕ, ◌+◌, List, [], ◌∷◌, ◌++◌, codes}
 use Rattle.std.specs.Fmt.{decimal}
 use Rattle.sr_ports.specs.declared.worker.Worker.{Worker}
 use Rattle.sr_ports.specs.declared.worker.Worker.TheVariants as who

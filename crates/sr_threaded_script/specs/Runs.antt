@@ -3,7 +3,6 @@ use Rattle.std.specs.Prelude.{◌≡◌, ◌⊎◌, ℕ, List, [], ◌++◌, Opt
 use Rattle.std.specs.Io.KnownBytes.{Appends}
 use Rattle.sr_session.specs.Lines.{lines_of}
 use Rattle.sr_session.specs.Runs.{IsAnswered, IsNotBegun, EndsAt}
-use Rattle.sr_session.specs.declared.fault.Fault.{Fault}
 use Rattle.sr_plant_script.specs.declared.setup.PlantSetup.{PlantSetup}
 use Rattle.sr_threaded_script.specs.declared.fault.ThreadedFault.{ThreadedFault}
 use Rattle.sr_threaded_script.specs.declared.fault.ThreadedFault.TheVariants.{Script, NoThread}

@@ -1,4 +1,4 @@
-use Rattle.std.proofs.Common.{rules, ◌≡◌}
+use Rattle.std.proofs.Common.{rules}
 use Rattle.sr_threaded_script.proofs.Reported.{one_more, no_node}
 use Rattle.sr_threaded_script.proofs.network.append_ends.Goals as goal
 

@@ -1,4 +1,4 @@
-use Rattle.std.proofs.Common.{rules, ◌≡◌, List, ℕ, subst}
+use Rattle.std.proofs.Common.{subst}
 use Rattle.std.specs.Prelude.{IfSome}
 use Rattle.sr_session.specs.Lines.{lines_of}
 use Rattle.sr_session.specs.Runs.{IsAnswered}
