@@ -6,7 +6,7 @@ use crate::address::mac_of;
 use crate::audit_line::{AuditTask, audit_command, audit_task, format_words, network_words};
 use crate::examples;
 use crate::merge_line::{MergeTask, merge_command, merge_task, scope_words};
-use crate::plant_line::{plant_command, plant_of};
+use crate::plant_line::{plant_command, plant_of, turns_in};
 use crate::refusal::Refused;
 use crate::script_line::{ScriptTask, script_command, script_task};
 use clap::builder::PossibleValue;
@@ -356,6 +356,17 @@ pub enum Task<'a> {
     Merge(MergeTask<'a>),
     /// Run a script on a plant.
     Plant(PlantSetup),
+    /// Run what a script sends on a plant whose nodes run on threads, for so many turns.
+    Threads(PlantSetup, u64),
+}
+
+/// What a subcommand for a plant asks for.
+fn plant_task<'a>(topology: Topology, matches: &ArgMatches<'a>) -> Task<'a> {
+    let setup = plant_of(topology, matches);
+    match turns_in(matches) {
+        Some(turns) => Task::Threads(setup, turns),
+        None => Task::Plant(setup),
+    }
 }
 
 /// What the words that the parser let through ask for.
@@ -379,10 +390,10 @@ fn task_in<'a>(matches: &ArgMatches<'a>) -> Result<Task<'a>, Refused> {
         };
     }
     if let Some(ring) = matches.subcommand_matches("ring") {
-        return Ok(Task::Plant(plant_of(Topology::Ring, ring)));
+        return Ok(plant_task(Topology::Ring, ring));
     }
     if let Some(lan) = matches.subcommand_matches("lan") {
-        return Ok(Task::Plant(plant_of(Topology::TwinLan, lan)));
+        return Ok(plant_task(Topology::TwinLan, lan));
     }
     if let Some(replay) = matches.subcommand_matches("replay") {
         return Ok(Task::Run(Report::Frames, setup_of(replay)?));
