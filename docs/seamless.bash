@@ -46,9 +46,11 @@ _seamless() {
     "merge --to") ;;
     "merge --only") words="lost" ;;
     "ring --nodes") ;;
+    "ring --turns") ;;
     "ring --mode") words="h x" ;;
     "ring --window") words="1024 2048" ;;
     "lan --nodes") ;;
+    "lan --turns") ;;
     "lan --mode") words="h x" ;;
     "lan --window") words="1024 2048" ;;
     "ring-lan --ring") ;;
@@ -68,8 +70,8 @@ _seamless() {
         *" script") words="--a --b --c --shift-a --shift-b --shift-c --fcs --from --to --tick --help" ;;
         *" audit") words="--a --b --mirror --network --shift-a --shift-b --fcs --from --to --list --format --check --help" ;;
         *" merge") words="--a --b --write --network --shift-a --shift-b --fcs --from --to --keep --only --help" ;;
-        *" ring") words="--nodes --mode --window --help" ;;
-        *" lan") words="--nodes --mode --window --help" ;;
+        *" ring") words="--nodes --turns --mode --window --help" ;;
+        *" lan") words="--nodes --turns --mode --window --help" ;;
         *" ring-lan") words="--ring --lan --mode --window --help" ;;
         *" two-rings") words="--left --right --joins --mode --window --help" ;;
         esac

@@ -7,7 +7,7 @@ use crate::audit_line::{AuditTask, audit_command, audit_task, format_words, netw
 use crate::coupled_line::{ring_lan_command, ring_lan_of, two_rings_command, two_rings_of};
 use crate::examples;
 use crate::merge_line::{MergeTask, merge_command, merge_task, scope_words};
-use crate::plant_line::{plant_command, ring_of, twin_lan_of};
+use crate::plant_line::{plant_command, ring_of, threads_of, turns_in, twin_lan_of};
 use crate::refusal::Refused;
 use crate::script_line::{ScriptTask, script_command, script_task};
 use clap::builder::PossibleValue;
@@ -16,6 +16,7 @@ use clap::{Arg, ArgAction, ArgGroup, ArgMatches, Command, Error};
 use sr_dup_table::Width;
 use sr_node::{Mode, Settings};
 use sr_plant_script::PlantSetup;
+use sr_threaded_script::{ThreadedNet, ThreadedSetup};
 use sr_prp_trailer::Lan;
 use sr_script::{PrpRouting, RoleName, Setup};
 use sr_slots::Keys;
@@ -359,6 +360,17 @@ pub enum Task<'a> {
     Merge(MergeTask<'a>),
     /// Run a script on a plant.
     Plant(PlantSetup),
+    /// Run what a script sends on a plant whose nodes run on threads, for so many turns.
+    Threads(ThreadedSetup, u64),
+}
+
+/// What `ring` or `lan` asks for: a plant, or nodes that run on threads.
+fn network_task<'a>(net: ThreadedNet, matches: &ArgMatches<'a>) -> Task<'a> {
+    match (turns_in(matches), net) {
+        (Some(turns), _) => Task::Threads(threads_of(net, matches), turns),
+        (None, ThreadedNet::Ring) => Task::Plant(ring_of(matches)),
+        (None, ThreadedNet::TwinLan) => Task::Plant(twin_lan_of(matches)),
+    }
 }
 
 /// What the words that the parser let through ask for.
@@ -382,10 +394,10 @@ fn task_in<'a>(matches: &ArgMatches<'a>) -> Result<Task<'a>, Refused> {
         };
     }
     if let Some(ring) = matches.subcommand_matches("ring") {
-        return Ok(Task::Plant(ring_of(ring)));
+        return Ok(network_task(ThreadedNet::Ring, ring));
     }
     if let Some(lan) = matches.subcommand_matches("lan") {
-        return Ok(Task::Plant(twin_lan_of(lan)));
+        return Ok(network_task(ThreadedNet::TwinLan, lan));
     }
     if let Some(ring_lan) = matches.subcommand_matches("ring-lan") {
         return Ok(Task::Plant(ring_lan_of(ring_lan)));

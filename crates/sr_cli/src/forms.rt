@@ -62,13 +62,18 @@ const TICK: Form = Form {
     shown: "tick T",
 };
 
+const PLANT_SEND: Form = Form {
+    name: "send",
+    parts: &[Part::Number, Part::Destination, Part::Octets],
+    shown: "send I D HEX",
+};
+
+/// The lines of a script for a ring or for two LANs whose nodes run on threads.
+pub const THREAD_FORMS: &[Form] = &[PLANT_SEND];
+
 /// The lines of a script for a ring or for two LANs.
 pub const PLANT_FORMS: &[Form] = &[
-    Form {
-        name: "send",
-        parts: &[Part::Number, Part::Destination, Part::Octets],
-        shown: "send I D HEX",
-    },
+    PLANT_SEND,
     Form {
         name: "carry",
         parts: &[Part::Number],

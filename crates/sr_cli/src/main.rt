@@ -29,12 +29,14 @@ use command_line::{Task, Words, task_of};
 use merge::run_merge;
 use progress::Progress;
 use refusal::Refused;
-use running::{play, run_node};
+use running::{play, play_threaded, run_node};
 use script::run_script;
 use std::io::IsTerminal;
 use std::process::ExitCode;
 use std::random::RandomSource;
 use std::rt::{Env, Files};
+use std::sync::Wait;
+use std::thread::Threads;
 
 /// The exit status of a fault of the script, a read, a write or memory.
 const RUN_FAILED: u8 = 1;
@@ -65,7 +67,9 @@ fn tell_refused<R: Print + Eprint>(rt: &R, refused: Refused) -> Result<(), u8> {
 }
 
 /// Reads the command line and runs the script. An error is the exit status; why is on standard error.
-fn start<R: AllocGlobal + Print + Eprint + Input + Env + Files + RandomSource>(
+fn start<
+    R: AllocGlobal + Print + Eprint + Input + Env + Files + RandomSource + Threads + Wait + Sync,
+>(
     rt: &R,
     progress: Progress,
 ) -> Result<(), u8> {
@@ -82,6 +86,9 @@ fn start<R: AllocGlobal + Print + Eprint + Input + Env + Files + RandomSource>(
         Ok(Task::Merge(task)) => run_merge(rt, &task, progress).map_err(|()| RUN_FAILED),
         Ok(Task::Run(report, setup)) => run_node(rt, report, &setup).map_err(|()| RUN_FAILED),
         Ok(Task::Plant(setup)) => play(rt, &setup).map_err(|()| RUN_FAILED),
+        Ok(Task::Threads(setup, turns)) => {
+            play_threaded(rt, &setup, turns).map_err(|()| RUN_FAILED)
+        }
         Err(refused) => tell_refused(rt, refused),
     }
 }

@@ -3,7 +3,7 @@
 
 use crate::command_line::Report;
 use crate::flaws::Flaw;
-use crate::forms::{Form, NODE_FORMS, PLANT_FORMS, REDBOX_FORMS};
+use crate::forms::{Form, NODE_FORMS, PLANT_FORMS, REDBOX_FORMS, THREAD_FORMS};
 use crate::line_flaws::{found_in, is_capture};
 use crate::pipes::{Kept, MOST_KEPT, Pipe};
 use crate::tails::tell_tail;
@@ -11,9 +11,12 @@ use sr_plant_script::{PlantSetup, run_plant};
 use sr_script::{RoleName, Setup, run, run_status, run_tally};
 use sr_session::{Fault, NOT_BEGUN, Word};
 use sr_slots::Keys;
+use sr_threaded_script::{ThreadedFault, ThreadedSetup, is_threaded_line, run_threaded};
 use std::alloc::{AllocError, Global};
 use std::io::{self, BufRead, BufReader, Read, Write};
 use std::random::RandomSource;
+use std::sync::Wait;
+use std::thread::Threads;
 
 /// How many octets of a script are read at once: as many as a pipe holds. What is printed for their lines is then written at once.
 const READ_AHEAD: usize = 64 * 1024;
@@ -252,5 +255,59 @@ pub fn play<R: AllocGlobal + Print + Eprint + Input>(rt: &R, setup: &PlantSetup)
             tell_ended(rt, fault.line, &ends, taken, PLANT_FORMS);
         }
     }
+    Err(())
+}
+
+/// Says what is wrong with the line that ended a threaded run: the one that was taken last, if that is none, else the next.
+fn tell_threaded_line<R: Eprint>(rt: &R, alloc: Global, number: u64, ends: &Ends) {
+    let line = if is_threaded_line(alloc, ends.taken()) {
+        ends.coming.as_slice()
+    } else {
+        ends.taken()
+    };
+    tell_line(rt, number, line, THREAD_FORMS);
+}
+
+/// Says what ended a threaded run, but where nobody reads any more what it writes.
+fn tell_threaded<R: Eprint>(
+    rt: &R,
+    alloc: Global,
+    fault: ThreadedFault,
+    is_closed: bool,
+    ends: &Ends,
+) {
+    match fault {
+        ThreadedFault::Script(fault) => {
+            if tell(rt, fault, is_closed, ends) {
+                tell_threaded_line(rt, alloc, fault.line, ends);
+            }
+        }
+        ThreadedFault::NoThread(_) => {
+            let _ = eprintln!(rt; "{fault}\nno thread can be started: take fewer nodes");
+        }
+    }
+}
+
+/// Runs what the script on standard input sends, on a new plant whose nodes run on threads, and writes what comes of it to
+/// standard output. What ends it early is told.
+pub fn play_threaded<R: AllocGlobal + Print + Eprint + Input + Threads + Wait + Sync>(
+    rt: &R,
+    setup: &ThreadedSetup,
+    turns: u64,
+) -> Result<(), ()> {
+    let alloc = rt.alloc();
+    let Ok(mut script) = script_of(alloc, rt.reader()) else {
+        let _ = eprintln!(rt; "{NOT_BEGUN}");
+        return Err(());
+    };
+    let mut writer = Pipe::new(io::writer(rt));
+    let Err(fault) = run_threaded(rt, alloc, setup, turns, &mut script, &mut writer) else {
+        return Ok(());
+    };
+    let Ok(ends) = ends_of(alloc, &mut script) else {
+        let _ = eprintln!(rt; "{fault}");
+        return Err(());
+    };
+    tell_threaded(rt, alloc, fault, writer.is_closed(), &ends);
     Err(())
 }

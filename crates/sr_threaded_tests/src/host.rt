@@ -1,40 +1,10 @@
-//! A host over memory, and the framings of a ring's node.
+//! A host over memory.
 
-use sr_forwarding::{Framing, HsrFraming, ParcelView, PlainFraming, ReadFault};
 use sr_frame::Frame;
 use sr_workers::{Feed, FeedFault, Given, Turn};
 use std::sync::atomic::{AtomicU64, Ordering};
 use std::sync::{Arc, Wait};
 use std::thread;
-
-/// How a port of a ring's node carries frames.
-#[derive(Clone, Copy)]
-pub enum At {
-    /// At A or B.
-    Ring(HsrFraming),
-    /// At the host.
-    Host,
-}
-
-impl Framing for At {
-    ghost use Rattle.sr_threaded_tests.specs.Meanings.{meaning_at};
-
-    ghost meaning = { meaning_at };
-
-    fn read<'a>(&self, octets: &'a [u8]) -> Result<ParcelView<'a>, ReadFault> {
-        match self {
-            At::Ring(framing) => framing.read(octets),
-            At::Host => PlainFraming.read(octets),
-        }
-    }
-
-    fn write(&self, out: &mut Vec<u8>, parcel: &ParcelView<'_>) -> Result<(), ReadFault> {
-        match self {
-            At::Ring(framing) => framing.write(out, parcel),
-            At::Host => PlainFraming.write(out, parcel),
-        }
-    }
-}
 
 /// A host that sends a frame, or none, is idle ever after, and counts what it is given. In its first `next` it waits, for so
 /// many looks, until so many hosts were asked.

@@ -5,6 +5,8 @@ pub mod host;
 #[cfg(test)]
 mod networks;
 #[cfg(test)]
-mod rings;
+mod runs;
+#[cfg(test)]
+mod scripts;
 #[cfg(test)]
 mod wires;

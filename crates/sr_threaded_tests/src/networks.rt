@@ -1,13 +1,18 @@
 //! Runs of threaded networks, and what is looked for in them.
 
-use crate::host::{At, Host};
-use sr_forwarding::{Danh, HsrFraming};
+use crate::host::Host;
+use sr_forwarding::{HsrFraming, OwnRole, PrpFraming};
 use sr_frame::{Frame, Mac};
 use sr_lines::Line;
 use sr_node::{Answer, Event, NodeOf};
+use sr_plant_script::Topology;
 use sr_ports::{Log, Settlement, Worker};
+use sr_prp_trailer::Lan;
 use sr_sequence::Seq;
-use sr_threaded::{Judgement, NetworkFault, NodeEnd, NodeKit, run_ring, settlement_of};
+use sr_threaded::{
+    Judgement, NetworkFault, NodeEnd, NodeKit, run_ring, run_twin, settlement_of,
+};
+use sr_threaded_script::{Member, MemberRouting, PortFraming};
 use std::alloc::Global;
 use std::process::Abort;
 use std::sync::atomic::{AtomicU64, Ordering};
@@ -18,13 +23,13 @@ use std::thread::Threads;
 /// A step of a test.
 #[derive(Clone, Copy)]
 pub(super) enum Step {
-    /// A ring of so many nodes and turns settles, and hands up what its first node sends at most once at each other; in one of so
-    /// many runs all others hand it up.
-    All(u8, u64, u32),
-    /// A ring of so many nodes and turns settles.
-    Each(u8, u64),
-    /// A ring of so many nodes is refused.
-    Refused(u8),
+    /// A network of so many nodes and turns settles, and hands up what its first node sends at most once at each other; in one of
+    /// so many runs all others hand it up.
+    All(Topology, u8, u64, u32),
+    /// A network of so many nodes and turns settles.
+    Each(Topology, u8, u64),
+    /// A network of so many nodes is refused.
+    Refused(Topology, u8),
 }
 
 const GROUP_FRAME: [u8; 15] = [
@@ -65,19 +70,45 @@ fn host_of(
     })
 }
 
+// How the ports A and B of a node carry frames.
+fn framings_of(topology: Topology) -> (PortFraming, PortFraming) {
+    match topology {
+        Topology::Ring => (
+            PortFraming::Ring(HsrFraming { path: 0 }),
+            PortFraming::Ring(HsrFraming { path: 1 }),
+        ),
+        Topology::TwinLan => (
+            PortFraming::Lan(PrpFraming {
+                lan: Lan::A,
+                net: 0,
+            }),
+            PortFraming::Lan(PrpFraming {
+                lan: Lan::B,
+                net: 0,
+            }),
+        ),
+    }
+}
+
 fn kit_of(
     alloc: Global,
+    topology: Topology,
     number: u8,
     asked: &Arc<AtomicU64>,
     missed: &Arc<AtomicU64>,
-) -> Option<NodeKit<Danh, At, Host>> {
+) -> Option<NodeKit<Member, PortFraming, Host>> {
     let feed = host_of(alloc, number, asked, missed)?;
-    match NodeOf::new(alloc, Danh::new(Mac([2, 0, 0, 0, 0, number]))) {
+    let (a, b) = framings_of(topology);
+    let role = OwnRole::of(
+        Mac([2, 0, 0, 0, 0, number]),
+        MemberRouting { topology },
+    );
+    match NodeOf::new(alloc, role) {
         Ok(node) => Some(NodeKit {
             node,
-            a: At::Ring(HsrFraming { path: 0 }),
-            b: At::Ring(HsrFraming { path: 1 }),
-            host: At::Host,
+            a,
+            b,
+            host: PortFraming::Host,
             feed,
         }),
         Err(_) => None,
@@ -86,13 +117,14 @@ fn kit_of(
 
 fn kits_of(
     alloc: Global,
+    topology: Topology,
     count: u8,
     asked: &Arc<AtomicU64>,
     missed: &Arc<AtomicU64>,
-) -> Option<Vec<NodeKit<Danh, At, Host>>> {
+) -> Option<Vec<NodeKit<Member, PortFraming, Host>>> {
     let mut kits = Vec::new(alloc);
     for number in 0..count {
-        match kit_of(alloc, number, asked, missed) {
+        match kit_of(alloc, topology, number, asked, missed) {
             Some(kit) => kits.push(kit).ok()?,
             None => return None,
         }
@@ -184,18 +216,32 @@ fn look_at(
     }
 }
 
-// Runs a ring. None where an allocation failed in the making, or where a host waited in vain.
+fn run_kits<W: Threads + Wait + Sync>(
+    rt: &W,
+    alloc: Global,
+    topology: Topology,
+    kits: Vec<NodeKit<Member, PortFraming, Host>>,
+    turns: u64,
+) -> Result<(Vec<NodeEnd<Host>>, Vec<Judgement>), NetworkFault> {
+    match topology {
+        Topology::Ring => run_ring(rt, alloc, kits, turns),
+        Topology::TwinLan => run_twin(rt, alloc, kits, turns),
+    }
+}
+
+// Runs a network. None where an allocation failed in the making, or where a host waited in vain.
 fn run<W: Threads + Wait + Sync>(
     rt: &W,
     alloc: Global,
+    topology: Topology,
     count: u8,
     turns: u64,
 ) -> Option<Result<Seen, NetworkFault>> {
     let asked = Arc::new(alloc, AtomicU64::new(0)).ok()?;
     let missed = Arc::new(alloc, AtomicU64::new(0)).ok()?;
-    match kits_of(alloc, count, &asked, &missed) {
+    match kits_of(alloc, topology, count, &asked, &missed) {
         Some(kits) => {
-            let seen = look_at(run_ring(rt, alloc, kits, turns), turns);
+            let seen = look_at(run_kits(rt, alloc, topology, kits, turns), turns);
             if missed.load(Ordering::SeqCst) > 0 {
                 return None;
             }
@@ -208,12 +254,13 @@ fn run<W: Threads + Wait + Sync>(
 fn all_hand_up<W: Threads + Wait + Sync>(
     rt: &W,
     alloc: Global,
+    topology: Topology,
     count: u8,
     turns: u64,
     runs: u32,
 ) -> bool {
     for _ in 0..runs {
-        match run(rt, alloc, count, turns) {
+        match run(rt, alloc, topology, count, turns) {
             Some(Ok(seen)) => {
                 if !seen.well {
                     return false;
@@ -230,12 +277,14 @@ fn all_hand_up<W: Threads + Wait + Sync>(
 
 fn holds<W: Threads + Wait + Sync>(rt: &W, alloc: Global, step: Step) -> bool {
     match step {
-        Step::All(count, turns, runs) => all_hand_up(rt, alloc, count, turns, runs),
-        Step::Each(count, turns) => match run(rt, alloc, count, turns) {
+        Step::All(topology, count, turns, runs) => {
+            all_hand_up(rt, alloc, topology, count, turns, runs)
+        }
+        Step::Each(topology, count, turns) => match run(rt, alloc, topology, count, turns) {
             Some(Ok(seen)) => seen.well,
             _ => false,
         },
-        Step::Refused(count) => match run(rt, alloc, count, 1) {
+        Step::Refused(topology, count) => match run(rt, alloc, topology, count, 1) {
             Some(Err(fault)) => fault == NetworkFault::Size,
             _ => false,
         },

@@ -1,0 +1,134 @@
+//! The host of a node of a threaded network.
+
+ghost use Rattle.std.specs.Prelude.{◌≡◌, ◌+◌, [], OnOk, OnErr};
+ghost use Rattle.sr_workers.specs.Told.{lost_after};
+
+use sr_frame::{Frame, FrameFault};
+use sr_workers::{Feed, FeedFault, Given, Turn};
+use std::alloc::Global;
+use std::sync::Wait;
+
+/// A host that sends its frames in order, each at time 0, is idle ever after, and keeps what it is given.
+#[derive(Debug, Drop)]
+pub struct Host {
+    frames: Vec<Frame>,
+    next: usize,
+    given: Vec<Frame>,
+    lost: u64,
+    ended: bool,
+    failures: u64,
+    alloc: Global,
+}
+
+impl Host {
+    ghost use Rattle.sr_threaded_script.specs.Hosts.{will_send, host_given};
+
+    /// A host that is to send these.
+    pub fn new(alloc: Global, frames: Vec<Frame>) -> Host
+        ensures left { will_send result ≡ frames.items }
+        ensures given { host_given result ≡ [] }
+    {
+        Host {
+            frames,
+            next: 0,
+            given: Vec::new(alloc),
+            lost: 0,
+            ended: false,
+            failures: 0,
+            alloc,
+        }
+    }
+
+    /// The frames that it was given, in order.
+    pub fn given(&self) -> &[Frame]
+        ensures { result.now ≡ host_given self.now }
+    {
+        &self.given
+    }
+
+    // A growth was refused: that is a failure, or nothing where there were as many as can be counted.
+    fn fail(&mut self) -> Result<(), FeedFault>
+        ensures lost { self.new.lost ≡ self.old.lost }
+        ensures ok { OnOk result (self.new.failures ≡ self.old.failures) }
+        ensures err { OnErr result (self.new.failures ≡ self.old.failures + 1) }
+        ensures ended { self.new.ended ≡ self.old.ended }
+    {
+        if self.failures == u64::MAX {
+            return Ok(());
+        }
+        self.failures += 1;
+        Err(FeedFault)
+    }
+
+    // A frame is lost, and counted.
+    fn lose(&mut self) -> Given
+        ensures given { result ≡ Given.Lost }
+        ensures lost { self.new.lost ≡ lost_after self.old.lost result }
+        ensures failures { self.new.failures ≡ self.old.failures }
+        ensures ended { self.new.ended ≡ self.old.ended }
+    {
+        self.lost = self.lost.saturating_add(1);
+        Given::Lost
+    }
+}
+
+impl Feed for Host {
+    ghost use Rattle.std.specs.Prelude.{[], false};
+
+    ghost Name = { Unit {0} };
+
+    ghost name = { λ _. tt };
+
+    ghost tells = { λ _. false };
+
+    ghost handed = { λ _. [] };
+
+    ghost given = { λ _. [] };
+
+    ghost asked = { λ _. 0 };
+
+    ghost losses = { λ h. h.lost };
+
+    ghost ended = { λ h. h.ended };
+
+    ghost failed = { λ h. h.failures };
+
+    fn next<W: Wait>(&mut self, _rt: &W, into: &mut Vec<u8>) -> Result<Turn, FeedFault> {
+        if self.next >= self.frames.len() {
+            return Ok(Turn::Idle);
+        }
+        into.clear();
+        if into
+            .extend_from_slice(self.frames[self.next].octets())
+            .is_err()
+        {
+            self.fail()?;
+            self.ended = true;
+            return Ok(Turn::End);
+        }
+        self.next += 1;
+        Ok(Turn::Frame(0))
+    }
+
+    fn give<W: Wait>(&mut self, _rt: &W, octets: &[u8]) -> Result<Given, FeedFault> {
+        if self.given.reserve(1).is_err() {
+            self.fail()?;
+            return Ok(self.lose());
+        }
+        match Frame::copy(self.alloc, octets) {
+            Ok(frame) => {
+                self.given.push_reserved(frame);
+                Ok(Given::Put)
+            }
+            Err(FrameFault::NoMemory) => {
+                self.fail()?;
+                Ok(self.lose())
+            }
+            Err(_) => Ok(self.lose()),
+        }
+    }
+
+    fn failures(&self) -> u64 {
+        self.failures
+    }
+}

@@ -1,0 +1,183 @@
+//! The network of a script, from its first node to what is printed of its last.
+
+ghost use Rattle.std.specs.Prelude.{◌≡◌, ◌≤◌, ◌<◌, ◌++◌, [], ℕ, List, length, vec_len, IfOk, OnOk};
+ghost use Rattle.sr_plant.specs.Limits.{most_nodes};
+ghost use Rattle.sr_threaded_script.specs.Reports.{IsReport, IsNodeReport};
+
+use crate::fault::RunFault;
+use crate::host::Host;
+use crate::member::{Member, MemberRouting, PortFraming, mac_of};
+use crate::printing::append_report;
+use crate::setup::{ThreadedNet, ThreadedSetup};
+use sr_forwarding::{HsrFraming, OwnRole, PrpFraming};
+use sr_frame::{Frame, NoMemory};
+use sr_lines::Line;
+use sr_node::NodeOf;
+use sr_prp_trailer::Lan;
+use sr_text::Text;
+use sr_threaded::{Judgement, NetworkFault, NodeEnd, NodeKit, run_ring, run_twin, settlement_of};
+use sr_workers::WorkerFault;
+use std::alloc::{AllocError, Global};
+use std::sync::Wait;
+use std::thread::Threads;
+
+// How port A carries frames.
+fn framing_at_a(net: ThreadedNet) -> PortFraming {
+    match net {
+        ThreadedNet::Ring => PortFraming::Ring(HsrFraming { path: 0 }),
+        ThreadedNet::TwinLan => PortFraming::Lan(PrpFraming {
+            lan: Lan::A,
+            net: 0,
+        }),
+    }
+}
+
+// How port B does.
+fn framing_at_b(net: ThreadedNet) -> PortFraming {
+    match net {
+        ThreadedNet::Ring => PortFraming::Ring(HsrFraming { path: 1 }),
+        ThreadedNet::TwinLan => PortFraming::Lan(PrpFraming {
+            lan: Lan::B,
+            net: 0,
+        }),
+    }
+}
+
+// The node of this number, and its host, which is to send these frames.
+fn kit_of(
+    alloc: Global,
+    setup: &ThreadedSetup,
+    number: usize,
+    frames: Vec<Frame>,
+) -> Result<NodeKit<Member, PortFraming, Host>, NoMemory>
+    requires { number < most_nodes }
+{
+    let net = setup.net;
+    let role = OwnRole::of(mac_of(number), MemberRouting { net });
+    let feed = Host::new(alloc, frames);
+    match NodeOf::with(alloc, role, setup.settings) {
+        Ok(node) => Ok(NodeKit {
+            node,
+            a: framing_at_a(net),
+            b: framing_at_b(net),
+            host: PortFraming::Host,
+            feed,
+        }),
+        Err(refused) => Err(refused),
+    }
+}
+
+// The frames that the host of a node is to send, in order.
+fn frames_of(
+    alloc: Global,
+    sent: &[(usize, Frame)],
+    number: usize,
+) -> Result<Vec<Frame>, NoMemory> {
+    let mut frames = Vec::new(alloc);
+    for (node, frame) in sent {
+        if *node == number {
+            let copy = frame.try_clone(alloc)?;
+            frames.push(copy).map_err(AllocError::from)?;
+        }
+    }
+    Ok(frames)
+}
+
+// The nodes of a network, and their hosts.
+fn kits_of(
+    alloc: Global,
+    setup: &ThreadedSetup,
+    sent: &[(usize, Frame)],
+) -> Result<Vec<NodeKit<Member, PortFraming, Host>>, NoMemory>
+    ensures { IfOk result (λ kits. vec_len kits ≡ setup.now.nodes) }
+{
+    let mut kits = Vec::new(alloc);
+    for number in 0..setup.nodes {
+        let frames = frames_of(alloc, sent, number)?;
+        let kit = kit_of(alloc, setup, number, frames)?;
+        kits.reserve(1)?;
+        kits.push_reserved(kit);
+    }
+    Ok(kits)
+}
+
+// What the host of a node was given.
+fn given_to(end: &NodeEnd<Host>) -> &[Frame] {
+    match end.ends.last() {
+        Some(last) => match &last.line {
+            Line::Host(host) => host.given(),
+            _ => &[],
+        },
+        None => &[],
+    }
+}
+
+// What ended a worker of a node early, if anything did.
+fn fault_in(end: &NodeEnd<Host>) -> Option<WorkerFault> {
+    for one in end.ends.as_slice() {
+        if one.fault.is_some() {
+            return one.fault;
+        }
+    }
+    None
+}
+
+// What is printed of the nodes that ran. An error where a worker ended early, too.
+fn append_ends(
+    text: &mut Text,
+    ends: &[NodeEnd<Host>],
+    judged: &[Judgement],
+) -> Result<(), RunFault>
+    requires start { text.old ≡ [] }
+    requires len { length judged.now ≡ length ends.now }
+    ensures { OnOk result (IsReport (length ends.now) text.new) }
+{
+    for node in 0..ends.len() {
+        let end = &ends[node];
+        if let Some(fault) = fault_in(end) {
+            return Err(fault.into());
+        }
+        let settlement = settlement_of(end.settlement, judged[node]);
+        append_report(text, node, given_to(end), settlement, end.lost)?;
+    }
+    Ok(())
+}
+
+// Runs the nodes.
+fn run_kits<W: Threads + Wait + Sync>(
+    rt: &W,
+    alloc: Global,
+    net: ThreadedNet,
+    kits: Vec<NodeKit<Member, PortFraming, Host>>,
+    turns: u64,
+) -> Result<(Vec<NodeEnd<Host>>, Vec<Judgement>), NetworkFault>
+    ensures ends { IfOk result (λ r. vec_len r.0 ≡ vec_len kits) }
+    ensures judged { IfOk result (λ r. vec_len r.1 ≡ vec_len r.0) }
+{
+    match net {
+        ThreadedNet::Ring => run_ring(rt, alloc, kits, turns),
+        ThreadedNet::TwinLan => run_twin(rt, alloc, kits, turns),
+    }
+}
+
+/// Runs the network of a script, whose hosts send these frames, for so many turns. `text` is then what is printed of it.
+pub(crate) fn run_network<W: Threads + Wait + Sync>(
+    rt: &W,
+    alloc: Global,
+    setup: &ThreadedSetup,
+    turns: u64,
+    sent: &[(usize, Frame)],
+    text: &mut Text,
+) -> Result<(), RunFault>
+    requires { text.old ≡ [] }
+    ensures { OnOk result (IsReport setup.now.nodes text.new) }
+{
+    let kits = match kits_of(alloc, setup, sent) {
+        Ok(kits) => kits,
+        Err(refused) => return Err(refused.into()),
+    };
+    match run_kits(rt, alloc, setup.net, kits, turns) {
+        Ok((ends, judged)) => append_ends(text, &ends, &judged),
+        Err(fault) => Err(fault.into()),
+    }
+}

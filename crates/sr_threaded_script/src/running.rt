@@ -1,0 +1,113 @@
+//! A script whose nodes run on threads.
+
+ghost use Rattle.std.specs.Prelude.{◌≡◌, ◌≤◌, length, take, true, IfErr, OnOk, OnErr, IfSome, ℕ, List};
+ghost use Rattle.std.specs.Io.KnownBytes.{Appends};
+ghost use Rattle.sr_threaded_script.specs.Reports.{IsReport};
+ghost use Rattle.sr_threaded_script.specs.Runs.{no_sendings_of, RunsWhole, StopsEarly, WritesFront};
+
+use crate::fault::{ThreadedFault, fault_at};
+use crate::network::run_network;
+use crate::session::SendSession;
+use crate::setup::ThreadedSetup;
+use sr_session::{Fault, Word, run_session};
+use sr_text::Text;
+use std::alloc::Global;
+use std::io::{BufRead, ErrorKind, Write};
+use std::sync::Wait;
+use std::thread::Threads;
+
+// Writes a text. The answer is how many of its octets the writer took: all, unless it failed.
+fn write_out<O: Write>(writer: &mut O, text: &[u8]) -> usize
+    ensures bound { result ≤ length text.now }
+    ensures held { Appends (O.contents writer.old) (O.contents writer.new) (take result text.now) }
+{
+    let mut taken = 0;
+    for _ in 0..u64::MAX {
+        if taken == text.len() {
+            return taken;
+        }
+        match writer.write(&text[taken..]) {
+            Ok(0) => return taken,
+            Ok(count) => taken += count,
+            Err(error) if error.kind() == ErrorKind::Interrupted => {}
+            Err(_) => return taken,
+        }
+    }
+    taken
+}
+
+// Writes what is printed at the end. False where the writer failed.
+fn write_report<O: Write>(writer: &mut O, text: &Text) -> bool
+    ensures front { WritesFront text.now (O.contents writer.old) (O.contents writer.new) }
+    ensures all { result ≡ true
+        → Appends (O.contents writer.old) (O.contents writer.new) text.now }
+{
+    let taken = write_out(writer, text.as_slice());
+    taken == text.len() && writer.flush().is_ok()
+}
+
+// Runs the network of a script, and writes what is printed of it.
+fn report<O: Write, W: Threads + Wait + Sync>(
+    rt: &W,
+    alloc: Global,
+    setup: &ThreadedSetup,
+    turns: u64,
+    session: &SendSession,
+    writer: &mut O,
+) -> Result<(), ThreadedFault>
+    ensures done { OnOk result ((text : List ℕ) × IsReport setup.now.nodes text
+        × Appends (O.contents writer.old) (O.contents writer.new) text) }
+    ensures failed { OnErr result ((text : List ℕ)
+        × WritesFront text (O.contents writer.old) (O.contents writer.new)) }
+{
+    let line = session.last.saturating_add(1);
+    let mut text = Text::new(alloc);
+    match run_network(rt, alloc, setup, turns, &session.sent, &mut text) {
+        Ok(()) => {
+            if write_report(writer, &text) {
+                Ok(())
+            } else {
+                Err(ThreadedFault::Script(Fault {
+                    line,
+                    word: Word::Write,
+                }))
+            }
+        }
+        Err(fault) => Err(fault_at(fault, line)),
+    }
+}
+
+/// Runs the script that the reader has left on a new network, whose nodes run on threads, and writes what comes of it.
+///
+/// A line is empty, begins with `#`, or is `send I D HEX`, by which the host of node I is to send; a line `refused N Name` is
+/// printed at once where that is refused. At the end of the script the nodes run, each with three workers on a thread of its
+/// own, for so many turns; all times are 0. Then for each node, in order, is printed a line `up I HEX` for each frame that
+/// its host was given, in plain form; a line `node I settled`, or `node I disagrees W` with the port whose log or wires
+/// disagree; and a line `lost I K`.
+///
+/// # Errors
+/// Those of `run_plant`, of which `Memory` comes where a worker wanted memory too, and `NoThread`. On a fault of the script no
+/// thread starts.
+pub fn run_threaded<R: BufRead, O: Write, W: Threads + Wait + Sync>(
+    rt: &W,
+    alloc: Global,
+    setup: &ThreadedSetup,
+    turns: u64,
+    reader: &mut R,
+    writer: &mut O,
+) -> Result<(), ThreadedFault>
+    // All lines are lines of such a script, and what is written is what comes of them, and then a report of each node.
+    ensures done { OnOk result (IfSome (R.remaining reader.old) (λ input. RunsWhole
+        (no_sendings_of setup.now) input (O.contents writer.old) (O.contents writer.new))) }
+
+    // Or the script ends as one of a plant does, with the same fault; or all lines are answered, and no more than a front of a report.
+    ensures ended { IfErr result (λ fault. StopsEarly (no_sendings_of setup.now) fault
+        (R.remaining reader.old) (R.remaining reader.new)
+        (O.contents writer.old) (O.contents writer.new)) }
+{
+    let mut session = SendSession::new(alloc, setup);
+    match run_session(alloc, &mut session, reader, writer) {
+        Ok(()) => report(rt, alloc, setup, turns, &session, writer),
+        Err(fault) => Err(ThreadedFault::Script(fault)),
+    }
+}

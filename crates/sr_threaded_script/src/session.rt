@@ -1,0 +1,82 @@
+//! A script of what hosts are to send, line by line.
+
+ghost use Rattle.std.specs.Prelude.{◌≡◌, []};
+
+use crate::reading::sending_of;
+use crate::sending::{refusal_name, sent_frame};
+use crate::setup::ThreadedSetup;
+use sr_frame::Frame;
+use sr_script::append_refusal;
+use sr_session::{Session, Word};
+use sr_text::Text;
+use std::alloc::Global;
+
+/// A script at work, and what its hosts are to send.
+#[derive(Drop)]
+pub(crate) struct SendSession {
+    alloc: Global,
+    setup: ThreadedSetup,
+    /// Each frame with the number of its node, in order.
+    pub(crate) sent: Vec<(usize, Frame)>,
+    // The octets of a line, in a list that is used again.
+    octets: Vec<u8>,
+    /// The number of the last line.
+    pub(crate) last: u64,
+}
+
+impl SendSession {
+    ghost use Rattle.sr_threaded_script.specs.Runs.{no_sendings_of, sendings_of};
+
+    /// Before the first line.
+    pub(crate) fn new(alloc: Global, setup: &ThreadedSetup) -> SendSession
+        ensures { sendings_of result ≡ no_sendings_of setup.now }
+    {
+        SendSession {
+            alloc,
+            setup: *setup,
+            sent: Vec::new(alloc),
+            octets: Vec::new(alloc),
+            last: 0,
+        }
+    }
+}
+
+impl Session for SendSession {
+    ghost use Rattle.sr_threaded_script.specs.Lines.{Sendings, threaded_dialogue};
+    ghost use Rattle.sr_threaded_script.specs.Runs.{sendings_of};
+
+    ghost State = { Sendings };
+
+    ghost state = { sendings_of };
+
+    ghost dialogue = { threaded_dialogue };
+
+    fn answer(&mut self, number: u64, line: &[u8], text: &mut Text) -> Result<(), Word> {
+        let asked = match sending_of(line, &mut self.octets) {
+            Ok(asked) => asked,
+            Err(word) => return Err(word),
+        };
+        self.last = number;
+        let Some((node, receiver)) = asked else {
+            return Ok(());
+        };
+        let payload = self.octets.as_slice();
+        if let Some(name) = refusal_name(self.setup.nodes, node, receiver, payload) {
+            return append_refusal(text, number, name);
+        }
+        if let Err(refused) = self.sent.reserve(1) {
+            return Err(refused.into());
+        }
+        match sent_frame(self.alloc, node, receiver, payload) {
+            Ok(frame) => {
+                self.sent.push_reserved((node, frame));
+                Ok(())
+            }
+            Err(refused) => Err(refused.into()),
+        }
+    }
+
+    fn finish(&mut self, _text: &mut Vec<u8>) -> Result<(), Word> {
+        Ok(())
+    }
+}
