@@ -16,10 +16,10 @@ use clap::{Arg, ArgAction, ArgGroup, ArgMatches, Command, Error};
 use sr_dup_table::Width;
 use sr_node::{Mode, Settings};
 use sr_plant_script::PlantSetup;
-use sr_threaded_script::{ThreadedNet, ThreadedSetup};
 use sr_prp_trailer::Lan;
 use sr_script::{PrpRouting, RoleName, Setup};
 use sr_slots::Keys;
+use sr_threaded_script::{ThreadedNet, ThreadedSetup};
 use std::alloc::{AllocError, Global};
 use std::fmt;
 

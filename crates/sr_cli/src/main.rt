@@ -69,10 +69,7 @@ fn tell_refused<R: Print + Eprint>(rt: &R, refused: Refused) -> Result<(), u8> {
 /// Reads the command line and runs the script. An error is the exit status; why is on standard error.
 fn start<
     R: AllocGlobal + Print + Eprint + Input + Env + Files + RandomSource + Threads + Wait + Sync,
->(
-    rt: &R,
-    progress: Progress,
-) -> Result<(), u8> {
+>(rt: &R, progress: Progress) -> Result<(), u8> {
     let Ok(args) = std::env::args(rt) else {
         return Err(NOT_STARTED);
     };

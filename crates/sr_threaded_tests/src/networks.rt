@@ -5,14 +5,11 @@ use sr_forwarding::{HsrFraming, OwnRole, PrpFraming};
 use sr_frame::{Frame, Mac};
 use sr_lines::Line;
 use sr_node::{Answer, Event, NodeOf};
-use sr_plant_script::Topology;
 use sr_ports::{Log, Settlement, Worker};
 use sr_prp_trailer::Lan;
 use sr_sequence::Seq;
-use sr_threaded::{
-    Judgement, NetworkFault, NodeEnd, NodeKit, run_ring, run_twin, settlement_of,
-};
-use sr_threaded_script::{Member, MemberRouting, PortFraming};
+use sr_threaded::{Judgement, NetworkFault, NodeEnd, NodeKit, run_ring, run_twin, settlement_of};
+use sr_threaded_script::{Member, MemberRouting, PortFraming, ThreadedNet};
 use std::alloc::Global;
 use std::process::Abort;
 use std::sync::atomic::{AtomicU64, Ordering};
@@ -25,11 +22,11 @@ use std::thread::Threads;
 pub(super) enum Step {
     /// A network of so many nodes and turns settles, and hands up what its first node sends at most once at each other; in one of
     /// so many runs all others hand it up.
-    All(Topology, u8, u64, u32),
+    All(ThreadedNet, u8, u64, u32),
     /// A network of so many nodes and turns settles.
-    Each(Topology, u8, u64),
+    Each(ThreadedNet, u8, u64),
     /// A network of so many nodes is refused.
-    Refused(Topology, u8),
+    Refused(ThreadedNet, u8),
 }
 
 const GROUP_FRAME: [u8; 15] = [
@@ -71,13 +68,13 @@ fn host_of(
 }
 
 // How the ports A and B of a node carry frames.
-fn framings_of(topology: Topology) -> (PortFraming, PortFraming) {
-    match topology {
-        Topology::Ring => (
+fn framings_of(net: ThreadedNet) -> (PortFraming, PortFraming) {
+    match net {
+        ThreadedNet::Ring => (
             PortFraming::Ring(HsrFraming { path: 0 }),
             PortFraming::Ring(HsrFraming { path: 1 }),
         ),
-        Topology::TwinLan => (
+        ThreadedNet::TwinLan => (
             PortFraming::Lan(PrpFraming {
                 lan: Lan::A,
                 net: 0,
@@ -92,17 +89,14 @@ fn framings_of(topology: Topology) -> (PortFraming, PortFraming) {
 
 fn kit_of(
     alloc: Global,
-    topology: Topology,
+    net: ThreadedNet,
     number: u8,
     asked: &Arc<AtomicU64>,
     missed: &Arc<AtomicU64>,
 ) -> Option<NodeKit<Member, PortFraming, Host>> {
     let feed = host_of(alloc, number, asked, missed)?;
-    let (a, b) = framings_of(topology);
-    let role = OwnRole::of(
-        Mac([2, 0, 0, 0, 0, number]),
-        MemberRouting { topology },
-    );
+    let (a, b) = framings_of(net);
+    let role = OwnRole::of(Mac([2, 0, 0, 0, 0, number]), MemberRouting { net });
     match NodeOf::new(alloc, role) {
         Ok(node) => Some(NodeKit {
             node,
@@ -117,14 +111,14 @@ fn kit_of(
 
 fn kits_of(
     alloc: Global,
-    topology: Topology,
+    net: ThreadedNet,
     count: u8,
     asked: &Arc<AtomicU64>,
     missed: &Arc<AtomicU64>,
 ) -> Option<Vec<NodeKit<Member, PortFraming, Host>>> {
     let mut kits = Vec::new(alloc);
     for number in 0..count {
-        match kit_of(alloc, topology, number, asked, missed) {
+        match kit_of(alloc, net, number, asked, missed) {
             Some(kit) => kits.push(kit).ok()?,
             None => return None,
         }
@@ -219,13 +213,13 @@ fn look_at(
 fn run_kits<W: Threads + Wait + Sync>(
     rt: &W,
     alloc: Global,
-    topology: Topology,
+    net: ThreadedNet,
     kits: Vec<NodeKit<Member, PortFraming, Host>>,
     turns: u64,
 ) -> Result<(Vec<NodeEnd<Host>>, Vec<Judgement>), NetworkFault> {
-    match topology {
-        Topology::Ring => run_ring(rt, alloc, kits, turns),
-        Topology::TwinLan => run_twin(rt, alloc, kits, turns),
+    match net {
+        ThreadedNet::Ring => run_ring(rt, alloc, kits, turns),
+        ThreadedNet::TwinLan => run_twin(rt, alloc, kits, turns),
     }
 }
 
@@ -233,15 +227,15 @@ fn run_kits<W: Threads + Wait + Sync>(
 fn run<W: Threads + Wait + Sync>(
     rt: &W,
     alloc: Global,
-    topology: Topology,
+    net: ThreadedNet,
     count: u8,
     turns: u64,
 ) -> Option<Result<Seen, NetworkFault>> {
     let asked = Arc::new(alloc, AtomicU64::new(0)).ok()?;
     let missed = Arc::new(alloc, AtomicU64::new(0)).ok()?;
-    match kits_of(alloc, topology, count, &asked, &missed) {
+    match kits_of(alloc, net, count, &asked, &missed) {
         Some(kits) => {
-            let seen = look_at(run_kits(rt, alloc, topology, kits, turns), turns);
+            let seen = look_at(run_kits(rt, alloc, net, kits, turns), turns);
             if missed.load(Ordering::SeqCst) > 0 {
                 return None;
             }
@@ -254,13 +248,13 @@ fn run<W: Threads + Wait + Sync>(
 fn all_hand_up<W: Threads + Wait + Sync>(
     rt: &W,
     alloc: Global,
-    topology: Topology,
+    net: ThreadedNet,
     count: u8,
     turns: u64,
     runs: u32,
 ) -> bool {
     for _ in 0..runs {
-        match run(rt, alloc, topology, count, turns) {
+        match run(rt, alloc, net, count, turns) {
             Some(Ok(seen)) => {
                 if !seen.well {
                     return false;
@@ -277,14 +271,12 @@ fn all_hand_up<W: Threads + Wait + Sync>(
 
 fn holds<W: Threads + Wait + Sync>(rt: &W, alloc: Global, step: Step) -> bool {
     match step {
-        Step::All(topology, count, turns, runs) => {
-            all_hand_up(rt, alloc, topology, count, turns, runs)
-        }
-        Step::Each(topology, count, turns) => match run(rt, alloc, topology, count, turns) {
+        Step::All(net, count, turns, runs) => { all_hand_up(rt, alloc, net, count, turns, runs) }
+        Step::Each(net, count, turns) => match run(rt, alloc, net, count, turns) {
             Some(Ok(seen)) => seen.well,
             _ => false,
         },
-        Step::Refused(topology, count) => match run(rt, alloc, topology, count, 1) {
+        Step::Refused(net, count) => match run(rt, alloc, net, count, 1) {
             Some(Err(fault)) => fault == NetworkFault::Size,
             _ => false,
         },

@@ -2,7 +2,7 @@
 
 use super::networks::Step::{self, All, Each, Refused};
 use super::networks::expect_steps;
-use sr_plant_script::Topology::{Ring, TwinLan};
+use sr_threaded_script::ThreadedNet::{Ring, TwinLan};
 
 // Three nodes, of which the first sends a frame to all, as often as it takes until both others hand it up in one run.
 const THREE: &[Step] = &[All(Ring, 3, 10_000, 100), All(TwinLan, 3, 10_000, 100)];

@@ -2,9 +2,8 @@
 
 use sr_dup_table::Width;
 use sr_node::{Mode, Settings};
-use sr_plant_script::{PlantSetup, Topology};
 use sr_session::{Fault, Word};
-use sr_threaded_script::{ThreadedFault, run_threaded};
+use sr_threaded_script::{ThreadedFault, ThreadedNet, ThreadedSetup, run_threaded};
 use std::alloc::Global;
 use std::sync::Wait;
 use std::test::*;
@@ -14,7 +13,7 @@ use std::thread::Threads;
 #[derive(Clone, Copy)]
 enum Step {
     /// Of this script three nodes print, behind this, how each settled, and no frame that comes up twice or where it was sent.
-    Settles(Topology, Settings, &'static [u8], &'static [u8]),
+    Settles(ThreadedNet, Settings, &'static [u8], &'static [u8]),
     /// This script is none, and nothing is printed.
     IsNone(&'static [u8]),
 }
@@ -67,13 +66,13 @@ fn is_settled(text: &[u8]) -> bool {
 fn printed<W: Threads + Wait + Sync>(
     rt: &W,
     alloc: Global,
-    topology: Topology,
+    net: ThreadedNet,
     settings: Settings,
     script: &[u8],
     writer: &mut Vec<u8>,
 ) -> Result<(), ThreadedFault> {
-    let setup = PlantSetup {
-        topology,
+    let setup = ThreadedSetup {
+        net,
         nodes: 3,
         settings,
     };
@@ -84,12 +83,12 @@ fn printed<W: Threads + Wait + Sync>(
 fn holds<W: Threads + Wait + Sync>(rt: &W, alloc: Global, step: Step) -> bool {
     let mut writer = Vec::new(alloc);
     match step {
-        Step::Settles(topology, settings, script, front) => {
-            let ran = printed(rt, alloc, topology, settings, script, &mut writer);
+        Step::Settles(net, settings, script, front) => {
+            let ran = printed(rt, alloc, net, settings, script, &mut writer);
             ran.is_ok() && behind(&writer, front).is_some_and(is_settled)
         }
         Step::IsNone(script) => {
-            let ran = printed(rt, alloc, Topology::Ring, PLAIN, script, &mut writer);
+            let ran = printed(rt, alloc, ThreadedNet::Ring, PLAIN, script, &mut writer);
             let fault = Fault {
                 line: 1,
                 word: Word::Line,
@@ -111,12 +110,12 @@ fn first_wrong<W: Threads + Wait + Sync>(rt: &W, alloc: Global, steps: &[Step]) 
 
 // One frame to all, beside lines that say nothing or are refused.
 const STEPS: &[Step] = &[
-    Step::Settles(Topology::Ring, PLAIN, b"send 0 all 01\n", b""),
-    Step::Settles(Topology::Ring, WIDE_X, b"send 0 all 01\n", b""),
-    Step::Settles(Topology::TwinLan, PLAIN, b"send 0 all 01\n", b""),
-    Step::Settles(Topology::TwinLan, WIDE_X, b"send 0 all 01\n", b""),
+    Step::Settles(ThreadedNet::Ring, PLAIN, b"send 0 all 01\n", b""),
+    Step::Settles(ThreadedNet::Ring, WIDE_X, b"send 0 all 01\n", b""),
+    Step::Settles(ThreadedNet::TwinLan, PLAIN, b"send 0 all 01\n", b""),
+    Step::Settles(ThreadedNet::TwinLan, WIDE_X, b"send 0 all 01\n", b""),
     Step::Settles(
-        Topology::Ring,
+        ThreadedNet::Ring,
         PLAIN,
         b"# a comment\n\nsend 3 all 01\nsend 0 3 01\nsend 0 all 01",
         b"refused 3 NoSuchNode\nrefused 4 NoSuchNode\n",
