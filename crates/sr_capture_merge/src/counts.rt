@@ -1,5 +1,8 @@
 //! What was merged, in figures.
 
+ghost use Rattle.std.specs.Prelude.{◌≡◌};
+ghost use Rattle.sr_capture_merge.specs.Counting.{more};
+
 use sr_audit::Side;
 use std::fmt;
 
@@ -31,11 +34,16 @@ pub struct Counts {
 }
 
 /// A count with one more.
-pub(crate) fn more(count: &mut u64) {
+pub(crate) fn more(count: &mut u64)
+    ensures { count.new ≡ more count.old }
+{
     *count = count.saturating_add(1);
 }
 
 impl Counts {
+    ghost use Rattle.std.specs.Prelude.{◌≡◌};
+    ghost use Rattle.sr_capture_merge.specs.Counting.{counted_alone};
+
     /// Nothing came.
     pub const NONE: Counts = Counts {
         packets: 0,
@@ -52,7 +60,9 @@ impl Counts {
     };
 
     /// Counts a frame that came by a side alone.
-    pub(crate) fn note_alone(&mut self, side: Side) {
+    pub(crate) fn note_alone(&mut self, side: Side)
+        ensures { self.new ≡ counted_alone side self.old }
+    {
         match side {
             Side::A => more(&mut self.a),
             Side::B => more(&mut self.b),

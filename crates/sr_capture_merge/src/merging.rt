@@ -30,10 +30,11 @@ fn side_of(inlet: Inlet) -> Side {
 }
 
 /// Writes the packets that wait, up to one of which a copy may come yet when the next packet comes at this time.
-fn write_decided<W: Write>(
+fn write_due<W: Write>(
     merge: &mut Merge,
-    output: &mut Output<'_, W>,
+    output: &mut Output,
     now: u64,
+    writer: &mut W,
 ) -> Result<(), ScriptFault> {
     for _ in 0..merge.len() {
         let Some(waiting) = merge.front() else {
@@ -43,20 +44,24 @@ fn write_decided<W: Write>(
         if verdict.is_none() && merge.len() < MOST_WAITING {
             return Ok(());
         }
-        output.put(waiting, verdict)?;
+        output.put(waiting, verdict, writer)?;
         merge.drop_front();
     }
     Ok(())
 }
 
 /// Writes all packets that wait, where no more will be known of them.
-fn write_rest<W: Write>(merge: &mut Merge, output: &mut Output<'_, W>) -> Result<(), ScriptFault> {
+fn write_rest<W: Write>(
+    merge: &mut Merge,
+    output: &mut Output,
+    writer: &mut W,
+) -> Result<(), ScriptFault> {
     for _ in 0..merge.len() {
         let Some(waiting) = merge.front() else {
             return Ok(());
         };
         let verdict = waiting.verdict(waiting.came.time);
-        output.put(waiting, verdict)?;
+        output.put(waiting, verdict, writer)?;
         merge.drop_front();
     }
     Ok(())
@@ -65,12 +70,13 @@ fn write_rest<W: Write>(merge: &mut Merge, output: &mut Output<'_, W>) -> Result
 /// Takes a packet that is wanted. One that is cut, or longer than a frame, is left out.
 fn take<W: Write>(
     merge: &mut Merge,
-    output: &mut Output<'_, W>,
+    output: &mut Output,
     plan: &Plan,
     side: Side,
     number: u64,
     time: u64,
     packet: &Packet,
+    writer: &mut W,
 ) -> Result<(), ScriptFault> {
     if packet.extent == Extent::Cut {
         more(&mut output.counts.cut);
@@ -80,7 +86,7 @@ fn take<W: Write>(
         more(&mut output.counts.long);
         return Ok(());
     }
-    write_decided(merge, output, time)?;
+    write_due(merge, output, time, writer)?;
     merge.take(packet_of(plan, side, number, time, packet.octets.as_slice()))?;
     Ok(())
 }
@@ -93,11 +99,12 @@ fn begin(alloc: Global, keys: Keys) -> Result<Merge, ScriptFault> {
 /// Takes the packets of captures in the order of their times, and writes those that are decided.
 fn take_all<R: BufRead + Drop, W: Write>(
     merge: &mut Merge,
-    output: &mut Output<'_, W>,
+    output: &mut Output,
     captures: &mut Captures<R>,
     choice: &Choice,
     plan: &Plan,
     start: u64,
+    writer: &mut W,
 ) -> Result<(), ScriptFault> {
     for _ in 0..u64::MAX {
         let Some(front) = captures.front() else {
@@ -113,6 +120,7 @@ fn take_all<R: BufRead + Drop, W: Write>(
                 front.number,
                 time,
                 captures.packet(front.inlet),
+                writer,
             )?;
         }
         captures.advance(front.inlet)?;
@@ -133,7 +141,7 @@ pub fn merge<R: BufRead + Drop, W: Write>(
     writer: &mut W,
 ) -> (Counts, Result<(), ScriptFault>) {
     let start = captures.front().map_or(0, |front| front.moment);
-    let mut output = match Output::begin(alloc, writer, *plan, start) {
+    let mut output = match Output::begin(alloc, *plan, start, writer) {
         Ok(output) => output,
         Err(fault) => return (Counts::NONE, Err(fault)),
     };
@@ -141,10 +149,18 @@ pub fn merge<R: BufRead + Drop, W: Write>(
         Ok(merge) => merge,
         Err(fault) => return (Counts::NONE, Err(fault)),
     };
-    let taken = take_all(&mut merge, &mut output, captures, choice, plan, start);
+    let taken = take_all(
+        &mut merge,
+        &mut output,
+        captures,
+        choice,
+        plan,
+        start,
+        writer,
+    );
     let rest = match taken {
-        Ok(()) => write_decided(&mut merge, &mut output, u64::MAX),
-        Err(ScriptFault::File(_, _)) => write_rest(&mut merge, &mut output),
+        Ok(()) => write_due(&mut merge, &mut output, u64::MAX, writer),
+        Err(ScriptFault::File(_, _)) => write_rest(&mut merge, &mut output, writer),
         Err(_) => Ok(()),
     };
     let mut counts = output.counts;

@@ -1,0 +1,4 @@
+pub mod Remarks
+pub mod Counting
+pub mod Entries
+pub mod Settling
