@@ -74,15 +74,22 @@ impl Picture {
         }
     }
 
+    /// Notes a frame in the chart of its source, if it has one.
+    fn note(&mut self, listed: Listed) {
+        let times = self.times;
+        if let Some(place) = self.place_of(source_of(listed)) {
+            if let Some(chart) = self.charts.get_mut(place) {
+                chart.note(times, listed);
+            }
+        }
+    }
+
     /// Takes what is decided.
     fn settle(&mut self) {
         for at in 0..self.decided.len() {
-            let listed = self.decided[at];
-            if let Some(place) = self.place_of(source_of(listed)) {
-                let times = self.times;
-                if let Some(chart) = self.charts.get_mut(place) {
-                    chart.note(times, listed);
-                }
+            if let Some(listed) = self.decided.get(at) {
+                let listed = *listed;
+                self.note(listed);
             }
         }
         self.decided.clear();
