@@ -34,7 +34,7 @@ _seamless() {
     "audit --from") ;;
     "audit --to") ;;
     "audit --list") ;;
-    "audit --format") words="text json csv" ;;
+    "audit --format") words="text json csv svg" ;;
     "merge --a") COMPREPLY=($(compgen -f -- "$2")) && return ;;
     "merge --b") COMPREPLY=($(compgen -f -- "$2")) && return ;;
     "merge --write") COMPREPLY=($(compgen -f -- "$2")) && return ;;

@@ -52,6 +52,37 @@ impl Pass for Report {
     }
 }
 
+/// What is known of the captures as a whole, once the figures of the sources are let go.
+#[derive(Clone, Copy, Debug, PartialEq, Eq)]
+pub struct Summary {
+    /// How many packets of each kind the captures have.
+    pub counts: Counts,
+    /// How many sources have lines.
+    pub sources: usize,
+    /// How many packets were of sources that have no lines.
+    pub left_out: u64,
+    /// Whether a figure of a fault is not 0.
+    pub has_faults: bool,
+}
+
+impl Summary {
+    /// Prints how many packets were of sources that have no lines, if any were. A table has no place for it.
+    ///
+    /// # Errors
+    /// `Write` where the writer fails.
+    pub fn print_end<W: Write>(&self, writer: &mut W, format: Format) -> Result<(), ScriptFault> {
+        if self.left_out == 0 || format == Format::Csv {
+            return Ok(());
+        }
+        print_row(
+            writer,
+            format,
+            "sources_left_out",
+            &[count("packets", self.left_out)],
+        )
+    }
+}
+
 /// The figures of captures whose spans are known.
 ///
 /// # Errors
@@ -126,39 +157,22 @@ impl Report {
         }
     }
 
-    /// Prints how many packets were of sources that have no lines, if any were. A table has no place for it.
-    ///
-    /// # Errors
-    /// `Write` where the writer fails.
-    pub fn print_end<W: Write>(&self, writer: &mut W, format: Format) -> Result<(), ScriptFault> {
-        let packets = self.left_out();
-        if packets == 0 || format == Format::Csv {
-            return Ok(());
-        }
-        print_row(
-            writer,
-            format,
-            "sources_left_out",
-            &[count("packets", packets)],
-        )
-    }
-
     /// How many packets were of sources that have no lines.
-    pub fn left_out(&self) -> u64
+    fn left_out(&self) -> u64
         ensures { result ≡ self.now.audit.left_out }
     {
         self.audit.left_out()
     }
 
     /// How many sources have lines.
-    pub fn sources(&self) -> usize
+    fn sources(&self) -> usize
         ensures { result ≡ length self.now.audit.sources.entries }
     {
         self.audit.len()
     }
 
     /// How many packets of each kind the captures have.
-    pub fn counts(&self) -> Counts
+    fn counts(&self) -> Counts
         ensures { result ≡ self.now.counts }
     {
         let Report { counts, .. } = self;
@@ -167,7 +181,7 @@ impl Report {
 
     /// Whether a figure of a fault is not 0: frames that came by one side alone, or by none, copies that came more than once, trailers of
     /// the other LAN or that are none, or a skew of 400 ms or more.
-    pub fn has_faults(&self) -> bool
+    fn has_faults(&self) -> bool
         ensures { result ≡ has_faults self.now }
     {
         if self.counts.have_faults() {
@@ -179,5 +193,20 @@ impl Report {
             }
         }
         false
+    }
+
+    /// What is known of the captures as a whole.
+    pub fn summary(&self) -> Summary
+        ensures counts { result.counts ≡ self.now.counts }
+        ensures sources { result.sources ≡ length self.now.audit.sources.entries }
+        ensures left_out { result.left_out ≡ self.now.audit.left_out }
+        ensures faults { result.has_faults ≡ has_faults self.now }
+    {
+        Summary {
+            counts: self.counts(),
+            sources: self.sources(),
+            left_out: self.left_out(),
+            has_faults: self.has_faults(),
+        }
     }
 }

@@ -6,7 +6,8 @@ use crate::progress::Progress;
 use crate::script::{Opened, open_file, tell_ended};
 use sr_audit::{LISTED_AT_ONCE, MOST_SOURCES, Span, Spans};
 use sr_capture_audit::{
-    Counts, Format, Network, Ports, Report, SideCounts, figures_of, hint_of, print_lists, spans_of,
+    Counts, Format, Network, Ports, Report, SideCounts, Summary, figures_of, hint_of, print_lists,
+    print_picture, spans_of,
 };
 use sr_capture_script::{Captures, Inlet, ScriptFault};
 use sr_slots::Keys;
@@ -86,15 +87,14 @@ fn tell_apart<R: Eprint>(rt: &R, late: &str, early: &str, option: &str, from: Sp
 }
 
 /// Says what a table has no place for.
-fn tell_left_out<R: Eprint>(rt: &R, task: &AuditTask<'_>, report: &Report) {
-    let packets = report.left_out();
+fn tell_left_out<R: Eprint>(rt: &R, task: &AuditTask<'_>, packets: u64) {
     if task.format == Format::Csv && packets > 0 {
         let _ = eprintln!(rt; "{packets} packets of sources beyond the 1024th are in no table");
     }
 }
 
 /// Says what looks wrong in the captures, though there are figures.
-fn tell_odd<R: Eprint>(rt: &R, task: &AuditTask<'_>, spans: &Spans, report: &Report) {
+fn tell_odd<R: Eprint>(rt: &R, task: &AuditTask<'_>, spans: &Spans, summary: &Summary) {
     let choice = task.options.choice;
     if choice.to.is_some_and(|to| to < choice.from) {
         let _ = eprintln!(rt; "no time is wanted: --from is behind --to");
@@ -102,7 +102,7 @@ fn tell_odd<R: Eprint>(rt: &R, task: &AuditTask<'_>, spans: &Spans, report: &Rep
     if task.is_same {
         let _ = eprintln!(rt; "A and B are the same capture");
     }
-    let counts = report.counts();
+    let counts = summary.counts;
     tell_hints(rt, task, &counts);
     if counts.are_swapped() {
         let _ = eprintln!(rt;
@@ -115,7 +115,7 @@ fn tell_odd<R: Eprint>(rt: &R, task: &AuditTask<'_>, spans: &Spans, report: &Rep
             tell_apart(rt, "A", "B", "--shift-a", a, b);
         }
     }
-    tell_left_out(rt, task, report);
+    tell_left_out(rt, task, summary.left_out);
 }
 
 /// Prints the lists of the sources from one on, by a pass of their own.
@@ -149,7 +149,7 @@ fn print_all_lists<R: AllocGlobal + Eprint + Files, W: Write>(
     task: &AuditTask<'_>,
     keys: Keys,
     spans: Spans,
-    report: &Report,
+    sources: usize,
     writer: &mut W,
 ) -> Result<(), Ended> {
     if !task.lists.is_some() {
@@ -157,7 +157,7 @@ fn print_all_lists<R: AllocGlobal + Eprint + Files, W: Write>(
     }
     for part in 0..MOST_SOURCES / LISTED_AT_ONCE {
         let first = part * LISTED_AT_ONCE;
-        if first == 0 || first < report.sources() {
+        if first == 0 || first < sources {
             print_lists_from(rt, task, keys, spans, first, writer)?;
         }
     }
@@ -192,20 +192,69 @@ fn read_figures<R: AllocGlobal + Eprint + Files>(
     )?)
 }
 
-/// Writes the report and the lists. A table is that of the list that is wanted, if one is.
+/// Writes the figures, unless a table or a picture is wanted in their place, and lets them go, so that lists find room.
+fn write_figures<W: Write>(
+    task: &AuditTask<'_>,
+    report: Report,
+    writer: &mut W,
+) -> Result<(), Ended> {
+    let has_figures = task.format != Format::Csv || !task.lists.is_some();
+    if has_figures && !task.is_picture {
+        report.print(writer, task.format)?;
+    }
+    Ok(())
+}
+
+/// Draws the captures, by a pass of its own.
+fn draw<R: AllocGlobal + Eprint + Files, W: Write>(
+    rt: &R,
+    task: &AuditTask<'_>,
+    keys: Keys,
+    spans: Spans,
+    writer: &mut W,
+) -> Result<(), Ended> {
+    let mut captures = open(rt, task, Progress::Silent)?;
+    print_picture(
+        rt.alloc(),
+        keys,
+        &mut captures,
+        &task.options.choice,
+        task.subject,
+        spans,
+        writer,
+    )?;
+    Ok(())
+}
+
+/// Writes the lists and the end of the figures, or the picture.
+fn write_rest<R: AllocGlobal + Eprint + Files, W: Write>(
+    rt: &R,
+    task: &AuditTask<'_>,
+    keys: Keys,
+    spans: Spans,
+    summary: &Summary,
+    writer: &mut W,
+) -> Result<(), Ended> {
+    if task.is_picture {
+        return draw(rt, task, keys, spans, writer);
+    }
+    print_all_lists(rt, task, keys, spans, summary.sources, writer)?;
+    summary.print_end(writer, task.format)?;
+    Ok(())
+}
+
+/// Writes all that is wanted: figures and lists, or a picture. A table is that of the list that is wanted, if one is.
 fn write_all<R: AllocGlobal + Eprint + Files, W: Write>(
     rt: &R,
     task: &AuditTask<'_>,
     keys: Keys,
     spans: Spans,
-    report: &Report,
+    report: Report,
+    summary: &Summary,
     writer: &mut W,
 ) -> Result<(), Ended> {
-    if task.format != Format::Csv || !task.lists.is_some() {
-        report.print(writer, task.format)?;
-    }
-    print_all_lists(rt, task, keys, spans, report, writer)?;
-    report.print_end(writer, task.format)?;
+    write_figures(task, report, writer)?;
+    write_rest(rt, task, keys, spans, summary, writer)?;
     match writer.flush() {
         Ok(()) => Ok(()),
         Err(_) => Err(Ended::By(ScriptFault::Write)),
@@ -250,11 +299,12 @@ pub fn run_audit<R: AllocGlobal + Print + Eprint + Files + RandomSource>(
     let Ok(mut writer) = BufWriter::new(rt.alloc(), Pipe::new(io::writer(rt))) else {
         return Err(tell(rt, Ended::By(ScriptFault::NoMemory), false));
     };
-    if let Err(ended) = write_all(rt, task, keys, spans, &report, &mut writer) {
+    let summary = report.summary();
+    if let Err(ended) = write_all(rt, task, keys, spans, report, &summary, &mut writer) {
         return Err(tell(rt, ended, writer.get_ref().is_closed()));
     }
-    tell_odd(rt, task, &spans, &report);
-    if task.is_check && report.has_faults() {
+    tell_odd(rt, task, &spans, &summary);
+    if task.is_check && summary.has_faults {
         return Err(HAS_FAULTS);
     }
     Ok(())

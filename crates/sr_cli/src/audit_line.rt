@@ -19,6 +19,8 @@ pub struct AuditTask<'a> {
     pub subject: Subject,
     pub lists: Lists,
     pub format: Format,
+    /// Whether a picture is drawn in place of lines.
+    pub is_picture: bool,
     /// Whether the status tells of faults of the network.
     pub is_check: bool,
     /// Whether the captures of A and B are one.
@@ -34,11 +36,12 @@ pub fn network_words<'a>() -> [PossibleValue<'a>; 2] {
 }
 
 /// The words of `--format`, with what they mean.
-pub fn format_words<'a>() -> [PossibleValue<'a>; 3] {
+pub fn format_words<'a>() -> [PossibleValue<'a>; 4] {
     [
         PossibleValue::new("text").help("a line for each capture and source: words and numbers"),
         PossibleValue::new("json").help("the same lines, each an object"),
         PossibleValue::new("csv").help("a table of the sources, or of what --list names"),
+        PossibleValue::new("svg").help("a picture: skew against time, and what was lost"),
     ]
 }
 
@@ -188,6 +191,10 @@ pub fn audit_task<'a>(matches: &ArgMatches<'a>) -> Result<AuditTask<'a>, &'stati
     if format == Format::Csv && !lists.is_one_at_most() {
         return Err("table");
     }
+    let is_picture = matches.get_str("format") == Some("svg");
+    if is_picture && lists.is_some() {
+        return Err("picture");
+    }
     Ok(AuditTask {
         a: a.path,
         b: b.path,
@@ -195,6 +202,7 @@ pub fn audit_task<'a>(matches: &ArgMatches<'a>) -> Result<AuditTask<'a>, &'stati
         subject,
         lists,
         format,
+        is_picture,
         is_check: matches.get_flag("check"),
         is_same: matches.contains_id("a") && matches.get_str("a") == matches.get_str("b"),
     })

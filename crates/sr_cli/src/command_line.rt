@@ -37,7 +37,7 @@ pub struct Words<'a> {
     modes: [PossibleValue<'a>; 2],
     windows: [PossibleValue<'a>; 2],
     networks: [PossibleValue<'a>; 2],
-    formats: [PossibleValue<'a>; 3],
+    formats: [PossibleValue<'a>; 4],
     scopes: [PossibleValue<'a>; 1],
 }
 

@@ -33,6 +33,7 @@ fn wanted(name: &str) -> &'static str {
         "captures" => "give a capture at least: --a FILE or --b FILE, or --mirror FILE",
         "mirror" => "--mirror FILE stands alone: without --a and --b",
         "table" => "--format csv prints one table: name one list",
+        "picture" => "--format svg draws a picture: it takes no list",
         "list" => "--list takes lost, wrong and pairs, joined by commas",
         "shift" => "the shifts are more than 146 years apart",
         "from" | "to" => "--from and --to take whole milliseconds from the earliest packet on",
