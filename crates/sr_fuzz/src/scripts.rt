@@ -1,0 +1,90 @@
+//! Scripts at nodes of each role.
+
+use crate::digest::Digest;
+use crate::sink::Sink;
+use sr_dup_table::Width;
+use sr_frame::Mac;
+use sr_node::{Mode, Settings};
+use sr_prp_trailer::Lan;
+use sr_script::{PrpRouting, RoleName, Setup, run, run_status, run_tally};
+use sr_session::{Fault, Word};
+use sr_slots::Keys;
+use std::alloc::Global;
+
+/// The role that an octet names.
+fn role_of(choice: u8) -> RoleName {
+    match choice % 6 {
+        0 => RoleName::Danp,
+        1 => RoleName::Danh,
+        2 => RoleName::San,
+        3 => RoleName::Prp(PrpRouting {
+            lan: Lan::A,
+            net: 1,
+        }),
+        4 => RoleName::Prp(PrpRouting {
+            lan: Lan::B,
+            net: 6,
+        }),
+        _ => RoleName::Hsr,
+    }
+}
+
+/// The settings that an octet names.
+pub fn settings_of(choice: u8) -> Settings {
+    let mode = if choice & 0x40 == 0 { Mode::H } else { Mode::X };
+    let width = if choice & 0x80 == 0 {
+        Width::Narrow
+    } else {
+        Width::Wide
+    };
+    Settings { mode, width }
+}
+
+/// The node that an octet names, with the address 02:00:00:00:00:01.
+fn with(choice: u8) -> Setup {
+    Setup {
+        role: role_of(choice),
+        mac: Mac([2, 0, 0, 0, 0, 1]),
+        settings: settings_of(choice),
+        keys: Keys::FIXED,
+    }
+}
+
+/// How a run ended. None where an allocation failed.
+fn end_of(outcome: Result<(), Fault>) -> Option<(u64, u8)> {
+    let Err(fault) = outcome else {
+        return Some((0, 0));
+    };
+    let word = match fault.word {
+        Word::Line => 1,
+        Word::Long => 2,
+        Word::Read => 3,
+        Word::Write => 4,
+        Word::Memory => return None,
+    };
+    Some((fault.line, word))
+}
+
+/// Runs a script, and tells its frames, its status, or its status with counts.
+fn run_as(alloc: Global, choice: u8, script: &[u8], sink: &mut Sink) -> Result<(), Fault> {
+    let setup = with(choice);
+    let mut reader = script;
+    match choice & 0x30 {
+        0x10 => run_status(alloc, &setup, &mut reader, sink),
+        0x20 => run_tally(alloc, &setup, &mut reader, sink),
+        _ => run(alloc, &setup, &mut reader, sink),
+    }
+}
+
+/// What comes of a script: its first octet names the node and what is told. None where an allocation failed.
+pub fn come_of(alloc: Global, octets: &[u8]) -> Option<Digest> {
+    let [choice, script @ ..] = octets else {
+        return Some(Digest::new());
+    };
+    let mut sink = Sink::new();
+    let (line, word) = end_of(run_as(alloc, *choice, script, &mut sink))?;
+    let mut digest = sink.digest;
+    digest.put_number(line);
+    digest.put_octet(word);
+    Some(digest)
+}
