@@ -65,24 +65,24 @@ most = 18446744073709551615
 back : (t : ℤ) (d : ℕ) → t -ℤ (t -ℤ pos d) ≡ pos d
 back t d = omega (arith, ints)
 
-length_is : (y : Placed) (s : List Placed) (d : ℕ) → bottom_number (y ∷ s) ≡ top_number (y ∷ s) -ℤ pos d → length_of (y ∷ s) ≡ d + 1
+pub length_is : (y : Placed) (s : List Placed) (d : ℕ) → bottom_number (y ∷ s) ≡ top_number (y ∷ s) -ℤ pos d → length_of (y ∷ s) ≡ d + 1
 length_is y s d e =
     ap (λ b. size_of (top_number (y ∷ s) -ℤ b) + 1) e ∙ ap (λ z. size_of z + 1) (back (top_number (y ∷ s)) d)
 
 -- a number further ahead, or behind, is the greatest, or is not
-greater_ahead : (t m : ℤ) (k : ℕ) → m ≡ t +ℤ pos k → greater t m ≡ m
+pub greater_ahead : (t m : ℤ) (k : ℕ) → m ≡ t +ℤ pos k → greater t m ≡ m
 greater_ahead t m k e = grind (arith, ints)
 
-greater_behind : (t m : ℤ) (k : ℕ) → m ≡ t -ℤ pos k → greater t m ≡ t
+pub greater_behind : (t m : ℤ) (k : ℕ) → m ≡ t -ℤ pos k → greater t m ≡ t
 greater_behind t m k e = grind (arith, ints)
 
-lesser_ahead : (t b m : ℤ) (d k : ℕ) → b ≡ t -ℤ pos d → m ≡ t +ℤ pos k → lesser b m ≡ b
+pub lesser_ahead : (t b m : ℤ) (d k : ℕ) → b ≡ t -ℤ pos d → m ≡ t +ℤ pos k → lesser b m ≡ b
 lesser_ahead t b m d k e f = grind (arith, ints)
 
-lesser_down : (t b m : ℤ) (d k : ℕ) → b ≡ t -ℤ pos d → m ≡ t -ℤ pos k → d ≤ k → lesser b m ≡ m
+pub lesser_down : (t b m : ℤ) (d k : ℕ) → b ≡ t -ℤ pos d → m ≡ t -ℤ pos k → d ≤ k → lesser b m ≡ m
 lesser_down t b m d k e f le = grind (arith, ints)
 
-lesser_up : (t b m : ℤ) (d k : ℕ) → b ≡ t -ℤ pos d → m ≡ t -ℤ pos k → k < d → lesser b m ≡ b
+pub lesser_up : (t b m : ℤ) (d k : ℕ) → b ≡ t -ℤ pos d → m ≡ t -ℤ pos k → k < d → lesser b m ≡ b
 lesser_up t b m d k e f lt = grind (arith, ints)
 
 -- tests of two bounds

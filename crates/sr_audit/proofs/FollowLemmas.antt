@@ -39,7 +39,7 @@ some_lane_of A = refl
 some_lane_of B = refl
 
 -- the family of a stretch has a number where a copy came
-family_came : (s : List Placed) (side : Side) (n : ℤ) → family_in s (side_lane side) n ≡ came side n s
+pub family_came : (s : List Placed) (side : Side) (n : ℤ) → family_in s (side_lane side) n ≡ came side n s
 family_came [] side n = refl
 family_came (y ∷ []) side n =
     ap (λ b. int_eq n y.number && b) (has_side side y.side) ∙ or_none (int_eq n y.number && same_side side y.side)
@@ -165,7 +165,7 @@ off_stands ss x old new stands fits few seen last tally =
     }
 
 -- a record stands for no empty stretch
-none_stands : (n : Numbers) → StandsFor kept_numbers (window_of n.seen) (family_in []) (top_number []) → ⊥
+pub none_stands : (n : Numbers) → StandsFor kept_numbers (window_of n.seen) (family_in []) (top_number []) → ⊥
 none_stands n stands = let no : false ≡ true = stands.top.member.1 in absurd cc
 
 -- the record with one arrival more

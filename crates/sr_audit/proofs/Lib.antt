@@ -5,5 +5,8 @@ pub mod FollowLemmas
 pub mod EdgeLemmas
 pub mod ExtentLemmas
 pub mod FitLemmas
+pub mod HearLemmas
 pub mod LawLemmas
+pub mod RowLemmas
+pub mod SkewLemmas
 pub mod SourceLemmas

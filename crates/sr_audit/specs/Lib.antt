@@ -4,12 +4,15 @@ pub mod Edges
 pub mod Extents
 pub mod Faults
 pub mod Following
+pub mod Hearing
 pub mod Lanes
 pub mod Laws
 pub mod Limits
 pub mod Looks
 pub mod Reaching
+pub mod Rows
 pub mod Shown
+pub mod Skewing
 pub mod Stretches
 pub mod Taken
 pub mod Tallies

@@ -21,3 +21,8 @@ most_audited = 1024
 -- sum is kept in 64 bits (choice of this project)
 abbrev pub exact_arrivals : ℕ
 exact_arrivals = 2 ^ 53
+
+-- how many frames have to come by one side alone at the end of a source's arrivals, for the source to be heard there alone (choice of this
+-- project)
+abbrev pub least_sided : ℕ
+least_sided = 3

@@ -1,5 +1,8 @@
 //! Signs of life of a node.
 
+ghost use Rattle.std.specs.Prelude.{◌≡◌};
+ghost use Rattle.sr_audit.specs.Hearing.{wider, lives_with, alive_begun, alive_before, alive_with};
+
 use crate::side::Side;
 
 /// The supervision frames for an address, as they came in at one side.
@@ -12,6 +15,16 @@ pub struct Lives {
     pub gap: Option<u64>,
 }
 
+/// The greatest time between two in a row, where another time between two is known.
+fn wider(most: Option<u64>, gap: u64) -> u64
+    ensures { result ≡ wider gap most }
+{
+    match most {
+        Some(most) => most.max(gap),
+        None => gap,
+    }
+}
+
 impl Lives {
     /// None came.
     pub const NONE: Lives = Lives {
@@ -21,11 +34,12 @@ impl Lives {
     };
 
     /// Takes the time of the next one.
-    fn note(&mut self, time: u64) {
+    fn note(&mut self, time: u64)
+        ensures { self.new ≡ lives_with time self.old }
+    {
         self.rx = self.rx.saturating_add(1);
         if let Some(last) = self.last {
-            let gap = time.saturating_sub(last);
-            self.gap = Some(self.gap.map_or(gap, |most| most.max(gap)));
+            self.gap = Some(wider(self.gap, time.saturating_sub(last)));
         }
         self.last = Some(time);
     }
@@ -44,7 +58,9 @@ pub struct Alive {
 
 impl Alive {
     /// None came yet; the next one has this type.
-    pub(crate) fn begin(kind: u8) -> Alive {
+    fn begin(kind: u8) -> Alive
+        ensures { result ≡ alive_begun kind }
+    {
         Alive {
             kind,
             a: Lives::NONE,
@@ -52,8 +68,20 @@ impl Alive {
         }
     }
 
+    /// What is known before the next one comes, which has this type.
+    pub(crate) fn before(alive: Option<Alive>, kind: u8) -> Alive
+        ensures { result ≡ alive_before kind alive }
+    {
+        match alive {
+            Some(alive) => alive,
+            None => Alive::begin(kind),
+        }
+    }
+
     /// Takes the next one.
-    pub(crate) fn note(&mut self, kind: u8, side: Side, time: u64) {
+    pub(crate) fn note(&mut self, kind: u8, side: Side, time: u64)
+        ensures { self.new ≡ alive_with kind side time self.old }
+    {
         self.kind = kind;
         match side {
             Side::A => self.a.note(time),

@@ -30,11 +30,13 @@ impl Audit {
     ghost use Rattle.sr_audit.specs.declared.span.Spans.{Spans};
     ghost use Rattle.sr_audit.specs.Taken.{TakesArrival, KeepsTaken};
     ghost use Rattle.sr_audit.specs.Audits.{Audits, Sent};
+    ghost use Rattle.sr_audit.specs.Hearing.{Reported, sign_of, Hears, HearsSign};
     ghost use Rattle.sr_audit.specs.Limits.{most_audited};
 
     /// No arrival came. The spans of the captures are known.
     pub fn new(alloc: Global, keys: Keys, spans: Spans) -> Audit
         ensures audits { Audits spans [] result.sources.entries }
+        ensures hears { Hears [] result.sources.entries }
         ensures spans { result.spans ≡ spans }
         ensures none { result.left_out ≡ 0 }
     {
@@ -51,6 +53,8 @@ impl Audit {
         ensures audits { (spans : Spans) (xs : List Sent)
             → Audits spans xs self.old.sources.entries
             → Audits spans xs self.new.sources.entries }
+        ensures hears { (signs : List Reported)
+            → Hears signs self.old.sources.entries → Hears signs self.new.sources.entries }
         ensures made { IfOk result (λ made.
             made ≡ is_some (lookup (mac_eq src) self.new.sources.entries)) }
         ensures full { IfOk result (λ made.
@@ -74,6 +78,8 @@ impl Audit {
         ensures taken { IfSome result (λ _. (xs : List Sent)
             → length xs + 1 < 2 ^ 64 → Audits self.old.spans xs self.old.sources.entries
             → Audits self.old.spans ((src, x) ∷ xs) self.new.sources.entries) }
+        ensures hears { IfSome result (λ _. (signs : List Reported)
+            → Hears signs self.old.sources.entries → Hears signs self.new.sources.entries) }
         ensures spans { self.new.spans ≡ self.old.spans }
         ensures none { IfNone result (self.new.sources ≡ self.old.sources) }
     {
@@ -82,7 +88,8 @@ impl Audit {
             None,
             src,
             |source: &mut Source| -> ()
-                ensures { TakesArrival spans x source.old source.new }
+                ensures taken { TakesArrival spans x source.old source.new }
+                ensures alive { source.new.alive ≡ source.old.alive }
             { source.note(x, &spans) },
         )?;
         Some(())
@@ -94,6 +101,8 @@ impl Audit {
         ensures taken { (xs : List Sent) → length xs + 1 < 2 ^ 64
             → Audits self.old.spans xs self.old.sources.entries
             → Audits self.old.spans ((src, x) ∷ xs) self.new.sources.entries }
+        ensures hears { (signs : List Reported)
+            → Hears signs self.old.sources.entries → Hears signs self.new.sources.entries }
         ensures spans { self.new.spans ≡ self.old.spans }
     {
         self.take_at(src, x).unwrap()
@@ -101,19 +110,38 @@ impl Audit {
 
     /// Has the entry of an address take a supervision frame. None: it has no entry.
     fn hear_at(&mut self, mac: Mac, kind: u8, side: Side, time: u64) -> Option<()>
+        ensures found { is_some result ≡ is_some (lookup (mac_eq mac) self.old.sources.entries) }
         ensures audits { (spans : Spans) (xs : List Sent)
             → Audits spans xs self.old.sources.entries
             → Audits spans xs self.new.sources.entries }
+        ensures heard { IfSome result (λ _. (signs : List Reported)
+            → Hears signs self.old.sources.entries
+            → Hears ((mac, sign_of kind side time) ∷ signs) self.new.sources.entries) }
         ensures spans { self.new.spans ≡ self.old.spans }
     {
         self.sources.update_at(
             None,
             mac,
             |source: &mut Source| -> ()
-                ensures { KeepsTaken source.old source.new }
+                ensures taken { KeepsTaken source.old source.new }
+                ensures heard { HearsSign (sign_of kind side time) source.old source.new }
             { source.hear(kind, side, time) },
         )?;
         Some(())
+    }
+
+    /// Has the entry of an address take a supervision frame.
+    fn hear_known(&mut self, mac: Mac, kind: u8, side: Side, time: u64)
+        requires { is_some (lookup (mac_eq mac) self.old.sources.entries) ≡ true }
+        ensures audits { (spans : Spans) (xs : List Sent)
+            → Audits spans xs self.old.sources.entries
+            → Audits spans xs self.new.sources.entries }
+        ensures heard { (signs : List Reported)
+            → Hears signs self.old.sources.entries
+            → Hears ((mac, sign_of kind side time) ∷ signs) self.new.sources.entries }
+        ensures spans { self.new.spans ≡ self.old.spans }
+    {
+        self.hear_at(mac, kind, side, time).unwrap()
     }
 
     /// Takes the next arrival of a source.
@@ -127,6 +155,8 @@ impl Audit {
         ensures same { OnErr result ((spans : Spans) (xs : List Sent)
             → Audits spans xs self.old.sources.entries
             → Audits spans xs self.new.sources.entries) }
+        ensures hears { (signs : List Reported)
+            → Hears signs self.old.sources.entries → Hears signs self.new.sources.entries }
         ensures spans { self.new.spans ≡ self.old.spans }
     {
         if self.take_at(src, x).is_some() {
@@ -144,15 +174,20 @@ impl Audit {
     /// Takes a supervision frame for an address. One for an address beyond the 1024th is passed over.
     ///
     /// # Errors
-    /// `NoMemory` where a growth was refused.
+    /// `NoMemory` where a growth was refused: no supervision frame was taken.
     pub fn hear(&mut self, mac: Mac, kind: u8, side: Side, time: u64) -> Result<(), NoMemory>
         ensures audits { (spans : Spans) (xs : List Sent)
             → Audits spans xs self.old.sources.entries
             → Audits spans xs self.new.sources.entries }
+        ensures heard { OnOk result ((signs : List Reported)
+            → Hears signs self.old.sources.entries
+            → Hears ((mac, sign_of kind side time) ∷ signs) self.new.sources.entries) }
+        ensures same { OnErr result ((signs : List Reported)
+            → Hears signs self.old.sources.entries → Hears signs self.new.sources.entries) }
         ensures spans { self.new.spans ≡ self.old.spans }
     {
         if self.make_entry(mac)? {
-            let _known = self.hear_at(mac, kind, side, time);
+            self.hear_known(mac, kind, side, time);
         }
         Ok(())
     }

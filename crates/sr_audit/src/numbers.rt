@@ -77,7 +77,7 @@ impl Numbers {
     {
         let step = self.step(x);
         if self.goes_on(x) {
-            let came = self.came(x);
+            let came = self.came(x.seq);
             self.go_on(x, came);
             Look { step, came }
         } else {
@@ -108,7 +108,7 @@ impl Numbers {
     }
 
     /// How an arrival stands to the stretch.
-    fn step(&self, x: Arrival) -> Step
+    pub(crate) fn step(&self, x: Arrival) -> Step
         ensures { result ≡ step_by (window_of self.now.seen).reference self.now.last x }
     {
         let reference = self.seen.reference();
@@ -141,14 +141,14 @@ impl Numbers {
         self.seen.reference()
     }
 
-    /// By which sides copies of the frame of an arrival came, where the arrival goes on with the stretch.
-    fn came(&self, x: Arrival) -> Came
-        ensures a { result.a ≡ has_of kept_numbers (window_of self.now.seen) (side_lane A) x.seq.0 }
-        ensures b { result.b ≡ has_of kept_numbers (window_of self.now.seen) (side_lane B) x.seq.0 }
+    /// By which sides copies of a frame of the stretch came, by its number.
+    pub(crate) fn came(&self, seq: Seq) -> Came
+        ensures a { result.a ≡ has_of kept_numbers (window_of self.now.seen) (side_lane A) seq.0 }
+        ensures b { result.b ≡ has_of kept_numbers (window_of self.now.seen) (side_lane B) seq.0 }
     {
         Came {
-            a: self.seen.has(Side::A.lane(), x.seq),
-            b: self.seen.has(Side::B.lane(), x.seq),
+            a: self.seen.has(Side::A.lane(), seq),
+            b: self.seen.has(Side::B.lane(), seq),
         }
     }
 

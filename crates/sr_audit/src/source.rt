@@ -7,14 +7,16 @@ ghost use Rattle.sr_audit.specs.Shown.{frames_in};
 use crate::alive::Alive;
 use crate::arrival::Arrival;
 use crate::extent::Extent;
-use crate::look::Look;
+use crate::look::{Look, Step};
 use crate::moments::Moments;
-use crate::numbers::Numbers;
+use crate::numbers::{KEPT_NUMBERS, Numbers};
+use crate::row::{Row, row_over, shown_row};
 use crate::side::Side;
-use crate::skew::Skews;
+use crate::skew::{Skews, skew_by};
 use crate::span::Spans;
 use crate::tally::{Came, Sides, Tally};
 use sr_frame::NoMemory;
+use sr_sequence::Distance;
 use sr_slots::Ranked;
 use std::alloc::Global;
 
@@ -94,6 +96,8 @@ pub struct Source {
     edges: Sides,
     extent: Extent,
     skews: Skews,
+    /// Frames in a row that came by one side alone, at the end of the numbers that the stretch has left behind.
+    row: Option<Row>,
     alive: Option<Alive>,
 }
 
@@ -107,26 +111,30 @@ impl Ranked for Source {
 }
 
 impl Source {
-    ghost use Rattle.std.specs.Prelude.{◌≡◌, ◌+◌, ◌^◌, ◌<◌, ◌≤◌, List, [], ◌∷◌, length, sum_by, false, slice_set, slice_index_or, IfOk};
+    ghost use Rattle.std.specs.Prelude.{◌≡◌, ◌+◌, ◌^◌, ◌<◌, ◌≤◌, List, [], ◌∷◌, length, sum_by, slice_set, IfOk};
     ghost use Rattle.sr_audit.specs.declared.arrival.Arrival.{Arrival};
     ghost use Rattle.sr_audit.specs.declared.span.Spans.{Spans};
     ghost use Rattle.sr_audit.specs.Counting.{more_at, less_at};
     ghost use Rattle.sr_audit.specs.Edges.{is_beyond, edges_of, edges_with, moments_with};
     ghost use Rattle.sr_audit.specs.Lanes.{other_side};
     ghost use Rattle.sr_audit.specs.Looks.{look_at};
-    ghost use Rattle.sr_audit.specs.Stretches.{stretches};
+    ghost use Rattle.sr_audit.specs.Stretches.{stretches, current};
     ghost use Rattle.sr_audit.specs.Tallies.{tally_of, at_sides};
     ghost use Rattle.sr_audit.specs.Extents.{neither_of, order, jumps_of, restarts_of};
     ghost use Rattle.sr_audit.specs.Limits.{exact_arrivals};
     ghost use Rattle.sr_audit.specs.Taken.{IsKeptIn, HasTaken, TakesArrival, KeepsTaken};
     ghost use Rattle.sr_audit.specs.Shown.{figures_of, tally_in};
+    ghost use Rattle.sr_audit.specs.Skewing.{skew_by, skews_of, skews_shown, skews_with, skews_taken};
+    ghost use Rattle.sr_audit.specs.Rows.{row_of, row_passed, row_before, shown_row};
+    ghost use Rattle.sr_audit.specs.Hearing.{Sign, sign_of, HasHeard, HearsSign, alive_of};
 
     /// A source of which nothing came.
     ///
     /// # Errors
     /// `NoMemory` where a growth was refused.
     pub(crate) fn new(alloc: Global) -> Result<Source, NoMemory>
-        ensures { IfOk result (λ source. (spans : Spans) → HasTaken spans [] source) }
+        ensures taken { IfOk result (λ source. (spans : Spans) → HasTaken spans [] source) }
+        ensures heard { IfOk result (HasHeard []) }
     {
         Ok(Source {
             numbers: None,
@@ -134,6 +142,7 @@ impl Source {
             edges: Sides::NONE,
             extent: Extent::NONE,
             skews: Skews::NONE,
+            row: None,
             alive: None,
         })
     }
@@ -147,6 +156,9 @@ impl Source {
         ensures moments { self.new.moments.times.items ≡ self.old.moments.times.items }
         ensures edges { self.new.edges ≡ self.old.edges }
         ensures extent { self.new.extent ≡ self.old.extent }
+        ensures skews { self.new.skews ≡ self.old.skews }
+        ensures row { self.new.row ≡ self.old.row }
+        ensures alive { self.new.alive ≡ self.old.alive }
     {
         match self.numbers.as_mut() {
             Some(numbers) => numbers.take(x),
@@ -165,61 +177,93 @@ impl Source {
         ensures edges { self.new.edges ≡ more_at self.old.edges x.side
             (is_beyond spans.now (other_side x.side) x.time) }
         ensures extent { self.new.extent ≡ self.old.extent }
+        ensures skews { self.new.skews ≡ self.old.skews }
+        ensures row { self.new.row ≡ self.old.row }
+        ensures alive { self.new.alive ≡ self.old.alive }
     {
         self.moments.put(x.seq, x.time);
         let is_edge = spans.is_beyond(x.side.other(), x.time);
         self.edges = self.edges.more_at(x.side, is_edge);
     }
 
-    /// Takes the copy that makes a pair of a frame that came by the other side alone.
-    fn join(&mut self, x: Arrival, spans: &Spans)
+    /// Takes the copy that makes a pair of a frame that came by the other side alone, first at this time.
+    fn join(&mut self, x: Arrival, first: u64, spans: &Spans)
         ensures numbers { self.new.numbers ≡ self.old.numbers }
         ensures moments { self.new.moments.times.items ≡ self.old.moments.times.items }
         ensures edges { self.new.edges ≡ less_at self.old.edges (other_side x.side)
-            (is_beyond spans.now x.side
-            (slice_index_or self.old.moments.times.items (place_in x.seq.0) 0)) }
+            (is_beyond spans.now x.side first) }
         ensures extent { self.new.extent ≡ self.old.extent }
+        ensures skews { self.new.skews
+            ≡ skews_with (skew_by x.side x.time first) self.old.skews }
+        ensures row { self.new.row ≡ self.old.row }
+        ensures alive { self.new.alive ≡ self.old.alive }
     {
-        let first = self.moments.at(x.seq);
         let was_edge = spans.is_beyond(x.side, first);
         self.edges = self.edges.less_at(x.side.other(), was_edge);
-        let apart = i128::from(x.time) - i128::from(first);
-        match x.side {
-            Side::A => self.skews.note(-apart),
-            Side::B => self.skews.note(apart),
-        }
+        self.skews.note(skew_by(x.side, x.time, first));
     }
 
-    /// Takes a copy of a frame of which copies came before by some sides.
-    fn pair(&mut self, x: Arrival, came: Came, spans: &Spans)
+    /// Takes a copy of a frame of which copies came before by some sides, if any first at this time.
+    fn pair(&mut self, x: Arrival, came: Came, first: u64, spans: &Spans)
         ensures numbers { self.new.numbers ≡ self.old.numbers }
         ensures moments { self.new.moments.times.items
             ≡ moments_with x came self.old.moments.times.items }
-        ensures edges { self.new.edges ≡ edges_with spans.now x.side x.time came
-            (slice_index_or self.old.moments.times.items (place_in x.seq.0) 0) self.old.edges }
+        ensures edges { self.new.edges
+            ≡ edges_with spans.now x.side x.time came first self.old.edges }
         ensures extent { self.new.extent ≡ self.old.extent }
+        ensures skews { self.new.skews ≡ skews_taken x.side x.time came first self.old.skews }
+        ensures row { self.new.row ≡ self.old.row }
+        ensures alive { self.new.alive ≡ self.old.alive }
     {
         if !came.is_some() {
             self.open(x, spans);
         } else if !came.by(x.side) {
-            self.join(x, spans);
+            self.join(x, first, spans);
         }
+    }
+
+    /// Takes the numbers that an arrival leaves behind to the row at their end.
+    fn pass(&mut self, x: Arrival, spans: &Spans)
+        ensures row { self.new.row ≡ row_passed spans.now x self.old.numbers
+            self.old.moments.times.items self.old.row }
+        ensures numbers { self.new.numbers ≡ self.old.numbers }
+        ensures moments { self.new.moments.times.items ≡ self.old.moments.times.items }
+        ensures edges { self.new.edges ≡ self.old.edges }
+        ensures extent { self.new.extent ≡ self.old.extent }
+        ensures skews { self.new.skews ≡ self.old.skews }
+        ensures alive { self.new.alive ≡ self.old.alive }
+    {
+        let row = match &self.numbers {
+            Some(numbers) => match numbers.step(x) {
+                Step::On(Distance::Ahead(steps)) => {
+                    row_over(numbers, &self.moments, spans, self.row, steps)
+                }
+                Step::On(Distance::Behind(_)) => self.row,
+                Step::First | Step::Restart | Step::Resume | Step::Jump => None,
+            },
+            None => None,
+        };
+        self.row = row;
     }
 
     /// Takes the next arrival of the source.
     pub(crate) fn note(&mut self, x: Arrival, spans: &Spans)
-        ensures { TakesArrival spans.now x self.old self.new }
+        ensures taken { TakesArrival spans.now x self.old self.new }
+        ensures alive { self.new.alive ≡ self.old.alive }
     {
+        let first = self.moments.at(x.seq);
+        self.pass(x, spans);
         let look = self.look(x);
         self.extent.note(x.side, look);
-        self.pair(x, look.came, spans);
+        self.pair(x, look.came, first, spans);
     }
 
     /// Takes a supervision frame for this address.
     pub(crate) fn hear(&mut self, kind: u8, side: Side, time: u64)
-        ensures { KeepsTaken self.old self.new }
+        ensures taken { KeepsTaken self.old self.new }
+        ensures heard { HearsSign (sign_of kind side time) self.old self.new }
     {
-        let mut alive = self.alive.unwrap_or(Alive::begin(kind));
+        let mut alive = Alive::before(self.alive, kind);
         alive.note(kind, side, time);
         self.alive = Some(alive);
     }
@@ -236,7 +280,7 @@ impl Source {
         }
     }
 
-    /// The figures of all arrivals. Those of the skews are tested alone.
+    /// The figures of all arrivals.
     pub fn figures(&self) -> Figures
         ensures tally { (spans : Spans) (xs : List Arrival) → HasTaken spans xs self.now
             → result.tally ≡ tally_of (stretches xs) }
@@ -250,6 +294,8 @@ impl Source {
             → HasTaken spans xs self.now → result.jumps ≡ jumps_of xs }
         ensures restarts { (spans : Spans) (xs : List Arrival) → length xs ≤ exact_arrivals
             → HasTaken spans xs self.now → result.restarts ≡ restarts_of xs }
+        ensures skews { (spans : Spans) (xs : List Arrival) → length xs ≤ exact_arrivals
+            → HasTaken spans xs self.now → result.skews ≡ skews_shown (skews_of (stretches xs)) }
         ensures shown { result ≡ figures_of self.now }
     {
         let tally = self.tally();
@@ -265,7 +311,31 @@ impl Source {
     }
 
     /// The supervision frames for this address. None: none came.
-    pub fn alive(&self) -> Option<Alive> {
+    pub fn alive(&self) -> Option<Alive>
+        ensures alive { (signs : List Sign) → length signs < 2 ^ 64 → HasHeard signs self.now
+            → result ≡ alive_of signs }
+        ensures shown { result ≡ self.now.alive }
+    {
         self.alive
+    }
+
+    /// The row of frames that came by one side alone at the end of the last stretch.
+    fn row(&self, spans: &Spans) -> Option<Row>
+        ensures { result ≡ row_before spans.now self.now.numbers self.now.moments.times.items
+            self.now.row }
+    {
+        match &self.numbers {
+            Some(numbers) => row_over(numbers, &self.moments, spans, self.row, KEPT_NUMBERS),
+            None => None,
+        }
+    }
+
+    /// The frames at the end of the last stretch that came by one side alone, where they are at least 3. None: the source is heard by both
+    /// sides, or by neither.
+    pub fn sided(&self, spans: &Spans) -> Option<Row>
+        ensures { (xs : List Arrival) → HasTaken spans.now xs self.now
+            → result ≡ shown_row (row_of spans.now (current (stretches xs))) }
+    {
+        shown_row(self.row(spans))
     }
 }

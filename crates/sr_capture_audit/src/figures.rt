@@ -132,7 +132,7 @@ impl Report {
     fn print_lines<W: Write>(&self, writer: &mut W, format: Format) -> Result<(), ScriptFault> {
         self.print_captures(writer, format)?;
         for (mac, source) in self.audit.sources() {
-            print_source(writer, format, mac, source)?;
+            print_source(writer, format, mac, source, &self.spans)?;
         }
         Ok(())
     }
@@ -141,7 +141,7 @@ impl Report {
     fn print_table<W: Write>(&self, writer: &mut W) -> Result<(), ScriptFault> {
         print_table_names(writer)?;
         for (mac, source) in self.audit.sources() {
-            print_table_row(writer, mac, source)?;
+            print_table_row(writer, mac, source, &self.spans)?;
         }
         Ok(())
     }

@@ -1,8 +1,9 @@
 //! The lines of captures and sources.
 
 use crate::counts::SideCounts;
+use crate::network::letter_of;
 use crate::rows::{Field, Format, Value, bare, count, named, print_names, print_row};
-use sr_audit::{Alive, Figures, Skews, Source, Span};
+use sr_audit::{Alive, Figures, Row, Skews, Source, Span, Spans};
 use sr_capture_script::ScriptFault;
 use sr_frame::Mac;
 use std::io::Write;
@@ -83,6 +84,16 @@ fn alive_fields(mac: Mac, alive: &Alive) -> [Field; 6] {
     ]
 }
 
+/// The line `sided`.
+fn sided_fields(mac: Mac, row: Row) -> [Field; 4] {
+    [
+        bare("lan", Value::Word(letter_of(row.side))),
+        bare("source", Value::Mac(mac)),
+        count("frames", row.frames),
+        named("since", "since_ms", Value::Time(Some(row.since))),
+    ]
+}
+
 /// Prints the line of a capture.
 pub(crate) fn print_capture<W: Write>(
     writer: &mut W,
@@ -99,26 +110,54 @@ pub(crate) fn print_capture<W: Write>(
     )
 }
 
-/// Prints the lines of a source: that of the skews where there is a pair, and that of supervision frames where some came.
+/// Prints the line of the side by which alone a source is heard at last, if it is one.
+fn print_sided<W: Write>(
+    writer: &mut W,
+    format: Format,
+    mac: Mac,
+    sided: Option<Row>,
+) -> Result<(), ScriptFault> {
+    match sided {
+        Some(row) => print_row(writer, format, "sided", &sided_fields(mac, row)),
+        None => Ok(()),
+    }
+}
+
+/// Prints the lines of a source: that of the skews where there is a pair, that of supervision frames where some came, and that of the side
+/// by which alone it is heard at last.
 pub(crate) fn print_source<W: Write>(
     writer: &mut W,
     format: Format,
     mac: Mac,
     source: &Source,
+    spans: &Spans,
 ) -> Result<(), ScriptFault> {
     let figures = source.figures();
     print_row(writer, format, "source", &source_fields(mac, &figures))?;
     if figures.skews.count > 0 {
         print_row(writer, format, "skew", &skew_fields(mac, &figures.skews))?;
     }
-    match source.alive() {
-        Some(alive) => print_row(writer, format, "alive", &alive_fields(mac, &alive)),
-        None => Ok(()),
+    if let Some(alive) = source.alive() {
+        print_row(writer, format, "alive", &alive_fields(mac, &alive))?;
     }
+    print_sided(writer, format, mac, source.sided(spans))
 }
 
-/// A line of the table of sources: the values of the line `source`, and behind them those of the line `skew`.
-fn table_fields(mac: Mac, figures: &Figures) -> [Field; 25] {
+/// What a table has of the line `sided`: its LAN, which is empty where there is no such line.
+fn sided_cells(sided: Option<Row>) -> [Field; 3] {
+    let (lan, frames, since) = match sided {
+        Some(row) => (letter_of(row.side), row.frames, Some(row.since)),
+        None => ("", 0, None),
+    };
+    [
+        bare("sided", Value::Word(lan)),
+        count("sided_frames", frames),
+        named("sided_since_ms", "sided_since_ms", Value::Time(since)),
+    ]
+}
+
+/// A line of the table of sources: the values of the line `source`, and behind them those of the lines `skew` and `sided`.
+fn table_fields(mac: Mac, figures: &Figures, sided: Option<Row>) -> [Field; 28] {
     let [
         source,
         rx_a,
@@ -137,15 +176,17 @@ fn table_fields(mac: Mac, figures: &Figures) -> [Field; 25] {
         restarts,
     ] = source_fields(mac, figures);
     let [_, _, least, mean, greatest, a, b, c, d, e, f, over] = skew_fields(mac, &figures.skews);
+    let [lan, frames, since] = sided_cells(sided);
     [
         source, rx_a, rx_b, pairs, only_a, only_b, edge_a, edge_b, neither, repeat_a, repeat_b,
-        order_a, order_b, jumps, restarts, least, mean, greatest, a, b, c, d, e, f, over,
+        order_a, order_b, jumps, restarts, least, mean, greatest, a, b, c, d, e, f, over, lan,
+        frames, since,
     ]
 }
 
 /// Prints the names of the table of sources.
 pub(crate) fn print_table_names<W: Write>(writer: &mut W) -> Result<(), ScriptFault> {
-    print_names(writer, &table_fields(Mac([0; 6]), &Figures::NONE))
+    print_names(writer, &table_fields(Mac([0; 6]), &Figures::NONE, None))
 }
 
 /// Prints the line of a source in the table of sources.
@@ -153,11 +194,8 @@ pub(crate) fn print_table_row<W: Write>(
     writer: &mut W,
     mac: Mac,
     source: &Source,
+    spans: &Spans,
 ) -> Result<(), ScriptFault> {
-    print_row(
-        writer,
-        Format::Csv,
-        "source",
-        &table_fields(mac, &source.figures()),
-    )
+    let fields = table_fields(mac, &source.figures(), source.sided(spans));
+    print_row(writer, Format::Csv, "source", &fields)
 }

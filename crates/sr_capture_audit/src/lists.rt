@@ -1,7 +1,7 @@
 //! Lists of single frames and copies.
 
 use crate::kind::{Kind, kind_of};
-use crate::network::{Ports, Subject};
+use crate::network::{Ports, Subject, letter_of};
 use crate::passing::{Pass, Place, pass_over};
 use crate::rows::{Field, Format, Value, bare, count, named, print_names, print_row};
 use sr_audit::{Arrival, Copied, Listed, Listing, Side, Spans};
@@ -53,14 +53,6 @@ struct Style {
     lists: Lists,
     /// Whether nothing was printed before.
     is_first: bool,
-}
-
-/// The letter of a side.
-fn letter_of(side: Side) -> &'static str {
-    match side {
-        Side::A => "A",
-        Side::B => "B",
-    }
 }
 
 /// The name of the capture of a side.

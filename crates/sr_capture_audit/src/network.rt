@@ -37,3 +37,11 @@ pub struct Subject {
     /// Where the captures were made.
     pub ports: Ports,
 }
+
+/// The letter of a side.
+pub(crate) fn letter_of(side: Side) -> &'static str {
+    match side {
+        Side::A => "A",
+        Side::B => "B",
+    }
+}

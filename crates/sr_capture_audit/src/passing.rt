@@ -1,5 +1,8 @@
 //! Going over the packets of captures.
 
+ghost use Rattle.std.specs.Prelude.{◌≡◌, ◌/◌};
+ghost use Rattle.sr_capture_script.specs.Texts.{is_wanted};
+
 use crate::network::{Ports, Tap};
 use sr_audit::Side;
 use sr_capture::Packet;
@@ -30,9 +33,11 @@ pub(crate) trait Pass {
 }
 
 /// Whether packets of this time are wanted.
-fn is_wanted(choice: &Choice, time: u64) -> bool {
+fn is_wanted(choice: &Choice, time: u64) -> bool
+    ensures { result ≡ is_wanted choice.now (time / 1000000) }
+{
     let time = time / MILLISECOND;
-    choice.from <= time && time <= choice.to.unwrap_or(time)
+    !(time < choice.from || choice.to.unwrap_or(time) < time)
 }
 
 /// Where the capture of an inlet was made. None: it is none of an audit.

@@ -1,6 +1,8 @@
 use Rattle.std.proofs.Common.{rules}
+use Rattle.sr_audit.specs.Hearing.{sign_of, HearsSign}
 use Rattle.sr_audit.specs.Taken.{KeepsTaken}
 use Rattle.sr_audit.proofs.AuditLemmas.{audits_kept}
+use Rattle.sr_audit.proofs.HearLemmas.{hears_taken}
 use Rattle.sr_audit.proofs.audit.Audit.hear_at.Goals as goal
 
 pub returns-clause-audits : goal.returns-clause-audits
@@ -8,3 +10,10 @@ returns-clause-audits c =
     let h = c.in_ok-update_at.ensures.changed in
     let kept : KeepsTaken h.was h.is = search rules in
     λ spans xs audits. rw h.written (audits_kept spans xs c.args.self.now.sources.entries c.args.mac h.was h.is h.found (kept.keeps spans) audits)
+
+pub returns-clause-heard : goal.returns-clause-heard
+returns-clause-heard c =
+    let h = c.in_ok-update_at.ensures.changed in
+    let heard : HearsSign (sign_of c.args.kind c.args.side c.args.time) h.was h.is = search rules in
+    λ signs hears. rw h.written (hears_taken signs c.args.self.now.sources.entries c.args.mac (sign_of c.args.kind c.args.side c.args.time) h.was h.is
+    h.found heard.hears hears)

@@ -3,6 +3,7 @@ use Rattle.std.specs.Map.{lookup}
 use Rattle.sr_frame.specs.Addresses.{mac_eq}
 use Rattle.sr_audit.specs.Limits.{most_audited}
 use Rattle.sr_audit.proofs.AuditLemmas.{audits_made, made_is, nothing_there}
+use Rattle.sr_audit.proofs.HearLemmas.{hears_made}
 use Rattle.sr_audit.proofs.audit.Audit.make_entry.Goals as goal
 
 pub returns-clause-audits : goal.returns-clause-audits
@@ -11,7 +12,15 @@ returns-clause-audits c =
     let absent = nothing_there (lookup (mac_eq c.args.src) c.args.self.now.sources.entries) lacks in
     let few : length c.args.self.now.sources.entries < most_audited = omega arith in
     λ spans xs audits. rw c.in_ok-append.ensures.entries (audits_made spans xs c.args.self.now.sources.entries
-    c.args.src c.in_ok-source.source audits absent few (c.in_ok-source.ensures spans))
+    c.args.src c.in_ok-source.source audits absent few (c.in_ok-source.ensures.taken spans))
+
+pub returns-clause-hears : goal.returns-clause-hears
+returns-clause-hears c =
+    let lacks : is_some (lookup (mac_eq c.args.src) c.args.self.now.sources.entries) ≡ false = search rules in
+    let absent = nothing_there (lookup (mac_eq c.args.src) c.args.self.now.sources.entries) lacks in
+    let few : length c.args.self.now.sources.entries < most_audited = omega arith in
+    λ signs hears. rw c.in_ok-append.ensures.entries (hears_made signs c.args.self.now.sources.entries
+    c.args.src c.in_ok-source.source hears absent few c.in_ok-source.ensures.heard)
 
 pub returns-clause-made : goal.returns-clause-made
 returns-clause-made c =

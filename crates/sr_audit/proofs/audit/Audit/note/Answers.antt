@@ -1,4 +1,4 @@
-use Rattle.std.proofs.Common.{rules, ◌≡◌, false, is_some, sym, ap, subst, ◌∙◌}
+use Rattle.std.proofs.Common.{rules, ◌≡◌, false, is_some, sym, subst, ◌∙◌}
 use Rattle.sr_audit.specs.Audits.{Audits}
 use Rattle.sr_audit.proofs.AuditLemmas.{audits_left, without_answer}
 use Rattle.sr_audit.proofs.audit.Audit.note.Goals as goal

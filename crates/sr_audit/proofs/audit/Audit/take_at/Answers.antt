@@ -1,6 +1,7 @@
-use Rattle.std.proofs.Common.{rules}
+use Rattle.std.proofs.Common.{rules, ◌≡◌}
 use Rattle.sr_audit.specs.Taken.{TakesArrival}
 use Rattle.sr_audit.proofs.AuditLemmas.{audits_taken}
+use Rattle.sr_audit.proofs.HearLemmas.{hears_kept}
 use Rattle.sr_audit.proofs.audit.Audit.take_at.Goals as goal
 
 pub returns-clause-taken : goal.returns-clause-taken
@@ -9,3 +10,9 @@ returns-clause-taken c =
     let takes : TakesArrival c.args.self.now.spans c.args.x h.was h.is = search rules in
     λ xs few audits. rw h.written (audits_taken c.args.self.now.spans xs c.args.self.now.sources.entries c.args.src c.args.x
     h.was h.is few h.found takes.takes audits)
+
+pub returns-clause-hears : goal.returns-clause-hears
+returns-clause-hears c =
+    let h = c.in_ok-update_at.ensures.changed in
+    let same : h.is.alive ≡ h.was.alive = search rules in
+    λ signs hears. rw h.written (hears_kept signs c.args.self.now.sources.entries c.args.src h.was h.is h.found same hears)

@@ -22,3 +22,6 @@ returns-clause-jumps c = λ spans xs exact taken. (taken.extent exact).jumps
 
 pub returns-clause-restarts : goal.returns-clause-restarts
 returns-clause-restarts c = λ spans xs exact taken. (taken.extent exact).restarts
+
+pub returns-clause-skews : goal.returns-clause-skews
+returns-clause-skews c = λ spans xs exact taken. (taken.skews exact).shown

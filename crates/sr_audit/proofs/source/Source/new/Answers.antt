@@ -1,11 +1,18 @@
 use Rattle.std.proofs.Common.{refl}
 use Rattle.sr_audit.proofs.EdgeLemmas.{none_kept}
 use Rattle.sr_audit.proofs.ExtentLemmas.{none_reached}
+use Rattle.sr_audit.proofs.RowLemmas.{none_in_row}
+use Rattle.sr_audit.proofs.SkewLemmas.{none_skewed}
 use Rattle.sr_audit.proofs.source.Source.new.Goals as goal
 
-pub returns : goal.returns
-returns c = λ spans. record {
+pub returns-clause-taken : goal.returns-clause-taken
+returns-clause-taken c = λ spans. record {
   numbers = refl;
   edges = none_kept spans _ _ refl;
   extent = λ few. none_reached _ refl refl refl refl refl refl;
+  skews = λ few. none_skewed _ refl;
+  row = none_in_row spans;
 }
+
+pub returns-clause-heard : goal.returns-clause-heard
+returns-clause-heard c = record { alive = λ few. refl }
