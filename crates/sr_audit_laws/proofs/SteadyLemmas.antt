@@ -70,23 +70,24 @@ use Rattle.sr_audit.proofs.ExtentLemmas.{no_empty}
 use Rattle.sr_audit.proofs.FitLemmas.{frames_split}
 use Rattle.sr_audit.proofs.FollowLemmas.{number_is}
 use Rattle.sr_audit.proofs.FrameLemmas.{count-cons, frames_with-more}
-use Rattle.sr_audit_laws.specs.Steady.{clock_step, IsNotedAs, AreNotedAs, AreSilentAlike, handed_up, up_with, SteadyAuditsCountWhatGoesUp}
+use Rattle.sr_audit_laws.specs.Steady.{
+  clock_step,
+  IsNotedAs,
+  AreNotedAs,
+  AreSilentAlike,
+  run_copy,
+  run_copies,
+  handed_up,
+  up_with,
+  SteadyAuditsCountWhatGoesUp,
+}
 
--- a copy under the whole number of the run
-abbrev numbered : Sent → Noting → Placed
-numbered c x = record { side = c.1.side; number = x.arrival.number; time = c.1.time }
-
--- all copies of a source, and those of its epoch at a time
-abbrev whole : Mac → List Sent → List Noting → List Placed
-whole src [] xs = []
-whole src (c ∷ cs) [] = []
-whole src (c ∷ cs) (x ∷ xs) = cond (mac_eq src c.0) (numbered c x ∷ whole src cs xs) (whole src cs xs)
-
+-- the copies of a source's epoch at a time
 abbrev recent : Mac → ℕ → List Sent → List Noting → List Placed
 recent src now [] xs = []
 recent src now (c ∷ cs) [] = []
 recent src now (c ∷ cs) (x ∷ xs) =
-    cond (mac_eq src c.0) (cond (nat_lt (now - x.arrival.time) forget_time) (numbered c x ∷ recent src x.arrival.time cs xs) [])
+    cond (mac_eq src c.0) (cond (nat_lt (now - x.arrival.time) forget_time) (run_copy c x ∷ recent src x.arrival.time cs xs) [])
     (recent src now cs xs)
 
 -- a copy is noted on the lane of its side
@@ -109,13 +110,13 @@ copy_other src n lane c x noted other =
 
 -- a copy came by a side where it was noted on the lane of that side
 came_noted : (src : Mac) (side : Side) (n : ℤ) (cs : List Sent) (xs : List Noting) → AreNotedAs cs xs →
-    came side n (whole src cs xs) ≡ was_noted src n (side_lane side) xs
+    came side n (run_copies src cs xs) ≡ was_noted src n (side_lane side) xs
 came_noted src side n [] [] noted = refl
 came_noted src side n [] (x ∷ xs) noted = absurd noted
 came_noted src side n (c ∷ cs) [] noted = absurd noted
 came_noted src side n (c ∷ cs) (x ∷ xs) noted =
     elim (cases_Bool (mac_eq src c.0)) [
-      | inl own ↦ rw own (ap (λ b. b || came side n (whole src cs xs)) (copy_own src n side c x noted.0 own)
+      | inl own ↦ rw own (ap (λ b. b || came side n (run_copies src cs xs)) (copy_own src n side c x noted.0 own)
           ∙ ap (λ b. (is_copy src n x.arrival && has x.lanes (side_lane side)) || b) (came_noted src side n cs xs noted.1))
       | inr other ↦ rw other (came_noted src side n cs xs noted.1
           ∙ ap (λ b. b || was_noted src n (side_lane side) xs) (sym (copy_other src n (side_lane side) c x noted.0 other)))
@@ -170,33 +171,33 @@ some_noted src n (c ∷ cs) (x ∷ xs) noted =
 
 -- the numbers that went up are the frames of all copies, under the whole numbers of the run
 up_frames : (src : Mac) (turns : List TableTurn) (t : Sources) (cs : List Sent) → TableRun kept_numbers [] turns t →
-    IsSteadyRun kept_numbers 0 [] turns → AreNotedAs cs (notings_of [] turns) → handed_up src turns ≡ frames (whole src cs (notings_of [] turns))
+    IsSteadyRun kept_numbers 0 [] turns → AreNotedAs cs (notings_of [] turns) → handed_up src turns ≡ frames (run_copies src cs (notings_of [] turns))
 up_frames src [] t [] run steady noted = refl
 up_frames src [] t (c ∷ cs) run steady noted = absurd noted
 up_frames src (aged now ∷ turns) t cs run steady noted = up_frames src turns run.0 cs run.1 (steady.0.0, steady.1) noted
 up_frames src (arrived x fresh ∷ turns) t [] run steady noted = absurd noted
 up_frames src (arrived x fresh ∷ turns) t (c ∷ cs) run steady noted =
     let before = notings_of [] turns in
-    let rest : handed_up src turns ≡ frames (whole src cs before) = up_frames src turns run.0 cs run.1 (steady.0.0, steady.1.0) noted.1 in
+    let rest : handed_up src turns ≡ frames (run_copies src cs before) = up_frames src turns run.0 cs run.1 (steady.0.0, steady.1.0) noted.1 in
     elim (cases_Bool (mac_eq src c.0)) [
       | inl own ↦
           let src_is : mac_eq src x.arrival.src ≡ true = ap (mac_eq src) noted.0.src ∙ own in
-          let new : has fresh H ≡ not (came A x.arrival.number (whole src cs before) || came B x.arrival.number (whole src cs before)) =
+          let new : has fresh H ≡ not (came A x.arrival.number (run_copies src cs before) || came B x.arrival.number (run_copies src cs before)) =
           each_pair_is_new_once kept_numbers (inl refl) x fresh turns t H run steady
           ∙ ap (λ b. b && not (was_noted x.arrival.src x.arrival.number H before)) noted.0.host
           ∙ ap (λ m. not (was_noted m x.arrival.number H before)) (sym (mac_same src x.arrival.src src_is))
           ∙ ap not (some_noted src x.arrival.number cs before noted.1)
           ∙ ap (λ b. not (b || was_noted src x.arrival.number GotB before)) (sym (came_noted src A x.arrival.number cs before noted.1))
-          ∙ ap (λ b. not (came A x.arrival.number (whole src cs before) || b)) (sym (came_noted src B x.arrival.number cs before noted.1)) in
-          rw (own, src_is, new) (by (came A x.arrival.number (whole src cs before) || came B x.arrival.number (whole src cs before)) rest)
+          ∙ ap (λ b. not (came A x.arrival.number (run_copies src cs before) || b)) (sym (came_noted src B x.arrival.number cs before noted.1)) in
+          rw (own, src_is, new) (by (came A x.arrival.number (run_copies src cs before) || came B x.arrival.number (run_copies src cs before)) rest)
       | inr other ↦
           let src_is : mac_eq src x.arrival.src ≡ false = ap (mac_eq src) noted.0.src ∙ other in
           rw (other, src_is) rest
     ]
   where
-    by : (known : Bool) → handed_up src turns ≡ frames (whole src cs (notings_of [] turns)) →
+    by : (known : Bool) → handed_up src turns ≡ frames (run_copies src cs (notings_of [] turns)) →
         cond (not known) (x.arrival.number ∷ handed_up src turns) (handed_up src turns)
-        ≡ cond known (frames (whole src cs (notings_of [] turns))) (x.arrival.number ∷ frames (whole src cs (notings_of [] turns)))
+        ≡ cond known (frames (run_copies src cs (notings_of [] turns))) (x.arrival.number ∷ frames (run_copies src cs (notings_of [] turns)))
     by true e = e
     by false e = ap (λ ns. x.arrival.number ∷ ns) e
 
@@ -207,13 +208,13 @@ alike p q same (n ∷ ns) = count-cons p n ns ∙ ap (λ b. cond b 1 0 + count_b
     ∙ sym (count-cons q n ns)
 
 up_counted : (test : Bool → Bool → Bool) (src : Mac) (turns : List TableTurn) (cs : List Sent) → AreNotedAs cs (notings_of [] turns) →
-    handed_up src turns ≡ frames (whole src cs (notings_of [] turns)) →
-    frames_with test (whole src cs (notings_of [] turns)) ≡ up_with test src turns
+    handed_up src turns ≡ frames (run_copies src cs (notings_of [] turns)) →
+    frames_with test (run_copies src cs (notings_of [] turns)) ≡ up_with test src turns
 up_counted test src turns cs noted ups =
     let xs = notings_of [] turns in
-    alike (λ n. test (came A n (whole src cs xs)) (came B n (whole src cs xs))) (λ n. test (was_noted src n GotA xs) (was_noted src n GotB xs))
-    (λ n. ap (λ b. test b (came B n (whole src cs xs))) (came_noted src A n cs xs noted)
-    ∙ ap (test (was_noted src n GotA xs)) (came_noted src B n cs xs noted)) (frames (whole src cs xs))
+    alike (λ n. test (came A n (run_copies src cs xs)) (came B n (run_copies src cs xs))) (λ n. test (was_noted src n GotA xs) (was_noted src n GotB xs))
+    (λ n. ap (λ b. test b (came B n (run_copies src cs xs))) (came_noted src A n cs xs noted)
+    ∙ ap (test (was_noted src n GotA xs)) (came_noted src B n cs xs noted)) (frames (run_copies src cs xs))
     ∙ ap (count_by (λ n. test (was_noted src n GotA xs) (was_noted src n GotB xs))) (sym ups)
 
 -- a stretch under the whole numbers of the run
@@ -312,14 +313,14 @@ recent_now src now (c ∷ cs) (x ∷ xs) y ys noted is =
           let then_is : x.arrival.time ≡ y.time / clock_step = noted.0.time ∙ ap (λ a. a.time / clock_step) head in
           let live : nat_lt (y.time / clock_step - x.arrival.time) forget_time ≡ true =
           ap (λ u. nat_lt (y.time / clock_step - u) forget_time) then_is ∙ now_is_live (y.time / clock_step) in
-          rw own (ap (λ u. cond (nat_lt (now - u) forget_time) (numbered c x ∷ recent src x.arrival.time cs xs) []) then_is
+          rw own (ap (λ u. cond (nat_lt (now - u) forget_time) (run_copy c x ∷ recent src x.arrival.time cs xs) []) then_is
           ∙ ap (λ l. cond (nat_lt (now - y.time / clock_step) forget_time) l [])
-          (sym (ap (λ b. cond b (numbered c x ∷ recent src x.arrival.time cs xs) []) live)))
+          (sym (ap (λ b. cond b (run_copy c x ∷ recent src x.arrival.time cs xs) []) live)))
       | inr other ↦ rw other (recent_now src now cs xs y ys noted.1 (rw other at is))
     ]
 
 -- a source of which nothing came
-none_whole : (src : Mac) (cs : List Sent) (xs : List Noting) → AreNotedAs cs xs → of src cs ≡ [] → whole src cs xs ≡ []
+none_whole : (src : Mac) (cs : List Sent) (xs : List Noting) → AreNotedAs cs xs → of src cs ≡ [] → run_copies src cs xs ≡ []
 none_whole src [] [] noted is = refl
 none_whole src [] (x ∷ xs) noted is = refl
 none_whole src (c ∷ cs) [] noted is = refl
@@ -384,7 +385,7 @@ Links src cs xs (y ∷ ys) = (d : ℤ) × Linked src cs xs y ys d
 
 -- an audit's count of frames is that of all copies, and its current stretch is the epoch of the run
 abbrev Counts : (Bool → Bool → Bool) → Mac → List Sent → List Noting → List Arrival → Type 0
-Counts test src cs xs ys = (sum_by (frames_with test) (stretches ys) ≡ frames_with test (whole src cs xs)) × Links src cs xs ys
+Counts test src cs xs ys = (sum_by (frames_with test) (stretches ys) ≡ frames_with test (run_copies src cs xs)) × Links src cs xs ys
 
 links_other : (src : Mac) (c : Sent) (cs : List Sent) (x : Noting) (xs : List Noting) (ys : List Arrival) → mac_eq src c.0 ≡ false →
     Links src cs xs ys → Links src (c ∷ cs) (x ∷ xs) ys
@@ -428,7 +429,7 @@ own_src src c x noted own = noted.src ∙ sym (mac_same src c.0 own)
 
 came_whole : (src : Mac) (side : Side) (c : Sent) (cs : List Sent) (x : Noting) (xs : List Noting) → AreNotedAs (c ∷ cs) (x ∷ xs) →
     mac_eq src c.0 ≡ true → IsNext kept_numbers (arrivals_of xs) x.arrival →
-    came side x.arrival.number (whole src cs xs) ≡ came side x.arrival.number (recent src x.arrival.time cs xs)
+    came side x.arrival.number (run_copies src cs xs) ≡ came side x.arrival.number (recent src x.arrival.time cs xs)
 came_whole src side c cs x xs noted own next =
     let m = x.arrival.number in
     let together : copies_of src m (arrivals_of xs) ≡ copies_of src m (epoch src x.arrival.time (arrivals_of xs)) =
@@ -438,7 +439,7 @@ came_whole src side c cs x xs noted own next =
 
 -- the newest copy is in its epoch
 recent_own : (src : Mac) (c : Sent) (cs : List Sent) (x : Noting) (xs : List Noting) → IsNotedAs c x → mac_eq src c.0 ≡ true →
-    recent src (c.1.time / clock_step) (c ∷ cs) (x ∷ xs) ≡ numbered c x ∷ recent src x.arrival.time cs xs
+    recent src (c.1.time / clock_step) (c ∷ cs) (x ∷ xs) ≡ run_copy c x ∷ recent src x.arrival.time cs xs
 recent_own src c cs x xs noted own =
     let live : nat_lt (c.1.time / clock_step - x.arrival.time) forget_time ≡ true =
     ap (λ u. nat_lt (c.1.time / clock_step - u) forget_time) noted.time ∙ now_is_live (c.1.time / clock_step) in
@@ -458,12 +459,12 @@ near_less g m d near = record { above = omega (arith, ints, near.above); below =
 
 -- an arrival that begins a stretch begins an epoch
 began : (test : Bool → Bool → Bool) (src : Mac) (c : Sent) (cs : List Sent) (x : Noting) (xs : List Noting) (ss : List (List Placed)) →
-    IsNotedAs c x → came A x.arrival.number (whole src cs xs) ≡ false → came B x.arrival.number (whole src cs xs) ≡ false →
-    sum_by (frames_with test) ss ≡ frames_with test (whole src cs xs) →
-    sum_by (frames_with test) (stretch_begun c.1 ∷ ss) ≡ frames_with test (numbered c x ∷ whole src cs xs)
+    IsNotedAs c x → came A x.arrival.number (run_copies src cs xs) ≡ false → came B x.arrival.number (run_copies src cs xs) ≡ false →
+    sum_by (frames_with test) ss ≡ frames_with test (run_copies src cs xs) →
+    sum_by (frames_with test) (stretch_begun c.1 ∷ ss) ≡ frames_with test (run_copy c x ∷ run_copies src cs xs)
 began test src c cs x xs ss noted by_a by_b e =
     sum_by-cons (frames_with test) (stretch_begun c.1) ss
-    ∙ more_alike test (copy_as c.1 (pos c.1.seq.0)) (numbered c x) [] (whole src cs xs) (sum_by (frames_with test) ss) refl (sym by_a) (sym by_b)
+    ∙ more_alike test (copy_as c.1 (pos c.1.seq.0)) (run_copy c x) [] (run_copies src cs xs) (sum_by (frames_with test) ss) refl (sym by_a) (sym by_b)
     (none_more (sum_by (frames_with test) ss) ∙ e)
   where
     none_more : (n : ℕ) → 0 + n ≡ n
@@ -475,7 +476,7 @@ began_linked src c cs x xs ys noted own none begun = (
   x.arrival.number -ℤ pos c.1.seq.0,
   record {
     unseen = start_unseen x.arrival.number c.1.seq.0 noted.number;
-    linked = recent_own src c cs x xs noted own ∙ ap (λ l. numbered c x ∷ l) none
+    linked = recent_own src c cs x xs noted own ∙ ap (λ l. run_copy c x ∷ l) none
         ∙ ap (λ m. record { side = c.1.side; number = m; time = c.1.time } ∷ []) (sym (from_start x.arrival.number c.1.seq.0))
         ∙ ap (shifted (x.arrival.number -ℤ pos c.1.seq.0)) (sym begun);
   },
@@ -486,18 +487,18 @@ went : (test : Bool → Bool → Bool) (src : Mac) (c : Sent) (cs : List Sent) (
     (before : List Placed) (rest : List (List Placed)) (d : ℤ) → AreNotedAs (c ∷ cs) (x ∷ xs) → mac_eq src c.0 ≡ true →
     IsNext kept_numbers (arrivals_of xs) x.arrival → IsUnseen d → recent src x.arrival.time cs xs ≡ shifted d (z ∷ before) →
     current (stretches (c.1 ∷ ys)) ≡ gone_on (z ∷ before) c.1 → c.1.seq.0 < 65536 →
-    sum_by (frames_with test) ((z ∷ before) ∷ rest) ≡ frames_with test (whole src cs xs) →
-    (sum_by (frames_with test) (gone_on (z ∷ before) c.1 ∷ rest) ≡ frames_with test (numbered c x ∷ whole src cs xs))
+    sum_by (frames_with test) ((z ∷ before) ∷ rest) ≡ frames_with test (run_copies src cs xs) →
+    (sum_by (frames_with test) (gone_on (z ∷ before) c.1 ∷ rest) ≡ frames_with test (run_copy c x ∷ run_copies src cs xs))
     × Links src (c ∷ cs) (x ∷ xs) (c.1 ∷ ys)
 went test src c cs x xs y ys z before rest d noted own next unseen epoch_is on fits e = (
   sum_by-cons (frames_with test) (gone_on s c.1) rest
-      ∙ more_alike test (copy_as c.1 n) (numbered c x) s (whole src cs xs) (sum_by (frames_with test) rest) refl (came_is A) (came_is B)
+      ∙ more_alike test (copy_as c.1 n) (run_copy c x) s (run_copies src cs xs) (sum_by (frames_with test) rest) refl (came_is A) (came_is B)
       (sym (sum_by-cons (frames_with test) s rest) ∙ e),
   (
     d,
     record {
       unseen = unseen;
-      linked = recent_own src c cs x xs noted.0 own ∙ ap (λ l. numbered c x ∷ l) epoch_is
+      linked = recent_own src c cs x xs noted.0 own ∙ ap (λ l. run_copy c x ∷ l) epoch_is
           ∙ ap (λ k. record { side = c.1.side; number = k; time = c.1.time } ∷ shifted d s) (sym number_of) ∙ ap (shifted d) (sym on);
     },
   ),
@@ -526,7 +527,7 @@ went test src c cs x xs y ys z before rest d noted own next unseen epoch_is on f
     number_of : n +ℤ d ≡ m
     number_of = forth_again m d n (one.alone (m -ℤ d) near (sym (unseen (m -ℤ d)) ∙ ap wire (back_again m d) ∙ noted.0.number))
 
-    came_is : (side : Side) → came side n s ≡ came side m (whole src cs xs)
+    came_is : (side : Side) → came side n s ≡ came side m (run_copies src cs xs)
     came_is side = sym (came_shifted side n d s) ∙ ap (λ k. came side k (shifted d s)) number_of ∙ ap (came side m) (sym epoch_is)
         ∙ sym (came_whole src side c cs x xs noted own next)
 
@@ -534,9 +535,9 @@ went test src c cs x xs y ys z before rest d noted own next unseen epoch_is on f
 own_step : (test : Bool → Bool → Bool) (src : Mac) (c : Sent) (cs : List Sent) (x : Noting) (xs : List Noting) (ys : List Arrival) →
     AreNotedAs (c ∷ cs) (x ∷ xs) → mac_eq src c.0 ≡ true → IsNext kept_numbers (arrivals_of xs) x.arrival → of src cs ≡ ys →
     AreSilentAlike (c.1 ∷ ys) → jumps_of (c.1 ∷ ys) ≡ 0 → c.1.seq.0 < 65536 → Counts test src cs xs ys →
-    (sum_by (frames_with test) (stretches (c.1 ∷ ys)) ≡ frames_with test (numbered c x ∷ whole src cs xs)) × Links src (c ∷ cs) (x ∷ xs) (c.1 ∷ ys)
+    (sum_by (frames_with test) (stretches (c.1 ∷ ys)) ≡ frames_with test (run_copy c x ∷ run_copies src cs xs)) × Links src (c ∷ cs) (x ∷ xs) (c.1 ∷ ys)
 own_step test src c cs x xs [] noted own next is alike_silent still fits (e, links) =
-    let none : whole src cs xs ≡ [] = none_whole src cs xs noted.1 is in (
+    let none : run_copies src cs xs ≡ [] = none_whole src cs xs noted.1 is in (
       began test src c cs x xs [] noted.0 (ap (came A x.arrival.number) none) (ap (came B x.arrival.number) none) e,
       began_linked src c cs x xs [] noted.0 own (none_recent src x.arrival.time cs xs noted.1 is) refl,
     )
@@ -548,9 +549,9 @@ own_step test src c cs x xs (y ∷ ys) noted own next is alike_silent still fits
     now_is = recent_now src x.arrival.time cs xs y ys noted.1 is
         ∙ ap (λ u. cond (nat_lt (u - y.time / clock_step) forget_time) (recent src (y.time / clock_step) cs xs) []) noted.0.time
 
-    by : (ss : List (List Placed)) → stretches (y ∷ ys) ≡ ss → sum_by (frames_with test) ss ≡ frames_with test (whole src cs xs) →
+    by : (ss : List (List Placed)) → stretches (y ∷ ys) ≡ ss → sum_by (frames_with test) ss ≡ frames_with test (run_copies src cs xs) →
         recent src (y.time / clock_step) cs xs ≡ shifted d (current ss) → newest_time (current ss) ≡ y.time → is_jump ss c.1 ≡ false →
-        (sum_by (frames_with test) (with_arrival ss c.1) ≡ frames_with test (numbered c x ∷ whole src cs xs))
+        (sum_by (frames_with test) (with_arrival ss c.1) ≡ frames_with test (run_copy c x ∷ run_copies src cs xs))
         × Links src (c ∷ cs) (x ∷ xs) (c.1 ∷ y ∷ ys)
     by [] same sums linked newest quiet = absurd (not_none y ys same)
     by ([] ∷ rest) same sums linked newest quiet = absurd (no_empty (y ∷ ys) rest same)
@@ -609,6 +610,8 @@ counts test src (c ∷ cs) (x ∷ xs) noted steady alike_silent still =
 pub counts_what_goes_up : SteadyAuditsCountWhatGoesUp
 counts_what_goes_up turns t sent spans src run steady noted alike_silent still =
     record {
+      ups = ups;
+      each = λ side n. came_noted src side n sent (notings_of [] turns) noted;
       pairs = of_test by_both;
       alone_a = of_test by_a_alone;
       alone_b = of_test by_b_alone;
@@ -622,7 +625,7 @@ counts_what_goes_up turns t sent spans src run steady noted alike_silent still =
     ss = stretches (of src sent)
 
     copies : List Placed
-    copies = whole src sent (notings_of [] turns)
+    copies = run_copies src sent (notings_of [] turns)
 
     ups : handed_up src turns ≡ frames copies
     ups = up_frames src turns t sent run steady noted

@@ -26,14 +26,16 @@ use Rattle.sr_dup_table.specs.Limits.{forget_time}
 use Rattle.sr_dup_table.specs.Sources.{Sources}
 use Rattle.sr_dup_runs.specs.TableRuns.{Noting, was_noted, TableTurn, arrived, aged, notings_of, TableRun, IsSteadyRun}
 use Rattle.sr_audit.specs.declared.arrival.Arrival.{Arrival}
+use Rattle.sr_audit.specs.declared.side.Side.{Side}
 use Rattle.sr_audit.specs.declared.side.Side.TheVariants.{A, B}
 use Rattle.sr_audit.specs.declared.span.Spans.{Spans}
 use Rattle.sr_audit.specs.Audits.{Sent, of}
 use Rattle.sr_audit.specs.Edges.{edges_of}
 use Rattle.sr_audit.specs.Extents.{jumps_of}
+use Rattle.sr_audit.specs.Lanes.{side_lane}
 use Rattle.sr_audit.specs.Limits.{kept_numbers, epoch_gap}
-use Rattle.sr_audit.specs.Stretches.{same_side, stretches}
-use Rattle.sr_audit.specs.Tallies.{by_both, by_a_alone, by_b_alone, tally_of}
+use Rattle.sr_audit.specs.Stretches.{Placed, same_side, came, stretches}
+use Rattle.sr_audit.specs.Tallies.{frames, by_both, by_a_alone, by_b_alone, tally_of}
 
 -- the step of the clock of a node in nanoseconds: a millisecond
 abbrev pub clock_step : ℕ
@@ -62,6 +64,15 @@ AreSilentAlike (x ∷ []) = Unit {0}
 AreSilentAlike (x ∷ y ∷ before) =
     (nat_lt (x.time - y.time) epoch_gap ≡ nat_lt (x.time / clock_step - y.time / clock_step) forget_time) × AreSilentAlike (y ∷ before)
 
+-- a copy under the whole number that the run gives its frame, and all copies of a source
+abbrev pub run_copy : Sent → Noting → Placed
+run_copy c x = record { side = c.1.side; number = x.arrival.number; time = c.1.time }
+
+abbrev pub run_copies : Mac → List Sent → List Noting → List Placed
+run_copies src [] xs = []
+run_copies src (c ∷ cs) [] = []
+run_copies src (c ∷ cs) (x ∷ xs) = if mac_eq src c.0 then run_copy c x ∷ run_copies src cs xs else run_copies src cs xs
+
 -- the whole numbers of a source's frames that went up to the host
 abbrev pub handed_up : Mac → List TableTurn → List ℤ
 handed_up src [] = []
@@ -75,7 +86,10 @@ up_with test src turns =
     count_by (λ n. test (was_noted src n GotA (notings_of [] turns)) (was_noted src n GotB (notings_of [] turns))) (handed_up src turns)
 
 -- the frames of an audit are those that went up, and each came by a side where it was noted on the lane of that side
-pub record CountsWhatGoesUp (spans : Spans) (xs : List Arrival) (src : Mac) (turns : List TableTurn) : Type 0 where
+pub record CountsWhatGoesUp (spans : Spans) (sent : List Sent) (xs : List Arrival) (src : Mac) (turns : List TableTurn) : Type 0 where
+  pub ups : handed_up src turns ≡ frames (run_copies src sent (notings_of [] turns))
+  pub each : (side : Side) (n : ℤ) →
+      came side n (run_copies src sent (notings_of [] turns)) ≡ was_noted src n (side_lane side) (notings_of [] turns)
   pub pairs : (tally_of (stretches xs)).pairs ≡ up_with by_both src turns
   pub alone_a : (tally_of (stretches xs)).alone.a ≡ up_with by_a_alone src turns
   pub alone_b : (tally_of (stretches xs)).alone.b ≡ up_with by_b_alone src turns
@@ -86,4 +100,4 @@ pub record CountsWhatGoesUp (spans : Spans) (xs : List Arrival) (src : Mac) (tur
 abbrev pub SteadyAuditsCountWhatGoesUp : Type 0
 SteadyAuditsCountWhatGoesUp = (turns : List TableTurn) (t : Sources) (sent : List Sent) (spans : Spans) (src : Mac) →
     TableRun kept_numbers [] turns t → IsSteadyRun kept_numbers 0 [] turns → AreNotedAs sent (notings_of [] turns) →
-    AreSilentAlike (of src sent) → jumps_of (of src sent) ≡ 0 → CountsWhatGoesUp spans (of src sent) src turns
+    AreSilentAlike (of src sent) → jumps_of (of src sent) ≡ 0 → CountsWhatGoesUp spans sent (of src sent) src turns
