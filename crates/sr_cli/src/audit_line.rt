@@ -1,12 +1,13 @@
 //! The words behind `seamless audit`.
 
+use crate::captures_line::{network_of, options_of, with_reading};
 use crate::command_line::with_arg;
 use crate::examples;
-use crate::script_line::{capture_of, option, shift_of, time_of, with_option};
+use crate::script_line::{capture_of, option, with_option};
 use clap::builder::PossibleValue;
 use clap::{Arg, ArgAction, ArgMatches, Command};
-use sr_capture_audit::{Format, Lists, Network, Ports, Subject};
-use sr_capture_script::{Choice, Interfaces, Options, delays_of};
+use sr_capture_audit::{Format, Lists, Ports, Subject};
+use sr_capture_script::{Interfaces, Options};
 use sr_pcapng::Wanted;
 use std::alloc::{AllocError, Global};
 
@@ -25,14 +26,6 @@ pub struct AuditTask<'a> {
     pub is_check: bool,
     /// Whether the captures of A and B are one.
     pub is_same: bool,
-}
-
-/// The words of `--network`, with what they mean.
-pub fn network_words<'a>() -> [PossibleValue<'a>; 2] {
-    [
-        PossibleValue::new("prp").help("a PRP network: numbers stand in trailers"),
-        PossibleValue::new("hsr").help("an HSR ring: numbers stand in tags"),
-    ]
 }
 
 /// The words of `--format`, with what they mean.
@@ -62,21 +55,7 @@ pub fn audit_command<'a>(
     let command = with_option(alloc, command, "b", "FILE[:N]", "The capture of LAN B");
     let mirror = "The capture of a mirror port, which sees both LANs";
     let command = with_option(alloc, command, "mirror", "FILE[:N]", mirror);
-    let network = option(alloc, "network", "NETWORK", "How frames have their numbers")
-        .default_value("prp")
-        .value_parser(networks);
-    let command = with_arg(command, network);
-    let shift = "Milliseconds that are added to the times of A";
-    let command = with_option(alloc, command, "shift-a", "MS", shift);
-    let shift = "Milliseconds that are added to the times of B";
-    let command = with_option(alloc, command, "shift-b", "MS", shift);
-    let fcs = "The octets of check sequence, where a file does not tell";
-    let fcs = option(alloc, "fcs", "4", fcs).value_parser(["4"].as_slice());
-    let command = with_arg(command, fcs);
-    let from = "The time of the first packet, in milliseconds";
-    let command = with_option(alloc, command, "from", "T", from);
-    let to = "The time of the last packet, in milliseconds";
-    let command = with_option(alloc, command, "to", "T", to);
+    let command = with_reading(alloc, command, networks);
     let list = "Lists single frames: lost, wrong, pairs, or several, joined by commas";
     let command = with_option(alloc, command, "list", "LISTS", list);
     let format = option(alloc, "format", "FORMAT", "How it is printed")
@@ -145,30 +124,9 @@ fn subject_of(matches: &ArgMatches<'_>) -> Result<Subject, &'static str> {
         (true, true) => return Err("mirror"),
         (false, false) => return Err("captures"),
     };
-    let network = match matches.get_str("network") {
-        Some("hsr") => Network::Hsr,
-        _ => Network::Prp,
-    };
-    Ok(Subject { network, ports })
-}
-
-/// How the captures are read; else the name of the option that is wrong.
-fn options_of(matches: &ArgMatches<'_>, interfaces: Interfaces) -> Result<Options, &'static str> {
-    let shift_a = shift_of(matches, "shift-a")?;
-    let shift_b = shift_of(matches, "shift-b")?;
-    let Some(delays) = delays_of(shift_a, shift_b, shift_a) else {
-        return Err("shift");
-    };
-    let choice = Choice {
-        from: time_of(matches, "from")?.unwrap_or(0),
-        to: time_of(matches, "to")?,
-        tick: None,
-    };
-    Ok(Options {
-        choice,
-        check_len: if matches.contains_id("fcs") { 4 } else { 0 },
-        delays,
-        interfaces,
+    Ok(Subject {
+        network: network_of(matches),
+        ports,
     })
 }
 

@@ -3,7 +3,8 @@
 ghost use Rattle.std.specs.Prelude.{◌<◌, ◌≤◌};
 
 use crate::address::mac_of;
-use crate::audit_line::{AuditTask, audit_command, audit_task, format_words, network_words};
+use crate::audit_line::{AuditTask, audit_command, audit_task, format_words};
+use crate::captures_line::network_words;
 use crate::coupled_line::{ring_lan_command, ring_lan_of, two_rings_command, two_rings_of};
 use crate::examples;
 use crate::merge_line::{MergeTask, merge_command, merge_task, scope_words};

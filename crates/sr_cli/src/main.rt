@@ -4,6 +4,7 @@
 mod address;
 mod audit;
 mod audit_line;
+mod captures_line;
 mod command_line;
 mod coupled_line;
 mod examples;

@@ -1,13 +1,13 @@
 //! The words behind `seamless merge`.
 
+use crate::captures_line::{network_of, options_of, with_reading};
 use crate::command_line::with_arg;
 use crate::examples;
-use crate::script_line::{capture_of, option, shift_of, time_of, with_option};
+use crate::script_line::{capture_of, option, shift_of};
 use clap::builder::PossibleValue;
 use clap::{Arg, ArgAction, ArgMatches, Command};
-use sr_capture_audit::Network;
 use sr_capture_merge::{Plan, Scope, Spelling};
-use sr_capture_script::{Choice, Interfaces, Options, delays_of};
+use sr_capture_script::{Interfaces, Options};
 use sr_pcapng::Wanted;
 use std::alloc::{AllocError, Global};
 
@@ -45,21 +45,7 @@ pub fn merge_command<'a>(
     let write = "The pcapng file that is written; - is standard output";
     let write = required(alloc, "write", "FILE", write).short('w');
     let command = with_arg(command, write);
-    let network = option(alloc, "network", "NETWORK", "How frames have their numbers")
-        .default_value("prp")
-        .value_parser(networks);
-    let command = with_arg(command, network);
-    let shift = "Milliseconds that are added to the times of A";
-    let command = with_option(alloc, command, "shift-a", "MS", shift);
-    let shift = "Milliseconds that are added to the times of B";
-    let command = with_option(alloc, command, "shift-b", "MS", shift);
-    let fcs = "The octets of check sequence, where a file does not tell";
-    let fcs = option(alloc, "fcs", "4", fcs).value_parser(["4"].as_slice());
-    let command = with_arg(command, fcs);
-    let from = "The time of the first packet, in milliseconds";
-    let command = with_option(alloc, command, "from", "T", from);
-    let to = "The time of the last packet, in milliseconds";
-    let command = with_option(alloc, command, "to", "T", to);
+    let command = with_reading(alloc, command, networks);
     let keep = Arg::new(alloc, "keep")
         .long("keep")
         .action(ArgAction::SetTrue)
@@ -86,10 +72,6 @@ fn early_of(shift_a: i64, shift_b: i64) -> u64 {
 
 /// How the captures are merged.
 fn plan_of(matches: &ArgMatches<'_>, early: u64) -> Plan {
-    let network = match matches.get_str("network") {
-        Some("hsr") => Network::Hsr,
-        _ => Network::Prp,
-    };
     let spelling = if matches.get_flag("keep") {
         Spelling::Kept
     } else {
@@ -101,7 +83,7 @@ fn plan_of(matches: &ArgMatches<'_>, early: u64) -> Plan {
         Scope::All
     };
     Plan {
-        network,
+        network: network_of(matches),
         spelling,
         scope,
         early,
@@ -112,30 +94,19 @@ fn plan_of(matches: &ArgMatches<'_>, early: u64) -> Plan {
 pub fn merge_task<'a>(matches: &ArgMatches<'a>) -> Result<MergeTask<'a>, &'static str> {
     let a = capture_of(matches, "a");
     let b = capture_of(matches, "b");
+    let interfaces = Interfaces {
+        a: a.wanted,
+        b: b.wanted,
+        c: Wanted::Only,
+    };
+    let options = options_of(matches, interfaces)?;
     let shift_a = shift_of(matches, "shift-a")?;
     let shift_b = shift_of(matches, "shift-b")?;
-    let Some(delays) = delays_of(shift_a, shift_b, 0) else {
-        return Err("shift");
-    };
-    let choice = Choice {
-        from: time_of(matches, "from")?.unwrap_or(0),
-        to: time_of(matches, "to")?,
-        tick: None,
-    };
     Ok(MergeTask {
         a: a.path,
         b: b.path,
         out: matches.get_str("write").unwrap_or("-"),
-        options: Options {
-            choice,
-            check_len: if matches.contains_id("fcs") { 4 } else { 0 },
-            delays,
-            interfaces: Interfaces {
-                a: a.wanted,
-                b: b.wanted,
-                c: Wanted::Only,
-            },
-        },
+        options,
         plan: plan_of(matches, early_of(shift_a, shift_b)),
     })
 }
