@@ -9,7 +9,7 @@ use crate::{CrewFault, Feed, Kit, Seat, WorkerEnd, run_worker};
 use sr_forwarding::{Framing, Role};
 use sr_frame::NoMemory;
 use sr_ports::{Pass, SharedNode, Worker};
-use std::alloc::{AllocError, Global};
+use std::alloc::Global;
 use std::snapshot::Snapshot;
 use std::sync::Wait;
 use std::sync::ledger::Ledger;
@@ -95,7 +95,22 @@ fn work_at<R: Role, L: Ledger, F: Feed, G: Framing, W: Wait>(
     (seat.pass, end)
 }
 
-// Starts them all. Where one can't be started, those that began end with the scope.
+// The threads of workers that began.
+type Handles<L, F, G> = Vec<PromisedHandle<(Pass<L>, WorkerEnd<F>), Begun<F, G>>>;
+
+// Waits for threads and drops what they hand back, which is never dropped of a thread that nobody joins. Hands back why.
+fn end_all<T: Drop, P: Promise<T>, W: Threads>(
+    rt: &W,
+    handles: Vec<PromisedHandle<T, P>>,
+    why: CrewFault,
+) -> CrewFault {
+    for handle in handles {
+        drop(handle.join(rt));
+    }
+    why
+}
+
+// Starts them all. Where one can't be started, those that began are handed back.
 fn start_all<
     's,
     E: 's,
@@ -111,7 +126,7 @@ fn start_all<
     shared: &'s SharedNode<R, L>,
     kits: Vec<Kit<Pass<L>, F, G>>,
     turns: u64,
-) -> Result<Vec<PromisedHandle<(Pass<L>, WorkerEnd<F>), Begun<F, G>>>, CrewFault>
+) -> Result<Handles<L, F, G>, (CrewFault, Handles<L, F, G>)>
     ensures len { IfOk result (λ hs. vec_len hs ≡ vec_len kits) }
     ensures each { IfOk result (λ hs. (i : ℕ) (k : _) (h : _) → i < vec_len kits
         → IsStartOf turns (slice_index_or kits.items i k) (slice_index_or hs.items i h).promise) }
@@ -120,11 +135,11 @@ fn start_all<
     let mut number: usize = 0;
     for kit in kits {
         if let Err(refused) = handles.reserve(1) {
-            return Err(NoMemory::from(refused).into());
+            return Err((NoMemory::from(refused).into(), handles));
         }
         match start(scope, rt, alloc, shared, kit, turns) {
             Ok(handle) => handles.push_reserved(handle),
-            Err(fault) => return Err(fault),
+            Err(fault) => return Err((fault, handles)),
         }
         number += 1;
     }
@@ -134,7 +149,7 @@ fn start_all<
 /// Two to five workers at a node, each on a thread of its own, until all have ended. Each ends as `run_worker` says; the passes
 /// and ends come in the order of the kits.
 ///
-/// `NoMemory` and `NoThread` come once those that began have ended; the kits are dropped then.
+/// `NoMemory` and `NoThread` come once those that began have ended. Then the kits are dropped, and what the workers handed back.
 pub fn run_workers<
     R: Role + Send,
     L: Ledger + Send + Sync,
@@ -171,11 +186,11 @@ pub fn run_workers<
                 scope, rt, alloc, shared, kits, turns,
             ) {
                 Ok(handles) => handles,
-                Err(fault) => return Err(fault),
+                Err((fault, begun)) => return Err(end_all(rt, begun, fault)),
             };
             match thread::join_promised(rt, handles) {
                 Ok(all) => Ok(all),
-                Err(refused) => Err(NoMemory::from(AllocError::from(refused)).into()),
+                Err(refused) => Err(end_all(rt, refused.value, CrewFault::NoMemory)),
             }
         },
     )
