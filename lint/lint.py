@@ -272,15 +272,15 @@ FIXED_KEYS = {"crates/sr_cli/src/command_line.rt"}
 
 
 def dropped_keys(root):
-    """Keys that are given go on: a `with_keys` hands them to each table that it makes, and fixed ones stand in a `new` or
-    a `with` alone. What runs a node of the command line draws keys, and keys that are drawn go on too. No clause can see them,
-    since no answer depends on them."""
+    """Keys that are given go on: a function that takes keys hands them to each table that it makes, and fixed ones stand in a
+    `new` or a `with` alone that takes none. What runs a node of the command line draws keys, and keys that are drawn go on too.
+    No clause can see them, since no answer depends on them."""
     sources = [path for path in sorted(root.glob("crates/*/src/**/*.rt")) if path.name != "tests.rt"]
     sources = [path for path in sources if not path.relative_to(root).parts[1].endswith("_tests")]
     keyed = {name for path in sources for name in re.findall(r"\b(\w+)::with_keys\(", path.read_text())}
     for path in sources:
         name = path.relative_to(root).as_posix()
-        function, begun, hands_on, drawn, runs = "", 0, True, None, False
+        function, begun, takes, hands_on, drawn, runs, depth = "", 0, False, True, None, False, 0
         for number, line in [*numbered(path), (0, "fn")]:
             code = line.split("//")[0]
             found = re.match(r"\s*(?:pub(?:\(crate\))? )?(?:const )?fn\b ?(\w*)", code)
@@ -291,9 +291,14 @@ def dropped_keys(root):
                     yield path, begun, "drops the keys that it draws"
                 if runs and drawn is None:
                     yield path, begun, "runs a node of the command line under fixed keys"
-                function, begun, hands_on, drawn, runs = found[1], number, found[1] != "with_keys", None, False
-            elif function == "with_keys":
-                hands_on = hands_on or re.search(r"\bkeys\b", code) is not None
+                function, begun, takes, hands_on, drawn, runs, depth = found[1], number, False, True, None, False, 0
+            if found or depth > 0:
+                # Its parameters, up to the bracket that closes them.
+                if re.search(r"\bkeys: Keys\b", code):
+                    takes, hands_on = True, False
+                depth += code.count("(") - code.count(")")
+            elif takes:
+                hands_on = hands_on or re.search(r"\bkeys\b", code.replace("let _ = keys;", "")) is not None
                 if any(name in keyed for name in re.findall(r"\b(\w+)::(?:new|with)\(", code)):
                     yield path, number, "makes a table without the keys that it is given"
             if not found and name.startswith("crates/sr_cli/"):
@@ -302,7 +307,7 @@ def dropped_keys(root):
                     drawn = False
                 elif drawn is False:
                     drawn = re.search(r"\bkeys\b", code) is not None
-            if "Keys::FIXED" in code and function not in ("new", "with"):
+            if "Keys::FIXED" in code and (takes or function not in ("new", "with")):
                 if name not in FIXED_KEYS or not re.fullmatch(r"\s*keys: Keys::FIXED,\s*", code):
                     yield path, number, "has fixed keys outside a `new` or a `with`"
 

@@ -123,6 +123,20 @@ class Lint(unittest.TestCase):
             found = self.findings({source: given.replace("CALL", call)})
             self.assertEqual(found, [f"{source}:{number}: {text}"], call)
 
+    def test_dropped_keys_of_any_function(self):
+        source = "crates/sr_one/src/lib.rt"
+        made = "fn new() -> One {\n    One::with_keys(Keys::FIXED)\n}\n"
+        given = made + "fn begun(\n    one: u8,\n    keys: Keys,\n) -> One {\n    let _ = keys;\n    CALL\n}\n"
+        for call, wanted in [
+            ("One::with_keys(keys)", []),
+            ("two()", [f"{source}:4: drops the keys that it is given"]),
+            ("(keys, One::new())", [f"{source}:9: makes a table without the keys that it is given"]),
+            ("(keys, Keys::FIXED)", [f"{source}:9: has fixed keys outside a `new` or a `with`"]),
+        ]:
+            self.assertEqual(self.findings({source: given.replace("CALL", call)}), wanted, call)
+            as_new = given.replace("begun", "new").replace("fn new() -> One", "fn with() -> One")
+            self.assertEqual(self.findings({source: as_new.replace("CALL", call)}), wanted, call)
+
     def test_undrawn_keys(self):
         source = "crates/sr_cli/src/one.rt"
         drawn = "fn one() {\n    let Ok(keys) = Keys::new(rt) else {\n        return;\n    };\n    run_on(SETUP);\n}\n"

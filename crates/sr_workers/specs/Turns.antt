@@ -1,9 +1,13 @@
 -- What a turn of a feed becomes, and what it brings.
-use Rattle.std.specs.Prelude.{◌≡◌, ℕ, ◌+◌, Bool, true, List, [], ◌∷◌, ◌++◌, length}
+use Rattle.std.specs.Prelude.{◌≡◌, ◌⊎◌, ℕ, ◌+◌, ◌<◌, Bool, true, List, [], ◌∷◌, ◌++◌, length}
 use Rattle.sr_frame.specs.declared.ports.Port.{Port}
 use Rattle.sr_frame.specs.declared.ports.Port.TheVariants as port
+use Rattle.sr_frame.specs.Frame.{least_len}
+use Rattle.sr_forwarding.specs.declared.fault.ReadFault.{ReadFault}
+use Rattle.sr_forwarding.specs.Limits.{longest_frame}
 use Rattle.sr_forwarding.specs.Parcels.{ParcelImage}
 use Rattle.sr_forwarding.specs.Framings.{FramingImage}
+use Rattle.sr_forwarding.specs.Decoding.{IsUnread}
 use Rattle.sr_node.specs.declared.event.Event.{Event}
 use Rattle.sr_node.specs.declared.event.Event.TheVariants.{Send, Tick}
 use Rattle.sr_node.specs.declared.event.Answer.{Answer}
@@ -17,16 +21,16 @@ use Rattle.sr_workers.specs.declared.becoming.Becoming.TheVariants as becoming
 use Rattle.sr_workers.specs.Told.{told_of}
 use Rattle.sr_workers.specs.Work.{Became, GivesEach, IsArrivalAt, AreOwn, brought_in, parcels_in, nones_in, puts, losses_after}
 
--- octets at a port are their arrival, or unread
+-- octets at a port are their arrival; they are unread where the framing does not read them
 abbrev pub IsReadAt : FramingImage → Port → List ℕ → ℕ → Becoming → Type 0
 IsReadAt f p octets now (becoming.Event e) = IsArrivalAt f p octets now e
-IsReadAt f p octets now becoming.Unread = Unit {0}
+IsReadAt f p octets now becoming.Unread = (fault : ReadFault) × IsUnread f octets fault
 IsReadAt f p octets now becoming.Nothing = ⊥
 
--- a host's frame is sent as it is, or unread
+-- a host's frame is sent as it is; octets that are fewer or more than a frame's are unread
 abbrev pub IsSentAs : List ℕ → ℕ → Becoming → Type 0
 IsSentAs octets now (becoming.Event e) = e ≡ Send octets now
-IsSentAs octets now becoming.Unread = Unit {0}
+IsSentAs octets now becoming.Unread = (length octets < least_len octets) ⊎ (longest_frame < length octets)
 IsSentAs octets now becoming.Nothing = ⊥
 
 abbrev pub BecomesUnread : Becoming → Type 0
