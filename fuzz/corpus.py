@@ -3,7 +3,7 @@
 
     fuzz/corpus.py FOLDER [SCRIPT..]     further scripts go in too
 
-FOLDER/node, script, capture and snapshot get a file for each, named by its checksum.
+FOLDER/node, script, network, capture, audit, merge and snapshot get a file for each, named by its checksum.
 """
 import hashlib
 import re
@@ -17,6 +17,14 @@ KINDS = {"A": 0, "B": 2, "C": 3, "send": 4, "tick": 5}
 TAKES = bytes([6, 0, 0, 0, 7, 0, 0, 0])
 # How many nodes of a script's first octets are tried: the roles, and one of each with the other mode and width.
 NODES = [role | more for more in (0, 0xC0) for role in range(5)]
+# The first octets of networks: each kind, two joins, and one of each with the other mode and width; and their sizes.
+NETWORKS = [kind | more for more in (0, 4, 0xC0) for kind in range(4)]
+SIZES = (0x11, 0x33, 0x1F)
+# What a line says that only a network has.
+OF_NETWORK = re.compile(rb"^(flow|(carry|drop|repeat|cut|mend) \d|send \d+ (all|\d+) )", re.MULTILINE)
+# What is told of an audit, and how a merge is written: networks, mirror ports, each list, each format; spellings and scopes.
+AUDITS = (0, 1, 2, 4, 8, 0x10, 0x20, 0x3C, 0x40, 0x60)
+MERGES = (0, 1, 2, 4, 6)
 
 
 def keep(folder, octets):
@@ -57,24 +65,45 @@ def snapshots():
             yield text + b"".join(source(place + 2, width) for place in range(count))
 
 
+def keep_script(folder, script):
+    """A script of a network, or of a node."""
+    if OF_NETWORK.search(script):
+        for network in NETWORKS:
+            for size in SIZES:
+                keep(folder / "network", bytes([network, size]) + script)
+        return
+    # A short part of a long one is changed faster.
+    for part in {script, script[: script[:3000].rfind(b"\n") + 1]}:
+        for node in NODES:
+            keep(folder / "node", bytes([node]) + events_of(part))
+        for choice in [role | told for told in (0, 0x10, 0x20) for role in range(ROLES)]:
+            keep(folder / "script", bytes([choice]) + part)
+
+
+def keep_captures(folder, captures):
+    """Captures alone, and each beside the next one."""
+    for capture in captures:
+        for choice in (0, 2, 4, 36, 8, 16):
+            keep(folder / "capture", bytes([choice]) + capture)
+        for kind in AUDITS:
+            keep(folder / "audit", bytes([0, kind]) + capture)
+        for kind in MERGES:
+            keep(folder / "merge", bytes([0, kind]) + capture)
+    for one, other in zip(captures, captures[1:]):
+        both = len(one).to_bytes(2, "little") + one + other
+        keep(folder / "capture", bytes([1]) + both)
+        for kind in AUDITS:
+            keep(folder / "audit", bytes([1, kind]) + both)
+        for kind in MERGES:
+            keep(folder / "merge", bytes([1, kind]) + both)
+
+
 def main(folder, further):
-    scripts = [*sorted(TOP.glob("examples/*.script")), *sorted(TOP.glob("examples/cases/*/stdin")), *map(Path, further)]
-    for path in scripts:
-        script = path.read_bytes()
-        # A short part of a long one is changed faster.
-        for part in {script, script[: script[:3000].rfind(b"\n") + 1]}:
-            for node in NODES:
-                keep(folder / "node", bytes([node]) + events_of(part))
-            for choice in [role | told for told in (0, 0x10, 0x20) for role in range(ROLES)]:
-                keep(folder / "script", bytes([choice]) + part)
+    for path in [*sorted(TOP.glob("examples/*.script")), *sorted(TOP.glob("examples/cases/*/stdin")), *map(Path, further)]:
+        keep_script(folder, path.read_bytes())
     captures = [path.read_bytes() for pattern in ("examples/*.pcap*", "examples/captures/*", "examples/cases/*/*.pcap*")
                 for path in sorted(TOP.glob(pattern))]
-    for capture in captures:
-        for choice in (0, 4, 36, 8, 16):
-            keep(folder / "capture", bytes([choice]) + capture)
-    for one, other in zip(captures, captures[1:]):
-        size = max(len(one), len(other))
-        keep(folder / "capture", bytes([1]) + one.ljust(size, b"\0") + other.ljust(size, b"\0"))
+    keep_captures(folder, captures)
     for text in snapshots():
         for choice in (0, 1):
             keep(folder / "snapshot", bytes([choice]) + text)

@@ -1,13 +1,19 @@
 // What libFuzzer calls with octets, or a program that tells what comes of files (-DTELL): a line for each, its name and its number.
-// FUZZ names the entry of crates/sr_fuzz: node, script, capture or snapshot.
+// FUZZ names the entry of crates/sr_fuzz: node, script, network, capture, audit, merge or snapshot.
+#include <signal.h>
 #include <stdint.h>
 #include <stdio.h>
 #include <stdlib.h>
 #include <string.h>
+#include <sys/time.h>
+#include <unistd.h>
 
 uint64_t fuzz_node(const uint8_t *octets, size_t size);
 uint64_t fuzz_script(const uint8_t *octets, size_t size);
+uint64_t fuzz_network(const uint8_t *octets, size_t size);
 uint64_t fuzz_capture(const uint8_t *octets, size_t size);
+uint64_t fuzz_audit(const uint8_t *octets, size_t size);
+uint64_t fuzz_merge(const uint8_t *octets, size_t size);
 uint64_t fuzz_snapshot(const uint8_t *octets, size_t size);
 
 static const struct {
@@ -16,7 +22,10 @@ static const struct {
 } ENTRIES[] = {
     {"node", fuzz_node},
     {"script", fuzz_script},
+    {"network", fuzz_network},
     {"capture", fuzz_capture},
+    {"audit", fuzz_audit},
+    {"merge", fuzz_merge},
     {"snapshot", fuzz_snapshot},
 };
 
@@ -29,7 +38,7 @@ static void begin(void) {
         if (name && !strcmp(name, ENTRIES[at].name))
             entry = ENTRIES[at].call;
     if (!entry) {
-        fprintf(stderr, "FUZZ is none of node, script, capture and snapshot\n");
+        fprintf(stderr, "FUZZ names no entry\n");
         exit(2);
     }
 }
@@ -52,17 +61,39 @@ int main(int count, char **names) {
     return 0;
 }
 #else
+// How many inputs were begun and ended, and how many when this was looked at last. It is odd within an input.
+static volatile uint64_t turns, seen;
+static volatile int looks;
+
+// Looks each half second of the processor's time whether an input still runs. What else the machine does costs none of it.
+static void look(int signal) {
+    static const char slow[] = "an input takes over a second\n";
+    (void)signal;
+    if (turns != seen || turns % 2 == 0) {
+        seen = turns;
+        looks = 0;
+    } else if (++looks >= 2) {
+        ssize_t told = write(2, slow, sizeof slow - 1);
+        (void)told;
+        abort();
+    }
+}
+
 int LLVMFuzzerInitialize(int *count, char ***words) {
+    static const struct itimerval half = {{0, 500000}, {0, 500000}};
     (void)count;
     (void)words;
     begin();
-    return 0;
+    signal(SIGVTALRM, look);
+    return setitimer(ITIMER_VIRTUAL, &half, NULL);
 }
 
 int LLVMFuzzerTestOneInput(const uint8_t *octets, size_t size) {
+    turns++;
     // A slice of no octets has an address too.
     if (size && !entry(octets, size))
         abort();
+    turns++;
     return 0;
 }
 #endif

@@ -1,9 +1,13 @@
-//! Entries by which a fuzzer hands octets to nodes, scripts, captures and snapshots. Each tells in one number what came of them, so
-//! that two builds can be compared.
+//! Entries by which a fuzzer hands octets to nodes, scripts, networks, captures, audits, merges and snapshots. Each tells in one number
+//! what came of them, so that two builds can be compared.
 #![tactic(auto)]
 
+mod audits;
 mod captures;
 mod digest;
+mod files;
+mod merges;
+mod networks;
 mod nodes;
 mod scripts;
 mod sink;
@@ -35,7 +39,25 @@ pub extern "C" fn fuzz_script(alloc: Global, octets: &[u8]) -> u64 {
     number_of(scripts::come_of(alloc, octets))
 }
 
-/// One capture or two, pcap or pcapng.
+/// A script at a network of any of the four kinds.
+#[unsafe(no_mangle)]
+pub extern "C" fn fuzz_network(alloc: Global, octets: &[u8]) -> u64 {
+    number_of(networks::come_of(alloc, octets))
+}
+
+/// An audit of one capture or two.
+#[unsafe(no_mangle)]
+pub extern "C" fn fuzz_audit(alloc: Global, octets: &[u8]) -> u64 {
+    number_of(audits::come_of(alloc, octets))
+}
+
+/// A merge of two captures. 0 also where the counts of packets do not add up.
+#[unsafe(no_mangle)]
+pub extern "C" fn fuzz_merge(alloc: Global, octets: &[u8]) -> u64 {
+    number_of(merges::come_of(alloc, octets))
+}
+
+/// One capture or two, pcap or pcapng, of which a script is made.
 #[unsafe(no_mangle)]
 pub extern "C" fn fuzz_capture(alloc: Global, octets: &[u8]) -> u64 {
     number_of(captures::come_of(alloc, octets))

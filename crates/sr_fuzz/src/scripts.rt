@@ -76,15 +76,21 @@ fn run_as(alloc: Global, choice: u8, script: &[u8], sink: &mut Sink) -> Result<(
     }
 }
 
+/// What a run wrote, and how it ended. None where an allocation failed.
+pub fn digest_of(sink: Sink, outcome: Result<(), Fault>) -> Option<Digest> {
+    let (line, word) = end_of(outcome)?;
+    let mut digest = sink.digest;
+    digest.put_number(line);
+    digest.put_octet(word);
+    Some(digest)
+}
+
 /// What comes of a script: its first octet names the node and what is told. None where an allocation failed.
 pub fn come_of(alloc: Global, octets: &[u8]) -> Option<Digest> {
     let [choice, script @ ..] = octets else {
         return Some(Digest::new());
     };
     let mut sink = Sink::new();
-    let (line, word) = end_of(run_as(alloc, *choice, script, &mut sink))?;
-    let mut digest = sink.digest;
-    digest.put_number(line);
-    digest.put_octet(word);
-    Some(digest)
+    let outcome = run_as(alloc, *choice, script, &mut sink);
+    digest_of(sink, outcome)
 }

@@ -12,7 +12,7 @@ pub struct Sink {
 }
 
 /// The most octets that are written. A few lines can ask for more than anyone prints.
-const MOST_WRITTEN: usize = 1 << 22;
+const MOST_WRITTEN: usize = 1 << 20;
 
 impl Sink {
     /// One to which nothing was written.
