@@ -50,6 +50,10 @@ Says line (On verb place) octets = IsPlaced line verb place × (octets ≡ [])
 Says line (Tick node time) octets = IsTick line node time × (octets ≡ [])
 Says line Flow octets = (line ≡ codes "flow") × (octets ≡ [])
 
+-- the line asks that the host of a node sends
+abbrev pub IsSendLine : List ℕ → Type 0
+IsSendLine line = (node : ℕ) × (receiver : Receiver) × (octets : List ℕ) × Says line (Send node receiver) octets
+
 -- the line is one of a script for a plant
 abbrev pub IsPlantLine : List ℕ → Type 0
 IsPlantLine line = (command : Command) × (octets : List ℕ) × Says line command octets

@@ -17,6 +17,10 @@ mod setup;
 
 pub use command::{Command, Receiver, Verb};
 pub use laws::setups_make_plants;
+pub use members::{Member, MemberRouting, mac_of};
+pub use reading::command_of;
+pub use refusing::tell_refusal;
 pub use running::run_plant;
+pub use sending::{send_refusal, sent_frame};
 pub use setup::{Joins, PlantSetup};
 pub use sr_plant::Topology;

@@ -9,7 +9,7 @@ use sr_redbox::{HsrRouting, PrpRouting};
 
 /// Where frames go at a node of a plant.
 #[derive(Clone, Copy, Drop)]
-pub(crate) enum MemberRouting {
+pub enum MemberRouting {
     /// A doubly attached node of a PRP network (IEC 62439-3 clause 4).
     Danp,
     /// A doubly attached node of an HSR ring (IEC 62439-3 clause 5).
@@ -21,7 +21,7 @@ pub(crate) enum MemberRouting {
 }
 
 /// The role of a node of a plant.
-pub(crate) type Member = OwnRole<MemberRouting>;
+pub type Member = OwnRole<MemberRouting>;
 
 impl Routing for MemberRouting {
     ghost use Rattle.sr_forwarding.specs.OwnRoles.{StandsAlone};
@@ -57,7 +57,7 @@ impl Routing for MemberRouting {
 
 impl MemberRouting {
     /// Where frames go at a node of this kind.
-    pub(crate) fn of(kind: RoleKind) -> MemberRouting
+    pub fn of(kind: RoleKind) -> MemberRouting
         requires { IsMemberKind kind }
         ensures { routed_as result ≡ kind }
     {
@@ -72,7 +72,7 @@ impl MemberRouting {
 }
 
 /// The address of the node of this number.
-pub(crate) fn mac_of(node: usize) -> Mac
+pub fn mac_of(node: usize) -> Mac
     requires { node < 256 }
     ensures { result ≡ mac_of node }
 {

@@ -3,7 +3,7 @@
 ghost use Rattle.std.specs.Prelude.{◌≡◌, ◌↔◌, IsTrue, ◌<◌, ◌^◌, ◌++◌, ◌∷◌, [], ℕ, List, codes, Some, IfSome, IfOk, IfErr, MatchResult, Err};
 ghost use Rattle.std.specs.Fmt.{decimal};
 ghost use Rattle.sr_session.specs.Lines.{IsOneOf};
-ghost use Rattle.sr_plant_script.specs.Commands.{word_of, IsReceiver, IsPlaced, AreNumbers, IsTick, IsSending, Says, IsPlantLine};
+ghost use Rattle.sr_plant_script.specs.Commands.{word_of, IsReceiver, IsPlaced, AreNumbers, IsTick, IsSending, Says, IsSendLine};
 
 use crate::command::{Command, Receiver, Verb};
 use sr_session::Word;
@@ -144,13 +144,13 @@ fn sending(text: &[u8], octets: &mut Vec<u8>) -> Result<(usize, Receiver), Word>
 /// What a line asks for. The octets that it names are then in `octets`, and nothing else is.
 ///
 /// # Errors
-/// `Line` where the line is none of a script, whatever memory there is; `Memory`.
-pub(crate) fn command_of(line: &[u8], octets: &mut Vec<u8>) -> Result<Command, Word>
+/// `Line` where the line is none of a script, whatever memory there is; `Memory`, of a line that asks that a host sends.
+pub fn command_of(line: &[u8], octets: &mut Vec<u8>) -> Result<Command, Word>
     ensures found { IfOk result (λ command. Says line.now command octets.new.items) }
     ensures only { (command : Command) (os : List ℕ) → Says line.now command os
         → MatchResult result (λ found. (found ≡ command) × (octets.new.items ≡ os)) (λ word.
         word ≡ Word.Memory) }
-    ensures memory { result ≡ Err Word.Memory → IsPlantLine line.now }
+    ensures memory { result ≡ Err Word.Memory → IsSendLine line.now }
     ensures fault { IfErr result (λ word. IsOneOf word (Word.Line ∷ Word.Memory ∷ [])) }
 {
     if let Some(rest) = behind_send(line) {

@@ -1,7 +1,8 @@
 //! How refusals of a plant are told.
 
-ghost use Rattle.std.specs.Prelude.{◌≡◌, ◌++◌, ℕ, List, Some, OnOk, IfErr};
+ghost use Rattle.std.specs.Prelude.{◌≡◌, ◌++◌, ℕ, List, Some, OnOk, OnErr, IfErr};
 ghost use Rattle.std.specs.Option.{option_copied};
+ghost use Rattle.sr_session.specs.Octets.{StillHolds};
 ghost use Rattle.sr_script.specs.Texts.{refusal_line};
 ghost use Rattle.sr_plant_script.specs.Texts.{fault_name};
 
@@ -39,9 +40,13 @@ fn fault_name(fault: PlantFault) -> Option<&'static str>
 }
 
 /// Appends the line for an event that is refused for this reason.
-pub(crate) fn tell_refusal(text: &mut Text, number: u64, fault: PlantFault) -> Result<(), Word>
+///
+/// # Errors
+/// `Memory`, also where the reason is a failed allocation, which has no line. The text may then have a part of the line.
+pub fn tell_refusal(text: &mut Text, number: u64, fault: PlantFault) -> Result<(), Word>
     ensures ok { OnOk result ((name : List ℕ) × (fault_name fault ≡ Some name)
         × (text.new ≡ text.old ++ refusal_line number name)) }
+    ensures kept { OnErr result (StillHolds text.old text.new) }
     ensures err { IfErr result (λ word. word ≡ Word.Memory) }
 {
     append_refusal(text, number, fault_name(fault).ok_or(Nameless)?)

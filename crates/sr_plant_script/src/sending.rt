@@ -29,7 +29,7 @@ fn is_there(count: usize, receiver: Receiver) -> bool
 }
 
 /// Why a sending is refused before the plant is asked, of so many nodes.
-pub(crate) fn send_refusal(
+pub fn send_refusal(
     count: usize,
     node: usize,
     receiver: Receiver,
@@ -58,7 +58,7 @@ fn address_of(receiver: Receiver) -> Mac
 }
 
 /// The frame with this payload that the host of a node sends. An error where its growth was refused.
-pub(crate) fn sent_frame(
+pub fn sent_frame(
     alloc: Global,
     node: usize,
     receiver: Receiver,

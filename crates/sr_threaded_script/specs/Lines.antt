@@ -24,11 +24,6 @@ pub record Sendings : Type 0 where
   pub nodes : ℕ
   pub sent : List (ℕ × List ℕ)
 
--- what a refusal is called
-abbrev pub IsRefusalNamed : Option PlantFault → List ℕ → Type 0
-IsRefusalNamed None name = ⊥
-IsRefusalNamed (Some fault) name = fault_name fault ≡ Some name
-
 -- a sending of the line with this number is taken, or refused, which is printed
 abbrev pub IsSendingTaken : Sendings → ℕ → ℕ → Receiver → List ℕ → Option PlantFault → List ℕ → Sendings → Type 0
 IsSendingTaken s number node receiver octets None text t =

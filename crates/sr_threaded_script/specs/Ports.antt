@@ -4,8 +4,8 @@ use Rattle.sr_forwarding.specs.declared.role_image.RoleKind.{RoleKind}
 use Rattle.sr_forwarding.specs.declared.role_image.RoleKind.TheVariants.{Danp, Danh}
 use Rattle.sr_threaded_script.specs.declared.setup.ThreadedNet.{ThreadedNet}
 use Rattle.sr_threaded_script.specs.declared.setup.ThreadedNet.TheVariants as net
-use Rattle.sr_threaded_script.specs.declared.member.PortFraming.{PortFraming}
-use Rattle.sr_threaded_script.specs.declared.member.PortFraming.TheVariants.{Ring, Lan, Host}
+use Rattle.sr_threaded_script.specs.declared.port_framing.PortFraming.{PortFraming}
+use Rattle.sr_threaded_script.specs.declared.port_framing.PortFraming.TheVariants.{Ring, Lan, Host}
 
 -- doubly attached nodes of the network
 abbrev pub member_kind : ThreadedNet → RoleKind

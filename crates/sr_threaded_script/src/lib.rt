@@ -3,18 +3,17 @@
 
 mod fault;
 mod host;
-mod member;
 mod network;
+mod port_framing;
 mod printing;
 mod reading;
 mod running;
-mod sending;
 mod session;
 mod setup;
 
 pub use fault::ThreadedFault;
 pub use host::Host;
-pub use member::{Member, MemberRouting, PortFraming};
+pub use port_framing::PortFraming;
 pub use reading::is_threaded_line;
 pub use running::run_threaded;
 pub use setup::{ThreadedNet, ThreadedSetup};

@@ -2,17 +2,20 @@
 
 ghost use Rattle.std.specs.Prelude.{◌≡◌, ◌≤◌, ◌<◌, ◌++◌, [], ℕ, List, length, vec_len, IfOk, OnOk};
 ghost use Rattle.sr_plant.specs.Limits.{most_nodes};
+ghost use Rattle.sr_plant_script.specs.Members.{routed_as};
+ghost use Rattle.sr_threaded_script.specs.Ports.{member_kind};
 ghost use Rattle.sr_threaded_script.specs.Reports.{IsReport, IsNodeReport};
 
 use crate::fault::RunFault;
 use crate::host::Host;
-use crate::member::{Member, MemberRouting, PortFraming, mac_of};
+use crate::port_framing::PortFraming;
 use crate::printing::append_report;
 use crate::setup::{ThreadedNet, ThreadedSetup};
 use sr_forwarding::{HsrFraming, OwnRole, PrpFraming};
 use sr_frame::{Frame, NoMemory};
 use sr_lines::Line;
 use sr_node::NodeOf;
+use sr_plant_script::{Member, MemberRouting, mac_of};
 use sr_prp_trailer::Lan;
 use sr_text::Text;
 use sr_threaded::{Judgement, NetworkFault, NodeEnd, NodeKit, run_ring, run_twin, settlement_of};
@@ -43,6 +46,16 @@ fn framing_at_b(net: ThreadedNet) -> PortFraming {
     }
 }
 
+// Where frames go at the nodes: as at doubly attached nodes of what the network is.
+fn routing_of(net: ThreadedNet) -> MemberRouting
+    ensures { routed_as result ≡ member_kind net }
+{
+    match net {
+        ThreadedNet::Ring => MemberRouting::Danh,
+        ThreadedNet::TwinLan => MemberRouting::Danp,
+    }
+}
+
 // The node of this number, and its host, which is to send these frames.
 fn kit_of(
     alloc: Global,
@@ -53,7 +66,7 @@ fn kit_of(
     requires { number < most_nodes }
 {
     let net = setup.net;
-    let role = OwnRole::of(mac_of(number), MemberRouting { net });
+    let role = OwnRole::of(mac_of(number), routing_of(net));
     let feed = Host::new(alloc, frames);
     match NodeOf::with(alloc, role, setup.settings) {
         Ok(node) => Ok(NodeKit {

@@ -3,10 +3,9 @@
 ghost use Rattle.std.specs.Prelude.{◌≡◌, []};
 
 use crate::reading::sending_of;
-use crate::sending::{refusal_name, sent_frame};
 use crate::setup::ThreadedSetup;
 use sr_frame::Frame;
-use sr_script::append_refusal;
+use sr_plant_script::{send_refusal, sent_frame, tell_refusal};
 use sr_session::{Session, Word};
 use sr_text::Text;
 use std::alloc::Global;
@@ -61,8 +60,8 @@ impl Session for SendSession {
             return Ok(());
         };
         let payload = self.octets.as_slice();
-        if let Some(name) = refusal_name(self.setup.nodes, node, receiver, payload) {
-            return append_refusal(text, number, name);
+        if let Some(fault) = send_refusal(self.setup.nodes, node, receiver, payload) {
+            return tell_refusal(text, number, fault);
         }
         if let Err(refused) = self.sent.reserve(1) {
             return Err(refused.into());

@@ -22,4 +22,4 @@ returns-in-Err-clause-memory c h =
     let is : c.in-Err.word ≡ word.Memory = cc h in
     let m = c.in-Err.ensures.memory (ap Err is) in
     let line = c.in-Some.ensures.found ∙ ap (λ (l : List ℕ). codes "send " ++ l) m.3.2 in
-    (Send m.0 m.1, m.2, (m.3.0, m.3.1, line, m.3.3, m.3.4, m.3.5))
+    (m.0, m.1, m.2, (m.3.0, m.3.1, line, m.3.3, m.3.4, m.3.5))

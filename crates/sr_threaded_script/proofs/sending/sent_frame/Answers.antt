@@ -1,5 +1,0 @@
-use Rattle.std.proofs.Common.{rules}
-use Rattle.sr_threaded_script.proofs.sending.sent_frame.Goals as goal
-
-pub returns : goal.returns
-returns c = search rules
