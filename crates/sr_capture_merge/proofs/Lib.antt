@@ -1,0 +1,4 @@
+pub mod Settled
+pub mod Coming
+pub mod Merged
+pub mod Reread

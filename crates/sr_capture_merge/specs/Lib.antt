@@ -2,3 +2,6 @@ pub mod Remarks
 pub mod Counting
 pub mod Entries
 pub mod Settling
+pub mod Reading
+pub mod Files
+pub mod Merged

@@ -2,11 +2,13 @@
 #![tactic(auto)]
 
 mod counts;
+mod laws;
 mod merging;
 mod output;
 mod plan;
 mod reading;
 
 pub use counts::Counts;
+pub use laws::merged_files_are_read;
 pub use merging::merge;
 pub use plan::{Plan, Scope, Spelling};

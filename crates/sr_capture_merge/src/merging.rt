@@ -1,13 +1,24 @@
 //! Going over the packets of two captures, and writing each frame once.
 
+ghost use Rattle.std.specs.Prelude.{◌≡◌, ◌≢◌, ◌/◌, [], List, ℕ, Option, OnOk, IfOk, IfErr, IfSome};
+ghost use Rattle.sr_capture_script.specs.declared.choice.Inlet.TheVariants.{A as AtA, B as AtB, C as AtC};
+ghost use Rattle.sr_capture_script.specs.Merging.{feed_of};
+ghost use Rattle.sr_capture_script.specs.SourceViews.{IsFed};
+ghost use Rattle.sr_capture_script.specs.Texts.{is_wanted};
+ghost use Rattle.sr_capture_merge.specs.Reading.{side_at};
+ghost use Rattle.sr_capture_merge.specs.Files.{IsStop, WritesOn, TakesOn, EndsOn, EndsBy};
+ghost use Rattle.sr_capture_merge.specs.Merged.{MergesOn, MergesAll, MergesUntil, IsMerged, IsMergedUpTo};
+ghost use Rattle.sr_merge.specs.Merging.{Pending, pending_of};
+ghost use Rattle.sr_merge.specs.Verdicts.{verdict_until};
+
 use crate::counts::{Counts, more};
 use crate::output::Output;
 use crate::plan::Plan;
 use crate::reading::packet_of;
 use sr_audit::Side;
 use sr_capture::{Extent, MAX_KEPT, Packet};
-use sr_capture_script::{Captures, Choice, Inlet, ScriptFault};
-use sr_merge::{MOST_WAITING, Merge};
+use sr_capture_script::{Captures, Choice, Front, Inlet, ScriptFault};
+use sr_merge::{MOST_WAITING, Merge, Verdict, Waiting};
 use sr_slots::Keys;
 use std::alloc::Global;
 use std::io::{BufRead, Write};
@@ -16,13 +27,17 @@ use std::io::{BufRead, Write};
 const MILLISECOND: u64 = 1_000_000;
 
 /// Whether packets of this time are wanted.
-fn is_wanted(choice: &Choice, time: u64) -> bool {
+fn is_wanted(choice: &Choice, time: u64) -> bool
+    ensures { result ≡ is_wanted choice.now (time / 1000000) }
+{
     let time = time / MILLISECOND;
     choice.from <= time && time <= choice.to.unwrap_or(time)
 }
 
 /// The side of an inlet.
-fn side_of(inlet: Inlet) -> Side {
+fn side_of(inlet: Inlet) -> Side
+    ensures { result ≡ side_at inlet }
+{
     match inlet {
         Inlet::A => Side::A,
         Inlet::B | Inlet::C => Side::B,
@@ -35,8 +50,15 @@ fn write_due<W: Write>(
     output: &mut Output,
     now: u64,
     writer: &mut W,
-) -> Result<(), ScriptFault> {
-    for _ in 0..merge.len() {
+) -> Result<(), ScriptFault>
+    ensures goes { OnOk result (WritesOn output.old.plan output.old.start now merge.old merge.new
+        (W.contents writer.old) (W.contents writer.new)) }
+    ensures stops { IfErr result (λ fault. IsStop fault (WritesOn output.old.plan
+        output.old.start now merge.old merge.new (W.contents writer.old) (W.contents writer.new))) }
+    ensures plan { output.new.plan ≡ output.old.plan }
+    ensures start { output.new.start ≡ output.old.start }
+{
+    'waiting: for _ in 0..merge.len() {
         let Some(waiting) = merge.front() else {
             return Ok(());
         };
@@ -50,17 +72,32 @@ fn write_due<W: Write>(
     Ok(())
 }
 
-/// Writes all packets that wait, where no more will be known of them.
+/// By which sides a packet came, as far as that will be known: of captures that are at their ends, or that can't be read on behind a
+/// time.
+fn verdict_until(waiting: &Waiting, until: Option<u64>) -> Option<Verdict>
+    ensures { result ≡ verdict_until until (pending_of waiting.now) }
+{
+    match until {
+        None => Some(waiting.last_verdict()),
+        Some(now) => waiting.verdict(now),
+    }
+}
+
+/// Writes all packets that wait: no more will come of captures that are at their ends, or that can't be read on behind a time.
 fn write_rest<W: Write>(
     merge: &mut Merge,
     output: &mut Output,
+    until: Option<u64>,
     writer: &mut W,
-) -> Result<(), ScriptFault> {
-    for _ in 0..merge.len() {
-        let Some(waiting) = merge.front() else {
-            return Ok(());
-        };
-        let verdict = waiting.verdict(waiting.came.time);
+) -> Result<(), ScriptFault>
+    ensures goes { OnOk result (EndsOn output.old.plan output.old.start until merge.old.waiting []
+        (W.contents writer.old) (W.contents writer.new)) }
+    ensures stops { IfErr result (λ fault. IsStop fault (EndsOn output.old.plan
+        output.old.start until merge.old.waiting merge.new.waiting (W.contents writer.old)
+        (W.contents writer.new))) }
+{
+    'waiting: while let Some(waiting) = merge.front() {
+        let verdict = verdict_until(waiting, until);
         output.put(waiting, verdict, writer)?;
         merge.drop_front();
     }
@@ -71,29 +108,83 @@ fn write_rest<W: Write>(
 fn take<W: Write>(
     merge: &mut Merge,
     output: &mut Output,
-    plan: &Plan,
     side: Side,
     number: u64,
     time: u64,
     packet: &Packet,
     writer: &mut W,
-) -> Result<(), ScriptFault> {
-    if packet.extent == Extent::Cut {
-        more(&mut output.counts.cut);
-        return Ok(());
-    }
-    if packet.len > MAX_KEPT as u64 {
-        more(&mut output.counts.long);
-        return Ok(());
+) -> Result<(), ScriptFault>
+    ensures goes { OnOk result (TakesOn output.old.plan output.old.start side number time packet.now
+        merge.old merge.new (W.contents writer.old) (W.contents writer.new)) }
+    ensures stops { IfErr result (λ fault. IsStop fault (WritesOn output.old.plan
+        output.old.start time merge.old merge.new (W.contents writer.old)
+        (W.contents writer.new))) }
+    ensures plan { output.new.plan ≡ output.old.plan }
+    ensures start { output.new.start ≡ output.old.start }
+{
+    match packet.extent {
+        Extent::Cut => {
+            more(&mut output.counts.cut);
+            return Ok(());
+        }
+        Extent::Whole if packet.len > MAX_KEPT as u64 => {
+            more(&mut output.counts.long);
+            return Ok(());
+        }
+        Extent::Whole => {}
     }
     write_due(merge, output, time, writer)?;
-    merge.take(packet_of(plan, side, number, time, packet.octets.as_slice()))?;
+    let plan = output.plan;
+    merge.take(packet_of(&plan, side, number, time, packet.octets.as_slice()))?;
     Ok(())
 }
 
 /// A merge of nothing yet.
-fn begin(alloc: Global, keys: Keys) -> Result<Merge, ScriptFault> {
+fn begin(alloc: Global, keys: Keys) -> Result<Merge, ScriptFault>
+    ensures sources { IfOk result (λ merge. merge.sources ≡ []) }
+    ensures waiting { IfOk result (λ merge. merge.waiting ≡ []) }
+    ensures err { IfErr result (λ fault. fault ≡ ScriptFault.NoMemory) }
+{
     Ok(Merge::new(alloc, keys)?)
+}
+
+/// The time from which times are counted: that of the first packet, if there is one.
+fn start_of(first: Option<Front>) -> u64
+    ensures { IfSome first (λ front. front.moment ≡ result) }
+{
+    match first {
+        Some(front) => front.moment,
+        None => 0,
+    }
+}
+
+/// Takes the packet that is due, if it is wanted, and the next one of its file.
+fn pass<R: BufRead + Drop, W: Write>(
+    merge: &mut Merge,
+    output: &mut Output,
+    captures: &mut Captures<R>,
+    choice: &Choice,
+    front: Front,
+    now: &mut u64,
+    writer: &mut W,
+) -> Result<(), ScriptFault>
+    ensures goes { OnOk result (MergesOn R.remaining choice.now output.old.plan output.old.start
+        captures.old captures.new front now.old now.new merge.old merge.new
+        (W.contents writer.old) (W.contents writer.new)) }
+    ensures stops { IfErr result (λ fault. fault ≢ ScriptFault.Write → MergesUntil R.remaining
+        choice.now output.old.plan output.old.start captures.old (Some front) fault now.old now.new
+        merge.old merge.new (W.contents writer.old) (W.contents writer.new)) }
+    ensures plan { output.new.plan ≡ output.old.plan }
+    ensures start { output.new.start ≡ output.old.start }
+{
+    let time = front.moment.saturating_sub(output.start);
+    if is_wanted(choice, time) {
+        let side = side_of(front.inlet);
+        let packet = captures.packet(front.inlet);
+        take(merge, output, side, front.number, time, packet, writer)?;
+    }
+    *now = time;
+    captures.advance(front.inlet)
 }
 
 /// Takes the packets of captures in the order of their times, and writes those that are decided.
@@ -102,33 +193,76 @@ fn take_all<R: BufRead + Drop, W: Write>(
     output: &mut Output,
     captures: &mut Captures<R>,
     choice: &Choice,
-    plan: &Plan,
-    start: u64,
+    first: Option<Front>,
+    now: &mut u64,
     writer: &mut W,
-) -> Result<(), ScriptFault> {
-    for _ in 0..u64::MAX {
-        let Some(front) = captures.front() else {
+) -> Result<(), ScriptFault>
+    ensures goes { OnOk result (MergesAll R.remaining choice.now output.old.plan output.old.start
+        captures.old captures.new first now.old now.new merge.old merge.new
+        (W.contents writer.old) (W.contents writer.new)) }
+    ensures stops { IfErr result (λ fault. fault ≢ ScriptFault.Write → MergesUntil R.remaining
+        choice.now output.old.plan output.old.start captures.old first fault now.old now.new
+        merge.old merge.new (W.contents writer.old) (W.contents writer.new)) }
+    ensures plan { output.new.plan ≡ output.old.plan }
+    ensures start { output.new.start ≡ output.old.start }
+{
+    let mut next = first;
+    'packets: for _ in 0..u64::MAX {
+        let Some(front) = next else {
             return Ok(());
         };
-        let time = front.moment.saturating_sub(start);
-        if is_wanted(choice, time) {
-            take(
-                merge,
-                output,
-                plan,
-                side_of(front.inlet),
-                front.number,
-                time,
-                captures.packet(front.inlet),
-                writer,
-            )?;
-        }
-        captures.advance(front.inlet)?;
+        pass(merge, output, captures, choice, front, now, writer)?;
+        next = captures.front();
     }
     Err(ScriptFault::Endless)
 }
 
-/// Merges captures into a file: each frame once, by its first copy, and each packet without number each time. Where a capture can't be
+/// Writes what waits where this ended the taking: a file that can't be read on behind a time, or that no more could be written. Answers
+/// that no more could be written, or else what ended the taking.
+fn finish_broken<W: Write>(
+    merge: &mut Merge,
+    output: &mut Output,
+    own: ScriptFault,
+    now: u64,
+    writer: &mut W,
+) -> Result<(), ScriptFault>
+    ensures never { OnOk result ⊥ }
+    ensures stops { IfErr result (λ fault. EndsBy own fault output.old.plan output.old.start now
+        merge.old.waiting (W.contents writer.old) (W.contents writer.new)) }
+{
+    match own {
+        ScriptFault::File(_, _) => {
+            write_rest(merge, output, Some(now), writer)?;
+            Err(own)
+        }
+        ScriptFault::Write | ScriptFault::NoMemory | ScriptFault::Endless => Err(own),
+    }
+}
+
+/// Writes what waits behind the last packet that was taken, and answers what ended the merge early.
+fn finish<W: Write>(
+    merge: &mut Merge,
+    output: &mut Output,
+    taken: Result<(), ScriptFault>,
+    now: u64,
+    writer: &mut W,
+) -> Result<(), ScriptFault>
+    ensures goes { OnOk result (OnOk taken (EndsOn output.old.plan output.old.start None
+        merge.old.waiting [] (W.contents writer.old) (W.contents writer.new))
+        × IfErr taken (λ own. ⊥)) }
+    ensures stops { IfErr result (λ fault. OnOk taken (IsStop fault ((left : List Pending)
+        × EndsOn output.old.plan output.old.start None merge.old.waiting left
+        (W.contents writer.old) (W.contents writer.new)))
+        × IfErr taken (λ own. EndsBy own fault output.old.plan output.old.start now
+        merge.old.waiting (W.contents writer.old) (W.contents writer.new))) }
+{
+    match taken {
+        Ok(()) => write_rest(merge, output, None, writer),
+        Err(own) => finish_broken(merge, output, own, now, writer),
+    }
+}
+
+/// IsMerged captures into a file: each frame once, by its first copy, and each packet without number each time. Where a capture can't be
 /// read on, the file has what came before.
 ///
 /// The counts are answered, and the fault that ended the merge early, if one did: that of a file, `Write`, `NoMemory` or `Endless`.
@@ -139,9 +273,30 @@ pub fn merge<R: BufRead + Drop, W: Write>(
     choice: &Choice,
     plan: &Plan,
     writer: &mut W,
-) -> (Counts, Result<(), ScriptFault>) {
-    let start = captures.front().map_or(0, |front| front.moment);
-    let mut output = match Output::begin(alloc, *plan, start, writer) {
+) -> (Counts, Result<(), ScriptFault>)
+    // What is written is the file of the packets of all captures, each capture's in its own order and all in order of time: of those
+    // that are taken each that is to be written, in order, with its verdict.
+    ensures merges { OnOk result.1 ((start_a start_b start_c : Option (List ℕ))
+        → IsFed R.remaining AtA start_a captures.old.a []
+        → IsFed R.remaining AtB start_b captures.old.b []
+        → IsFed R.remaining AtC start_c captures.old.c []
+        → IsMerged choice.now plan.now (feed_of captures.old.a start_a)
+        (feed_of captures.old.b start_b) (feed_of captures.old.c start_c)
+        (W.contents writer.old) (W.contents writer.new)) }
+
+    // Where a capture can't be read on, it is the file of the packets that come before the fault, whole; at any other fault, unless it
+    // is the writer's, a front of it.
+    ensures halts { IfErr result.1 (λ fault. fault ≢ ScriptFault.Write
+        → (start_a start_b start_c : Option (List ℕ))
+        → IsFed R.remaining AtA start_a captures.old.a []
+        → IsFed R.remaining AtB start_b captures.old.b []
+        → IsFed R.remaining AtC start_c captures.old.c []
+        → IsMergedUpTo choice.now plan.now (feed_of captures.old.a start_a)
+        (feed_of captures.old.b start_b) (feed_of captures.old.c start_c) fault
+        (W.contents writer.old) (W.contents writer.new)) }
+{
+    let first = captures.front();
+    let mut output = match Output::begin(alloc, *plan, start_of(first), writer) {
         Ok(output) => output,
         Err(fault) => return (Counts::NONE, Err(fault)),
     };
@@ -149,21 +304,18 @@ pub fn merge<R: BufRead + Drop, W: Write>(
         Ok(merge) => merge,
         Err(fault) => return (Counts::NONE, Err(fault)),
     };
+    let mut now = 0;
     let taken = take_all(
         &mut merge,
         &mut output,
         captures,
         choice,
-        plan,
-        start,
+        first,
+        &mut now,
         writer,
     );
-    let rest = match taken {
-        Ok(()) => write_due(&mut merge, &mut output, u64::MAX, writer),
-        Err(ScriptFault::File(_, _)) => write_rest(&mut merge, &mut output, writer),
-        Err(_) => Ok(()),
-    };
+    let outcome = finish(&mut merge, &mut output, taken, now, writer);
     let mut counts = output.counts;
     counts.untold = merge.untold();
-    (counts, taken.and(rest))
+    (counts, outcome)
 }

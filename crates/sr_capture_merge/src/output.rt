@@ -24,9 +24,9 @@ const LATEST: u64 = 0x7FFF_FFFF_FFFF_FFFF;
 /// How packets are written, and what was written.
 #[derive(Drop)]
 pub(crate) struct Output {
-    plan: Plan,
+    pub plan: Plan,
     /// The time of the earliest packet, in nanoseconds since 1970.
-    start: u64,
+    pub start: u64,
     block: Vec<u8>,
     comment: Vec<u8>,
     pub counts: Counts,
@@ -202,6 +202,7 @@ fn write_entry<W: Write>(
 ) -> Result<(), ScriptFault>
     ensures ok { OnOk result (Appends (W.contents writer.old) (W.contents writer.new)
         (entry_block start early comment.now (packet_of waiting.now))) }
+    ensures err { IfErr result (λ fault. fault ≡ ScriptFault.Write) }
 {
     let entry = entry_of(start, early, waiting, comment);
     write_packet(writer, block, &entry)?;
@@ -231,6 +232,7 @@ fn write_wanted<W: Write>(
         (piece_by (is_shown plan.scope comment.now) start plan.early comment.now
         (packet_of waiting.now))) }
     ensures shown { IfOk result (λ shown. shown ≡ is_shown plan.scope comment.now) }
+    ensures err { IfErr result (λ fault. fault ≡ ScriptFault.Write) }
 {
     let shown = is_shown(plan.scope, comment);
     if shown {
@@ -250,9 +252,10 @@ fn with_written(mut counts: Counts, is_written: bool) -> Counts
 }
 
 impl Output {
-    ghost use Rattle.std.specs.Prelude.{◌≡◌, OnOk, IfOk};
+    ghost use Rattle.std.specs.Prelude.{◌≡◌, OnOk, IfOk, IfErr};
     ghost use Rattle.std.specs.Io.KnownBytes.{Appends};
     ghost use Rattle.sr_capture_merge.specs.Entries.{names_of, written_piece};
+    ghost use Rattle.sr_capture_merge.specs.Files.{IsStop};
     ghost use Rattle.sr_capture_merge.specs.Settling.{Settled, counted_one};
     ghost use Rattle.sr_merge.specs.Merging.{packet_of};
     ghost use Rattle.sr_pcapng.specs.Writing.{file_head};
@@ -271,6 +274,7 @@ impl Output {
             (file_head (names_of plan.network))) }
         ensures plan { IfOk result (λ output. output.plan ≡ plan) }
         ensures start { IfOk result (λ output. output.start ≡ start) }
+        ensures err { IfErr result (λ fault. fault ≡ ScriptFault.Write) }
     {
         let mut block = Vec::new(alloc);
         write_head(writer, &mut block, names_of(plan.network))?;
@@ -297,6 +301,8 @@ impl Output {
             (written_piece self.old.plan self.old.start verdict (packet_of waiting.now))) }
         ensures counts { OnOk result (self.new.counts ≡ counted_one self.old.plan
             (record { packet = packet_of waiting.now; verdict = verdict }) self.old.counts) }
+        ensures stops { IfErr result (λ fault. IsStop fault
+            (W.contents writer.new ≡ W.contents writer.old)) }
         ensures plan { self.new.plan ≡ self.old.plan }
         ensures start { self.new.start ≡ self.old.start }
     {

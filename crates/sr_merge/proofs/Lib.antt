@@ -1,3 +1,3 @@
 pub mod PlaceLemmas
 pub mod RunLemmas
-pub mod WaitingLemmas
+pub mod KeptLemmas

@@ -57,7 +57,7 @@ use Rattle.sr_merge.specs.declared.came.FrameId.{FrameId}
 use Rattle.sr_merge.specs.Limits.{millisecond}
 use Rattle.sr_merge.specs.Merging.{Merging, shown_arrival, answer_for, is_new_by, is_new, sources_told}
 use Rattle.sr_merge.specs.MergeRuns.{Numbered, IsNumber, HasWhole, MergeTurn, took, wrote, MergeRun, reads, written_in, packets_in, arrival_as, arrivals_read, is_first, firsts, newest_arrival, AreInTime, EachFrameIsWrittenOnce, known_after, news, WhatIsNewIsWritten}
-use Rattle.sr_merge.proofs.WaitingLemmas.{waits_list}
+use Rattle.sr_merge.specs.WaitingLemmas.{waits_list}
 
 -- what is written in every run
 pub what_is_new_is_written : WhatIsNewIsWritten

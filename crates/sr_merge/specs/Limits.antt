@@ -7,3 +7,7 @@ copy_time = 400000000
 
 abbrev pub millisecond : ℕ
 millisecond = 1000000
+
+-- the most packets that wait for a copy (choice of this project)
+abbrev pub most_held : ℕ
+most_held = 262144

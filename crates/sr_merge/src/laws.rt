@@ -1,6 +1,7 @@
 //! Laws over runs of a merge.
 
 ghost use Rattle.sr_merge.specs.MergeRuns.{EachFrameIsWrittenOnce, WhatIsNewIsWritten};
+ghost use Rattle.sr_merge.specs.Verdicts.{EachFrameIsKeptOnce};
 
 /// In every steady run what was written, and what waits behind it, are the packets that were taken without those of whose frame an
 /// earlier copy came: each frame once, by its first copy, each packet without number each time, in the order in which they came, with
@@ -16,4 +17,10 @@ pub fn each_frame_is_written_once()
 /// find it full.
 pub fn what_is_new_is_written()
     ensures { WhatIsNewIsWritten }
+{}
+
+/// Of packets that are taken, what is to be written is the first copy of each frame and each packet without number, where their run is
+/// steady: `kept_of_all`, of which the file of a whole merge is said, is the list that the other laws speak of.
+pub fn each_frame_is_kept_once()
+    ensures { EachFrameIsKeptOnce }
 {}

@@ -2,6 +2,7 @@
 
 ghost use Rattle.std.specs.Prelude.{◌≡◌};
 ghost use Rattle.sr_merge.specs.Merging.{pending_of, verdict_of};
+ghost use Rattle.sr_merge.specs.Verdicts.{last_verdict};
 
 use crate::came::Came;
 
@@ -48,6 +49,18 @@ impl Waiting {
             Some(Verdict::Alone)
         } else {
             None
+        }
+    }
+    /// By which sides it came, where no more copies will come.
+    pub fn last_verdict(&self) -> Verdict
+        ensures { result ≡ last_verdict (pending_of self.now) }
+    {
+        if self.came.frame.is_none() {
+            Verdict::Unnumbered
+        } else if self.is_met {
+            Verdict::Both
+        } else {
+            Verdict::Alone
         }
     }
 }

@@ -1,8 +1,7 @@
-use Rattle.std.proofs.Common.{subst, ap, sym, ◌∙◌}
+use Rattle.std.proofs.Common.{subst, ◌∙◌}
 use Rattle.std.specs.Io.KnownBytes.{Appends}
 use Rattle.sr_merge.specs.Merging.{packet_of}
 use Rattle.sr_capture_merge.specs.Entries.{is_shown, piece_by}
-use Rattle.sr_capture_merge.specs.Counting.{with_packet, counted_written}
 use Rattle.sr_capture_merge.proofs.output.Output.put.Goals as goal
 
 pub returns-clause-wrote : goal.returns-clause-wrote

@@ -9,12 +9,12 @@ use Rattle.sr_merge.specs.Merging.{Read, Pending, unmet, newest_copy, meet, meet
 use Rattle.sr_merge.specs.MergeRuns.{packets_in}
 
 -- a copy that is noted changes no packet
-packets_meet : (time at : ℕ) (ws : List Pending) → packets_in (meet time at ws) ≡ packets_in ws
+pub packets_meet : (time at : ℕ) (ws : List Pending) → packets_in (meet time at ws) ≡ packets_in ws
 packets_meet time at [] = refl
 packets_meet time zero (w ∷ ws) = refl
 packets_meet time (suc at) (w ∷ ws) = ap (λ l. w.packet ∷ l) (packets_meet time at ws)
 
-packets_noted : (came : Came) (frame : Option FrameId) (ws : List Pending) → packets_in (copy_noted came frame ws) ≡ packets_in ws
+pub packets_noted : (came : Came) (frame : Option FrameId) (ws : List Pending) → packets_in (copy_noted came frame ws) ≡ packets_in ws
 packets_noted came None ws = refl
 packets_noted came (Some f) ws = by (newest_copy (record { frame = f; side = other_side came.side }) ws)
   where

@@ -1,0 +1,39 @@
+use Rattle.std.proofs.Common.{arith, refl, sym, subst, ◌∙◌}
+use Rattle.std.specs.Io.KnownBytes.{Appends}
+use Rattle.std.proofs.lemmas.Grind.{common_steps}
+use Rattle.sr_merge.specs.Merging.{pending_of, packet_of}
+use Rattle.sr_capture_merge.specs.Entries.{written_piece}
+use Rattle.sr_capture_merge.proofs.Settled.{written_later, written_next}
+use Rattle.sr_capture_merge.proofs.merging.write_due.Goals as goal
+use Rattle.sr_capture_merge.proofs.merging.write_due.Goals.{else-is_none-via-then-is_none+else-len-lt-MOST_WAITING, else-is_none-via-else-is_none}
+
+pub waiting-init : goal.waiting-init
+waiting-init g c = record {
+  on = λ taken before held le h.
+      written_later c.args.output.now.plan c.args.output.now.start taken before c.args.now c.args.merge.now held (g.W.Write.contents c.args.writer.now) le h;
+  plan = refl;
+  start = refl;
+}
+
+pub waiting-preserved : goal.waiting-preserved
+waiting-preserved g c =
+    let i = c.waiting.invariant in
+    let own = packet_of c.in-Some.waiting.now in
+    let v = c.verdict-verdict.result in
+    let none = c.is_none.ensures in
+    record {
+      on = λ taken before held le h.
+          written_next c.args.output.now.plan c.args.output.now.start taken c.args.now c.waiting.merge c.drop_front.new.self
+          (pending_of c.in-Some.waiting.now) v held (g.W.Write.contents c.waiting.writer) (g.W.Write.contents c.put.new.writer)
+          (i.on taken before held le h) c.in-Some.ensures.some c.drop_front.ensures.sources c.drop_front.ensures.waiting
+          (sym c.verdict-verdict.ensures)
+          (λ e. elim c.else-is_none.branch [
+            | else-is_none-via-then-is_none+else-len-lt-MOST_WAITING w ↦ let n = w.len.ensures in omega (arith, n)
+            | else-is_none-via-else-is_none w ↦ let f = w.if-is_none.false in absurd (grind (arith, common_steps, none, e, f))
+          ])
+          (subst (λ p. Appends (g.W.Write.contents c.waiting.writer) (g.W.Write.contents c.put.new.writer) (written_piece p c.args.output.now.start v own)) i.plan
+          (subst (λ s. Appends (g.W.Write.contents c.waiting.writer) (g.W.Write.contents c.put.new.writer) (written_piece c.waiting.output.plan s v own)) i.start
+          c.in_ok-put.ensures.wrote));
+      plan = c.put.ensures.plan ∙ i.plan;
+      start = c.put.ensures.start ∙ i.start;
+    }

@@ -1,0 +1,14 @@
+use Rattle.std.proofs.Common.{◌≡◌, length}
+use Rattle.sr_capture_merge.specs.Files.{EndsOn}
+use Rattle.sr_capture_merge.proofs.merging.write_rest.Given as goal
+
+abbrev pub invariant-waiting : goal.invariant-waiting
+invariant-waiting g l = record {
+  on : EndsOn l.fn.output.plan l.fn.output.start l.until l.fn.merge.waiting l.merge.waiting (g.W.Write.contents l.fn.writer)
+      (g.W.Write.contents l.writer);
+  plan : l.output.plan ≡ l.fn.output.plan;
+  start : l.output.start ≡ l.fn.output.start;
+}
+
+abbrev pub decreases-waiting : goal.decreases-waiting
+decreases-waiting g l = length l.merge.waiting

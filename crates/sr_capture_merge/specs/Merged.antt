@@ -1,0 +1,158 @@
+-- The merge of the packets of captures into a file.
+use Rattle.std.specs.Prelude.{◌≡◌, ℕ, List, [], ◌++◌, Option, None, Some, IfSome, IfNone}
+use Rattle.std.specs.Io.KnownBytes.{Appends}
+use Rattle.sr_capture.specs.Records.{Captured}
+use Rattle.sr_capture_script.specs.declared.captures.Captures.{Captures}
+use Rattle.sr_capture_script.specs.declared.captures.Front.{Front}
+use Rattle.sr_capture_script.specs.Captures.{IsDueFirst, HasNoFront}
+use Rattle.sr_capture_script.specs.declared.choice.Choice.{Choice}
+use Rattle.sr_capture_script.specs.declared.choice.Inlet.TheVariants.{A, B, C}
+use Rattle.sr_capture_script.specs.declared.fault.ScriptFault.{ScriptFault}
+use Rattle.sr_capture_script.specs.declared.fault.ScriptFault.TheVariants.{File, Write, NoMemory, Endless}
+use Rattle.sr_capture_script.specs.Items.{Item, items_of, came_at, IsInOrder, IsMerge, AllToDue}
+use Rattle.sr_capture_script.specs.Merging.{Feed, feed_of, HasRecords, Stands, fault_at}
+use Rattle.sr_capture_script.specs.SourceViews.{IsFed}
+use Rattle.sr_capture_script.specs.Texts.{first_moment}
+use Rattle.sr_capture_merge.specs.declared.plan.Plan.{Plan}
+use Rattle.sr_capture_merge.specs.Files.{merged_file, HasWritten}
+use Rattle.sr_capture_merge.specs.Reading.{AreRead, last_time}
+use Rattle.sr_capture_merge.specs.Settling.{Settled, AreSettled, IsVerdict}
+use Rattle.sr_merge.specs.Merging.{Read, Pending, Merging}
+use Rattle.sr_merge.specs.MergeRuns.{packets_in}
+use Rattle.sr_merge.specs.Verdicts.{kept_of_all}
+
+-- some packets of three files came, in order, and none of them behind one that is due
+pub record HaveCome {R : Type 0} (remaining : R → Option (List ℕ)) (x y z : Feed) (all : Captures R) (out : List Item) : Type 0 where
+  pub same_a : feed_of all.a x.start ≡ x
+  pub same_b : feed_of all.b y.start ≡ y
+  pub same_c : feed_of all.c z.start ≡ z
+  pub fed_a : IsFed remaining A x.start all.a (came_at A out)
+  pub fed_b : IsFed remaining B y.start all.b (came_at B out)
+  pub fed_c : IsFed remaining C z.start all.c (came_at C out)
+  pub order : IsInOrder out
+  pub to_a : AllToDue A all.a.due out
+  pub to_b : AllToDue B all.b.due out
+  pub to_c : AllToDue C all.c.due out
+
+-- times are counted from the first of some packets
+abbrev pub StartsAt : ℕ → List Item → Type 0
+StartsAt start items = IfSome (first_moment items) (λ moment. moment ≡ start)
+
+-- this is the packet that is due next, if there is one; the first of all is at the start
+pub record IsNextOf {R : Type 0} (all : Captures R) (start : ℕ) (next : Option Front) (out : List Item) : Type 0 where
+  pub due : IfSome next (λ front. IsDueFirst all front)
+  pub none : IfNone next (HasNoFront all)
+  pub first : out ≡ [] → IfSome next (λ front. front.moment ≡ start)
+
+-- packets came, were taken as they are read, and those that don't wait any longer were written
+pub record IsMerging {R : Type 0} (remaining : R → Option (List ℕ)) (choice : Choice) (plan : Plan) (start : ℕ) (x y z : Feed)
+    (all : Captures R) (next : Option Front) (now : ℕ) (m : Merging) (held to : Option (List ℕ)) : Type 0 where
+  pub out : List Item
+  pub come : HaveCome remaining x y z all out
+  pub ahead : IsNextOf all start next out
+  pub starts : StartsAt start out
+  pub time : now ≡ last_time start 0 out
+  pub taken : List Read
+  pub read : AreRead choice plan start out taken
+  pub written : HasWritten plan start taken now m held to
+
+-- the time of a fault of a file is that of the last packet before it
+abbrev pub IsStopTime : ScriptFault → ℕ → List Item → ℕ → ℕ → Type 0
+IsStopTime (File inlet fault) start items now by = (now ≡ last_time start 0 items) × (by ≡ now)
+IsStopTime other start items now by = Unit {0}
+
+-- packets came before a fault, were taken as they are read, and some of them were written
+pub record HasStopped (choice : Choice) (plan : Plan) (start : ℕ) (x y z : Feed) (fault : ScriptFault) (now : ℕ) (m : Merging)
+    (held to : Option (List ℕ)) : Type 0 where
+  pub out : List Item
+  pub at_a : Stands (fault_at A fault) A x out
+  pub at_b : Stands (fault_at B fault) B y out
+  pub at_c : Stands (fault_at C fault) C z out
+  pub order : IsInOrder out
+  pub starts : StartsAt start out
+  pub taken : List Read
+  pub read : AreRead choice plan start out taken
+  pub by : ℕ
+  pub time : IsStopTime fault start out now by
+  pub written : HasWritten plan start taken by m held to
+
+-- one packet more, whichever is next then
+abbrev pub MergesOn : {R : Type 0} → (R → Option (List ℕ)) → Choice → Plan → ℕ → Captures R → Captures R → Front → ℕ → ℕ → Merging →
+    Merging → Option (List ℕ) → Option (List ℕ) → Type 0
+MergesOn remaining choice plan start before after front now later old new mid to = (x y z : Feed) (held : Option (List ℕ)) →
+    IsMerging remaining choice plan start x y z before (Some front) now old held mid → (next : Option Front) →
+    IfSome next (λ due. IsDueFirst after due) → IfNone next (HasNoFront after) →
+    IsMerging remaining choice plan start x y z after next later new held to
+
+-- all packets
+abbrev pub MergesAll : {R : Type 0} → (R → Option (List ℕ)) → Choice → Plan → ℕ → Captures R → Captures R → Option Front → ℕ → ℕ → Merging →
+    Merging → Option (List ℕ) → Option (List ℕ) → Type 0
+MergesAll remaining choice plan start before after first now later old new mid to = (x y z : Feed) (held : Option (List ℕ)) →
+    IsMerging remaining choice plan start x y z before first now old held mid →
+    IsMerging remaining choice plan start x y z after None later new held to
+
+-- up to a fault
+abbrev pub MergesUntil : {R : Type 0} → (R → Option (List ℕ)) → Choice → Plan → ℕ → Captures R → Option Front → ScriptFault → ℕ → ℕ →
+    Merging → Merging → Option (List ℕ) → Option (List ℕ) → Type 0
+MergesUntil remaining choice plan start before next fault now later old new mid to = (x y z : Feed) (held : Option (List ℕ)) →
+    IsMerging remaining choice plan start x y z before next now old held mid → HasStopped choice plan start x y z fault later new held to
+
+-- the file of some packets: each that is to be written is there with its verdict
+pub record IsFileOf (choice : Choice) (plan : Plan) (items : List Item) (until : ℕ → Option ℕ) (held to : Option (List ℕ)) : Type 0 where
+  pub start : ℕ
+  pub starts : StartsAt start items
+  pub taken : List Read
+  pub read : AreRead choice plan start items taken
+  pub settled : List Settled
+  pub verdicts : AreSettled (IsVerdict (until (last_time start 0 items))) (kept_of_all taken).waiting [] settled
+  pub wrote : Appends held to (merged_file plan start settled)
+
+-- the file of some packets up to one of those that are to be written
+pub record IsFrontOf (choice : Choice) (plan : Plan) (items : List Item) (held to : Option (List ℕ)) : Type 0 where
+  pub start : ℕ
+  pub starts : StartsAt start items
+  pub taken : List Read
+  pub read : AreRead choice plan start items taken
+  pub gone : List Pending
+  pub left : List Pending
+  pub parts : (kept_of_all taken).waiting ≡ gone ++ left
+  pub until : Option ℕ
+  pub settled : List Settled
+  pub verdicts : AreSettled (IsVerdict until) gone (packets_in left) settled
+  pub wrote : Appends held to (merged_file plan start settled)
+
+-- captures that are at their ends, and those that can't be read on behind a packet of some time
+abbrev pub whole : ℕ → Option ℕ
+whole time = None
+
+abbrev pub broken : ℕ → Option ℕ
+broken time = Some time
+
+-- the packets of three files, each once and in order of time, are merged into a file
+pub record IsMerged (choice : Choice) (plan : Plan) (x y z : Feed) (held to : Option (List ℕ)) : Type 0 where
+  pub packets_a : List Captured
+  pub packets_b : List Captured
+  pub packets_c : List Captured
+  pub has_a : HasRecords x packets_a
+  pub has_b : HasRecords y packets_b
+  pub has_c : HasRecords z packets_c
+  pub merged : List Item
+  pub is_merge : IsMerge (items_of A x.delay packets_a) (items_of B y.delay packets_b) (items_of C z.delay packets_c) merged
+  pub file : IsFileOf choice plan merged whole held to
+
+-- what is written where there is a fault: of a file, all packets before it; else, but where the writer failed, a front of what is to be
+abbrev pub IsHalted : ScriptFault → ScriptFault → Choice → Plan → List Item → Option (List ℕ) → Option (List ℕ) → Type 0
+IsHalted (File inlet fault) own choice plan items held to = (own ≡ File inlet fault) × IsFileOf choice plan items broken held to
+IsHalted NoMemory own choice plan items held to = IsFrontOf choice plan items held to
+IsHalted Endless own choice plan items held to = IsFrontOf choice plan items held to
+IsHalted Write own choice plan items held to = Unit {0}
+
+-- the packets of three files that come before a fault are merged into a file; own is what ended going over the files
+pub record IsMergedUpTo (choice : Choice) (plan : Plan) (x y z : Feed) (fault : ScriptFault) (held to : Option (List ℕ)) : Type 0 where
+  pub own : ScriptFault
+  pub merged : List Item
+  pub at_a : Stands (fault_at A own) A x merged
+  pub at_b : Stands (fault_at B own) B y merged
+  pub at_c : Stands (fault_at C own) C z merged
+  pub order : IsInOrder merged
+  pub file : IsHalted fault own choice plan merged held to
