@@ -5,3 +5,4 @@ pub mod MergeRuns
 pub mod WaitingLemmas
 pub mod Verdicts
 pub mod VerdictLemmas
+pub mod Copies

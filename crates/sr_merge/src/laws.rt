@@ -1,6 +1,7 @@
 //! Laws over runs of a merge.
 
 ghost use Rattle.sr_merge.specs.MergeRuns.{EachFrameIsWrittenOnce, WhatIsNewIsWritten};
+ghost use Rattle.sr_merge.specs.Copies.{WhatIsMetHasACopy, CopiesInTimeCount};
 ghost use Rattle.sr_merge.specs.Verdicts.{EachFrameIsKeptOnce};
 
 /// In every steady run what was written, and what waits behind it, are the packets that were taken without those of whose frame an
@@ -23,4 +24,15 @@ pub fn what_is_new_is_written()
 /// steady: `kept_of_all`, of which the file of a whole merge is said, is the list that the other laws speak of.
 pub fn each_frame_is_kept_once()
     ensures { EachFrameIsKeptOnce }
+{}
+
+/// Of each packet that counts as come by both sides a copy came by the other side, less than 400 ms behind it.
+pub fn what_is_met_has_a_copy()
+    ensures { WhatIsMetHasACopy }
+{}
+
+/// A copy that comes less than 400 ms behind the newest packet of its frame that came by the other side, and is no new packet itself, has
+/// that one count as come by both sides.
+pub fn copies_in_time_count()
+    ensures { CopiesInTimeCount }
 {}
