@@ -1,6 +1,6 @@
 //! Two to five workers, each on a thread of its own.
 
-ghost use Rattle.std.specs.Prelude.{◌≡◌, ◌≤◌, ◌<◌, ℕ, IfOk, vec_len, slice_index_or};
+ghost use Rattle.std.specs.Prelude.{◌≡◌, ◌≤◌, ◌<◌, ℕ, IfOk, IfErr, vec_len, slice_index_or};
 ghost use Rattle.sr_ports.specs.Stamps.{stamp};
 ghost use Rattle.sr_workers.specs.Worked.{EndedAs};
 ghost use Rattle.sr_workers.specs.Crews.{IsStartOf};
@@ -51,7 +51,8 @@ fn start<
     kit: Kit<Pass<L>, F, G>,
     turns: u64,
 ) -> Result<PromisedHandle<(Pass<L>, WorkerEnd<F>), Begun<F, G>>, CrewFault>
-    ensures { IfOk result (λ h. IsStartOf turns kit h.promise) }
+    ensures start { IfOk result (λ h. IsStartOf turns kit h.promise) }
+    ensures err { IfErr result (λ f. f ≡ CrewFault.NoThread) }
 {
     let promise = Begun {
         worker: kit.pass.worker(),

@@ -72,6 +72,10 @@ pub enum CrewFault {
 }
 
 impl From<NoMemory> for CrewFault {
+    ghost use Rattle.sr_workers.specs.declared.fault.CrewFault.TheVariants.{NoMemory as OutOfMemory};
+
+    ghost from_gives = { λ _ f. f ≡ OutOfMemory };
+
     fn from(_e: NoMemory) -> CrewFault {
         CrewFault::NoMemory
     }

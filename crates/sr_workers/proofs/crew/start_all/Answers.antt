@@ -16,7 +16,7 @@ loop-kit-preserved g c =
           (vec_items c.loop-kit.handles) (vec_items c.push_reserved.new.self) (vec_items c.args.kits) c.in-Ok.handle c.loop-kit.number
           (search rules) (search rules) was.3
           (λ k. let is = ap (λ l. get_or l 0 k) (sym steps.0) ∙ was.2 0 c.loop-kit.number k (omega arith) (omega arith) in
-          subst (λ x. IsStartOf c.args.turns x c.in-Ok.handle.promise) is c.in-Ok.ensures)
+          subst (λ x. IsStartOf c.args.turns x c.in-Ok.handle.promise) is c.in-Ok.ensures.start)
           i k h below,
     )
 
