@@ -92,10 +92,45 @@ static int on_a_thread(int (*call)(void)) {
     return result != NULL;
 }
 
+static int add_leaking(void) {
+    void *volatile first = malloc(1), *volatile second = malloc(1);
+    if (second)
+        free(first);
+    free(second);
+    return first && second;
+}
+
+static void *spared(void *unused) {
+    for (int i = 0; i < 2000; i++) {
+        void *volatile block = malloc(1);
+        if (!block)
+            return NULL;
+        free(block);
+    }
+    return &number;
+}
+
+static int soaks(int (*call)(void)) {
+    pthread_t thread;
+    void *result = NULL;
+    if (pthread_create(&thread, NULL, spared, NULL))
+        return 1;
+    int status = 0;
+    for (int i = 0; i < 2000; i++) {
+        number = 0;
+        status |= !twice(call);
+        if (number)
+            free(notes[0]);
+    }
+    pthread_join(thread, &result);
+    return status || !result;
+}
+
 int main(int count, char **words) {
     const char *name = count > 1 ? words[1] : "";
     if (!strcmp(name, "--list"))
-        puts("adds: test\nadds_early: test\nhangs: test\nleaks: test\nfalls: test\nthread: test\nthread_early: test");
+        puts("adds: test\nadds_early: test\nhangs: test\nleaks: test\nfalls: test\nthread: test\nthread_early: test\n"
+             "soaks: test\nsoaks_early: test\nsoaks_leaking: test");
     fflush(stdout);
     int status = !strcmp(name, "adds") ? adds(add, 0)
         : !strcmp(name, "adds_early") ? adds(add_early, 0)
@@ -103,10 +138,53 @@ int main(int count, char **words) {
         : !strcmp(name, "leaks") ? leaks()
         : !strcmp(name, "falls") ? falls()
         : !strcmp(name, "thread") ? on_a_thread(add)
-        : !strcmp(name, "thread_early") ? on_a_thread(add_early) : 0;
+        : !strcmp(name, "thread_early") ? on_a_thread(add_early)
+        : !strcmp(name, "soaks") ? soaks(add)
+        : !strcmp(name, "soaks_early") ? soaks(add_early)
+        : !strcmp(name, "soaks_leaking") ? soaks(add_leaking) : 0;
     _exit(status);
 }
 """
+
+
+# A program that prints a line for each word on standard input, each behind an allocation, and tells where one fails. The planted
+# ones go on, print half a line, print another line, tell nothing, or keep a block.
+LINES = r"""
+#include <stdio.h>
+#include <stdlib.h>
+#include <string.h>
+#include <unistd.h>
+
+int main(int count, char **words) {
+    const char *fault = count > 1 ? words[1] : "";
+    static char line[100], buffer[1000];
+    setvbuf(stdout, buffer, _IOFBF, sizeof buffer);
+    int number = 0, status = 0;
+    char octet;
+    while (!status && read(0, &octet, 1) == 1) {
+        number++;
+        void *volatile block = malloc(10), *volatile other = malloc(10);
+        if (block && other)
+            printf("line %d\n", number);
+        else if (strcmp(fault, "goes_on")) {
+            if (!strcmp(fault, "half"))
+                printf("line");
+            if (!strcmp(fault, "other"))
+                printf("line 0\n");
+            dprintf(2, !strcmp(fault, "untold") ? "fault\n" : "fault %d memory\n", number);
+            status = !strcmp(fault, "status") ? 5 : 1;
+        }
+        if (strcmp(fault, "keeps") || other)
+            free(block);
+        free(other);
+    }
+    fflush(stdout);
+    _exit(status);
+}
+"""
+
+# Tests that fail.
+OTHERS = ("adds_early", "hangs", "leaks", "falls", "thread_early", "soaks_early", "soaks_leaking")
 
 
 class Refuse(unittest.TestCase):
@@ -118,6 +196,9 @@ class Refuse(unittest.TestCase):
         subprocess.run([os.environ.get("CC", "cc"), "-O0", "-pthread", "-o", f"{cls.room.name}/planted_tests", str(source)],
                        check=True)
         cls.library = refuse.library_in(cls.room.name)
+        lines = Path(cls.room.name) / "lines.c"
+        lines.write_text(LINES)
+        subprocess.run([os.environ.get("CC", "cc"), "-O0", "-o", f"{cls.room.name}/planted", str(lines)], check=True)
 
     @classmethod
     def tearDownClass(cls):
@@ -151,6 +232,61 @@ class Refuse(unittest.TestCase):
     def test_a_change_before_a_refusal_in_a_thread_is_found(self):
         self.assertEqual(len(self.swept("thread_early").faults), 5)
 
+    def soaked(self, test, step=97):
+        return refuse.soak(f"{self.room.name}/planted_tests", test, self.library, self.room.name, step)
+
+    def test_every_97th_allocation_of_the_first_thread_is_refused(self):
+        found = self.soaked("soaks")
+        self.assertEqual(found.faults, [])
+        self.assertEqual(found.refused, found.asked // 97)
+        self.assertLess(found.asked, 2100)
+
+    def test_a_soak_finds_a_change_before_a_refusal(self):
+        self.assertEqual(self.soaked("soaks_early").faults, ["every 97: 1"])
+
+    def test_a_soak_finds_a_block_that_is_left(self):
+        found = self.soaked("soaks_leaking")
+        self.assertEqual(len(found.faults), 1)
+        self.assertRegex(found.faults[0], "^every 97 left [1-9]")
+
+    def test_a_soak_in_which_nothing_is_refused_fails(self):
+        self.assertEqual(self.soaked("soaks", 1000000).faults, ["nothing was refused"])
+
+    def a_case(self, fault):
+        case = Path(self.room.name) / "cases" / f"a_case_{fault}"
+        case.mkdir(parents=True, exist_ok=True)
+        (case / "args").write_text(f"{fault}\n")
+        (case / "stdin").write_text("xxx")
+        return case
+
+    def ran(self, fault):
+        case = self.a_case(fault)
+        with mock.patch.object(refuse.refused_runs, "CASES", case.parent):
+            return refuse.refused_runs.sweep(refuse.Found(), f"{self.room.name}/planted", "lines", case.name, self.library,
+                                             self.room.name, 10, 100)
+
+    def test_a_run_that_writes_a_front_passes(self):
+        found = self.ran("none")
+        self.assertEqual((found.refused, found.asked, found.faults), (6, 6, []))
+
+    def test_a_run_that_goes_on_is_found(self):
+        self.assertEqual(self.ran("goes_on").faults, [f"at {number} another output" for number in range(1, 7)])
+
+    def test_half_a_line_is_found(self):
+        self.assertEqual(self.ran("half").faults, [f"at {number} a part of a line" for number in range(1, 7)])
+
+    def test_another_line_is_found(self):
+        self.assertEqual(self.ran("other").faults, [f"at {number} no front of the output" for number in range(1, 7)])
+
+    def test_a_run_that_tells_nothing_of_memory_is_found(self):
+        self.assertEqual(self.ran("untold").faults, [f"at {number} told as b'fault\\n'" for number in range(1, 7)])
+
+    def test_another_status_is_found(self):
+        self.assertEqual(self.ran("status").faults, [f"at {number} status 5" for number in range(1, 7)])
+
+    def test_a_block_that_a_run_keeps_is_found(self):
+        self.assertEqual(self.ran("keeps").faults, [f"at {number} left 1" for number in (2, 4, 6)])
+
     def told(self, listed, words=()):
         listing = Path(self.room.name) / "refused.txt"
         listing.write_text(listed)
@@ -159,14 +295,17 @@ class Refuse(unittest.TestCase):
         return status, said.getvalue().splitlines()
 
     def test_a_call_is_told_with_its_allocations(self):
-        out = "".join(f"not planted::{it}: planted\n" for it in ("adds_early", "hangs", "leaks", "falls", "thread_early"))
-        status, said = self.told(f"add: planted::adds\n{out}")
-        self.assertEqual((status, said[-2:]), (False, ["refuse: add: 5 of 5", "2 passed, 0 failed"]))
+        out = "".join(f"not planted::{it}: planted\n" for it in OTHERS)
+        with mock.patch.object(refuse.refused_runs, "CASES", self.a_case("none").parent):
+            status, said = self.told(f"add: planted::adds\nrun: lines::a_case_none\nevery 97: planted::soaks\n"
+                                     f"seamless lines: a_case_none\n{out}")
+        self.assertEqual((status, said[-3:]), (False, ["refuse: add: 5 of 5", "refuse: run: 6 of 6", "4 passed, 0 failed"]))
 
     def test_a_call_without_its_test_is_told(self):
-        out = "".join(f"not planted::{it}: planted\n" for it in ("adds_early", "hangs", "leaks", "falls", "thread_early"))
-        status, said = self.told(f"add: planted::gone\n{out}not planted::lost: it is gone\n")
+        out = "".join(f"not planted::{it}: planted\n" for it in OTHERS)
+        status, said = self.told(f"add: planted::gone\nevery 97: planted::dry\n{out}not planted::lost: it is gone\n")
         self.assertTrue(status)
+        self.assertIn("refuse: tools/refused.txt soaks planted::dry, which is no test", said)
         self.assertIn("refuse: tools/refused.txt leaves out planted::lost, which is no test", said)
         self.assertIn("refuse: add:  ... FAILED: not swept: planted::gone", said)
 

@@ -3,8 +3,8 @@
 //     each       each in turn: at an allocation the program forks. The child gets NULL and goes on to its end; the parent waits
 //                for it and then goes on with the memory. So one run refuses the first, the second, and so on, each from the
 //                state in which the run has come to it. Once there is a second thread nothing more is refused: a child has one.
-//     at N       the Nth alone
-//     every K    each Kth
+//     at N       the Nth alone; the 0th is none
+//     every K    each Kth of the first thread's, and none of another's
 //
 // What it found goes to the file that REFUSE_TO names: 'refused N of M' and 'live B' (the blocks that were never freed) at the end
 // of the run, 'at N' and how it ended for a child that did not end well or left blocks, 'threads N' where it came to a second
@@ -36,6 +36,8 @@ static long number, seconds = 10, most = 4000;
 static int to = -1;
 static atomic_long asked, refused, live, children, next_child = 1, child_at;
 static atomic_int has_threads;
+// Whether this is the thread that the program began with.
+static __attribute__((tls_model("initial-exec"))) _Thread_local int is_first;
 
 // Writes a line without the allocator.
 static void tell(const char *format, ...) {
@@ -57,6 +59,7 @@ __attribute__((constructor)) static void begin(void) {
     const char *word = getenv("REFUSE"), *file = getenv("REFUSE_TO");
     if (!word)
         return;
+    is_first = 1;
     seconds = number_of("REFUSE_SECONDS", seconds);
     most = number_of("REFUSE_MOST", most);
     to = file ? open(file, O_WRONLY | O_CREAT | O_APPEND | O_CLOEXEC, 0666) : -1;
@@ -125,7 +128,7 @@ static int is_child(long at) {
 }
 
 static int is_refused(void) {
-    if (way == NONE)
+    if (way == NONE || (way == EVERY && !is_first))
         return 0;
     long at = atomic_fetch_add(&asked, 1) + 1;
     int is = way == AT ? at == number : way == EVERY ? at % number == 0 : is_child(at);
