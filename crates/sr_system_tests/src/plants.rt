@@ -3,6 +3,7 @@
 mod coupled;
 mod faults;
 mod frames;
+mod joining;
 mod makers;
 mod refusals;
 mod steps;
