@@ -1,5 +1,5 @@
 #!/usr/bin/env python3
-"""What more lines of a kind cost the program: allocations, memory, reads and writes.
+"""What more lines and packets of a kind cost the program: allocations, memory, reads and writes, and of some the processor's time.
 
     tools/costs.py [PROGRAM [TESTS]]     crates/sr_cli/out/sr_cli by default, and the tests where ./refuse builds them
 
@@ -8,6 +8,8 @@ the machine (tools/counting.c is loaded in front of it): what has been met befor
 The last row is the most memory that some tests take. It takes a C compiler. The last line is `N passed, M failed`.
 """
 import os
+import resource
+import struct
 import subprocess
 import sys
 import tempfile
@@ -25,8 +27,9 @@ WARM = 1500
 class Run:
     """What a run asked of the machine."""
 
-    def __init__(self, text):
+    def __init__(self, text, seconds):
         self.allocations, self.octets, self.reads, self.writes = map(int, text.split())
+        self.seconds = seconds
 
 
 # The most octets that a test holds: half as many again as it needs.
@@ -59,12 +62,14 @@ class Costs:
         env = {"LD_PRELOAD": self.library, "COUNT_TO": to}
         with open(f"{self.room}/script", "wb") as file:
             file.write(script)
+        began = resource.getrusage(resource.RUSAGE_CHILDREN)
         with open(f"{self.room}/script", "rb") as stdin, open(f"{self.room}/out", "wb") as stdout:
             ran = subprocess.run([program, *args], env=env, stdin=stdin, stdout=stdout, stderr=subprocess.DEVNULL, timeout=60)
+        ended = resource.getrusage(resource.RUSAGE_CHILDREN)
         if ran.returncode:
             raise ValueError(f"{' '.join(args)} ends with status {ran.returncode}")
         with open(to, encoding="ascii") as file:
-            return Run(file.read())
+            return Run(file.read(), ended.ru_utime - began.ru_utime)
 
 
 def node(role):
@@ -175,6 +180,28 @@ def captures(costs, failed):
         same(f"{name} of a long capture", *[costs.run([*args, it]) for it in names], failed)
 
 
+def capture(costs, name, copies, step):
+    """A capture of LAN A, in which each frame of a source comes so often, and its packets are so many nanoseconds apart."""
+    path = f"{costs.room}/{name}.pcap"
+    with open(path, "wb") as file:
+        file.write(struct.pack("<IHHiIII", 0xA1B23C4D, 2, 4, 0, 0, 65535, 1))
+        for place, number in enumerate(copies):
+            octets = bytes.fromhex(f"{OWN}0200000000aa0800{0:092d}{number % 65536:04x}a03488fb")
+            seconds, fraction = divmod(place * step, 10**9)
+            file.write(struct.pack("<IIII", seconds, fraction, len(octets), len(octets)) + octets)
+    return path
+
+
+def not_gone_over(costs, failed):
+    """Packets that wait for a copy are not gone over for another: eight times as many take some eight times as long, and not 64 times."""
+    # All within 400 ms, by one LAN alone, each frame twice: where a copy is sought, all that came before it wait.
+    few, many = (capture(costs, count, [place // 2 for place in range(count)], 2000) for count in (20_000, 160_000))
+    for name, args in (("merge", ["merge", "-w", "-"]), ("audit", ["audit"])):
+        one, other = (costs.run([*args, "--b", OTHER, "--a", it]).seconds for it in (few, many))
+        if other > 24 * max(one, 0.02):
+            failed.append(f"{name}: {one:.2f} s of 20,000 packets, {other:.2f} s of 160,000")
+
+
 def together(costs, failed):
     """What is at hand is read at once, and what is printed for it written at once."""
     for name, line in (("lines that are answered", b"in A 0 00\n"), ("empty lines", b"\n")):
@@ -192,7 +219,7 @@ def most_of_tests(costs, failed):
             failed.append(f"{crate}::{test} holds {octets} octets, and {most} are enough")
 
 
-ROWS = (known_sources, one_more_source, forwarded, host, floods, networks, captures, together, most_of_tests)
+ROWS = (known_sources, one_more_source, forwarded, host, floods, networks, captures, not_gone_over, together, most_of_tests)
 
 
 def main(program, tests=None):
