@@ -224,11 +224,10 @@ def names_twice(root):
 
 
 # Where want of memory is made all the same: the fault of a script of which no line was read yet, that of a line whose refusal
-# has no name, and where a framing's refusal is told from others by an `if`, so that the other branch knows that it is none.
+# has no name.
 MADE = {
     "crates/sr_session/src/fault.rt",
     "crates/sr_script/src/answering.rt",
-    "crates/sr_agreement/src/agreeing.rt",
 }
 
 

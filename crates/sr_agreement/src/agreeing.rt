@@ -1,11 +1,11 @@
 //! What came in at one end of a wire, beside what went in at the other.
 
-ghost use Rattle.std.specs.Prelude.{◌≡◌, ◌≢◌, List, ℕ, IfOk, MatchBool, MatchOption, Some, None, [], ◌∷◌};
+ghost use Rattle.std.specs.Prelude.{◌≡◌, ◌≢◌, ◌≤◌, List, ℕ, MatchBool, MatchOption, Some, None, [], ◌∷◌, vec_capacity};
 ghost use Rattle.sr_agreement.specs.Agreement.{Agreement, arrivals_in, is_from};
 ghost use Rattle.sr_agreement.specs.Progress.{IsEncodingOf, HasNoEncoding, Progress};
 
-use sr_forwarding::{Framing, Parcel, ReadFault, want_of_memory_is_no_fault_of_a_parcel};
-use sr_frame::{Mac, NoMemory};
+use sr_forwarding::{Framing, Parcel, want_of_memory_is_no_fault_of_a_parcel};
+use sr_frame::{MAX_FRAME_LEN, Mac};
 use sr_node::{Answer, Event};
 
 // Whether a parcel came from this source; from any, where there is none.
@@ -39,29 +39,21 @@ fn next_arrival<'a>(
 }
 
 // Writes the encoding of what an answer hands out. False where there is none.
-fn encoding<G: Framing>(
-    framing: &G,
-    answer: &Answer,
-    buffer: &mut Vec<u8>,
-) -> Result<bool, NoMemory>
-    ensures { IfOk result (λ b. MatchBool b
+fn encoding<G: Framing>(framing: &G, answer: &Answer, buffer: &mut Vec<u8>) -> bool
+    requires { MAX_FRAME_LEN ≤ vec_capacity buffer.old }
+    ensures room { MAX_FRAME_LEN ≤ vec_capacity buffer.new }
+    ensures encoding { MatchBool result
         (IsEncodingOf (G.meaning framing.now) answer.now buffer.new.items)
-        (HasNoEncoding (G.meaning framing.now) answer.now)) }
+        (HasNoEncoding (G.meaning framing.now) answer.now) }
 {
     let Answer::Taken(Some(parcel)) = answer else {
-        return Ok(false);
+        return false;
     };
     want_of_memory_is_no_fault_of_a_parcel();
     buffer.clear();
     match framing.write(buffer, &parcel.view()) {
-        Ok(()) => Ok(true),
-        Err(fault) => {
-            if fault == ReadFault::NoMemory {
-                Err(NoMemory)
-            } else {
-                Ok(false)
-            }
-        }
+        Ok(()) => true,
+        Err(_fault) => false,
     }
 }
 
@@ -73,55 +65,53 @@ fn after<'a, G: Framing>(
     left: &'a [(Event, Answer)],
     answer: &Answer,
     buffer: &mut Vec<u8>,
-) -> Result<(Option<&'a [u8]>, &'a [(Event, Answer)]), NoMemory>
-    ensures { IfOk result (λ r. (xs : List (List ℕ))
+) -> (Option<&'a [u8]>, &'a [(Event, Answer)])
+    requires { MAX_FRAME_LEN ≤ vec_capacity buffer.old }
+    ensures room { MAX_FRAME_LEN ≤ vec_capacity buffer.new }
+    ensures after { (xs : List (List ℕ))
         → MatchOption first.entry (xs ≡ []) (λ o. xs ≡ o.now ∷ arrivals_in source left.entry.now)
         → (ys : List (List ℕ))
-        × MatchOption r.0 (ys ≡ []) (λ o. ys ≡ o.now ∷ arrivals_in source r.1.now)
-        × Progress (G.meaning framing.now) answer.now xs ys) }
+        × MatchOption result.0 (ys ≡ []) (λ o. ys ≡ o.now ∷ arrivals_in source result.1.now)
+        × Progress (G.meaning framing.now) answer.now xs ys }
 {
-    match encoding(framing, answer, buffer) {
-        Err(fault) => Err(fault),
-        Ok(false) => Ok((first, left)),
-        Ok(true) => match first {
-            None => Ok((None, left)),
-            Some(octets) => {
-                if octets == buffer.as_slice() {
-                    Ok(next_arrival(source, left))
-                } else {
-                    Ok((first, left))
-                }
+    if !encoding(framing, answer, buffer) {
+        return (first, left);
+    }
+    match first {
+        None => (None, left),
+        Some(octets) => {
+            if octets == buffer.as_slice() {
+                next_arrival(source, left)
+            } else {
+                (first, left)
             }
-        },
+        }
     }
 }
 
 /// Whether the frames from a source that arrived at one end are, in order, among the encodings of the parcels that were
-/// taken at the other. NoMemory: an allocation failed.
+/// taken at the other. The list has room for a frame, in which each parcel is written.
 pub fn agree<G: Framing>(
     framing: &G,
     source: Option<Mac>,
     arrivals: &[(Event, Answer)],
     takes: &[(Event, Answer)],
     buffer: &mut Vec<u8>,
-) -> Result<bool, NoMemory>
-    ensures { IfOk result (λ b.
-        Agreement (G.meaning framing.now) source arrivals.now takes.now b) }
+) -> bool
+    requires { MAX_FRAME_LEN ≤ vec_capacity buffer.old }
+    ensures room { MAX_FRAME_LEN ≤ vec_capacity buffer.new }
+    ensures agreement { Agreement (G.meaning framing.now) source arrivals.now takes.now result }
 {
     let (mut first, mut left) = next_arrival(source, arrivals);
     let mut rest = takes;
     while let Some((pair, behind)) = rest.split_first() {
         rest = behind;
-        match after(framing, source, first, left, &pair.1, buffer) {
-            Ok((next, behind)) => {
-                first = next;
-                left = behind;
-            }
-            Err(fault) => return Err(fault),
-        }
+        let (next, behind) = after(framing, source, first, left, &pair.1, buffer);
+        first = next;
+        left = behind;
     }
     match first {
-        None => Ok(true),
-        Some(_) => Ok(false),
+        None => true,
+        Some(_) => false,
     }
 }

@@ -46,6 +46,16 @@ failed_of n (Host f) = n f
 failed_of n (Ring c) = c.counts.failures
 failed_of n (Lan l) = l.counts.failures
 
+-- how many turns it answered, and how often it failed
+abbrev pub asked_by : Cable → ℕ
+asked_by c = c.counts.asked
+
+abbrev pub failed_by : Cable → ℕ
+failed_by c = c.counts.failures
+
+abbrev pub failed_in : ALan → ℕ
+failed_in l = l.counts.failures
+
 -- how many frames were lost
 abbrev pub lost_by : Cable → ℕ
 lost_by c = c.counts.lost

@@ -20,12 +20,15 @@ pub struct Cable {
 }
 
 impl Cable {
-    ghost use Rattle.sr_lines.specs.Handed.{lost_by};
+    ghost use Rattle.sr_lines.specs.Handed.{asked_by, lost_by, failed_by};
+    ghost use Rattle.sr_lines.specs.Names.{wires_of};
 
-    /// These ends, of which nothing was lost.
+    /// These ends, of which nothing was asked and nothing was lost.
     pub fn new(alloc: Global, ends: Ends) -> Cable
         ensures ends { result.ends ≡ ends }
+        ensures unasked { asked_by result ≡ 0 }
         ensures none { lost_by result ≡ 0 }
+        ensures unfailed { failed_by result ≡ 0 }
     {
         Cable {
             ends,
@@ -48,6 +51,7 @@ impl Cable {
         ensures ungiven { OnErr result
             (self.new.ends.send.frames ≡ self.old.ends.send.frames) }
         ensures taken { self.new.ends.take ≡ self.old.ends.take }
+        ensures wires { wires_of self.new ≡ wires_of self.old }
         ensures lost { IfOk result (λ g. self.new.counts.lost
             ≡ lost_after self.old.counts.lost g) }
         ensures kept { OnErr result (self.new.counts.lost ≡ self.old.counts.lost) }
@@ -80,10 +84,12 @@ impl Cable {
 impl Feed for Cable {
     ghost use Rattle.std.specs.Prelude.{true};
     ghost use Rattle.sr_lines.specs.Handed.{frames_of};
+    ghost use Rattle.sr_lines.specs.Names.{wires_of};
+    ghost use Rattle.sr_lines.specs.Pairs.{WirePair};
 
-    ghost Name = { Unit {0} };
+    ghost Name = { WirePair };
 
-    ghost name = { λ _. tt };
+    ghost name = { wires_of };
 
     ghost tells = { λ _. true };
 

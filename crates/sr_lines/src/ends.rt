@@ -22,6 +22,8 @@ pub struct Ends {
 }
 
 impl Ends {
+    ghost use Rattle.sr_lines.specs.Names.{end_wires};
+
     /// The ends of these two wires.
     pub fn new(out: Arc<Wire>, send: SendPass, back: Arc<Wire>, take: TakePass) -> Ends
         requires send { send.wire ≡ arc_value out }
@@ -44,6 +46,7 @@ impl Ends {
             (λ back. (back ≡ frame) × (self.new.send.frames ≡ self.old.send.frames)
             × WasFull self.old.send.frames) }
         ensures same { self.new.take ≡ self.old.take }
+        ensures wires { end_wires self.new ≡ end_wires self.old }
     {
         self.out.put(rt, &mut self.send, frame)
     }
@@ -54,6 +57,7 @@ impl Ends {
             ((self.new.take.frames ≡ self.old.take.frames) × WasEmpty self.old.take.frames)
             (λ f. self.new.take.frames ≡ self.old.take.frames ++ f ∷ []) }
         ensures same { self.new.send ≡ self.old.send }
+        ensures wires { end_wires self.new ≡ end_wires self.old }
     {
         self.back.take(rt, &mut self.take)
     }

@@ -21,12 +21,14 @@ pub struct Lan {
 }
 
 impl Lan {
-    ghost use Rattle.sr_lines.specs.Handed.{lost_in};
+    ghost use Rattle.sr_lines.specs.Handed.{lost_in, failed_in};
+    ghost use Rattle.sr_lines.specs.Names.{wires_in};
 
     /// These ends, of which nothing was lost.
     pub fn new(alloc: Global, ends: Vec<Ends>) -> Lan
         ensures ends { result.ends ≡ ends }
         ensures none { lost_in result ≡ 0 }
+        ensures unfailed { failed_in result ≡ 0 }
     {
         Lan {
             ends,
@@ -43,9 +45,21 @@ impl Lan {
         self.counts.lost
     }
 
+    // The next frame of those that wait at one of them.
+    fn take_at<W: Wait>(&mut self, rt: &W, at: usize) -> Option<Frame>
+        ensures counts { self.new.counts ≡ self.old.counts }
+        ensures wires { wires_in self.new ≡ wires_in self.old }
+    {
+        match self.ends.get_mut(at) {
+            Some(wire) => wire.take_next(rt),
+            None => None,
+        }
+    }
+
     // The next frame of those that wait, from the wire whose turn it is on.
     fn take_any<W: Wait>(&mut self, rt: &W) -> Option<Frame>
-        ensures { self.new.counts ≡ self.old.counts }
+        ensures counts { self.new.counts ≡ self.old.counts }
+        ensures wires { wires_in self.new ≡ wires_in self.old }
     {
         for _ in 0..self.ends.len() {
             let at = if self.turn < self.ends.len() {
@@ -54,27 +68,34 @@ impl Lan {
                 0
             };
             self.turn = at + 1;
-            if let Some(wire) = self.ends.get_mut(at) {
-                if let Some(frame) = wire.take_next(rt) {
-                    return Some(frame);
-                }
+            if let Some(frame) = self.take_at(rt, at) {
+                return Some(frame);
             }
         }
         None
     }
 
+    // Sends a frame to one of them. False where its wire is full.
+    fn put_at<W: Wait>(&mut self, rt: &W, at: usize, frame: Frame) -> bool
+        ensures counts { self.new.counts ≡ self.old.counts }
+        ensures wires { wires_in self.new ≡ wires_in self.old }
+    {
+        match self.ends.get_mut(at) {
+            Some(wire) => wire.put(rt, frame).is_ok(),
+            None => false,
+        }
+    }
+
     // Sends a copy to one of them. False where its wire is full.
     fn give_one<W: Wait>(&mut self, rt: &W, at: usize, octets: &[u8]) -> Result<bool, FeedFault>
+        ensures wires { wires_in self.new ≡ wires_in self.old }
         ensures lost { self.new.counts.lost ≡ self.old.counts.lost }
         ensures ended { self.new.counts.ended ≡ self.old.counts.ended }
         ensures ok { OnOk result (self.new.counts.failures ≡ self.old.counts.failures) }
         ensures err { OnErr result (self.new.counts.failures ≡ self.old.counts.failures + 1) }
     {
         match Frame::copy(self.alloc, octets) {
-            Ok(frame) => match self.ends.get_mut(at) {
-                Some(wire) => Ok(wire.put(rt, frame).is_ok()),
-                None => Ok(false),
-            },
+            Ok(frame) => Ok(self.put_at(rt, at, frame)),
             Err(FrameFault::NoMemory) => {
                 self.counts.fail()?;
                 Ok(false)
@@ -85,6 +106,7 @@ impl Lan {
 
     // Sends a copy to each of them. False where the wire of one is full.
     fn give_all<W: Wait>(&mut self, rt: &W, octets: &[u8]) -> Result<bool, FeedFault>
+        ensures wires { wires_in self.new ≡ wires_in self.old }
         ensures lost { self.new.counts.lost ≡ self.old.counts.lost }
         ensures ended { self.new.counts.ended ≡ self.old.counts.ended }
         ensures err { OnErr result (self.old.counts.failures < self.new.counts.failures) }
@@ -102,6 +124,7 @@ impl Lan {
 
     // Sends a frame to all. One that is lost on one wire at least is counted.
     fn send<W: Wait>(&mut self, rt: &W, octets: &[u8]) -> Result<Given, FeedFault>
+        ensures wires { wires_in self.new ≡ wires_in self.old }
         ensures lost { IfOk result (λ g. self.new.counts.lost
             ≡ lost_after self.old.counts.lost g) }
         ensures kept { OnErr result (self.new.counts.lost ≡ self.old.counts.lost) }
@@ -121,11 +144,13 @@ impl Lan {
 }
 
 impl Feed for Lan {
-    ghost use Rattle.std.specs.Prelude.{false, []};
+    ghost use Rattle.std.specs.Prelude.{false, List, []};
+    ghost use Rattle.sr_lines.specs.Names.{wires_in};
+    ghost use Rattle.sr_lines.specs.Pairs.{WirePair};
 
-    ghost Name = { Unit {0} };
+    ghost Name = { List WirePair };
 
-    ghost name = { λ _. tt };
+    ghost name = { wires_in };
 
     ghost tells = { λ _. false };
 

@@ -34,10 +34,11 @@ impl<F: Feed> Line<F> {
 
 impl<F: Feed> Feed for Line<F> {
     ghost use Rattle.sr_lines.specs.Handed.{tells_of, handed_of, asked_of, given_of, losses_of, ended_of, failed_of};
+    ghost use Rattle.sr_lines.specs.Names.{LineName, line_name};
 
-    ghost Name = { Unit {0} };
+    ghost Name = { LineName F.Name };
 
-    ghost name = { λ _. tt };
+    ghost name = { line_name F.name };
 
     ghost tells = { tells_of F.tells };
 

@@ -1,13 +1,13 @@
 //! Whether the wires of a node's ports agree with their other ends.
 
-ghost use Rattle.std.specs.Prelude.{◌≡◌, ◌<◌, ℕ, length, vec_len, slice_index_or, IfOk};
+ghost use Rattle.std.specs.Prelude.{◌≡◌, ◌<◌, ◌≤◌, ℕ, length, vec_len, vec_capacity, slice_index_or, IfOk};
 ghost use Rattle.sr_ports.specs.Parts.{is_same_worker};
 ghost use Rattle.sr_threaded.specs.Judged.{IsJudged, judgement_of, settlement_of, pairs_of, before, behind};
 
 use crate::NodeEnd;
 use sr_agreement::agree;
 use sr_forwarding::HsrFraming;
-use sr_frame::NoMemory;
+use sr_frame::{MAX_FRAME_LEN, NoMemory};
 use sr_node::{Answer, Event};
 use sr_ports::{Log, Settlement, Worker};
 use sr_workers::Feed;
@@ -70,39 +70,20 @@ pub(crate) fn judgement_of(a: bool, b: bool) -> Judgement
 }
 
 /// Judges the wires of a node of a ring by the logs of its workers and of those of the nodes before and behind it: what arrived at
-/// A beside what the node before took out for B, and what arrived at B beside what the node behind took out for A. NoMemory: an
-/// allocation failed.
-pub fn judge(
-    before: &[Log],
-    own: &[Log],
-    behind: &[Log],
-    buffer: &mut Vec<u8>,
-) -> Result<Judgement, NoMemory>
-    ensures { IfOk result (λ j. IsJudged before.now own.now behind.now j) }
+/// A beside what the node before took out for B, and what arrived at B beside what the node behind took out for A. The list has
+/// room for a frame.
+pub fn judge(before: &[Log], own: &[Log], behind: &[Log], buffer: &mut Vec<u8>) -> Judgement
+    requires { MAX_FRAME_LEN ≤ vec_capacity buffer.old }
+    ensures room { MAX_FRAME_LEN ≤ vec_capacity buffer.new }
+    ensures judged { IsJudged before.now own.now behind.now result }
 {
     let arrived_a = pairs_of(Worker::A, own);
     let arrived_b = pairs_of(Worker::B, own);
-    let a = match agree(
-        &RING_B,
-        None,
-        arrived_a,
-        pairs_of(Worker::B, before),
-        buffer,
-    ) {
-        Ok(a) => a,
-        Err(fault) => return Err(fault),
-    };
-    let b = match agree(
-        &RING_A,
-        None,
-        arrived_b,
-        pairs_of(Worker::A, behind),
-        buffer,
-    ) {
-        Ok(b) => b,
-        Err(fault) => return Err(fault),
-    };
-    Ok(judgement_of(a, b))
+    let sent_before = pairs_of(Worker::B, before);
+    let sent_behind = pairs_of(Worker::A, behind);
+    let a = agree(&RING_B, None, arrived_a, sent_before, buffer);
+    let b = agree(&RING_A, None, arrived_b, sent_behind, buffer);
+    judgement_of(a, b)
 }
 
 // The place before one in a ring of so many.
@@ -132,17 +113,17 @@ pub fn judge_ring<F: Feed>(alloc: Global, ends: &[NodeEnd<F>]) -> Result<Vec<Jud
         (slice_index_or ends.now (behind i (length ends.now)) e).logs.items
         (slice_index_or v.items i j)) }
 {
-    let mut buffer = Vec::new(alloc);
+    let mut buffer = match Vec::with_capacity(alloc, MAX_FRAME_LEN) {
+        Ok(buffer) => buffer,
+        Err(refused) => return Err(refused.into()),
+    };
     let mut all = Vec::new(alloc);
     let count = ends.len();
     for i in 0..count {
         let first = &ends[before(i, count)];
         let own = &ends[i];
         let last = &ends[behind(i, count)];
-        let judged = match judge(&first.logs, &own.logs, &last.logs, &mut buffer) {
-            Ok(judged) => judged,
-            Err(fault) => return Err(fault),
-        };
+        let judged = judge(&first.logs, &own.logs, &last.logs, &mut buffer);
         if let Err(refused) = all.reserve(1) {
             return Err(refused.into());
         }

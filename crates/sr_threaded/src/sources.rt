@@ -1,6 +1,6 @@
 //! Whether the wires of a node's ports in two LANs agree with the other nodes', each source by itself.
 
-ghost use Rattle.std.specs.Prelude.{◌≡◌, ◌<◌, ℕ, length, vec_len, slice_index_or, IfOk};
+ghost use Rattle.std.specs.Prelude.{◌≡◌, ◌<◌, ◌≤◌, ℕ, length, vec_len, vec_capacity, slice_index_or, IfOk};
 ghost use Rattle.sr_forwarding.specs.Framings.{Trailed};
 ghost use Rattle.sr_threaded.specs.Sources.{address_of, is_others, comes_from_others, all_from_others, IsAgreementWith, AgreesWithAll, LanAgreement, IsJudgedInLans};
 
@@ -8,7 +8,7 @@ use crate::judging::{judgement_of, pairs_of};
 use crate::{Judgement, NodeEnd};
 use sr_agreement::agree;
 use sr_forwarding::PrpFraming;
-use sr_frame::{Mac, NoMemory};
+use sr_frame::{MAX_FRAME_LEN, Mac, NoMemory};
 use sr_node::{Answer, Event};
 use sr_ports::Worker;
 use sr_prp_trailer::Lan;
@@ -80,24 +80,18 @@ fn agrees_with<F: Feed>(
     arrivals: &[(Event, Answer)],
     end: &NodeEnd<F>,
     buffer: &mut Vec<u8>,
-) -> Result<bool, NoMemory>
-    ensures { IfOk result (λ b. IsAgreementWith
-        (Trailed framing.now.lan framing.now.net) worker own arrivals.now end.now b) }
+) -> bool
+    requires { MAX_FRAME_LEN ≤ vec_capacity buffer.old }
+    ensures room { MAX_FRAME_LEN ≤ vec_capacity buffer.new }
+    ensures agreement { IsAgreementWith
+        (Trailed framing.now.lan framing.now.net) worker own arrivals.now end.now result }
 {
     let source = address_of(end);
     if source == own {
-        return Ok(true);
+        return true;
     }
-    match agree(
-        framing,
-        Some(source),
-        arrivals,
-        pairs_of(worker, &end.logs),
-        buffer,
-    ) {
-        Ok(agrees) => Ok(agrees),
-        Err(fault) => Err(fault),
-    }
+    let sent = pairs_of(worker, &end.logs);
+    agree(framing, Some(source), arrivals, sent, buffer)
 }
 
 // Whether that is so of each of these nodes.
@@ -108,20 +102,20 @@ fn agrees_with_all<F: Feed>(
     arrivals: &[(Event, Answer)],
     ends: &[NodeEnd<F>],
     buffer: &mut Vec<u8>,
-) -> Result<bool, NoMemory>
-    ensures { IfOk result (λ b. AgreesWithAll
-        (Trailed framing.now.lan framing.now.net) worker own arrivals.now ends.now b) }
+) -> bool
+    requires { MAX_FRAME_LEN ≤ vec_capacity buffer.old }
+    ensures room { MAX_FRAME_LEN ≤ vec_capacity buffer.new }
+    ensures agreement { AgreesWithAll
+        (Trailed framing.now.lan framing.now.net) worker own arrivals.now ends.now result }
 {
     let mut all = true;
     let mut rest = ends;
     while let Some((end, behind)) = rest.split_first() {
         rest = behind;
-        match agrees_with(framing, worker, own, arrivals, end, buffer) {
-            Ok(agrees) => all = all && agrees,
-            Err(fault) => return Err(fault),
-        }
+        let agrees = agrees_with(framing, worker, own, arrivals, end, buffer);
+        all = all && agrees;
     }
-    Ok(all)
+    all
 }
 
 // Whether the wires of a worker's port agree.
@@ -131,36 +125,32 @@ fn agrees_in_lan<F: Feed>(
     ends: &[NodeEnd<F>],
     own: &NodeEnd<F>,
     buffer: &mut Vec<u8>,
-) -> Result<bool, NoMemory>
-    ensures { IfOk result (λ b.
-        LanAgreement (Trailed framing.now.lan framing.now.net) worker ends.now own.now b) }
+) -> bool
+    requires { MAX_FRAME_LEN ≤ vec_capacity buffer.old }
+    ensures room { MAX_FRAME_LEN ≤ vec_capacity buffer.new }
+    ensures agreement { LanAgreement
+        (Trailed framing.now.lan framing.now.net) worker ends.now own.now result }
 {
     let mac = address_of(own);
     let arrivals = pairs_of(worker, &own.logs);
-    match agrees_with_all(framing, worker, mac, arrivals, ends, buffer) {
-        Ok(sent) => Ok(all_from_others(mac, ends, arrivals) && sent),
-        Err(fault) => Err(fault),
-    }
+    let sent = agrees_with_all(framing, worker, mac, arrivals, ends, buffer);
+    all_from_others(mac, ends, arrivals) && sent
 }
 
 /// Judges the wires of one of the nodes of two LANs: at each port, whether what arrived comes from other nodes, and that of each,
-/// by itself, is in order among what it sent there. NoMemory: an allocation failed.
+/// by itself, is in order among what it sent there. The list has room for a frame.
 pub fn judge_in_lan<F: Feed>(
     ends: &[NodeEnd<F>],
     own: &NodeEnd<F>,
     buffer: &mut Vec<u8>,
-) -> Result<Judgement, NoMemory>
-    ensures { IfOk result (λ j. IsJudgedInLans ends.now own.now j) }
+) -> Judgement
+    requires { MAX_FRAME_LEN ≤ vec_capacity buffer.old }
+    ensures room { MAX_FRAME_LEN ≤ vec_capacity buffer.new }
+    ensures judged { IsJudgedInLans ends.now own.now result }
 {
-    let a = match agrees_in_lan(&LAN_A, Worker::A, ends, own, buffer) {
-        Ok(a) => a,
-        Err(fault) => return Err(fault),
-    };
-    let b = match agrees_in_lan(&LAN_B, Worker::B, ends, own, buffer) {
-        Ok(b) => b,
-        Err(fault) => return Err(fault),
-    };
-    Ok(judgement_of(a, b))
+    let a = agrees_in_lan(&LAN_A, Worker::A, ends, own, buffer);
+    let b = agrees_in_lan(&LAN_B, Worker::B, ends, own, buffer);
+    judgement_of(a, b)
 }
 
 /// Judges the wires of each node of two LANs. NoMemory: an allocation failed.
@@ -169,13 +159,13 @@ pub fn judge_twin<F: Feed>(alloc: Global, ends: &[NodeEnd<F>]) -> Result<Vec<Jud
     ensures each { IfOk result (λ v. (i : ℕ) (e : _) (j : _) → i < length ends.now
         → IsJudgedInLans ends.now (slice_index_or ends.now i e) (slice_index_or v.items i j)) }
 {
-    let mut buffer = Vec::new(alloc);
+    let mut buffer = match Vec::with_capacity(alloc, MAX_FRAME_LEN) {
+        Ok(buffer) => buffer,
+        Err(refused) => return Err(refused.into()),
+    };
     let mut all = Vec::new(alloc);
     for i in 0..ends.len() {
-        let judged = match judge_in_lan(ends, &ends[i], &mut buffer) {
-            Ok(judged) => judged,
-            Err(fault) => return Err(fault),
-        };
+        let judged = judge_in_lan(ends, &ends[i], &mut buffer);
         if let Err(refused) = all.reserve(1) {
             return Err(refused.into());
         }

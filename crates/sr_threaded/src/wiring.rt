@@ -2,6 +2,8 @@
 
 ghost use Rattle.std.specs.Prelude.{◌≡◌, ◌<◌, IfOk, vec_len};
 ghost use Rattle.std.specs.Arc.{arc_value};
+ghost use Rattle.sr_lines.specs.Names.{end_wires};
+ghost use Rattle.sr_lines.specs.Pairs.{AreLinked};
 
 use sr_frame::NoMemory;
 use sr_lines::Ends;
@@ -21,8 +23,7 @@ fn shared(alloc: Global, wire: Wire) -> Result<Arc<Wire>, NoMemory>
 
 // The two ends of a link of two wires, one each way.
 fn link(alloc: Global) -> Result<(Ends, Ends), NoMemory>
-    ensures on { IfOk result (λ r. r.0.send.wire ≡ r.1.take.wire) }
-    ensures back { IfOk result (λ r. r.1.send.wire ≡ r.0.take.wire) }
+    ensures { IfOk result (λ r. AreLinked (end_wires r.0) (end_wires r.1)) }
 {
     let (on, on_send, on_take) = Wire::new(alloc)?;
     let (back, back_send, back_take) = Wire::new(alloc)?;

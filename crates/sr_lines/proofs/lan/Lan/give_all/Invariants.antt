@@ -1,6 +1,10 @@
 use Rattle.std.proofs.Common.{◌≡◌}
+use Rattle.sr_lines.specs.Names.{wires_in}
 use Rattle.sr_lines.proofs.lan.Lan.give_all.Given as goal
 
 abbrev pub invariant-loop-at : goal.invariant-loop-at
 invariant-loop-at g l =
-    (l.self.counts.lost ≡ l.initial.self.counts.lost) × (l.self.counts.ended ≡ l.initial.self.counts.ended) × (l.self.counts.failures ≡ l.initial.self.counts.failures)
+    (l.self.counts.lost ≡ l.initial.self.counts.lost)
+    × (l.self.counts.ended ≡ l.initial.self.counts.ended)
+    × (l.self.counts.failures ≡ l.initial.self.counts.failures)
+    × (wires_in l.self ≡ wires_in l.initial.self)

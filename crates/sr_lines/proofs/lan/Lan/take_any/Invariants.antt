@@ -1,5 +1,6 @@
 use Rattle.std.proofs.Common.{◌≡◌}
+use Rattle.sr_lines.specs.Names.{wires_in}
 use Rattle.sr_lines.proofs.lan.Lan.take_any.Given as goal
 
 abbrev pub invariant-loop : goal.invariant-loop
-invariant-loop g l = l.self.counts ≡ l.initial.self.counts
+invariant-loop g l = (l.self.counts ≡ l.initial.self.counts) × (wires_in l.self ≡ wires_in l.initial.self)
