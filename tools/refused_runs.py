@@ -1,8 +1,8 @@
 """Runs of the program on cases of examples/cases, in each of which one allocation is refused.
 
 Such a run either does without and writes what it writes with all its memory; or it ends with status 1, names the fault `memory` and
-has written a front of that, in whole lines if it writes text; or it ends with status 2 and has written nothing, where the command
-line could not be read.
+has written a front of that, in whole lines if it writes text, and behind the front of a script of captures the comment that tells
+the fault; or it ends with status 2 and has written nothing, where the command line could not be read.
 """
 import os
 import re
@@ -15,7 +15,8 @@ sys.path.insert(0, str(TOP / "lint"))
 import cases  # noqa: E402
 
 CASES = TOP / "examples" / "cases"
-# Subcommands that write octets and no lines.
+# Subcommands that write octets and no lines. What makes a block of a pcapng file answers no other fault than the writer's, so
+# that they name `write` where an allocation for one fails.
 OCTETS = ("merge",)
 
 
@@ -60,11 +61,12 @@ def flaw(ran, whole, has_lines):
         return "output without a command line" if ran.out else None
     if ran.status != 1:
         return f"status {ran.status}"
-    if b"memory" not in ran.err.split(b"\n")[0]:
+    if not re.search(rb"^fault (\S+ )?memory\b" if has_lines else rb"^fault ((\S+ )?memory\b|write$)", ran.err, re.M):
         return f"told as {ran.err!r}"
-    if not whole.out.startswith(ran.out):
+    front = re.sub(rb"(^|\n)# fault \S+ memory( \d+)?\n$", rb"\1", ran.out)
+    if not whole.out.startswith(front):
         return "no front of the output"
-    if has_lines and ran.out and not ran.out.endswith(b"\n"):
+    if has_lines and front and not front.endswith(b"\n"):
         return "a part of a line"
     return None
 
