@@ -1,3 +1,5 @@
+pub mod Joined
 pub mod Judged
 pub mod Losses
+pub mod Ran
 pub mod Sources

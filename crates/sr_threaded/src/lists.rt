@@ -1,6 +1,6 @@
 //! Lists that are made item by item, of any type. What is let go on the way is let go as any type is.
 
-ghost use Rattle.std.specs.Prelude.{◌≡◌, IfOk, vec_len};
+ghost use Rattle.std.specs.Prelude.{◌≡◌, ◌<◌, ℕ, IfOk, Ok, map, vec_len, slice_index_or};
 
 use sr_frame::NoMemory;
 use std::alloc::Global;
@@ -12,6 +12,11 @@ pub(crate) fn split_all<X: Drop, A: Drop, B: Drop, S: Fn(X) -> (A, B)>(
     split: &S,
 ) -> Result<(Vec<A>, Vec<B>), NoMemory>
     requires { S.IsAlwaysCallable split.now }
+    ensures first { IfOk result (λ r. vec_len r.0 ≡ vec_len items) }
+    ensures second { IfOk result (λ r. vec_len r.1 ≡ vec_len items) }
+    ensures each { IfOk result (λ r. (i : ℕ) (x : _) (a : _) (b : _) → i < vec_len items
+        → S.post split.now (slice_index_or items.items i x)
+        (slice_index_or r.0.items i a, slice_index_or r.1.items i b)) }
 {
     let mut first = Vec::new(alloc);
     let mut second = Vec::new(alloc);
@@ -34,7 +39,10 @@ pub(crate) fn join_all<A: Drop, B: Drop, X: Drop, J: Fn(A, B) -> X>(
 ) -> Result<Vec<X>, NoMemory>
     requires call { J.IsAlwaysCallable join.now }
     requires len { vec_len first ≡ vec_len second }
-    ensures { IfOk result (λ v. vec_len v ≡ vec_len first) }
+    ensures len { IfOk result (λ v. vec_len v ≡ vec_len first) }
+    ensures each { IfOk result (λ v. (i : ℕ) (a : _) (b : _) (x : _) → i < vec_len first
+        → J.post join.now (slice_index_or first.items i a) (slice_index_or second.items i b)
+        (slice_index_or v.items i x)) }
 {
     let mut all = Vec::new(alloc);
     let mut others = second.into_iter();
@@ -53,7 +61,8 @@ pub(crate) fn all_of<T: Drop, E: Copy + From<NoMemory> + Drop>(
     alloc: Global,
     outcomes: Vec<Result<T, E>>,
 ) -> Result<Vec<T>, E>
-    ensures { IfOk result (λ v. vec_len v ≡ vec_len outcomes) }
+    ensures len { IfOk result (λ v. vec_len v ≡ vec_len outcomes) }
+    ensures all { IfOk result (λ v. outcomes.items ≡ map (λ x. Ok x) v.items) }
 {
     let mut all = Vec::new(alloc);
     for outcome in outcomes {
@@ -73,7 +82,9 @@ pub(crate) fn all_of<T: Drop, E: Copy + From<NoMemory> + Drop>(
 pub(crate) fn both_of<A: Drop, B: Drop, E: From<NoMemory> + Drop>(
     first: Result<A, E>,
     second: Result<B, NoMemory>,
-) -> Result<(A, B), E> {
+) -> Result<(A, B), E>
+    ensures { IfOk result (λ r. first ≡ Ok r.0) }
+{
     match first {
         Ok(a) => match second {
             Ok(b) => Ok((a, b)),

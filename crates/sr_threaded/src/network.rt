@@ -1,6 +1,8 @@
 //! Nodes at their wires, run by threads.
 
-ghost use Rattle.std.specs.Prelude.{◌≡◌, vec_len, IfOk, IsErrOf};
+ghost use Rattle.std.specs.Prelude.{◌≡◌, map, vec_len, IfOk, IsErrOf};
+ghost use Rattle.sr_lines.specs.declared.line.Line.TheVariants.{Host};
+ghost use Rattle.sr_threaded.specs.Ran.{AllRan, NodeRan, starts_at};
 
 use crate::fault::of_crew;
 use crate::lists::all_of;
@@ -28,7 +30,12 @@ pub(crate) fn wired<N: Role, G: Framing, F: Feed>(
     at_a: Line<F>,
     at_b: Line<F>,
     turns: u64,
-) -> Wired<N, G, F> {
+) -> Wired<N, G, F>
+    ensures starts { starts_at F.Feed (G.meaning result.a) (G.meaning result.b)
+        (G.meaning result.host) result.turns result.at_a result.at_b result.at_host
+        ≡ starts_at F.Feed (G.meaning kit.a) (G.meaning kit.b) (G.meaning kit.host) turns
+        at_a at_b (Host kit.feed) }
+{
     let NodeKit {
         node,
         a,
@@ -58,8 +65,15 @@ pub(crate) fn run_wired<
 >(rt: &W, alloc: Global, nodes: Vec<Wired<N, G, F>>) -> Result<Vec<NodeEnd<F>>, NetworkFault>
     ensures size { IsErrOf result NetworkFault.Size → ⊥ }
     ensures len { IfOk result (λ v. vec_len v ≡ vec_len nodes) }
+    ensures ran { IfOk result (λ v. AllRan F.Feed
+        (map (λ w. starts_at F.Feed (G.meaning w.a) (G.meaning w.b) (G.meaning w.host) w.turns
+        w.at_a w.at_b w.at_host) nodes.items) v.items) }
 {
-    let work = |wired: Wired<N, G, F>| -> Result<NodeEnd<F>, CrewFault> { run_branded(rt, wired) };
+    let work = |wired: Wired<N, G, F>| -> Result<NodeEnd<F>, CrewFault>
+        ensures { IfOk result (λ e. NodeRan F.Feed (starts_at F.Feed (G.meaning wired.a)
+            (G.meaning wired.b) (G.meaning wired.host) wired.turns wired.at_a wired.at_b
+            wired.at_host) e) }
+    { run_branded(rt, wired) };
     match thread::map_vec(rt, nodes, &work) {
         Ok(outcomes) => match all_of(alloc, outcomes) {
             Ok(ends) => Ok(ends),

@@ -1,6 +1,7 @@
 //! One node of a threaded network.
 
-ghost use Rattle.std.specs.Prelude.{◌≡◌, IfOk, vec_len};
+ghost use Rattle.std.specs.Prelude.{◌≡◌, ◌<◌, ◌∷◌, [], ℕ, IfOk, map, vec_len, slice_index_or};
+ghost use Rattle.sr_threaded.specs.Ran.{ArePartsOf, NodeRan, line_start, starts_at};
 
 use crate::lists::{both_of, split_all};
 use crate::losses::lost_in_all;
@@ -41,7 +42,11 @@ struct Gear<G: Framing, F: Feed> {
 fn kit_of<L: Ledger, G: Framing, F: Feed>(
     pass: Pass<L>,
     gear: Gear<G, F>,
-) -> Kit<Pass<L>, Line<F>, G> {
+) -> Kit<Pass<L>, Line<F>, G>
+    ensures pass { result.pass ≡ pass }
+    ensures line { result.feed ≡ gear.line }
+    ensures framing { result.framing ≡ gear.framing }
+{
     let Gear { framing, line } = gear;
     Kit {
         pass,
@@ -58,7 +63,14 @@ fn kits_of<L: Ledger, G: Framing, F: Feed>(
     b: Gear<G, F>,
     host: Gear<G, F>,
 ) -> Result<Vec<Kit<Pass<L>, Line<F>, G>>, NoMemory>
-    ensures { IfOk result (λ kits. vec_len kits ≡ 3) }
+    ensures len { IfOk result (λ kits. vec_len kits ≡ 3) }
+    ensures starts { IfOk result (λ kits. (turns : ℕ)
+        → map (λ k. line_start F.Feed k.pass.worker (G.meaning k.framing) turns k.pass.count k.feed)
+        kits.items
+        ≡ line_start F.Feed passes.a.worker (G.meaning a.framing) turns passes.a.count a.line
+        ∷ line_start F.Feed passes.b.worker (G.meaning b.framing) turns passes.b.count b.line
+        ∷ line_start F.Feed passes.host.worker (G.meaning host.framing) turns passes.host.count
+        host.line ∷ []) }
 {
     let mut kits = Vec::with_capacity(alloc, 3)?;
     kits.push_reserved(kit_of(passes.a, a));
@@ -68,7 +80,9 @@ fn kits_of<L: Ledger, G: Framing, F: Feed>(
 }
 
 // The log of a worker, and what it ended with beside.
-fn parts_of<L: Ledger, F: Feed>(done: (Pass<L>, WorkerEnd<Line<F>>)) -> (Log, LineEnd<F>) {
+fn parts_of<L: Ledger, F: Feed>(done: (Pass<L>, WorkerEnd<Line<F>>)) -> (Log, LineEnd<F>)
+    ensures { ArePartsOf done.1 result.0 result.1 }
+{
     let (pass, end) = done;
     drop(pass);
     let WorkerEnd {
@@ -88,7 +102,10 @@ fn parts_of<L: Ledger, F: Feed>(done: (Pass<L>, WorkerEnd<Line<F>>)) -> (Log, Li
 }
 
 // What a node ends with.
-fn end_of<F: Feed>(segment: Segment, logs: Vec<Log>, ends: Vec<LineEnd<F>>) -> NodeEnd<F> {
+fn end_of<F: Feed>(segment: Segment, logs: Vec<Log>, ends: Vec<LineEnd<F>>) -> NodeEnd<F>
+    ensures logs { result.logs ≡ logs }
+    ensures ends { result.ends ≡ ends }
+{
     let settlement = settle(segment.entries.as_slice(), logs.as_slice());
     let lost = lost_in_all(ends.as_slice());
     NodeEnd {
@@ -105,8 +122,16 @@ fn closed<L: Ledger, F: Feed>(
     alloc: Global,
     segment: Segment,
     ends: Vec<(Pass<L>, WorkerEnd<Line<F>>)>,
-) -> Result<NodeEnd<F>, CrewFault> {
-    let split = |done: (Pass<L>, WorkerEnd<Line<F>>)| -> (Log, LineEnd<F>) { parts_of(done) };
+) -> Result<NodeEnd<F>, CrewFault>
+    ensures logs { IfOk result (λ e. vec_len e.logs ≡ vec_len ends) }
+    ensures ends { IfOk result (λ e. vec_len e.ends ≡ vec_len ends) }
+    ensures each { IfOk result (λ e. (i : ℕ) (d : _) (l : _) (x : _) → i < vec_len ends
+        → ArePartsOf (slice_index_or ends.items i d).1 (slice_index_or e.logs.items i l)
+        (slice_index_or e.ends.items i x)) }
+{
+    let split = |done: (Pass<L>, WorkerEnd<Line<F>>)| -> (Log, LineEnd<F>)
+        ensures { ArePartsOf done.1 result.0 result.1 }
+    { parts_of(done) };
     match split_all(alloc, ends, &split) {
         Ok((logs, ends)) => Ok(end_of(segment, logs, ends)),
         Err(refused) => {
@@ -139,6 +164,8 @@ fn work<
     turns: u64,
 ) -> Result<NodeEnd<F>, CrewFault>
     requires { vec_len kits ≡ 3 }
+    ensures { IfOk result (λ e. NodeRan F.Feed (map (λ k. line_start F.Feed k.pass.worker
+        (G.meaning k.framing) turns k.pass.count k.feed) kits.items) e) }
 {
     let crew = run_workers(rt, alloc, &shared, kits, turns);
     let history = history_of(shared.into_kept());
@@ -159,6 +186,9 @@ fn run_node<
     requires name { blank.name ≡ L.name }
     requires parts { blank.parts ≡ L.parts }
     requires five { L.parts ≡ 5 }
+    ensures { IfOk result (λ e. NodeRan F.Feed (starts_at F.Feed (G.meaning wired.a)
+        (G.meaning wired.b) (G.meaning wired.host) wired.turns wired.at_a wired.at_b
+        wired.at_host) e) }
 {
     let Wired {
         node,
@@ -204,6 +234,10 @@ pub(crate) fn run_branded<
     G: Framing + Send,
     F: Feed + Send,
     W: Threads + Wait + Sync,
->(rt: &W, wired: Wired<N, G, F>) -> Result<NodeEnd<F>, CrewFault> {
+>(rt: &W, wired: Wired<N, G, F>) -> Result<NodeEnd<F>, CrewFault>
+    ensures { IfOk result (λ e. NodeRan F.Feed (starts_at F.Feed (G.meaning wired.a)
+        (G.meaning wired.b) (G.meaning wired.host) wired.turns wired.at_a wired.at_b
+        wired.at_host) e) }
+{
     run_node::<N, Brand, G, F, W>(rt, wired, Blank::new(5))
 }

@@ -1,7 +1,9 @@
 //! Rings, run by threads.
 
-ghost use Rattle.std.specs.Prelude.{◌≡◌, ◌<◌, ◌↔◌, ◌⊎◌, ℕ, vec_len, slice_index_or, IfOk, IsErrOf};
+ghost use Rattle.std.specs.Prelude.{◌≡◌, ◌<◌, ◌↔◌, ◌⊎◌, ℕ, map, vec_len, slice_index_or, IfOk, IsErrOf};
+ghost use Rattle.sr_threaded.specs.Joined.{AreUnused, ring_wires_of};
 ghost use Rattle.sr_threaded.specs.Judged.{IsJudged, before, behind};
+ghost use Rattle.sr_threaded.specs.Ran.{RanInRing, WiredInRing, ring_starts, starts_at};
 
 use crate::judging::judge_ring;
 use crate::lists::join_all;
@@ -23,7 +25,12 @@ fn in_ring<N: Role, G: Framing, F: Feed>(
     kit: NodeKit<N, G, F>,
     at: (Ends, Ends),
     turns: u64,
-) -> Wired<N, G, F> {
+) -> Wired<N, G, F>
+    ensures starts { AreUnused at → starts_at F.Feed (G.meaning result.a) (G.meaning result.b)
+        (G.meaning result.host) result.turns result.at_a result.at_b result.at_host
+        ≡ ring_starts F.Feed (G.meaning kit.a) (G.meaning kit.b) (G.meaning kit.host) turns
+        kit.feed (ring_wires_of at) }
+{
     let (at_a, at_b) = at;
     let at_a = Line::Ring(Cable::new(alloc, at_a));
     let at_b = Line::Ring(Cable::new(alloc, at_b));
@@ -37,7 +44,12 @@ fn all_in_ring<N: Role, G: Framing, F: Feed>(
     turns: u64,
 ) -> Result<Vec<Wired<N, G, F>>, NoMemory>
     requires { 0 < vec_len kits }
-    ensures { IfOk result (λ v. vec_len v ≡ vec_len kits) }
+    ensures len { IfOk result (λ v. vec_len v ≡ vec_len kits) }
+    ensures wired { IfOk result (λ v. WiredInRing
+        (map (λ k. ring_starts F.Feed (G.meaning k.a) (G.meaning k.b) (G.meaning k.host) turns
+        k.feed) kits.items)
+        (map (λ w. starts_at F.Feed (G.meaning w.a) (G.meaning w.b) (G.meaning w.host) w.turns
+        w.at_a w.at_b w.at_host) v.items)) }
 {
     let ends = match ring_wires(alloc, kits.len()) {
         Ok(ends) => ends,
@@ -46,9 +58,12 @@ fn all_in_ring<N: Role, G: Framing, F: Feed>(
             return Err(refused);
         }
     };
-    let join = |kit: NodeKit<N, G, F>, at: (Ends, Ends)| -> Wired<N, G, F> {
-        in_ring(alloc, kit, at, turns)
-    };
+    let join = |kit: NodeKit<N, G, F>, at: (Ends, Ends)| -> Wired<N, G, F>
+        ensures { AreUnused at → starts_at F.Feed (G.meaning result.a) (G.meaning result.b)
+            (G.meaning result.host) result.turns result.at_a result.at_b result.at_host
+            ≡ ring_starts F.Feed (G.meaning kit.a) (G.meaning kit.b) (G.meaning kit.host) turns
+            kit.feed (ring_wires_of at) }
+    { in_ring(alloc, kit, at, turns) };
     join_all(alloc, kits, ends, &join)
 }
 
@@ -57,6 +72,7 @@ fn judged<F: Feed>(
     alloc: Global,
     ends: Vec<NodeEnd<F>>,
 ) -> Result<(Vec<NodeEnd<F>>, Vec<Judgement>), NetworkFault>
+    ensures ends { IfOk result (λ r. r.0 ≡ ends) }
     ensures count { IfOk result (λ r. vec_len r.0 ≡ vec_len ends) }
     ensures each { IfOk result (λ r. (i : ℕ) (e : _) (j : _) → i < vec_len r.0 → IsJudged
         (slice_index_or r.0.items (before i (vec_len r.0)) e).logs.items
@@ -97,6 +113,11 @@ pub fn run_ring<N: Role + Send, G: Framing + Send, F: Feed + Send, W: Threads + 
         (slice_index_or r.0.items i e).logs.items
         (slice_index_or r.0.items (behind i (vec_len r.0)) e).logs.items
         (slice_index_or r.1.items i j)) }
+
+    // Wires join B of each node to A of the next, and each worker did what a worker does, at its wires or at its host's feed.
+    ensures ran { IfOk result (λ r. RanInRing F.Feed
+        (map (λ k. ring_starts F.Feed (G.meaning k.a) (G.meaning k.b) (G.meaning k.host) turns
+        k.feed) kits.items) r.0.items) }
 {
     if kits.len() < FEWEST_NODES || kits.len() > MOST_NODES {
         return Err(NetworkFault::Size);

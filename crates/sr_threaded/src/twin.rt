@@ -1,6 +1,9 @@
 //! Two LANs, run by threads.
 
-ghost use Rattle.std.specs.Prelude.{◌≡◌, ◌<◌, ◌↔◌, ◌⊎◌, ℕ, vec_len, slice_index_or, IfOk, IsErrOf};
+ghost use Rattle.std.specs.Prelude.{◌≡◌, ◌<◌, ◌↔◌, ◌⊎◌, ℕ, map, vec_len, slice_index_or, IfOk, IsErrOf};
+ghost use Rattle.sr_lines.specs.Names.{all_wires};
+ghost use Rattle.sr_threaded.specs.Joined.{IsLan};
+ghost use Rattle.sr_threaded.specs.Ran.{RanInLans, WiredInLans, lan_starts, starts_at};
 ghost use Rattle.sr_threaded.specs.Sources.{IsJudgedInLans};
 
 use crate::lists::join_all;
@@ -26,11 +29,16 @@ struct TwinEnds {
 
 // The ends of all nodes' wires.
 fn twin_wires(alloc: Global, count: usize) -> Result<Vec<TwinEnds>, NoMemory>
-    ensures { IfOk result (λ v. vec_len v ≡ count) }
+    ensures len { IfOk result (λ v. vec_len v ≡ count) }
+    ensures a { IfOk result (λ v. IsLan (map (λ t. all_wires t.a.items) v.items)) }
+    ensures b { IfOk result (λ v. IsLan (map (λ t. all_wires t.b.items) v.items)) }
 {
     let a = lan_wires(alloc, count)?;
     let b = lan_wires(alloc, count)?;
-    let both = |a: Vec<Ends>, b: Vec<Ends>| -> TwinEnds { TwinEnds { a, b } };
+    let both = |a: Vec<Ends>, b: Vec<Ends>| -> TwinEnds
+        ensures a { result.a ≡ a }
+        ensures b { result.b ≡ b }
+    { TwinEnds { a, b } };
     join_all(alloc, a, b, &both)
 }
 
@@ -40,7 +48,12 @@ fn in_lans<N: Role, G: Framing, F: Feed>(
     kit: NodeKit<N, G, F>,
     at: TwinEnds,
     turns: u64,
-) -> Wired<N, G, F> {
+) -> Wired<N, G, F>
+    ensures starts { starts_at F.Feed (G.meaning result.a) (G.meaning result.b)
+        (G.meaning result.host) result.turns result.at_a result.at_b result.at_host
+        ≡ lan_starts F.Feed (G.meaning kit.a) (G.meaning kit.b) (G.meaning kit.host) turns
+        kit.feed (all_wires at.a.items) (all_wires at.b.items) }
+{
     let TwinEnds { a, b } = at;
     let at_a = Line::Lan(Lan::new(alloc, a));
     let at_b = Line::Lan(Lan::new(alloc, b));
@@ -53,7 +66,12 @@ fn all_in_lans<N: Role, G: Framing, F: Feed>(
     kits: Vec<NodeKit<N, G, F>>,
     turns: u64,
 ) -> Result<Vec<Wired<N, G, F>>, NoMemory>
-    ensures { IfOk result (λ v. vec_len v ≡ vec_len kits) }
+    ensures len { IfOk result (λ v. vec_len v ≡ vec_len kits) }
+    ensures wired { IfOk result (λ v. WiredInLans
+        (map (λ k. lan_starts F.Feed (G.meaning k.a) (G.meaning k.b) (G.meaning k.host) turns
+        k.feed) kits.items)
+        (map (λ w. starts_at F.Feed (G.meaning w.a) (G.meaning w.b) (G.meaning w.host) w.turns
+        w.at_a w.at_b w.at_host) v.items)) }
 {
     let ends = match twin_wires(alloc, kits.len()) {
         Ok(ends) => ends,
@@ -62,9 +80,12 @@ fn all_in_lans<N: Role, G: Framing, F: Feed>(
             return Err(refused);
         }
     };
-    let join = |kit: NodeKit<N, G, F>, at: TwinEnds| -> Wired<N, G, F> {
-        in_lans(alloc, kit, at, turns)
-    };
+    let join = |kit: NodeKit<N, G, F>, at: TwinEnds| -> Wired<N, G, F>
+        ensures { starts_at F.Feed (G.meaning result.a) (G.meaning result.b)
+            (G.meaning result.host) result.turns result.at_a result.at_b result.at_host
+            ≡ lan_starts F.Feed (G.meaning kit.a) (G.meaning kit.b) (G.meaning kit.host) turns
+            kit.feed (all_wires at.a.items) (all_wires at.b.items) }
+    { in_lans(alloc, kit, at, turns) };
     join_all(alloc, kits, ends, &join)
 }
 
@@ -73,6 +94,7 @@ fn judged<F: Feed>(
     alloc: Global,
     ends: Vec<NodeEnd<F>>,
 ) -> Result<(Vec<NodeEnd<F>>, Vec<Judgement>), NetworkFault>
+    ensures ends { IfOk result (λ r. r.0 ≡ ends) }
     ensures count { IfOk result (λ r. vec_len r.0 ≡ vec_len ends) }
     ensures each { IfOk result (λ r. (i : ℕ) (e : _) (j : _) → i < vec_len r.0
         → IsJudgedInLans r.0.items (slice_index_or r.0.items i e)
@@ -109,6 +131,11 @@ pub fn run_twin<N: Role + Send, G: Framing + Send, F: Feed + Send, W: Threads + 
     ensures each { IfOk result (λ r. (i : ℕ) (e : _) (j : _) → i < vec_len r.0
         → IsJudgedInLans r.0.items (slice_index_or r.0.items i e)
         (slice_index_or r.1.items i j)) }
+
+    // In each LAN wires join every two nodes, and each worker did what a worker does, at its wires or at its host's feed.
+    ensures ran { IfOk result (λ r. RanInLans F.Feed
+        (map (λ k. lan_starts F.Feed (G.meaning k.a) (G.meaning k.b) (G.meaning k.host) turns
+        k.feed) kits.items) r.0.items) }
 {
     if kits.len() < FEWEST_NODES || kits.len() > MOST_NODES {
         return Err(NetworkFault::Size);

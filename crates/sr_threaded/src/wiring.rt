@@ -1,9 +1,10 @@
 //! The wires of networks.
 
-ghost use Rattle.std.specs.Prelude.{◌≡◌, ◌<◌, IfOk, vec_len};
+ghost use Rattle.std.specs.Prelude.{◌≡◌, ◌<◌, ◌+◌, ◌++◌, ◌∷◌, [], IfOk, vec_len};
 ghost use Rattle.std.specs.Arc.{arc_value};
 ghost use Rattle.sr_lines.specs.Names.{end_wires};
 ghost use Rattle.sr_lines.specs.Pairs.{AreLinked};
+ghost use Rattle.sr_threaded.specs.Joined.{IsRing, IsLan, AllUnused, AreUnused, IsUnused, ring_wires, lan_wires};
 
 use sr_frame::NoMemory;
 use sr_lines::Ends;
@@ -23,7 +24,9 @@ fn shared(alloc: Global, wire: Wire) -> Result<Arc<Wire>, NoMemory>
 
 // The two ends of a link of two wires, one each way.
 fn link(alloc: Global) -> Result<(Ends, Ends), NoMemory>
-    ensures { IfOk result (λ r. AreLinked (end_wires r.0) (end_wires r.1)) }
+    ensures joined { IfOk result (λ r. AreLinked (end_wires r.0) (end_wires r.1)) }
+    ensures first { IfOk result (λ r. IsUnused r.0) }
+    ensures second { IfOk result (λ r. IsUnused r.1) }
 {
     let (on, on_send, on_take) = Wire::new(alloc)?;
     let (back, back_send, back_take) = Wire::new(alloc)?;
@@ -39,7 +42,9 @@ fn link(alloc: Global) -> Result<(Ends, Ends), NoMemory>
 /// The ends at A and at B of each node of a ring of so many: from B of each to A of the next. NoMemory: an allocation failed.
 pub(crate) fn ring_wires(alloc: Global, count: usize) -> Result<Vec<(Ends, Ends)>, NoMemory>
     requires { 0 < count }
-    ensures { IfOk result (λ v. vec_len v ≡ count) }
+    ensures len { IfOk result (λ v. vec_len v ≡ count) }
+    ensures ring { IfOk result (λ v. IsRing (ring_wires v.items)) }
+    ensures unused { IfOk result (λ v. AllUnused v.items) }
 {
     let mut all = Vec::new(alloc);
     let (last_b, first_a) = link(alloc)?;
@@ -55,47 +60,45 @@ pub(crate) fn ring_wires(alloc: Global, count: usize) -> Result<Vec<(Ends, Ends)
     Ok(all)
 }
 
-// So many lists of no ends.
-fn no_ends(alloc: Global, count: usize) -> Result<Vec<Vec<Ends>>, NoMemory>
-    ensures { IfOk result (λ v. vec_len v ≡ count) }
+// The ends of a node, and one more.
+fn with_end(row: Vec<Ends>, end: Ends) -> Result<Vec<Ends>, NoMemory>
+    ensures { IfOk result (λ v. v.items ≡ row.items ++ end ∷ []) }
 {
-    let mut rows = Vec::new(alloc);
-    for _row in 0..count {
-        rows.reserve(1)?;
-        rows.push_reserved(Vec::new(alloc));
-    }
-    Ok(rows)
+    let mut row = row;
+    row.reserve(1)?;
+    row.push_reserved(end);
+    Ok(row)
 }
 
-// Joins a node to each of these.
-fn join_to(alloc: Global, first: &mut Vec<Ends>, others: &mut [Vec<Ends>]) -> Result<(), NoMemory> {
-    for other in others.iter_mut() {
-        let (here, there) = link(alloc)?;
-        first.reserve(1)?;
-        other.reserve(1)?;
-        first.push_reserved(here);
-        other.push_reserved(there);
+// The ends of these nodes of a LAN and of one more, which is joined to each of them.
+fn with_node(alloc: Global, rows: Vec<Vec<Ends>>) -> Result<Vec<Vec<Ends>>, NoMemory>
+    requires { IsLan (lan_wires rows.items) }
+    ensures len { IfOk result (λ v. vec_len v ≡ vec_len rows + 1) }
+    ensures lan { IfOk result (λ v. IsLan (lan_wires v.items)) }
+{
+    let mut all = Vec::new(alloc);
+    let mut own = Vec::new(alloc);
+    for row in rows {
+        let (there, here) = link(alloc)?;
+        let row = with_end(row, there)?;
+        all.reserve(1)?;
+        all.push_reserved(row);
+        own = with_end(own, here)?;
     }
-    Ok(())
-}
-
-// Joins each of these nodes to those behind it.
-fn join_each(alloc: Global, rows: &mut [Vec<Ends>]) -> Result<(), NoMemory> {
-    for at in 0..rows.len() {
-        let (_, behind) = rows.split_at_mut(at);
-        if let Some((first, others)) = behind.split_first_mut() {
-            join_to(alloc, first, others)?;
-        }
-    }
-    Ok(())
+    all.reserve(1)?;
+    all.push_reserved(own);
+    Ok(all)
 }
 
 /// The ends of each of so many nodes at a LAN: the wires to and from each other node, in the order of the nodes. NoMemory: an
 /// allocation failed.
 pub(crate) fn lan_wires(alloc: Global, count: usize) -> Result<Vec<Vec<Ends>>, NoMemory>
-    ensures { IfOk result (λ v. vec_len v ≡ count) }
+    ensures len { IfOk result (λ v. vec_len v ≡ count) }
+    ensures lan { IfOk result (λ v. IsLan (lan_wires v.items)) }
 {
-    let mut rows = no_ends(alloc, count)?;
-    join_each(alloc, rows.as_mut_slice())?;
+    let mut rows = Vec::new(alloc);
+    for _node in 0..count {
+        rows = with_node(alloc, rows)?;
+    }
     Ok(rows)
 }
