@@ -5,11 +5,12 @@ use sr_forwarding::{HsrFraming, OwnRole, PrpFraming};
 use sr_frame::{Frame, Mac};
 use sr_lines::Line;
 use sr_node::{Answer, Event, NodeOf};
+use sr_plant_script::{Member, MemberRouting};
 use sr_ports::{Log, Settlement, Worker};
 use sr_prp_trailer::Lan;
 use sr_sequence::Seq;
 use sr_threaded::{Judgement, NetworkFault, NodeEnd, NodeKit, run_ring, run_twin, settlement_of};
-use sr_threaded_script::{Member, MemberRouting, PortFraming, ThreadedNet};
+use sr_threaded_script::{PortFraming, ThreadedNet};
 use std::alloc::Global;
 use std::process::Abort;
 use std::sync::atomic::{AtomicU64, Ordering};
@@ -67,6 +68,14 @@ fn host_of(
     })
 }
 
+// Where frames go at a node.
+fn routing_of(net: ThreadedNet) -> MemberRouting {
+    match net {
+        ThreadedNet::Ring => MemberRouting::Danh,
+        ThreadedNet::TwinLan => MemberRouting::Danp,
+    }
+}
+
 // How the ports A and B of a node carry frames.
 fn framings_of(net: ThreadedNet) -> (PortFraming, PortFraming) {
     match net {
@@ -96,7 +105,7 @@ fn kit_of(
 ) -> Option<NodeKit<Member, PortFraming, Host>> {
     let feed = host_of(alloc, number, asked, missed)?;
     let (a, b) = framings_of(net);
-    let role = OwnRole::of(Mac([2, 0, 0, 0, 0, number]), MemberRouting { net });
+    let role = OwnRole::of(Mac([2, 0, 0, 0, 0, number]), routing_of(net));
     match NodeOf::new(alloc, role) {
         Ok(node) => Some(NodeKit {
             node,
