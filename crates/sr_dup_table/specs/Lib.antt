@@ -8,3 +8,4 @@ pub mod Same
 pub mod Joins
 pub mod JoinLaws
 pub mod Ageing
+pub mod FaultCodes

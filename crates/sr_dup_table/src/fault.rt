@@ -1,5 +1,6 @@
 //! Why a table of duplicate records refuses.
 ghost use Rattle.std.specs.Prelude.{◌≡◌};
+ghost use Rattle.sr_dup_table.specs.FaultCodes.{dup_code};
 
 use sr_frame::{Mac, NoMemory};
 use thiserror::Error;
@@ -27,6 +28,21 @@ pub enum DupFault {
     /// What was given is no snapshot of a table.
     #[error("no snapshot of a duplicate table")]
     BadSnapshot,
+}
+
+impl DupFault {
+    /// The code of the fault, as the README of this crate lists them (choice of this project).
+    pub fn code(self) -> &'static str
+        ensures { result.now ≡ dup_code self }
+    {
+        match self {
+            DupFault::TableFull => "U1",
+            DupFault::NoMemory => "U2",
+            DupFault::Apart(_) => "U3",
+            DupFault::BadSnapshot => "U4",
+            DupFault::OtherWidth => "U5",
+        }
+    }
 }
 
 impl From<NoMemory> for DupFault {

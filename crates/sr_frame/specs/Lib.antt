@@ -5,3 +5,4 @@ pub mod AddressLemmas
 pub mod OctetLemmas
 pub mod FrameLemmas
 pub mod LengthLemmas
+pub mod FaultCodes

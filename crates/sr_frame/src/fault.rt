@@ -1,6 +1,7 @@
 //! Why octets are no frame, and want of memory.
 
 ghost use Rattle.std.specs.Prelude.{◌≡◌};
+ghost use Rattle.sr_frame.specs.FaultCodes.{frame_code};
 
 use std::alloc::AllocError;
 use thiserror::Error;
@@ -22,6 +23,19 @@ pub enum FrameFault {
     /// A growth was refused.
     #[error("out of memory")]
     NoMemory,
+}
+
+impl FrameFault {
+    /// The code of the fault, as the README of this crate lists them (choice of this project).
+    pub fn code(self) -> &'static str
+        ensures { result.now ≡ frame_code self }
+    {
+        match self {
+            FrameFault::TooShort => "F1",
+            FrameFault::TooLong => "F2",
+            FrameFault::NoMemory => "F3",
+        }
+    }
 }
 
 impl From<AllocError> for FrameFault {

@@ -1,3 +1,4 @@
 pub mod Faults
 pub mod Tagged
 pub mod TagLemmas
+pub mod FaultCodes

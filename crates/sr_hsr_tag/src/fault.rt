@@ -1,6 +1,7 @@
 //! Why a tag could not be read or taken out.
 
 ghost use Rattle.std.specs.Prelude.{◌≡◌};
+ghost use Rattle.sr_hsr_tag.specs.FaultCodes.{tag_code, untag_code};
 
 use sr_frame::NoMemory;
 use thiserror::Error;
@@ -14,6 +15,18 @@ pub enum TagFault {
     /// Fewer than six octets stand behind the type.
     #[error("the HSR tag is cut short")]
     Truncated,
+}
+
+impl TagFault {
+    /// The code of the fault, as the README of this crate lists them (choice of this project).
+    pub fn code(self) -> &'static str
+        ensures { result.now ≡ tag_code self }
+    {
+        match self {
+            TagFault::NotTagged => "H1",
+            TagFault::Truncated => "H2",
+        }
+    }
 }
 
 /// Why a tag could not be taken out.
@@ -31,6 +44,20 @@ pub enum UntagFault {
     /// Memory ran out.
     #[error("out of memory")]
     NoMemory,
+}
+
+impl UntagFault {
+    /// The code of the fault, as the README of this crate lists them (choice of this project).
+    pub fn code(self) -> &'static str
+        ensures { result.now ≡ untag_code self }
+    {
+        match self {
+            UntagFault::NotTagged => "H1",
+            UntagFault::Truncated => "H2",
+            UntagFault::TooShort => "F1",
+            UntagFault::NoMemory => "F3",
+        }
+    }
 }
 
 impl From<TagFault> for UntagFault {

@@ -11,3 +11,4 @@ pub mod Given
 pub mod Carrying
 pub mod Building
 pub mod Coupled
+pub mod FaultNumbers

@@ -1,6 +1,7 @@
 //! Why a plant is not made, or refuses an event.
 
 ghost use Rattle.std.specs.Prelude.{◌≡◌};
+ghost use Rattle.sr_plant.specs.FaultNumbers.{plant_number};
 
 use sr_frame::NoMemory;
 use sr_node::StepFault;
@@ -29,6 +30,22 @@ pub enum PlantFault {
     /// 6: memory ran out.
     #[error("out of memory")]
     NoMemory,
+}
+
+impl PlantFault {
+    /// The number of the fault, as the README of this crate lists them (choice of this project).
+    pub fn number(self) -> u8
+        ensures { result ≡ plant_number self }
+    {
+        match self {
+            PlantFault::NoSuchNode => 1,
+            PlantFault::NoSuchCopy => 2,
+            PlantFault::ClockBack => 3,
+            PlantFault::Node(_) => 4,
+            PlantFault::BadPlant => 5,
+            PlantFault::NoMemory => 6,
+        }
+    }
 }
 
 impl From<NoMemory> for PlantFault {

@@ -1,6 +1,7 @@
 //! Why a trailer could not be taken off.
 
 ghost use Rattle.std.specs.Prelude.{◌≡◌};
+ghost use Rattle.sr_prp_trailer.specs.FaultCodes.{strip_code};
 
 use sr_frame::NoMemory;
 use std::alloc::AllocError;
@@ -15,6 +16,18 @@ pub enum StripFault {
     /// A growth was refused.
     #[error("out of memory")]
     NoMemory,
+}
+
+impl StripFault {
+    /// The code of the fault, as the README of this crate lists them (choice of this project).
+    pub fn code(self) -> &'static str
+        ensures { result.now ≡ strip_code self }
+    {
+        match self {
+            StripFault::NoTrailer => "L1",
+            StripFault::NoMemory => "F3",
+        }
+    }
 }
 
 impl From<NoMemory> for StripFault {

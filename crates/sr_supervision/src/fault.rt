@@ -1,5 +1,8 @@
 //! Why a frame is no supervision that can be read.
 
+ghost use Rattle.std.specs.Prelude.{◌≡◌};
+ghost use Rattle.sr_supervision.specs.FaultCodes.{sup_code};
+
 use thiserror::Error;
 
 /// Why a frame is no supervision that can be read. Of two reasons the one that stands first in the frame is given.
@@ -17,4 +20,18 @@ pub enum SupFault {
     /// The payload ends within the version and number, before the first TLV, or within a TLV.
     #[error("the supervision is cut short")]
     Truncated,
+}
+
+impl SupFault {
+    /// The code of the fault, as the README of this crate lists them (choice of this project).
+    pub fn code(self) -> &'static str
+        ensures { result.now ≡ sup_code self }
+    {
+        match self {
+            SupFault::NotSupervision => "S1",
+            SupFault::Version => "S2",
+            SupFault::FirstTlv => "S3",
+            SupFault::Truncated => "S4",
+        }
+    }
 }

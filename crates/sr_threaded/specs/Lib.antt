@@ -3,3 +3,4 @@ pub mod Judged
 pub mod Losses
 pub mod Ran
 pub mod Sources
+pub mod FaultNumbers

@@ -1,6 +1,7 @@
 //! Why a network was not run.
 
 ghost use Rattle.std.specs.Prelude.{◌≡◌};
+ghost use Rattle.sr_threaded.specs.FaultNumbers.{network_number};
 
 use sr_frame::NoMemory;
 use sr_workers::CrewFault;
@@ -18,6 +19,19 @@ pub enum NetworkFault {
     /// 3: no thread can be started.
     #[error("no thread can be started")]
     NoThread,
+}
+
+impl NetworkFault {
+    /// The number of the fault, as the README of this crate lists them (choice of this project).
+    pub fn number(self) -> u8
+        ensures { result ≡ network_number self }
+    {
+        match self {
+            NetworkFault::Size => 1,
+            NetworkFault::NoMemory => 2,
+            NetworkFault::NoThread => 3,
+        }
+    }
 }
 
 impl From<NoMemory> for NetworkFault {
