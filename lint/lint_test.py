@@ -83,28 +83,28 @@ class Lint(unittest.TestCase):
         source = "crates/sr_one/src/lib.rt"
         for line in [
             "return Err(NoMemory);",
-            "None => Err(Word::Memory),",
+            "None => Err(FaultKind::Memory),",
             "Err(AllocError)",
             "name.ok_or(Fault::NoMemory)",
-            "word: Word::Memory,",
+            "word: FaultKind::Memory,",
             "Fault::NoMemory",
         ]:
             found = self.findings({source: "fn one() {\n    " + line + "\n}\n"})
             self.assertEqual(found, [f"{source}:2: makes want of memory, and passes on none"], line)
         for lines in [
-            "Err(_) => Err(Word::Memory),",
+            "Err(_) => Err(FaultKind::Memory),",
             "Err(ReadFault::NoMemory) => Err(NoMemory),",
             "Fault::NoMemory => None,",
             "Fault::Full | Fault::NoMemory => true,",
             "let Ok(one) = two() else {\n    return Err(NoMemory);\n};",
-            "two().map_err(|_| Word::Memory)",
+            "two().map_err(|_| FaultKind::Memory)",
             "NoMemory::from(two)",
             "fn one() -> Result<(), NoMemory> {",
             "fn one(lack: NoMemory) {}",
             "use sr_frame::{Mac, NoMemory};",
-            "ensures err { IfErr result (λ word. word ≡ Word.Memory) }",
-            "ensures err { IfErr result (λ word.\n    word ≡ Word::Memory) }",
-            "impl From<Lack> for Word {\n    fn from(_lack: Lack) -> Word {\n        Word::Memory\n    }\n}",
+            "ensures err { IfErr result (λ kind. kind ≡ FaultKind.Memory) }",
+            "ensures err { IfErr result (λ word.\n    word ≡ FaultKind::Memory) }",
+            "impl From<Lack> for FaultKind {\n    fn from(_lack: Lack) -> FaultKind {\n        FaultKind::Memory\n    }\n}",
         ]:
             self.assertEqual(self.findings({source: lines + "\n"}), [], lines)
 

@@ -9,7 +9,7 @@ use crate::pipes::{Kept, MOST_KEPT, Pipe};
 use crate::tails::tell_tail;
 use sr_plant_script::{PlantSetup, run_plant};
 use sr_script::{RoleName, Setup, run, run_status, run_tally};
-use sr_session::{Fault, NOT_BEGUN, Word};
+use sr_session::{Fault, FaultKind, NOT_BEGUN};
 use sr_slots::Keys;
 use sr_threaded_script::{ThreadedFault, ThreadedSetup, is_threaded_line, run_threaded};
 use std::alloc::{AllocError, Global};
@@ -27,7 +27,7 @@ const MAX_LINES: u64 = 1_000_000;
 /// No keys could be drawn.
 const UNREAD: Fault = Fault {
     line: 1,
-    word: Word::Read,
+    kind: FaultKind::Read,
 };
 
 /// A script that is read ahead.
@@ -45,7 +45,7 @@ fn script_of<R: Read + Drop>(alloc: Global, reader: R) -> Result<Script<R>, Allo
 /// Whether a fault of a run is that its line is none of a script.
 fn is_none(outcome: Result<(), Fault>) -> bool {
     match outcome {
-        Err(fault) => fault.word == Word::Line,
+        Err(fault) => fault.kind == FaultKind::Line,
         Ok(()) => false,
     }
 }
@@ -167,14 +167,14 @@ fn again_of<R: Read + Drop>(
 
 /// Says what ended a run, but where nobody reads any more what it writes. True where a line is to be explained.
 fn tell<R: Eprint>(rt: &R, fault: Fault, is_closed: bool, ends: &Ends) -> bool {
-    if fault.word == Word::Write && is_closed {
+    if fault.kind == FaultKind::Write && is_closed {
         return false;
     }
     let _ = eprintln!(rt; "{fault}");
-    if fault.word == Word::Long {
+    if fault.kind == FaultKind::Long {
         tell_long(rt, fault.line, ends.taken());
     }
-    fault.word == Word::Line
+    fault.kind == FaultKind::Line
 }
 
 /// Says what is wrong with the line that ended a run: the one that was taken last, if that is none of a script, else the next.

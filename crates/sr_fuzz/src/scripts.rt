@@ -7,7 +7,7 @@ use sr_frame::Mac;
 use sr_node::{Mode, Settings};
 use sr_prp_trailer::Lan;
 use sr_script::{PrpRouting, RoleName, Setup, run, run_status, run_tally};
-use sr_session::{Fault, Word};
+use sr_session::{Fault, FaultKind};
 use sr_slots::Keys;
 use std::alloc::Global;
 
@@ -55,12 +55,12 @@ fn end_of(outcome: Result<(), Fault>) -> Option<(u64, u8)> {
     let Err(fault) = outcome else {
         return Some((0, 0));
     };
-    let word = match fault.word {
-        Word::Line => 1,
-        Word::Long => 2,
-        Word::Read => 3,
-        Word::Write => 4,
-        Word::Memory => return None,
+    let word = match fault.kind {
+        FaultKind::Line => 1,
+        FaultKind::Long => 2,
+        FaultKind::Read => 3,
+        FaultKind::Write => 4,
+        FaultKind::Memory => return None,
     };
     Some((fault.line, word))
 }

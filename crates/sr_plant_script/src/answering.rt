@@ -14,7 +14,7 @@ use crate::reading::command_of;
 use crate::refusing::tell_refusal;
 use crate::sending::{send_refusal, sent_frame};
 use sr_plant::PlantEvent;
-use sr_session::Word;
+use sr_session::FaultKind;
 use sr_text::Text;
 use std::alloc::Global;
 
@@ -40,12 +40,12 @@ fn send(
     receiver: Receiver,
     octets: &[u8],
     text: &mut Text,
-) -> Result<(), Word>
+) -> Result<(), FaultKind>
     requires { text.old ≡ [] }
     ensures ok { OnOk result (Sends network.old number node receiver octets.now
         (send_refusal (length network.old.nodes) node receiver (length octets.now))
         text.new network.new) }
-    ensures err { IfErr result (λ word. word ≡ Word.Memory) }
+    ensures err { IfErr result (λ kind. kind ≡ FaultKind.Memory) }
 {
     if let Some(fault) = send_refusal(network.node_count(), node, receiver, octets) {
         return tell_refusal(text, number, fault);
@@ -62,11 +62,11 @@ fn obey(
     command: Command,
     octets: &[u8],
     text: &mut Text,
-) -> Result<(), Word>
+) -> Result<(), FaultKind>
     requires { text.old ≡ [] }
     ensures ok { OnOk result
         (Obeys network.old number command octets.now text.new network.new) }
-    ensures err { IfErr result (λ word. word ≡ Word.Memory) }
+    ensures err { IfErr result (λ kind. kind ≡ FaultKind.Memory) }
 {
     match command {
         Command::Skip => Ok(()),
@@ -90,13 +90,13 @@ pub(crate) fn answer(
     line: &[u8],
     octets: &mut Vec<u8>,
     text: &mut Text,
-) -> Result<(), Word>
+) -> Result<(), FaultKind>
     requires { text.old ≡ [] }
     ensures ok { OnOk result (Replied network.old number line.now text.new network.new) }
     ensures known { OnOk result (IsPlantLine line.now) }
-    ensures bad { result ≡ Err Word.Line → IsPlantLine line.now → ⊥ }
-    ensures memory { result ≡ Err Word.Memory → IsPlantLine line.now }
-    ensures fault { IfErr result (λ word. IsOneOf word (Word.Line ∷ Word.Memory ∷ [])) }
+    ensures bad { result ≡ Err FaultKind.Line → IsPlantLine line.now → ⊥ }
+    ensures memory { result ≡ Err FaultKind.Memory → IsPlantLine line.now }
+    ensures fault { IfErr result (λ kind. IsOneOf kind (FaultKind.Line ∷ FaultKind.Memory ∷ [])) }
 {
     let command = command_of(line, octets)?;
     obey(alloc, network, number, command, octets, text)

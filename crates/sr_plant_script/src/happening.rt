@@ -8,18 +8,18 @@ use crate::network::Network;
 use crate::printing::{append_all_ups, append_flow};
 use crate::refusing::tell_refusal;
 use sr_plant::PlantEvent;
-use sr_session::Word;
+use sr_session::FaultKind;
 use sr_text::Text;
 
 /// The most carries of one flow.
 const MAX_CARRIES: usize = 100_000;
 
 /// What was handed up is printed and let go.
-fn take_up(network: &mut Network, text: &mut Text) -> Result<(), Word>
+fn take_up(network: &mut Network, text: &mut Text) -> Result<(), FaultKind>
     ensures told { OnOk result (text.new
         ≡ text.old ++ all_up_lines 0 network.old.handed) }
     ensures left { OnOk result (network.new ≡ taken_up network.old) }
-    ensures err { IfErr result (λ word. word ≡ Word.Memory) }
+    ensures err { IfErr result (λ kind. kind ≡ FaultKind.Memory) }
 {
     append_all_ups(text, network.handed())?;
     network.let_go();
@@ -32,11 +32,11 @@ pub(crate) fn happen(
     number: u64,
     event: &PlantEvent,
     text: &mut Text,
-) -> Result<(), Word>
+) -> Result<(), FaultKind>
     ensures ok { OnOk result ((told : List ℕ)
         × Happens network.old number event.now told network.new
         × (text.new ≡ text.old ++ told)) }
-    ensures err { IfErr result (λ word. word ≡ Word.Memory) }
+    ensures err { IfErr result (λ kind. kind ≡ FaultKind.Memory) }
 {
     if let Err(fault) = network.apply(event) {
         return tell_refusal(text, number, fault);
@@ -45,10 +45,10 @@ pub(crate) fn happen(
 }
 
 /// The first copy is carried, again and again, until none is in flight or a flow has no carries left.
-pub(crate) fn flow(network: &mut Network, number: u64, text: &mut Text) -> Result<(), Word>
+pub(crate) fn flow(network: &mut Network, number: u64, text: &mut Text) -> Result<(), FaultKind>
     ensures ok { OnOk result ((told : List ℕ) × Flows network.old number told network.new
         × (text.new ≡ text.old ++ told)) }
-    ensures err { IfErr result (λ word. word ≡ Word.Memory) }
+    ensures err { IfErr result (λ kind. kind ≡ FaultKind.Memory) }
 {
     for carries in 0..MAX_CARRIES {
         if network.in_flight() == 0 {

@@ -7,7 +7,7 @@ ghost use Rattle.sr_plant_script.specs.Texts.{up_line, up_lines, all_up_lines, f
 
 use itoa::Buffer;
 use sr_forwarding::Parcel;
-use sr_session::Word;
+use sr_session::FaultKind;
 use sr_text::Text;
 use std::alloc::AllocError;
 
@@ -50,9 +50,9 @@ pub(crate) fn append_all_ups(text: &mut Text, handed: &[Vec<Parcel>]) -> Result<
 }
 
 /// Appends the line behind a flow of so many carries.
-pub(crate) fn append_flow(text: &mut Text, carries: usize) -> Result<(), Word>
+pub(crate) fn append_flow(text: &mut Text, carries: usize) -> Result<(), FaultKind>
     ensures ok { OnOk result (text.new ≡ text.old ++ flow_line carries) }
-    ensures err { IfErr result (λ word. word ≡ Word.Memory) }
+    ensures err { IfErr result (λ kind. kind ≡ FaultKind.Memory) }
 {
     text.extend_from_slice(b"flow ")?;
     append_number(text, carries)?;
@@ -61,9 +61,9 @@ pub(crate) fn append_flow(text: &mut Text, carries: usize) -> Result<(), Word>
 }
 
 /// Appends the line at the end: so many copies are in flight.
-pub(crate) fn append_flight(text: &mut Vec<u8>, copies: usize) -> Result<(), Word>
+pub(crate) fn append_flight(text: &mut Vec<u8>, copies: usize) -> Result<(), FaultKind>
     ensures ok { OnOk result (text.new.items ≡ text.old.items ++ flight_line copies) }
-    ensures err { IfErr result (λ word. word ≡ Word.Memory) }
+    ensures err { IfErr result (λ kind. kind ≡ FaultKind.Memory) }
 {
     text.extend_from_slice(b"flight ")?;
     let mut digits = Buffer::new();

@@ -6,7 +6,7 @@ ghost use Rattle.sr_session.specs.Lines.{IsOneOf};
 ghost use Rattle.sr_plant_script.specs.Commands.{word_of, IsReceiver, IsPlaced, AreNumbers, IsTick, IsSending, Says, IsSendLine};
 
 use crate::command::{Command, Receiver, Verb};
-use sr_session::Word;
+use sr_session::FaultKind;
 use sr_words::{behind_send, is_comment, number_of, read_hex, split_word};
 
 /// The number that a word spells, by the rules of a time.
@@ -113,31 +113,31 @@ fn bare_command(line: &[u8]) -> Option<Command>
 }
 
 /// Reads what stands behind the word `send`: the sender, the receiver and the octets.
-fn sending(text: &[u8], octets: &mut Vec<u8>) -> Result<(usize, Receiver), Word>
+fn sending(text: &[u8], octets: &mut Vec<u8>) -> Result<(usize, Receiver), FaultKind>
     ensures found { IfOk result (λ parts. IsSending text.now parts.0 parts.1 octets.new.items) }
     ensures only { (node : ℕ) (receiver : Receiver) (os : List ℕ)
         → IsSending text.now node receiver os
         → MatchResult result (λ parts. (parts ≡ (node, receiver))
-        × (octets.new.items ≡ os)) (λ word. word ≡ Word.Memory) }
-    ensures memory { result ≡ Err Word.Memory
+        × (octets.new.items ≡ os)) (λ kind. kind ≡ FaultKind.Memory) }
+    ensures memory { result ≡ Err FaultKind.Memory
         → (node : ℕ) × (receiver : Receiver) × (os : List ℕ) × IsSending text.now node receiver os }
-    ensures fault { IfErr result (λ word. IsOneOf word (Word.Line ∷ Word.Memory ∷ [])) }
+    ensures fault { IfErr result (λ kind. IsOneOf kind (FaultKind.Line ∷ FaultKind.Memory ∷ [])) }
 {
     let Some((node, rest)) = split_word(text) else {
-        return Err(Word::Line);
+        return Err(FaultKind::Line);
     };
     let Some((receiver, digits)) = split_word(rest) else {
-        return Err(Word::Line);
+        return Err(FaultKind::Line);
     };
     let Some(node) = count_of(node) else {
-        return Err(Word::Line);
+        return Err(FaultKind::Line);
     };
     let Some(receiver) = receiver_of(receiver) else {
-        return Err(Word::Line);
+        return Err(FaultKind::Line);
     };
     match read_hex(digits, octets) {
         Ok(()) => Ok((node, receiver)),
-        Err(word) => Err(word),
+        Err(kind) => Err(kind),
     }
 }
 
@@ -145,23 +145,23 @@ fn sending(text: &[u8], octets: &mut Vec<u8>) -> Result<(usize, Receiver), Word>
 ///
 /// # Errors
 /// `Line` where the line is none of a script, whatever memory there is; `Memory`, of a line that asks that a host sends.
-pub fn command_of(line: &[u8], octets: &mut Vec<u8>) -> Result<Command, Word>
+pub fn command_of(line: &[u8], octets: &mut Vec<u8>) -> Result<Command, FaultKind>
     ensures found { IfOk result (λ command. Says line.now command octets.new.items) }
     ensures only { (command : Command) (os : List ℕ) → Says line.now command os
-        → MatchResult result (λ found. (found ≡ command) × (octets.new.items ≡ os)) (λ word.
-        word ≡ Word.Memory) }
-    ensures memory { result ≡ Err Word.Memory → IsSendLine line.now }
-    ensures fault { IfErr result (λ word. IsOneOf word (Word.Line ∷ Word.Memory ∷ [])) }
+        → MatchResult result (λ found. (found ≡ command) × (octets.new.items ≡ os)) (λ kind.
+        kind ≡ FaultKind.Memory) }
+    ensures memory { result ≡ Err FaultKind.Memory → IsSendLine line.now }
+    ensures fault { IfErr result (λ kind. IsOneOf kind (FaultKind.Line ∷ FaultKind.Memory ∷ [])) }
 {
     if let Some(rest) = behind_send(line) {
         return match sending(rest, octets) {
             Ok((node, receiver)) => Ok(Command::Send(node, receiver)),
-            Err(word) => Err(word),
+            Err(kind) => Err(kind),
         };
     }
     octets.clear();
     match bare_command(line) {
         Some(command) => Ok(command),
-        None => Err(Word::Line),
+        None => Err(FaultKind::Line),
     }
 }

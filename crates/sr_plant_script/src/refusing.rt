@@ -8,20 +8,20 @@ ghost use Rattle.sr_plant_script.specs.Texts.{fault_name};
 
 use sr_plant::PlantFault;
 use sr_script::{append_refusal, name_of};
-use sr_session::Word;
+use sr_session::FaultKind;
 use sr_text::Text;
 
 // A refusal that has no name: the plant or a node wanted memory.
 #[derive(Clone, Copy)]
 struct Nameless;
 
-impl From<Nameless> for Word {
-    ghost use Rattle.sr_session.specs.declared.fault.Word.TheVariants.{Memory};
+impl From<Nameless> for FaultKind {
+    ghost use Rattle.sr_session.specs.declared.fault.FaultKind.TheVariants.{Memory};
 
-    ghost from_gives = { λ _ word. word ≡ Memory };
+    ghost from_gives = { λ _ kind. kind ≡ Memory };
 
-    fn from(_refusal: Nameless) -> Word {
-        Word::Memory
+    fn from(_refusal: Nameless) -> FaultKind {
+        FaultKind::Memory
     }
 }
 
@@ -43,11 +43,11 @@ fn fault_name(fault: PlantFault) -> Option<&'static str>
 ///
 /// # Errors
 /// `Memory`, also where the reason is a failed allocation, which has no line. The text may then have a part of the line.
-pub fn tell_refusal(text: &mut Text, number: u64, fault: PlantFault) -> Result<(), Word>
+pub fn tell_refusal(text: &mut Text, number: u64, fault: PlantFault) -> Result<(), FaultKind>
     ensures ok { OnOk result ((name : List ℕ) × (fault_name fault ≡ Some name)
         × (text.new ≡ text.old ++ refusal_line number name)) }
     ensures kept { OnErr result (StillHolds text.old text.new) }
-    ensures err { IfErr result (λ word. word ≡ Word.Memory) }
+    ensures err { IfErr result (λ kind. kind ≡ FaultKind.Memory) }
 {
     append_refusal(text, number, fault_name(fault).ok_or(Nameless)?)
 }

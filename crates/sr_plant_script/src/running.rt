@@ -10,7 +10,7 @@ use crate::answering::answer;
 use crate::network::Network;
 use crate::printing::append_flight;
 use crate::setup::PlantSetup;
-use sr_session::{Fault, NOT_BEGUN, Session, Word, run_session};
+use sr_session::{Fault, FaultKind, NOT_BEGUN, Session, run_session};
 use sr_text::Text;
 use std::alloc::Global;
 use std::io::{BufRead, Write};
@@ -36,7 +36,7 @@ impl Session for PlantSession {
 
     ghost dialogue = { plant_dialogue };
 
-    fn answer(&mut self, number: u64, line: &[u8], text: &mut Text) -> Result<(), Word> {
+    fn answer(&mut self, number: u64, line: &[u8], text: &mut Text) -> Result<(), FaultKind> {
         self.printed.truncate(0);
         answer(
             self.alloc,
@@ -50,7 +50,7 @@ impl Session for PlantSession {
         Ok(())
     }
 
-    fn finish(&mut self, text: &mut Vec<u8>) -> Result<(), Word> {
+    fn finish(&mut self, text: &mut Vec<u8>) -> Result<(), FaultKind> {
         append_flight(text, self.network.in_flight())
     }
 }

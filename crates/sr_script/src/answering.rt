@@ -23,7 +23,7 @@ use itoa::Buffer;
 use sr_forwarding::{ReadFault, Role};
 use sr_frame::{Frame, FrameFault, Port, view};
 use sr_node::{Answer, Event, NodeOf, StepFault};
-use sr_session::Word;
+use sr_session::FaultKind;
 use sr_text::Text;
 use std::alloc::{AllocError, Global};
 
@@ -62,10 +62,10 @@ fn append_refused(text: &mut Text, number: u64, name: &str) -> Result<(), AllocE
 ///
 /// # Errors
 /// `Memory`: the list then has a part of the line, or nothing of it.
-pub fn append_refusal(text: &mut Text, number: u64, name: &str) -> Result<(), Word>
+pub fn append_refusal(text: &mut Text, number: u64, name: &str) -> Result<(), FaultKind>
     ensures ok { OnOk result (text.new ≡ text.old ++ refusal_line number name.now) }
     ensures kept { OnErr result (StillHolds text.old text.new) }
-    ensures err { IfErr result (λ word. word ≡ Word.Memory) }
+    ensures err { IfErr result (λ kind. kind ≡ FaultKind.Memory) }
 {
     append_refused(text, number, name)?;
     Ok(())
@@ -151,15 +151,15 @@ fn tick<R: Role>(node: &mut NodeOf<R>, now: u64) -> Result<Answer, StepFault>
 }
 
 /// Appends the line for an event that is refused for this reason.
-pub(crate) fn tell_refusal(text: &mut Text, number: u64, fault: StepFault) -> Result<(), Word>
+pub(crate) fn tell_refusal(text: &mut Text, number: u64, fault: StepFault) -> Result<(), FaultKind>
     ensures ok { OnOk result ((name : List ℕ) × (name_of fault ≡ Some name)
         × (text.new ≡ text.old ++ refusal_line number name)) }
     ensures kept { OnErr result (StillHolds text.old text.new) }
-    ensures err { IfErr result (λ word. word ≡ Word.Memory) }
+    ensures err { IfErr result (λ kind. kind ≡ FaultKind.Memory) }
 {
     match name_of(fault) {
         Some(name) => append_refusal(text, number, name),
-        None => Err(Word::Memory),
+        None => Err(FaultKind::Memory),
     }
 }
 
@@ -173,13 +173,13 @@ fn obey_arrival<R: Role>(
     octets: &[u8],
     time: u64,
     text: &mut Text,
-) -> Result<(), Word>
+) -> Result<(), FaultKind>
     ensures ok { OnOk result ((told : List ℕ)
         × ArrivesSo role (node_state (R.meaning node.old.role) node.old.core) number
         port time octets.now told (node_state (R.meaning node.new.role) node.new.core)
         × (text.new ≡ text.old ++ told)) }
     ensures kept { OnErr result (StillHolds text.old text.new) }
-    ensures err { IfErr result (λ word. word ≡ Word.Memory) }
+    ensures err { IfErr result (λ kind. kind ≡ FaultKind.Memory) }
 {
     match arrive(role, node, port, octets, time) {
         Ok(_) => Ok(()),
@@ -196,13 +196,13 @@ pub(crate) fn obey<R: Role>(
     command: Command,
     octets: &mut Vec<u8>,
     text: &mut Text,
-) -> Result<(), Word>
+) -> Result<(), FaultKind>
     ensures ok { OnOk result ((told : List ℕ)
         × Obeys role (node_state (R.meaning node.old.role) node.old.core) number
         command octets.old.items told (node_state (R.meaning node.new.role) node.new.core)
         × (text.new ≡ text.old ++ told)) }
     ensures kept { OnErr result (StillHolds text.old text.new) }
-    ensures err { IfErr result (λ word. word ≡ Word.Memory) }
+    ensures err { IfErr result (λ kind. kind ≡ FaultKind.Memory) }
 {
     match command {
         Command::Skip => Ok(()),
@@ -233,16 +233,16 @@ pub(crate) fn answer<R: Role>(
     octets: &mut Vec<u8>,
     frame: &mut Vec<u8>,
     text: &mut Text,
-) -> Result<(), Word>
+) -> Result<(), FaultKind>
     ensures ok { OnOk result ((answer : List ℕ)
         × Replied role (node_state (R.meaning node.old.role) node.old.core) number line.now
         answer (node_state (R.meaning node.new.role) node.new.core)
         × (text.new ≡ text.old ++ answer)) }
     ensures kept { OnErr result (StillHolds text.old text.new) }
     ensures known { OnOk result (IsEventLine role line.now) }
-    ensures bad { result ≡ Err Word.Line → IsEventLine role line.now → ⊥ }
-    ensures memory { result ≡ Err Word.Memory → IsEventLine role line.now }
-    ensures fault { IfErr result (λ word. IsOneOf word (Word.Line ∷ Word.Memory ∷ [])) }
+    ensures bad { result ≡ Err FaultKind.Line → IsEventLine role line.now → ⊥ }
+    ensures memory { result ≡ Err FaultKind.Memory → IsEventLine role line.now }
+    ensures fault { IfErr result (λ kind. IsOneOf kind (FaultKind.Line ∷ FaultKind.Memory ∷ [])) }
 {
     let command = command_of(role, line, octets)?;
     obey(alloc, role, node, number, command, octets, text)?;
@@ -264,7 +264,7 @@ pub(crate) fn answer_front<R: Role>(
     octets: &mut [u8],
     frame: &mut Vec<u8>,
     text: &mut Text,
-) -> Result<Option<usize>, Word>
+) -> Result<Option<usize>, FaultKind>
     ensures ok { IfOk result (λ length. AnswersFront replay_dialogue
         (at_work role (node_state (R.meaning node.old.role) node.old.core)) number front.now length
         text.old text.new
@@ -272,7 +272,7 @@ pub(crate) fn answer_front<R: Role>(
     ensures kept { OnErr result (StillHolds text.old text.new) }
     ensures known { OnErr result (KnowsFront replay_dialogue
         (at_work role (node_state (R.meaning node.old.role) node.old.core)) front.now) }
-    ensures err { IfErr result (λ word. word ≡ Word.Memory) }
+    ensures err { IfErr result (λ kind. kind ≡ FaultKind.Memory) }
 {
     let Some(arrival) = arrival_at(role, front, octets) else {
         return Ok(None);

@@ -11,7 +11,7 @@ use crate::status_lines::name_of;
 use sr_forwarding::Role;
 use sr_frame::Port;
 use sr_node::NodeOf;
-use sr_session::Word;
+use sr_session::FaultKind;
 use std::io::Write;
 
 /// Appends the words of a port.
@@ -21,10 +21,10 @@ fn append_words(
     frames: u64,
     wrong_lan: u64,
     refused: u64,
-) -> Result<(), Word>
+) -> Result<(), FaultKind>
     ensures ok { OnOk result (text.new.items ≡ text.old.items
         ++ spaced (port_words port frames wrong_lan refused)) }
-    ensures err { IfErr result (λ word. word ≡ Word.Memory) }
+    ensures err { IfErr result (λ kind. kind ≡ FaultKind.Memory) }
 {
     match write!(
         text,
@@ -32,7 +32,7 @@ fn append_words(
         name_of(port)
     ) {
         Ok(()) => Ok(()),
-        Err(_) => Err(Word::Memory),
+        Err(_) => Err(FaultKind::Memory),
     }
 }
 
@@ -42,17 +42,17 @@ fn append_port<R: Role>(
     node: &NodeOf<R>,
     counts: &Counts,
     port: Port,
-) -> Result<(), Word>
+) -> Result<(), FaultKind>
     ensures ok { OnOk result (text.new.items ≡ text.old.items
         ++ port_line (shown node.now.core) counts.now port) }
-    ensures err { IfErr result (λ word. word ≡ Word.Memory) }
+    ensures err { IfErr result (λ kind. kind ≡ FaultKind.Memory) }
 {
     let frames = *counts.frames.at(port);
     let refused = *counts.refused.at(port);
     append_words(text, port, frames, node.wrong_lan(port), refused)?;
     match text.push(b'\n') {
         Ok(()) => Ok(()),
-        Err(_) => Err(Word::Memory),
+        Err(_) => Err(FaultKind::Memory),
     }
 }
 
@@ -62,10 +62,10 @@ fn append_interlink<R: Role>(
     role: RoleName,
     node: &NodeOf<R>,
     counts: &Counts,
-) -> Result<(), Word>
+) -> Result<(), FaultKind>
     ensures ok { OnOk result (text.new.items ≡ text.old.items
         ++ interlink_line role (shown node.now.core) counts.now) }
-    ensures err { IfErr result (λ word. word ≡ Word.Memory) }
+    ensures err { IfErr result (λ kind. kind ≡ FaultKind.Memory) }
 {
     match role {
         RoleName::Danp | RoleName::Danh => Ok(()),
@@ -76,16 +76,16 @@ fn append_interlink<R: Role>(
 }
 
 /// Appends the line for sources that were left out, where there were some.
-fn append_left_out(text: &mut Vec<u8>, count: u64) -> Result<(), Word>
+fn append_left_out(text: &mut Vec<u8>, count: u64) -> Result<(), FaultKind>
     ensures ok { OnOk result (text.new.items ≡ text.old.items ++ left_out_line count) }
-    ensures err { IfErr result (λ word. word ≡ Word.Memory) }
+    ensures err { IfErr result (λ kind. kind ≡ FaultKind.Memory) }
 {
     if count == 0 {
         return Ok(());
     }
     match writeln!(text, "sources left out {count}") {
         Ok(()) => Ok(()),
-        Err(_) => Err(Word::Memory),
+        Err(_) => Err(FaultKind::Memory),
     }
 }
 
@@ -95,10 +95,10 @@ pub(crate) fn append_counts<R: Role>(
     role: RoleName,
     node: &NodeOf<R>,
     counts: &Counts,
-) -> Result<(), Word>
+) -> Result<(), FaultKind>
     ensures ok { OnOk result (text.new.items ≡ text.old.items
         ++ counts_text role (shown node.now.core) counts.now) }
-    ensures err { IfErr result (λ word. word ≡ Word.Memory) }
+    ensures err { IfErr result (λ kind. kind ≡ FaultKind.Memory) }
 {
     append_port(text, node, counts, Port::A)?;
     append_port(text, node, counts, Port::B)?;

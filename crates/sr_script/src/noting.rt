@@ -14,7 +14,7 @@ use crate::setups::RoleName;
 use sr_forwarding::Role;
 use sr_frame::Port;
 use sr_node::NodeOf;
-use sr_session::Word;
+use sr_session::FaultKind;
 use sr_text::Text;
 use std::alloc::Global;
 
@@ -51,16 +51,16 @@ pub(crate) fn note<R: Role>(
     line: &[u8],
     octets: &mut Vec<u8>,
     text: &mut Text,
-) -> Result<(), Word>
+) -> Result<(), FaultKind>
     ensures ok { OnOk result ((answer : List ℕ)
         × Noted role (node_state (R.meaning node.old.role) node.old.core) number line.now
         answer (node_state (R.meaning node.new.role) node.new.core)
         × (text.new ≡ text.old ++ answer)) }
     ensures kept { OnErr result (StillHolds text.old text.new) }
     ensures known { OnOk result (IsEventLine role line.now) }
-    ensures bad { result ≡ Err Word.Line → IsEventLine role line.now → ⊥ }
-    ensures memory { result ≡ Err Word.Memory → IsEventLine role line.now }
-    ensures fault { IfErr result (λ word. IsOneOf word (Word.Line ∷ Word.Memory ∷ [])) }
+    ensures bad { result ≡ Err FaultKind.Line → IsEventLine role line.now → ⊥ }
+    ensures memory { result ≡ Err FaultKind.Memory → IsEventLine role line.now }
+    ensures fault { IfErr result (λ kind. IsOneOf kind (FaultKind.Line ∷ FaultKind.Memory ∷ [])) }
 {
     let command = command_of(role, line, octets)?;
     obey(alloc, role, node, number, command, octets, text)?;

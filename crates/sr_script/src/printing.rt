@@ -15,7 +15,7 @@ use crate::setups::RoleName;
 use sr_forwarding::{Form, Framing, Parcel, Role};
 use sr_frame::Port;
 use sr_node::NodeOf;
-use sr_session::Word;
+use sr_session::FaultKind;
 use sr_text::Text;
 use std::alloc::AllocError;
 
@@ -47,16 +47,16 @@ fn write_framed(
     port: Port,
     parcel: &Parcel,
     frame: &mut Vec<u8>,
-) -> Result<(), Word>
+) -> Result<(), FaultKind>
     requires { frame.old.items ≡ [] }
     ensures ok { OnOk result
         (IsWritten (framing_of role port) parcel.now.form parcel.now frame.new.items) }
     ensures size { OnOk result (length frame.new.items ≤ 1524) }
-    ensures err { IfErr result (λ word. word ≡ Word.Memory) }
+    ensures err { IfErr result (λ kind. kind ≡ FaultKind.Memory) }
 {
     match carrier_of(role, port).write(frame, &parcel.view()) {
         Ok(()) => Ok(()),
-        Err(_) => Err(Word::Memory),
+        Err(_) => Err(FaultKind::Memory),
     }
 }
 
@@ -82,12 +82,12 @@ fn append_framed(
     parcel: &Parcel,
     frame: &mut Vec<u8>,
     text: &mut Text,
-) -> Result<(), Word>
+) -> Result<(), FaultKind>
     ensures ok { OnOk result ((octets : List ℕ)
         × IsWritten (framing_of role port) parcel.now.form parcel.now octets
         × (text.new ≡ text.old ++ frame_line port octets)) }
     ensures kept { OnErr result (StillHolds text.old text.new) }
-    ensures err { IfErr result (λ word. word ≡ Word.Memory) }
+    ensures err { IfErr result (λ kind. kind ≡ FaultKind.Memory) }
 {
     if let Some(octets) = framed_in_place(role, port, parcel) {
         append_frame(text, port, octets, &[])?;
@@ -107,11 +107,11 @@ fn append_parcel(
     parcel: &Parcel,
     frame: &mut Vec<u8>,
     text: &mut Text,
-) -> Result<(), Word>
+) -> Result<(), FaultKind>
     ensures ok { OnOk result ((line : List ℕ) × IsLine role port parcel.now line
         × (text.new ≡ text.old ++ line)) }
     ensures kept { OnErr result (StillHolds text.old text.new) }
-    ensures err { IfErr result (λ word. word ≡ Word.Memory) }
+    ensures err { IfErr result (λ kind. kind ≡ FaultKind.Memory) }
 {
     match port {
         Port::H => {
@@ -131,13 +131,13 @@ fn append_first_at<R: Role>(
     port: Port,
     frame: &mut Vec<u8>,
     text: &mut Text,
-) -> Result<(), Word>
+) -> Result<(), FaultKind>
     ensures ok { OnOk result ((line : List ℕ)
         × FirstLeft role port (node_state (R.meaning node.old.role) node.old.core) line
         (node_state (R.meaning node.new.role) node.new.core)
         × (text.new ≡ text.old ++ line)) }
     ensures kept { OnErr result (StillHolds text.old text.new) }
-    ensures err { IfErr result (λ word. word ≡ Word.Memory) }
+    ensures err { IfErr result (λ kind. kind ≡ FaultKind.Memory) }
 {
     if let Some(parcel) = node.front(port) {
         append_parcel(role, port, parcel, frame, text)?;
@@ -155,13 +155,13 @@ fn append_first<R: Role>(
     port: Port,
     frame: &mut Vec<u8>,
     text: &mut Text,
-) -> Result<(), Word>
+) -> Result<(), FaultKind>
     ensures ok { OnOk result ((line : List ℕ)
         × FirstLeft role port (node_state (R.meaning node.old.role) node.old.core) line
         (node_state (R.meaning node.new.role) node.new.core)
         × (text.new ≡ text.old ++ line)) }
     ensures kept { OnErr result (StillHolds text.old text.new) }
-    ensures err { IfErr result (λ word. word ≡ Word.Memory) }
+    ensures err { IfErr result (λ kind. kind ≡ FaultKind.Memory) }
 {
     match port {
         Port::H => append_first_at(role, node, Port::H, frame, text),
@@ -178,13 +178,13 @@ fn append_waiting<R: Role>(
     port: Port,
     frame: &mut Vec<u8>,
     text: &mut Text,
-) -> Result<(), Word>
+) -> Result<(), FaultKind>
     ensures ok { OnOk result ((lines : List ℕ)
         × Emptied role port (node_state (R.meaning node.old.role) node.old.core) lines
         (node_state (R.meaning node.new.role) node.new.core)
         × (text.new ≡ text.old ++ lines)) }
     ensures kept { OnErr result (StillHolds text.old text.new) }
-    ensures err { IfErr result (λ word. word ≡ Word.Memory) }
+    ensures err { IfErr result (λ kind. kind ≡ FaultKind.Memory) }
 {
     while node.waiting(port) > 0 {
         append_first(role, node, port, frame, text)?;
@@ -199,13 +199,13 @@ pub(crate) fn append_outlets<R: Role>(
     node: &mut NodeOf<R>,
     frame: &mut Vec<u8>,
     text: &mut Text,
-) -> Result<(), Word>
+) -> Result<(), FaultKind>
     ensures ok { OnOk result ((lines : List ℕ)
         × AllEmptied role (node_state (R.meaning node.old.role) node.old.core) lines
         (node_state (R.meaning node.new.role) node.new.core)
         × (text.new ≡ text.old ++ lines)) }
     ensures kept { OnErr result (StillHolds text.old text.new) }
-    ensures err { IfErr result (λ word. word ≡ Word.Memory) }
+    ensures err { IfErr result (λ kind. kind ≡ FaultKind.Memory) }
 {
     append_waiting(role, node, Port::H, frame, text)?;
     append_waiting(role, node, Port::A, frame, text)?;

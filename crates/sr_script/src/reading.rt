@@ -11,7 +11,7 @@ ghost use Rattle.sr_script.specs.FrontArrivals.{StandsAtFront};
 use crate::setups::RoleName;
 use sr_frame::Port;
 use sr_hex::read_front;
-use sr_session::{MAX_LINE, Word};
+use sr_session::{FaultKind, MAX_LINE};
 use sr_words::{behind_send, is_comment, number_of, read_hex, split_word};
 
 /// What a line asks for. Its octets stand beside it.
@@ -66,60 +66,60 @@ fn split_inlet(role: RoleName, text: &[u8]) -> Option<(Port, &[u8])>
 }
 
 /// Reads a time, and then octets.
-fn timed(text: &[u8], octets: &mut Vec<u8>) -> Result<u64, Word>
+fn timed(text: &[u8], octets: &mut Vec<u8>) -> Result<u64, FaultKind>
     ensures found { IfOk result (λ time. IsTimed text.now time octets.new.items) }
     ensures only { (time : ℕ) (os : List ℕ) → IsTimed text.now time os
-        → MatchResult result (λ t. (t ≡ time) × (octets.new.items ≡ os)) (λ word.
-        word ≡ Word.Memory) }
-    ensures memory { result ≡ Err Word.Memory
+        → MatchResult result (λ t. (t ≡ time) × (octets.new.items ≡ os)) (λ kind.
+        kind ≡ FaultKind.Memory) }
+    ensures memory { result ≡ Err FaultKind.Memory
         → (time : ℕ) × (os : List ℕ) × IsTimed text.now time os }
-    ensures fault { IfErr result (λ word. IsOneOf word (Word.Line ∷ Word.Memory ∷ [])) }
+    ensures fault { IfErr result (λ kind. IsOneOf kind (FaultKind.Line ∷ FaultKind.Memory ∷ [])) }
 {
     let Some((time, digits)) = split_word(text) else {
-        return Err(Word::Line);
+        return Err(FaultKind::Line);
     };
     let Some(time) = number_of(time) else {
-        return Err(Word::Line);
+        return Err(FaultKind::Line);
     };
     match read_hex(digits, octets) {
         Ok(()) => Ok(time),
-        Err(word) => Err(word),
+        Err(kind) => Err(kind),
     }
 }
 
 /// Reads what stands behind the word `in`: the port, the time and the octets.
-fn arrival(role: RoleName, text: &[u8], octets: &mut Vec<u8>) -> Result<Command, Word>
+fn arrival(role: RoleName, text: &[u8], octets: &mut Vec<u8>) -> Result<Command, FaultKind>
     ensures found { IfOk result (λ command. IsArrival role text.now command octets.new.items) }
     ensures only { (port : Port) (time : ℕ) (os : List ℕ)
         → IsArrival role text.now (Command.Arrive port time) os
         → MatchResult result (λ command. (command ≡ Command.Arrive port time)
-        × (octets.new.items ≡ os)) (λ word. word ≡ Word.Memory) }
-    ensures memory { result ≡ Err Word.Memory → (port : Port) × (time : ℕ) × (os : List ℕ)
+        × (octets.new.items ≡ os)) (λ kind. kind ≡ FaultKind.Memory) }
+    ensures memory { result ≡ Err FaultKind.Memory → (port : Port) × (time : ℕ) × (os : List ℕ)
         × IsArrival role text.now (Command.Arrive port time) os }
-    ensures fault { IfErr result (λ word. IsOneOf word (Word.Line ∷ Word.Memory ∷ [])) }
+    ensures fault { IfErr result (λ kind. IsOneOf kind (FaultKind.Line ∷ FaultKind.Memory ∷ [])) }
 {
     let Some((port, rest)) = split_inlet(role, text) else {
-        return Err(Word::Line);
+        return Err(FaultKind::Line);
     };
     match timed(rest, octets) {
         Ok(time) => Ok(Command::Arrive(port, time)),
-        Err(word) => Err(word),
+        Err(kind) => Err(kind),
     }
 }
 
 /// Reads what stands behind the word `send`: the time and the octets.
-fn sending(text: &[u8], octets: &mut Vec<u8>) -> Result<Command, Word>
+fn sending(text: &[u8], octets: &mut Vec<u8>) -> Result<Command, FaultKind>
     ensures found { IfOk result (λ command. IsSending text.now command octets.new.items) }
     ensures only { (time : ℕ) (os : List ℕ) → IsSending text.now (Command.Send time) os
         → MatchResult result (λ command. (command ≡ Command.Send time)
-        × (octets.new.items ≡ os)) (λ word. word ≡ Word.Memory) }
-    ensures memory { result ≡ Err Word.Memory
+        × (octets.new.items ≡ os)) (λ kind. kind ≡ FaultKind.Memory) }
+    ensures memory { result ≡ Err FaultKind.Memory
         → (time : ℕ) × (os : List ℕ) × IsSending text.now (Command.Send time) os }
-    ensures fault { IfErr result (λ word. IsOneOf word (Word.Line ∷ Word.Memory ∷ [])) }
+    ensures fault { IfErr result (λ kind. IsOneOf kind (FaultKind.Line ∷ FaultKind.Memory ∷ [])) }
 {
     match timed(text, octets) {
         Ok(time) => Ok(Command::Send(time)),
-        Err(word) => Err(word),
+        Err(kind) => Err(kind),
     }
 }
 
@@ -135,13 +135,17 @@ fn tick_of(line: &[u8]) -> Option<u64>
 ///
 /// # Errors
 /// `Line` where the line is none of a script, whatever memory there is; `Memory`.
-pub(crate) fn command_of(role: RoleName, line: &[u8], octets: &mut Vec<u8>) -> Result<Command, Word>
+pub(crate) fn command_of(
+    role: RoleName,
+    line: &[u8],
+    octets: &mut Vec<u8>,
+) -> Result<Command, FaultKind>
     ensures found { IfOk result (λ command. Says role line.now command octets.new.items) }
     ensures only { (command : Command) (os : List ℕ) → Says role line.now command os
-        → MatchResult result (λ found. (found ≡ command) × (octets.new.items ≡ os)) (λ word.
-        word ≡ Word.Memory) }
-    ensures memory { result ≡ Err Word.Memory → IsEventLine role line.now }
-    ensures fault { IfErr result (λ word. IsOneOf word (Word.Line ∷ Word.Memory ∷ [])) }
+        → MatchResult result (λ found. (found ≡ command) × (octets.new.items ≡ os)) (λ kind.
+        kind ≡ FaultKind.Memory) }
+    ensures memory { result ≡ Err FaultKind.Memory → IsEventLine role line.now }
+    ensures fault { IfErr result (λ kind. IsOneOf kind (FaultKind.Line ∷ FaultKind.Memory ∷ [])) }
 {
     if line.is_empty() || is_comment(line) {
         octets.clear();
@@ -156,7 +160,7 @@ pub(crate) fn command_of(role: RoleName, line: &[u8], octets: &mut Vec<u8>) -> R
     octets.clear();
     match tick_of(line) {
         Some(time) => Ok(Command::Tick(time)),
-        None => Err(Word::Line),
+        None => Err(FaultKind::Line),
     }
 }
 

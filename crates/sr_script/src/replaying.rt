@@ -4,7 +4,7 @@ use crate::answering::{answer, answer_front};
 use crate::setups::RoleName;
 use sr_forwarding::Role;
 use sr_node::NodeOf;
-use sr_session::{Session, Word};
+use sr_session::{FaultKind, Session};
 use sr_text::Text;
 use std::alloc::Global;
 
@@ -36,7 +36,7 @@ impl<P: Role> Session for NodeSession<P> {
 
     ghost dialogue = { replay_dialogue };
 
-    fn answer(&mut self, number: u64, line: &[u8], text: &mut Text) -> Result<(), Word> {
+    fn answer(&mut self, number: u64, line: &[u8], text: &mut Text) -> Result<(), FaultKind> {
         answer(
             self.alloc,
             self.role,
@@ -54,7 +54,7 @@ impl<P: Role> Session for NodeSession<P> {
         number: u64,
         front: &[u8],
         text: &mut Text,
-    ) -> Result<Option<usize>, Word> {
+    ) -> Result<Option<usize>, FaultKind> {
         answer_front(
             self.role,
             &mut self.node,
@@ -66,7 +66,7 @@ impl<P: Role> Session for NodeSession<P> {
         )
     }
 
-    fn finish(&mut self, _text: &mut Vec<u8>) -> Result<(), Word> {
+    fn finish(&mut self, _text: &mut Vec<u8>) -> Result<(), FaultKind> {
         Ok(())
     }
 }

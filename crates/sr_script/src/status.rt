@@ -4,7 +4,7 @@ use crate::noting::note;
 use crate::replaying::NodeSession;
 use crate::status_lines::tell_status;
 use sr_forwarding::Role;
-use sr_session::{Session, Word};
+use sr_session::{FaultKind, Session};
 use sr_text::Text;
 
 /// A node at work on a script, whose frames are not printed.
@@ -25,7 +25,7 @@ impl<P: Role> Session for StatusSession<P> {
 
     ghost dialogue = { status_dialogue };
 
-    fn answer(&mut self, number: u64, line: &[u8], text: &mut Text) -> Result<(), Word> {
+    fn answer(&mut self, number: u64, line: &[u8], text: &mut Text) -> Result<(), FaultKind> {
         let at_work = &mut self.0;
         note(
             at_work.alloc,
@@ -38,7 +38,7 @@ impl<P: Role> Session for StatusSession<P> {
         )
     }
 
-    fn finish(&mut self, text: &mut Vec<u8>) -> Result<(), Word> {
+    fn finish(&mut self, text: &mut Vec<u8>) -> Result<(), FaultKind> {
         tell_status(&self.0.node, text)
     }
 }

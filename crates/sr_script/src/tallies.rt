@@ -17,7 +17,7 @@ use crate::tallying::tally;
 use sr_forwarding::{Danh, Danp, Role};
 use sr_frame::NoMemory;
 use sr_redbox::{HsrBox, HsrRouting, PrpBox, SanBox};
-use sr_session::{Fault, NOT_BEGUN, Session, Word};
+use sr_session::{Fault, FaultKind, NOT_BEGUN, Session};
 use sr_text::Text;
 use std::alloc::Global;
 use std::io::{BufRead, Write};
@@ -42,7 +42,7 @@ impl<P: Role> Session for TallySession<P> {
 
     ghost dialogue = { tally_dialogue };
 
-    fn answer(&mut self, number: u64, line: &[u8], text: &mut Text) -> Result<(), Word> {
+    fn answer(&mut self, number: u64, line: &[u8], text: &mut Text) -> Result<(), FaultKind> {
         let at_work = &mut self.at_work;
         tally(
             at_work.alloc,
@@ -56,7 +56,7 @@ impl<P: Role> Session for TallySession<P> {
         )
     }
 
-    fn finish(&mut self, text: &mut Vec<u8>) -> Result<(), Word> {
+    fn finish(&mut self, text: &mut Vec<u8>) -> Result<(), FaultKind> {
         tell_status(&self.at_work.node, text)?;
         append_counts(text, self.at_work.role, &self.at_work.node, &self.counts)
     }

@@ -18,7 +18,7 @@ use crate::setups::RoleName;
 use sr_forwarding::Role;
 use sr_frame::Port;
 use sr_node::NodeOf;
-use sr_session::Word;
+use sr_session::FaultKind;
 use sr_text::Text;
 use std::alloc::Global;
 
@@ -32,14 +32,14 @@ fn count_arrival<R: Role>(
     octets: &[u8],
     time: u64,
     text: &mut Text,
-) -> Result<(), Word>
+) -> Result<(), FaultKind>
     ensures ok { OnOk result ((told : List ℕ)
         × ArrivesSo role (node_state (R.meaning node.old.role) node.old.core) number
         port time octets.now told (node_state (R.meaning node.new.role) node.new.core)
         × IsCounted number (Arrive port time) told counts.old counts.new
         × (text.new ≡ text.old ++ told)) }
     ensures kept { OnErr result (StillHolds text.old text.new) }
-    ensures err { IfErr result (λ word. word ≡ Word.Memory) }
+    ensures err { IfErr result (λ kind. kind ≡ FaultKind.Memory) }
 {
     match arrive(role, node, port, octets, time) {
         Ok(_) => {
@@ -63,14 +63,14 @@ fn obey_counted<R: Role>(
     command: Command,
     octets: &mut Vec<u8>,
     text: &mut Text,
-) -> Result<(), Word>
+) -> Result<(), FaultKind>
     ensures ok { OnOk result ((told : List ℕ)
         × Obeys role (node_state (R.meaning node.old.role) node.old.core) number
         command octets.old.items told (node_state (R.meaning node.new.role) node.new.core)
         × IsCounted number command told counts.old counts.new
         × (text.new ≡ text.old ++ told)) }
     ensures kept { OnErr result (StillHolds text.old text.new) }
-    ensures err { IfErr result (λ word. word ≡ Word.Memory) }
+    ensures err { IfErr result (λ kind. kind ≡ FaultKind.Memory) }
 {
     match command {
         Command::Arrive(port, time) => {
@@ -95,16 +95,16 @@ pub(crate) fn tally<R: Role>(
     line: &[u8],
     octets: &mut Vec<u8>,
     text: &mut Text,
-) -> Result<(), Word>
+) -> Result<(), FaultKind>
     ensures ok { OnOk result ((answer : List ℕ)
         × Tallied role (node_state (R.meaning node.old.role) node.old.core) counts.old number
         line.now answer (node_state (R.meaning node.new.role) node.new.core) counts.new
         × (text.new ≡ text.old ++ answer)) }
     ensures kept { OnErr result (StillHolds text.old text.new) }
     ensures known { OnOk result (IsEventLine role line.now) }
-    ensures bad { result ≡ Err Word.Line → IsEventLine role line.now → ⊥ }
-    ensures memory { result ≡ Err Word.Memory → IsEventLine role line.now }
-    ensures fault { IfErr result (λ word. IsOneOf word (Word.Line ∷ Word.Memory ∷ [])) }
+    ensures bad { result ≡ Err FaultKind.Line → IsEventLine role line.now → ⊥ }
+    ensures memory { result ≡ Err FaultKind.Memory → IsEventLine role line.now }
+    ensures fault { IfErr result (λ kind. IsOneOf kind (FaultKind.Line ∷ FaultKind.Memory ∷ [])) }
 {
     let command = command_of(role, line, octets)?;
     obey_counted(alloc, role, node, counts, number, command, octets, text)?;

@@ -5,8 +5,8 @@ use Rattle.std.specs.Io.KnownBytes.{Appends, IsAtEnd, Keeps}
 use Rattle.std.proofs.KnownBytes.{Appends-nil, Appends-trans, Appends-kept, Keeps-refl}
 use Rattle.std.proofs.lemmas.List.{append-nil, length-append}
 use Rattle.sr_session.specs.declared.fault.Fault.{Fault}
-use Rattle.sr_session.specs.declared.fault.Word.{Word}
-use Rattle.sr_session.specs.declared.fault.Word.TheVariants as word
+use Rattle.sr_session.specs.declared.fault.FaultKind.{FaultKind}
+use Rattle.sr_session.specs.declared.fault.FaultKind.TheVariants as kind
 use Rattle.sr_session.specs.Lines.{lines_of, before_first_line, IsOneOf}
 use Rattle.sr_session.specs.Runs.{Dialogue, Replies, HasFault, HeldSince, EndsAt, EndsFrom}
 use Rattle.sr_session.specs.Turns.{Turned, AreObeyed, AllAnswered}
@@ -79,7 +79,7 @@ whole_at_limit d start (Some xs) (Some ys) held now s n m e h k =
 
 -- the run ends at line n
 ends_here : {S : Type 0} (d : Dialogue S) (start : S) (xs ys : List ℕ) (rest held now later : Option (List ℕ)) (s : S) (f : Fault)
-    → Going d start (Some xs) (Some ys) held now s f.line → HeldSince d s f.line f.word (lines_of ys) now later → HasFault d s f.line f.word (lines_of ys) rest
+    → Going d start (Some xs) (Some ys) held now s f.line → HeldSince d s f.line f.kind (lines_of ys) now later → HasFault d s f.line f.kind (lines_of ys) rest
     → EndsAt d start (lines_of xs) f rest held later
 ends_here d start xs ys rest held now later s f h kept reason = record {
   before = h.0;
@@ -119,39 +119,39 @@ ends_later d start (Some xs) (Some ys) rest held now later s n f h k =
     }
 
 -- there is a line more than a script may have
-some_line : {S : Type 0} (d : Dialogue S) (s : S) (ys : List ℕ) (rest : Option (List ℕ)) → ys ≢ [] → (n : ℕ) → 1000000 < n → HasFault d s n word.Long (lines_of ys) rest
+some_line : {S : Type 0} (d : Dialogue S) (s : S) (ys : List ℕ) (rest : Option (List ℕ)) → ys ≢ [] → (n : ℕ) → 1000000 < n → HasFault d s n kind.Long (lines_of ys) rest
 some_line d s [] rest more n large = absurd (more refl)
 some_line d s (b ∷ bs) rest more n large = by_octet (eqb b 10) (lines_of bs)
   where
-    by_octet : (is : Bool) (ls : List (List ℕ)) → HasFault d s n word.Long (cond is ([] ∷ ls) (before_first_line b ls)) rest
+    by_octet : (is : Bool) (ls : List (List ℕ)) → HasFault d s n kind.Long (cond is ([] ∷ ls) (before_first_line b ls)) rest
     by_octet true ls = inl large
     by_octet false [] = inl large
     by_octet false (l ∷ ls) = inl large
 
 pub ends_too_many : {S : Type 0} (d : Dialogue S) (start : S) (left mid rest held now : Option (List ℕ)) (s : S) (n : ℕ) (f : Fault) → n ≡ f.line
-    → 1000000 < f.line → f.word ≡ word.Long → Going d start left mid held now s n → IfSome mid (λ octets. octets ≢ [])
+    → 1000000 < f.line → f.kind ≡ kind.Long → Going d start left mid held now s n → IfSome mid (λ octets. octets ≢ [])
     → IfSome left (λ input. EndsAt d start (lines_of input) f rest held now)
 ends_too_many d start None mid rest held now s n f same large is h more = tt
 ends_too_many d start (Some xs) None rest held now s n f same large is h more = absurd h
 ends_too_many d start (Some xs) (Some ys) rest held now s n f same large is h more =
     ends_here d start xs ys rest held now now s f (subst (λ (m : ℕ). Going d start (Some xs) (Some ys) held now s m) same h)
-    (subst (λ (w : Word). HeldSince d s f.line w (lines_of ys) now now) (sym is) (Keeps-refl now))
-    (subst (λ (w : Word). HasFault d s f.line w (lines_of ys) rest) (sym is) (some_line d s ys rest more f.line large))
+    (subst (λ (w : FaultKind). HeldSince d s f.line w (lines_of ys) now now) (sym is) (Keeps-refl now))
+    (subst (λ (w : FaultKind). HasFault d s f.line w (lines_of ys) rest) (sym is) (some_line d s ys rest more f.line large))
 
 -- the reader fails where no line more may be read
 pub ends_unread : {S : Type 0} (d : Dialogue S) (start : S) (left mid rest held now : Option (List ℕ)) (s : S) (n : ℕ) (f : Fault) → n ≡ f.line
-    → f.word ≡ word.Read → Going d start left mid held now s n → Keeps mid rest → IfSome left (λ input. EndsAt d start (lines_of input) f rest held now)
+    → f.kind ≡ kind.Read → Going d start left mid held now s n → Keeps mid rest → IfSome left (λ input. EndsAt d start (lines_of input) f rest held now)
 ends_unread d start None mid rest held now s n f same is h k = tt
 ends_unread d start (Some xs) None rest held now s n f same is h k = absurd h
 ends_unread d start (Some xs) (Some ys) None held now s n f same is h k = absurd k
 ends_unread d start (Some xs) (Some ys) (Some zs) held now s n f same is h k =
     ends_here d start xs ys (Some zs) held now now s f (subst (λ (m : ℕ). Going d start (Some xs) (Some ys) held now s m) same h)
-    (subst (λ (w : Word). HeldSince d s f.line w (lines_of ys) now now) (sym is) (Keeps-refl now))
-    (subst (λ (w : Word). HasFault d s f.line w (lines_of ys) (Some zs)) (sym is) ([], ap lines_of (sym k), tt, omega arith))
+    (subst (λ (w : FaultKind). HeldSince d s f.line w (lines_of ys) now now) (sym is) (Keeps-refl now))
+    (subst (λ (w : FaultKind). HasFault d s f.line w (lines_of ys) (Some zs)) (sym is) ([], ap lines_of (sym k), tt, omega arith))
 
 -- the run ends behind its lines
 pub ends_behind : {S : Type 0} (d : Dialogue S) (start : S) (left rest held now later : Option (List ℕ)) (t : S) (f : Fault)
-    → IfSome left (λ input. AllAnswered d start (lines_of input) held now t f.line) → HeldSince d t f.line f.word [] now later → HasFault d t f.line f.word [] rest
+    → IfSome left (λ input. AllAnswered d start (lines_of input) held now t f.line) → HeldSince d t f.line f.kind [] now later → HasFault d t f.line f.kind [] rest
     → IfSome left (λ input. EndsAt d start (lines_of input) f rest held later)
 ends_behind d start None rest held now later t f h kept reason = tt
 ends_behind d start (Some xs) rest held now later t f h kept reason = record {
@@ -167,7 +167,7 @@ ends_behind d start (Some xs) rest held now later t f h kept reason = record {
 }
 
 -- of a write or of memory
-pub behind_fault : {S : Type 0} (d : Dialogue S) (t : S) (n : ℕ) (w : Word) (rest : Option (List ℕ)) → IsOneOf w (word.Write ∷ word.Memory ∷ []) → HasFault d t n w [] rest
-behind_fault d t n w rest (inl e) = subst (λ (v : Word). HasFault d t n v [] rest) (sym e) tt
-behind_fault d t n w rest (inr (inl e)) = subst (λ (v : Word). HasFault d t n v [] rest) (sym e) tt
+pub behind_fault : {S : Type 0} (d : Dialogue S) (t : S) (n : ℕ) (w : FaultKind) (rest : Option (List ℕ)) → IsOneOf w (kind.Write ∷ kind.Memory ∷ []) → HasFault d t n w [] rest
+behind_fault d t n w rest (inl e) = subst (λ (v : FaultKind). HasFault d t n v [] rest) (sym e) tt
+behind_fault d t n w rest (inr (inl e)) = subst (λ (v : FaultKind). HasFault d t n v [] rest) (sym e) tt
 behind_fault d t n w rest (inr (inr none)) = absurd none

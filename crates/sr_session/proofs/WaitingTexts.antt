@@ -7,8 +7,8 @@ use Rattle.std.proofs.lemmas.Bool.{cases_lt}
 use Rattle.std.proofs.lemmas.Bool.Decides.{nat_tests}
 use Rattle.std.proofs.lemmas.List.{append-nil, length-append, length-take, length-take-le, take-append-drop, drop_more, drop_all, drop-drop, drop-append-le}
 use Rattle.sr_session.specs.declared.fault.Fault.{Fault}
-use Rattle.sr_session.specs.declared.fault.Word.{Word}
-use Rattle.sr_session.specs.declared.fault.Word.TheVariants as word
+use Rattle.sr_session.specs.declared.fault.FaultKind.{FaultKind}
+use Rattle.sr_session.specs.declared.fault.FaultKind.TheVariants as kind
 use Rattle.sr_session.specs.declared.waiting.Mark.{Mark}
 use Rattle.sr_session.specs.Lines.{lines_of, IsOneOf, TakesLine, TakesPart, BeginsLong}
 use Rattle.sr_session.specs.Runs.{Dialogue, HasPlace, Replies, HasFault, HeldSince, EndsFrom}
@@ -227,7 +227,7 @@ ends_cut {S} d s k lines more text marks t f rest old now waits cut =
       then_held = grown old h.front;
       reached = h.reached;
       answered = (h.front, h.replies, grown_by old h.front);
-      kept = subst (λ (w : Word). HeldSince d h.reached f.line w left (grown old h.front) now) (sym cut.7) (
+      kept = subst (λ (w : FaultKind). HeldSince d h.reached f.line w left (grown old h.front) now) (sym cut.7) (
         take count h.here,
         drop count h.here,
         grown_more old now h.front (take count h.here) (take taken text) whole cut.2,
@@ -237,12 +237,12 @@ ends_cut {S} d s k lines more text marks t f rest old now waits cut =
               (subst (λ n. d.Replied h.reached n h.line h.here h.next) (sym line_is) h.replied),
         ),
       );
-      reason = subst (λ (w : Word). HasFault d h.reached f.line w left rest) (sym cut.7) (subst (λ n. HasPlace n h.line) (sym line_is) h.has, h.knows);
+      reason = subst (λ (w : FaultKind). HasFault d h.reached f.line w left rest) (sym cut.7) (subst (λ n. HasPlace n h.line) (sym line_is) h.has, h.knows);
     }
 
 -- The run ends at the line behind those that were answered.
 pub ends_stop : {S : Type 0} (d : Dialogue S) (s : S) (k : ℕ) (lines left : List (List ℕ)) (text : List ℕ) (t : S) (f : Fault) (rest old now : Option (List ℕ))
-    → Replies d s k lines text t → Appends old now text → f.line ≡ k + length lines → HeldSince d t f.line f.word left now now → HasFault d t f.line f.word left rest
+    → Replies d s k lines text t → Appends old now text → f.line ≡ k + length lines → HeldSince d t f.line f.kind left now now → HasFault d t f.line f.kind left rest
     → EndsFrom d s k (lines ++ left) f rest old now
 ends_stop d s k lines left text t f rest old now replies appends line kept reason = record {
   before = lines;
@@ -316,7 +316,7 @@ begins_front octets at lines line h front =
     (front.parts ∙ ap (λ (l : List ℕ). line ++ 10 ∷ l) (drop-drop (length line + 1) at octets))
 
 -- why the lines stop at a line
-pub front_stops : {S : Type 0} (d : Dialogue S) (u t : S) (octets : List ℕ) (n : ℕ) (w : Word) → n ≤ 1000000 → FrontFails d u octets w → StopsSo d u n octets (Some w) t
+pub front_stops : {S : Type 0} (d : Dialogue S) (u t : S) (octets : List ℕ) (n : ℕ) (w : FaultKind) → n ≤ 1000000 → FrontFails d u octets w → StopsSo d u n octets (Some w) t
 front_stops d u t octets n w count fails =
     let line = fails.1 in
     let at = fails.2 in
@@ -359,11 +359,11 @@ hand_took (Some xs) (Some ys) rest limit octets used lines kept within starts dr
 
 -- nothing more could be read
 pub hand_unread : {S : Type 0} (d : Dialogue S) (s : S) (first : ℕ) (left rest held : Option (List ℕ)) → Keeps left rest
-    → IfSome left (λ input. EndsFrom d s first (lines_of input) (record { line = first; word = word.Read }) rest held held)
+    → IfSome left (λ input. EndsFrom d s first (lines_of input) (record { line = first; kind = kind.Read }) rest held held)
 hand_unread d s first None rest held kept = tt
 hand_unread d s first (Some xs) None held kept = absurd kept
 hand_unread d s first (Some xs) (Some ys) held kept =
-    ends_stop d s first [] (lines_of xs) [] s (record { line = first; word = word.Read }) (Some ys) held held (refl, refl) (Appends-nil held) (omega arith) (Keeps-refl held)
+    ends_stop d s first [] (lines_of xs) [] s (record { line = first; kind = kind.Read }) (Some ys) held held (refl, refl) (Appends-nil held) (omega arith) (Keeps-refl held)
     ([], ap lines_of (sym kept), tt, omega arith)
 
 -- the writer failed in the text of the lines
@@ -375,25 +375,25 @@ hand_cut {S} d s first lines text marks t f (Some xs) rest held now octets used 
     subst (λ (l : List (List ℕ)). EndsFrom d s first l f rest held now) (sym (parted_front xs octets used lines starts whole))
     (ends_cut d s first lines (lines_of (drop used octets ++ drop (length octets) xs)) text marks t f rest held now waits cut)
 
-stop_fault : {S : Type 0} (d : Dialogue S) (u : S) (n : ℕ) (line : List ℕ) (rest : List (List ℕ)) (w : Word) (reader : Option (List ℕ)) → IsOneOf w (word.Line ∷ word.Memory ∷ []) → HasPlace n line
-    → (w ≡ word.Line → d.Knows u line → ⊥) → (w ≡ word.Memory → d.Knows u line) → HasFault d u n w (line ∷ rest) reader
-stop_fault d u n line rest w reader (inl e) place bad memory = subst (λ (v : Word). HasFault d u n v (line ∷ rest) reader) (sym e) (place, bad e)
-stop_fault d u n line rest w reader (inr (inl e)) place bad memory = subst (λ (v : Word). HasFault d u n v (line ∷ rest) reader) (sym e) (place, memory e)
+stop_fault : {S : Type 0} (d : Dialogue S) (u : S) (n : ℕ) (line : List ℕ) (rest : List (List ℕ)) (w : FaultKind) (reader : Option (List ℕ)) → IsOneOf w (kind.Line ∷ kind.Memory ∷ []) → HasPlace n line
+    → (w ≡ kind.Line → d.Knows u line → ⊥) → (w ≡ kind.Memory → d.Knows u line) → HasFault d u n w (line ∷ rest) reader
+stop_fault d u n line rest w reader (inl e) place bad memory = subst (λ (v : FaultKind). HasFault d u n v (line ∷ rest) reader) (sym e) (place, bad e)
+stop_fault d u n line rest w reader (inr (inl e)) place bad memory = subst (λ (v : FaultKind). HasFault d u n v (line ∷ rest) reader) (sym e) (place, memory e)
 stop_fault d u n line rest w reader (inr (inr none)) place bad memory = absurd none
 
-stop_kept : {S : Type 0} (d : Dialogue S) (u : S) (n : ℕ) (w : Word) (left : List (List ℕ)) (held : Option (List ℕ)) → IsOneOf w (word.Line ∷ word.Memory ∷ []) → HeldSince d u n w left held held
-stop_kept d u n w left held (inl e) = subst (λ (v : Word). HeldSince d u n v left held held) (sym e) (Keeps-refl held)
-stop_kept d u n w left held (inr (inl e)) = subst (λ (v : Word). HeldSince d u n v left held held) (sym e) (Keeps-refl held)
+stop_kept : {S : Type 0} (d : Dialogue S) (u : S) (n : ℕ) (w : FaultKind) (left : List (List ℕ)) (held : Option (List ℕ)) → IsOneOf w (kind.Line ∷ kind.Memory ∷ []) → HeldSince d u n w left held held
+stop_kept d u n w left held (inl e) = subst (λ (v : FaultKind). HeldSince d u n v left held held) (sym e) (Keeps-refl held)
+stop_kept d u n w left held (inr (inl e)) = subst (λ (v : FaultKind). HeldSince d u n v left held held) (sym e) (Keeps-refl held)
 stop_kept d u n w left held (inr (inr none)) = absurd none
 
 -- the line behind those that were obeyed has a fault
-pub hand_stops : {S : Type 0} (d : Dialogue S) (s : S) (first : ℕ) (lines : List (List ℕ)) (text : List ℕ) (u t : S) (n : ℕ) (w : Word) (left rest held now : Option (List ℕ))
+pub hand_stops : {S : Type 0} (d : Dialogue S) (s : S) (first : ℕ) (lines : List (List ℕ)) (text : List ℕ) (u t : S) (n : ℕ) (w : FaultKind) (left rest held now : Option (List ℕ))
     (octets : List ℕ) (used : ℕ) → Replies d s first lines text u → n ≡ first + length lines → Appends held now text → BeginsWith octets used lines
     → StopsSo d u n (drop used octets) (Some w) t → IfSome left (λ xs. StartsWith xs octets)
-    → IfSome left (λ input. EndsFrom d s first (lines_of input) (record { line = n; word = w }) rest held now)
+    → IfSome left (λ input. EndsFrom d s first (lines_of input) (record { line = n; kind = w }) rest held now)
 hand_stops d s first lines text u t n w None rest held now octets used replies next appends whole stops starts = tt
 hand_stops {S} d s first lines text u t n w (Some xs) rest held now octets used replies next appends whole stops starts =
-    let f : Fault = record { line = n; word = w } in
+    let f : Fault = record { line = n; kind = w } in
     let more = drop (length octets) xs in
     let found = stops.3 more in
     let parted : lines_of xs ≡ lines ++ stops.1 ∷ found.0 = parted_front xs octets used lines starts whole ∙ ap (λ (l : List (List ℕ)). lines ++ l) found.1 in
@@ -425,32 +425,32 @@ one_cut d s t n line text marks f (Some xs) None held now took waits cut = absur
 one_cut {S} d s t n line text marks f (Some xs) (Some ys) held now took waits cut =
     subst (λ (l : List (List ℕ)). EndsFrom d s n l f (Some ys) held now) (sym took) (ends_cut d s n (line ∷ []) (lines_of ys) text marks t f (Some ys) held now waits cut)
 
-pub one_stops : {S : Type 0} (d : Dialogue S) (s : S) (n : ℕ) (line : List ℕ) (w : Word) (left rest held : Option (List ℕ)) → TakesLine true line left rest → n ≤ 1000000 → length line ≤ 8000
-    → IsOneOf w (word.Line ∷ word.Memory ∷ []) → (w ≡ word.Line → d.Knows s line → ⊥) → (w ≡ word.Memory → d.Knows s line)
-    → IfSome left (λ input. EndsFrom d s n (lines_of input) (record { line = n; word = w }) rest held held)
+pub one_stops : {S : Type 0} (d : Dialogue S) (s : S) (n : ℕ) (line : List ℕ) (w : FaultKind) (left rest held : Option (List ℕ)) → TakesLine true line left rest → n ≤ 1000000 → length line ≤ 8000
+    → IsOneOf w (kind.Line ∷ kind.Memory ∷ []) → (w ≡ kind.Line → d.Knows s line → ⊥) → (w ≡ kind.Memory → d.Knows s line)
+    → IfSome left (λ input. EndsFrom d s n (lines_of input) (record { line = n; kind = w }) rest held held)
 one_stops d s n line w None rest held took count short one bad memory = tt
 one_stops d s n line w (Some xs) None held took count short one bad memory = absurd took
 one_stops {S} d s n line w (Some xs) (Some ys) held took count short one bad memory =
-    let f : Fault = record { line = n; word = w } in
+    let f : Fault = record { line = n; kind = w } in
     subst (λ (l : List (List ℕ)). EndsFrom d s n l f (Some ys) held held) (sym took)
     (ends_stop d s n [] (line ∷ lines_of ys) [] s f (Some ys) held held (refl, refl) (Appends-nil held) (omega arith) (stop_kept d s n w (line ∷ lines_of ys) held one)
     (stop_fault d s n line (lines_of ys) w (Some ys) one (record { count = count; short = short }) bad memory))
 
 -- the line was not read whole
-pub one_unread : {S : Type 0} (d : Dialogue S) (s : S) (n : ℕ) (w : Word) (left rest held : Option (List ℕ)) → IsOneOf w (word.Long ∷ word.Read ∷ [])
-    → (w ≡ word.Long → IfSome left BeginsLong) → (w ≡ word.Read → TakesPart left rest)
-    → IfSome left (λ input. EndsFrom d s n (lines_of input) (record { line = n; word = w }) rest held held)
+pub one_unread : {S : Type 0} (d : Dialogue S) (s : S) (n : ℕ) (w : FaultKind) (left rest held : Option (List ℕ)) → IsOneOf w (kind.Long ∷ kind.Read ∷ [])
+    → (w ≡ kind.Long → IfSome left BeginsLong) → (w ≡ kind.Read → TakesPart left rest)
+    → IfSome left (λ input. EndsFrom d s n (lines_of input) (record { line = n; kind = w }) rest held held)
 one_unread d s n w None rest held one long read = tt
 one_unread {S} d s n w (Some xs) rest held (inl e) long read =
     let begins = long e in
-    let reason : HasFault d s n word.Long (lines_of xs) rest = subst (λ (l : List (List ℕ)). HasFault d s n word.Long l rest) (sym begins.2) (inr begins.3) in
-    subst (λ (v : Word). EndsFrom d s n (lines_of xs) (record { line = n; word = v }) rest held held) (sym e)
-    (ends_stop d s n [] (lines_of xs) [] s (record { line = n; word = word.Long }) rest held held (refl, refl) (Appends-nil held) (omega arith) (Keeps-refl held) reason)
+    let reason : HasFault d s n kind.Long (lines_of xs) rest = subst (λ (l : List (List ℕ)). HasFault d s n kind.Long l rest) (sym begins.2) (inr begins.3) in
+    subst (λ (v : FaultKind). EndsFrom d s n (lines_of xs) (record { line = n; kind = v }) rest held held) (sym e)
+    (ends_stop d s n [] (lines_of xs) [] s (record { line = n; kind = kind.Long }) rest held held (refl, refl) (Appends-nil held) (omega arith) (Keeps-refl held) reason)
 one_unread {S} d s n w (Some xs) None held (inr (inl e)) long read = absurd (read e).1
 one_unread {S} d s n w (Some xs) (Some ys) held (inr (inl e)) long read =
     let part = read e in
-    subst (λ (v : Word). EndsFrom d s n (lines_of xs) (record { line = n; word = v }) (Some ys) held held) (sym e)
-    (ends_stop d s n [] (lines_of xs) [] s (record { line = n; word = word.Read }) (Some ys) held held (refl, refl) (Appends-nil held) (omega arith) (Keeps-refl held)
+    subst (λ (v : FaultKind). EndsFrom d s n (lines_of xs) (record { line = n; kind = v }) (Some ys) held held) (sym e)
+    (ends_stop d s n [] (lines_of xs) [] s (record { line = n; kind = kind.Read }) (Some ys) held held (refl, refl) (Appends-nil held) (omega arith) (Keeps-refl held)
     (part.0, ap lines_of part.1, part.2, part.3))
 one_unread d s n w (Some xs) rest held (inr (inr none)) long read = absurd none
 

@@ -1,7 +1,7 @@
 -- The whole line at the front of a text, and what is done with it.
 use Rattle.std.specs.Prelude.{◌≡◌, ℕ, ◌+◌, ◌≤◌, ◌<◌, Option, None, Some, List, ◌∷◌, ◌++◌, [], length, drop}
-use Rattle.sr_session.specs.declared.fault.Word.{Word}
-use Rattle.sr_session.specs.declared.fault.Word.TheVariants as word
+use Rattle.sr_session.specs.declared.fault.FaultKind.{FaultKind}
+use Rattle.sr_session.specs.declared.fault.FaultKind.TheVariants as kind
 use Rattle.sr_session.specs.declared.waiting.Mark.{Mark}
 use Rattle.sr_session.specs.Limits.{longest_line}
 use Rattle.sr_session.specs.Lines.{IsOneOf}
@@ -33,6 +33,6 @@ AddsFront d s number front (Some n) text marks later more t = (line : List ℕ) 
     × AddsAnswer d s number line text marks later more t
 
 -- why the line at the front is not answered
-abbrev pub FrontFails : {S : Type 0} → Dialogue S → S → List ℕ → Word → Type 0
-FrontFails d s front w = IsOneOf w (word.Line ∷ word.Memory ∷ []) × (line : List ℕ) × IsFrontLine front line
-    × (w ≡ word.Line → d.Knows s line → ⊥) × (w ≡ word.Memory → d.Knows s line)
+abbrev pub FrontFails : {S : Type 0} → Dialogue S → S → List ℕ → FaultKind → Type 0
+FrontFails d s front w = IsOneOf w (kind.Line ∷ kind.Memory ∷ []) × (line : List ℕ) × IsFrontLine front line
+    × (w ≡ kind.Line → d.Knows s line → ⊥) × (w ≡ kind.Memory → d.Knows s line)

@@ -24,7 +24,7 @@ use Rattle.std.specs.Prelude.{
 use Rattle.std.specs.Io.KnownBytes.{Consumes, IsAtEnd}
 use Rattle.sr_session.specs.Limits.{longest_line}
 use Rattle.sr_session.specs.Octets.{Lacks}
-use Rattle.sr_session.specs.declared.fault.Word.{Word}
+use Rattle.sr_session.specs.declared.fault.FaultKind.{FaultKind}
 use Rattle.sr_session.specs.declared.lines.Piece.{Piece}
 use Rattle.sr_session.specs.declared.lines.Piece.TheVariants.{Part, Last, End}
 
@@ -76,7 +76,7 @@ abbrev pub TakesPiece : Piece → List ℕ → List ℕ → Option (List ℕ) �
 TakesPiece piece old new before after = (bs : List ℕ) × (new ≡ old ++ bs) × Lacks 10 bs × Consumes before after (bs ++ end_of piece)
     × HasPieceLength piece old new × IsEndIf piece before after
 
--- the word is one of these
-abbrev pub IsOneOf : Word → List Word → Type 0
-IsOneOf word [] = ⊥
-IsOneOf word (other ∷ others) = (word ≡ other) ⊎ IsOneOf word others
+-- the kind is one of these
+abbrev pub IsOneOf : FaultKind → List FaultKind → Type 0
+IsOneOf kind [] = ⊥
+IsOneOf kind (other ∷ others) = (kind ≡ other) ⊎ IsOneOf kind others

@@ -2,8 +2,8 @@
 use Rattle.std.specs.Prelude.{◌≡◌, ℕ, ◌+◌, ◌<◌, ◌≤◌, List, [], ◌∷◌, ◌++◌, length, Option, None, Some, ◌⊎◌}
 use Rattle.std.specs.Io.KnownBytes.{Appends, Keeps}
 use Rattle.sr_session.specs.declared.fault.Fault.{Fault}
-use Rattle.sr_session.specs.declared.fault.Word.{Word}
-use Rattle.sr_session.specs.declared.fault.Word.TheVariants as word
+use Rattle.sr_session.specs.declared.fault.FaultKind.{FaultKind}
+use Rattle.sr_session.specs.declared.fault.FaultKind.TheVariants as kind
 use Rattle.sr_session.specs.Limits.{longest_line, most_lines}
 use Rattle.sr_session.specs.Lines.{lines_of}
 use Rattle.sr_session.specs.Octets.{Lacks}
@@ -42,16 +42,16 @@ IsWithinLine left (Some rest) = (part : List ℕ) × (left ≡ lines_of (part ++
 
 -- the fault of the first of the lines that are left, at the state t, the reader having this left: where it is `read`, the line was
 -- not read, and where it is `write` or `memory`, the line is none of those that are `line` or `long`
-abbrev pub HasFault : {S : Type 0} → Dialogue S → S → ℕ → Word → List (List ℕ) → Option (List ℕ) → Type 0
-HasFault d t number word.Line [] rest = ⊥
-HasFault d t number word.Line (line ∷ lines) rest = HasPlace number line × (d.Knows t line → ⊥)
-HasFault d t number word.Long [] rest = ⊥
-HasFault d t number word.Long (line ∷ lines) rest = (most_lines < number) ⊎ (longest_line < length line)
-HasFault d t number word.Read left rest = IsWithinLine left rest
-HasFault d t number word.Write [] rest = Unit {0}
-HasFault d t number word.Write (line ∷ lines) rest = HasPlace number line × d.Knows t line
-HasFault d t number word.Memory [] rest = Unit {0}
-HasFault d t number word.Memory (line ∷ lines) rest = HasPlace number line × d.Knows t line
+abbrev pub HasFault : {S : Type 0} → Dialogue S → S → ℕ → FaultKind → List (List ℕ) → Option (List ℕ) → Type 0
+HasFault d t number kind.Line [] rest = ⊥
+HasFault d t number kind.Line (line ∷ lines) rest = HasPlace number line × (d.Knows t line → ⊥)
+HasFault d t number kind.Long [] rest = ⊥
+HasFault d t number kind.Long (line ∷ lines) rest = (most_lines < number) ⊎ (longest_line < length line)
+HasFault d t number kind.Read left rest = IsWithinLine left rest
+HasFault d t number kind.Write [] rest = Unit {0}
+HasFault d t number kind.Write (line ∷ lines) rest = HasPlace number line × d.Knows t line
+HasFault d t number kind.Memory [] rest = Unit {0}
+HasFault d t number kind.Memory (line ∷ lines) rest = HasPlace number line × d.Knows t line
 
 -- an answer to the first of the lines that are left, or where none is left what is said at the end
 abbrev pub IsNextText : {S : Type 0} → Dialogue S → S → ℕ → List (List ℕ) → List ℕ → Type 0
@@ -59,12 +59,12 @@ IsNextText d t number [] text = d.Ends t text
 IsNextText d t number (line ∷ lines) text = (u : _) × d.Replied t number line text u
 
 -- what is held stays; where a write failed it grew by the front of what was to be written next
-abbrev pub HeldSince : {S : Type 0} → Dialogue S → S → ℕ → Word → List (List ℕ) → Option (List ℕ) → Option (List ℕ) → Type 0
-HeldSince d t number word.Line left held now = Keeps held now
-HeldSince d t number word.Long left held now = Keeps held now
-HeldSince d t number word.Read left held now = Keeps held now
-HeldSince d t number word.Write left held now = (part rest : List ℕ) × Appends held now part × IsNextText d t number left (part ++ rest)
-HeldSince d t number word.Memory left held now = Keeps held now
+abbrev pub HeldSince : {S : Type 0} → Dialogue S → S → ℕ → FaultKind → List (List ℕ) → Option (List ℕ) → Option (List ℕ) → Type 0
+HeldSince d t number kind.Line left held now = Keeps held now
+HeldSince d t number kind.Long left held now = Keeps held now
+HeldSince d t number kind.Read left held now = Keeps held now
+HeldSince d t number kind.Write left held now = (part rest : List ℕ) × Appends held now part × IsNextText d t number left (part ++ rest)
+HeldSince d t number kind.Memory left held now = Keeps held now
 
 -- A run over lines, of which the first has this number, came to the line of the fault: those before it are answered, and then nothing more
 -- is written, but for a part of the text of that line where a write failed.
@@ -77,8 +77,8 @@ pub record EndsFrom {S : Type 0} (d : Dialogue S) (start : S) (first : ℕ) (lin
   pub then_held : Option (List ℕ)
   pub reached : S
   pub answered : AreAnswered d start first before held then_held reached
-  pub kept : HeldSince d reached fault.line fault.word left then_held now
-  pub reason : HasFault d reached fault.line fault.word left rest
+  pub kept : HeldSince d reached fault.line fault.kind left then_held now
+  pub reason : HasFault d reached fault.line fault.kind left rest
 
 -- the same of a whole run, whose first line is line 1
 abbrev pub EndsAt : {S : Type 0} → Dialogue S → S → List (List ℕ) → Fault → Option (List ℕ) → Option (List ℕ) → Option (List ℕ) → Type 0
@@ -87,6 +87,6 @@ EndsAt d start lines fault rest held now = EndsFrom d start 1 lines fault rest h
 -- memory was refused before the first line was read
 pub record IsNotBegun (fault : Fault) (left rest held now : Option (List ℕ)) : Type 0 where
   pub line : fault.line ≡ 1
-  pub word_is : fault.word ≡ word.Memory
+  pub kind_is : fault.kind ≡ kind.Memory
   pub read : Keeps left rest
   pub written : Keeps held now

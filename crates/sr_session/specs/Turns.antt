@@ -3,8 +3,8 @@ use Rattle.std.specs.Prelude.{◌≡◌, ℕ, ◌+◌, ◌≤◌, ◌<◌, nat_l
 use Rattle.std.specs.Prelude.{List, [], ◌∷◌, ◌++◌, length, take, drop}
 use Rattle.std.specs.Io.KnownBytes.{Appends, Keeps}
 use Rattle.sr_session.specs.declared.fault.Fault.{Fault}
-use Rattle.sr_session.specs.declared.fault.Word.{Word}
-use Rattle.sr_session.specs.declared.fault.Word.TheVariants as word
+use Rattle.sr_session.specs.declared.fault.FaultKind.{FaultKind}
+use Rattle.sr_session.specs.declared.fault.FaultKind.TheVariants as kind
 use Rattle.sr_session.specs.declared.waiting.Mark.{Mark}
 use Rattle.sr_session.specs.declared.running.Front.{Front}
 use Rattle.sr_session.specs.Limits.{most_lines}
@@ -39,7 +39,7 @@ AddsAnswer d s number line text marks later more t = (first : List ℕ) × d.Kno
 -- the last.
 abbrev pub IsCut : List ℕ → List Mark → Fault → Option (List ℕ) → Option (List ℕ) → Type 0
 IsCut text marks fault held now = (taken place : ℕ) × Appends held now (take taken text) × (place ≤ taken) × (taken ≤ place + 1)
-    × (place < length text) × (fault.line ≡ line_of marks place) × (fault.word ≡ word.Write)
+    × (place < length text) × (fault.line ≡ line_of marks place) × (fault.kind ≡ kind.Write)
 
 -- where the octets that a reader has left are known, it lost these lines
 abbrev pub TakesLines : List (List ℕ) → Option (List ℕ) → Option (List ℕ) → Type 0
@@ -52,11 +52,11 @@ abbrev pub BeginsWith : List ℕ → ℕ → List (List ℕ) → Type 0
 BeginsWith octets at lines = (more : List ℕ) → lines_of (octets ++ more) ≡ lines ++ lines_of (drop at octets ++ more)
 
 -- why no more lines are obeyed at the state u: the first line of the octets has this fault
-abbrev pub StopsSo : {S : Type 0} → Dialogue S → S → ℕ → List ℕ → Option Word → S → Type 0
+abbrev pub StopsSo : {S : Type 0} → Dialogue S → S → ℕ → List ℕ → Option FaultKind → S → Type 0
 StopsSo d u number octets None t = t ≡ u
-StopsSo d u number octets (Some w) t = IsOneOf w (word.Line ∷ word.Memory ∷ []) × (line : List ℕ) × HasPlace number line
+StopsSo d u number octets (Some w) t = IsOneOf w (kind.Line ∷ kind.Memory ∷ []) × (line : List ℕ) × HasPlace number line
     × ((more : List ℕ) → (rest : List (List ℕ)) × (lines_of (octets ++ more) ≡ line ∷ rest))
-    × (w ≡ word.Line → d.Knows u line → ⊥) × (w ≡ word.Memory → d.Knows u line)
+    × (w ≡ kind.Line → d.Knows u line → ⊥) × (w ≡ kind.Memory → d.Knows u line)
 
 -- the front of the octets was obeyed, and its text waits
 pub record IsFront {S : Type 0} (d : Dialogue S) (s : S) (first : ℕ) (octets text : List ℕ) (marks : List Mark) (front : Front) (t : S) :

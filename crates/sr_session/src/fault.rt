@@ -8,7 +8,7 @@ use std::fmt;
 
 /// What ends a run.
 #[derive(Clone, Copy, Debug, PartialEq, Eq)]
-pub enum Word {
+pub enum FaultKind {
     /// The line is none of a script: not of its grammar, or not ASCII.
     Line,
     /// The line has more than 8000 octets, or 1,000,000 lines stand before it.
@@ -21,31 +21,31 @@ pub enum Word {
     Memory,
 }
 
-impl fmt::Display for Word {
-    ghost use Rattle.sr_session.specs.FaultTexts.{word_text};
+impl fmt::Display for FaultKind {
+    ghost use Rattle.sr_session.specs.FaultTexts.{kind_text};
 
-    ghost output = { λ word. Some (word_text word) };
+    ghost output = { λ kind. Some (kind_text kind) };
 
     fn fmt<W: fmt::Write>(&self, f: &mut fmt::Formatter<W>) -> fmt::Result {
         f.write_str(match self {
-            Word::Line => "line",
-            Word::Long => "long",
-            Word::Read => "read",
-            Word::Write => "write",
-            Word::Memory => "memory",
+            FaultKind::Line => "line",
+            FaultKind::Long => "long",
+            FaultKind::Read => "read",
+            FaultKind::Write => "write",
+            FaultKind::Memory => "memory",
         })
     }
 }
 
-impl Error for Word {}
+impl Error for FaultKind {}
 
-impl From<AllocError> for Word {
-    ghost use Rattle.sr_session.specs.declared.fault.Word.TheVariants.{Memory};
+impl From<AllocError> for FaultKind {
+    ghost use Rattle.sr_session.specs.declared.fault.FaultKind.TheVariants.{Memory};
 
-    ghost from_gives = { λ _ word. word ≡ Memory };
+    ghost from_gives = { λ _ kind. kind ≡ Memory };
 
-    fn from(_error: AllocError) -> Word {
-        Word::Memory
+    fn from(_error: AllocError) -> FaultKind {
+        FaultKind::Memory
     }
 }
 
@@ -55,7 +55,7 @@ pub struct Fault {
     /// The line at work; the count of lines plus 1 where the end is at work.
     pub line: u64,
     /// What ended the run.
-    pub word: Word,
+    pub kind: FaultKind,
 }
 
 impl fmt::Display for Fault {
@@ -64,7 +64,7 @@ impl fmt::Display for Fault {
     ghost output = { λ fault. Some (fault_text fault) };
 
     fn fmt<W: fmt::Write>(&self, f: &mut fmt::Formatter<W>) -> fmt::Result {
-        write!(f, "fault {} {}", self.line, self.word)
+        write!(f, "fault {} {}", self.line, self.kind)
     }
 }
 
@@ -73,5 +73,5 @@ impl Error for Fault {}
 /// Memory was refused before the first line was read.
 pub const NOT_BEGUN: Fault = Fault {
     line: 1,
-    word: Word::Memory,
+    kind: FaultKind::Memory,
 };

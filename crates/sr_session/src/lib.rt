@@ -7,7 +7,7 @@ mod running;
 mod session;
 mod waiting;
 
-pub use fault::{Fault, NOT_BEGUN, Word};
+pub use fault::{Fault, FaultKind, NOT_BEGUN};
 pub use lines::MAX_LINE;
 pub use running::run_session;
 pub use session::Session;

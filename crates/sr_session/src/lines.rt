@@ -5,7 +5,7 @@ ghost use Rattle.std.specs.Io.KnownBytes.{IsAtEnd, Keeps};
 ghost use Rattle.sr_session.specs.Lines.{TakesLine, TakesPart, BeginsLong, TakesPiece, IsOneOf};
 ghost use Rattle.sr_session.specs.Octets.{IsPlaceOf};
 
-use crate::fault::Word;
+use crate::fault::FaultKind;
 use memchr::memchr;
 use std::alloc::{AllocError, Global};
 use std::io::BufRead;
@@ -32,18 +32,18 @@ pub(crate) fn place_of(octet: u8, octets: &[u8]) -> Option<usize>
 }
 
 /// Takes what the reader has at hand of a line, but no more than makes the line one octet too long.
-fn take_piece<R: BufRead>(reader: &mut R, line: &mut Vec<u8>) -> Result<Piece, Word>
+fn take_piece<R: BufRead>(reader: &mut R, line: &mut Vec<u8>) -> Result<Piece, FaultKind>
     requires short { vec_len line.old ≤ 8000 }
     requires room { 8001 ≤ vec_capacity line.old }
     ensures taken { IfOk result (λ piece. TakesPiece piece line.old.items line.new.items
         (R.remaining reader.old) (R.remaining reader.new)) }
-    ensures fault { IfErr result (λ word. word ≡ Word.Read) }
+    ensures fault { IfErr result (λ kind. kind ≡ FaultKind.Read) }
     ensures untaken { OnErr result (Keeps (R.remaining reader.old) (R.remaining reader.new)) }
     ensures room { vec_capacity line.old ≤ vec_capacity line.new }
 {
     let room = MAX_LINE + 1 - line.len();
     let Ok(available) = reader.fill_buf() else {
-        return Err(Word::Read);
+        return Err(FaultKind::Read);
     };
     if available.is_empty() {
         return Ok(Piece::End);
@@ -69,15 +69,15 @@ fn take_piece<R: BufRead>(reader: &mut R, line: &mut Vec<u8>) -> Result<Piece, W
 /// # Errors
 /// `Long` for a line of more than 8000 octets, of which no more than 8001 are taken; `Read` where the
 /// reader fails.
-pub(crate) fn next_line<R: BufRead>(reader: &mut R, line: &mut Vec<u8>) -> Result<bool, Word>
+pub(crate) fn next_line<R: BufRead>(reader: &mut R, line: &mut Vec<u8>) -> Result<bool, FaultKind>
     requires { 8001 ≤ vec_capacity line.old }
     ensures taken { IfOk result (λ more.
         TakesLine more line.new.items (R.remaining reader.old) (R.remaining reader.new)) }
     ensures short { IfOk result (λ _. length line.new.items ≤ 8000) }
-    ensures long { result ≡ Err Word.Long → IfSome (R.remaining reader.old) BeginsLong }
-    ensures read { result ≡ Err Word.Read
+    ensures long { result ≡ Err FaultKind.Long → IfSome (R.remaining reader.old) BeginsLong }
+    ensures read { result ≡ Err FaultKind.Read
         → TakesPart (R.remaining reader.old) (R.remaining reader.new) }
-    ensures fault { IfErr result (λ word. IsOneOf word (Word.Long ∷ Word.Read ∷ [])) }
+    ensures fault { IfErr result (λ kind. IsOneOf kind (FaultKind.Long ∷ FaultKind.Read ∷ [])) }
     ensures room { vec_capacity line.old ≤ vec_capacity line.new }
 {
     line.clear();
@@ -88,22 +88,22 @@ pub(crate) fn next_line<R: BufRead>(reader: &mut R, line: &mut Vec<u8>) -> Resul
             Piece::End => return Ok(!line.is_empty()),
         }
     }
-    Err(Word::Long)
+    Err(FaultKind::Long)
 }
 
 /// Whether the reader has nothing left.
 ///
 /// # Errors
 /// `Read` where the reader fails.
-pub(crate) fn is_at_end<R: BufRead>(reader: &mut R) -> Result<bool, Word>
+pub(crate) fn is_at_end<R: BufRead>(reader: &mut R) -> Result<bool, FaultKind>
     ensures ended { result ≡ Ok true → IsAtEnd (R.remaining reader.old) }
     ensures more { result ≡ Ok false → IfSome (R.remaining reader.old) (λ octets. octets ≢ []) }
-    ensures fault { IfErr result (λ word. word ≡ Word.Read) }
+    ensures fault { IfErr result (λ kind. kind ≡ FaultKind.Read) }
     ensures untaken { OnErr result (Keeps (R.remaining reader.old) (R.remaining reader.new)) }
 {
     match reader.fill_buf() {
         Ok(available) => Ok(available.is_empty()),
-        Err(_) => Err(Word::Read),
+        Err(_) => Err(FaultKind::Read),
     }
 }
 

@@ -7,7 +7,7 @@ ghost use Rattle.sr_session.specs.Runs.{IsAnswered, IsNotBegun, EndsAt, EndsFrom
 ghost use Rattle.sr_session.specs.Fronts.{IsFrontLine, AddsFront, FrontFails};
 ghost use Rattle.sr_session.specs.Turns.{AddsAnswer, IsFront, AreObeyed, Turned, AllAnswered};
 
-use crate::fault::{Fault, NOT_BEGUN, Word};
+use crate::fault::{Fault, FaultKind, NOT_BEGUN};
 use crate::lines::{MAX_LINE, is_at_end, line_list, next_line, place_of};
 use crate::session::Session;
 use crate::waiting::{Waiting, write_out};
@@ -28,7 +28,7 @@ struct Front {
     // The number of the line behind them.
     next: u64,
     // What is wrong with that line.
-    fault: Option<Word>,
+    fault: Option<FaultKind>,
 }
 
 /// The whole line, of no more than 8000 octets, at the front of octets. None where there is none.
@@ -46,20 +46,20 @@ fn obey_line<S: Session>(
     number: u64,
     line: &[u8],
     waiting: &mut Waiting,
-) -> Result<(), Word>
+) -> Result<(), FaultKind>
     ensures ok { OnOk result (AddsAnswer S.dialogue (S.state session.old) number line.now
         waiting.old.text waiting.old.marks.items
         waiting.new.text waiting.new.marks.items (S.state session.new)) }
-    ensures bad { result ≡ Err Word.Line → S.dialogue.Knows (S.state session.old) line.now → ⊥ }
-    ensures memory { result ≡ Err Word.Memory → S.dialogue.Knows (S.state session.old) line.now }
-    ensures fault { IfErr result (λ word. IsOneOf word (Word.Line ∷ Word.Memory ∷ [])) }
+    ensures bad { result ≡ Err FaultKind.Line → S.dialogue.Knows (S.state session.old) line.now → ⊥ }
+    ensures memory { result ≡ Err FaultKind.Memory → S.dialogue.Knows (S.state session.old) line.now }
+    ensures fault { IfErr result (λ kind. IsOneOf kind (FaultKind.Line ∷ FaultKind.Memory ∷ [])) }
     ensures same { OnErr result ((waiting.new.text ≡ waiting.old.text)
         × (waiting.new.marks.items ≡ waiting.old.marks.items)) }
 {
     let start = waiting.text.len();
     let answered = match session.answer(number, line, &mut waiting.text) {
         Ok(()) => waiting.mark(number, start),
-        Err(word) => Err(word),
+        Err(kind) => Err(kind),
     };
     if answered.is_err() {
         waiting.cut(start);
@@ -75,7 +75,7 @@ fn obey_sought<S: Session>(
     number: u64,
     octets: &[u8],
     waiting: &mut Waiting,
-) -> Result<Option<usize>, Word>
+) -> Result<Option<usize>, FaultKind>
     ensures ok { IfOk result (λ found. AddsFront S.dialogue (S.state session.old) number octets.now
         found waiting.old.text waiting.old.marks.items waiting.new.text
         waiting.new.marks.items (S.state session.new)) }
@@ -98,7 +98,7 @@ fn obey_whole<S: Session>(
     number: u64,
     octets: &[u8],
     waiting: &mut Waiting,
-) -> Result<Option<usize>, Word>
+) -> Result<Option<usize>, FaultKind>
     ensures ok { IfOk result (λ found. AddsFront S.dialogue (S.state session.old) number octets.now
         found waiting.old.text waiting.old.marks.items waiting.new.text
         waiting.new.marks.items (S.state session.new)) }
@@ -112,9 +112,9 @@ fn obey_whole<S: Session>(
         Ok(None) => return obey_sought(session, number, octets, waiting),
         Ok(Some(length)) => match waiting.mark(number, from) {
             Ok(()) => Ok(Some(length)),
-            Err(word) => Err(word),
+            Err(kind) => Err(kind),
         },
-        Err(word) => Err(word),
+        Err(kind) => Err(kind),
     };
     if answered.is_err() {
         waiting.cut(from);
@@ -145,11 +145,11 @@ fn obey_front<S: Session>(
                 next += 1;
             }
             Ok(None) => break,
-            Err(word) => {
+            Err(kind) => {
                 return Front {
                     used,
                     next,
-                    fault: Some(word),
+                    fault: Some(kind),
                 };
             }
         }
@@ -187,7 +187,7 @@ fn obey_at_hand<S: Session, R: BufRead, W: Write>(
     let Ok(available) = reader.fill_buf() else {
         return Err(Fault {
             line: first,
-            word: Word::Read,
+            kind: FaultKind::Read,
         });
     };
     let front = obey_front(session, first, available, waiting);
@@ -196,9 +196,9 @@ fn obey_at_hand<S: Session, R: BufRead, W: Write>(
         return Err(fault);
     }
     match front.fault {
-        Some(word) => Err(Fault {
+        Some(kind) => Err(Fault {
             line: front.next,
-            word,
+            kind,
         }),
         None => Ok(front.next),
     }
@@ -231,10 +231,10 @@ fn obey_next<S: Session, R: BufRead, W: Write>(
     match next_line(reader, line) {
         Ok(true) => {}
         Ok(false) => return Ok(false),
-        Err(word) => return Err(Fault { line: number, word }),
+        Err(kind) => return Err(Fault { line: number, kind }),
     }
-    if let Err(word) = obey_line(session, number, line, waiting) {
-        return Err(Fault { line: number, word });
+    if let Err(kind) = obey_line(session, number, line, waiting) {
+        return Err(Fault { line: number, kind });
     }
     if let Err(fault) = waiting.send(writer) {
         return Err(fault);
@@ -280,9 +280,9 @@ fn obey_lines<S: Session, R: BufRead, W: Write>(
         Ok(true) => Ok(line),
         Ok(false) => Err(Fault {
             line,
-            word: Word::Long,
+            kind: FaultKind::Long,
         }),
-        Err(word) => Err(Fault { line, word }),
+        Err(kind) => Err(Fault { line, kind }),
     }
 }
 
@@ -291,12 +291,12 @@ fn end<S: Session, W: Write>(
     session: &mut S,
     text: &mut Vec<u8>,
     writer: &mut W,
-) -> Result<(), Word>
+) -> Result<(), FaultKind>
     ensures ended { OnOk result ((last : List ℕ) × S.dialogue.Ends (S.state session.old) last
         × Appends (W.contents writer.old) (W.contents writer.new) last) }
-    ensures failed { IfErr result (λ word. IsOneOf word (Word.Write ∷ Word.Memory ∷ [])) }
-    ensures kept { IfErr result (λ word. (number : ℕ)
-        → HeldSince S.dialogue (S.state session.old) number word [] (W.contents writer.old)
+    ensures failed { IfErr result (λ kind. IsOneOf kind (FaultKind.Write ∷ FaultKind.Memory ∷ [])) }
+    ensures kept { IfErr result (λ kind. (number : ℕ)
+        → HeldSince S.dialogue (S.state session.old) number kind [] (W.contents writer.old)
         (W.contents writer.new)) }
 {
     text.clear();
@@ -305,7 +305,7 @@ fn end<S: Session, W: Write>(
         return Ok(());
     }
     if write_out(writer, text) < text.len() || writer.flush().is_err() {
-        return Err(Word::Write);
+        return Err(FaultKind::Write);
     }
     Ok(())
 }
@@ -332,7 +332,7 @@ fn obey_script<S: Session, R: BufRead, W: Write>(
     let number = obey_lines(session, line, waiting, reader, writer)?;
     match end(session, text, writer) {
         Ok(()) => Ok(()),
-        Err(word) => Err(Fault { line: number, word }),
+        Err(kind) => Err(Fault { line: number, kind }),
     }
 }
 

@@ -4,7 +4,7 @@ ghost use Rattle.std.specs.Prelude.{◌≡◌, ◌∷◌, [], ◌++◌, ℕ, Lis
 ghost use Rattle.sr_session.specs.Octets.{StillHolds};
 ghost use Rattle.sr_session.specs.Lines.{IsOneOf};
 
-use crate::fault::Word;
+use crate::fault::FaultKind;
 use sr_text::Text;
 
 /// What obeys the lines of a script, and says what is printed for each and at the end. It knows no reader and no writer.
@@ -24,15 +24,15 @@ pub trait Session: Drop {
     ///
     /// Errors: `Line` where it does not know the line, whatever memory there is; `Memory`. On an error the earlier contents of
     /// `text` are unchanged; what was appended behind them says nothing and has to be cut off.
-    fn answer(&mut self, number: u64, line: &[u8], text: &mut Text) -> Result<(), Word>
+    fn answer(&mut self, number: u64, line: &[u8], text: &mut Text) -> Result<(), FaultKind>
         ensures ok { OnOk result ((answer : List ℕ)
             × dialogue.Replied (state self.old) number line.now answer (state self.new)
             × (text.new ≡ text.old ++ answer)) }
         ensures kept { OnErr result (StillHolds text.old text.new) }
         ensures known { OnOk result (dialogue.Knows (state self.old) line.now) }
-        ensures bad { result ≡ Err Word.Line → dialogue.Knows (state self.old) line.now → ⊥ }
-        ensures memory { result ≡ Err Word.Memory → dialogue.Knows (state self.old) line.now }
-        ensures fault { IfErr result (λ word. IsOneOf word (Word.Line ∷ Word.Memory ∷ [])) };
+        ensures bad { result ≡ Err FaultKind.Line → dialogue.Knows (state self.old) line.now → ⊥ }
+        ensures memory { result ≡ Err FaultKind.Memory → dialogue.Knows (state self.old) line.now }
+        ensures fault { IfErr result (λ kind. IsOneOf kind (FaultKind.Line ∷ FaultKind.Memory ∷ [])) };
 
     /// Obeys the line at the front of a text where the session can tell on the way where that ends. The answer is how many octets the
     /// line has, without the LF that ends it. What is to be printed for it then stands behind what `text` held. None where the end of
@@ -45,19 +45,19 @@ pub trait Session: Drop {
         number: u64,
         front: &[u8],
         text: &mut Text,
-    ) -> Result<Option<usize>, Word>
+    ) -> Result<Option<usize>, FaultKind>
         ensures ok { IfOk result (λ length. AnswersFront dialogue (state self.old) number front.now
             length text.old text.new (state self.new)) }
         ensures kept { OnErr result (StillHolds text.old text.new) }
         ensures known { OnErr result (KnowsFront dialogue (state self.old) front.now) }
-        ensures err { IfErr result (λ word. word ≡ Word.Memory) }
+        ensures err { IfErr result (λ kind. kind ≡ FaultKind.Memory) }
     {
         Ok(None)
     }
 
     /// What is to be printed at the end of the script.
-    fn finish(&mut self, text: &mut Vec<u8>) -> Result<(), Word>
+    fn finish(&mut self, text: &mut Vec<u8>) -> Result<(), FaultKind>
         requires { text.old.items ≡ [] }
         ensures ok { OnOk result (dialogue.Ends (state self.old) text.new.items) }
-        ensures err { IfErr result (λ word. word ≡ Word.Memory) };
+        ensures err { IfErr result (λ kind. kind ≡ FaultKind.Memory) };
 }

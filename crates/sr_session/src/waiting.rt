@@ -4,7 +4,7 @@ ghost use Rattle.std.specs.Prelude.{◌≡◌, ◌≤◌, ◌++◌, [], length, 
 ghost use Rattle.std.specs.Io.KnownBytes.{Appends};
 ghost use Rattle.sr_session.specs.Turns.{marked, line_of, IsCut};
 
-use crate::fault::{Fault, Word};
+use crate::fault::{Fault, FaultKind};
 use sr_text::Text;
 use std::alloc::Global;
 use std::io::{ErrorKind, Write};
@@ -85,12 +85,12 @@ impl Waiting {
     /// # Errors
     /// `Memory`.
     #[inline(always)]
-    pub(crate) fn mark(&mut self, line: u64, start: usize) -> Result<(), Word>
+    pub(crate) fn mark(&mut self, line: u64, start: usize) -> Result<(), FaultKind>
         ensures text { self.new.text ≡ self.old.text }
         ensures marks { OnOk result (self.new.marks.items ≡ self.old.marks.items
             ++ marked line (length self.old.text) (drop start self.old.text) []) }
         ensures same { OnErr result (self.new.marks.items ≡ self.old.marks.items) }
-        ensures err { IfErr result (λ word. word ≡ Word.Memory) }
+        ensures err { IfErr result (λ kind. kind ≡ FaultKind.Memory) }
     {
         let end = self.text.len();
         if end <= start {
@@ -98,7 +98,7 @@ impl Waiting {
         }
         match self.marks.push(Mark { line, end }) {
             Ok(()) => Ok(()),
-            Err(_) => Err(Word::Memory),
+            Err(_) => Err(FaultKind::Memory),
         }
     }
 
@@ -123,7 +123,7 @@ impl Waiting {
             let place = taken.min(self.text.len() - 1);
             return Err(Fault {
                 line: line_of(&self.marks, place),
-                word: Word::Write,
+                kind: FaultKind::Write,
             });
         }
         self.text.truncate(0);

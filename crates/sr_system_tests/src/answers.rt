@@ -1,9 +1,9 @@
 //! How a run of a script ends, and the answers that it writes.
 
-use sr_session::{Fault, Word};
+use sr_session::{Fault, FaultKind};
 
 /// How a run has to end: with the fault of a line, or well.
-pub type Ending = Option<(u64, Word)>;
+pub type Ending = Option<(u64, FaultKind)>;
 
 /// Whether a run ends so. None for want of memory.
 pub fn is_ended(outcome: Result<(), Fault>, ending: Ending) -> Option<bool> {
@@ -11,11 +11,11 @@ pub fn is_ended(outcome: Result<(), Fault>, ending: Ending) -> Option<bool> {
         Ok(()) => Some(ending.is_none()),
         Err(
             Fault {
-                word: Word::Memory,
+                kind: FaultKind::Memory,
                 ..
             },
         ) => None,
-        Err(Fault { line, word }) => Some(ending == Some((line, word))),
+        Err(Fault { line, kind }) => Some(ending == Some((line, kind))),
     }
 }
 

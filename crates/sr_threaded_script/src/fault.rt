@@ -1,7 +1,7 @@
 //! Why a threaded run ends early.
 
 use sr_frame::NoMemory;
-use sr_session::{Fault, Word};
+use sr_session::{Fault, FaultKind};
 use sr_threaded::NetworkFault;
 use sr_workers::WorkerFault;
 use std::alloc::AllocError;
@@ -44,9 +44,9 @@ impl From<NoMemory> for RunFault {
     }
 }
 
-impl From<RunFault> for Word {
-    fn from(_fault: RunFault) -> Word {
-        Word::Memory
+impl From<RunFault> for FaultKind {
+    fn from(_fault: RunFault) -> FaultKind {
+        FaultKind::Memory
     }
 }
 

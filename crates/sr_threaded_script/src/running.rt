@@ -9,7 +9,7 @@ use crate::fault::{ThreadedFault, fault_at};
 use crate::network::run_network;
 use crate::session::SendSession;
 use crate::setup::ThreadedSetup;
-use sr_session::{Fault, Word, run_session};
+use sr_session::{Fault, FaultKind, run_session};
 use sr_text::Text;
 use std::alloc::Global;
 use std::io::{BufRead, ErrorKind, Write};
@@ -69,7 +69,7 @@ fn report<O: Write, W: Threads + Wait + Sync>(
             } else {
                 Err(ThreadedFault::Script(Fault {
                     line,
-                    word: Word::Write,
+                    kind: FaultKind::Write,
                 }))
             }
         }

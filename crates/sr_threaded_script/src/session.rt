@@ -6,7 +6,7 @@ use crate::reading::sending_of;
 use crate::setup::ThreadedSetup;
 use sr_frame::Frame;
 use sr_plant_script::{send_refusal, sent_frame, tell_refusal};
-use sr_session::{Session, Word};
+use sr_session::{FaultKind, Session};
 use sr_text::Text;
 use std::alloc::Global;
 
@@ -50,10 +50,10 @@ impl Session for SendSession {
 
     ghost dialogue = { threaded_dialogue };
 
-    fn answer(&mut self, number: u64, line: &[u8], text: &mut Text) -> Result<(), Word> {
+    fn answer(&mut self, number: u64, line: &[u8], text: &mut Text) -> Result<(), FaultKind> {
         let asked = match sending_of(line, &mut self.octets) {
             Ok(asked) => asked,
-            Err(word) => return Err(word),
+            Err(kind) => return Err(kind),
         };
         self.last = number;
         let Some((node, receiver)) = asked else {
@@ -75,7 +75,7 @@ impl Session for SendSession {
         }
     }
 
-    fn finish(&mut self, _text: &mut Vec<u8>) -> Result<(), Word> {
+    fn finish(&mut self, _text: &mut Vec<u8>) -> Result<(), FaultKind> {
         Ok(())
     }
 }

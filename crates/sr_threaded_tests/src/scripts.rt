@@ -2,7 +2,7 @@
 
 use sr_dup_table::Width;
 use sr_node::{Mode, Settings};
-use sr_session::{Fault, Word};
+use sr_session::{Fault, FaultKind};
 use sr_threaded_script::{ThreadedFault, ThreadedNet, ThreadedSetup, run_threaded};
 use std::alloc::Global;
 use std::sync::Wait;
@@ -91,7 +91,7 @@ fn holds<W: Threads + Wait + Sync>(rt: &W, alloc: Global, step: Step) -> bool {
             let ran = printed(rt, alloc, ThreadedNet::Ring, PLAIN, script, &mut writer);
             let fault = Fault {
                 line: 1,
-                word: Word::Line,
+                kind: FaultKind::Line,
             };
             ran == Err(ThreadedFault::Script(fault)) && writer.is_empty()
         }

@@ -7,33 +7,33 @@ ghost use Rattle.std.specs.List.{AllPass};
 ghost use Rattle.hex.specs.Hex.{is_hex_digit};
 
 use sr_hex::are_digits;
-use sr_session::Word;
+use sr_session::FaultKind;
 
 /// Gives a list more octets than it has. Where memory has to grow for them, the digits are looked at first. It stands apart,
 /// so that octets that are no more than those of the line before cost no call.
 #[inline(never)]
-fn lengthen(digits: &[u8], octets: &mut Vec<u8>, count: usize) -> Result<(), Word>
+fn lengthen(digits: &[u8], octets: &mut Vec<u8>, count: usize) -> Result<(), FaultKind>
     ensures ok { OnOk result (length octets.new.items ≡ count) }
-    ensures bad { result ≡ Err Word.Line → AllPass is_hex_digit digits.now → ⊥ }
-    ensures memory { result ≡ Err Word.Memory → AllPass is_hex_digit digits.now }
-    ensures fault { IfErr result (λ word. IsOneOf word (Word.Line ∷ Word.Memory ∷ [])) }
+    ensures bad { result ≡ Err FaultKind.Line → AllPass is_hex_digit digits.now → ⊥ }
+    ensures memory { result ≡ Err FaultKind.Memory → AllPass is_hex_digit digits.now }
+    ensures fault { IfErr result (λ kind. IsOneOf kind (FaultKind.Line ∷ FaultKind.Memory ∷ [])) }
 {
     if octets.capacity() < count && !are_digits(digits) {
-        return Err(Word::Line);
+        return Err(FaultKind::Line);
     }
     match octets.resize(count, 0) {
         Ok(()) => Ok(()),
-        Err(_) => Err(Word::Memory),
+        Err(_) => Err(FaultKind::Memory),
     }
 }
 
 /// Gives a list so many octets.
 #[inline(always)]
-fn make_room(digits: &[u8], octets: &mut Vec<u8>, count: usize) -> Result<(), Word>
+fn make_room(digits: &[u8], octets: &mut Vec<u8>, count: usize) -> Result<(), FaultKind>
     ensures ok { OnOk result (length octets.new.items ≡ count) }
-    ensures bad { result ≡ Err Word.Line → AllPass is_hex_digit digits.now → ⊥ }
-    ensures memory { result ≡ Err Word.Memory → AllPass is_hex_digit digits.now }
-    ensures fault { IfErr result (λ word. IsOneOf word (Word.Line ∷ Word.Memory ∷ [])) }
+    ensures bad { result ≡ Err FaultKind.Line → AllPass is_hex_digit digits.now → ⊥ }
+    ensures memory { result ≡ Err FaultKind.Memory → AllPass is_hex_digit digits.now }
+    ensures fault { IfErr result (λ kind. IsOneOf kind (FaultKind.Line ∷ FaultKind.Memory ∷ [])) }
 {
     if octets.len() < count {
         return lengthen(digits, octets, count);
@@ -47,22 +47,22 @@ fn make_room(digits: &[u8], octets: &mut Vec<u8>, count: usize) -> Result<(), Wo
 /// # Errors
 /// `Line` where the digits are none, not even in number, or not all digits, whatever memory there is; `Memory`. What
 /// `octets` then holds says nothing.
-pub fn read_hex(digits: &[u8], octets: &mut Vec<u8>) -> Result<(), Word>
+pub fn read_hex(digits: &[u8], octets: &mut Vec<u8>) -> Result<(), FaultKind>
     ensures found { OnOk result (IsHex digits.now octets.new.items) }
-    ensures only { (os : List ℕ) → IsHex digits.now os → IfErr result (λ word. word ≡ Word.Memory) }
-    ensures memory { result ≡ Err Word.Memory → (os : List ℕ) × IsHex digits.now os }
-    ensures fault { IfErr result (λ word. IsOneOf word (Word.Line ∷ Word.Memory ∷ [])) }
+    ensures only { (os : List ℕ) → IsHex digits.now os → IfErr result (λ kind. kind ≡ FaultKind.Memory) }
+    ensures memory { result ≡ Err FaultKind.Memory → (os : List ℕ) × IsHex digits.now os }
+    ensures fault { IfErr result (λ kind. IsOneOf kind (FaultKind.Line ∷ FaultKind.Memory ∷ [])) }
 {
     let count = digits.len() / 2;
     if digits.len() % 2 != 0 || count == 0 {
-        return Err(Word::Line);
+        return Err(FaultKind::Line);
     }
-    if let Err(word) = make_room(digits, octets, count) {
-        return Err(word);
+    if let Err(kind) = make_room(digits, octets, count) {
+        return Err(kind);
     }
     if sr_hex::read_hex(digits, octets.as_mut_slice()) {
         Ok(())
     } else {
-        Err(Word::Line)
+        Err(FaultKind::Line)
     }
 }

@@ -4,7 +4,7 @@
 use crate::answers::{Ending, are_answers, is_ended};
 use sr_node::Settings;
 use sr_plant_script::{PlantSetup, Topology, run_plant};
-use sr_session::{Fault, Word};
+use sr_session::{Fault, FaultKind};
 use std::alloc::{AllocError, Global};
 
 /// A text, in parts.
@@ -78,7 +78,7 @@ pub fn is_refused(alloc: Global, before: Text, line: &[u8], answer: &[u8]) -> Op
     append(&mut octets, before, 1).ok()?;
     octets.extend_from_slice(line).ok()?;
     let setup = setup_of(Topology::Ring, 2, Settings::PLAIN)?;
-    writes(alloc, &setup, &octets, answer, Some((2, Word::Line)))
+    writes(alloc, &setup, &octets, answer, Some((2, FaultKind::Line)))
 }
 
 fn runs_again(
@@ -112,7 +112,7 @@ pub fn is_taken_up(
         Err(
             Fault {
                 line,
-                word: Word::Memory,
+                kind: FaultKind::Memory,
             },
         ) => {
             let before = (line.clamp(1, 20) - 1) as usize;

@@ -4,7 +4,7 @@ use super::runs::{Text, is_refused, is_run, is_taken_up};
 use crate::settings::{MODE_X, WIDE};
 use sr_node::Settings;
 use sr_plant_script::Topology;
-use sr_session::Word;
+use sr_session::FaultKind;
 use std::alloc::Global;
 use std::process::Abort;
 

@@ -4,7 +4,7 @@ use super::runs::At;
 use super::steps::{Step, expect_steps};
 use super::texts::Part::{These, Times};
 use sr_prp_trailer::Lan;
-use sr_session::Word;
+use sr_session::FaultKind;
 
 /// The digits of an octet 0.
 const ZERO: &[u8] = b"00";
@@ -16,8 +16,18 @@ const LAN_B: At = At::Prp(Lan::B, 6);
 
 // Frames come in at the interlink of a RedBox alone.
 const INLETS: &[Step] = &[
-    Step::At(At::Danp, &[These(b"in C 0 00")], &[], Some((1, Word::Line))),
-    Step::At(At::Danh, &[These(b"in C 0 00")], &[], Some((1, Word::Line))),
+    Step::At(
+        At::Danp,
+        &[These(b"in C 0 00")],
+        &[],
+        Some((1, FaultKind::Line)),
+    ),
+    Step::At(
+        At::Danh,
+        &[These(b"in C 0 00")],
+        &[],
+        Some((1, FaultKind::Line)),
+    ),
     Step::At(
         At::San,
         &[These(b"in C 0 00")],
@@ -36,8 +46,18 @@ const INLETS: &[Step] = &[
         &[These(b"refused 1 TooShort\n")],
         None,
     ),
-    Step::At(At::San, &[These(b"in H 0 00")], &[], Some((1, Word::Line))),
-    Step::At(At::San, &[These(b"in c 0 00")], &[], Some((1, Word::Line))),
+    Step::At(
+        At::San,
+        &[These(b"in H 0 00")],
+        &[],
+        Some((1, FaultKind::Line)),
+    ),
+    Step::At(
+        At::San,
+        &[These(b"in c 0 00")],
+        &[],
+        Some((1, FaultKind::Line)),
+    ),
 ];
 
 #[test]

@@ -4,7 +4,7 @@ use super::runs::Told::{Frames, Status};
 use super::steps::{Step, expect_steps};
 use super::texts::Part::{These, Times};
 use super::texts::Text;
-use sr_session::Word;
+use sr_session::FaultKind;
 use std::io::ErrorKind;
 
 // Each line is obeyed, so that its frame of one octet is refused, or skipped, or it is the fault of line 3.
@@ -143,7 +143,7 @@ const LONG: &[Step] = &[
             These(b"\nin A 0 00"),
         ],
         FIRST,
-        Some((2, Word::Long)),
+        Some((2, FaultKind::Long)),
     ),
     Step::Run(
         &[
@@ -152,7 +152,7 @@ const LONG: &[Step] = &[
             These(b"\nin A 0 00"),
         ],
         FIRST,
-        Some((2, Word::Long)),
+        Some((2, FaultKind::Long)),
     ),
     Step::Run(
         &[
@@ -161,7 +161,7 @@ const LONG: &[Step] = &[
             These(b"\nin A 0 00"),
         ],
         FIRST,
-        Some((2, Word::Line)),
+        Some((2, FaultKind::Line)),
     ),
     Step::Run(
         &[
@@ -170,7 +170,7 @@ const LONG: &[Step] = &[
             These(b"\nin A 0 00"),
         ],
         FIRST,
-        Some((2, Word::Long)),
+        Some((2, FaultKind::Long)),
     ),
 ];
 
@@ -193,7 +193,7 @@ const LONG_FRAMES: &[Step] = &[
     Step::Run(
         &[These(b"send 0 00\nsend 100 "), Times(3996, b"5c")],
         FIRST,
-        Some((2, Word::Long)),
+        Some((2, FaultKind::Long)),
     ),
     Step::Run(
         &[
@@ -211,7 +211,7 @@ const LONG_FRAMES: &[Step] = &[
             These(b"\n"),
         ],
         FIRST,
-        Some((2, Word::Long)),
+        Some((2, FaultKind::Long)),
     ),
     // An odd number of digits: of 8000 octets the line is none of a script, of 8001 it is too long.
     Step::Run(
@@ -221,7 +221,7 @@ const LONG_FRAMES: &[Step] = &[
             These(b"5"),
         ],
         FIRST,
-        Some((2, Word::Line)),
+        Some((2, FaultKind::Line)),
     ),
     Step::Run(
         &[
@@ -230,7 +230,7 @@ const LONG_FRAMES: &[Step] = &[
             These(b"5"),
         ],
         FIRST,
-        Some((2, Word::Long)),
+        Some((2, FaultKind::Long)),
     ),
 ];
 
@@ -247,7 +247,7 @@ fn a_million_lines(rt: HostRuntime) {
     expect_steps(&rt, A_MILLION);
 }
 
-const ONE_MORE: &[Step] = &[Step::EmptyLines(1_000_001, Some((1_000_001, Word::Long)))];
+const ONE_MORE: &[Step] = &[Step::EmptyLines(1_000_001, Some((1_000_001, FaultKind::Long)))];
 
 #[test]
 fn a_million_lines_and_one(rt: HostRuntime) {
@@ -300,7 +300,7 @@ const PIECES: &[Step] = &[
     Step::Sparse(
         b"in A 0 00\n\r\nin A 0 00\n",
         b"refused 1 TooShort\n",
-        Some((2, Word::Line)),
+        Some((2, FaultKind::Line)),
     ),
 ];
 
@@ -324,27 +324,27 @@ const A_FAULT_BEHIND: &[u8] = b"in A 0 00\nin A 0 00\nno line\nin A 0 00\n";
 const TWO_FRAMES: &[u8] = b"in A 0 00\nin A 0 00\n";
 
 const WRITERS: &[Step] = &[
-    Step::Narrow(Frames, TWO_FRAMES, 0, Some((1, Word::Write))),
-    Step::Narrow(Frames, TWO_FRAMES, 18, Some((1, Word::Write))),
-    Step::Narrow(Frames, TWO_FRAMES, 19, Some((2, Word::Write))),
-    Step::Narrow(Frames, TWO_FRAMES, 37, Some((2, Word::Write))),
+    Step::Narrow(Frames, TWO_FRAMES, 0, Some((1, FaultKind::Write))),
+    Step::Narrow(Frames, TWO_FRAMES, 18, Some((1, FaultKind::Write))),
+    Step::Narrow(Frames, TWO_FRAMES, 19, Some((2, FaultKind::Write))),
+    Step::Narrow(Frames, TWO_FRAMES, 37, Some((2, FaultKind::Write))),
     Step::Narrow(Frames, TWO_FRAMES, 38, None),
-    Step::Unflushed(Frames, TWO_FRAMES, Some((2, Word::Write))),
+    Step::Unflushed(Frames, TWO_FRAMES, Some((2, FaultKind::Write))),
     // Lines that print nothing stand between and behind those that do.
-    Step::Narrow(Frames, FRAMES_APART, 18, Some((2, Word::Write))),
-    Step::Narrow(Frames, FRAMES_APART, 19, Some((5, Word::Write))),
-    Step::Unflushed(Frames, FRAMES_APART, Some((5, Word::Write))),
+    Step::Narrow(Frames, FRAMES_APART, 18, Some((2, FaultKind::Write))),
+    Step::Narrow(Frames, FRAMES_APART, 19, Some((5, FaultKind::Write))),
+    Step::Unflushed(Frames, FRAMES_APART, Some((5, FaultKind::Write))),
     // What waits is written before a fault is told, and its own fault goes before that.
-    Step::Narrow(Frames, A_FAULT_BEHIND, 38, Some((3, Word::Line))),
-    Step::Narrow(Frames, A_FAULT_BEHIND, 37, Some((2, Word::Write))),
-    Step::Narrow(Frames, A_FAULT_BEHIND, 18, Some((1, Word::Write))),
-    Step::Unflushed(Frames, A_FAULT_BEHIND, Some((2, Word::Write))),
+    Step::Narrow(Frames, A_FAULT_BEHIND, 38, Some((3, FaultKind::Line))),
+    Step::Narrow(Frames, A_FAULT_BEHIND, 37, Some((2, FaultKind::Write))),
+    Step::Narrow(Frames, A_FAULT_BEHIND, 18, Some((1, FaultKind::Write))),
+    Step::Unflushed(Frames, A_FAULT_BEHIND, Some((2, FaultKind::Write))),
     // What was obeyed is not left to be read, though it was not written.
     Step::Left(TWO_FRAMES, 18, 0),
     Step::Left(A_FAULT_BEHIND, 18, 18),
     // An interrupted write is made again, and goes on where it was; a writer that takes nothing has failed.
     Step::Interrupted(Frames, TWO_FRAMES),
-    Step::Stuck(Frames, TWO_FRAMES, Some((1, Word::Write))),
+    Step::Stuck(Frames, TWO_FRAMES, Some((1, FaultKind::Write))),
 ];
 
 #[test]
@@ -383,12 +383,12 @@ const ENDS: &[Step] = &[
     Step::Recorded(Status, &[These(HEARD)], b"wf"),
     Step::Recorded(Status, &[These(HEARD_AND_REFUSED)], b"wfwf"),
     Step::Recorded(Status, &[These(b"\n#\n")], b""),
-    Step::Narrow(Status, HEARD_AND_REFUSED, 18, Some((2, Word::Write))),
-    Step::Narrow(Status, HEARD_AND_REFUSED, 19, Some((3, Word::Write))),
-    Step::Unflushed(Status, HEARD, Some((2, Word::Write))),
-    Step::Unflushed(Status, HEARD_AND_REFUSED, Some((2, Word::Write))),
+    Step::Narrow(Status, HEARD_AND_REFUSED, 18, Some((2, FaultKind::Write))),
+    Step::Narrow(Status, HEARD_AND_REFUSED, 19, Some((3, FaultKind::Write))),
+    Step::Unflushed(Status, HEARD, Some((2, FaultKind::Write))),
+    Step::Unflushed(Status, HEARD_AND_REFUSED, Some((2, FaultKind::Write))),
     Step::Interrupted(Status, HEARD_AND_REFUSED),
-    Step::Stuck(Status, HEARD, Some((2, Word::Write))),
+    Step::Stuck(Status, HEARD, Some((2, FaultKind::Write))),
 ];
 
 #[test]

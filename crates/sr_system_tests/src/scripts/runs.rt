@@ -9,7 +9,7 @@ use sr_frame::Mac;
 use sr_node::Settings;
 use sr_prp_trailer::Lan;
 use sr_script::{PrpRouting, RoleName, Setup, run, run_status};
-use sr_session::{Fault, Word};
+use sr_session::{Fault, FaultKind};
 use sr_slots::Keys;
 use std::alloc::Global;
 use std::io::{BufRead, BufReader, ErrorKind, Read, Write};
@@ -164,7 +164,7 @@ pub fn is_broken(
         alloc,
         Broken { octets, kind },
         wanted,
-        Some((line, Word::Read)),
+        Some((line, FaultKind::Read)),
     )
 }
 
@@ -268,7 +268,7 @@ pub fn is_taken_up(
         Err(
             Fault {
                 line,
-                word: Word::Memory,
+                kind: FaultKind::Memory,
             },
         ) => {
             let before = (line.clamp(1, 6) - 1) as usize;

@@ -3,7 +3,7 @@
 use super::runs::At;
 use super::steps::{Step, expect_steps};
 use super::texts::Part::{Each, These, Times};
-use sr_session::Word;
+use sr_session::FaultKind;
 
 /// The digits of an octet 0.
 const ZERO: &[u8] = b"00";
@@ -223,7 +223,7 @@ const ENDS: &[Step] = &[
             These(b"0005a03488fb\nin A 0 00\nin C 0 00\ntick 0"),
         ],
         &[These(b"refused 2 TooShort\n")],
-        Some((3, Word::Line)),
+        Some((3, FaultKind::Line)),
     ),
 ];
 

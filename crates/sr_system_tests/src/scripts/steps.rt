@@ -6,7 +6,7 @@ use super::runs::{
 };
 use super::texts::{Part, Text};
 use crate::answers::Ending;
-use sr_session::Word;
+use sr_session::FaultKind;
 use std::alloc::Global;
 use std::io::ErrorKind;
 use std::process::Abort;
@@ -85,7 +85,7 @@ fn comes(alloc: Global, step: Step) -> Option<bool> {
             A_FRAME_AND_A_LINE,
             line,
             b"refused 1 TooShort\n",
-            Some((3, Word::Line)),
+            Some((3, FaultKind::Line)),
         ),
         Step::Broken(octets, kind, wanted, line) => is_broken(alloc, octets, kind, wanted, line),
         Step::Sparse(octets, wanted, ending) => is_sparse(alloc, octets, wanted, ending),

@@ -1,6 +1,6 @@
 use Rattle.std.proofs.Common.{◌≡◌, ◌++◌, ℕ, List, Err, ap, sym, ◌∙◌}
 use Rattle.std.specs.Prelude.{codes}
-use Rattle.sr_session.specs.declared.fault.Word.TheVariants as word
+use Rattle.sr_session.specs.declared.fault.FaultKind.TheVariants as kind
 use Rattle.sr_plant_script.specs.declared.command.Receiver.{Receiver}
 use Rattle.sr_plant_script.specs.declared.command.Command.TheVariants.{Send}
 use Rattle.sr_plant_script.proofs.Words.{sent_only}
@@ -19,7 +19,7 @@ returns-in-Err-clause-only c command os h =
 
 pub returns-in-Err-clause-memory : goal.returns-in-Err-clause-memory
 returns-in-Err-clause-memory c h =
-    let is : c.in-Err.word ≡ word.Memory = cc h in
+    let is : c.in-Err.kind ≡ kind.Memory = cc h in
     let m = c.in-Err.ensures.memory (ap Err is) in
     let line = c.in-Some.ensures.found ∙ ap (λ (l : List ℕ). codes "send " ++ l) m.3.2 in
     (m.0, m.1, m.2, (m.3.0, m.3.1, line, m.3.3, m.3.4, m.3.5))

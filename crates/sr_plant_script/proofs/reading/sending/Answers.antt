@@ -1,7 +1,7 @@
 use Rattle.std.proofs.Common.{◌≡◌, ◌++◌, ◌∷◌, ℕ, List, Err, rules, sym, ap, subst, ◌∙◌}
 use Rattle.std.specs.Fmt.{decimal}
 use Rattle.sr_words.specs.Words.{IsHex}
-use Rattle.sr_session.specs.declared.fault.Word.TheVariants as word
+use Rattle.sr_session.specs.declared.fault.FaultKind.TheVariants as kind
 use Rattle.sr_words.specs.WordLemmas.{decimal_lacks, one_hex}
 use Rattle.sr_plant_script.specs.Commands.{IsReceiver}
 use Rattle.sr_plant_script.proofs.Words.{receiver_lacks}
@@ -45,7 +45,7 @@ returns-in-Err-clause-only c node receiver os h =
 
 pub returns-in-Err-clause-memory : goal.returns-in-Err-clause-memory
 returns-in-Err-clause-memory c h =
-    let is : c.in-Err.word ≡ word.Memory = cc h in
+    let is : c.in-Err.kind ≡ kind.Memory = cc h in
     let m = c.in-Err.ensures.memory (ap Err is) in
     let n = c.in-Some-count_of.node in
     let text =

@@ -1,6 +1,6 @@
 use Rattle.std.proofs.Common.{◌≡◌, ◌++◌, ◌∷◌, ℕ, List, Err, ap, ◌∙◌}
 use Rattle.std.specs.Fmt.{decimal}
-use Rattle.sr_session.specs.declared.fault.Word.TheVariants as word
+use Rattle.sr_session.specs.declared.fault.FaultKind.TheVariants as kind
 use Rattle.sr_script.specs.Commands.{letter_of}
 use Rattle.sr_script.proofs.reading.arrival.Goals as goal
 
@@ -17,6 +17,6 @@ returns-in-Err-clause-only c port time os h =
 
 pub returns-in-Err-clause-memory : goal.returns-in-Err-clause-memory
 returns-in-Err-clause-memory c h =
-    let is : c.in-Err.word ≡ word.Memory = cc h in
+    let is : c.in-Err.kind ≡ kind.Memory = cc h in
     let m = c.in-Err.ensures.memory (ap Err is) in
     (c.in-Some.port, m.0, m.1, (m.2.0, c.in-Some.ensures.found.0 ∙ ap (λ (l : List ℕ). letter_of c.in-Some.port ++ 32 ∷ l) m.2.1, c.in-Some.ensures.found.1, m.2.2, m.2.3))

@@ -14,7 +14,7 @@ pub returns-in-Some-clause-ended : goal.returns-in-Some-clause-ended
 returns-in-Some-clause-ended g c =
     let front = c.obey_front-front.ensures in
     let replies = waits_replies g.S.Session.dialogue _ c.args.first 0 front.lines _ _ _ front.waits in
-    hand_stops g.S.Session.dialogue _ c.args.first front.lines _ _ (g.S.Session.state c.obey_front-front.new.session) _ c.in-Some.word _ _ _ _ c.in-Ok.available.now _ replies front.next c.in_default-send.ensures.sent front.whole
+    hand_stops g.S.Session.dialogue _ c.args.first front.lines _ _ (g.S.Session.state c.obey_front-front.new.session) _ c.in-Some.kind _ _ _ _ c.in-Ok.available.now _ replies front.next c.in_default-send.ensures.sent front.whole
     (rw c.in-Some.is at front.stops) c.in-Ok.ensures.front
 
 pub returns-in-None-clause-obeyed : goal.returns-in-None-clause-obeyed

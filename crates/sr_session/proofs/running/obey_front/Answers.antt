@@ -20,8 +20,8 @@ returns-in-Err g c =
       waits = waits_kept g.S.Session.dialogue _ _ _ 0 so_far.0 _ _ _ _ so_far.2 same.0 same.1;
       next = so_far.3;
       count = c.loop-next.invariant.count;
-      stops = front_stops g.S.Session.dialogue reached (g.S.Session.state c.obey_whole.new.session) _ c.loop-next.next c.in-Err.word (omega arith)
-          (subst (λ (l : List ℕ). FrontFails g.S.Session.dialogue reached l c.in-Err.word) rest c.in-Err.ensures.fails);
+      stops = front_stops g.S.Session.dialogue reached (g.S.Session.state c.obey_whole.new.session) _ c.loop-next.next c.in-Err.kind (omega arith)
+          (subst (λ (l : List ℕ). FrontFails g.S.Session.dialogue reached l c.in-Err.kind) rest c.in-Err.ensures.fails);
     }
 
 pub loop-next-preserved : goal.loop-next-preserved

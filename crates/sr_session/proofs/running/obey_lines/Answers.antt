@@ -1,5 +1,5 @@
 use Rattle.std.proofs.Common.{Ok, ap, refl, arith, lit<}
-use Rattle.sr_session.specs.declared.fault.Word.TheVariants as word
+use Rattle.sr_session.specs.declared.fault.FaultKind.TheVariants as kind
 use Rattle.sr_session.specs.declared.fault.Fault.{Fault}
 use Rattle.sr_session.proofs.Going.{going_from, going_more, ends_later, ends_too_many}
 use Rattle.sr_session.proofs.running.obey_lines.Goals as goal
@@ -39,5 +39,5 @@ loop-number-preserved g c =
 
 pub returns-in-Ok-false-is_at_end-clause-ended : goal.returns-in-Ok-false-is_at_end-clause-ended
 returns-in-Ok-false-is_at_end-clause-ended g c =
-    let f : Fault = record { line = 1000001; word = word.Long } in
+    let f : Fault = record { line = 1000001; kind = kind.Long } in
     ends_too_many g.S.Session.dialogue _ _ _ _ _ _ _ c.loop-number.number f (omega arith) (lit< tt) refl c.loop-number.invariant.going (c.in-Ok-false-is_at_end.ensures.more (ap Ok c.in-Ok-false-is_at_end.field-0-test))

@@ -5,12 +5,12 @@ use Rattle.sr_session.proofs.running.obey_next.Goals as goal
 
 pub returns-in-Err-clause-ended : goal.returns-in-Err-clause-ended
 returns-in-Err-clause-ended g c =
-    one_unread g.S.Session.dialogue _ c.args.number c.in-Err.word _ _ _ c.in-Err.ensures.fault (λ e. c.in-Err.ensures.long (ap Err e)) (λ e. c.in-Err.ensures.read (ap Err e))
+    one_unread g.S.Session.dialogue _ c.args.number c.in-Err.kind _ _ _ c.in-Err.ensures.fault (λ e. c.in-Err.ensures.long (ap Err e)) (λ e. c.in-Err.ensures.read (ap Err e))
 
 pub returns-in-Err-obey_line-clause-ended : goal.returns-in-Err-obey_line-clause-ended
 returns-in-Err-obey_line-clause-ended g c =
     let taken = subst (λ (l : List ℕ). TakesLine true l (g.R.Read.remaining c.args.reader.now) (g.R.Read.remaining c.next_line.new.reader)) (sym c.deref.ensures.value) (rw c.in-Ok-true.field-0-test at c.in-Ok-true.ensures.taken) in
-    one_stops g.S.Session.dialogue _ c.args.number c.deref.result.now c.in-Err-obey_line.word _ _ _ taken c.requires.number (omega (arith, ap length c.deref.ensures.value, c.in-Ok-true.ensures.short))
+    one_stops g.S.Session.dialogue _ c.args.number c.deref.result.now c.in-Err-obey_line.kind _ _ _ taken c.requires.number (omega (arith, ap length c.deref.ensures.value, c.in-Ok-true.ensures.short))
     c.in-Err-obey_line.ensures.fault (λ e. c.in-Err-obey_line.ensures.bad (ap Err e)) (λ e. c.in-Err-obey_line.ensures.memory (ap Err e))
 
 pub returns-in-Err-send-clause-ended : goal.returns-in-Err-send-clause-ended
