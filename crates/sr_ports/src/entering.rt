@@ -112,7 +112,7 @@ fn written<R: Role>(
             let answer = node.step(event)?;
             let again = match &answer {
                 Answer::Own => Answer::Own,
-                Answer::Passed(outlets) => Answer::Passed(*outlets),
+                Answer::Passed(ports) => Answer::Passed(ports.copy()),
                 _ => unreachable!(),
             };
             journal.push_reserved(Entry {

@@ -3,6 +3,7 @@
 ghost use Rattle.std.specs.Prelude.{◌≡◌, ◌++◌, ◌∷◌, [], ℕ, List, IfOk, IfErr, OnOk, OnErr, Err, None, Some};
 ghost use Rattle.std.specs.Option.{option_copied};
 ghost use Rattle.sr_node.specs.declared.event.Event.TheVariants as event;
+ghost use Rattle.sr_node.specs.Arriving.{arrival_answer};
 ghost use Rattle.sr_node.specs.Faults.{or_no_memory};
 ghost use Rattle.sr_node.specs.Images.{node_state};
 ghost use Rattle.sr_node.specs.Octets.{OctetsArrived, OctetsRefused};
@@ -20,7 +21,7 @@ use crate::printing::append_outlets;
 use crate::reading::{Command, arrival_at, command_of};
 use crate::setups::RoleName;
 use itoa::Buffer;
-use sr_forwarding::{ReadFault, Role};
+use sr_forwarding::{Outlets, ReadFault, Role};
 use sr_frame::{Frame, FrameFault, Port, view};
 use sr_node::{Answer, Event, NodeOf, StepFault};
 use sr_session::FaultKind;
@@ -79,10 +80,10 @@ pub(crate) fn arrive<R: Role>(
     port: Port,
     octets: &[u8],
     time: u64,
-) -> Result<Answer, StepFault>
-    ensures taken { IfOk result (λ a. OctetsArrived (framing_of role port)
-        (node_state (R.meaning node.old.role) node.old.core) port octets.now time a
-        (node_state (R.meaning node.new.role) node.new.core)) }
+) -> Result<Option<Outlets>, StepFault>
+    ensures taken { IfOk result (λ outlets. OctetsArrived (framing_of role port)
+        (node_state (R.meaning node.old.role) node.old.core) port octets.now time
+        (arrival_answer outlets) (node_state (R.meaning node.new.role) node.new.core)) }
     ensures refused { IfErr result (λ f. OctetsRefused (framing_of role port)
         (node_state (R.meaning node.old.role) node.old.core) port octets.now time f) }
     ensures same { OnErr result (node_state (R.meaning node.new.role) node.new.core
@@ -90,9 +91,9 @@ pub(crate) fn arrive<R: Role>(
 {
     // The call stands at each kind, so that what is read goes into the node without a detour.
     match carrier_of(role, port) {
-        Carrier::Plain(framing) => node.arrive(&framing, port, octets, time),
-        Carrier::Ring(framing) => node.arrive(&framing, port, octets, time),
-        Carrier::Network(framing) => node.arrive(&framing, port, octets, time),
+        Carrier::Plain(framing) => node.receive(&framing, port, octets, time),
+        Carrier::Ring(framing) => node.receive(&framing, port, octets, time),
+        Carrier::Network(framing) => node.receive(&framing, port, octets, time),
     }
 }
 
