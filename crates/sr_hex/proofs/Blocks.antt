@@ -116,7 +116,7 @@ agrees c lt = eqb-true _ _ (every_below (λ k. eqb (min (value_of k) 16) (min (u
 value_is : (c : ℕ) → c < 256 → value_of c < 16 → value_of c ≡ unwrap_or (hex_digit_value c) 255
 value_is c lt small = omega (arith, agrees c lt)
 
-value_small : (c : ℕ) → c < 256 → is_hex_digit c ≡ true → value_of c < 16
+pub value_small : (c : ℕ) → c < 256 → is_hex_digit c ≡ true → value_of c < 16
 value_small c lt is = omega (arith, agrees c lt, digit_small c (unwrap_or (hex_digit_value c) 255) refl is)
 
 -- ---- whole texts

@@ -1,4 +1,4 @@
-//! Octets as hexadecimal digits, read and written sixteen octets at a time.
+//! Octets as hexadecimal digits, read and written sixteen octets at a time, and what is shorter by the kit.
 #![tactic(auto)]
 
 mod lanes;

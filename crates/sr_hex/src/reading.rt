@@ -1,8 +1,8 @@
-//! Octets read from hexadecimal digits, thirty-two digits at a time.
+//! Octets read from hexadecimal digits, thirty-two digits at a time, and fewer by the kit.
 
-ghost use Rattle.std.specs.Prelude.{◌≡◌, ◌↔◌, ◌+◌, ◌*◌, ◌/◌, ◌≤◌, ◌<◌, ℕ, IsTrue, IsErr, IfSome, MatchBool, length, slice_index, take, min, unwrap_or};
+ghost use Rattle.std.specs.Prelude.{◌≡◌, ◌↔◌, ◌+◌, ◌*◌, ◌/◌, ◌≤◌, ◌<◌, ℕ, IsTrue, IsErr, IfSome, MatchBool, length, slice_index, take, min};
 ghost use Rattle.std.specs.List.{AllPass};
-ghost use Rattle.hex.specs.Hex.{decode_of, hex_digit_value, is_hex_digit};
+ghost use Rattle.hex.specs.Hex.{decode_of, is_hex_digit};
 ghost use Rattle.sr_hex.specs.Lanes.{HasLanes};
 ghost use Rattle.sr_hex.specs.Values.{AreSpelled, AreDigits, AreKept, AreSmall, IsDigitFront, IsEndAt, value_of};
 
@@ -98,37 +98,6 @@ fn read_blocks(digits: &[u8], octets: &mut [u8]) -> bool
     are_small(both(worst, read_digits(digits, last, octets)))
 }
 
-/// The value of a digit of either case; 255 where it is none.
-fn digit_value(digit: u8) -> u8
-    ensures { result ≡ unwrap_or (hex_digit_value digit) 255 }
-{
-    let number = digit.wrapping_sub(b'0');
-    let letter = (digit | 0x20).wrapping_sub(b'a');
-    if number < 10 {
-        number
-    } else if letter < 6 {
-        letter + 10
-    } else {
-        255
-    }
-}
-
-/// Reads octets one by one.
-fn read_few(digits: &[u8], octets: &mut [u8]) -> bool
-    requires { length digits.now ≡ 2 * length octets.old }
-    ensures { MatchBool result (decode_of digits.now ≡ Ok octets.new)
-        (IsErr (decode_of digits.now)) }
-{
-    let mut worst = 0u8;
-    for i in 0..octets.len() {
-        let high = digit_value(digits[2 * i]);
-        let low = digit_value(digits[2 * i + 1]);
-        worst = worst.max(high).max(low);
-        octets[i] = high.wrapping_mul(16).wrapping_add(low);
-    }
-    worst < 16
-}
-
 /// Writes the octets that the digits at the front of a text spell, two digits each, up to the first octet of the text that is no
 /// digit. The answer is how many octets stand before that; a last digit without a second one spells nothing.
 ///
@@ -185,16 +154,14 @@ fn are_blocks_digits(octets: &[u8]) -> bool
     are_small(worst)
 }
 
-/// Whether octets are digits, looked at one by one.
+/// Whether fewer than sixteen octets are digits, looked at as a block that the digit 0 fills.
 fn are_few_digits(octets: &[u8]) -> bool
+    requires { length octets.now < 16 }
     ensures { IsTrue result ↔ AllPass is_hex_digit octets.now }
 {
-    for octet in octets {
-        if digit_value(*octet) > 15 {
-            return false;
-        }
-    }
-    true
+    let mut block = [b'0'; 16];
+    block[..octets.len()].copy_from_slice(octets);
+    are_small(values_at(&block, 0))
 }
 
 /// Whether all octets are hexadecimal digits of either case.
@@ -216,7 +183,7 @@ pub fn read_hex(digits: &[u8], octets: &mut [u8]) -> bool
         (IsErr (decode_of digits.now)) }
 {
     if octets.len() < 16 {
-        read_few(digits, octets)
+        hex::decode_to_slice(digits, octets).is_ok()
     } else {
         read_blocks(digits, octets)
     }

@@ -1,7 +1,7 @@
-//! Octets written as hexadecimal digits, sixteen octets at a time.
+//! Octets written as hexadecimal digits, sixteen or eight octets at a time, and fewer by the kit.
 
 ghost use Rattle.std.specs.Prelude.{◌≡◌, ◌+◌, ◌*◌, ◌≤◌, ◌<◌, ◌++◌, length, OnOk, OnErr, slice_index, ◌^◌};
-ghost use Rattle.hex.specs.Hex.{encode_lower, lower_digits};
+ghost use Rattle.hex.specs.Hex.{encode_lower};
 ghost use Rattle.sr_hex.specs.Values.{AreWritten, AreKept};
 
 use crate::lanes::{digits_of, in_turn_first, in_turn_last, load, lower, store, upper};
@@ -73,39 +73,13 @@ fn write_blocks(octets: &[u8], digits: &mut [u8])
     write_block(octets, last, digits);
 }
 
-/// The digit of a number, in lower case.
-fn digit_of(number: u8) -> u8
-    requires { number < 16 }
-    ensures { result ≡ slice_index lower_digits number }
-{
-    if number < 10 {
-        b'0' + number
-    } else {
-        b'a' - 10 + number
-    }
-}
-
-/// Writes the digits of octets, two each, one octet after the other.
-fn write_few(octets: &[u8], digits: &mut [u8])
-    requires { length digits.old ≡ 2 * length octets.now }
-    ensures { digits.new ≡ encode_lower octets.now }
-{
-    for i in 0..octets.len() {
-        let octet = octets[i];
-        let high = digit_of(octet >> 4);
-        let low = digit_of(octet & 15);
-        digits[2 * i] = high;
-        digits[2 * i + 1] = low;
-    }
-}
-
 /// Writes the digits of octets in lower case, two each.
 pub fn write_hex(octets: &[u8], digits: &mut [u8])
     requires { length digits.old ≡ 2 * length octets.now }
     ensures { digits.new ≡ encode_lower octets.now }
 {
     match octets.len() {
-        0..8 => write_few(octets, digits),
+        0..8 => hex::encode_to_slice(octets, digits).unwrap(),
         8..16 => write_halves(octets, digits),
         _ => write_blocks(octets, digits),
     }
