@@ -1,7 +1,8 @@
 //! A node that goes on with what a table has noted.
 
 ghost use Rattle.std.specs.Prelude.{◌≡◌, ◌⊎◌, IfOk};
-ghost use Rattle.sr_node.specs.Images.{state_of, IsIdle};
+ghost use Rattle.sr_node.specs.Images.{IsIdle};
+ghost use Rattle.sr_node.specs.States.{state_of};
 ghost use Rattle.sr_node.specs.Resuming.{last_heard, resumed};
 
 use crate::{Mode, NodeOf, Settings};

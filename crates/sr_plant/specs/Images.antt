@@ -2,7 +2,8 @@
 use Rattle.std.specs.Prelude.{List, map}
 use Rattle.sr_forwarding.specs.declared.role_image.RoleImage.{RoleImage}
 use Rattle.sr_node.specs.declared.node.NodeOf.{NodeOf}
-use Rattle.sr_node.specs.Images.{State, state_of}
+use Rattle.sr_node.specs.Images.{State}
+use Rattle.sr_node.specs.States.{state_of}
 use Rattle.sr_plant.specs.declared.plant.PlantOf.{PlantOf}
 use Rattle.sr_plant.specs.Plants.{Plant, plant_of}
 

@@ -1,7 +1,7 @@
 //! One event under the lock.
 
 ghost use Rattle.std.specs.Prelude.{◌≡◌, ◌+◌, ◌++◌, ◌∷◌, [], ◌<◌, IfOk, IfErr, OnErr, OnOk, None, Some, false, true, vec_len, vec_capacity};
-ghost use Rattle.sr_node.specs.Images.{state_of};
+ghost use Rattle.sr_node.specs.States.{state_of};
 ghost use Rattle.sr_node.specs.Steps.{Step, refusal_of};
 ghost use Rattle.sr_ports.specs.Histories.{entry};
 ghost use Rattle.sr_ports.specs.Entering.{is_journal_full, enter_fault};

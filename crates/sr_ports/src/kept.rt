@@ -1,7 +1,7 @@
 //! What lies under the lock.
 
 ghost use Rattle.std.specs.Prelude.{◌≡◌, ◌+◌, ◌<◌, ◌^◌, vec_len};
-ghost use Rattle.sr_node.specs.Images.{state_of};
+ghost use Rattle.sr_node.specs.States.{state_of};
 ghost use Rattle.sr_node.specs.NodeImages.{image_state};
 ghost use Rattle.sr_ports.specs.Histories.{Steps};
 

@@ -1,7 +1,7 @@
 //! A node comes under its lock, and out of it; the counts of its workers are compared.
 
 ghost use Rattle.std.specs.Prelude.{◌≡◌, ◌+◌, [], IfOk, vec_len};
-ghost use Rattle.sr_node.specs.Images.{state_of};
+ghost use Rattle.sr_node.specs.States.{state_of};
 ghost use Rattle.sr_node.specs.NodeImages.{image_state};
 ghost use Rattle.sr_ports.specs.Histories.{Steps};
 ghost use Rattle.sr_ports.specs.Stamps.{stamp};

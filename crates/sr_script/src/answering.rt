@@ -5,7 +5,7 @@ ghost use Rattle.std.specs.Option.{option_copied};
 ghost use Rattle.sr_node.specs.declared.event.Event.TheVariants as event;
 ghost use Rattle.sr_node.specs.Arriving.{arrival_answer};
 ghost use Rattle.sr_node.specs.Faults.{or_no_memory};
-ghost use Rattle.sr_node.specs.Images.{state_of};
+ghost use Rattle.sr_node.specs.States.{state_of};
 ghost use Rattle.sr_node.specs.Octets.{OctetsArrived, OctetsRefused};
 ghost use Rattle.sr_node.specs.Steps.{Step, refusal_of};
 ghost use Rattle.sr_session.specs.Lines.{IsOneOf};

@@ -23,7 +23,7 @@ pub(crate) struct NodeSession<P: Role> {
 }
 
 impl<P: Role> Session for NodeSession<P> {
-    ghost use Rattle.sr_node.specs.Images.{state_of};
+    ghost use Rattle.sr_node.specs.States.{state_of};
     ghost use Rattle.sr_script.specs.Stations.{Station};
     ghost use Rattle.sr_script.specs.Replies.{replay_dialogue};
 

@@ -5,7 +5,7 @@ ghost use Rattle.sr_forwarding.specs.RoleImages.{role_of};
 ghost use Rattle.sr_session.specs.Lines.{lines_of};
 ghost use Rattle.sr_script.specs.Replies.{replay_dialogue};
 ghost use Rattle.sr_session.specs.Runs.{IsAnswered, EndsAt, IsNotBegun};
-ghost use Rattle.sr_node.specs.Images.{state_of};
+ghost use Rattle.sr_node.specs.States.{state_of};
 ghost use Rattle.sr_script.specs.Stations.{at_work, kind_of, start_of};
 ghost use Rattle.sr_script.specs.Statuses.{status_dialogue};
 ghost use Rattle.sr_script.specs.Reports.{dialogue_of};

@@ -30,7 +30,7 @@ struct TallySession<P: Role> {
 }
 
 impl<P: Role> Session for TallySession<P> {
-    ghost use Rattle.sr_node.specs.Images.{state_of};
+    ghost use Rattle.sr_node.specs.States.{state_of};
     ghost use Rattle.sr_script.specs.Stations.{at_work};
     ghost use Rattle.sr_script.specs.Tallies.{Tally, with_counts, tally_dialogue};
 
