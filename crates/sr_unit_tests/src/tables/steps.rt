@@ -129,24 +129,24 @@ fn outcome_of(answer: Result<(), DupFault>) -> Merged {
 }
 
 // A clone. Where memory runs out it is asked for again.
-fn cloned(alloc: Global, table: &DupTable) -> Option<DupTable> {
-    match table.try_clone(alloc) {
+fn cloned(table: &DupTable) -> Option<DupTable> {
+    match table.try_clone() {
         Ok(own) => Some(own),
-        Err(_) => table.try_clone(alloc).ok(),
+        Err(_) => table.try_clone().ok(),
     }
 }
 
 // A merge that is done again where memory runs out. What is refused changes nothing.
-fn merge(alloc: Global, table: &mut DupTable, other: &DupTable, now: u64) -> Merged {
-    let Some(before) = cloned(alloc, table) else {
+fn merge(table: &mut DupTable, other: &DupTable, now: u64) -> Merged {
+    let Some(before) = cloned(table) else {
         return Merged::Wrong;
     };
-    let mut answer = table.merge(alloc, other, now);
+    let mut answer = table.merge(other, now);
     if answer.is_err() && *table != before {
         return Merged::Wrong;
     }
     if answer == Err(DupFault::NoMemory) {
-        answer = table.merge(alloc, other, now);
+        answer = table.merge(other, now);
     }
     if answer.is_err() && *table != before {
         return Merged::Wrong;
@@ -155,8 +155,8 @@ fn merge(alloc: Global, table: &mut DupTable, other: &DupTable, now: u64) -> Mer
 }
 
 // Room that is asked for again where memory runs out.
-fn make_room(alloc: Global, table: &mut DupTable, more: usize, answer: bool) -> bool {
-    let Some(before) = cloned(alloc, table) else {
+fn make_room(table: &mut DupTable, more: usize, answer: bool) -> bool {
+    let Some(before) = cloned(table) else {
         return false;
     };
     let is_made = table.make_room(more).is_ok();
@@ -166,15 +166,15 @@ fn make_room(alloc: Global, table: &mut DupTable, more: usize, answer: bool) -> 
     (is_made || table.make_room(more).is_ok()) == answer && *table == before
 }
 
-fn merge_tables(alloc: Global, tables: &mut Tables, into: Which, from: Which, now: u64) -> Merged {
-    let Some(other) = cloned(alloc, table(tables, from)) else {
+fn merge_tables(tables: &mut Tables, into: Which, from: Which, now: u64) -> Merged {
+    let Some(other) = cloned(table(tables, from)) else {
         return Merged::Wrong;
     };
     match into {
-        Which::One => merge(alloc, &mut tables.one, &other, now),
-        Which::Two => merge(alloc, &mut tables.two, &other, now),
-        Which::Three => merge(alloc, &mut tables.three, &other, now),
-        Which::Wide => merge(alloc, &mut tables.wide, &other, now),
+        Which::One => merge(&mut tables.one, &other, now),
+        Which::Two => merge(&mut tables.two, &other, now),
+        Which::Three => merge(&mut tables.three, &other, now),
+        Which::Wide => merge(&mut tables.wide, &other, now),
     }
 }
 
@@ -264,7 +264,7 @@ fn restore(alloc: Global, table: &mut DupTable, other: &DupTable) -> bool {
 }
 
 fn restore_tables(alloc: Global, tables: &mut Tables, into: Which, from: Which) -> bool {
-    let Some(other) = cloned(alloc, table(tables, from)) else {
+    let Some(other) = cloned(table(tables, from)) else {
         return false;
     };
     match into {
@@ -330,9 +330,8 @@ fn holds(alloc: Global, tables: &mut Tables, step: Step) -> bool {
         Step::Fill(Which::Two, from, count, now) => fill(&mut tables.two, from, count, now),
         Step::Fill(Which::Three, from, count, now) => fill(&mut tables.three, from, count, now),
         Step::Fill(Which::Wide, from, count, now) => fill(&mut tables.wide, from, count, now),
-        Step::MakeRoom(more, answer) => make_room(alloc, &mut tables.one, more, answer),
-        Step::Merge(into, from, now, answer) => merge_tables(alloc, tables, into, from, now)
-            == answer,
+        Step::MakeRoom(more, answer) => make_room(&mut tables.one, more, answer),
+        Step::Merge(into, from, now, answer) => merge_tables(tables, into, from, now) == answer,
         Step::Count(which, count) => table(tables, which).source_count() == count,
         Step::Knows(which, src, seq, now, answer) => knows(table(tables, which), src, seq, now)
             == Some(answer),
