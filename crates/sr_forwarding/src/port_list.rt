@@ -74,7 +74,7 @@ impl PortList {
         self.ports.as_slice()
     }
 
-    /// The same ports in the same order.
+    /// A list of its own with these ports in this order.
     pub fn copy(&self) -> PortList
         ensures { result ≡ self.now }
     {
