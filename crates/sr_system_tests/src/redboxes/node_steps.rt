@@ -2,8 +2,7 @@
 
 use bitflags::Flags;
 use sr_forwarding::{
-    Danh, Framing, HsrFraming, OwnRole, Parcel, PlainFraming, Port, PrpFraming, Role,
-    RoleKind,
+    Danh, Framing, HsrFraming, OwnRole, Parcel, PlainFraming, Port, PrpFraming, Role, RoleKind,
 };
 use sr_frame::{Frame, Mac};
 use sr_node::{Answer, Event, Node, NodeImage, StepFault};
