@@ -58,8 +58,10 @@ pub enum Step {
     Reads(Which),
     /// The first table becomes, at its own width, what the snapshot of the second is read as.
     Restore(Which, Which),
-    /// The snapshot of a table with another octet at this place is one, or none.
-    Damaged(Which, usize, u8, bool),
+    /// The snapshot of a table with other octets at these places is one, or none.
+    Damaged(Which, &'static [(usize, u8)], bool),
+    /// The snapshot of a table with other octets at these places is one of a table by which the host got a number of a source already.
+    DamagedKnows(Which, &'static [(usize, u8)], u16, u16, u64),
     /// A snapshot of so many octets, cut or with zeros behind it, is one, or none.
     Resized(Which, usize, bool),
     /// No damage of a table's snapshot is read as a table with another snapshot: 64 octets one by one, and then all behind its
@@ -193,6 +195,15 @@ fn text_of(alloc: Global, table: &DupTable) -> Option<Vec<u8>> {
     }
 }
 
+// The snapshot of a table with other octets at these places. None where it has no such place, or where an allocation failed.
+fn damaged(alloc: Global, table: &DupTable, places: &[(usize, u8)]) -> Option<Vec<u8>> {
+    let mut text = text_of(alloc, table)?;
+    for (place, octet) in places {
+        *text.get_mut(*place)? = *octet;
+    }
+    Some(text)
+}
+
 fn has_text(alloc: Global, table: &DupTable, len: usize, places: &[(usize, u8)]) -> bool {
     let Some(text) = text_of(alloc, table) else {
         return false;
@@ -275,6 +286,17 @@ fn restore_tables(alloc: Global, tables: &mut Tables, into: Which, from: Which) 
     }
 }
 
+// Whether octets are a snapshot of a table by which the host got a number of a source already.
+fn was_handed_up(alloc: Global, text: &[u8], width: Width, src: u16, seq: u16, now: u64) -> bool {
+    let Some(table) = table_of(alloc, text, width) else {
+        return false;
+    };
+    match table.fresh(mac(src), Seq(seq), Lanes::H, now) {
+        Ok(lanes) => lanes.is_empty(),
+        Err(_) => false,
+    }
+}
+
 // Whether octets are no snapshot of a table of this width, or that of the table which is read.
 fn is_own_text(alloc: Global, text: &[u8], width: Width) -> bool {
     let Some(own) = table_of(alloc, text, width) else {
@@ -340,15 +362,16 @@ fn holds(alloc: Global, tables: &mut Tables, step: Step) -> bool {
         Step::Text(which, len, places) => has_text(alloc, table(tables, which), len, places),
         Step::Reads(which) => reads_back(alloc, table(tables, which)),
         Step::Restore(into, from) => restore_tables(alloc, tables, into, from),
-        Step::Damaged(which, place, octet, answer) => {
-            let Some(mut text) = text_of(alloc, table(tables, which)) else {
-                return false;
-            };
-            if place >= text.len() {
-                return false;
+        Step::Damaged(which, places, answer) => match damaged(alloc, table(tables, which), places) {
+            Some(text) => is_read(alloc, text.as_slice()) == Some(answer),
+            None => false,
+        },
+        Step::DamagedKnows(which, places, src, seq, now) => {
+            let table = table(tables, which);
+            match damaged(alloc, table, places) {
+                Some(text) => was_handed_up(alloc, text.as_slice(), table.width(), src, seq, now),
+                None => false,
             }
-            text[place] = octet;
-            is_read(alloc, text.as_slice()) == Some(answer)
         }
         Step::Resized(which, len, answer) => {
             let Some(mut text) = text_of(alloc, table(tables, which)) else {
