@@ -267,7 +267,7 @@ def made_lacks(root):
 
 
 # The node that the words of a command line name has fixed keys, until a run draws its own.
-FIXED_KEYS = {"crates/sr_cli/src/command_line.rt"}
+FIXED_KEYS = {"crates/sr_cli/src/node_line.rt"}
 
 
 def dropped_keys(root):
