@@ -15,8 +15,7 @@ sys.path.insert(0, str(TOP / "lint"))
 import cases  # noqa: E402
 
 CASES = TOP / "examples" / "cases"
-# Subcommands that write octets and no lines. What makes a block of a pcapng file answers no other fault than the writer's, so
-# that they name `write` where an allocation for one fails.
+# Subcommands that write octets and no lines.
 OCTETS = ("merge",)
 
 
@@ -61,7 +60,7 @@ def flaw(ran, whole, has_lines):
         return "output without a command line" if ran.out else None
     if ran.status != 1:
         return f"status {ran.status}"
-    if not re.search(rb"^fault (\S+ )?memory\b" if has_lines else rb"^fault ((\S+ )?memory\b|write$)", ran.err, re.M):
+    if not re.search(rb"^fault (\S+ )?memory\b", ran.err, re.M):
         return f"told as {ran.err!r}"
     front = re.sub(rb"(^|\n)# fault \S+ memory( \d+)?\n$", rb"\1", ran.out)
     if not whole.out.startswith(front):

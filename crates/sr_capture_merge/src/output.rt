@@ -27,8 +27,8 @@ pub(crate) struct Output {
     pub plan: Plan,
     /// The time of the earliest packet, in nanoseconds since 1970.
     pub start: u64,
-    block: Vec<u8>,
-    comment: Vec<u8>,
+    /// What is said of the packet that was taken last.
+    pub comment: Vec<u8>,
     pub counts: Counts,
 }
 
@@ -191,10 +191,9 @@ fn entry_of<'a>(start: u64, early: u64, waiting: &'a Waiting, comment: &'a [u8])
     }
 }
 
-/// Writes a packet with a comment. `block` is used for it.
+/// Writes a packet with a comment.
 fn write_entry<W: Write>(
     writer: &mut W,
-    block: &mut Vec<u8>,
     start: u64,
     early: u64,
     waiting: &Waiting,
@@ -205,7 +204,7 @@ fn write_entry<W: Write>(
     ensures err { IfErr result (λ fault. fault ≡ ScriptFault.Write) }
 {
     let entry = entry_of(start, early, waiting, comment);
-    write_packet(writer, block, &entry)?;
+    write_packet(writer, &entry)?;
     Ok(())
 }
 
@@ -219,10 +218,9 @@ fn is_shown(scope: Scope, comment: &[u8]) -> bool
     }
 }
 
-/// Writes a packet with a comment, if it is wanted, and answers whether it is. `block` is used for it.
+/// Writes a packet with a comment, if it is wanted, and answers whether it is.
 fn write_wanted<W: Write>(
     writer: &mut W,
-    block: &mut Vec<u8>,
     plan: Plan,
     start: u64,
     waiting: &Waiting,
@@ -236,7 +234,7 @@ fn write_wanted<W: Write>(
 {
     let shown = is_shown(plan.scope, comment);
     if shown {
-        write_entry(writer, block, start, plan.early, waiting, comment)?;
+        write_entry(writer, start, plan.early, waiting, comment)?;
     }
     Ok(shown)
 }
@@ -252,10 +250,11 @@ fn with_written(mut counts: Counts, is_written: bool) -> Counts
 }
 
 impl Output {
-    ghost use Rattle.std.specs.Prelude.{◌≡◌, OnOk, IfOk, IfErr};
+    ghost use Rattle.std.specs.Prelude.{◌≡◌, OnOk, IfOk, IfErr, Err};
     ghost use Rattle.std.specs.Io.KnownBytes.{Appends};
     ghost use Rattle.sr_capture_merge.specs.Entries.{names_of, written_piece};
     ghost use Rattle.sr_capture_merge.specs.Files.{IsStop};
+    ghost use Rattle.sr_capture_merge.specs.Remarks.{remark_of};
     ghost use Rattle.sr_capture_merge.specs.Settling.{Settled, counted_one};
     ghost use Rattle.sr_merge.specs.Merging.{packet_of};
     ghost use Rattle.sr_pcapng.specs.Writing.{file_head};
@@ -263,7 +262,7 @@ impl Output {
     /// Writes the head of a file.
     ///
     /// # Errors
-    /// `Write` where the writer fails.
+    /// `Write` where the writer fails, and nothing else: no memory is asked for.
     pub(crate) fn begin<W: Write>(
         alloc: Global,
         plan: Plan,
@@ -276,12 +275,10 @@ impl Output {
         ensures start { IfOk result (λ output. output.start ≡ start) }
         ensures err { IfErr result (λ fault. fault ≡ ScriptFault.Write) }
     {
-        let mut block = Vec::new(alloc);
-        write_head(writer, &mut block, names_of(plan.network))?;
+        write_head(writer, names_of(plan.network))?;
         Ok(Output {
             plan,
             start,
-            block,
             comment: Vec::new(alloc),
             counts: Counts::NONE,
         })
@@ -290,7 +287,7 @@ impl Output {
     /// Takes a packet whose verdict is known, or will not be: it is counted, and written where it is wanted.
     ///
     /// # Errors
-    /// `Write` where the writer fails, or `NoMemory`.
+    /// `Write` where the writer fails, or `NoMemory` where there is none for the comment: then nothing of the packet is written.
     pub(crate) fn put<W: Write>(
         &mut self,
         waiting: &Waiting,
@@ -303,13 +300,15 @@ impl Output {
             (record { packet = packet_of waiting.now; verdict = verdict }) self.old.counts) }
         ensures stops { IfErr result (λ fault. IsStop fault
             (W.contents writer.new ≡ W.contents writer.old)) }
+        // Where the writer fails, there was memory for the comment.
+        ensures unwritten { result ≡ Err ScriptFault.Write → self.new.comment.items
+            ≡ remark_of self.old.plan.network verdict (packet_of waiting.now) }
         ensures plan { self.new.plan ≡ self.old.plan }
         ensures start { self.new.start ≡ self.old.start }
     {
         put_remark(&mut self.comment, self.plan.network, waiting, verdict)?;
         let shown = write_wanted(
             writer,
-            &mut self.block,
             self.plan,
             self.start,
             waiting,

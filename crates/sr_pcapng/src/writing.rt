@@ -1,4 +1,4 @@
-//! Writing a file: its head, and then a packet at a time.
+//! Writing a file: its head, and then a packet at a time, piece by piece and without memory: give it a writer with a buffer.
 
 ghost use Rattle.std.specs.Prelude.{◌≡◌, ◌<◌, ◌≤◌, ◌+◌, ◌^◌, ◌++◌, length, OnOk};
 ghost use Rattle.std.specs.Io.KnownBytes.{Appends};
@@ -7,7 +7,6 @@ ghost use Rattle.sr_pcapng.specs.Writing.{half_octets, word_octets, filling, opt
 
 use crate::lanes::{Entry, Lane, Names};
 use crate::options::padded;
-use std::alloc::AllocError;
 use std::io::{self, Write};
 
 /// The types of blocks.
@@ -48,36 +47,40 @@ const RESOLUTION: u16 = 9;
 /// The unit of times: a second by 10 to this power.
 const NANOSECONDS: u8 = 9;
 
-/// Appends a number of 16 bits.
-fn append_half(block: &mut Vec<u8>, number: u16) -> Result<(), AllocError>
-    ensures { OnOk result (block.new.items ≡ block.old.items ++ half_octets number) }
+/// Writes a number of 16 bits.
+fn write_half<W: Write>(writer: &mut W, number: u16) -> io::Result<()>
+    ensures { OnOk result (Appends (W.contents writer.old) (W.contents writer.new)
+        (half_octets number)) }
 {
-    block.extend_from_slice(&number.to_le_bytes())
+    writer.write_all(&number.to_le_bytes())
 }
 
-/// Appends a number of 32 bits.
-fn append_word(block: &mut Vec<u8>, number: u32) -> Result<(), AllocError>
-    ensures { OnOk result (block.new.items ≡ block.old.items ++ word_octets number) }
+/// Writes a number of 32 bits.
+fn write_word<W: Write>(writer: &mut W, number: u32) -> io::Result<()>
+    ensures { OnOk result (Appends (W.contents writer.old) (W.contents writer.new)
+        (word_octets number)) }
 {
-    block.extend_from_slice(&number.to_le_bytes())
+    writer.write_all(&number.to_le_bytes())
 }
 
-/// Appends the zeros behind so many octets that fill up four.
-fn append_filling(block: &mut Vec<u8>, len: usize) -> Result<(), AllocError>
-    ensures { OnOk result (block.new.items ≡ block.old.items ++ filling len) }
+/// Writes the zeros behind so many octets that fill up four.
+fn write_filling<W: Write>(writer: &mut W, len: usize) -> io::Result<()>
+    ensures { OnOk result (Appends (W.contents writer.old) (W.contents writer.new)
+        (filling len)) }
 {
-    block.extend_from_slice(&[0, 0, 0][..(4 - len % 4) % 4])
+    writer.write_all(&[0, 0, 0][..(4 - len % 4) % 4])
 }
 
-/// Appends an option.
-fn append_option(block: &mut Vec<u8>, code: u16, value: &[u8]) -> Result<(), AllocError>
+/// Writes an option.
+fn write_option<W: Write>(writer: &mut W, code: u16, value: &[u8]) -> io::Result<()>
     requires { length value.now < 2 ^ 16 }
-    ensures { OnOk result (block.new.items ≡ block.old.items ++ option_of code value.now) }
+    ensures { OnOk result (Appends (W.contents writer.old) (W.contents writer.new)
+        (option_of code value.now)) }
 {
-    append_half(block, code)?;
-    append_half(block, value.len() as u16)?;
-    block.extend_from_slice(value)?;
-    append_filling(block, value.len())
+    write_half(writer, code)?;
+    write_half(writer, value.len() as u16)?;
+    writer.write_all(value)?;
+    write_filling(writer, value.len())
 }
 
 /// The number of an interface.
@@ -103,52 +106,60 @@ fn lane_name(names: Names, lane: Lane) -> &'static [u8]
     }
 }
 
-/// Appends a section header.
-fn append_header(block: &mut Vec<u8>) -> Result<(), AllocError>
-    ensures { OnOk result (block.new.items ≡ block.old.items ++ header_block) }
+/// Writes a section header.
+fn write_header<W: Write>(writer: &mut W) -> io::Result<()>
+    ensures { OnOk result (Appends (W.contents writer.old) (W.contents writer.new)
+        header_block) }
 {
-    append_word(block, SECTION_HEADER)?;
-    append_word(block, HEADER_LEN)?;
-    append_word(block, MAGIC)?;
-    append_half(block, 1)?;
-    append_half(block, 0)?;
-    append_word(block, NOT_TOLD)?;
-    append_word(block, NOT_TOLD)?;
-    append_word(block, HEADER_LEN)
+    write_word(writer, SECTION_HEADER)?;
+    write_word(writer, HEADER_LEN)?;
+    write_word(writer, MAGIC)?;
+    write_half(writer, 1)?;
+    write_half(writer, 0)?;
+    write_word(writer, NOT_TOLD)?;
+    write_word(writer, NOT_TOLD)?;
+    write_word(writer, HEADER_LEN)
 }
 
-/// Appends the description of an interface, in a block of this length.
-fn append_described(block: &mut Vec<u8>, size: u32, name: &[u8]) -> Result<(), AllocError>
+/// Writes the description of an interface, in a block of this length.
+fn write_described<W: Write>(writer: &mut W, size: u32, name: &[u8]) -> io::Result<()>
     requires { length name.now ≤ 6 }
-    ensures { OnOk result (block.new.items ≡ block.old.items ++ described size name.now) }
+    ensures { OnOk result (Appends (W.contents writer.old) (W.contents writer.new)
+        (described size name.now)) }
 {
-    append_word(block, INTERFACE)?;
-    append_word(block, size)?;
-    append_half(block, ETHERNET)?;
-    append_half(block, 0)?;
-    append_word(block, 0)?;
-    append_option(block, NAME, name)?;
-    append_option(block, RESOLUTION, &[NANOSECONDS])?;
-    append_word(block, 0)?;
-    append_word(block, size)
+    write_word(writer, INTERFACE)?;
+    write_word(writer, size)?;
+    write_half(writer, ETHERNET)?;
+    write_half(writer, 0)?;
+    write_word(writer, 0)?;
+    write_option(writer, NAME, name)?;
+    write_option(writer, RESOLUTION, &[NANOSECONDS])?;
+    write_word(writer, 0)?;
+    write_word(writer, size)
 }
 
-/// Appends the description of an interface.
-fn append_description(block: &mut Vec<u8>, name: &[u8]) -> Result<(), AllocError>
+/// Writes the description of an interface.
+fn write_description<W: Write>(writer: &mut W, name: &[u8]) -> io::Result<()>
     requires { length name.now ≤ 6 }
-    ensures { OnOk result (block.new.items ≡ block.old.items ++ description name.now) }
+    ensures { OnOk result (Appends (W.contents writer.old) (W.contents writer.new)
+        (description name.now)) }
 {
     let size = DESCRIPTION_LEN + padded(name.len() as u32) as u32;
-    append_described(block, size, name)
+    write_described(writer, size, name)
 }
 
-/// Appends what stands before the first packet.
-fn append_head(block: &mut Vec<u8>, names: Names) -> Result<(), AllocError>
-    ensures { OnOk result (block.new.items ≡ block.old.items ++ file_head names) }
+/// Writes what stands before the first packet: a section header, and the descriptions of two interfaces of Ethernet, whose times
+/// are in nanoseconds. It takes no memory.
+///
+/// # Errors
+/// Those of the writer.
+pub fn write_head<W: Write>(writer: &mut W, names: Names) -> io::Result<()>
+    ensures { OnOk result (Appends (W.contents writer.old) (W.contents writer.new)
+        (file_head names)) }
 {
-    append_header(block)?;
-    append_description(block, lane_name(names, Lane::A))?;
-    append_description(block, lane_name(names, Lane::B))
+    write_header(writer)?;
+    write_description(writer, lane_name(names, Lane::A))?;
+    write_description(writer, lane_name(names, Lane::B))
 }
 
 /// How many octets a comment and the end of options have.
@@ -170,92 +181,70 @@ fn packet_size(packet: &Entry<'_>) -> u32
     PACKET_LEN + padded(packet.octets.len() as u32) as u32 + comment_size(packet.comment.len())
 }
 
-/// Appends a comment and the end of options, where there is a comment.
-fn append_comment(block: &mut Vec<u8>, comment: &[u8]) -> Result<(), AllocError>
+/// Writes a comment and the end of options, where there is a comment.
+fn write_comment<W: Write>(writer: &mut W, comment: &[u8]) -> io::Result<()>
     requires { length comment.now < 2 ^ 16 }
-    ensures { OnOk result (block.new.items ≡ block.old.items ++ comment_part comment.now) }
+    ensures { OnOk result (Appends (W.contents writer.old) (W.contents writer.new)
+        (comment_part comment.now)) }
 {
     if comment.is_empty() {
         return Ok(());
     }
-    append_option(block, COMMENT, comment)?;
-    append_word(block, 0)
+    write_option(writer, COMMENT, comment)?;
+    write_word(writer, 0)
 }
 
-/// Appends what stands before the octets of a packet.
-fn append_front(
-    block: &mut Vec<u8>,
+/// Writes what stands before the octets of a packet.
+fn write_front<W: Write>(
+    writer: &mut W,
     size: u32,
     number: u32,
     time: u64,
     held: u32,
     len: u32,
-) -> Result<(), AllocError>
-    ensures { OnOk result (block.new.items ≡ block.old.items
-        ++ front_of size number time held len) }
+) -> io::Result<()>
+    ensures { OnOk result (Appends (W.contents writer.old) (W.contents writer.new)
+        (front_of size number time held len)) }
 {
-    append_word(block, ENHANCED)?;
-    append_word(block, size)?;
-    append_word(block, number)?;
-    append_word(block, (time / 0x1_0000_0000) as u32)?;
-    append_word(block, (time % 0x1_0000_0000) as u32)?;
-    append_word(block, held)?;
-    append_word(block, len)
+    write_word(writer, ENHANCED)?;
+    write_word(writer, size)?;
+    write_word(writer, number)?;
+    write_word(writer, (time / 0x1_0000_0000) as u32)?;
+    write_word(writer, (time % 0x1_0000_0000) as u32)?;
+    write_word(writer, held)?;
+    write_word(writer, len)
 }
 
-/// Appends the block of a packet, of this length, at the interface of this number.
-fn append_block(
-    block: &mut Vec<u8>,
+/// Writes the block of a packet, of this length, at the interface of this number.
+fn write_block<W: Write>(
+    writer: &mut W,
     size: u32,
     number: u32,
     packet: &Entry<'_>,
-) -> Result<(), AllocError>
-    ensures { OnOk result (block.new.items ≡ block.old.items
-        ++ block_of size number (written_of packet.now)) }
+) -> io::Result<()>
+    ensures { OnOk result (Appends (W.contents writer.old) (W.contents writer.new)
+        (block_of size number (written_of packet.now))) }
 {
     let held = packet.octets.len();
-    append_front(block, size, number, packet.time, held as u32, packet.len)?;
-    block.extend_from_slice(packet.octets)?;
-    append_filling(block, held)?;
-    append_comment(block, packet.comment)?;
-    append_word(block, size)
+    write_front(writer, size, number, packet.time, held as u32, packet.len)?;
+    writer.write_all(packet.octets)?;
+    write_filling(writer, held)?;
+    write_comment(writer, packet.comment)?;
+    write_word(writer, size)
 }
 
-/// Appends the block of a packet.
-fn append_packet(block: &mut Vec<u8>, packet: &Entry<'_>) -> Result<(), AllocError>
-    ensures { OnOk result (block.new.items ≡ block.old.items
-        ++ packet_block (written_of packet.now)) }
-{
-    append_block(block, packet_size(packet), lane_number(packet.lane), packet)
-}
-
-/// Writes what stands before the first packet: a section header, and the descriptions of two interfaces of Ethernet, whose times
-/// are in nanoseconds. `block` is used for it.
+/// Writes the block of a packet. It takes no memory.
 ///
 /// # Errors
-/// `OutOfMemory` where a growth was refused, and those of the writer.
-pub fn write_head<W: Write>(writer: &mut W, block: &mut Vec<u8>, names: Names) -> io::Result<()>
-    ensures { OnOk result (Appends (W.contents writer.old) (W.contents writer.new)
-        (file_head names)) }
-{
-    block.clear();
-    append_head(block, names)?;
-    writer.write_all(block)
-}
-
-/// Writes a packet. `block` is used for it.
-///
-/// # Errors
-/// `OutOfMemory` where a growth was refused, and those of the writer.
-pub fn write_packet<W: Write>(
-    writer: &mut W,
-    block: &mut Vec<u8>,
-    packet: &Entry<'_>,
-) -> io::Result<()>
+/// Those of the writer.
+pub fn write_packet<W: Write>(writer: &mut W, packet: &Entry<'_>) -> io::Result<()>
     ensures { OnOk result (Appends (W.contents writer.old) (W.contents writer.new)
         (packet_block (written_of packet.now))) }
 {
-    block.clear();
-    append_packet(block, packet)?;
-    writer.write_all(block)
+    write_block(
+        writer,
+        packet_size(packet),
+        lane_number(packet.lane),
+        packet,
+    )
 }

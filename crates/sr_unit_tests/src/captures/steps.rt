@@ -71,7 +71,7 @@ fn comes(alloc: Global, step: Step) -> Option<bool> {
         Step::TakenUp(file, ends, last) => is_taken_up(alloc, file, ends, last),
         Step::Told(reason, text) => is_told(alloc, reason, text),
         Step::Written(names, packets, wanted) => is_written(alloc, names, packets, wanted),
-        Step::Unwritten(packets, room) => is_unwritten(alloc, packets, room),
+        Step::Unwritten(packets, room) => Some(is_unwritten(packets, room)),
     }
 }
 

@@ -23,13 +23,8 @@ pub struct Given {
 const LATEST: u64 = 0x7FFF_FFFF_FFFF_FFFF;
 
 /// Writes the head of a file, and packets. None where that fails.
-fn written<W: Write>(
-    writer: &mut W,
-    block: &mut Vec<u8>,
-    names: Names,
-    packets: &[Given],
-) -> Option<()> {
-    write_head(writer, block, names).ok()?;
+fn written<W: Write>(writer: &mut W, names: Names, packets: &[Given]) -> Option<()> {
+    write_head(writer, names).ok()?;
     for packet in packets {
         let Given {
             lane,
@@ -48,7 +43,7 @@ fn written<W: Write>(
             octets,
             comment,
         };
-        write_packet(writer, block, &entry).ok()?;
+        write_packet(writer, &entry).ok()?;
     }
     Some(())
 }
@@ -56,17 +51,15 @@ fn written<W: Write>(
 /// Whether a file of these packets has these octets. None for want of memory.
 pub fn is_written(alloc: Global, names: Names, packets: &[Given], wanted: Text) -> Option<bool> {
     let mut octets = Vec::new(alloc);
-    let mut block = Vec::new(alloc);
-    written(&mut octets, &mut block, names, packets)?;
+    written(&mut octets, names, packets)?;
     let wanted = joined(alloc, wanted)?;
     Some(octets == wanted)
 }
 
-/// Whether these packets are not written by a writer that takes so many octets. None for want of memory.
-pub fn is_unwritten(alloc: Global, packets: &[Given], room: usize) -> Option<bool> {
-    let mut block = Vec::new(alloc);
+/// Whether these packets are not written by a writer that takes so many octets.
+pub fn is_unwritten(packets: &[Given], room: usize) -> bool {
     let mut writer = Narrow { room };
-    Some(written(&mut writer, &mut block, Names::Lan, packets).is_none())
+    written(&mut writer, Names::Lan, packets).is_none()
 }
 
 const LAN_A: Part = These(&[

@@ -1,0 +1,22 @@
+use Rattle.std.proofs.Common.{ℕ, ◌/◌, ◌%◌, ◌^◌, List, Option, ◌++◌}
+use Rattle.sr_pcapng.specs.Writing.{word_octets}
+use Rattle.sr_pcapng.proofs.Appends.{more, last}
+use Rattle.sr_pcapng.proofs.writing.write_front.Goals as goal
+
+pub returns : goal.returns
+returns g c =
+    let old : Option (List ℕ) = g.W.Write.contents c.args.writer.now in
+    let p1 : List ℕ = word_octets 6 in
+    let one = c.in_ok-write_word.ensures in
+    let p2 : List ℕ = word_octets c.args.size in
+    let two = more old (p1) (g.W.Write.contents c.write_word.new.writer) (g.W.Write.contents c.write_word-2.new.writer) p2 one c.in_ok-write_word-2.ensures in
+    let p3 : List ℕ = word_octets c.args.number in
+    let three = more old (p1 ++ p2) (g.W.Write.contents c.write_word-2.new.writer) (g.W.Write.contents c.write_word-3.new.writer) p3 two c.in_ok-write_word-3.ensures in
+    let p4 : List ℕ = word_octets (c.args.time / 2 ^ 32) in
+    let four = more old (p1 ++ p2 ++ p3) (g.W.Write.contents c.write_word-3.new.writer) (g.W.Write.contents c.write_word-4.new.writer) p4 three c.in_ok-write_word-4.ensures in
+    let p5 : List ℕ = word_octets (c.args.time % 2 ^ 32) in
+    let five = more old (p1 ++ p2 ++ p3 ++ p4) (g.W.Write.contents c.write_word-4.new.writer) (g.W.Write.contents c.write_word-5.new.writer) p5 four c.in_ok-write_word-5.ensures in
+    let p6 : List ℕ = word_octets c.args.held in
+    let six = more old (p1 ++ p2 ++ p3 ++ p4 ++ p5) (g.W.Write.contents c.write_word-5.new.writer) (g.W.Write.contents c.write_word-6.new.writer) p6 five c.in_ok-write_word-6.ensures in
+    let p7 : List ℕ = word_octets c.args.len in
+    last old (p1 ++ p2 ++ p3 ++ p4 ++ p5 ++ p6) (g.W.Write.contents c.write_word-6.new.writer) (g.W.Write.contents c.write_word-7.new.writer) p7 c.write_word-7.result six c.write_word-7.ensures
