@@ -192,7 +192,8 @@ pub(crate) fn obey<R: Role>(
     text: &mut Text,
 ) -> Result<(), FaultKind>
     ensures ok { OnOk result ((told : List ℕ) × Obeys role (state_of R.meaning node.old) number
-        command octets.old.items told (state_of R.meaning node.new) × (text.new ≡ text.old ++ told)) }
+        command octets.old.items told (state_of R.meaning node.new)
+        × (text.new ≡ text.old ++ told)) }
     ensures kept { OnErr result (StillHolds text.old text.new) }
     ensures err { IfErr result (λ kind. kind ≡ FaultKind.Memory) }
 {
