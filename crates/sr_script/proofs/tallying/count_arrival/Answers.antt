@@ -1,27 +1,25 @@
 use Rattle.std.proofs.Common.{[], inl, inr, refl, sym}
 use Rattle.std.proofs.lemmas.List.{append-nil}
-use Rattle.sr_node.specs.Arriving.{arrival_answer}
 use Rattle.std.proofs.lemmas.Result.{on_ok_weaker}
+use Rattle.sr_node.specs.Arriving.{arrival_answer}
 use Rattle.sr_script.specs.Texts.{refusal_line}
-use Rattle.sr_script.proofs.tallying.count_arrival.Goals.{in-Ok, in-Err}
 use Rattle.sr_script.proofs.tallying.count_arrival.Goals as goal
 
-pub returns-clause-ok : goal.returns-clause-ok
-returns-clause-ok g c = elim c.match-arrive.branch [
-  | in-Ok w ↦
-      rw (w.result-is, w.text-is, w.counts-is) (
-        [],
-        inl (arrival_answer w.in-Ok.field-0, w.in-Ok.ensures.taken, refl),
-        inl (refl, w.count_taken.ensures),
-        sym (append-nil c.args.text.now),
-      )
-  | in-Err w ↦
-      rw (w.result-is, w.text-is, w.counts-is) (on_ok_weaker w.tell_refusal.result
-      (λ told. (
-        refusal_line c.args.number told.0,
-        inr (w.in-Err.fault, told.0, w.in-Err.ensures.refused, told.1, refl, w.in-Err.ensures.same),
-        inr (w.in-Err.fault, told.0, told.1, refl, w.count_refused.ensures),
-        told.2,
-      ))
-      w.tell_refusal.ensures.ok)
-]
+pub returns-in-Ok-clause-ok : goal.returns-in-Ok-clause-ok
+returns-in-Ok-clause-ok g c = (
+  [],
+  inl (arrival_answer c.in-Ok.field-0, c.in-Ok.ensures.taken, refl),
+  inl (refl, c.count_taken.ensures),
+  sym (append-nil c.args.text.now),
+)
+
+pub returns-in-Err-clause-ok : goal.returns-in-Err-clause-ok
+returns-in-Err-clause-ok g c =
+    on_ok_weaker c.tell_refusal.result
+    (λ told. (
+      refusal_line c.args.number told.0,
+      inr (c.in-Err.fault, told.0, c.in-Err.ensures.refused, told.1, refl, c.in-Err.ensures.same),
+      inr (c.in-Err.fault, told.0, told.1, refl, c.count_refused.ensures),
+      told.2,
+    ))
+    c.tell_refusal.ensures.ok
