@@ -11,10 +11,13 @@ use std::test::*;
 // The last of 256 numbers.
 const LAST: u8 = 255;
 
-// A frame that tells its number.
+// A frame that tells its number. Where an allocation fails, the call is made again.
 fn frame_of(alloc: Global, number: u8) -> Option<Frame> {
     let octets = [2, 0, 0, 0, 0, 1, 2, 0, 0, 0, 0, 2, 0x88, 0xb5, number];
-    Frame::copy(alloc, &octets).ok()
+    match Frame::copy(alloc, &octets) {
+        Ok(frame) => Some(frame),
+        Err(_) => Frame::copy(alloc, &octets).ok(),
+    }
 }
 
 // Whether the wire takes a frame of this number.
@@ -65,21 +68,25 @@ fn empties<W: Wait>(rt: &W, wire: &Wire, take: &mut TakePass) -> bool
     true
 }
 
-// Whether the wire takes 256 frames, hands the next one back, and hands them out in order, and no more.
-fn holds<W: Wait>(rt: &W, alloc: Global) -> bool {
+// Whether a new wire takes 256 frames, hands the next one back, and hands them out in order, and no more. None where there is no
+// memory for a wire.
+fn holds<W: Wait>(rt: &W, alloc: Global) -> Option<bool> {
     match Wire::new(alloc) {
-        Ok((wire, mut send, mut take)) => {
+        Ok((wire, mut send, mut take)) => Some(
             fills(rt, alloc, &wire, &mut send)
                 && !puts(rt, alloc, &wire, &mut send, 7)
                 && empties(rt, &wire, &mut take)
-                && !takes(rt, &wire, &mut take, 7)
-        }
-        Err(_) => false,
+                && !takes(rt, &wire, &mut take, 7),
+        ),
+        Err(_) => None,
     }
 }
 
 #[test]
 fn a_wire_takes_256_frames(rt: HostRuntime) {
-    let holds = holds(&rt, rt.alloc());
-    assert!(&rt; holds);
+    let holds = match holds(&rt, rt.alloc()) {
+        None => holds(&rt, rt.alloc()),
+        some => some,
+    };
+    assert_eq!(&rt; holds, Some(true));
 }
