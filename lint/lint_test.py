@@ -279,7 +279,7 @@ class Lint(unittest.TestCase):
             found = self.findings({"docs/ONE.md": f"one\n{text}\n"})
             self.assertEqual(len(found), 1, text)
             self.assertRegex(found[0], r"^docs/ONE.md:2: says `.*` for a failed allocation$")
-        for text in ["an allocation failed", "where an allocation fails", "a refused event", "growths come first", "takes memory"]:
+        for text in ["an allocation failed", "where an allocation fails", "a refused event", "growths come first", "takes memory", "`out of memory`"]:
             self.assertEqual(self.findings({"docs/ONE.md": text + "\n"}), [], text)
 
     def test_bare_names(self):

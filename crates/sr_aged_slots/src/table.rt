@@ -137,16 +137,26 @@ impl<V: Drop, const SPAN: u64, const MOST: usize> AgedSlots<V, SPAN, MOST> {
         self.slots.hold(key)
     }
 
-    /// Holds the places of two addresses. NoMemory: memory ran out, and each address has a held place as before.
+    /// Holds the places of two addresses. NoMemory: memory ran out, and nothing changes.
     pub fn hold_both(&mut self, key: Mac, other: Mac) -> Result<(), NoMemory>
         ensures entries { self.new.entries ≡ self.old.entries }
         ensures held { OnOk result ((is_held self.new key ≡ true)
             × (is_held self.new other ≡ true)) }
         ensures others { OnOk result (KeepsHeldBut self.old.held self.new.held key other) }
         ensures again { is_held self.old key ≡ true → is_held self.old other ≡ true → IsOk result }
-        ensures err { OnErr result (KeepsAllHeld self.old.held self.new.held) }
+        ensures err { OnErr result (self.new ≡ self.old) }
     {
         self.slots.hold_both(key, other)
+    }
+
+    /// Holds a place for just those addresses for which another table holds one; what else was held is given up. Where the other
+    /// holds none, it goes over nothing. NoMemory: memory ran out, and no place is held.
+    pub fn hold_as(&mut self, other: &Self) -> Result<(), NoMemory>
+        ensures entries { self.new.entries ≡ self.old.entries }
+        ensures held { OnOk result (KeepsAllHeld other.now.held self.new.held) }
+        ensures err { OnErr result (self.new.held ≡ []) }
+    {
+        self.slots.hold_as(&other.slots)
     }
 
     /// Gives up all held places.
@@ -301,11 +311,11 @@ impl<V: Drop, const SPAN: u64, const MOST: usize> AgedSlots<V, SPAN, MOST> {
 impl<V: Drop + Copy, const SPAN: u64, const MOST: usize> AgedSlots<V, SPAN, MOST> {
     /// A table of its own with the same values in the same order, under the same keys. It holds no place.
     /// NoMemory: memory ran out.
-    pub fn try_clone(&self, alloc: Global) -> Result<Self, NoMemory>
+    pub fn try_clone(&self) -> Result<Self, NoMemory>
         ensures entries { IfOk result (λ own. own.entries ≡ self.now.entries) }
         ensures held { IfOk result (λ own. own.held ≡ []) }
     {
-        let slots = self.slots.try_clone(alloc)?;
+        let slots = self.slots.try_clone()?;
         Ok(AgedSlots {
             slots,
             oldest: self.oldest,

@@ -14,6 +14,7 @@ mod hints;
 mod line_flaws;
 mod merge;
 mod merge_line;
+mod node_line;
 mod pipes;
 mod plant_line;
 mod progress;

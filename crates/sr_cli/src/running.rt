@@ -1,10 +1,10 @@
 //! Runs of a script on standard input, on a node or on a plant. What ends one early is told on standard error: its first line is
 //! the fault, and the second says what is wrong and what to do.
 
-use crate::command_line::Report;
 use crate::flaws::Flaw;
 use crate::forms::{Form, NODE_FORMS, PLANT_FORMS, REDBOX_FORMS, THREAD_FORMS};
 use crate::line_flaws::{found_in, is_capture};
+use crate::node_line::Report;
 use crate::pipes::{Kept, MOST_KEPT, Pipe};
 use crate::tails::tell_tail;
 use sr_plant_script::{PlantSetup, run_plant};

@@ -5,6 +5,7 @@ ghost use Rattle.std.specs.Map.{lookup, keys_of};
 ghost use Rattle.std.specs.Option.{option_map, option_copied};
 ghost use Rattle.sr_frame.specs.Addresses.{mac_eq};
 ghost use Rattle.sr_sequence.specs.Places.{steps};
+ghost use Rattle.sr_slots.specs.Places.{KeepsAllHeld};
 ghost use Rattle.sr_dup_table.specs.Limits.{most_sources};
 ghost use Rattle.sr_dup_table.specs.Sources.{IsTable, live_at};
 ghost use Rattle.sr_dup_table.specs.Joins.{IsJoin, new_source, apart_source, or_else, is_apart, first_apart};
@@ -19,7 +20,6 @@ use crate::table_of::{MOST_SOURCES, TableOf};
 use sr_aged_slots::Aged;
 use sr_dup_window::Record;
 use sr_frame::Mac;
-use std::alloc::Global;
 
 // How many sources are live.
 fn live_count<const N: usize>(table: &TableOf<N>, now: u64) -> usize
@@ -182,10 +182,10 @@ fn take_all<const N: usize>(
     Ok(())
 }
 
-// The join of two tables at a time, as a table of its own, which holds no place. An error: they have none, or memory ran out.
+// The join of two tables at a time, as a table of its own, which holds the places that the first one holds. An error: they have none,
+// or memory ran out.
 fn join_of<const N: usize>(
     table: &TableOf<N>,
-    alloc: Global,
     other: &TableOf<N>,
     now: u64,
 ) -> Result<TableOf<N>, DupFault>
@@ -195,29 +195,29 @@ fn join_of<const N: usize>(
     ensures joins { IfOk result (λ both.
         IsJoin (64 * N) (live_at now table.now.sources) (live_at now other.now.sources)
         both.sources) }
-    ensures held { IfOk result (λ both. both.held ≡ []) }
+    ensures held { IfOk result (λ both. KeepsAllHeld table.now.held both.held) }
     ensures joinable { OnOk result
         (join_fault (live_at now table.now.sources) (live_at now other.now.sources) ≡ None) }
     ensures refused { IfErr result (λ e.
         join_fault (live_at now table.now.sources) (live_at now other.now.sources) ≡ None
         → e ≡ DupFault.NoMemory) }
 {
-    let mut both = table.try_clone(alloc)?;
+    let mut both = table.try_clone()?;
     let _forgotten = both.age(now);
     take_all(&mut both, other, now)?;
-    both.release();
+    both.hold_as(table)?;
     Ok(both)
 }
 
 impl<const N: usize> TableOf<N> {
     /// Joins the sources of another table to these: the records of a source, and the later of its times. Sources that are silent
-    /// for `ENTRY_FORGET_TIME` at this time are left out on both sides, and those that are new come last. Held places are given up.
+    /// for `ENTRY_FORGET_TIME` at this time are left out on both sides, and those that are new come last. Held places stay held.
     /// TableFull: the join has over 1024 sources. Apart: two records of this source are 32768 apart, the first such source of the
     /// other table. NoMemory: memory ran out. The first of these is answered, and nothing changes.
-    pub fn merge(&mut self, alloc: Global, other: &TableOf<N>, now: u64) -> Result<(), DupFault>
+    pub fn merge(&mut self, other: &TableOf<N>, now: u64) -> Result<(), DupFault>
         ensures joins { OnOk result (IsJoin (64 * N) (live_at now self.old.sources)
             (live_at now other.now.sources) self.new.sources) }
-        ensures held { OnOk result (self.new.held ≡ []) }
+        ensures held { OnOk result (KeepsAllHeld self.old.held self.new.held) }
 
         // Exactly where there is a fault it is answered, and otherwise at most NoMemory.
         ensures refused { IfErr result (λ e. e
@@ -228,7 +228,7 @@ impl<const N: usize> TableOf<N> {
         ensures err { OnErr result (self.new ≡ self.old) }
     {
         let _few = (self.source_count(), other.source_count());
-        match join_of(self, alloc, other, now) {
+        match join_of(self, other, now) {
             Ok(both) => {
                 *self = both;
                 Ok(())
@@ -241,15 +241,15 @@ impl<const N: usize> TableOf<N> {
 
 impl DupTable {
     /// Joins the sources of another table to these: the records of a source, and the later of its times. Sources that are silent
-    /// for `ENTRY_FORGET_TIME` at this time are left out on both sides, and those that are new come last. Held places are given up.
+    /// for `ENTRY_FORGET_TIME` at this time are left out on both sides, and those that are new come last. Held places stay held.
     /// OtherWidth: the tables have two widths. TableFull: the join has over 1024 sources. Apart: two records of this source are
     /// 32768 apart, the first such source of the other table. NoMemory: memory ran out. The first of these is answered, and nothing
     /// changes.
-    pub fn merge(&mut self, alloc: Global, other: &DupTable, now: u64) -> Result<(), DupFault>
+    pub fn merge(&mut self, other: &DupTable, now: u64) -> Result<(), DupFault>
         ensures joins { OnOk result (IsJoin self.old.width (live_at now self.old.sources)
             (live_at now other.now.sources) self.new.sources) }
         ensures width { self.new.width ≡ self.old.width }
-        ensures held { OnOk result (self.new.held ≡ []) }
+        ensures held { OnOk result (KeepsAllHeld self.old.held self.new.held) }
 
         // Exactly where there is a fault it is answered, and otherwise at most NoMemory.
         ensures refused { IfErr result (λ e.
@@ -258,8 +258,8 @@ impl DupTable {
         ensures err { OnErr result (self.new ≡ self.old) }
     {
         match (&mut self.tables, &other.tables) {
-            (Tables::Narrow(one), Tables::Narrow(two)) => one.merge(alloc, two, now),
-            (Tables::Wide(one), Tables::Wide(two)) => one.merge(alloc, two, now),
+            (Tables::Narrow(one), Tables::Narrow(two)) => one.merge(two, now),
+            (Tables::Wide(one), Tables::Wide(two)) => one.merge(two, now),
             (Tables::Narrow(_), Tables::Wide(_)) | (Tables::Wide(_), Tables::Narrow(_)) => {
                 Err(DupFault::OtherWidth)
             }

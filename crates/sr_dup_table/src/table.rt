@@ -118,14 +118,14 @@ impl DupTable {
 
     /// A table of its own of the same width, with the same sources in the same order, under the same keys. It holds no place.
     /// NoMemory: memory ran out.
-    pub fn try_clone(&self, alloc: Global) -> Result<DupTable, NoMemory>
+    pub fn try_clone(&self) -> Result<DupTable, NoMemory>
         ensures width { IfOk result (λ own. own.width ≡ self.now.width) }
         ensures sources { IfOk result (λ own. own.sources ≡ self.now.sources) }
         ensures held { IfOk result (λ own. own.held ≡ []) }
     {
         match &self.tables {
-            Tables::Narrow(table) => Ok(DupTable::from(table.try_clone(alloc)?)),
-            Tables::Wide(table) => Ok(DupTable::from(table.try_clone(alloc)?)),
+            Tables::Narrow(table) => Ok(DupTable::from(table.try_clone()?)),
+            Tables::Wide(table) => Ok(DupTable::from(table.try_clone()?)),
         }
     }
 

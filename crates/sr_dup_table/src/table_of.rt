@@ -6,7 +6,7 @@ ghost use Rattle.std.specs.Option.{option_copied, option_map};
 ghost use Rattle.sr_dup_window.specs.LaneSets.{is_empty};
 ghost use Rattle.sr_dup_window.specs.Windows.{window_of};
 ghost use Rattle.sr_frame.specs.Addresses.{mac_eq};
-ghost use Rattle.sr_slots.specs.Places.{IsFound, KeepsHeld};
+ghost use Rattle.sr_slots.specs.Places.{IsFound, KeepsHeld, KeepsAllHeld};
 ghost use Rattle.sr_dup_table.specs.Limits.{most_sources};
 ghost use Rattle.sr_dup_table.specs.Sources.{IsTable, is_held, is_ready, live_at, live_others, arrive_fault, with_room, arrive_answer, after_arrive, heard_next, fresh_at};
 ghost use Rattle.sr_dup_table.specs.Joins.{is_apart, joined_heard, with_source};
@@ -79,11 +79,11 @@ impl<const N: usize> TableOf<N> {
 
     /// A table of its own with the same sources in the same order, under the same keys. It holds no place.
     /// NoMemory: memory ran out.
-    pub fn try_clone(&self, alloc: Global) -> Result<TableOf<N>, NoMemory>
+    pub fn try_clone(&self) -> Result<TableOf<N>, NoMemory>
         ensures sources { IfOk result (λ own. own.sources ≡ self.now.sources) }
         ensures held { IfOk result (λ own. own.held ≡ []) }
     {
-        let slots = self.slots.try_clone(alloc)?;
+        let slots = self.slots.try_clone()?;
         Ok(TableOf { slots })
     }
 
@@ -130,6 +130,15 @@ impl<const N: usize> TableOf<N> {
         ensures err { OnErr result (self.new ≡ self.old) }
     {
         self.slots.hold(src)
+    }
+
+    // Holds a place for just those sources for which another table holds one. NoMemory: memory ran out, and no place is held.
+    pub(crate) fn hold_as(&mut self, other: &TableOf<N>) -> Result<(), NoMemory>
+        ensures sources { self.new.sources ≡ self.old.sources }
+        ensures held { OnOk result (KeepsAllHeld other.now.held self.new.held) }
+        ensures err { OnErr result (self.new.held ≡ []) }
+    {
+        self.slots.hold_as(&other.slots)
     }
 
     /// Gives up all held places.

@@ -3,6 +3,7 @@
 ghost use Rattle.std.specs.Prelude.{⊤, ◌≡◌, [], ◌∷◌, codes};
 ghost use Rattle.sr_forwarding.specs.Outlets.{has, to, listed, ring};
 
+use crate::port_list::PortList;
 use bitflags::{Flag, Flags, bitflag_items};
 use smallvec::SmallVec;
 use sr_frame::Port;
@@ -82,8 +83,8 @@ impl Outlets {
     }
 
     /// The ports of the set, in the order H, A, B, C. Does not allocate.
-    pub fn ports(self, alloc: Global) -> SmallVec<Port, 4>
-        ensures { result.items ≡ listed self }
+    pub fn ports(self, alloc: Global) -> PortList
+        ensures { result ≡ listed self }
     {
         let mut ports: SmallVec<Port, 4> = SmallVec::new(alloc);
         for port in [Port::H, Port::A, Port::B, Port::C].iter() {
@@ -91,6 +92,6 @@ impl Outlets {
                 ports.push_reserved(*port);
             }
         }
-        ports
+        PortList::of(ports)
     }
 }

@@ -73,7 +73,11 @@ fn encoded(alloc: Global, kind: RoleKind, port: Port, parcel: &Parcel) -> Result
 fn put_answer(digest: &mut Digest, answer: &Answer) {
     match answer {
         Answer::Own => digest.put_octet(1),
-        Answer::Passed(outlets) => digest.put_octet(0x10 | outlets.bits()),
+        Answer::Passed(ports) => {
+            for port in ports.as_slice() {
+                digest.put_octet(0x10 | *port as u8);
+            }
+        }
         Answer::Sent(seq) => digest.put_number(u64::from(seq.0)),
         Answer::Ticked {
             sources,

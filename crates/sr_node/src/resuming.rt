@@ -1,7 +1,8 @@
 //! A node that goes on with what a table has noted.
 
 ghost use Rattle.std.specs.Prelude.{◌≡◌, ◌⊎◌, IfOk};
-ghost use Rattle.sr_node.specs.Images.{node_state, IsIdle};
+ghost use Rattle.sr_node.specs.Images.{IsIdle};
+ghost use Rattle.sr_node.specs.States.{state_of};
 ghost use Rattle.sr_node.specs.Resuming.{last_heard, resumed};
 
 use crate::{Mode, NodeOf, Settings};
@@ -46,8 +47,8 @@ impl<R: Role> NodeOf<R> {
         table: DupTable,
         keys: Keys,
     ) -> Result<NodeOf<R>, NoMemory>
-        ensures resumed { IfOk result (λ n. node_state (R.meaning n.role) n.core
-            ≡ resumed (R.meaning role) mode table.width table.sources) }
+        ensures resumed { IfOk result (λ n. state_of R.meaning n ≡ resumed (R.meaning role) mode
+            table.width table.sources) }
         ensures idle { IfOk result (λ n. IsIdle n.core) }
     {
         let settings = Settings {

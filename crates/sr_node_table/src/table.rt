@@ -4,7 +4,7 @@ ghost use Rattle.std.specs.Option.{option_copied};
 ghost use Rattle.std.specs.List.{cons_option};
 ghost use Rattle.std.specs.Map.{lookup};
 ghost use Rattle.sr_frame.specs.Addresses.{mac_eq};
-ghost use Rattle.sr_slots.specs.Places.{KeepsHeld, KeepsHeldBut, KeepsAllHeld};
+ghost use Rattle.sr_slots.specs.Places.{KeepsHeld, KeepsHeldBut};
 ghost use Rattle.sr_node_table.specs.Limits.{most_nodes};
 ghost use Rattle.sr_node_table.specs.Nodes.{hearing_of, entry_after, learnt_again, live_others, downs_of, raised, is_held, answer_to, after_hearing, announcement, empty_table};
 ghost use Rattle.sr_node_table.specs.Watching.{after_prune};
@@ -114,7 +114,7 @@ impl NodeTable {
         ensures held { IfOk result (λ own. own.held ≡ []) }
     {
         Ok(NodeTable {
-            nodes: self.nodes.try_clone(self.alloc)?,
+            nodes: self.nodes.try_clone()?,
             alarms: copy_of(&self.alarms, self.alloc)?,
             late: self.late.try_clone(self.alloc, MAX_NODES)?,
             spare: LatePorts::with_room(self.alloc, self.keys, MAX_NODES)?,
@@ -190,7 +190,7 @@ impl NodeTable {
     }
 
     /// Holds the place of an address, or the places of two, so that their next hearing takes no memory. Nothing else sees them.
-    /// NoMemory: memory ran out, and each address has a held place as before.
+    /// NoMemory: memory ran out, and nothing changes.
     pub fn reserve(&mut self, mac: Mac, other: Option<Mac>) -> Result<(), NoMemory>
         ensures table { self.new.table ≡ self.old.table }
         ensures held { OnOk result (is_held self.new mac ≡ true) }
@@ -199,7 +199,7 @@ impl NodeTable {
             (KeepsHeldBut self.old.held self.new.held mac (unwrap_or other mac)) }
         ensures again { is_held self.old mac ≡ true
             → IfSome other (λ second. is_held self.old second ≡ true) → IsOk result }
-        ensures err { OnErr result (KeepsAllHeld self.old.held self.new.held) }
+        ensures err { OnErr result (self.new ≡ self.old) }
     {
         match other {
             Some(other) => self.nodes.hold_both(mac, other),

@@ -9,3 +9,4 @@ pub mod OrderLemmas
 pub mod LandLemmas
 pub mod CarryLemmas
 pub mod CoupledLemmas
+mod EmptyLemmas

@@ -2,15 +2,12 @@
 use Rattle.std.specs.Prelude.{List, map}
 use Rattle.sr_forwarding.specs.declared.role_image.RoleImage.{RoleImage}
 use Rattle.sr_node.specs.declared.node.NodeOf.{NodeOf}
-use Rattle.sr_node.specs.Images.{State, node_state}
+use Rattle.sr_node.specs.Images.{State}
+use Rattle.sr_node.specs.States.{state_of}
 use Rattle.sr_plant.specs.declared.plant.PlantOf.{PlantOf}
 use Rattle.sr_plant.specs.Plants.{Plant, plant_of}
 
--- a node, where this is the image of each role
-abbrev pub state_of : {R : Type 0} → (R → RoleImage) → NodeOf R → State
-state_of meaning n = node_state (meaning n.role) n.core
-
--- nodes, likewise
+-- nodes, where this is the image of each role
 abbrev pub states_of : {R : Type 0} → (R → RoleImage) → List (NodeOf R) → List State
 states_of meaning ns = map (state_of meaning) ns
 

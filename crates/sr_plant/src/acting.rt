@@ -3,7 +3,8 @@
 ghost use Rattle.std.specs.Prelude.{◌≡◌, ◌<◌, ◌⊎◌, IfOk, IfErr, OnOk, OnErr, length};
 ghost use Rattle.sr_node.specs.Faults.{or_no_memory};
 ghost use Rattle.sr_node.specs.Steps.{refusal_of};
-ghost use Rattle.sr_plant.specs.Images.{plant_state, state_of};
+ghost use Rattle.sr_node.specs.States.{state_of};
+ghost use Rattle.sr_plant.specs.Images.{plant_state};
 ghost use Rattle.sr_plant.specs.Plants.{IsEmptied, IsInOrder};
 ghost use Rattle.sr_plant.specs.Given.{StepsOut};
 ghost use Rattle.sr_plant.specs.Steps.{Acts, NodeRefuses};

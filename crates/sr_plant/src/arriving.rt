@@ -1,8 +1,9 @@
 //! Copies come to their receivers.
 
 ghost use Rattle.std.specs.Prelude.{◌≡◌, true, false, IfOk, IfErr, OnErr};
+ghost use Rattle.sr_node.specs.Arriving.{arrival_answer};
 ghost use Rattle.sr_node.specs.Octets.{OctetsArrived, OctetsRefused};
-ghost use Rattle.sr_plant.specs.Images.{state_of};
+ghost use Rattle.sr_node.specs.States.{state_of};
 ghost use Rattle.sr_plant.specs.PortFramings.{framed, HaveNets};
 ghost use Rattle.sr_plant.specs.Plants.{IsEmptied};
 ghost use Rattle.sr_plant.specs.Steps.{is_loss};
@@ -13,9 +14,9 @@ use crate::flight::Flying;
 use crate::giving::{Given, take_out};
 use crate::port_framing::PortFraming;
 use crate::{PlantFault, Topology};
-use sr_forwarding::{Framing, Parcel, ReadFault, Role};
+use sr_forwarding::{Framing, Outlets, Parcel, ReadFault, Role};
 use sr_frame::{Frame, NoMemory, Port};
-use sr_node::{Answer, NodeOf, StepFault};
+use sr_node::{NodeOf, StepFault};
 use std::alloc::Global;
 
 /// A copy as it comes to its receiver.
@@ -84,16 +85,16 @@ fn arrive<R: Role>(
     port: Port,
     octets: &[u8],
     now: u64,
-) -> Result<Answer, StepFault>
-    ensures ok { IfOk result (λ a. OctetsArrived (framed framing)
-        (state_of R.meaning node.old) port octets.now now a
+) -> Result<Option<Outlets>, StepFault>
+    ensures ok { IfOk result (λ outlets. OctetsArrived (framed framing)
+        (state_of R.meaning node.old) port octets.now now (arrival_answer outlets)
         (state_of R.meaning node.new)) }
     ensures err { IfErr result (λ f. OctetsRefused (framed framing)
         (state_of R.meaning node.old) port octets.now now f) }
     ensures same { OnErr result (state_of R.meaning node.new
         ≡ state_of R.meaning node.old) }
 {
-    node.arrive(&framing, port, octets, now)
+    node.receive(&framing, port, octets, now)
 }
 
 /// A copy comes to its receiver, what that has for its host goes up, and what came out at its ports is answered.

@@ -132,7 +132,7 @@ fn two_rings_of<R: Role>(left: &[NodeOf<R>], right: &[NodeOf<R>]) -> Topology
 #[derive(Drop)]
 pub struct CoupledOf<R: Drop> {
     /// The nodes, and what is between them.
-    pub plant: PlantOf<R>,
+    pub(crate) plant: PlantOf<R>,
 }
 
 /// A coupled network of nodes over any role.
@@ -165,6 +165,14 @@ fn plant_of_both<R: Role>(
 }
 
 impl<R: Role> CoupledOf<R> {
+    /// The plant that it is, for whoever takes networks of any topology.
+    pub fn into_plant(self) -> PlantOf<R>
+        ensures { result ≡ self.plant }
+    {
+        let CoupledOf { plant } = self;
+        plant
+    }
+
     /// A new ring with two LANs behind it. The ring has 3 to 16 nodes: two boxes of the kind `Prp`, of one network, the one
     /// with LAN A and the other with LAN B, and else nodes of the kind `Danh`. The LANs have 1 to 14 nodes of the kind
     /// `Danp`. Each node has an address of its own, and no frame waiting. `BadPlant` exactly where they are not so.

@@ -1,7 +1,8 @@
 //! Whether nodes make a plant.
 
 ghost use Rattle.std.specs.Prelude.{◌≡◌, ◌<◌, length};
-ghost use Rattle.sr_plant.specs.Images.{state_of, states_of};
+ghost use Rattle.sr_node.specs.States.{state_of};
+ghost use Rattle.sr_plant.specs.Images.{states_of};
 ghost use Rattle.sr_plant.specs.Building.{is_lan, is_kind, is_fit, are_fit, has_address, are_apart, are_apart_from, is_plant, are_few, is_plant_of_both};
 
 use crate::Topology;

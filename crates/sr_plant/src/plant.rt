@@ -1,6 +1,6 @@
 //! A plant over a role.
 
-ghost use Rattle.std.specs.Prelude.{◌≡◌, ◌<◌, map, length, slice_index_or, []};
+ghost use Rattle.std.specs.Prelude.{◌≡◌, ◌<◌, map, length, replicate, slice_index_or, []};
 
 use crate::{Topology, Traffic};
 use sr_forwarding::{Parcel, Role};
@@ -10,19 +10,53 @@ use sr_node::NodeOf;
 #[derive(Drop)]
 pub struct PlantOf<R: Drop> {
     /// How they are joined.
-    pub topology: Topology,
+    pub(crate) topology: Topology,
     /// The nodes.
-    pub nodes: Vec<NodeOf<R>>,
+    pub(crate) nodes: Vec<NodeOf<R>>,
     /// What is between them.
-    pub traffic: Traffic,
+    pub(crate) traffic: Traffic,
     /// What each handed up to its host, oldest first.
-    pub handed: Vec<Vec<Parcel>>,
+    pub(crate) handed: Vec<Vec<Parcel>>,
 }
 
 /// A plant of nodes over any role.
 pub type Plant = PlantOf<Box<dyn Role + Send>>;
 
+// Empties each list.
+fn empty_all(lists: &mut Vec<Vec<Parcel>>)
+    ensures { map (λ l. l.items) lists.new.items ≡ replicate (length lists.old.items) [] }
+{
+    for list in lists.iter_mut() {
+        list.clear();
+    }
+}
+
 impl<R: Role> PlantOf<R> {
+    /// How many nodes it has.
+    pub fn node_count(&self) -> usize
+        ensures { result ≡ length self.now.nodes.items }
+    {
+        self.nodes.len()
+    }
+
+    /// What each node handed up to its host, oldest first, in the order of the nodes.
+    pub fn all_handed(&self) -> &[Vec<Parcel>]
+        ensures { result.now ≡ self.now.handed.items }
+    {
+        self.handed.as_slice()
+    }
+
+    /// Lets go of all that was handed up. All else stays.
+    pub fn drop_handed(&mut self)
+        ensures handed { map (λ h. h.items) self.new.handed.items
+            ≡ replicate (length self.old.handed.items) [] }
+        ensures topology { self.new.topology ≡ self.old.topology }
+        ensures nodes { self.new.nodes ≡ self.old.nodes }
+        ensures traffic { self.new.traffic ≡ self.old.traffic }
+    {
+        empty_all(&mut self.handed);
+    }
+
     /// What a node handed up to its host, oldest first.
     pub fn handed(&self, node: usize) -> &[Parcel]
         requires { node < length self.now.handed.items }

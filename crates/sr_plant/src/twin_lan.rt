@@ -14,13 +14,21 @@ use std::alloc::Global;
 #[derive(Drop)]
 pub struct TwinLanOf<R: Drop> {
     /// The nodes, and what is between them.
-    pub plant: PlantOf<R>,
+    pub(crate) plant: PlantOf<R>,
 }
 
 /// Two LANs of doubly attached nodes over any role.
 pub type TwinLan = TwinLanOf<Box<dyn Role + Send>>;
 
 impl<R: Role> TwinLanOf<R> {
+    /// The plant that it is, for whoever takes networks of any topology.
+    pub fn into_plant(self) -> PlantOf<R>
+        ensures { result ≡ self.plant }
+    {
+        let TwinLanOf { plant } = self;
+        plant
+    }
+
     /// New LANs of these nodes: 2 to 16 of the kind `Danp`, each with an address of its own, and with no frame waiting.
     /// `BadPlant` exactly where they are not so. `NoMemory`: a growth was refused.
     pub fn new(alloc: Global, nodes: Vec<NodeOf<R>>) -> Result<TwinLanOf<R>, PlantFault>

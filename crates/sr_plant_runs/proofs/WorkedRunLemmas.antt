@@ -126,14 +126,14 @@ abbrev half_carried : Settings → Mode → Width → Plant
 half_carried x m w = acted (without (sent_plant x m w) 0) 1 (with_first m w) 0
 
 -- what it answers to both
-first_taken : (m : Mode) (w : Width) → OctetsArrived (framing_of TwinLan 1 A) (receiver m w) A (carried lan.A) 0 (answer.Passed (to (H ∷ []))) (with_first m w)
+first_taken : (m : Mode) (w : Width) → OctetsArrived (framing_of TwinLan 1 A) (receiver m w) A (carried lan.A) 0 (answer.Passed (H ∷ [])) (with_first m w)
 first_taken mode.H w = (parcel_in lan.A, inl (read lan.A), refl, (refl, (None, says_nothing, refl, refl)))
 first_taken mode.X w = (parcel_in lan.A, inl (read lan.A), refl, (refl, (None, says_nothing, refl, refl)))
 
 abbrev with_both : Mode → Width → State
 with_both m w = passed (emptied (with_first m w)) B (going_on (emptied (with_first m w)) B (parcel_in lan.B)) (receiver m w).core.next 0 (to []) None
 
-second_taken : (m : Mode) (w : Width) → OctetsArrived (framing_of TwinLan 1 B) (emptied (with_first m w)) B (carried lan.B) 0 (answer.Passed (to [])) (with_both m w)
+second_taken : (m : Mode) (w : Width) → OctetsArrived (framing_of TwinLan 1 B) (emptied (with_first m w)) B (carried lan.B) 0 (answer.Passed []) (with_both m w)
 unfolding no_marks
 second_taken mode.H width.Narrow = (parcel_in lan.B, inl (read lan.B), refl, (refl, (None, says_nothing, refl, refl)))
 second_taken mode.H width.Wide = (parcel_in lan.B, inl (read lan.B), refl, (refl, (None, says_nothing, refl, refl)))
@@ -147,7 +147,7 @@ carries_first x m w = (
   inl (record {
     octets = carried lan.A;
     before = receiver m w;
-    answer = answer.Passed (to (H ∷ []));
+    answer = answer.Passed (H ∷ []);
     after = with_first m w;
     written = written lan.A;
     there = refl;
@@ -166,7 +166,7 @@ carries_second x m w = (
   inl (record {
     octets = carried lan.B;
     before = emptied (with_first m w);
-    answer = answer.Passed (to []);
+    answer = answer.Passed [];
     after = with_both m w;
     written = written lan.B;
     there = refl;

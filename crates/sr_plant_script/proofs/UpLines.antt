@@ -1,6 +1,6 @@
 -- Lines of what is handed up, one by one.
-use Rattle.std.proofs.Common.{◌≡◌, ℕ, ◌+◌, ◌<◌, List, [], ◌∷◌, ◌++◌, length, take, get_or, map, set, replicate, refl, sym, ap, ◌∙◌, append_assoc, arith, add-zero}
-use Rattle.std.proofs.lemmas.List.{append-nil, take_more, take_more_set, length-take, length-map, get_or-map, map-set, replicate-append-replicate}
+use Rattle.std.proofs.Common.{◌≡◌, ℕ, ◌+◌, ◌<◌, List, [], ◌∷◌, ◌++◌, length, take, get_or, map, refl, sym, ap, ◌∙◌, append_assoc, arith, add-zero}
+use Rattle.std.proofs.lemmas.List.{append-nil, take_more, length-take, length-map, get_or-map}
 use Rattle.sr_forwarding.specs.Parcels.{ParcelImage, plain_of}
 use Rattle.sr_plant_script.specs.Texts.{up_line, up_lines, all_up_lines}
 
@@ -54,12 +54,3 @@ all_ups_behind {V} vs f i v before text later lt is so_far told =
     ∙ append_assoc before (all_up_lines 0 (take i (map f vs))) (up_lines i (f v))
     ∙ ap (λ (l : List ℕ). before ++ l)
     (ap (λ (h : List ParcelImage). all_up_lines 0 (take i (map f vs)) ++ up_lines i h) here ∙ sym (all_up_lines-more (map f vs) i within))
-
--- one list more is empty
-pub empty_more : {V X : Type 0} (vs : List V) (f : V → List X) (i : ℕ) (v : V) → i < length vs → f v ≡ []
-    → take i (map f vs) ≡ replicate i [] → take (i + 1) (map f (set vs i v)) ≡ replicate (i + 1) []
-empty_more {V} {X} vs f i v lt empty so_far =
-    let within : i < length (map f vs) = omega (arith, length-map vs f) in
-    ap (take (i + 1)) (map-set f vs i v) ∙ take_more_set (map f vs) i (f v) within
-    ∙ ap (λ (h : List X). take i (map f vs) ++ h ∷ []) empty ∙ ap (λ (l : List (List X)). l ++ [] ∷ []) so_far
-    ∙ replicate-append-replicate i 1 []

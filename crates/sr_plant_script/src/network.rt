@@ -1,6 +1,6 @@
 //! The plant of a script.
 
-ghost use Rattle.std.specs.Prelude.{◌≡◌, ◌≤◌, ◌<◌, ℕ, map, length, replicate, [], None, IfOk, IfErr, OnOk, OnErr};
+ghost use Rattle.std.specs.Prelude.{◌≡◌, ◌≤◌, ◌<◌, ℕ, map, length, None, IfOk, IfErr, OnOk, OnErr};
 ghost use Rattle.sr_node.specs.Images.{node_state};
 ghost use Rattle.sr_forwarding.specs.RoleImages.{role_of};
 ghost use Rattle.sr_plant.specs.Limits.{most_members};
@@ -67,15 +67,6 @@ fn new_nodes(
     Ok(nodes)
 }
 
-// Empties each list.
-fn empty_all(lists: &mut Vec<Vec<Parcel>>)
-    ensures { map (λ l. l.items) lists.new.items ≡ replicate (length lists.old.items) [] }
-{
-    for list in lists.iter_mut() {
-        list.clear();
-    }
-}
-
 impl Network {
     /// A new one. NoMemory: a growth was refused.
     pub(crate) fn new(alloc: Global, setup: &PlantSetup) -> Result<Network, PlantFault>
@@ -92,7 +83,7 @@ impl Network {
         ensures count { result ≡ length self.now.nodes }
         ensures few { result ≤ most_members }
     {
-        self.plant.nodes.len()
+        self.plant.node_count()
     }
 
     /// How many copies are in flight.
@@ -106,7 +97,7 @@ impl Network {
     pub(crate) fn handed(&self) -> &[Vec<Parcel>]
         ensures { map (λ l. l.items) result.now ≡ self.now.handed }
     {
-        self.plant.handed.as_slice()
+        self.plant.all_handed()
     }
 
     /// An event happens whole, or is refused and changes nothing.
@@ -123,6 +114,6 @@ impl Network {
     pub(crate) fn let_go(&mut self)
         ensures { self.new ≡ taken_up self.old }
     {
-        empty_all(&mut self.plant.handed);
+        self.plant.drop_handed();
     }
 }

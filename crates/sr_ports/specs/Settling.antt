@@ -1,6 +1,6 @@
 -- What settling answers.
 use Rattle.std.specs.Prelude.{◌≡◌, ℕ, ◌+◌, ◌<◌, List, length, Some, slice_get}
-use Rattle.sr_node.specs.NodeImages.{state_of}
+use Rattle.sr_node.specs.NodeImages.{image_state}
 use Rattle.sr_ports.specs.declared.segment.Segment.{Segment}
 use Rattle.sr_node.specs.Images.{State}
 use Rattle.sr_ports.specs.declared.entry.Entry.{Entry}
@@ -25,13 +25,13 @@ pub record Follows (closing opening : State) : Type 0 where
 abbrev pub IsBroken : List Segment → ℕ → Type 0
 IsBroken ss i =
     (s : Segment) × (t : Segment) × (slice_get ss i ≡ Some s) × (slice_get ss (i + 1) ≡ Some t)
-    × ¬ Follows (state_of s.closing) (state_of t.opening)
+    × ¬ Follows (image_state s.closing) (image_state t.opening)
 
 -- of the first segments, so many, each follows the one before
 abbrev pub FollowUpTo : List Segment → ℕ → Type 0
 FollowUpTo ss n =
     (i : ℕ) → i + 1 < n → (s t : Segment) → slice_get ss i ≡ Some s → slice_get ss (i + 1) ≡ Some t
-    → Follows (state_of s.closing) (state_of t.opening)
+    → Follows (image_state s.closing) (image_state t.opening)
 
 -- each segment follows the one before
 abbrev pub AreWhole : List Segment → Type 0

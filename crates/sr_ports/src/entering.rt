@@ -1,7 +1,7 @@
 //! One event under the lock.
 
 ghost use Rattle.std.specs.Prelude.{◌≡◌, ◌+◌, ◌++◌, ◌∷◌, [], ◌<◌, IfOk, IfErr, OnErr, OnOk, None, Some, false, true, vec_len, vec_capacity};
-ghost use Rattle.sr_node.specs.Images.{node_state};
+ghost use Rattle.sr_node.specs.States.{state_of};
 ghost use Rattle.sr_node.specs.Steps.{Step, refusal_of};
 ghost use Rattle.sr_ports.specs.Histories.{entry};
 ghost use Rattle.sr_ports.specs.Entering.{is_journal_full, enter_fault};
@@ -24,12 +24,9 @@ pub fn enter<R: Role, L: Ledger>(
     pass: &mut Pass<L>,
     event: &Event,
 ) -> Result<Answer, EnterFault>
-    ensures step { IfOk result (λ a. Step
-        (node_state (R.meaning kept.old.node.role) kept.old.node.core) event.now a
-        (node_state (R.meaning kept.new.node.role) kept.new.node.core)) }
-    ensures taken { OnOk result
-        (refusal_of (node_state (R.meaning kept.old.node.role) kept.old.node.core) event.now
-        ≡ None) }
+    ensures step { IfOk result (λ a. Step (state_of R.meaning kept.old.node) event.now a
+        (state_of R.meaning kept.new.node)) }
+    ensures taken { OnOk result (refusal_of (state_of R.meaning kept.old.node) event.now ≡ None) }
     ensures room { OnOk result
         (is_journal_full (vec_len kept.old.journal) kept.old.book.total ≡ false) }
     ensures entry { IfOk result (λ a. kept.new.journal.items
@@ -39,11 +36,10 @@ pub fn enter<R: Role, L: Ledger>(
     ensures worker { pass.new.worker ≡ pass.old.worker }
     ensures opening { kept.new.opening ≡ kept.old.opening }
     ensures closed { kept.new.closed ≡ kept.old.closed }
-    ensures err { IfErr result (λ f. f ≡ enter_fault
-        (refusal_of (node_state (R.meaning kept.old.node.role) kept.old.node.core) event.now)
-        (is_journal_full (vec_len kept.old.journal) kept.old.book.total)) }
-    ensures node { OnErr result (node_state (R.meaning kept.new.node.role) kept.new.node.core
-        ≡ node_state (R.meaning kept.old.node.role) kept.old.node.core) }
+    ensures err { IfErr result (λ f. f ≡ enter_fault (refusal_of (state_of R.meaning kept.old.node)
+        event.now) (is_journal_full (vec_len kept.old.journal) kept.old.book.total)) }
+    ensures node { OnErr result (state_of R.meaning kept.new.node
+        ≡ state_of R.meaning kept.old.node) }
     ensures journal { OnErr result (kept.new.journal.items ≡ kept.old.journal.items) }
     ensures total { OnErr result (kept.new.book.total ≡ kept.old.book.total) }
     ensures pass { OnErr result (pass.new.count ≡ pass.old.count) }
@@ -71,8 +67,7 @@ pub fn enter<R: Role, L: Ledger>(
 #[cold]
 #[inline(never)]
 fn unmet<R: Role>(node: &NodeOf<R>, event: &Event, refused: NoMemory) -> EnterFault
-    ensures { result ≡ enter_fault
-        (refusal_of (node_state (R.meaning node.now.role) node.now.core) event.now) false }
+    ensures { result ≡ enter_fault (refusal_of (state_of R.meaning node.now) event.now) false }
 {
     match node.check(event) {
         Ok(()) => refused.into(),
@@ -90,17 +85,14 @@ fn written<R: Role>(
     event: &Event,
 ) -> Result<Answer, EnterFault>
     requires { vec_len journal.old < vec_capacity journal.old }
-    ensures step { IfOk result (λ a. Step
-        (node_state (R.meaning node.old.role) node.old.core) event.now a
-        (node_state (R.meaning node.new.role) node.new.core)) }
-    ensures taken { OnOk result
-        (refusal_of (node_state (R.meaning node.old.role) node.old.core) event.now ≡ None) }
+    ensures step { IfOk result (λ a. Step (state_of R.meaning node.old) event.now a
+        (state_of R.meaning node.new)) }
+    ensures taken { OnOk result (refusal_of (state_of R.meaning node.old) event.now ≡ None) }
     ensures entry { IfOk result (λ a. journal.new.items
         ≡ journal.old.items ++ entry worker event.now a ∷ []) }
-    ensures err { IfErr result (λ f. f ≡ enter_fault
-        (refusal_of (node_state (R.meaning node.old.role) node.old.core) event.now) false) }
-    ensures node { OnErr result (node_state (R.meaning node.new.role) node.new.core
-        ≡ node_state (R.meaning node.old.role) node.old.core) }
+    ensures err { IfErr result (λ f. f ≡ enter_fault (refusal_of (state_of R.meaning node.old)
+        event.now) false) }
+    ensures node { OnErr result (state_of R.meaning node.new ≡ state_of R.meaning node.old) }
     ensures journal { OnErr result (journal.new.items ≡ journal.old.items) }
 {
     match event {
@@ -112,7 +104,7 @@ fn written<R: Role>(
             let answer = node.step(event)?;
             let again = match &answer {
                 Answer::Own => Answer::Own,
-                Answer::Passed(outlets) => Answer::Passed(*outlets),
+                Answer::Passed(ports) => Answer::Passed(ports.copy()),
                 _ => unreachable!(),
             };
             journal.push_reserved(Entry {

@@ -1,8 +1,8 @@
 //! What lies under the lock.
 
 ghost use Rattle.std.specs.Prelude.{◌≡◌, ◌+◌, ◌<◌, ◌^◌, vec_len};
-ghost use Rattle.sr_node.specs.Images.{node_state};
-ghost use Rattle.sr_node.specs.NodeImages.{state_of};
+ghost use Rattle.sr_node.specs.States.{state_of};
+ghost use Rattle.sr_node.specs.NodeImages.{image_state};
 ghost use Rattle.sr_ports.specs.Histories.{Steps};
 
 use crate::Entry;
@@ -25,8 +25,8 @@ pub struct Kept<R: Role, L: Ledger> {
     pub closed: u64,
     /// How many entries there are in all.
     pub book: Book<L>,
-    pub ghost legal: { ∥ Steps (state_of opening) journal.items
-        (node_state (R.meaning node.role) node.core) ∥₁ },
+    pub ghost legal: { ∥ Steps (image_state opening) journal.items
+        (state_of R.meaning node) ∥₁ },
     pub ghost counted: { closed + vec_len journal ≡ book.total },
     pub ghost fits: { book.total < 2 ^ 64 },
 }

@@ -1,8 +1,8 @@
 //! A node comes under its lock, and out of it; the counts of its workers are compared.
 
 ghost use Rattle.std.specs.Prelude.{◌≡◌, ◌+◌, [], IfOk, vec_len};
-ghost use Rattle.sr_node.specs.Images.{node_state};
-ghost use Rattle.sr_node.specs.NodeImages.{state_of};
+ghost use Rattle.sr_node.specs.States.{state_of};
+ghost use Rattle.sr_node.specs.NodeImages.{image_state};
 ghost use Rattle.sr_ports.specs.Histories.{Steps};
 ghost use Rattle.sr_ports.specs.Stamps.{stamp};
 
@@ -72,8 +72,7 @@ impl<R: Role, L: Ledger> Kept<R, L> {
         requires parts { blank.parts ≡ L.parts }
         requires five { L.parts ≡ 5 }
         ensures node { IfOk result (λ r. r.0.node ≡ node) }
-        ensures opening { IfOk result (λ r. state_of r.0.opening
-            ≡ node_state (R.meaning node.role) node.core) }
+        ensures opening { IfOk result (λ r. image_state r.0.opening ≡ state_of R.meaning node) }
         ensures journal { IfOk result (λ r. r.0.journal.items ≡ []) }
         ensures closed { IfOk result (λ r. r.0.closed ≡ 0) }
         ensures a { IfOk result (λ r. r.1.a ≡ stamp Worker.A 0) }
@@ -139,8 +138,8 @@ impl<R: Role, L: Ledger> SharedNode<R, L> {
     /// Takes what lies under the lock out of it: a history that one thread could have made, from the opening to the node as it
     /// is, and as many entries as the book says.
     pub fn into_kept(self) -> Kept<R, L>
-        ensures legal { ∥ Steps (state_of result.opening) result.journal.items
-            (node_state (R.meaning result.node.role) result.node.core) ∥₁ }
+        ensures legal { ∥ Steps (image_state result.opening) result.journal.items
+            (state_of R.meaning result.node) ∥₁ }
         ensures counted { result.closed + vec_len result.journal ≡ result.book.total }
     {
         self.kept.into_inner()

@@ -1,7 +1,7 @@
 //! What workers wrote down is compared with a history in segments.
 
 ghost use Rattle.std.specs.Prelude.{◌≡◌, ◌↔◌, IsTrue, IfSome, IfNone};
-ghost use Rattle.sr_node.specs.NodeImages.{state_of, items_of};
+ghost use Rattle.sr_node.specs.NodeImages.{image_state, items_of};
 ghost use Rattle.sr_ports.specs.Parts.{part, entries_in, logs_of, Agrees};
 ghost use Rattle.sr_ports.specs.Settling.{Follows, AreWhole, IsTorn, IsSettlementOfAll};
 
@@ -83,7 +83,7 @@ fn torn(segments: &[Segment]) -> Option<usize>
 
 // Whether an opening follows a closing: all is the same but the role, and its address is.
 fn follows(closing: &NodeImage, opening: &NodeImage) -> bool
-    ensures { IsTrue result ↔ (Follows (state_of closing.now) (state_of opening.now)) }
+    ensures { IsTrue result ↔ (Follows (image_state closing.now) (image_state opening.now)) }
 {
     if !is_mac_same(opening.role.mac, closing.role.mac) {
         return false;

@@ -24,7 +24,7 @@ says_one unique p None (Some t) h k = absurd (h t k)
 says_one unique p (Some s) None h k = absurd (k s h)
 says_one unique p (Some s) (Some t) h k = ap Some (unique (plain_of p) s t h k)
 
-passed_one : AreUnique → (s : State) (port : Port) (p : ParcelImage) (now : ℕ) (g : Option Outlets) (answered : Outlets) (t u : State)
+passed_one : AreUnique → (s : State) (port : Port) (p : ParcelImage) (now : ℕ) (g : Option Outlets) (answered : List Port) (t u : State)
     → PassedTo s port p now g answered t → PassedTo s port p now g answered u → t ≡ u
 passed_one unique s port p now None answered t u h k = absurd h
 passed_one unique s port p now (Some outlets) answered t u h k =

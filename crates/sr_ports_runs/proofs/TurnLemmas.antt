@@ -5,7 +5,7 @@ use Rattle.std.proofs.lemmas.Grind.{merely}
 use Rattle.std.specs.List.{slice_get}
 use Rattle.sr_frame.specs.declared.ports.Port.{Port}
 use Rattle.sr_node.specs.Images.{State}
-use Rattle.sr_node.specs.NodeImages.{state_of}
+use Rattle.sr_node.specs.NodeImages.{image_state}
 use Rattle.sr_node.specs.Outboxes.{box_at}
 use Rattle.sr_node_runs.specs.Origins.{Origin}
 use Rattle.sr_node_runs.specs.NodeRuns.{Turn, happened, swapped, RunFrom}
@@ -78,53 +78,53 @@ have_turns_behind : (number : ℕ → ℤ) (before : List Turn) (s : State) (gs 
 have_turns_behind number before s [] = merely (before, refl)
 have_turns_behind number before s (g ∷ gs) =
     ∥∥₁_elim g.legal ∥∥₁_prop (λ steps.
-    let r = have_turns number (swapped s g.opening.role ∷ before) (state_of g.opening) (state_of g.closing) g.entries.items steps in
-    ∥∥₁_map (have_turns_behind number r.0 (state_of g.closing) gs) (λ rest. (rest.0, (r.0, r.1, rest.1))))
+    let r = have_turns number (swapped s g.opening.role ∷ before) (image_state g.opening) (image_state g.closing) g.entries.items steps in
+    ∥∥₁_map (have_turns_behind number r.0 (image_state g.closing) gs) (λ rest. (rest.0, (r.0, r.1, rest.1))))
 
 pub segments_have_turns : SegmentsHaveTurns
 segments_have_turns number g gs =
     ∥∥₁_elim g.legal ∥∥₁_prop (λ steps.
-    let r = have_turns number [] (state_of g.opening) (state_of g.closing) g.entries.items steps in
-    ∥∥₁_map (have_turns_behind number r.0 (state_of g.closing) gs) (λ rest. (rest.0, (r.0, r.1, rest.1))))
+    let r = have_turns number [] (image_state g.opening) (image_state g.closing) g.entries.items steps in
+    ∥∥₁_map (have_turns_behind number r.0 (image_state g.closing) gs) (λ rest. (rest.0, (r.0, r.1, rest.1))))
 
 -- segments have only these turns
 one_way_behind : AreUnique → (number : ℕ → ℤ) (before : List Turn) (s : State) (gs : List Segment) (turns others : List Turn)
     → AreTurnsBehind number before s gs turns → AreTurnsBehind number before s gs others → turns ≡ others
 one_way_behind unique number before s [] turns others are them = are ∙ sym them
 one_way_behind unique number before s (g ∷ gs) turns others are them =
-    let one = happen_one_way unique number (swapped s g.opening.role ∷ before) (state_of g.opening) (state_of g.closing) (state_of g.closing) g.entries.items them.0 are.0 them.1 are.1 in
-    one_way_behind unique number are.0 (state_of g.closing) gs turns others
+    let one = happen_one_way unique number (swapped s g.opening.role ∷ before) (image_state g.opening) (image_state g.closing) (image_state g.closing) g.entries.items them.0 are.0 them.1 are.1 in
+    one_way_behind unique number are.0 (image_state g.closing) gs turns others
     are.2
-    (subst (λ m. AreTurnsBehind number m (state_of g.closing) gs others) one.1 them.2)
+    (subst (λ m. AreTurnsBehind number m (image_state g.closing) gs others) one.1 them.2)
 
 pub segments_happen_one_way : AreUnique → SegmentsHappenOneWay
 segments_happen_one_way unique number g gs turns others are them =
-    let one = happen_one_way unique number [] (state_of g.opening) (state_of g.closing) (state_of g.closing) g.entries.items them.0 are.0 them.1 are.1 in
-    one_way_behind unique number are.0 (state_of g.closing) gs turns others
+    let one = happen_one_way unique number [] (image_state g.opening) (image_state g.closing) (image_state g.closing) g.entries.items them.0 are.0 them.1 are.1 in
+    one_way_behind unique number are.0 (image_state g.closing) gs turns others
     are.2
-    (subst (λ m. AreTurnsBehind number m (state_of g.closing) gs others) one.1 them.2)
+    (subst (λ m. AreTurnsBehind number m (image_state g.closing) gs others) one.1 them.2)
 
 -- each segment follows the one before, the first this state
 abbrev FollowFrom : State → List Segment → Type 0
 FollowFrom s [] = Unit {0}
-FollowFrom s (g ∷ gs) = Follows s (state_of g.opening) × FollowFrom (state_of g.closing) gs
+FollowFrom s (g ∷ gs) = Follows s (image_state g.opening) × FollowFrom (image_state g.closing) gs
 
 -- on from a run they are a run
 runs_behind : (origin : Origin) (number : ℕ → ℤ) (before : List Turn) (s : State) (gs : List Segment) (turns : List Turn)
     → RunFrom origin before s → FollowFrom s gs → AreTurnsBehind number before s gs turns → RunFrom origin turns (state_behind s gs)
 runs_behind origin number before s [] turns run follow are = subst (λ x. RunFrom origin x s) (sym are) run
 runs_behind origin number before s (g ∷ gs) turns run follow are =
-    let here : RunFrom origin (swapped s g.opening.role ∷ before) (state_of g.opening) = swaps_are_turns origin before s (state_of g.opening) run follow.0 in
-    let through : RunFrom origin are.0 (state_of g.closing) =
-    are_runs origin number (swapped s g.opening.role ∷ before) (state_of g.opening) (state_of g.closing) g.entries.items are.0 here are.1 in
-    runs_behind origin number are.0 (state_of g.closing) gs turns through follow.1 are.2
+    let here : RunFrom origin (swapped s g.opening.role ∷ before) (image_state g.opening) = swaps_are_turns origin before s (image_state g.opening) run follow.0 in
+    let through : RunFrom origin are.0 (image_state g.closing) =
+    are_runs origin number (swapped s g.opening.role ∷ before) (image_state g.opening) (image_state g.closing) g.entries.items are.0 here are.1 in
+    runs_behind origin number are.0 (image_state g.closing) gs turns through follow.1 are.2
 
 -- one place further
 get_next : (g : Segment) (gs : List Segment) (i : ℕ) (s : Segment) → slice_get gs i ≡ Some s → slice_get (g ∷ gs) (i + 1) ≡ Some s
 get_next g gs i s is = let e : slice_get (g ∷ gs) (i + 1) ≡ slice_get gs i = rw add-one in e ∙ is
 
 -- segments of which none is torn follow each other
-follow_from : (g : Segment) (gs : List Segment) → AreWhole (g ∷ gs) → FollowFrom (state_of g.closing) gs
+follow_from : (g : Segment) (gs : List Segment) → AreWhole (g ∷ gs) → FollowFrom (image_state g.closing) gs
 follow_from g [] whole = tt
 follow_from g (h ∷ hs) whole = (
   whole 0 (omega arith) g h refl refl,
@@ -133,8 +133,8 @@ follow_from g (h ∷ hs) whole = (
 
 pub segments_are_runs : SegmentsAreRuns
 segments_are_runs origin number g gs turns opens whole are =
-    runs_behind origin number are.0 (state_of g.closing) gs turns
-    (are_runs origin number [] (state_of g.opening) (state_of g.closing) g.entries.items are.0 opens are.1)
+    runs_behind origin number are.0 (image_state g.closing) gs turns
+    (are_runs origin number [] (image_state g.opening) (image_state g.closing) g.entries.items are.0 opens are.1)
     (follow_from g gs whole)
     are.2
 
@@ -162,16 +162,16 @@ taken_behind_all o number before s [] turns are = ap (λ l. taken o l) are ∙ s
 taken_behind_all o number before s (g ∷ gs) turns are =
     let swap : Turn = swapped s g.opening.role in
     let first : taken o are.0 ≡ taken o before ++ handed_out o g.entries.items =
-    taken_behind o number (swap ∷ before) (state_of g.opening) (state_of g.closing) g.entries.items are.0 are.1
+    taken_behind o number (swap ∷ before) (image_state g.opening) (image_state g.closing) g.entries.items are.0 are.1
     ∙ ap (λ l. l ++ handed_out o g.entries.items) (append-nil (taken o before)) in
     joined_behind o before are.0 turns g.entries.items (entries_in gs) first
-    (taken_behind_all o number are.0 (state_of g.closing) gs turns are.2)
+    (taken_behind_all o number are.0 (image_state g.closing) gs turns are.2)
 
 pub entered_once_in_all : EachOnce → EnteredOnceInAll
 entered_once_in_all once origin number g gs turns o opens whole are steady =
     let took : taken o turns ≡ handed_out o (entries_in (g ∷ gs)) =
     joined_behind o [] are.0 turns g.entries.items (entries_in gs)
-    (taken_behind o number [] (state_of g.opening) (state_of g.closing) g.entries.items are.0 are.1)
-    (taken_behind_all o number are.0 (state_of g.closing) gs turns are.2) in
-    ap (λ l. l ++ box_at (state_behind (state_of g.closing) gs).core.out o) (sym took)
-    ∙ once origin turns (state_behind (state_of g.closing) gs) o (segments_are_runs origin number g gs turns opens whole are) steady
+    (taken_behind o number [] (image_state g.opening) (image_state g.closing) g.entries.items are.0 are.1)
+    (taken_behind_all o number are.0 (image_state g.closing) gs turns are.2) in
+    ap (λ l. l ++ box_at (state_behind (image_state g.closing) gs).core.out o) (sym took)
+    ∙ once origin turns (state_behind (image_state g.closing) gs) o (segments_are_runs origin number g gs turns opens whole are) steady

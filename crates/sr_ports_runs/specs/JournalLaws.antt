@@ -2,7 +2,7 @@
 use Rattle.std.specs.Prelude.{◌≡◌, ℕ, ℤ, List, [], ◌∷◌, ◌++◌}
 use Rattle.sr_frame.specs.declared.ports.Port.{Port}
 use Rattle.sr_node.specs.Images.{State}
-use Rattle.sr_node.specs.NodeImages.{state_of}
+use Rattle.sr_node.specs.NodeImages.{image_state}
 use Rattle.sr_node.specs.Outboxes.{box_at}
 use Rattle.sr_node_runs.specs.Origins.{Origin, BeginsAs, stands_before}
 use Rattle.sr_node_runs.specs.NodeRuns.{Turn, swapped, RunFrom}
@@ -54,8 +54,8 @@ SegmentsHappenOneWay =
 abbrev pub SegmentsAreRuns : Type 0
 SegmentsAreRuns =
     (origin : Origin) (number : ℕ → ℤ) (g : Segment) (gs : List Segment) (turns : List Turn)
-    → BeginsAs origin (state_of g.opening) → AreWhole (g ∷ gs) → AreTurnsOfAll number g gs turns
-    → RunFrom origin turns (state_behind (state_of g.closing) gs)
+    → BeginsAs origin (image_state g.opening) → AreWhole (g ∷ gs) → AreTurnsOfAll number g gs turns
+    → RunFrom origin turns (state_behind (image_state g.closing) gs)
 
 -- of a steady history from a node on that begins so: what was taken at an outlet and what waits there is what went there, in order
 abbrev pub EnteredOnce : Type 0
@@ -68,6 +68,6 @@ EnteredOnce =
 abbrev pub EnteredOnceInAll : Type 0
 EnteredOnceInAll =
     (origin : Origin) (number : ℕ → ℤ) (g : Segment) (gs : List Segment) (turns : List Turn) (o : Port)
-    → BeginsAs origin (state_of g.opening) → AreWhole (g ∷ gs) → AreTurnsOfAll number g gs turns → IsSteadyFrom origin turns
-    → handed_out o (entries_in (g ∷ gs)) ++ box_at (state_behind (state_of g.closing) gs).core.out o
+    → BeginsAs origin (image_state g.opening) → AreWhole (g ∷ gs) → AreTurnsOfAll number g gs turns → IsSteadyFrom origin turns
+    → handed_out o (entries_in (g ∷ gs)) ++ box_at (state_behind (image_state g.closing) gs).core.out o
     ≡ parcels_of (went_after (stands_before origin) o turns)

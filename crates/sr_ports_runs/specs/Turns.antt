@@ -3,7 +3,7 @@ use Rattle.std.specs.Prelude.{◌≡◌, ℕ, ℤ, List, [], ◌∷◌, ◌++◌
 use Rattle.sr_frame.specs.declared.ports.Port.{Port}
 use Rattle.sr_forwarding.specs.Parcels.{ParcelImage}
 use Rattle.sr_node.specs.Images.{State}
-use Rattle.sr_node.specs.NodeImages.{state_of}
+use Rattle.sr_node.specs.NodeImages.{image_state}
 use Rattle.sr_node_runs.specs.NodeRuns.{Turn, happened, swapped}
 use Rattle.sr_node_runs.specs.Brought.{event_takes}
 use Rattle.sr_ports.specs.declared.entry.Entry.{Entry}
@@ -23,20 +23,20 @@ abbrev pub AreTurnsBehind : (ℕ → ℤ) → List Turn → State → List Segme
 AreTurnsBehind number before s [] turns = turns ≡ before
 AreTurnsBehind number before s (g ∷ gs) turns =
     (middle : List Turn)
-    × AreTurns number (swapped s g.opening.role ∷ before) (state_of g.opening) g.entries.items (state_of g.closing) middle
-    × AreTurnsBehind number middle (state_of g.closing) gs turns
+    × AreTurns number (swapped s g.opening.role ∷ before) (image_state g.opening) g.entries.items (image_state g.closing) middle
+    × AreTurnsBehind number middle (image_state g.closing) gs turns
 
 -- the same of a segment and those behind it
 abbrev pub AreTurnsOfAll : (ℕ → ℤ) → Segment → List Segment → List Turn → Type 0
 AreTurnsOfAll number g gs turns =
     (middle : List Turn)
-    × AreTurns number [] (state_of g.opening) g.entries.items (state_of g.closing) middle
-    × AreTurnsBehind number middle (state_of g.closing) gs turns
+    × AreTurns number [] (image_state g.opening) g.entries.items (image_state g.closing) middle
+    × AreTurnsBehind number middle (image_state g.closing) gs turns
 
 -- the node at the end of segments that go on from a state
 abbrev pub state_behind : State → List Segment → State
 state_behind s [] = s
-state_behind s (g ∷ gs) = state_behind (state_of g.closing) gs
+state_behind s (g ∷ gs) = state_behind (image_state g.closing) gs
 
 -- what entries took out at an outlet, in order
 abbrev pub handed_out : Port → List Entry → List ParcelImage

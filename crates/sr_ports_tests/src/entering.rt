@@ -2,7 +2,7 @@
 
 use super::frames::{FOR_OWN, in_lan};
 use super::steps::{Act, Outcome};
-use sr_forwarding::{Outlets, Parcel, ReadFault, Role};
+use sr_forwarding::{Parcel, ReadFault, Role};
 use sr_frame::Port;
 use sr_node::{Answer, Event, NodeImage, NodeOf, StepFault};
 use sr_ports::{EnterFault, Kept, Log, Pass, enter};
@@ -49,7 +49,7 @@ fn took(parcel: &Parcel) -> Outcome {
 
 fn said(answer: &Answer) -> Outcome {
     match answer {
-        Answer::Passed(outlets) if *outlets == Outlets::H => Outcome::Up,
+        Answer::Passed(ports) if ports.as_slice() == [Port::H] => Outcome::Up,
         Answer::Ticked { life, .. } => match life {
             Some(Seq(seq)) => Outcome::Lived(*seq),
             None => Outcome::Ticked,

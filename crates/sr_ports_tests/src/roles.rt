@@ -34,12 +34,15 @@ const FURTHER: &[Arrival] = &[
 // None where the event is refused.
 fn outlets_of(entered: &Result<Answer, EnterFault>) -> Option<[bool; 4]> {
     match entered {
-        Ok(Answer::Passed(outlets)) => Some([
-            outlets.has(Port::H),
-            outlets.has(Port::A),
-            outlets.has(Port::B),
-            outlets.has(Port::C),
-        ]),
+        Ok(Answer::Passed(ports)) => {
+            let ports = ports.as_slice();
+            Some([
+                ports.contains(&Port::H),
+                ports.contains(&Port::A),
+                ports.contains(&Port::B),
+                ports.contains(&Port::C),
+            ])
+        }
         _ => None,
     }
 }

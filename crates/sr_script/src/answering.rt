@@ -3,8 +3,9 @@
 ghost use Rattle.std.specs.Prelude.{◌≡◌, ◌++◌, ◌∷◌, [], ℕ, List, IfOk, IfErr, OnOk, OnErr, Err, None, Some};
 ghost use Rattle.std.specs.Option.{option_copied};
 ghost use Rattle.sr_node.specs.declared.event.Event.TheVariants as event;
+ghost use Rattle.sr_node.specs.Arriving.{arrival_answer};
 ghost use Rattle.sr_node.specs.Faults.{or_no_memory};
-ghost use Rattle.sr_node.specs.Images.{node_state};
+ghost use Rattle.sr_node.specs.States.{state_of};
 ghost use Rattle.sr_node.specs.Octets.{OctetsArrived, OctetsRefused};
 ghost use Rattle.sr_node.specs.Steps.{Step, refusal_of};
 ghost use Rattle.sr_session.specs.Lines.{IsOneOf};
@@ -20,7 +21,7 @@ use crate::printing::append_outlets;
 use crate::reading::{Command, arrival_at, command_of};
 use crate::setups::RoleName;
 use itoa::Buffer;
-use sr_forwarding::{ReadFault, Role};
+use sr_forwarding::{Outlets, ReadFault, Role};
 use sr_frame::{Frame, FrameFault, Port, view};
 use sr_node::{Answer, Event, NodeOf, StepFault};
 use sr_session::FaultKind;
@@ -79,20 +80,19 @@ pub(crate) fn arrive<R: Role>(
     port: Port,
     octets: &[u8],
     time: u64,
-) -> Result<Answer, StepFault>
-    ensures taken { IfOk result (λ a. OctetsArrived (framing_of role port)
-        (node_state (R.meaning node.old.role) node.old.core) port octets.now time a
-        (node_state (R.meaning node.new.role) node.new.core)) }
+) -> Result<Option<Outlets>, StepFault>
+    ensures taken { IfOk result (λ outlets. OctetsArrived (framing_of role port)
+        (state_of R.meaning node.old) port octets.now time (arrival_answer outlets)
+        (state_of R.meaning node.new)) }
     ensures refused { IfErr result (λ f. OctetsRefused (framing_of role port)
-        (node_state (R.meaning node.old.role) node.old.core) port octets.now time f) }
-    ensures same { OnErr result (node_state (R.meaning node.new.role) node.new.core
-        ≡ node_state (R.meaning node.old.role) node.old.core) }
+        (state_of R.meaning node.old) port octets.now time f) }
+    ensures same { OnErr result (state_of R.meaning node.new ≡ state_of R.meaning node.old) }
 {
     // The call stands at each kind, so that what is read goes into the node without a detour.
     match carrier_of(role, port) {
-        Carrier::Plain(framing) => node.arrive(&framing, port, octets, time),
-        Carrier::Ring(framing) => node.arrive(&framing, port, octets, time),
-        Carrier::Network(framing) => node.arrive(&framing, port, octets, time),
+        Carrier::Plain(framing) => node.receive(&framing, port, octets, time),
+        Carrier::Ring(framing) => node.receive(&framing, port, octets, time),
+        Carrier::Network(framing) => node.receive(&framing, port, octets, time),
     }
 }
 
@@ -113,15 +113,13 @@ fn send<R: Role>(
     octets: &mut Vec<u8>,
     time: u64,
 ) -> Result<Answer, StepFault>
-    ensures taken { IfOk result (λ a. Step (node_state (R.meaning node.old.role) node.old.core)
-        (event.Send octets.old.items time) a (node_state (R.meaning node.new.role) node.new.core)) }
-    ensures ok { OnOk result (refusal_of (node_state (R.meaning node.old.role) node.old.core)
-        (event.Send octets.old.items time) ≡ None) }
-    ensures refused { IfErr result (λ f. f ≡ or_no_memory
-        (refusal_of (node_state (R.meaning node.old.role) node.old.core)
+    ensures taken { IfOk result (λ a. Step (state_of R.meaning node.old) (event.Send
+        octets.old.items time) a (state_of R.meaning node.new)) }
+    ensures ok { OnOk result (refusal_of (state_of R.meaning node.old) (event.Send octets.old.items
+        time) ≡ None) }
+    ensures refused { IfErr result (λ f. f ≡ or_no_memory (refusal_of (state_of R.meaning node.old)
         (event.Send octets.old.items time))) }
-    ensures same { OnErr result (node_state (R.meaning node.new.role) node.new.core
-        ≡ node_state (R.meaning node.old.role) node.old.core) }
+    ensures same { OnErr result (state_of R.meaning node.new ≡ state_of R.meaning node.old) }
 {
     match view(octets) {
         Ok(_) => {}
@@ -138,14 +136,12 @@ fn send<R: Role>(
 /// Time passes.
 #[inline(never)]
 fn tick<R: Role>(node: &mut NodeOf<R>, now: u64) -> Result<Answer, StepFault>
-    ensures taken { IfOk result (λ a. Step (node_state (R.meaning node.old.role) node.old.core)
-        (event.Tick now) a (node_state (R.meaning node.new.role) node.new.core)) }
-    ensures ok { OnOk result (refusal_of (node_state (R.meaning node.old.role) node.old.core)
-        (event.Tick now) ≡ None) }
-    ensures refused { IfErr result (λ f. f ≡ or_no_memory
-        (refusal_of (node_state (R.meaning node.old.role) node.old.core) (event.Tick now))) }
-    ensures same { OnErr result (node_state (R.meaning node.new.role) node.new.core
-        ≡ node_state (R.meaning node.old.role) node.old.core) }
+    ensures taken { IfOk result (λ a. Step (state_of R.meaning node.old) (event.Tick now) a
+        (state_of R.meaning node.new)) }
+    ensures ok { OnOk result (refusal_of (state_of R.meaning node.old) (event.Tick now) ≡ None) }
+    ensures refused { IfErr result (λ f. f ≡ or_no_memory (refusal_of (state_of R.meaning node.old)
+        (event.Tick now))) }
+    ensures same { OnErr result (state_of R.meaning node.new ≡ state_of R.meaning node.old) }
 {
     node.step(&Event::Tick { now })
 }
@@ -174,10 +170,8 @@ fn obey_arrival<R: Role>(
     time: u64,
     text: &mut Text,
 ) -> Result<(), FaultKind>
-    ensures ok { OnOk result ((told : List ℕ)
-        × ArrivesSo role (node_state (R.meaning node.old.role) node.old.core) number
-        port time octets.now told (node_state (R.meaning node.new.role) node.new.core)
-        × (text.new ≡ text.old ++ told)) }
+    ensures ok { OnOk result ((told : List ℕ) × ArrivesSo role (state_of R.meaning node.old) number
+        port time octets.now told (state_of R.meaning node.new) × (text.new ≡ text.old ++ told)) }
     ensures kept { OnErr result (StillHolds text.old text.new) }
     ensures err { IfErr result (λ kind. kind ≡ FaultKind.Memory) }
 {
@@ -197,10 +191,9 @@ pub(crate) fn obey<R: Role>(
     octets: &mut Vec<u8>,
     text: &mut Text,
 ) -> Result<(), FaultKind>
-    ensures ok { OnOk result ((told : List ℕ)
-        × Obeys role (node_state (R.meaning node.old.role) node.old.core) number
-        command octets.old.items told (node_state (R.meaning node.new.role) node.new.core)
-        × (text.new ≡ text.old ++ told)) }
+    ensures ok { OnOk result ((told : List ℕ) × Obeys role (state_of R.meaning node.old) number
+        command octets.old.items told (state_of R.meaning node.new) × (text.new ≡ text.old ++ told))
+        }
     ensures kept { OnErr result (StillHolds text.old text.new) }
     ensures err { IfErr result (λ kind. kind ≡ FaultKind.Memory) }
 {
@@ -234,10 +227,8 @@ pub(crate) fn answer<R: Role>(
     frame: &mut Vec<u8>,
     text: &mut Text,
 ) -> Result<(), FaultKind>
-    ensures ok { OnOk result ((answer : List ℕ)
-        × Replied role (node_state (R.meaning node.old.role) node.old.core) number line.now
-        answer (node_state (R.meaning node.new.role) node.new.core)
-        × (text.new ≡ text.old ++ answer)) }
+    ensures ok { OnOk result ((answer : List ℕ) × Replied role (state_of R.meaning node.old) number
+        line.now answer (state_of R.meaning node.new) × (text.new ≡ text.old ++ answer)) }
     ensures kept { OnErr result (StillHolds text.old text.new) }
     ensures known { OnOk result (IsEventLine role line.now) }
     ensures bad { result ≡ Err FaultKind.Line → IsEventLine role line.now → ⊥ }
@@ -265,13 +256,12 @@ pub(crate) fn answer_front<R: Role>(
     frame: &mut Vec<u8>,
     text: &mut Text,
 ) -> Result<Option<usize>, FaultKind>
-    ensures ok { IfOk result (λ length. AnswersFront replay_dialogue
-        (at_work role (node_state (R.meaning node.old.role) node.old.core)) number front.now length
-        text.old text.new
-        (at_work role (node_state (R.meaning node.new.role) node.new.core))) }
+    ensures ok { IfOk result (λ length. AnswersFront replay_dialogue (at_work role
+        (state_of R.meaning node.old)) number front.now length text.old text.new (at_work role
+        (state_of R.meaning node.new))) }
     ensures kept { OnErr result (StillHolds text.old text.new) }
-    ensures known { OnErr result (KnowsFront replay_dialogue
-        (at_work role (node_state (R.meaning node.old.role) node.old.core)) front.now) }
+    ensures known { OnErr result (KnowsFront replay_dialogue (at_work role
+        (state_of R.meaning node.old)) front.now) }
     ensures err { IfErr result (λ kind. kind ≡ FaultKind.Memory) }
 {
     let Some(arrival) = arrival_at(role, front, octets) else {

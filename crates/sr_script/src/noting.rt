@@ -1,7 +1,7 @@
 //! What a node does with a line where nothing that goes out is printed.
 
 ghost use Rattle.std.specs.Prelude.{◌≡◌, ◌∷◌, [], ◌++◌, ℕ, List, IfErr, OnOk, OnErr, Err};
-ghost use Rattle.sr_node.specs.Images.{node_state};
+ghost use Rattle.sr_node.specs.States.{state_of};
 ghost use Rattle.sr_script.specs.Commands.{IsEventLine};
 ghost use Rattle.sr_session.specs.Lines.{IsOneOf};
 ghost use Rattle.sr_session.specs.Octets.{StillHolds};
@@ -20,8 +20,7 @@ use std::alloc::Global;
 
 /// Takes all that waits at a port, and keeps none of it.
 fn drop_waiting<R: Role>(node: &mut NodeOf<R>, port: Port)
-    ensures { node_state (R.meaning node.new.role) node.new.core
-        ≡ emptied (node_state (R.meaning node.old.role) node.old.core) port }
+    ensures { state_of R.meaning node.new ≡ emptied (state_of R.meaning node.old) port }
 {
     'parcels: while node.waiting(port) > 0 {
         node.drop_first(port);
@@ -30,8 +29,7 @@ fn drop_waiting<R: Role>(node: &mut NodeOf<R>, port: Port)
 
 /// Takes all that waits, and keeps none of it.
 pub(crate) fn drop_all_waiting<R: Role>(node: &mut NodeOf<R>)
-    ensures { node_state (R.meaning node.new.role) node.new.core
-        ≡ all_taken (node_state (R.meaning node.old.role) node.old.core) }
+    ensures { state_of R.meaning node.new ≡ all_taken (state_of R.meaning node.old) }
 {
     drop_waiting(node, Port::H);
     drop_waiting(node, Port::A);
@@ -52,10 +50,8 @@ pub(crate) fn note<R: Role>(
     octets: &mut Vec<u8>,
     text: &mut Text,
 ) -> Result<(), FaultKind>
-    ensures ok { OnOk result ((answer : List ℕ)
-        × Noted role (node_state (R.meaning node.old.role) node.old.core) number line.now
-        answer (node_state (R.meaning node.new.role) node.new.core)
-        × (text.new ≡ text.old ++ answer)) }
+    ensures ok { OnOk result ((answer : List ℕ) × Noted role (state_of R.meaning node.old) number
+        line.now answer (state_of R.meaning node.new) × (text.new ≡ text.old ++ answer)) }
     ensures kept { OnErr result (StillHolds text.old text.new) }
     ensures known { OnOk result (IsEventLine role line.now) }
     ensures bad { result ≡ Err FaultKind.Line → IsEventLine role line.now → ⊥ }

@@ -1,7 +1,7 @@
 //! What a node puts out, as text.
 
 ghost use Rattle.std.specs.Prelude.{◌≡◌, ◌+◌, ◌++◌, ◌∷◌, [], ◌≤◌, ℕ, List, length, OnOk, OnErr, IfErr, IfSome};
-ghost use Rattle.sr_node.specs.Images.{node_state};
+ghost use Rattle.sr_node.specs.States.{state_of};
 ghost use Rattle.sr_forwarding.specs.Encoding.{IsWritten};
 ghost use Rattle.sr_forwarding.specs.Parcels.{plain_of};
 ghost use Rattle.sr_script.specs.Commands.{letter_of};
@@ -132,10 +132,8 @@ fn append_first_at<R: Role>(
     frame: &mut Vec<u8>,
     text: &mut Text,
 ) -> Result<(), FaultKind>
-    ensures ok { OnOk result ((line : List ℕ)
-        × FirstLeft role port (node_state (R.meaning node.old.role) node.old.core) line
-        (node_state (R.meaning node.new.role) node.new.core)
-        × (text.new ≡ text.old ++ line)) }
+    ensures ok { OnOk result ((line : List ℕ) × FirstLeft role port (state_of R.meaning node.old)
+        line (state_of R.meaning node.new) × (text.new ≡ text.old ++ line)) }
     ensures kept { OnErr result (StillHolds text.old text.new) }
     ensures err { IfErr result (λ kind. kind ≡ FaultKind.Memory) }
 {
@@ -156,10 +154,8 @@ fn append_first<R: Role>(
     frame: &mut Vec<u8>,
     text: &mut Text,
 ) -> Result<(), FaultKind>
-    ensures ok { OnOk result ((line : List ℕ)
-        × FirstLeft role port (node_state (R.meaning node.old.role) node.old.core) line
-        (node_state (R.meaning node.new.role) node.new.core)
-        × (text.new ≡ text.old ++ line)) }
+    ensures ok { OnOk result ((line : List ℕ) × FirstLeft role port (state_of R.meaning node.old)
+        line (state_of R.meaning node.new) × (text.new ≡ text.old ++ line)) }
     ensures kept { OnErr result (StillHolds text.old text.new) }
     ensures err { IfErr result (λ kind. kind ≡ FaultKind.Memory) }
 {
@@ -179,10 +175,8 @@ fn append_waiting<R: Role>(
     frame: &mut Vec<u8>,
     text: &mut Text,
 ) -> Result<(), FaultKind>
-    ensures ok { OnOk result ((lines : List ℕ)
-        × Emptied role port (node_state (R.meaning node.old.role) node.old.core) lines
-        (node_state (R.meaning node.new.role) node.new.core)
-        × (text.new ≡ text.old ++ lines)) }
+    ensures ok { OnOk result ((lines : List ℕ) × Emptied role port (state_of R.meaning node.old)
+        lines (state_of R.meaning node.new) × (text.new ≡ text.old ++ lines)) }
     ensures kept { OnErr result (StillHolds text.old text.new) }
     ensures err { IfErr result (λ kind. kind ≡ FaultKind.Memory) }
 {
@@ -200,10 +194,8 @@ pub(crate) fn append_outlets<R: Role>(
     frame: &mut Vec<u8>,
     text: &mut Text,
 ) -> Result<(), FaultKind>
-    ensures ok { OnOk result ((lines : List ℕ)
-        × AllEmptied role (node_state (R.meaning node.old.role) node.old.core) lines
-        (node_state (R.meaning node.new.role) node.new.core)
-        × (text.new ≡ text.old ++ lines)) }
+    ensures ok { OnOk result ((lines : List ℕ) × AllEmptied role (state_of R.meaning node.old) lines
+        (state_of R.meaning node.new) × (text.new ≡ text.old ++ lines)) }
     ensures kept { OnErr result (StillHolds text.old text.new) }
     ensures err { IfErr result (λ kind. kind ≡ FaultKind.Memory) }
 {

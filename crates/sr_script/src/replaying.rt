@@ -23,7 +23,7 @@ pub(crate) struct NodeSession<P: Role> {
 }
 
 impl<P: Role> Session for NodeSession<P> {
-    ghost use Rattle.sr_node.specs.Images.{node_state};
+    ghost use Rattle.sr_node.specs.States.{state_of};
     ghost use Rattle.sr_script.specs.Stations.{Station};
     ghost use Rattle.sr_script.specs.Replies.{replay_dialogue};
 
@@ -31,7 +31,7 @@ impl<P: Role> Session for NodeSession<P> {
 
     ghost state = { λ s. record {
       role = s.role;
-      node = node_state (P.meaning s.node.role) s.node.core;
+      node = state_of P.meaning s.node;
     } };
 
     ghost dialogue = { replay_dialogue };

@@ -5,7 +5,7 @@ ghost use Rattle.sr_forwarding.specs.RoleImages.{role_of};
 ghost use Rattle.sr_session.specs.Lines.{lines_of};
 ghost use Rattle.sr_script.specs.Replies.{replay_dialogue};
 ghost use Rattle.sr_session.specs.Runs.{IsAnswered, EndsAt, IsNotBegun};
-ghost use Rattle.sr_node.specs.Images.{node_state};
+ghost use Rattle.sr_node.specs.States.{state_of};
 ghost use Rattle.sr_script.specs.Stations.{at_work, kind_of, start_of};
 ghost use Rattle.sr_script.specs.Statuses.{status_dialogue};
 ghost use Rattle.sr_script.specs.Reports.{dialogue_of};
@@ -35,8 +35,7 @@ pub(crate) fn session_of<P: Role>(
     role: P,
 ) -> Result<NodeSession<P>, NoMemory>
     requires { P.meaning role ≡ role_of (kind_of setup.now.role) setup.now.mac }
-    ensures { IfOk result (λ s. at_work s.role (node_state (P.meaning s.node.role) s.node.core)
-        ≡ start_of setup.now) }
+    ensures { IfOk result (λ s. at_work s.role (state_of P.meaning s.node) ≡ start_of setup.now) }
 {
     let arriving = list_of(alloc, MAX_LINE / 2)?;
     let node = NodeOf::with_keys(alloc, role, setup.settings, setup.keys)?;

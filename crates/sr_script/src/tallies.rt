@@ -30,14 +30,14 @@ struct TallySession<P: Role> {
 }
 
 impl<P: Role> Session for TallySession<P> {
-    ghost use Rattle.sr_node.specs.Images.{node_state};
+    ghost use Rattle.sr_node.specs.States.{state_of};
     ghost use Rattle.sr_script.specs.Stations.{at_work};
     ghost use Rattle.sr_script.specs.Tallies.{Tally, with_counts, tally_dialogue};
 
     ghost State = { Tally };
 
     ghost state = { λ s. with_counts
-        (at_work s.at_work.role (node_state (P.meaning s.at_work.node.role) s.at_work.node.core))
+        (at_work s.at_work.role (state_of P.meaning s.at_work.node))
         s.counts };
 
     ghost dialogue = { tally_dialogue };

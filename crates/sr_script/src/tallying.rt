@@ -1,7 +1,7 @@
 //! What a node does with a line that is counted, where nothing that goes out is printed.
 
 ghost use Rattle.std.specs.Prelude.{◌≡◌, ◌∷◌, [], ◌++◌, ℕ, List, IfErr, OnOk, OnErr, Err};
-ghost use Rattle.sr_node.specs.Images.{node_state};
+ghost use Rattle.sr_node.specs.States.{state_of};
 ghost use Rattle.sr_script.specs.declared.reading.Command.TheVariants.{Arrive};
 ghost use Rattle.sr_script.specs.Commands.{IsEventLine};
 ghost use Rattle.sr_session.specs.Lines.{IsOneOf};
@@ -33,11 +33,9 @@ fn count_arrival<R: Role>(
     time: u64,
     text: &mut Text,
 ) -> Result<(), FaultKind>
-    ensures ok { OnOk result ((told : List ℕ)
-        × ArrivesSo role (node_state (R.meaning node.old.role) node.old.core) number
-        port time octets.now told (node_state (R.meaning node.new.role) node.new.core)
-        × IsCounted number (Arrive port time) told counts.old counts.new
-        × (text.new ≡ text.old ++ told)) }
+    ensures ok { OnOk result ((told : List ℕ) × ArrivesSo role (state_of R.meaning node.old) number
+        port time octets.now told (state_of R.meaning node.new) × IsCounted number (Arrive port
+        time) told counts.old counts.new × (text.new ≡ text.old ++ told)) }
     ensures kept { OnErr result (StillHolds text.old text.new) }
     ensures err { IfErr result (λ kind. kind ≡ FaultKind.Memory) }
 {
@@ -64,11 +62,9 @@ fn obey_counted<R: Role>(
     octets: &mut Vec<u8>,
     text: &mut Text,
 ) -> Result<(), FaultKind>
-    ensures ok { OnOk result ((told : List ℕ)
-        × Obeys role (node_state (R.meaning node.old.role) node.old.core) number
-        command octets.old.items told (node_state (R.meaning node.new.role) node.new.core)
-        × IsCounted number command told counts.old counts.new
-        × (text.new ≡ text.old ++ told)) }
+    ensures ok { OnOk result ((told : List ℕ) × Obeys role (state_of R.meaning node.old) number
+        command octets.old.items told (state_of R.meaning node.new) × IsCounted number command told
+        counts.old counts.new × (text.new ≡ text.old ++ told)) }
     ensures kept { OnErr result (StillHolds text.old text.new) }
     ensures err { IfErr result (λ kind. kind ≡ FaultKind.Memory) }
 {
@@ -96,10 +92,9 @@ pub(crate) fn tally<R: Role>(
     octets: &mut Vec<u8>,
     text: &mut Text,
 ) -> Result<(), FaultKind>
-    ensures ok { OnOk result ((answer : List ℕ)
-        × Tallied role (node_state (R.meaning node.old.role) node.old.core) counts.old number
-        line.now answer (node_state (R.meaning node.new.role) node.new.core) counts.new
-        × (text.new ≡ text.old ++ answer)) }
+    ensures ok { OnOk result ((answer : List ℕ) × Tallied role (state_of R.meaning node.old)
+        counts.old number line.now answer (state_of R.meaning node.new) counts.new × (text.new
+        ≡ text.old ++ answer)) }
     ensures kept { OnErr result (StillHolds text.old text.new) }
     ensures known { OnOk result (IsEventLine role line.now) }
     ensures bad { result ≡ Err FaultKind.Line → IsEventLine role line.now → ⊥ }

@@ -50,8 +50,10 @@ fn obey_line<S: Session>(
     ensures ok { OnOk result (AddsAnswer S.dialogue (S.state session.old) number line.now
         waiting.old.text waiting.old.marks.items
         waiting.new.text waiting.new.marks.items (S.state session.new)) }
-    ensures bad { result ≡ Err FaultKind.Line → S.dialogue.Knows (S.state session.old) line.now → ⊥ }
-    ensures memory { result ≡ Err FaultKind.Memory → S.dialogue.Knows (S.state session.old) line.now }
+    ensures bad { result ≡ Err FaultKind.Line
+        → S.dialogue.Knows (S.state session.old) line.now → ⊥ }
+    ensures memory { result ≡ Err FaultKind.Memory
+        → S.dialogue.Knows (S.state session.old) line.now }
     ensures fault { IfErr result (λ kind. IsOneOf kind (FaultKind.Line ∷ FaultKind.Memory ∷ [])) }
     ensures same { OnErr result ((waiting.new.text ≡ waiting.old.text)
         × (waiting.new.marks.items ≡ waiting.old.marks.items)) }

@@ -32,7 +32,8 @@ pub trait Session: Drop {
         ensures known { OnOk result (dialogue.Knows (state self.old) line.now) }
         ensures bad { result ≡ Err FaultKind.Line → dialogue.Knows (state self.old) line.now → ⊥ }
         ensures memory { result ≡ Err FaultKind.Memory → dialogue.Knows (state self.old) line.now }
-        ensures fault { IfErr result (λ kind. IsOneOf kind (FaultKind.Line ∷ FaultKind.Memory ∷ [])) };
+        ensures fault { IfErr result
+            (λ kind. IsOneOf kind (FaultKind.Line ∷ FaultKind.Memory ∷ [])) };
 
     /// Obeys the line at the front of a text where the session can tell on the way where that ends. The answer is how many octets the
     /// line has, without the LF that ends it. What is to be printed for it then stands behind what `text` held. None where the end of

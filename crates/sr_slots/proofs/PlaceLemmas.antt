@@ -11,12 +11,13 @@ use Rattle.std.proofs.Math.Bool.{or-true}
 use Rattle.std.proofs.lemmas.Map.{length-set_value}
 use Rattle.std.proofs.lemmas.Bool.{not-true, not-false}
 use Rattle.std.proofs.lemmas.List.Folds.{list_any-append}
+use Rattle.std.proofs.lemmas.List.Elements.{filter-append}
 use Rattle.std.proofs.lemmas.List.{length-append}
 use Rattle.indexmap.specs.IndexMap.{insert_entry}
 use Rattle.sr_frame.specs.declared.fields.Mac.{Mac}
 use Rattle.sr_slots.specs.declared.places.Slot.{Slot}
 use Rattle.sr_frame.specs.Addresses.{mac_eq}
-use Rattle.sr_slots.specs.Places.{entry_at, held_at, entries_of, held_of, slot_of, IsLast, KeepsHeld, KeepsAllHeld}
+use Rattle.sr_slots.specs.Places.{entry_at, held_at, entries_of, held_of, held_but, slot_of, IsLast, KeepsHeld}
 use Rattle.sr_slots.specs.Effects.{HoldsPlace, ChangesPlace}
 use Rattle.sr_frame.specs.AddressLemmas.{mac_same, mac_refl}
 use Rattle.sr_slots.specs.EntryLemmas.{one_if, head_differs}
@@ -63,25 +64,44 @@ pub none_from : {X : Type 0} (o : Option X) → false ≡ is_some o → o ≡ No
 none_from None h = refl
 none_from (Some x) h = cc
 
--- a place that was held newly and given up again is held as before
-pub given_back : (old mid new : List Mac) (key : Mac) → true ≡ not (list_any (mac_eq key) old) → KeepsHeld old mid key → KeepsHeld mid new key → list_any (mac_eq key) new ≡ false → KeepsAllHeld old new
-given_back old mid new key newly first second none other = by (mac_eq other key) refl
-  where
-    by : (b : Bool) → mac_eq other key ≡ b → list_any (mac_eq other) new ≡ list_any (mac_eq other) old
-    by true t =
-        let k = mac_same other key t in
-        ap (λ m. list_any (mac_eq m) new) k ∙ none ∙ sym (not-true (list_any (mac_eq key) old) (sym newly)) ∙ sym (ap (λ m. list_any (mac_eq m) old) k)
-    by false t = second other t ∙ first other t
+-- leaving an address out of a list in which it may stand first
+own_left_out : (m k : Mac) (b : Bool) (ys : List Mac) → mac_eq m k ≡ true → held_but (held_at k b ++ ys) m ≡ held_but ys m
+own_left_out m k false ys same = refl
+own_left_out m k true ys same = ap (λ t. cond (not t) (k ∷ held_but ys m) (held_but ys m)) same
 
--- a place that was held already stays
-pub held_still : (old new : List Mac) (key : Mac) → false ≡ not (list_any (mac_eq key) old) → KeepsHeld old new key → list_any (mac_eq key) new ≡ true → KeepsAllHeld old new
-held_still old new key again others held other = by (mac_eq other key) refl
+-- leaving an address out that is not there
+pub none_left_out : (m : Mac) (xs : List Mac) → list_any (mac_eq m) xs ≡ false → held_but xs m ≡ xs
+none_left_out m [] none = refl
+none_left_out m (x ∷ xs) none = by (mac_eq m x) none (none_left_out m xs)
   where
-    by : (b : Bool) → mac_eq other key ≡ b → list_any (mac_eq other) new ≡ list_any (mac_eq other) old
-    by true t =
-        let k = mac_same other key t in
-        ap (λ m. list_any (mac_eq m) new) k ∙ held ∙ sym (not-false (list_any (mac_eq key) old) (sym again)) ∙ sym (ap (λ m. list_any (mac_eq m) old) k)
-    by false t = others other t
+    by : (t : Bool) → (t || list_any (mac_eq m) xs) ≡ false → (list_any (mac_eq m) xs ≡ false → held_but xs m ≡ xs)
+        → cond (not t) (x ∷ held_but xs m) (held_but xs m) ≡ x ∷ xs
+    by true h ih = cc
+    by false h ih = ap (λ l. x ∷ l) (ih h)
+
+-- where a place was held newly and given up again, the held places are those of before
+pub given_back : (old mid new : List Mac) (key : Mac) → true ≡ not (list_any (mac_eq key) old) → held_but mid key ≡ held_but old key
+    → new ≡ held_but mid key → new ≡ old
+given_back old mid new key newly rest given = given ∙ rest ∙ none_left_out key old (not-true (list_any (mac_eq key) old) (sym newly))
+
+-- one more address has a held place, and the others as before
+held_with : (old new : List Mac) (key : Mac) → KeepsHeld old new key → list_any (mac_eq key) new ≡ true
+    → (m : Mac) → list_any (mac_eq m) new ≡ (mac_eq m key || list_any (mac_eq m) old)
+held_with old new key others held m = by (mac_eq m key) refl
+  where
+    by : (b : Bool) → mac_eq m key ≡ b → list_any (mac_eq m) new ≡ (b || list_any (mac_eq m) old)
+    by true t = ap (λ k. list_any (mac_eq k) new) (mac_same m key t) ∙ held
+    by false t = others m t
+
+regroup : (a b c : Bool) → ((a || b) || c) ≡ (b || (a || c))
+regroup true true c = refl
+regroup true false c = refl
+regroup false true c = refl
+regroup false false c = refl
+
+pub or_none : (b : Bool) → (b || false) ≡ b
+or_none true = refl
+or_none false = refl
 
 -- writing the value that is there changes nothing
 pub set_value_same : {X : Type 0} (test : Mac → Bool) (es : List (Mac × X)) (w : X) → lookup test es ≡ Some w → set_value test es w ≡ es
@@ -257,6 +277,36 @@ module _ {V : Type 0} where
       by true t s ih = ap (λ b. list_any (mac_eq m) (held_at e.0 b ++ held_of es)) free ∙ held_absent m es (subst (λ k. lookup (mac_eq k) es ≡ None) (sym (mac_same m e.0 t)) (absent_after e.0 es unique.0))
       by false t s ih = any_held m e.0 e.1.held [] (held_of (set_value (mac_eq m) es w)) t ∙ ih s
 
+  -- a write at an address leaves the others that are held, in their order
+  pub held-set_rest : (m : Mac) (w : Slot V) (es : List (Mac × Slot V)) → held_but (held_of (set_value (mac_eq m) es w)) m ≡ held_but (held_of es) m
+  held-set_rest m w [] = refl
+  held-set_rest m w (e ∷ es) = by (mac_eq m e.0) refl (held-set_rest m w es)
+    where
+      by : (t : Bool) → mac_eq m e.0 ≡ t → held_but (held_of (set_value (mac_eq m) es w)) m ≡ held_but (held_of es) m
+          → held_but (held_of (cond t ((e.0, w) ∷ es) (e ∷ set_value (mac_eq m) es w))) m ≡ held_but (held_at e.0 e.1.held ++ held_of es) m
+      by true t ih = own_left_out m e.0 w.held (held_of es) t ∙ sym (own_left_out m e.0 e.1.held (held_of es) t)
+      by false t ih =
+          filter-append (λ k. not (mac_eq m k)) (held_at e.0 e.1.held) (held_of (set_value (mac_eq m) es w))
+          ∙ ap (λ l. held_but (held_at e.0 e.1.held) m ++ l) ih
+          ∙ sym (filter-append (λ k. not (mac_eq m k)) (held_at e.0 e.1.held) (held_of es))
+
+  -- a write that lets go of the place leaves just the others
+  pub given_up : (m : Mac) (w : Slot V) (es : List (Mac × Slot V)) → IsDistinct mac_eq (keys_of es) → w.held ≡ false
+      → is_some (lookup (mac_eq m) es) ≡ true → held_of (set_value (mac_eq m) es w) ≡ held_but (held_of es) m
+  given_up m w es unique free there = sym (none_left_out m (held_of (set_value (mac_eq m) es w)) (held-set_free m w es unique free there)) ∙ held-set_rest m w es
+
+  -- one more of the places that are gone over: it is held, or not
+  pub holds_next : (places rest : List (Mac × Slot V)) (key : Mac) (slot : Slot V) (old new : List Mac) → places ≡ (key, slot) ∷ rest → slot.held ≡ true
+      → KeepsHeld old new key → list_any (mac_eq key) new ≡ true
+      → (m : Mac) → (list_any (mac_eq m) new || list_any (mac_eq m) (held_of rest)) ≡ (list_any (mac_eq m) old || list_any (mac_eq m) (held_of places))
+  holds_next places rest key slot old new is held others own m =
+      ap (λ b. b || list_any (mac_eq m) (held_of rest)) (held_with old new key others own m)
+      ∙ regroup (mac_eq m key) (list_any (mac_eq m) old) (list_any (mac_eq m) (held_of rest))
+      ∙ sym (ap (λ l. list_any (mac_eq m) old || list_any (mac_eq m) (held_of l)) is ∙ ap (λ b. list_any (mac_eq m) old || list_any (mac_eq m) (held_at key b ++ held_of rest)) held)
+
+  pub passes_next : (places rest : List (Mac × Slot V)) (key : Mac) (slot : Slot V) → places ≡ (key, slot) ∷ rest → slot.held ≡ false → held_of rest ≡ held_of places
+  passes_next places rest key slot is held = sym (ap held_of is ∙ ap (λ b. held_at key b ++ held_of rest) held)
+
   -- where no two addresses are equal, an address has a held place where its own place is held, and none once that is not
   pub held_of_own : (m : Mac) (s : Slot V) (es : List (Mac × Slot V)) → IsDistinct mac_eq (keys_of es) → lookup (mac_eq m) es ≡ Some s → list_any (mac_eq m) (held_of es) ≡ s.held
   unfolding IsDistinct
@@ -309,6 +359,11 @@ module _ {V : Type 0} where
         len = ap (λ l. length (held_of l)) set ∙ one_more s.held _ _ (length-held-set m s w es there);
         newly_is = sym (ap not (held_of_own m s es unique there));
         others = λ q other. ap (λ l. list_any (mac_eq q) (held_of l)) set ∙ held-set_others m w es q other;
+        rest = ap (λ l. held_but (held_of l) m) set ∙ held-set_rest m w es;
+        again = λ e.
+            let was_held : s.held ≡ true = not-false s.held e in
+            let same : s ≡ w = λ j. record { value = s.value; held = was_held j } in
+            ap held_of (set ∙ set_value_same (mac_eq m) es w (there ∙ ap Some same));
       }
 
   pub held_set : (m : Mac) (s w : Slot V) (es new : List (Mac × Slot V)) (newly : Bool) → IsDistinct mac_eq (keys_of es) → lookup (mac_eq m) es ≡ Some s
@@ -330,6 +385,11 @@ module _ {V : Type 0} where
         len = ap length held ∙ length-append (held_of es) (m ∷ []);
         newly_is = sym (ap not (held_absent m es absent));
         others = λ q other. ap (list_any (mac_eq q)) held ∙ any_held q m true (held_of es) [] other ∙ ap (list_any (mac_eq q)) (append-nil (held_of es));
+        rest = ap (λ l. held_but l m) held
+            ∙ filter-append (λ k. not (mac_eq m k)) (held_of es) (m ∷ [])
+            ∙ ap (λ b. held_but (held_of es) m ++ cond (not b) (m ∷ []) []) (mac_refl m)
+            ∙ append-nil (held_but (held_of es) m);
+        again = λ e. let bad : true ≡ false = e in cc;
       }
 
   -- the places round the one of an address

@@ -6,7 +6,7 @@ use Rattle.std.specs.Fn.{Once}
 use Rattle.sr_frame.specs.declared.fields.Mac.{Mac}
 use Rattle.sr_frame.specs.Addresses.{mac_eq}
 use Rattle.sr_slots.specs.declared.places.Slot.{Slot}
-use Rattle.sr_slots.specs.Places.{entries_of, held_of, entries_from, KeepsHeld}
+use Rattle.sr_slots.specs.Places.{entries_of, held_of, held_but, entries_from, KeepsHeld}
 use Rattle.sr_slots.specs.Calls.{ChangesAt}
 
 -- a place is held for this address, and none was before or one was; the entries are the same, and so are the other held places
@@ -16,6 +16,8 @@ pub record HoldsPlace {V : Type 0} (key : Mac) (newly : Bool) (old new : List (M
   pub len : length (held_of new) ≡ length (held_of old) + (if newly then 1 else 0)
   pub newly_is : newly ≡ not (list_any (mac_eq key) (held_of old))
   pub others : KeepsHeld (held_of old) (held_of new) key
+  pub rest : held_but (held_of new) key ≡ held_but (held_of old) key
+  pub again : newly ≡ false → held_of new ≡ held_of old
 
 -- this address has this value, which goes last; a held place of the address is used up, and the other held places are the same
 pub record PutsLast {V : Type 0} (key : Mac) (value : V) (was_held : Bool) (old new : List (Mac × Slot V)) : Type 0 where

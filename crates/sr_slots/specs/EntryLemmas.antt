@@ -1,13 +1,14 @@
 -- Entries by address: a look-up through a write, a new entry and a test of the values.
-use Rattle.std.proofs.Common.{◌≡◌, ℕ, ◌+◌, ◌≤◌, Bool, true, false, cond, List, [], ◌∷◌, ◌++◌, length, filter}
+use Rattle.std.proofs.Common.{◌≡◌, ℕ, ◌+◌, ◌≤◌, Bool, true, false, cond, ◌||◌, List, [], ◌∷◌, ◌++◌, length, filter}
 use Rattle.std.proofs.Common.{Option, None, Some, is_some, refl, sym, ap, ◌∙◌, subst, arith}
-use Rattle.std.specs.List.{IsDistinct, AllByRecursion}
+use Rattle.std.specs.List.{list_any, IsDistinct, AllByRecursion}
 use Rattle.std.specs.Map.{lookup, set_value, keys_of}
 use Rattle.std.proofs.lemmas.Map.{lookup-set_value, keys-set_value}
 use Rattle.sr_frame.specs.declared.fields.Mac.{Mac}
 use Rattle.sr_frame.specs.Addresses.{mac_eq}
-use Rattle.sr_frame.specs.AddressLemmas.{mac_same, mac_symm, mac_laws}
+use Rattle.sr_frame.specs.AddressLemmas.{mac_same, mac_refl, mac_symm, mac_laws}
 use Rattle.sr_slots.specs.Calls.{least_rank, passing}
+use Rattle.sr_slots.specs.Places.{KeepsAllHeld}
 
 -- a test as a number
 abbrev pub one_if : Bool → ℕ
@@ -17,6 +18,14 @@ one_if b = cond b 1 0
 pub head_differs : {X : Type 0} (b : Bool) (x : X) (r : Option X) → cond b (Some x) r ≡ None → (b ≡ false) × (r ≡ None)
 head_differs true x r h = cc
 head_differs false x r h = (refl, h)
+
+-- where no place was held, and each address has a held place as before, none is held
+pub none_held : (held : List Mac) → KeepsAllHeld [] held → held ≡ []
+none_held [] keeps = refl
+none_held (m ∷ held) keeps =
+    let here : true ≡ list_any (mac_eq m) (m ∷ held) = sym (ap (λ b. b || list_any (mac_eq m) held) (mac_refl m)) in
+    let bad : true ≡ false = here ∙ keeps m in
+    cc
 
 module _ {X : Type 0} where
   -- no least rank is above all numbers of 64 bits

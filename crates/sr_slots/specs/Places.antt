@@ -1,5 +1,6 @@
 -- What a table of addresses shows: its entries in order, and the addresses whose place is held.
-use Rattle.std.specs.Prelude.{◌≡◌, ◌-◌, Bool, true, false, List, [], ◌∷◌, ◌++◌, length, drop, slice_get, ℕ, is_some, Option, None, Some}
+use Rattle.std.specs.Prelude.{◌≡◌, ◌-◌, Bool, true, false, not, List, [], ◌∷◌, ◌++◌, length, filter, drop, slice_get}
+use Rattle.std.specs.Prelude.{ℕ, is_some, Option, None, Some}
 use Rattle.std.specs.List.{list_any}
 use Rattle.std.specs.Map.{lookup, set_value, values_of}
 use Rattle.indexmap.specs.IndexMap.{set_value_at}
@@ -36,6 +37,10 @@ KeepsHeldBut old new key second = (other : Mac) → mac_eq other key ≡ false �
 -- each address has a held place as before
 abbrev pub KeepsAllHeld : List Mac → List Mac → Type 0
 KeepsAllHeld old new = (other : Mac) → list_any (mac_eq other) new ≡ list_any (mac_eq other) old
+
+-- the addresses whose place is held, but this one
+abbrev pub held_but : List Mac → Mac → List Mac
+held_but held key = filter (λ other. not (mac_eq key other)) held
 
 -- what one place of the map shows of values, and of holding
 abbrev pub entry_at : {V : Type 0} → Mac → Option V → List (Mac × V)

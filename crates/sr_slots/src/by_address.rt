@@ -4,7 +4,7 @@ ghost use Rattle.std.specs.List.{IsDistinct};
 ghost use Rattle.std.specs.Map.{keys_of};
 ghost use Rattle.std.specs.Option.{option_copied, option_map};
 ghost use Rattle.sr_frame.specs.Addresses.{mac_eq};
-ghost use Rattle.sr_slots.specs.Places.{is_held, value_at, KeepsHeld, KeepsHeldBut, KeepsAllHeld};
+ghost use Rattle.sr_slots.specs.Places.{held_of, held_but, is_held, value_at, KeepsHeld, KeepsHeldBut, KeepsAllHeld};
 ghost use Rattle.std.specs.Map.Iter.{ShowsInOrder};
 ghost use Rattle.sr_slots.specs.Calls.{ChangesAt, least_rank, shown_entry};
 
@@ -13,7 +13,7 @@ use crate::keys::Keys;
 use crate::places::Slot;
 use crate::ranked::Ranked;
 use crate::{holding, places, putting, sifting};
-use indexmap::IndexMap;
+use indexmap::{IndexMap, map};
 use sr_frame::{Mac, NoMemory};
 use std::alloc::Global;
 use std::marker::Model;
@@ -187,14 +187,14 @@ impl<V: Drop + Ranked> Slots<V> {
         Ok(())
     }
 
-    /// Holds the places of two addresses, or of none where memory runs out.
+    /// Holds the places of two addresses. NoMemory: memory ran out, and nothing changes.
     pub fn hold_both(&mut self, key: Mac, other: Mac) -> Result<(), NoMemory>
         ensures entries { self.new.entries ≡ self.old.entries }
         ensures held { OnOk result ((is_held self.new key ≡ true)
             × (is_held self.new other ≡ true)) }
         ensures others { OnOk result (KeepsHeldBut self.old.held self.new.held key other) }
         ensures again { is_held self.old key ≡ true → is_held self.old other ≡ true → IsOk result }
-        ensures err { OnErr result (KeepsAllHeld self.old.held self.new.held) }
+        ensures err { OnErr result (self.new ≡ self.old) }
     {
         let newly = self.hold_newly(key)?;
         match self.hold(other) {
@@ -214,7 +214,9 @@ impl<V: Drop + Ranked> Slots<V> {
         ensures held { OnOk result (is_held self.new key ≡ true) }
         ensures others { OnOk result (KeepsHeld self.old.held self.new.held key) }
         ensures again { is_held self.old key ≡ true → IsOk result }
+        ensures rest { OnOk result (held_but self.new.held key ≡ held_but self.old.held key) }
         ensures newly { IfOk result (λ newly. newly ≡ not (is_held self.old key)) }
+        ensures still { IfOk result (λ newly. newly ≡ false → self.new.held ≡ self.old.held) }
         ensures err { OnErr result (self.new ≡ self.old) }
     {
         let newly = holding::hold(&mut self.map, self.alloc, self.end, key)?;
@@ -227,8 +229,7 @@ impl<V: Drop + Ranked> Slots<V> {
     // Gives up the held place of an address.
     fn give_up(&mut self, key: Mac)
         ensures entries { self.new.entries ≡ self.old.entries }
-        ensures held { is_held self.new key ≡ false }
-        ensures others { KeepsHeld self.old.held self.new.held key }
+        ensures held { self.new.held ≡ held_but self.old.held key }
     {
         if holding::give_up(&mut self.map, key) {
             self.held -= 1;
@@ -261,6 +262,40 @@ impl<V: Drop + Ranked> Slots<V> {
             self.held = 0;
             self.end = self.map.len();
         }
+    }
+
+    /// Holds a place for just those addresses for which another table holds one; what else was held is given up. Where the other
+    /// holds none, it goes over nothing. NoMemory: memory ran out, and no place is held.
+    pub fn hold_as(&mut self, other: &Slots<V>) -> Result<(), NoMemory>
+        ensures entries { self.new.entries ≡ self.old.entries }
+        ensures held { OnOk result (KeepsAllHeld other.now.held self.new.held) }
+        ensures err { OnErr result (self.new.held ≡ []) }
+    {
+        self.release();
+        if other.held == 0 {
+            return Ok(());
+        }
+        match self.hold_each(other.map.iter()) {
+            Ok(()) => Ok(()),
+            Err(e) => {
+                self.release();
+                Err(e)
+            }
+        }
+    }
+
+    // Holds a place for the address of each held one of these, in a table that holds none.
+    fn hold_each(&mut self, places: map::Iter<'_, Mac, Slot<V>>) -> Result<(), NoMemory>
+        requires { self.old.held ≡ [] }
+        ensures entries { self.new.entries ≡ self.old.entries }
+        ensures held { OnOk result (KeepsAllHeld (held_of places.entry) self.new.held) }
+    {
+        for (key, slot) in places {
+            if slot.held {
+                self.hold(*key)?;
+            }
+        }
+        Ok(())
     }
 
     /// Takes the values out whose rank is below a limit. The others keep their order, and held places stay held. Answers the least
@@ -308,11 +343,11 @@ impl<V: Drop + Ranked> Slots<V> {
 impl<V: Drop + Ranked + Copy> Slots<V> {
     /// A table of its own with the same values in the same order, under the same keys. It holds no place.
     /// NoMemory: memory ran out.
-    pub fn try_clone(&self, alloc: Global) -> Result<Slots<V>, NoMemory>
+    pub fn try_clone(&self) -> Result<Slots<V>, NoMemory>
         ensures entries { IfOk result (λ own. own.entries ≡ self.now.entries) }
         ensures held { IfOk result (λ own. own.held ≡ []) }
     {
-        let mut own = Slots::with_keys(alloc, *self.map.hasher());
+        let mut own = Slots::with_keys(self.alloc, *self.map.hasher());
         own.copy_from(self)?;
         own.release();
         Ok(own)

@@ -2,7 +2,7 @@
 ghost use Rattle.std.specs.Prelude.{◌≡◌, ◌+◌, ◌^◌, ◌<◌, ◌&&◌, [], ℕ, None, Some, true, false, not, is_some, length, IsOk, OnErr, IfOk, IfSome, IfNone, if◌then◌else◌};
 ghost use Rattle.std.specs.List.{list_any};
 ghost use Rattle.sr_frame.specs.Addresses.{mac_eq};
-ghost use Rattle.sr_slots.specs.Places.{entries_of, held_of, slot_of, IsLast, KeepsHeld, entries_from};
+ghost use Rattle.sr_slots.specs.Places.{entries_of, held_of, held_but, slot_of, IsLast, entries_from};
 ghost use Rattle.sr_slots.specs.Effects.{HoldsPlace};
 
 use crate::keys::Keys;
@@ -98,10 +98,9 @@ pub fn hold<V: Drop + Ranked>(
 /// Gives up the held place of an address. Answers whether there was one.
 pub fn give_up<V: Drop + Ranked>(map: &mut IndexMap<Mac, Slot<V>, Keys>, key: Mac) -> bool
     ensures entries { entries_of map.new.entries ≡ entries_of map.old.entries }
-    ensures held { list_any (mac_eq key) (held_of map.new.entries) ≡ false }
+    ensures held { held_of map.new.entries ≡ held_but (held_of map.old.entries) key }
     ensures len { length (held_of map.new.entries) + (if result then 1 else 0)
         ≡ length (held_of map.old.entries) }
-    ensures others { KeepsHeld (held_of map.old.entries) (held_of map.new.entries) key }
     ensures from { (n : ℕ) → entries_from n map.new.entries ≡ entries_from n map.old.entries }
 {
     // The length says that no two addresses are equal.

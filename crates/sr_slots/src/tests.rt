@@ -353,9 +353,9 @@ fn keys_take_all_octets(rt: HostRuntime) {
 // The numbers by which a table under these keys and its clone place an address.
 fn numbers_in_tables(alloc: Global, keys: Keys, address: Mac) -> Option<(u64, u64)> {
     let slots: Slots<u32> = Slots::with_keys(alloc, keys);
-    let clone = match slots.try_clone(alloc) {
+    let clone = match slots.try_clone() {
         Ok(clone) => clone,
-        Err(_) => slots.try_clone(alloc).ok()?,
+        Err(_) => slots.try_clone().ok()?,
     };
     Some((
         slots.map().hasher().hash_one(address),

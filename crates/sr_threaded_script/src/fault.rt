@@ -65,7 +65,7 @@ pub(crate) fn fault_at(fault: RunFault, line: u64) -> ThreadedFault {
         RunFault::NoThread => ThreadedFault::NoThread(line),
         lack => ThreadedFault::Script(Fault {
             line,
-            word: lack.into(),
+            kind: lack.into(),
         }),
     }
 }

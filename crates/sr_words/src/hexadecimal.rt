@@ -49,7 +49,8 @@ fn make_room(digits: &[u8], octets: &mut Vec<u8>, count: usize) -> Result<(), Fa
 /// `octets` then holds says nothing.
 pub fn read_hex(digits: &[u8], octets: &mut Vec<u8>) -> Result<(), FaultKind>
     ensures found { OnOk result (IsHex digits.now octets.new.items) }
-    ensures only { (os : List ℕ) → IsHex digits.now os → IfErr result (λ kind. kind ≡ FaultKind.Memory) }
+    ensures only { (os : List ℕ) → IsHex digits.now os
+        → IfErr result (λ kind. kind ≡ FaultKind.Memory) }
     ensures memory { result ≡ Err FaultKind.Memory → (os : List ℕ) × IsHex digits.now os }
     ensures fault { IfErr result (λ kind. IsOneOf kind (FaultKind.Line ∷ FaultKind.Memory ∷ [])) }
 {

@@ -334,7 +334,7 @@ fn kits_of<C: Drop, L: Ledger>(
 
 fn is_up(answer: &Answer) -> bool {
     match answer {
-        Answer::Passed(outlets) => outlets.has(Port::H),
+        Answer::Passed(ports) => ports.as_slice().contains(&Port::H),
         _ => false,
     }
 }

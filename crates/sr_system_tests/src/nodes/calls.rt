@@ -5,9 +5,8 @@
 
 use super::steps::{Outcome, Told};
 use super::ways::{decoded, ended, read, way_of};
-use sr_dup_table::DupFault;
 use sr_frame::{Frame, Mac, Port};
-use sr_node::{Answer, Event, Node, NodeImage, StepFault};
+use sr_node::{Answer, Event, MergeFault, Node, NodeImage, StepFault};
 use sr_node_table::{Alarm, Status};
 use std::alloc::Global;
 
@@ -123,7 +122,7 @@ fn happens(node: &mut Node, event: &Event) -> Outcome {
 #[derive(Clone, Copy, PartialEq, Eq)]
 pub enum Absorbed {
     Whole,
-    Refused(DupFault),
+    Refused(MergeFault),
     /// It was refused, and the node is another than it was.
     Changed,
 }
@@ -155,7 +154,7 @@ fn absorb_whole(node: &mut Node, other: &Node) -> Absorbed {
 /// Taking over.
 pub fn absorb(node: &mut Node, other: &Node) -> Absorbed {
     match absorb_whole(node, other) {
-        Absorbed::Refused(DupFault::NoMemory) => absorb_whole(node, other),
+        Absorbed::Refused(MergeFault::NoMemory) => absorb_whole(node, other),
         absorbed => absorbed,
     }
 }

@@ -4,10 +4,9 @@ use super::calls::{Absorbed, absorb, arrive_of_many};
 use super::frames::{OTHER, OWN, Sent, octets_of};
 use super::makers::{danh, danp};
 use super::steps::Outcome;
-use sr_dup_table::DupFault;
 use sr_forwarding::{Danh, Danp, Role, RoleKind};
 use sr_frame::{Mac, Port};
-use sr_node::{Node, Settings};
+use sr_node::{MergeFault, Node, Settings};
 use std::alloc::Global;
 
 /// Whether the node hands a role of another address back.
@@ -120,7 +119,7 @@ pub fn absorbs(
     node: &mut Node,
     sent: Sent,
     now: u64,
-    wanted: Option<DupFault>,
+    wanted: Option<MergeFault>,
 ) -> bool {
     match (absorbed(alloc, node, sent, now), wanted) {
         (Some(Absorbed::Whole), None) => true,

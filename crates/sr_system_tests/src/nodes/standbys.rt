@@ -4,8 +4,8 @@ use super::frames::{EVERYONE, OTHER, Sent};
 use super::steps::{
     Outcome, Step, Told, expect_ring_steps, expect_ring_steps_in_mode_x, expect_steps,
 };
-use sr_dup_table::DupFault;
 use sr_frame::Port;
+use sr_node::MergeFault;
 use sr_node_table::GREATEST_AGE;
 
 // What the other node handed up goes up no more; what it did not hear does. The later time counts for both. Of what nodes
@@ -72,10 +72,10 @@ fn a_standby_keeps_its_mode(rt: HostRuntime) {
 // Of numbers that are half of all apart, neither is ahead: the node stays as it is.
 const APART: &[Step] = &[
     Step::In(Port::A, Sent::InA(0), 100, Outcome::Up),
-    Step::Absorb(Sent::InA(32768), 200, Some(DupFault::Apart(OTHER))),
+    Step::Absorb(Sent::InA(32768), 200, Some(MergeFault::Apart(OTHER))),
     Step::Time(100),
     Step::In(Port::B, Sent::InB(0), 100, Outcome::Nowhere),
-    Step::Absorb(Sent::InA(32768), 499, Some(DupFault::Apart(OTHER))),
+    Step::Absorb(Sent::InA(32768), 499, Some(MergeFault::Apart(OTHER))),
     Step::Absorb(Sent::InA(32768), 500, None),
     Step::In(Port::B, Sent::InB(32768), 500, Outcome::Nowhere),
     Step::In(Port::B, Sent::InB(0), 500, Outcome::Up),

@@ -11,10 +11,9 @@ use super::others::{absorbs, becomes};
 use super::resumed::resumed;
 use super::taken::takes;
 use crate::settings::MODE_X;
-use sr_dup_table::DupFault;
 use sr_forwarding::RoleKind;
 use sr_frame::{Mac, Port};
-use sr_node::{Node, Settings, StepFault};
+use sr_node::{MergeFault, Node, Settings, StepFault};
 use sr_node_table::Alarm;
 use sr_sequence::Seq;
 use std::alloc::Global;
@@ -105,7 +104,7 @@ pub enum Step {
     /// The node gets another role of its address, of this kind.
     Become(RoleKind),
     /// The node takes over what a new node of its address has noted, in mode H, that heard this frame at port A at this time, or why not.
-    Absorb(Sent, u64, Option<DupFault>),
+    Absorb(Sent, u64, Option<MergeFault>),
     /// So many frames of one node come in at port A at this time, under the numbers from 0 on, and each goes up.
     Fill(u16, u64),
     /// So many sources send a frame each at time 0, and each is taken out for the host.

@@ -1,7 +1,7 @@
 //! How the ports of a node read and write frames.
 
 use super::steps::Outcome;
-use sr_forwarding::{Framing, HsrFraming, Outlets, Parcel, PlainFraming, PrpFraming, RoleKind};
+use sr_forwarding::{Framing, HsrFraming, Parcel, PlainFraming, PrpFraming, RoleKind};
 use sr_frame::{Frame, Port};
 use sr_node::{Answer, Node, StepFault};
 use sr_prp_trailer::Lan;
@@ -41,28 +41,23 @@ pub fn way_of(kind: RoleKind, port: Port) -> Way {
     }
 }
 
-fn outcome_of_outlets(outlets: Outlets) -> Outcome {
-    let [h, a, b, c] = [Port::H, Port::A, Port::B, Port::C];
-    match (
-        outlets.has(h),
-        outlets.has(a),
-        outlets.has(b),
-        outlets.has(c),
-    ) {
-        (false, false, false, false) => Outcome::Nowhere,
-        (true, false, false, false) => Outcome::Up,
-        (true, true, false, false) => Outcome::UpAndA,
-        (true, false, true, false) => Outcome::UpAndB,
-        (false, true, false, false) => Outcome::To(Port::A),
-        (false, false, true, false) => Outcome::To(Port::B),
-        (false, false, false, true) => Outcome::To(Port::C),
+// In the order H, A, B, C.
+fn outcome_of_ports(ports: &[Port]) -> Outcome {
+    match ports {
+        [] => Outcome::Nowhere,
+        [Port::H] => Outcome::Up,
+        [Port::H, Port::A] => Outcome::UpAndA,
+        [Port::H, Port::B] => Outcome::UpAndB,
+        [Port::A] => Outcome::To(Port::A),
+        [Port::B] => Outcome::To(Port::B),
+        [Port::C] => Outcome::To(Port::C),
         _ => Outcome::Other,
     }
 }
 
 fn outcome_of(answer: &Answer) -> Outcome {
     match answer {
-        Answer::Passed(outlets) => outcome_of_outlets(*outlets),
+        Answer::Passed(ports) => outcome_of_ports(ports.as_slice()),
         Answer::Own => Outcome::Own,
         Answer::Sent(seq) => Outcome::Sent(seq.0),
         Answer::Ticked {

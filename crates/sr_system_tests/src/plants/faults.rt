@@ -5,7 +5,7 @@ use sr_dup_window::Apart;
 use sr_forwarding::ReadFault;
 use sr_frame::{FrameFault, Mac, NoMemory, Port};
 use sr_hsr_tag::{TagFault, UntagFault};
-use sr_node::StepFault;
+use sr_node::{MergeFault, StepFault};
 use sr_plant::PlantFault;
 use sr_prp_trailer::StripFault;
 use sr_supervision::SupFault;
@@ -97,6 +97,19 @@ const STEPS: &[(StepFault, &str)] = &[
     (StepFault::NoMemory, "out of memory"),
 ];
 
+const MERGES: &[(MergeFault, &str)] = &[
+    (
+        MergeFault::OtherWidth,
+        "the nodes have duplicate tables of different widths",
+    ),
+    (MergeFault::TableFull, "the duplicate table is full"),
+    (
+        MergeFault::Apart(Mac([2, 0, 0, 0, 0, 1])),
+        "two records of a source are 32768 apart",
+    ),
+    (MergeFault::NoMemory, "out of memory"),
+];
+
 const PLANTS: &[(PlantFault, &str)] = &[
     (PlantFault::NoSuchNode, "no such node or link"),
     (PlantFault::NoSuchCopy, "no such copy"),
@@ -136,5 +149,6 @@ fn words_of_faults(rt: HostRuntime) {
     expect_words(&rt, "full", &[(TableFull, full)]);
     expect_words(&rt, "tables", TABLES);
     expect_words(&rt, "steps", STEPS);
+    expect_words(&rt, "merges", MERGES);
     expect_words(&rt, "plants", PLANTS);
 }

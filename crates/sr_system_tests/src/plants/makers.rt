@@ -87,7 +87,7 @@ pub fn new_ring<R: Role>(
 ) -> Result<PlantOf<R>, PlantFault>
     ensures { IfOk result (λ p. IsInOrder (plant_state R.meaning p)) }
 {
-    Ok(RingOf::new(alloc, nodes?)?.plant)
+    Ok(RingOf::new(alloc, nodes?)?.into_plant())
 }
 
 /// Two LANs of these nodes.
@@ -97,5 +97,5 @@ pub fn new_lans<R: Role>(
 ) -> Result<PlantOf<R>, PlantFault>
     ensures { IfOk result (λ p. IsInOrder (plant_state R.meaning p)) }
 {
-    Ok(TwinLanOf::new(alloc, nodes?)?.plant)
+    Ok(TwinLanOf::new(alloc, nodes?)?.into_plant())
 }

@@ -115,7 +115,7 @@ fn happens<R: Role>(alloc: Global, plant: &mut PlantOf<R>, act: Act) -> Result<(
 // How many copies are in flight, and how many frames were handed up.
 fn counts<R: Role>(plant: &PlantOf<R>) -> (usize, usize) {
     let mut up = 0usize;
-    for list in &plant.handed {
+    for list in plant.all_handed() {
         up = up.saturating_add(list.len());
     }
     (plant.in_flight(), up)
@@ -177,7 +177,7 @@ fn go_past<R: Role>(alloc: Global, plant: &mut PlantOf<R>, count: usize, from: u
 
 // How many frames a node handed up.
 fn up_count<R: Role>(plant: &PlantOf<R>, node: usize) -> usize {
-    if node < plant.handed.len() {
+    if node < plant.all_handed().len() {
         plant.handed(node).len()
     } else {
         0
@@ -196,7 +196,7 @@ fn is_plain(parcel: &Parcel, from: u8, to: To) -> bool {
 
 // Whether a node handed up these frames.
 fn handed_up<R: Role>(plant: &PlantOf<R>, node: usize, frames: &[(u8, To)]) -> bool {
-    if node >= plant.handed.len() {
+    if node >= plant.all_handed().len() {
         return false;
     }
     let up = plant.handed(node);

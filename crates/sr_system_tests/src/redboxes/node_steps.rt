@@ -2,8 +2,7 @@
 
 use bitflags::Flags;
 use sr_forwarding::{
-    Danh, Framing, HsrFraming, Outlets, OwnRole, Parcel, PlainFraming, Port, PrpFraming, Role,
-    RoleKind,
+    Danh, Framing, HsrFraming, OwnRole, Parcel, PlainFraming, Port, PrpFraming, Role, RoleKind,
 };
 use sr_frame::{Frame, Mac};
 use sr_node::{Answer, Event, Node, NodeImage, StepFault};
@@ -140,17 +139,9 @@ enum Came {
     Otherwise,
 }
 
-fn set_of(ports: &[Port]) -> Outlets {
-    let mut outlets = Outlets::none();
-    for port in ports {
-        outlets = outlets.union(Outlets::only(*port));
-    }
-    outlets
-}
-
 fn came_of(call: Result<Answer, StepFault>, wanted: Wanted) -> Came {
     let is_wanted = match (call, wanted) {
-        (Ok(Answer::Passed(outlets)), Wanted::Passed(ports)) => outlets == set_of(ports),
+        (Ok(Answer::Passed(came)), Wanted::Passed(ports)) => came.as_slice() == ports,
         (Ok(Answer::Sent(seq)), Wanted::Sent(number)) => seq.0 == number,
         (Ok(Answer::Ticked { proxies, .. }), Wanted::Ticked(count)) => proxies == count,
         (Err(StepFault::NoMemory), _) => return Came::NoMemory,

@@ -154,10 +154,10 @@ fn ages(rt: HostRuntime) {
 }
 
 // A clone. Where memory runs out it is asked for again.
-fn cloned(alloc: Global, table: &DupTable) -> Option<DupTable> {
-    match table.try_clone(alloc) {
+fn cloned(table: &DupTable) -> Option<DupTable> {
+    match table.try_clone() {
         Ok(own) => Some(own),
-        Err(_) => table.try_clone(alloc).ok(),
+        Err(_) => table.try_clone().ok(),
     }
 }
 
@@ -183,7 +183,7 @@ fn is_clone(own: &mut DupTable, table: &DupTable, turned: &DupTable) -> bool {
 fn clones_are_equal(alloc: Global) -> bool {
     let table = heard_in_order(alloc, [1, 2, 3].as_slice());
     let turned = heard_in_order(alloc, [3, 2, 1].as_slice());
-    match cloned(alloc, &table) {
+    match cloned(&table) {
         Some(mut own) => is_clone(&mut own, &table, &turned),
         None => false,
     }
@@ -192,4 +192,28 @@ fn clones_are_equal(alloc: Global) -> bool {
 #[test]
 fn clones(rt: HostRuntime) {
     assert!(rt; clones_are_equal(rt.alloc()));
+}
+
+// Whether a source whose place is held is heard without memory after a merge that leaves all records out. What is refused before
+// that is asked for again.
+fn is_heard_after_a_merge(alloc: Global, number: u16) -> bool {
+    let mut table = heard_in_order(alloc, [1, 2].as_slice());
+    let other = heard_in_order(alloc, [3].as_slice());
+    let src = mac(number);
+    let is_held = table.reserve(src).is_ok() || table.reserve(src).is_ok();
+    let is_merged = table.merge(&other, 400).is_ok() || table.merge(&other, 400).is_ok();
+    is_held
+        && is_merged
+        && table.source_count() == 0
+        && answer_of(table.arrive(src, Seq(5), handed_up(), 400).ok()) == Answer::New
+}
+
+// One that had a record, and one that had none.
+fn are_heard_after_a_merge(alloc: Global) -> bool {
+    is_heard_after_a_merge(alloc, 1) && is_heard_after_a_merge(alloc, 9)
+}
+
+#[test]
+fn a_merge_keeps_held_places(rt: HostRuntime) {
+    assert!(rt; are_heard_after_a_merge(rt.alloc()));
 }

@@ -58,8 +58,10 @@ pub enum Step {
     Reads(Which),
     /// The first table becomes, at its own width, what the snapshot of the second is read as.
     Restore(Which, Which),
-    /// The snapshot of a table with another octet at this place is one, or none.
-    Damaged(Which, usize, u8, bool),
+    /// The snapshot of a table with other octets at these places is one, or none.
+    Damaged(Which, &'static [(usize, u8)], bool),
+    /// The snapshot of a table with other octets at these places is one of a table by which the host got a number of a source already.
+    DamagedKnows(Which, &'static [(usize, u8)], u16, u16, u64),
     /// A snapshot of so many octets, cut or with zeros behind it, is one, or none.
     Resized(Which, usize, bool),
     /// No damage of a table's snapshot is read as a table with another snapshot: 64 octets one by one, and then all behind its
@@ -129,24 +131,24 @@ fn outcome_of(answer: Result<(), DupFault>) -> Merged {
 }
 
 // A clone. Where memory runs out it is asked for again.
-fn cloned(alloc: Global, table: &DupTable) -> Option<DupTable> {
-    match table.try_clone(alloc) {
+fn cloned(table: &DupTable) -> Option<DupTable> {
+    match table.try_clone() {
         Ok(own) => Some(own),
-        Err(_) => table.try_clone(alloc).ok(),
+        Err(_) => table.try_clone().ok(),
     }
 }
 
 // A merge that is done again where memory runs out. What is refused changes nothing.
-fn merge(alloc: Global, table: &mut DupTable, other: &DupTable, now: u64) -> Merged {
-    let Some(before) = cloned(alloc, table) else {
+fn merge(table: &mut DupTable, other: &DupTable, now: u64) -> Merged {
+    let Some(before) = cloned(table) else {
         return Merged::Wrong;
     };
-    let mut answer = table.merge(alloc, other, now);
+    let mut answer = table.merge(other, now);
     if answer.is_err() && *table != before {
         return Merged::Wrong;
     }
     if answer == Err(DupFault::NoMemory) {
-        answer = table.merge(alloc, other, now);
+        answer = table.merge(other, now);
     }
     if answer.is_err() && *table != before {
         return Merged::Wrong;
@@ -155,8 +157,8 @@ fn merge(alloc: Global, table: &mut DupTable, other: &DupTable, now: u64) -> Mer
 }
 
 // Room that is asked for again where memory runs out.
-fn make_room(alloc: Global, table: &mut DupTable, more: usize, answer: bool) -> bool {
-    let Some(before) = cloned(alloc, table) else {
+fn make_room(table: &mut DupTable, more: usize, answer: bool) -> bool {
+    let Some(before) = cloned(table) else {
         return false;
     };
     let is_made = table.make_room(more).is_ok();
@@ -166,15 +168,15 @@ fn make_room(alloc: Global, table: &mut DupTable, more: usize, answer: bool) -> 
     (is_made || table.make_room(more).is_ok()) == answer && *table == before
 }
 
-fn merge_tables(alloc: Global, tables: &mut Tables, into: Which, from: Which, now: u64) -> Merged {
-    let Some(other) = cloned(alloc, table(tables, from)) else {
+fn merge_tables(tables: &mut Tables, into: Which, from: Which, now: u64) -> Merged {
+    let Some(other) = cloned(table(tables, from)) else {
         return Merged::Wrong;
     };
     match into {
-        Which::One => merge(alloc, &mut tables.one, &other, now),
-        Which::Two => merge(alloc, &mut tables.two, &other, now),
-        Which::Three => merge(alloc, &mut tables.three, &other, now),
-        Which::Wide => merge(alloc, &mut tables.wide, &other, now),
+        Which::One => merge(&mut tables.one, &other, now),
+        Which::Two => merge(&mut tables.two, &other, now),
+        Which::Three => merge(&mut tables.three, &other, now),
+        Which::Wide => merge(&mut tables.wide, &other, now),
     }
 }
 
@@ -191,6 +193,15 @@ fn text_of(alloc: Global, table: &DupTable) -> Option<Vec<u8>> {
         Ok(text) => Some(text),
         Err(_) => snapshot(alloc, table).ok(),
     }
+}
+
+// The snapshot of a table with other octets at these places. None where it has no such place, or where an allocation failed.
+fn damaged(alloc: Global, table: &DupTable, places: &[(usize, u8)]) -> Option<Vec<u8>> {
+    let mut text = text_of(alloc, table)?;
+    for (place, octet) in places {
+        *text.get_mut(*place)? = *octet;
+    }
+    Some(text)
 }
 
 fn has_text(alloc: Global, table: &DupTable, len: usize, places: &[(usize, u8)]) -> bool {
@@ -264,7 +275,7 @@ fn restore(alloc: Global, table: &mut DupTable, other: &DupTable) -> bool {
 }
 
 fn restore_tables(alloc: Global, tables: &mut Tables, into: Which, from: Which) -> bool {
-    let Some(other) = cloned(alloc, table(tables, from)) else {
+    let Some(other) = cloned(table(tables, from)) else {
         return false;
     };
     match into {
@@ -272,6 +283,17 @@ fn restore_tables(alloc: Global, tables: &mut Tables, into: Which, from: Which) 
         Which::Two => restore(alloc, &mut tables.two, &other),
         Which::Three => restore(alloc, &mut tables.three, &other),
         Which::Wide => restore(alloc, &mut tables.wide, &other),
+    }
+}
+
+// Whether octets are a snapshot of a table by which the host got a number of a source already.
+fn was_handed_up(alloc: Global, text: &[u8], width: Width, src: u16, seq: u16, now: u64) -> bool {
+    let Some(table) = table_of(alloc, text, width) else {
+        return false;
+    };
+    match table.fresh(mac(src), Seq(seq), Lanes::H, now) {
+        Ok(lanes) => lanes.is_empty(),
+        Err(_) => false,
     }
 }
 
@@ -330,9 +352,8 @@ fn holds(alloc: Global, tables: &mut Tables, step: Step) -> bool {
         Step::Fill(Which::Two, from, count, now) => fill(&mut tables.two, from, count, now),
         Step::Fill(Which::Three, from, count, now) => fill(&mut tables.three, from, count, now),
         Step::Fill(Which::Wide, from, count, now) => fill(&mut tables.wide, from, count, now),
-        Step::MakeRoom(more, answer) => make_room(alloc, &mut tables.one, more, answer),
-        Step::Merge(into, from, now, answer) => merge_tables(alloc, tables, into, from, now)
-            == answer,
+        Step::MakeRoom(more, answer) => make_room(&mut tables.one, more, answer),
+        Step::Merge(into, from, now, answer) => merge_tables(tables, into, from, now) == answer,
         Step::Count(which, count) => table(tables, which).source_count() == count,
         Step::Knows(which, src, seq, now, answer) => knows(table(tables, which), src, seq, now)
             == Some(answer),
@@ -341,15 +362,16 @@ fn holds(alloc: Global, tables: &mut Tables, step: Step) -> bool {
         Step::Text(which, len, places) => has_text(alloc, table(tables, which), len, places),
         Step::Reads(which) => reads_back(alloc, table(tables, which)),
         Step::Restore(into, from) => restore_tables(alloc, tables, into, from),
-        Step::Damaged(which, place, octet, answer) => {
-            let Some(mut text) = text_of(alloc, table(tables, which)) else {
-                return false;
-            };
-            if place >= text.len() {
-                return false;
+        Step::Damaged(which, places, answer) => match damaged(alloc, table(tables, which), places) {
+            Some(text) => is_read(alloc, text.as_slice()) == Some(answer),
+            None => false,
+        },
+        Step::DamagedKnows(which, places, src, seq, now) => {
+            let table = table(tables, which);
+            match damaged(alloc, table, places) {
+                Some(text) => was_handed_up(alloc, text.as_slice(), table.width(), src, seq, now),
+                None => false,
             }
-            text[place] = octet;
-            is_read(alloc, text.as_slice()) == Some(answer)
         }
         Step::Resized(which, len, answer) => {
             let Some(mut text) = text_of(alloc, table(tables, which)) else {

@@ -9,5 +9,5 @@ returns-clause-joins g c =
     let one = live_at c.args.now c.args.table.now.sources in
     let all = live_at c.args.now c.args.other.now.sources in
     let aged = c.age-forgotten.ensures.sources ∙ ap (live_at c.args.now) c.in_ok-both.ensures.sources in
-    let is = c.release.ensures.sources ∙ c.in_ok-take_all.ensures.joined ∙ ap (λ s. with_sources (64 * g.row.N) s all) aged in
+    let is = c.in_ok-hold_as.ensures.sources ∙ c.in_ok-take_all.ensures.joined ∙ ap (λ s. with_sources (64 * g.row.N) s all) aged in
     subst (IsJoin (64 * g.row.N) one all) (sym is) (with-is-join (64 * g.row.N) one all (distinct-live c.args.now c.args.other.now.sources c.requires.unique))

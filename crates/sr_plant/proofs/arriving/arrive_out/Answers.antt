@@ -1,4 +1,5 @@
 use Rattle.std.proofs.Common.{ℕ, List, subst}
+use Rattle.sr_node.specs.Arriving.{arrival_answer}
 use Rattle.sr_node.specs.Images.{node_state, time_at}
 use Rattle.sr_node.specs.Octets.{OctetsRefused}
 use Rattle.sr_plant.specs.PortFramings.{framed}
@@ -26,4 +27,4 @@ pub take_out-requires-clause-few : goal.take_out-requires-clause-few
 take_out-requires-clause-few g c =
     let s = node_state (g.R.Role.meaning c.args.node.now.role) c.args.node.now.core in
     let o = c.in_default.ensures.ok in
-    arrived_few s c.args.arriving.now.port o.0 (time_at s c.args.now) c.in_default.field-0 (node_state (g.R.Role.meaning c.arrive.new.node.role) c.arrive.new.node.core) c.requires o.3
+    arrived_few s c.args.arriving.now.port o.0 (time_at s c.args.now) (arrival_answer c.in_default.field-0) (node_state (g.R.Role.meaning c.arrive.new.node.role) c.arrive.new.node.core) c.requires o.3

@@ -1,5 +1,6 @@
 use Rattle.std.proofs.Common.{[], inl, inr, refl, sym}
 use Rattle.std.proofs.lemmas.List.{append-nil}
+use Rattle.sr_node.specs.Arriving.{arrival_answer}
 use Rattle.std.proofs.lemmas.Result.{on_ok_weaker}
 use Rattle.sr_script.specs.Texts.{refusal_line}
 use Rattle.sr_script.proofs.answering.obey_arrival.Goals.{in-Ok, in-Err}
@@ -7,7 +8,7 @@ use Rattle.sr_script.proofs.answering.obey_arrival.Goals as goal
 
 pub returns-clause-ok : goal.returns-clause-ok
 returns-clause-ok g c = elim c.match-arrive.branch [
-  | in-Ok w ↦ rw (w.result-is, w.text-is) ([], inl (w.in-Ok.field-0, w.in-Ok.ensures.taken, refl), sym (append-nil c.args.text.now))
+  | in-Ok w ↦ rw (w.result-is, w.text-is) ([], inl (arrival_answer w.in-Ok.field-0, w.in-Ok.ensures.taken, refl), sym (append-nil c.args.text.now))
   | in-Err w ↦
       rw (w.result-is, w.text-is) (on_ok_weaker w.tell_refusal.result
       (λ told. (

@@ -1,5 +1,6 @@
 use Rattle.std.proofs.Common.{[], inl, inr, refl, sym}
 use Rattle.std.proofs.lemmas.List.{append-nil}
+use Rattle.sr_node.specs.Arriving.{arrival_answer}
 use Rattle.std.proofs.lemmas.Result.{on_ok_weaker}
 use Rattle.sr_script.specs.Texts.{refusal_line}
 use Rattle.sr_script.proofs.tallying.count_arrival.Goals.{in-Ok, in-Err}
@@ -10,7 +11,7 @@ returns-clause-ok g c = elim c.match-arrive.branch [
   | in-Ok w ↦
       rw (w.result-is, w.text-is, w.counts-is) (
         [],
-        inl (w.in-Ok.field-0, w.in-Ok.ensures.taken, refl),
+        inl (arrival_answer w.in-Ok.field-0, w.in-Ok.ensures.taken, refl),
         inl (refl, w.count_taken.ensures),
         sym (append-nil c.args.text.now),
       )

@@ -1,10 +1,9 @@
 use Rattle.std.proofs.Common.{◌≡◌, ◌∙◌, sym, ap, refl, None, false, is_some, arith, length, ◌+◌}
-use Rattle.std.specs.List.{list_any}
 use Rattle.std.specs.Map.{lookup}
 use Rattle.sr_frame.specs.Addresses.{mac_eq}
 use Rattle.sr_slots.specs.Places.{entries_of, entries_from, held_of, slot_of}
 use Rattle.sr_slots.specs.EntryLemmas.{one_if}
-use Rattle.sr_slots.proofs.PlaceLemmas.{entries-set_same, length-held-set, held-set_others, held-set_free, held_absent, value_in}
+use Rattle.sr_slots.proofs.PlaceLemmas.{entries-set_same, length-held-set, given_up, none_left_out, held_absent, value_in}
 use Rattle.sr_slots.proofs.FromLemmas.{from-set_same}
 use Rattle.sr_slots.proofs.holding.give_up.Goals as goal
 
@@ -17,8 +16,8 @@ returns-in-Some-clause-entries g c =
 pub returns-in-Some-clause-held : goal.returns-in-Some-clause-held
 returns-in-Some-clause-held g c =
     let left = slot_of c.in-Some.slot.now.value false in
-    ap (λ l. list_any (mac_eq c.args.key) (held_of l)) (c.get_mut.follows.holds left).0
-    ∙ held-set_free c.args.key left c.args.map.now.entries c.len-places.ensures.unique refl (sym (ap is_some c.in-Some.ensures.value))
+    ap held_of (c.get_mut.follows.holds left).0
+    ∙ given_up c.args.key left c.args.map.now.entries c.len-places.ensures.unique refl (sym (ap is_some c.in-Some.ensures.value))
 
 pub returns-in-Some-clause-len : goal.returns-in-Some-clause-len
 returns-in-Some-clause-len g c =
@@ -27,16 +26,10 @@ returns-in-Some-clause-len g c =
     ∙ length-held-set c.args.key c.in-Some.slot.now left c.args.map.now.entries (sym c.in-Some.ensures.value)
     ∙ omega arith
 
-pub returns-in-Some-clause-others : goal.returns-in-Some-clause-others
-returns-in-Some-clause-others g c other apart =
-    let left = slot_of c.in-Some.slot.now.value false in
-    ap (λ l. list_any (mac_eq other) (held_of l)) (c.get_mut.follows.holds left).0
-    ∙ held-set_others c.args.key left c.args.map.now.entries other apart
-
 pub returns-in-None-clause-held : goal.returns-in-None-clause-held
 returns-in-None-clause-held g c =
     let absent : lookup (mac_eq c.args.key) c.args.map.now.entries ≡ None = sym c.in-None.ensures.value in
-    grind (arith, held_absent c.args.key c.args.map.now.entries absent, c.get_mut.follows.holds-at-none)
+    grind (arith, none_left_out c.args.key (held_of c.args.map.now.entries) (held_absent c.args.key c.args.map.now.entries absent), c.get_mut.follows.holds-at-none)
 
 pub returns-in-Some-clause-from : goal.returns-in-Some-clause-from
 returns-in-Some-clause-from g c n =

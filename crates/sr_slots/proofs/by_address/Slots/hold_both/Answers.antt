@@ -1,20 +1,23 @@
-use Rattle.std.proofs.Common.{◌∙◌, sym, ap, subst, rules}
-use Rattle.std.specs.List.{list_any}
-use Rattle.sr_frame.specs.Addresses.{mac_eq}
-use Rattle.sr_slots.specs.Places.{KeepsHeld}
-use Rattle.sr_slots.proofs.PlaceLemmas.{given_back, held_still}
+use Rattle.std.proofs.Common.{◌≡◌, ◌∙◌, sym, ap, rules}
+use Rattle.sr_slots.specs.Places.{Places, held_but}
+use Rattle.sr_slots.proofs.PlaceLemmas.{given_back}
 use Rattle.sr_slots.proofs.by_address.Slots.hold_both.Goals as goal
+
+same : {V : Type 0} (t u : Places V) → t.entries ≡ u.entries → t.held ≡ u.held → t ≡ u
+same t u entries held = λ j. record { entries = entries j; held = held j }
 
 pub returns-then-newly-clause-err : goal.returns-then-newly-clause-err
 returns-then-newly-clause-err g c =
-    let first = subst (λ t. KeepsHeld c.args.self.now.held t.held c.args.key) (sym c.in-Err.ensures.err) c.in_ok-newly.ensures.others in
-    given_back c.args.self.now.held c.hold.new.self.held c.give_up.new.self.held c.args.key (sym c.if-newly.true ∙ c.in_ok-newly.ensures.newly) first c.give_up.ensures.others c.give_up.ensures.held
+    let key = c.args.key in
+    let was = c.in-Err.ensures.err in
+    let rest = ap (λ t. held_but t.held key) was ∙ c.in_ok-newly.ensures.rest in
+    let held = given_back c.args.self.now.held c.hold.new.self.held c.give_up.new.self.held key (sym c.if-newly.true ∙ c.in_ok-newly.ensures.newly) rest c.give_up.ensures.held in
+    same c.give_up.new.self c.args.self.now (c.give_up.ensures.entries ∙ ap (λ t. t.entries) was ∙ c.in_ok-newly.ensures.entries) held
 
 pub returns-else-newly-clause-err : goal.returns-else-newly-clause-err
 returns-else-newly-clause-err g c =
-    let first = subst (λ t. KeepsHeld c.args.self.now.held t.held c.args.key) (sym c.in-Err.ensures.err) c.in_ok-newly.ensures.others in
-    let held = ap (λ t. list_any (mac_eq c.args.key) t.held) c.in-Err.ensures.err ∙ c.in_ok-newly.ensures.held in
-    held_still c.args.self.now.held c.hold.new.self.held c.args.key (sym c.if-newly.false ∙ c.in_ok-newly.ensures.newly) first held
+    let was = c.in-Err.ensures.err in
+    same c.hold.new.self c.args.self.now (ap (λ t. t.entries) was ∙ c.in_ok-newly.ensures.entries) (ap (λ t. t.held) was ∙ c.in_ok-newly.ensures.still c.if-newly.false)
 
 pub returns-in-Ok-clause-held : goal.returns-in-Ok-clause-held
 returns-in-Ok-clause-held g c = search rules

@@ -1,6 +1,6 @@
 use Rattle.std.proofs.Common.{◌<◌, length, arith}
-use Rattle.sr_plant_script.proofs.UpLines.{empty_more}
-use Rattle.sr_plant_script.proofs.network.empty_all.Goals as goal
+use Rattle.sr_plant.proofs.EmptyLemmas.{empty_more}
+use Rattle.sr_plant.proofs.plant.empty_all.Goals as goal
 
 pub loop-list-preserved : goal.loop-list-preserved
 loop-list-preserved c =

@@ -1,5 +1,5 @@
 use Rattle.std.proofs.Common.{◌≡◌, take, map, replicate, []}
-use Rattle.sr_plant_script.proofs.network.empty_all.Given as goal
+use Rattle.sr_plant.proofs.plant.empty_all.Given as goal
 
 -- those that were passed are empty
 abbrev pub invariant-loop-list : goal.invariant-loop-list

@@ -1,0 +1,142 @@
+//! The options of a node: of `replay` and `status`.
+
+ghost use Rattle.std.specs.Prelude.{◌<◌, ◌≤◌};
+
+use crate::address::mac_of;
+use crate::command_line::{Words, settings_of, with_arg, with_settings};
+use crate::refusal::Refused;
+use clap::{Arg, ArgAction, ArgMatches, Command};
+use sr_prp_trailer::Lan;
+use sr_script::{PrpRouting, RoleName, Setup};
+use sr_slots::Keys;
+use std::alloc::{AllocError, Global};
+
+/// The role of a node: `--role danp|danh|san|prp|hsr`.
+fn role_option<'a>(alloc: Global, words: &'a Words<'a>) -> Arg<'a> {
+    Arg::new(alloc, "role")
+        .long("role")
+        .required(true)
+        .value_name("ROLE")
+        .value_parser(words.roles())
+        .help("The role of the node")
+}
+
+/// Its address: `--mac M`.
+fn mac_option<'a>(alloc: Global) -> Arg<'a> {
+    Arg::new(alloc, "mac")
+        .long("mac")
+        .required(true)
+        .value_name("MAC")
+        .help(
+            "The address of the node: 020000000001 or 02:00:00:00:00:01, not one that sends in the captures",
+        )
+}
+
+/// The LAN at its interlink: `[--lan a|b]`.
+fn lan_option<'a>(alloc: Global, words: &'a Words<'a>) -> Arg<'a> {
+    Arg::new(alloc, "lan")
+        .long("lan")
+        .default_value("a")
+        .value_name("LAN")
+        .value_parser(words.lans())
+        .help("The LAN at the interlink, of role prp")
+}
+
+/// The network at its interlink: `[--net 1..6]`.
+fn net_option<'a>(alloc: Global) -> Arg<'a> {
+    Arg::new(alloc, "net")
+        .long("net")
+        .default_value("1")
+        .value_name("1..6")
+        .value_parser(clap::value_parser!(u8).range(1..=6))
+        .help("The number of the PRP network at the interlink, of role prp")
+}
+
+/// Whether the end of a status has counts: `[--counters]`.
+pub fn counters_option<'a>(alloc: Global) -> Arg<'a> {
+    Arg::new(alloc, "counters")
+        .long("counters")
+        .action(ArgAction::SetTrue)
+        .help("Ends with the frames that came in at each port, and those that were refused")
+}
+
+/// A subcommand that runs a script on a node.
+pub fn node_command<'a>(
+    alloc: Global,
+    words: &'a Words<'a>,
+    name: &'a str,
+    about: &'a str,
+    examples: &'a str,
+) -> Result<Command<'a>, AllocError> {
+    let command = Command::new(alloc, name).about(about).after_help(examples);
+    let command = with_arg(Ok(command), role_option(alloc, words));
+    let command = with_arg(command, mac_option(alloc));
+    let command = with_arg(command, lan_option(alloc, words));
+    let command = with_arg(command, net_option(alloc));
+    with_settings(alloc, command, words)
+}
+
+/// The number of a network, of a word that the parser let through.
+fn net_of(word: &str) -> u8
+    ensures least { 0 < result }
+    ensures most { result ≤ 6 }
+{
+    match word.parse::<u8>() {
+        Ok(net) => net.clamp(1, 6),
+        Err(_) => 1,
+    }
+}
+
+/// The network at the interlink.
+fn network_of(node: &ArgMatches<'_>) -> PrpRouting {
+    let lan = match node.get_str("lan") {
+        Some("b") => Lan::B,
+        _ => Lan::A,
+    };
+    let net = node.get_str("net").map_or(1, net_of);
+    PrpRouting { lan, net }
+}
+
+/// The role that the parser let through.
+fn role_of(node: &ArgMatches<'_>) -> RoleName {
+    match node.get_str("role") {
+        Some("danh") => RoleName::Danh,
+        Some("san") => RoleName::San,
+        Some("prp") => RoleName::Prp(network_of(node)),
+        Some("hsr") => RoleName::Hsr,
+        _ => RoleName::Danp,
+    }
+}
+
+/// The node that a subcommand's options name, under fixed keys.
+pub fn setup_of(node: &ArgMatches<'_>) -> Result<Setup, Refused> {
+    match node.get_str("mac").and_then(mac_of) {
+        Some(mac) => Ok(Setup {
+            role: role_of(node),
+            mac,
+            settings: settings_of(node),
+            keys: Keys::FIXED,
+        }),
+        None => Err(Refused::Mac),
+    }
+}
+
+/// What is printed of a node that a script is run on.
+#[derive(Clone, Copy)]
+pub enum Report {
+    /// The frames that it hands out.
+    Frames,
+    /// What it knows of other nodes at the end.
+    Status,
+    /// What it knows of other nodes at the end, and what was counted.
+    Tally,
+}
+
+/// What the subcommand `status` reports.
+pub fn report_of(status: &ArgMatches<'_>) -> Report {
+    if status.get_flag("counters") {
+        Report::Tally
+    } else {
+        Report::Status
+    }
+}
