@@ -4,7 +4,8 @@ use crate::digest::Digest;
 use crate::scripts::settings_of;
 use bitflags::Flags;
 use sr_forwarding::{
-    Danh, Danp, Framing, HsrFraming, Parcel, PlainFraming, PrpFraming, ReadFault, Role, RoleKind,
+    Danh, Danp, Framing, HsrFraming, Outlets, Parcel, PlainFraming, PrpFraming, ReadFault, Role,
+    RoleKind,
 };
 use sr_frame::{Frame, FrameFault, Mac, Port};
 use sr_node::{Answer, Event, Node, StepFault};
@@ -75,7 +76,7 @@ fn put_answer(digest: &mut Digest, answer: &Answer) {
         Answer::Own => digest.put_octet(1),
         Answer::Passed(ports) => {
             for port in ports.as_slice() {
-                digest.put_octet(0x10 | *port as u8);
+                digest.put_octet(0x10 | Outlets::only(*port).bits());
             }
         }
         Answer::Sent(seq) => digest.put_number(u64::from(seq.0)),
