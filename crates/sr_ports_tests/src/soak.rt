@@ -6,7 +6,7 @@ ghost use Rattle.std.specs.Prelude.{◌≡◌};
 
 use super::draws::{Draw, Drawing, event_of};
 use super::frames::OWN;
-use sr_forwarding::{Outlets, Role};
+use sr_forwarding::Role;
 use sr_frame::{NoMemory, Port};
 use sr_node::{Answer, NodeImage, NodeOf, StepFault};
 use sr_ports::{EnterFault, Kept, Pass, SharedNode, enter, rotate};
@@ -38,10 +38,10 @@ struct End {
     image: NodeImage,
 }
 
-fn outlets_mark(outlets: Outlets) -> u64 {
+fn ports_mark(ports: &[Port]) -> u64 {
     let mut mark = 0u64;
     for port in [Port::H, Port::A, Port::B, Port::C] {
-        mark = mark.wrapping_mul(2).wrapping_add(outlets.has(port) as u64);
+        mark = mark.wrapping_mul(2).wrapping_add(ports.contains(&port) as u64);
     }
     mark
 }
@@ -56,7 +56,7 @@ fn number_mark(seq: Option<Seq>) -> u64 {
 fn answer_mark(answer: &Answer) -> u64 {
     match answer {
         Answer::Own => 1,
-        Answer::Passed(outlets) => outlets_mark(*outlets).wrapping_add(2),
+        Answer::Passed(ports) => ports_mark(ports.as_slice()).wrapping_add(2),
         Answer::Sent(seq) => number_mark(Some(*seq)).wrapping_add(100),
         Answer::Ticked { sources, life, .. } => {
             (*sources as u64).wrapping_add(number_mark(*life))
