@@ -49,7 +49,7 @@ fn took(parcel: &Parcel) -> Outcome {
 
 fn said(answer: &Answer) -> Outcome {
     match answer {
-        Answer::Passed(ports) if ports.as_slice() == [Port::H] => Outcome::Up,
+        Answer::Passed(ports) if matches!(ports.as_slice(), [Port::H]) => Outcome::Up,
         Answer::Ticked { life, .. } => match life {
             Some(Seq(seq)) => Outcome::Lived(*seq),
             None => Outcome::Ticked,
