@@ -63,3 +63,28 @@ pub fn in_ring(alloc: Global, port: Port, dst: Mac, seq: u16) -> Result<Parcel, 
         HsrFraming { path: 0 }.decode(alloc, &tagged(dst, 0, seq))
     }
 }
+
+// The addresses at the front of a frame.
+fn addresses_of(src: Mac, dst: Mac) -> [u8; 12] {
+    let Mac([d0, d1, d2, d3, d4, d5]) = dst;
+    let Mac([s0, s1, s2, s3, s4, s5]) = src;
+    [d0, d1, d2, d3, d4, d5, s0, s1, s2, s3, s4, s5]
+}
+
+/// A frame of these addresses, with the tag of this path and number, which ends with zeros. 0x34 is the size of 52 octets from the
+/// tag on.
+pub fn tagged_from(src: Mac, dst: Mac, path: u8, seq: u16) -> [u8; 66] {
+    let [high, low] = seq.to_be_bytes();
+    let mut octets = [0; 66];
+    octets[..12].copy_from_slice(&addresses_of(src, dst));
+    octets[12..20].copy_from_slice(&[0x89, 0x2f, path << 4, 0x34, high, low, 8, 0]);
+    octets
+}
+
+/// A frame of these addresses without a tag, which ends with zeros.
+pub fn plain_from(src: Mac, dst: Mac) -> [u8; 60] {
+    let mut octets = [0; 60];
+    octets[..12].copy_from_slice(&addresses_of(src, dst));
+    octets[12] = 8;
+    octets
+}

@@ -1,6 +1,8 @@
 //! The tests of wires and of threaded networks.
 #![tactic(auto)]
 
+#[cfg(test)]
+mod anew;
 pub mod host;
 #[cfg(test)]
 mod networks;

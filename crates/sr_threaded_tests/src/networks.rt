@@ -30,6 +30,17 @@ pub(super) enum Step {
     Refused(ThreadedNet, u8),
 }
 
+/// How the hosts of the first two nodes wait for each other in their first turn, and whether one did in vain.
+#[derive(Drop)]
+pub(super) struct Meeting {
+    // How often a host looks; a host that never looks does not wait.
+    looks: u64,
+    // How many hosts were asked.
+    asked: Arc<AtomicU64>,
+    // How many waited in vain.
+    missed: Arc<AtomicU64>,
+}
+
 const GROUP_FRAME: [u8; 15] = [
     0xff, 0xff, 0xff, 0xff, 0xff, 0xff, 2, 0, 0, 0, 0, 0, 0x88, 0xb5, 1,
 ];
@@ -44,14 +55,20 @@ struct Seen {
     all: bool,
 }
 
-fn host_of(
-    alloc: Global,
-    number: u8,
-    asked: &Arc<AtomicU64>,
-    missed: &Arc<AtomicU64>,
-) -> Option<Host> {
-    let asked = Arc::try_clone(asked).ok()?;
-    let missed = Arc::try_clone(missed).ok()?;
+/// A meeting at which hosts look so often.
+pub(super) fn meeting_of(alloc: Global, looks: u64) -> Option<Meeting> {
+    let asked = Arc::new(alloc, AtomicU64::new(0)).ok()?;
+    let missed = Arc::new(alloc, AtomicU64::new(0)).ok()?;
+    Some(Meeting {
+        looks,
+        asked,
+        missed,
+    })
+}
+
+fn host_of(alloc: Global, number: u8, meeting: &Meeting) -> Option<Host> {
+    let asked = Arc::try_clone(&meeting.asked).ok()?;
+    let missed = Arc::try_clone(&meeting.missed).ok()?;
     let frame = if number == 0 {
         Some(Frame::copy(alloc, &GROUP_FRAME).ok()?)
     } else {
@@ -61,7 +78,7 @@ fn host_of(
         frame,
         asked,
         until: 2,
-        looks: if number < 2 { LOOKS } else { 0 },
+        looks: if number < 2 { meeting.looks } else { 0 },
         missed,
         begun: false,
         given: 0,
@@ -100,10 +117,9 @@ fn kit_of(
     alloc: Global,
     net: ThreadedNet,
     number: u8,
-    asked: &Arc<AtomicU64>,
-    missed: &Arc<AtomicU64>,
+    meeting: &Meeting,
 ) -> Option<NodeKit<Member, PortFraming, Host>> {
-    let feed = host_of(alloc, number, asked, missed)?;
+    let feed = host_of(alloc, number, meeting)?;
     let (a, b) = framings_of(net);
     let role = OwnRole::of(Mac([2, 0, 0, 0, 0, number]), routing_of(net));
     match NodeOf::new(alloc, role) {
@@ -118,16 +134,16 @@ fn kit_of(
     }
 }
 
-fn kits_of(
+/// What so many nodes begin with, of which the first sends a frame. None where an allocation failed.
+pub(super) fn kits_of(
     alloc: Global,
     net: ThreadedNet,
     count: u8,
-    asked: &Arc<AtomicU64>,
-    missed: &Arc<AtomicU64>,
+    meeting: &Meeting,
 ) -> Option<Vec<NodeKit<Member, PortFraming, Host>>> {
     let mut kits = Vec::new(alloc);
     for number in 0..count {
-        match kit_of(alloc, net, number, asked, missed) {
+        match kit_of(alloc, net, number, meeting) {
             Some(kit) => kits.push(kit).ok()?,
             None => return None,
         }
@@ -219,7 +235,8 @@ fn look_at(
     }
 }
 
-fn run_kits<W: Threads + Wait + Sync>(
+/// Runs what nodes begin with for so many turns.
+pub(super) fn run_kits<W: Threads + Wait + Sync>(
     rt: &W,
     alloc: Global,
     net: ThreadedNet,
@@ -240,12 +257,11 @@ fn run<W: Threads + Wait + Sync>(
     count: u8,
     turns: u64,
 ) -> Option<Result<Seen, NetworkFault>> {
-    let asked = Arc::new(alloc, AtomicU64::new(0)).ok()?;
-    let missed = Arc::new(alloc, AtomicU64::new(0)).ok()?;
-    match kits_of(alloc, net, count, &asked, &missed) {
+    let meeting = meeting_of(alloc, LOOKS)?;
+    match kits_of(alloc, net, count, &meeting) {
         Some(kits) => {
             let seen = look_at(run_kits(rt, alloc, net, kits, turns), turns);
-            if missed.load(Ordering::SeqCst) > 0 {
+            if meeting.missed.load(Ordering::SeqCst) > 0 {
                 return None;
             }
             Some(seen)
