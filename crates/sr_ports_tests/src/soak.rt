@@ -41,7 +41,9 @@ struct End {
 fn ports_mark(ports: &[Port]) -> u64 {
     let mut mark = 0u64;
     for port in [Port::H, Port::A, Port::B, Port::C] {
-        mark = mark.wrapping_mul(2).wrapping_add(ports.contains(&port) as u64);
+        mark = mark
+            .wrapping_mul(2)
+            .wrapping_add(ports.contains(&port) as u64);
     }
     mark
 }
