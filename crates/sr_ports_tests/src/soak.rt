@@ -183,21 +183,18 @@ fn image_of<R: Role, L: Ledger, W: Wait>(rt: &W, shared: &SharedNode<R, L>) -> O
     shared.kept.lock(rt).node.image().ok()
 }
 
-fn shared_end<R: Role, L: Ledger, W: Wait>(
+// What the shared node answered. None where the pass counted otherwise.
+fn told_by_shared<R: Role, L: Ledger, W: Wait>(
     rt: &W,
     alloc: Global,
     shared: &SharedNode<R, L>,
     pass: Pass<L>,
-) -> Option<End> {
+) -> Option<Told> {
     let mut pass = pass;
     let told = enter_all(rt, alloc, shared, &mut pass);
     let is_counted = pass.count() == told.taken;
     drop(pass);
-    let image = match image_of(rt, shared) {
-        Some(image) => image,
-        None => image_of(rt, shared)?,
-    };
-    is_counted.then_some(End { told, image })
+    is_counted.then_some(told)
 }
 
 fn are_equal(shared: &End, plain: &End) -> bool {
@@ -205,25 +202,31 @@ fn are_equal(shared: &End, plain: &End) -> bool {
 }
 
 // Whether both came to an end, and are equal.
-fn is_right(shared: Option<End>, plain: Option<End>) -> bool {
-    let Some(shared) = shared else {
+fn is_right(told: Option<Told>, image: Option<NodeImage>, plain: Option<End>) -> bool {
+    let (Some(told), Some(image)) = (told, image) else {
         return false;
     };
     match plain {
-        Some(plain) => are_equal(&shared, &plain),
+        Some(plain) => are_equal(&End { told, image }, &plain),
         None => false,
     }
 }
 
-// The plain node is on the thread that is started, so that none of its allocations is refused.
+// The plain node is on the thread that is started, so that none of its allocations is refused. So is the image of the shared node:
+// that of a full table takes more allocations than lie between two that are refused.
 fn both<L: Ledger + Send + Sync, W: Threads + Wait + Sync>(
     rt: &W,
     alloc: Global,
     shared: &SharedNode<SanBox, L>,
     pass: Pass<L>,
 ) -> bool {
-    let (plain, shared) = join(rt, || plain(alloc), || shared_end(rt, alloc, shared, pass));
-    is_right(shared, plain)
+    let (plain, told) = join(
+        rt,
+        || plain(alloc),
+        || told_by_shared(rt, alloc, shared, pass),
+    );
+    let (image, ()) = join(rt, || image_of(rt, shared), || ());
+    is_right(told, image, plain)
 }
 
 fn soaked<L: Ledger + Send + Sync, W: Threads + Wait + Sync>(

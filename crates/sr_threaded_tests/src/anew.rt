@@ -15,12 +15,12 @@ use std::thread::Threads;
 // How many turns each worker makes.
 const TURNS: u64 = 20;
 
-// Whether workers stopped for want of memory alone, if at all.
+// Whether workers stopped for want of memory alone, if at all: their own, or that of a line, which is a fault of the feed.
 fn are_whole_but_for_memory(ends: &[LineEnd<Host>]) -> bool {
     for end in ends {
         match end.fault {
-            None | Some(WorkerFault::NoMemory) => {}
-            Some(_) => return false,
+            None | Some(WorkerFault::NoMemory | WorkerFault::FeedFault) => {}
+            Some(WorkerFault::JournalFull) => return false,
         }
     }
     ends.len() == 3
