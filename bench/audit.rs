@@ -6,7 +6,7 @@ use std::io::{self, BufReader, BufWriter, Read, Write};
 
 const WINDOW: usize = 1024;
 const EPOCH_GAP: u64 = 400_000_000;
-const MOST_SOURCES: usize = 1024;
+const MAX_SOURCES: usize = 1024;
 const BOUNDS: [u64; 6] = [10_000, 100_000, 1_000_000, 10_000_000, 100_000_000, 400_000_000];
 
 struct Capture {
@@ -220,7 +220,7 @@ fn main() -> io::Result<()> {
                 let src: [u8; 6] = octets[6..12].try_into().unwrap();
                 let place = match places.get(&src) {
                     Some(place) => *place,
-                    None if sources.len() < MOST_SOURCES => {
+                    None if sources.len() < MAX_SOURCES => {
                         places.insert(src, sources.len());
                         sources.push((src, Source::new()));
                         sources.len() - 1

@@ -164,7 +164,7 @@ WIRE_NUMBERS = {4095, 4096, 32767, 32768, 65535, 65536}
 # Where a number stands that is a limit, and stays: it is the definition's own subject, or a case that is worked out.
 SPELLED = {
     "crates/sr_frame/specs/Frame.antt": {1524},  # a frame's longest, which all else is counted from
-    "crates/sr_dup_window/specs/Spots.antt": {1024, 2048},  # the widths of a record
+    "crates/sr_dup_window/specs/Bins.antt": {1024, 2048},  # the widths of a record
     "crates/sr_dup_runs/specs/TableRuns.antt": {65534, 65537},  # numbers that come round
     "crates/sr_slots/specs/Calls.antt": {18446744073709551615},  # the greatest of 64 bits
 }

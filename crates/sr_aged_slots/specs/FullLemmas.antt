@@ -29,8 +29,8 @@ use Rattle.std.proofs.Common.{
 use Rattle.std.specs.Map.{lookup}
 use Rattle.std.proofs.lemmas.Bool.{ltb-true, ltb-false, le-ltb}
 use Rattle.sr_frame.specs.declared.fields.Mac.{Mac}
-use Rattle.sr_frame.specs.declared.learnt.Learnt.{Learnt}
-use Rattle.sr_frame.specs.declared.learnt.Learnt.TheVariants.{Learned, Known, Full}
+use Rattle.sr_frame.specs.declared.learn_outcome.LearnOutcome.{LearnOutcome}
+use Rattle.sr_frame.specs.declared.learn_outcome.LearnOutcome.TheVariants.{New, Known, Full}
 use Rattle.sr_frame.specs.Addresses.{mac_eq}
 use Rattle.sr_aged_slots.specs.declared.aged.Aged.{Aged}
 use Rattle.sr_aged_slots.specs.Ages.{is_recent, live_at, with_room}
@@ -40,7 +40,7 @@ abbrev Entries : Type 0 → Type 0
 Entries V = List (Mac × Aged V)
 
 -- an address that has an entry is kept
-pub kept_again : (b : Bool) → cond b Known Learned ≡ Full → ⊥
+pub kept_again : (b : Bool) → cond b Known New ≡ Full → ⊥
 kept_again true h = cc
 kept_again false h = cc
 
@@ -83,17 +83,17 @@ module _ {V : Type 0} (span most : ℕ) (m : Mac) (now : ℕ) where
 
   -- a new address finds no room exactly where as many as may be are live
   room_where : (es l : Entries V) → length es ≤ most → length l ≤ length es
-      → ((cond (nat_lt (length (cond (nat_lt (length es) most) es l)) most) Learned Full ≡ Full) → length l ≡ most)
-      × (length l ≡ most → cond (nat_lt (length (cond (nat_lt (length es) most) es l)) most) Learned Full ≡ Full)
+      → ((cond (nat_lt (length (cond (nat_lt (length es) most) es l)) most) New Full ≡ Full) → length l ≡ most)
+      × (length l ≡ most → cond (nat_lt (length (cond (nat_lt (length es) most) es l)) most) New Full ≡ Full)
   room_where es l few le = by (nat_lt (length es) most) refl
     where
-      full : (b : Bool) → cond b Learned Full ≡ Full → b ≡ false
+      full : (b : Bool) → cond b New Full ≡ Full → b ≡ false
       full true h = cc
       full false h = refl
 
       by : (b : Bool) → nat_lt (length es) most ≡ b
-          → ((cond (nat_lt (length (cond b es l)) most) Learned Full ≡ Full) → length l ≡ most)
-          × (length l ≡ most → cond (nat_lt (length (cond b es l)) most) Learned Full ≡ Full)
+          → ((cond (nat_lt (length (cond b es l)) most) New Full ≡ Full) → length l ≡ most)
+          × (length l ≡ most → cond (nat_lt (length (cond b es l)) most) New Full ≡ Full)
       by true t = (
         λ h. let a : length es < most = ltb-true (length es) most t in let b : most ≤ length es = ltb-false (length es) most
             (full (nat_lt (length es) most) h) in absurd (omega arith),
@@ -101,13 +101,13 @@ module _ {V : Type 0} (span most : ℕ) (m : Mac) (now : ℕ) where
       )
       by false t = (
         λ h. let b : most ≤ length l = ltb-false (length l) most (full (nat_lt (length l) most) h) in omega arith,
-        λ h. ap (λ b. cond b Learned Full) (le-ltb (length l) most (omega arith)),
+        λ h. ap (λ b. cond b New Full) (le-ltb (length l) most (omega arith)),
       )
 
   -- where an address that has an entry is kept, and any other finds room or not, it is answered Full exactly where `most` others
   -- are live
-  pub full_where : (es : Entries V) (answer : Option (Aged V) → Learnt) → ((e : Aged V) → answer (Some e) ≡ Full → ⊥)
-      → answer None ≡ cond (nat_lt (length (with_room span most now es)) most) Learned Full → length es ≤ most
+  pub full_where : (es : Entries V) (answer : Option (Aged V) → LearnOutcome) → ((e : Aged V) → answer (Some e) ≡ Full → ⊥)
+      → answer None ≡ cond (nat_lt (length (with_room span most now es)) most) New Full → length es ≤ most
       → (answer (lookup (mac_eq m) es) ≡ Full → length (others es) ≡ most)
       × (length (others es) ≡ most → answer (lookup (mac_eq m) es) ≡ Full)
   full_where es answer kept room few = by (lookup (mac_eq m) es) refl

@@ -12,7 +12,7 @@ ghost use Rattle.sr_aged_slots.specs.Ages.{is_recent, live_at, with_room, oldest
 
 use crate::aged::{Aged, is_recent};
 use sr_frame::{Mac, NoMemory};
-use sr_slots::{Iter, Keys, Slots, Spot};
+use sr_slots::{Hint, Iter, Keys, Slots};
 use std::alloc::Global;
 use std::marker::Model;
 
@@ -169,33 +169,33 @@ impl<V: Drop, const SPAN: u64, const MOST: usize> AgedSlots<V, SPAN, MOST> {
 
     /// The value of an address, forgotten or not, and where it is.
     #[inline(always)]
-    pub fn find(&self, key: Mac) -> Option<(Spot, &Aged<V>)>
+    pub fn find(&self, key: Mac) -> Option<(Hint, &Aged<V>)>
         ensures value { option_map (λ found. found.1.now) result ≡ value_at self.now key }
         ensures few { length self.now.entries ≤ MOST }
     {
         self.slots.find(key)
     }
 
-    /// The value of an address, forgotten or not, which is looked for at a spot first, and where it is.
+    /// The value of an address, forgotten or not, which is looked for first where a hint says, and where it is.
     #[inline(always)]
-    pub fn find_at(&self, spot: Option<Spot>, key: Mac) -> Option<(Spot, &Aged<V>)>
+    pub fn find_at(&self, hint: Option<Hint>, key: Mac) -> Option<(Hint, &Aged<V>)>
         ensures { option_map (λ found. found.1.now) result ≡ value_at self.now key }
     {
-        self.slots.find_at(spot, key)
+        self.slots.find_at(hint, key)
     }
 
-    /// The value of an address, forgotten or not, which is looked for at a spot first.
-    pub fn get_at(&self, spot: Option<Spot>, key: Mac) -> Option<&Aged<V>>
+    /// The value of an address, forgotten or not, which is looked for first where a hint says.
+    pub fn get_at(&self, hint: Option<Hint>, key: Mac) -> Option<&Aged<V>>
         ensures value { option_copied result ≡ value_at self.now key }
     {
-        self.slots.get_at(spot, key)
+        self.slots.get_at(hint, key)
     }
 
-    /// Changes the value of an address in its place, which is looked for at a spot first, and answers what the change answers.
+    /// Changes the value of an address in its place, which is looked for first where a hint says, and answers what the change answers.
     /// No value may become older. None: the address has no value, and nothing changes.
     pub fn update_at<R: Drop, F: FnOnce(&mut Aged<V>) -> R>(
         &mut self,
-        spot: Option<Spot>,
+        hint: Option<Hint>,
         key: Mac,
         change: F,
     ) -> Option<R>
@@ -211,7 +211,7 @@ impl<V: Drop, const SPAN: u64, const MOST: usize> AgedSlots<V, SPAN, MOST> {
         ensures few { length self.old.entries ≤ MOST }
     {
         let (answer, before) = self.slots.update_at(
-            spot,
+            hint,
             key,
             |entry: &mut Aged<V>| -> (R, u64)
                 requires { F.IsAlwaysCallable change }

@@ -9,7 +9,7 @@ use sr_slots::{Iter, Keys, Slots};
 use std::alloc::Global;
 
 /// How many sources have figures (choice of this project).
-pub const MOST_SOURCES: usize = 1024;
+pub const MAX_SOURCES: usize = 1024;
 
 /// The figures of two captures, source by source, in the order of first hearing. Arrivals of a source beyond the 1024th are counted.
 #[derive(Drop)]
@@ -64,7 +64,7 @@ impl Audit {
         if self.sources.get(src).is_some() {
             return Ok(true);
         }
-        if self.sources.len() >= MOST_SOURCES {
+        if self.sources.len() >= MAX_SOURCES {
             return Ok(false);
         }
         let source = Source::new(self.alloc)?;

@@ -19,7 +19,7 @@ mod tally;
 
 pub use alive::{Alive, Lives};
 pub use arrival::Arrival;
-pub use audit::{Audit, MOST_SOURCES};
+pub use audit::{Audit, MAX_SOURCES};
 pub use laws::{copies_add_up, lost_copies_add_up, numbers_add_up, sources_add_up};
 pub use listing::{Copied, LISTED_AT_ONCE, Listed, Listing};
 pub use numbers::Numbers;

@@ -1,7 +1,7 @@
 //! Frames and copies that are listed one by one, as it is decided what became of them.
 
 use crate::arrival::Arrival;
-use crate::audit::MOST_SOURCES;
+use crate::audit::MAX_SOURCES;
 use crate::look::{Look, Step};
 use crate::numbers::{KEPT_NUMBERS, Numbers};
 use crate::side::Side;
@@ -343,7 +343,7 @@ impl Listing {
     pub fn note(&mut self, x: Copied, list: &mut Vec<Listed>) -> Result<(), NoMemory> {
         if self.sources.get(x.src).is_none() {
             let rank = self.sources.len();
-            if rank >= MOST_SOURCES {
+            if rank >= MAX_SOURCES {
                 return Ok(());
             }
             let pending = Pending::new(self.alloc, self.lists(rank));

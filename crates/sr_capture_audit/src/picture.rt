@@ -14,7 +14,7 @@ use std::alloc::{AllocError, Global};
 use std::io::{BufRead, Write};
 
 /// How many sources a picture has: the first ones that are heard (choice of this project).
-const MOST_CHARTS: usize = 16;
+const MAX_CHARTS: usize = 16;
 
 /// The times of two captures together.
 fn times_of(spans: Spans) -> Times {
@@ -64,7 +64,7 @@ impl Picture {
 
     /// Makes a chart for a source, unless it has one or there are enough.
     fn make_chart(&mut self, src: Mac) -> Result<(), ScriptFault> {
-        if self.place_of(src).is_some() || self.charts.len() >= MOST_CHARTS {
+        if self.place_of(src).is_some() || self.charts.len() >= MAX_CHARTS {
             return Ok(());
         }
         let chart = Chart::new(self.alloc, src)?;

@@ -18,7 +18,7 @@ use crate::reading::packet_of;
 use sr_audit::Side;
 use sr_capture::{Extent, MAX_KEPT, Packet};
 use sr_capture_script::{Captures, Choice, Front, Inlet, ScriptFault};
-use sr_merge::{MOST_WAITING, Merge, Verdict, Waiting};
+use sr_merge::{MAX_WAITING, Merge, Verdict, Waiting};
 use sr_slots::Keys;
 use std::alloc::Global;
 use std::io::{BufRead, Write};
@@ -63,7 +63,7 @@ fn write_due<W: Write>(
             return Ok(());
         };
         let verdict = waiting.verdict(now);
-        if verdict.is_none() && merge.len() < MOST_WAITING {
+        if verdict.is_none() && merge.len() < MAX_WAITING {
             return Ok(());
         }
         output.put(waiting, verdict, writer)?;

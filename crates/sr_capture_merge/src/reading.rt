@@ -17,7 +17,7 @@ use sr_merge::{Came, FrameId, Packet};
 use sr_prp_trailer::{Lan, TRAILER_LEN};
 
 /// The octets of a type.
-const KIND_LEN: usize = 2;
+const ETHERTYPE_LEN: usize = 2;
 
 /// How many octets stand before the payload of a frame: 14, or 18 with a VLAN tag.
 fn header_len(octets: &[u8]) -> usize
@@ -36,9 +36,9 @@ fn plain_pieces<'a>(parcel: &ParcelView<'a>) -> (&'a [u8], &'a [u8])
         Form::Plain => (octets, &[]),
         Form::Prp => (&octets[..octets.len().saturating_sub(TRAILER_LEN)], &[]),
         Form::Hsr => {
-            let kind = header_len(octets).saturating_sub(KIND_LEN);
-            let front = octets.get(..kind).unwrap_or(octets);
-            let back = octets.get(kind + TAG_LEN..).unwrap_or(&[]);
+            let tag_at = header_len(octets).saturating_sub(ETHERTYPE_LEN);
+            let front = octets.get(..tag_at).unwrap_or(octets);
+            let back = octets.get(tag_at + TAG_LEN..).unwrap_or(&[]);
             (front, back)
         }
     }

@@ -4,7 +4,7 @@ use crate::audit_line::AuditTask;
 use crate::pipes::Pipe;
 use crate::progress::Progress;
 use crate::script::{Opened, open_file, tell_ended};
-use sr_audit::{LISTED_AT_ONCE, MOST_SOURCES, Span, Spans};
+use sr_audit::{LISTED_AT_ONCE, MAX_SOURCES, Span, Spans};
 use sr_capture_audit::{
     Counts, Format, Network, Ports, Report, SideCounts, Summary, figures_of, hint_of, print_lists,
     print_picture, spans_of,
@@ -155,7 +155,7 @@ fn print_all_lists<R: AllocGlobal + Eprint + Files, W: Write>(
     if !task.lists.is_some() {
         return Ok(());
     }
-    for part in 0..MOST_SOURCES / LISTED_AT_ONCE {
+    for part in 0..MAX_SOURCES / LISTED_AT_ONCE {
         let first = part * LISTED_AT_ONCE;
         if first == 0 || first < sources {
             print_lists_from(rt, task, keys, spans, first, writer)?;

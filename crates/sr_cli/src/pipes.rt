@@ -5,7 +5,7 @@ use std::alloc::{AllocError, Global};
 use std::io::{self, ErrorKind, Read, Seek, SeekFrom, Write};
 
 /// So many octets are kept: a line, its LF, and one more.
-pub const MOST_KEPT: usize = 8002;
+pub const MAX_KEPT: usize = 8002;
 
 /// What a reader gives.
 #[derive(Clone, Copy)]
@@ -30,7 +30,7 @@ pub struct Kept<R> {
 
 /// The last of these octets, as many as are kept.
 fn end_of(octets: &[u8]) -> &[u8] {
-    &octets[octets.len().saturating_sub(MOST_KEPT)..]
+    &octets[octets.len().saturating_sub(MAX_KEPT)..]
 }
 
 /// Appends octets, and lets older ones go that are more than are kept.
@@ -39,7 +39,7 @@ fn append_kept(list: &mut Vec<u8>, octets: &[u8]) {
     let over = list
         .len()
         .saturating_add(end.len())
-        .saturating_sub(MOST_KEPT);
+        .saturating_sub(MAX_KEPT);
     let gone = over.min(list.len());
     list.copy_within(gone.., 0);
     list.truncate(list.len() - gone);
@@ -56,9 +56,9 @@ impl<R: Drop> Kept<R> {
     /// Where the memory for it is refused.
     pub fn new(alloc: Global, inner: R) -> Result<Kept<R>, AllocError> {
         let mut before = Vec::new(alloc);
-        before.reserve(MOST_KEPT)?;
+        before.reserve(MAX_KEPT)?;
         let mut last = Vec::new(alloc);
-        last.reserve(MOST_KEPT)?;
+        last.reserve(MAX_KEPT)?;
         Ok(Kept {
             inner,
             source: Source::Inner,

@@ -5,7 +5,7 @@ use crate::flaws::Flaw;
 use crate::forms::{Form, NODE_FORMS, PLANT_FORMS, REDBOX_FORMS, THREAD_FORMS};
 use crate::line_flaws::{found_in, is_capture};
 use crate::node_line::Report;
-use crate::pipes::{Kept, MOST_KEPT, Pipe};
+use crate::pipes::{Kept, MAX_KEPT, Pipe};
 use crate::tails::tell_tail;
 use sr_plant_script::{PlantSetup, run_plant};
 use sr_script::{RoleName, Setup, run, run_status, run_tally};
@@ -144,7 +144,7 @@ fn ends_of<R: Read + Drop>(alloc: Global, script: &mut Script<R>) -> Result<Ends
     let coming = copied(alloc, first_line(script.buffer()))?;
     let mut tail = copied(alloc, script.get_ref().before())?;
     let given = script.get_ref().last_len();
-    let back = given.saturating_sub(script.buffer().len()).min(MOST_KEPT);
+    let back = given.saturating_sub(script.buffer().len()).min(MAX_KEPT);
     if script.seek_relative(-(back as i64)).is_ok() {
         tail.extend_from_slice(script.buffer().get(..back).unwrap_or(&[]))?;
     }

@@ -9,10 +9,10 @@ use Rattle.sr_frame.specs.AddressLemmas.{mac_same, mac_symm}
 use Rattle.sr_sequence.specs.Numbers.{wire}
 use Rattle.sr_slots.specs.Calls.{passing}
 use Rattle.sr_slots.specs.EntryLemmas.{lookup-set, lookup-push}
-use Rattle.sr_dup_window.specs.Spots.{IsWidth}
+use Rattle.sr_dup_window.specs.Bins.{IsWidth}
 use Rattle.sr_dup_window.specs.WindowLemmas.{same-numbers}
 use Rattle.sr_dup_table.specs.Limits.{most_sources}
-use Rattle.sr_dup_table.specs.Sources.{Heard, Sources, is_live, live_at, with_room, begun_at, heard_next, after_of}
+use Rattle.sr_dup_table.specs.Sources.{Remembered, Sources, is_live, live_at, with_room, begun_at, heard_next, after_of}
 use Rattle.sr_dup_table.specs.Joins.{joined}
 use Rattle.sr_dup_runs.specs.TableRuns.{Noting}
 use Rattle.sr_dup_joins.specs.Growths.{Growth, empty, arrived, aged, merged, Grew, arrivals_of, remembered, epoch, numbers, latest, AreInOrder, AreSteady, IsSteady}
@@ -46,7 +46,7 @@ epoch-from (arrived t y) src now x h = by (mac_eq src y.arrival.src) refl h (epo
 abbrev HasArrival : Growth → Mac → Type 0
 HasArrival t src = (x : Noting) × Among (arrivals_of t) x × (mac_eq src x.arrival.src ≡ true)
 
-passing-there : (now : ℕ) (o : Option Heard) → is_some (passing (is_live now) o) ≡ true → is_some o ≡ true
+passing-there : (now : ℕ) (o : Option Remembered) → is_some (passing (is_live now) o) ≡ true → is_some o ≡ true
 passing-there now None h = h
 passing-there now (Some g) h = refl
 
@@ -60,11 +60,11 @@ room-there now s src keys h = by (nat_lt (length s) most_sources) h
     by true h = h
     by false h = live-there now s src keys h
 
-joined-there : (w : ℕ) (a b : Option Heard) → is_some (joined w a b) ≡ true → (is_some a ≡ true) ⊎ (is_some b ≡ true)
+joined-there : (w : ℕ) (a b : Option Remembered) → is_some (joined w a b) ≡ true → (is_some a ≡ true) ⊎ (is_some b ≡ true)
 joined-there w None b h = inr h
 joined-there w (Some a) b h = inl refl
 
-after-there : (w : ℕ) (x : Noting) (old : Sources) (src : Mac) (o : Option Heard) → lookup (mac_eq x.arrival.src) old ≡ o → IsDistinct mac_eq (keys_of old)
+after-there : (w : ℕ) (x : Noting) (old : Sources) (src : Mac) (o : Option Remembered) → lookup (mac_eq x.arrival.src) old ≡ o → IsDistinct mac_eq (keys_of old)
     → is_some (lookup (mac_eq src) (after_of w o old x.arrival.src (wire x.arrival.number) x.lanes x.arrival.time)) ≡ true
     → (mac_eq src x.arrival.src ≡ true) ⊎ (is_some (lookup (mac_eq src) old) ≡ true)
 after-there w x old src None at keys h =
@@ -85,7 +85,7 @@ after-there w x old src (Some was) at keys h =
     let new = heard_next w was (wire x.arrival.number) x.lanes x.arrival.time in
     by (mac_eq x.arrival.src src) refl new (ap is_some (sym (lookup-set x.arrival.src src new old (ap is_some at))) ∙ h)
   where
-    by : (b : Bool) → mac_eq x.arrival.src src ≡ b → (new : Heard) → is_some (cond b (Some new) (lookup (mac_eq src) old)) ≡ true
+    by : (b : Bool) → mac_eq x.arrival.src src ≡ b → (new : Remembered) → is_some (cond b (Some new) (lookup (mac_eq src) old)) ≡ true
         → (mac_eq src x.arrival.src ≡ true) ⊎ (is_some (lookup (mac_eq src) old) ≡ true)
     by true p new g = inl (mac_symm src x.arrival.src ∙ p)
     by false p new g = inr g
@@ -129,7 +129,7 @@ all-live w width t s src now grew steady le all = by (lookup (mac_eq src) s) ref
     told : Tells w src (epoch src now t) (passing (is_live now) (lookup (mac_eq src) s))
     told = (kept w width t s grew steady.0 steady.1).tells src now le
 
-    at : (h : Heard) → lookup (mac_eq src) s ≡ Some h → (b : Bool) → is_live now h ≡ b → cond b (Some h) None ≡ Some h
+    at : (h : Remembered) → lookup (mac_eq src) s ≡ Some h → (b : Bool) → is_live now h ≡ b → cond b (Some h) None ≡ Some h
     at h is true p = refl
     at h is false p =
         let r = arrival-of w width t s src grew steady.0 steady.1 (ap is_some is) in
@@ -139,15 +139,15 @@ all-live w width t s src now grew steady le all = by (lookup (mac_eq src) s) ref
         let bad : ⊥ = subst (λ xs. Among xs r.0) none among in
         absurd bad
 
-    by : (o : Option Heard) → lookup (mac_eq src) s ≡ o → passing (is_live now) o ≡ o
+    by : (o : Option Remembered) → lookup (mac_eq src) s ≡ o → passing (is_live now) o ≡ o
     by None is = refl
     by (Some h) is = at h is (is_live now h) refl
 
 -- the same arrivals tell the same
-heard-same : (a b : Heard) → a.seen ≡ b.seen → a.time ≡ b.time → a ≡ b
+heard-same : (a b : Remembered) → a.seen ≡ b.seen → a.time ≡ b.time → a ≡ b
 heard-same a b e f = λ i. record { seen = e i; time = f i }
 
-same-told : (w : ℕ) (src : Mac) (xs ys : List Noting) (a b : Option Heard) → ((x : Noting) → Among xs x → Among ys x) → ((x : Noting) → Among ys x → Among xs x)
+same-told : (w : ℕ) (src : Mac) (xs ys : List Noting) (a b : Option Remembered) → ((x : Noting) → Among xs x → Among ys x) → ((x : Noting) → Among ys x → Among xs x)
     → Tells w src xs a → Tells w src ys b → a ≡ b
 same-told w src xs ys None None there back one other = refl
 same-told w src xs ys None (Some b) there back one other =

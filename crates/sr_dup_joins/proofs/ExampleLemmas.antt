@@ -9,7 +9,7 @@ use Rattle.sr_frame.specs.declared.fields.Mac.{Mac}
 use Rattle.sr_frame.specs.Addresses.{mac_eq}
 use Rattle.sr_frame.specs.AddressLemmas.{mac_refl}
 use Rattle.sr_sequence.specs.Numbers.{IsNear}
-use Rattle.sr_dup_window.specs.Spots.{IsWidth}
+use Rattle.sr_dup_window.specs.Bins.{IsWidth}
 use Rattle.sr_dup_window.specs.declared.lane_sets.Lanes.{Lanes}
 use Rattle.sr_dup_window.specs.LaneSets.{has}
 use Rattle.sr_dup_window.specs.Families.{IsGreatest}

@@ -15,10 +15,10 @@ use Rattle.sr_dup_window.specs.LaneSets.{has, is_empty}
 use Rattle.sr_dup_window.specs.LaneLemmas.{has-lanes_where}
 use Rattle.sr_dup_window.specs.Windows.{window_noted, fresh_lanes}
 use Rattle.sr_dup_window.specs.WindowLemmas.{begun-stands, noted-stands, merged-stands, fresh-lanes-by-family}
-use Rattle.sr_dup_window.specs.Spots.{IsWidth}
+use Rattle.sr_dup_window.specs.Bins.{IsWidth}
 use Rattle.sr_dup_window.specs.Families.{singleton, join, greater}
 use Rattle.sr_dup_table.specs.Limits.{most_sources}
-use Rattle.sr_dup_table.specs.Sources.{Heard, Sources, is_recent, is_live, live_at, with_room, begun_at, heard_next, answer_of, after_of}
+use Rattle.sr_dup_table.specs.Sources.{Remembered, Sources, is_recent, is_live, live_at, with_room, begun_at, heard_next, answer_of, after_of}
 use Rattle.sr_dup_table.specs.Joins.{joined, joined_heard, IsJoin, lacking_in}
 use Rattle.sr_dup_runs.specs.TableRuns.{Noting}
 use Rattle.sr_dup_joins.specs.Growths.{Growth, empty, arrived, aged, merged, Grew, newest, remembered, epoch, numbers, latest, IsNearAll, AreClose, AreInOrder, AreSteady}
@@ -26,10 +26,10 @@ use Rattle.sr_dup_joins.specs.GrowthLaws.{Tells, TablesStand, AnswersByTheUnion}
 use Rattle.sr_dup_joins.proofs.ListLemmas.{stands-like, one-number, more-numbers, both-numbers, newest-both}
 
 -- what is live later was live before
-live-before : (at now : ℕ) (h : Heard) → at ≤ now → is_live now h ≡ true → is_live at h ≡ true
+live-before : (at now : ℕ) (h : Remembered) → at ≤ now → is_live now h ≡ true → is_live at h ≡ true
 live-before at now h le live = let l : now - h.time < 400 = ltb-true (now - h.time) 400 live in lt-ltb (at - h.time) 400 (omega arith)
 
-pub passing-again : (at now : ℕ) (o : Option Heard) → at ≤ now → passing (is_live now) (passing (is_live at) o) ≡ passing (is_live now) o
+pub passing-again : (at now : ℕ) (o : Option Remembered) → at ≤ now → passing (is_live now) (passing (is_live at) o) ≡ passing (is_live now) o
 passing-again at now None le = refl
 passing-again at now (Some h) le = by (is_live at h) refl (is_live now h) refl
   where
@@ -39,7 +39,7 @@ passing-again at now (Some h) le = by (is_live at h) refl (is_live now h) refl
     by false p false q = sym (ap (λ c. cond c (Some h) None) q)
 
 -- what is told stays told as time passes
-remembered-tells : (w : ℕ) (src : Mac) (now : ℕ) (xs : List Noting) (o : Option Heard) → Tells w src xs o → Tells w src (remembered now xs) (passing (is_live now) o)
+remembered-tells : (w : ℕ) (src : Mac) (now : ℕ) (xs : List Noting) (o : Option Remembered) → Tells w src xs o → Tells w src (remembered now xs) (passing (is_live now) o)
 remembered-tells w src now xs None none = by (is_recent now (newest xs))
   where
     by : (b : Bool) → cond b xs [] ≡ []
@@ -52,11 +52,11 @@ remembered-tells w src now xs (Some h) told = by (is_live now h) refl (ap (is_re
     by false p e = rw (e, p) refl
 
 -- the record of a source after one more arrival, by what is live of it
-abbrev next-of : ℕ → Option Heard → Noting → Heard
+abbrev next-of : ℕ → Option Remembered → Noting → Remembered
 next-of w None x = begun_at w (wire x.arrival.number) x.lanes x.arrival.time
 next-of w (Some h) x = record { seen = window_noted w h.seen (wire x.arrival.number) x.lanes; time = max h.time x.arrival.time }
 
-next-tells : (w : ℕ) → IsWidth w → (x : Noting) (xs : List Noting) (o : Option Heard) → is_empty x.lanes ≡ false → IsNearAll w (numbers x.arrival.src xs) x.arrival.number
+next-tells : (w : ℕ) → IsWidth w → (x : Noting) (xs : List Noting) (o : Option Remembered) → is_empty x.lanes ≡ false → IsNearAll w (numbers x.arrival.src xs) x.arrival.number
     → Tells w x.arrival.src xs o → Tells w x.arrival.src (x ∷ xs) (Some (next-of w o x))
 next-tells w width x xs None some near none =
     let P : List Noting → Type 0 = λ ys. Tells w x.arrival.src (x ∷ ys) (Some (next-of w None x)) in
@@ -76,7 +76,7 @@ next-tells w width x xs (Some h) some near told =
           (noted-stands w h.seen (numbers x.arrival.src xs) told.1 n (wire n) x.lanes width some told.2 (near told.1 told.2.top) refl),
     )
 
-next-heard : (w : ℕ) (h : Heard) (x : Noting) → heard_next w h (wire x.arrival.number) x.lanes x.arrival.time ≡ next-of w (passing (is_live x.arrival.time) (Some h)) x
+next-heard : (w : ℕ) (h : Remembered) (x : Noting) → heard_next w h (wire x.arrival.number) x.lanes x.arrival.time ≡ next-of w (passing (is_live x.arrival.time) (Some h)) x
 next-heard w h x = by (is_live x.arrival.time h)
   where
     by : (b : Bool)
@@ -86,7 +86,7 @@ next-heard w h x = by (is_live x.arrival.time h)
     by false = refl
 
 -- what both tell of a source is told of its join
-both-tell : (w : ℕ) → IsWidth w → (src : Mac) (xs ys : List Noting) (a b : Option Heard) → AreClose (numbers src xs) (numbers src ys) → Tells w src xs a → Tells w src ys b
+both-tell : (w : ℕ) → IsWidth w → (src : Mac) (xs ys : List Noting) (a b : Option Remembered) → AreClose (numbers src xs) (numbers src ys) → Tells w src xs a → Tells w src ys b
     → Tells w src (xs ++ ys) (joined w a b)
 both-tell w width src xs ys None None close one other = rw (one, other) refl
 both-tell w width src xs ys None (Some b) close one other = rw one other
@@ -177,7 +177,7 @@ none-twice = tt
 
 module _ (w : ℕ) (width : IsWidth w) (t : Growth) (x : Noting) (old : Sources) (earlier : Kept w t old) (le : latest t ≤ x.arrival.time) where
   -- after an arrival its source has a new record, and the others are live as they were
-  kept-after : (new : Sources) (h : Heard) → IsDistinct mac_eq (keys_of new) → Tells w x.arrival.src (x ∷ epoch x.arrival.src x.arrival.time t) (Some h)
+  kept-after : (new : Sources) (h : Remembered) → IsDistinct mac_eq (keys_of new) → Tells w x.arrival.src (x ∷ epoch x.arrival.src x.arrival.time t) (Some h)
       → ((q : Mac) (u : ℕ) → x.arrival.time ≤ u
       → passing (is_live u) (lookup (mac_eq q) new) ≡ cond (mac_eq x.arrival.src q) (passing (is_live u) (Some h)) (passing (is_live u) (lookup (mac_eq q) old)))
       → Kept w (arrived t x) new
@@ -220,11 +220,11 @@ module _ (w : ℕ) (width : IsWidth w) (t : Growth) (x : Noting) (old : Sources)
       by true = none
       by false = lookup-passing (is_live x.arrival.time) x.arrival.src old earlier.keys ∙ ap (passing (is_live x.arrival.time)) none
 
-  through-cond : (u : ℕ) (b : Bool) (h : Heard) (o : Option Heard) → passing (is_live u) (cond b (Some h) o) ≡ cond b (passing (is_live u) (Some h)) (passing (is_live u) o)
+  through-cond : (u : ℕ) (b : Bool) (h : Remembered) (o : Option Remembered) → passing (is_live u) (cond b (Some h) o) ≡ cond b (passing (is_live u) (Some h)) (passing (is_live u) o)
   through-cond u true h o = refl
   through-cond u false h o = refl
 
-  arrived-kept : (o : Option Heard) → lookup (mac_eq x.arrival.src) old ≡ o → is_empty x.lanes ≡ false
+  arrived-kept : (o : Option Remembered) → lookup (mac_eq x.arrival.src) old ≡ o → is_empty x.lanes ≡ false
       → IsNearAll w (numbers x.arrival.src (epoch x.arrival.src x.arrival.time t)) x.arrival.number
       → Kept w (arrived t x) (after_of w o old x.arrival.src (wire x.arrival.number) x.lanes x.arrival.time)
   arrived-kept None at some near =
@@ -268,7 +268,7 @@ kept w width (aged t now) s grew order steady =
     subst P (sym grew.2) (record {
       keys = distinct-passing (is_live now) old k.keys;
       tells = λ src u le.
-          let Q : Option Heard → Type 0 = λ o. Tells w src (epoch src u t) o in
+          let Q : Option Remembered → Type 0 = λ o. Tells w src (epoch src u t) o in
           subst Q (sym (ap (passing (is_live u)) (live-is now old src k.keys) ∙ passing-again now u (lookup (mac_eq src) old) le))
           (k.tells src u (omega (arith, order.1)));
     })
@@ -285,7 +285,7 @@ kept w width (merged t u now) s grew order steady =
           let ys = epoch src now u in
           let o = lookup (mac_eq src) (live_at now one) in
           let p = lookup (mac_eq src) (live_at now other) in
-          let Q : Option Heard → Type 0 = λ r. Tells w src (epoch src v (merged t u now)) (passing (is_live v) r) in
+          let Q : Option Remembered → Type 0 = λ r. Tells w src (epoch src v (merged t u now)) (passing (is_live v) r) in
           let first : Tells w src xs o = rw (live-is now one src a.keys) (a.tells src now order.2) in
           let second : Tells w src ys p = rw (live-is now other src b.keys) (b.tells src now order.3) in
           subst Q (sym (grew.4.each src))
@@ -295,7 +295,7 @@ kept w width (merged t u now) s grew order steady =
 pub tables_stand : TablesStand
 tables_stand w width t s src now grew steady le =
     let k = kept w width t s grew steady.0 steady.1 in
-    let Q : Option Heard → Type 0 = λ o. Tells w src (epoch src now t) o in
+    let Q : Option Remembered → Type 0 = λ o. Tells w src (epoch src now t) o in
     subst Q (sym (live-is now s src k.keys)) (k.tells src now le)
 
 -- an arrival of a source that is not live is new on all asked lanes
@@ -309,7 +309,7 @@ module _ (w : ℕ) (width : IsWidth w) (x : Noting) (fresh : Lanes) (lane : Lane
       ap (λ ls. has ls lane) (sym same) ∙ and-not-false (has x.lanes lane)
       ∙ ap (λ ys. has x.lanes lane && not (numbers x.arrival.src ys lane x.arrival.number)) (sym none)
 
-  new-by-union : (xs : List Noting) (s : Sources) (o : Option Heard) → Tells w x.arrival.src xs (passing (is_live x.arrival.time) o)
+  new-by-union : (xs : List Noting) (s : Sources) (o : Option Remembered) → Tells w x.arrival.src xs (passing (is_live x.arrival.time) o)
       → IsNearAll w (numbers x.arrival.src xs) x.arrival.number
       → answer_of w o s (wire x.arrival.number) x.lanes x.arrival.time ≡ Some fresh
       → has fresh lane ≡ (has x.lanes lane && not (numbers x.arrival.src xs lane x.arrival.number))

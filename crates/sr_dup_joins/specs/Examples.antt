@@ -2,7 +2,7 @@
 use Rattle.std.specs.Prelude.{ℕ, ℤ, pos}
 use Rattle.sr_frame.specs.declared.fields.Mac.{Mac}
 use Rattle.sr_dup_window.specs.declared.lane_sets.Lanes.{Lanes}
-use Rattle.sr_dup_window.specs.Spots.{IsWidth}
+use Rattle.sr_dup_window.specs.Bins.{IsWidth}
 use Rattle.sr_dup_runs.specs.TableRuns.{Noting}
 use Rattle.sr_dup_joins.specs.Growths.{Growth, empty, arrived, merged, IsSteady}
 use Rattle.sr_dup_joins.specs.GrowthLaws.{KeepsAll}

@@ -8,14 +8,14 @@ use Rattle.sr_dup_window.specs.declared.lane_sets.Lane.{Lane}
 use Rattle.sr_dup_window.specs.declared.lane_sets.Lanes.{Lanes}
 use Rattle.sr_dup_window.specs.LaneSets.{has}
 use Rattle.sr_dup_window.specs.Families.{StandsFor}
-use Rattle.sr_dup_window.specs.Spots.{IsWidth}
-use Rattle.sr_dup_table.specs.Sources.{Heard, Sources, live_at, arrive_answer}
+use Rattle.sr_dup_window.specs.Bins.{IsWidth}
+use Rattle.sr_dup_table.specs.Sources.{Remembered, Sources, live_at, arrive_answer}
 use Rattle.sr_dup_table.specs.Same.{AreSame}
 use Rattle.sr_dup_runs.specs.TableRuns.{Noting}
 use Rattle.sr_dup_joins.specs.Growths.{Growth, arrived, Grew, arrivals_of, newest, epoch, numbers, latest, IsSteady}
 
 -- a record stands for the cut of the numbers of these arrivals, and was heard with the last of them; there is none where there are none
-abbrev pub Tells : ℕ → Mac → List Noting → Option Heard → Type 0
+abbrev pub Tells : ℕ → Mac → List Noting → Option Remembered → Type 0
 Tells w src xs None = xs ≡ []
 Tells w src xs (Some h) = (newest xs ≡ h.time) × (m : ℤ) × StandsFor w h.seen (numbers src xs) m
 

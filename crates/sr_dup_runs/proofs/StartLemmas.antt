@@ -23,10 +23,10 @@ use Rattle.sr_dup_window.specs.Windows.{Window}
 use Rattle.sr_dup_window.specs.WindowLemmas.{width-some}
 use Rattle.sr_frame.specs.Addresses.{mac_eq}
 use Rattle.sr_frame.specs.AddressLemmas.{mac_same, mac_refl, mac_laws}
-use Rattle.sr_dup_window.specs.Spots.{IsWidth}
+use Rattle.sr_dup_window.specs.Bins.{IsWidth}
 use Rattle.sr_dup_window.specs.Records.{IsWhole}
 use Rattle.sr_dup_table.specs.Limits.{forget_time}
-use Rattle.sr_dup_table.specs.Sources.{Heard, Sources}
+use Rattle.sr_dup_table.specs.Sources.{Remembered, Sources}
 use Rattle.sr_dup_runs.specs.TableRuns.{Arrival, Noting, epoch, greatest_of, copies_of, IsNearAll, arrivals_of, AreSteady}
 use Rattle.sr_dup_runs.specs.Starts.{pairs, stood, IsSourceOf, IsStart, EachPairIsNewAfterAStart, StartsAreSteady}
 use Rattle.sr_dup_runs.specs.EpochLemmas.{noted_epoch, top_of, arrivals-epoch, family_of, now_is_live, family_any}
@@ -190,7 +190,7 @@ module _ (W : ℕ) (width : IsWidth W) where
       ]
 
   -- a table keeps the epochs of the pairs that it has
-  entry_keeps : (from : ℕ) (q : Mac) (top : Mac → ℤ) (h : Heard) (rest : List Noting) → IsSourceOf W from (top q) h →
+  entry_keeps : (from : ℕ) (q : Mac) (top : Mac → ℤ) (h : Remembered) (rest : List Noting) → IsSourceOf W from (top q) h →
       ((now : ℕ) → noted_epoch q now rest ≡ []) →
       KeepsEpoch W width q (pairs q (top q) h.time h.seen.marks ++ rest) from h
   entry_keeps from q top h rest is none_left = by h.seen.marks refl
@@ -217,7 +217,7 @@ module _ (W : ℕ) (width : IsWidth W) where
           }
 
   -- what stands behind pairs of others
-  keeps_behind : (from : ℕ) (q src : Mac) (n : ℤ) (time : ℕ) (marks : List Lanes) (xs : List Noting) (o : Option Heard) → mac_eq q src ≡ false →
+  keeps_behind : (from : ℕ) (q src : Mac) (n : ℤ) (time : ℕ) (marks : List Lanes) (xs : List Noting) (o : Option Remembered) → mac_eq q src ≡ false →
       Keeps W width q xs from o → Keeps W width q (pairs src n time marks ++ xs) from o
   keeps_behind from q src n time [] xs o other k = k
   keeps_behind from q src n time (m ∷ ms) xs o other k =
@@ -229,7 +229,7 @@ module _ (W : ℕ) (width : IsWidth W) where
       ]
 
   each_kept : (from : ℕ) (top : Mac → ℤ) (s : Sources) → IsDistinct mac_eq (keys_of s) →
-      ((src : Mac) (h : Heard) → lookup (mac_eq src) s ≡ Some h → IsSourceOf W from (top src) h) → (q : Mac) →
+      ((src : Mac) (h : Remembered) → lookup (mac_eq src) s ≡ Some h → IsSourceOf W from (top src) h) → (q : Mac) →
       Keeps W width q (stood top s) from (lookup (mac_eq q) s)
   each_kept from top [] keys each q = λ now le. refl
   each_kept from top (e ∷ es) keys each q =
@@ -242,7 +242,7 @@ module _ (W : ℕ) (width : IsWidth W) where
       gone : lookup (mac_eq e.0) es ≡ None
       gone = lookup-none (mac_eq e.0) es (none_past_head mac_laws e.0 e es keys (mac_refl e.0))
 
-      further : (src : Mac) (h : Heard) → lookup (mac_eq src) es ≡ Some h → IsSourceOf W from (top src) h
+      further : (src : Mac) (h : Remembered) → lookup (mac_eq src) es ≡ Some h → IsSourceOf W from (top src) h
       further src h found =
           elim (cases_Bool (mac_eq src e.0)) [
             | inr other ↦ each src h (rw other found)
@@ -367,7 +367,7 @@ module _ (W : ℕ) (width : IsWidth W) where
           ∙ sym (ap (copies_of src n) epoch_is ∙ none_here)
 
   steady_start : (from : ℕ) (top : Mac → ℤ) (s : Sources) → IsDistinct mac_eq (keys_of s) →
-      ((src : Mac) (h : Heard) → lookup (mac_eq src) s ≡ Some h → IsSourceOf W from (top src) h) → AreSteady W (arrivals_of (stood top s))
+      ((src : Mac) (h : Remembered) → lookup (mac_eq src) s ≡ Some h → IsSourceOf W from (top src) h) → AreSteady W (arrivals_of (stood top s))
   steady_start from top [] keys each = tt
   steady_start from top (e ∷ es) keys each =
       steady_pairs e.0 (top e.0) e.1.time e.1.seen.marks (stood top es) short (λ now. absent_epoch W width e.0 top es now gone)
@@ -379,7 +379,7 @@ module _ (W : ℕ) (width : IsWidth W) where
       short : length e.1.seen.marks ≤ W
       short = let count = (each e.0 e.1 (rw (mac_refl e.0) refl)).whole.count in omega (arith, count)
 
-      further : (src : Mac) (h : Heard) → lookup (mac_eq src) es ≡ Some h → IsSourceOf W from (top src) h
+      further : (src : Mac) (h : Remembered) → lookup (mac_eq src) es ≡ Some h → IsSourceOf W from (top src) h
       further src h found =
           elim (cases_Bool (mac_eq src e.0)) [
             | inr other ↦ each src h (rw other found)

@@ -42,7 +42,7 @@ use Rattle.sr_dup_window.specs.Families.{Family, singleton, join}
 use Rattle.sr_frame.specs.Addresses.{mac_eq}
 use Rattle.sr_frame.specs.AddressLemmas.{mac_laws}
 use Rattle.sr_dup_table.specs.Limits.{most_sources, forget_time}
-use Rattle.sr_dup_table.specs.Sources.{Heard, Sources, is_live, live_at, with_room}
+use Rattle.sr_dup_table.specs.Sources.{Remembered, Sources, is_live, live_at, with_room}
 use Rattle.sr_dup_runs.specs.TableRuns.{Noting, epoch, greatest_of, is_copy, copies_of, was_noted, arrivals_of}
 
 -- the notings of a source's epoch at a time
@@ -165,7 +165,7 @@ pub family_of_epoch : (src : Mac) (now : ℕ) (n : ℤ) (lane : Lane) (xs : List
 family_of_epoch src now n lane xs = family_any (noted_epoch src now xs) lane n ∙ epoch_any src now n lane xs
 
 -- looking up behind one more entry
-pub lookup_pushed : (q : Mac) (s : Sources) (m : Mac) (h : Heard) →
+pub lookup_pushed : (q : Mac) (s : Sources) (m : Mac) (h : Remembered) →
     lookup (mac_eq q) (s ++ (m, h) ∷ []) ≡ cond (is_some (lookup (mac_eq q) s)) (lookup (mac_eq q) s) (cond (mac_eq q m) (Some h) None)
 lookup_pushed q [] m h = refl
 lookup_pushed q (e ∷ es) m h =
@@ -174,7 +174,7 @@ lookup_pushed q (e ∷ es) m h =
       | inr other ↦ rw other (lookup_pushed q es m h)
     ]
 
-pub keys_pushed : (s : Sources) (m : Mac) (h : Heard) → keys_of (s ++ (m, h) ∷ []) ≡ keys_of s ++ m ∷ []
+pub keys_pushed : (s : Sources) (m : Mac) (h : Remembered) → keys_of (s ++ (m, h) ∷ []) ≡ keys_of s ++ m ∷ []
 keys_pushed [] m h = refl
 keys_pushed (e ∷ es) m h = ap (λ ks. e.0 ∷ ks) (keys_pushed es m h)
 
@@ -216,7 +216,7 @@ absent_with_room m s now keys lacks =
     ]
 
 -- what is found, or else nothing, is what is found
-pub itself : (o : Option Heard) → cond (is_some o) o None ≡ o
+pub itself : (o : Option Remembered) → cond (is_some o) o None ≡ o
 itself None = refl
 itself (Some h) = refl
 

@@ -48,9 +48,9 @@ use Rattle.sr_dup_window.specs.Windows.{Window, window_begun, window_noted, fres
 use Rattle.sr_dup_window.specs.WindowLemmas.{begun-stands, noted-stands, fresh-lanes-by-family}
 use Rattle.sr_frame.specs.Addresses.{mac_eq}
 use Rattle.sr_frame.specs.AddressLemmas.{mac_same, mac_refl, mac_laws}
-use Rattle.sr_dup_window.specs.Spots.{IsWidth}
+use Rattle.sr_dup_window.specs.Bins.{IsWidth}
 use Rattle.sr_dup_table.specs.Limits.{most_sources, forget_time}
-use Rattle.sr_dup_table.specs.Sources.{Heard, Sources, is_live, live_at, with_room, begun_at, heard_next, answer_of, after_of}
+use Rattle.sr_dup_table.specs.Sources.{Remembered, Sources, is_live, live_at, with_room, begun_at, heard_next, answer_of, after_of}
 use Rattle.sr_dup_runs.specs.TableRuns.{
   Noting,
   was_noted,
@@ -93,13 +93,13 @@ module _ (W : ℕ) (width : IsWidth W) where
   IsNearNoted xs number = IsNearAll W (arrivals_of xs) number
 
   -- what the entry of a source says of the arrivals so far
-  pub record KeepsEpoch (src : Mac) (xs : List Noting) (last : ℕ) (h : Heard) : Type 0 where
+  pub record KeepsEpoch (src : Mac) (xs : List Noting) (last : ℕ) (h : Remembered) : Type 0 where
     pub time : h.time ≤ last
     pub stands : StandsFor W h.seen (family_of (noted_epoch src h.time xs)) (top_of (noted_epoch src h.time xs))
     pub later : (now : ℕ) → h.time ≤ now → noted_epoch src now xs ≡ cond (nat_lt (now - h.time) forget_time) (noted_epoch src h.time xs) []
 
   -- no entry: the source has no epoch from now on
-  abbrev pub Keeps : Mac → List Noting → ℕ → Option Heard → Type 0
+  abbrev pub Keeps : Mac → List Noting → ℕ → Option Remembered → Type 0
   Keeps src xs last None = (now : ℕ) → last ≤ now → noted_epoch src now xs ≡ []
   Keeps src xs last (Some h) = KeepsEpoch src xs last h
 
@@ -109,18 +109,18 @@ module _ (W : ℕ) (width : IsWidth W) where
     pub keys : IsDistinct mac_eq (keys_of s)
 
   -- what is kept of a source stays kept as time passes, and past arrivals of others
-  keeps_later : (q : Mac) (xs : List Noting) (last now : ℕ) (o : Option Heard) → last ≤ now → Keeps q xs last o → Keeps q xs now o
+  keeps_later : (q : Mac) (xs : List Noting) (last now : ℕ) (o : Option Remembered) → last ≤ now → Keeps q xs last o → Keeps q xs now o
   keeps_later q xs last now None le k = λ later h. k later (omega (arith, le, h))
   keeps_later q xs last now (Some h) le k = record { time = omega (arith, k.time, le); stands = k.stands; later = k.later }
 
-  pub keeps_past : (q : Mac) (x : Noting) (xs : List Noting) (last : ℕ) (o : Option Heard) → mac_eq q x.arrival.src ≡ false →
+  pub keeps_past : (q : Mac) (x : Noting) (xs : List Noting) (last : ℕ) (o : Option Remembered) → mac_eq q x.arrival.src ≡ false →
       Keeps q xs last o →
       Keeps q (x ∷ xs) last o
   keeps_past q x xs last None other k = λ now h. rw other (k now h)
   keeps_past q x xs last (Some h) other k = record { time = k.time; stands = rw other k.stands; later = λ now g. rw other (k.later now g) }
 
   -- a forgotten entry may go
-  keeps_filtered : (q : Mac) (xs : List Noting) (last now : ℕ) (o : Option Heard) → last ≤ now → Keeps q xs last o →
+  keeps_filtered : (q : Mac) (xs : List Noting) (last now : ℕ) (o : Option Remembered) → last ≤ now → Keeps q xs last o →
       Keeps q xs now (option_filter (is_live now) o)
   keeps_filtered q xs last now None le k = keeps_later q xs last now None le k
   keeps_filtered q xs last now (Some h) le k =
@@ -134,7 +134,7 @@ module _ (W : ℕ) (width : IsWidth W) where
       stays_old now later time le old = grind (arith, le)
 
   -- what is kept of the source that arrived
-  keeps_own : (q : Mac) (x : Noting) (xs : List Noting) (h : Heard) → mac_eq q x.arrival.src ≡ true → h.time ≡ x.arrival.time →
+  keeps_own : (q : Mac) (x : Noting) (xs : List Noting) (h : Remembered) → mac_eq q x.arrival.src ≡ true → h.time ≡ x.arrival.time →
       StandsFor W h.seen (family_of (x ∷ noted_epoch q x.arrival.time xs)) (top_of (x ∷ noted_epoch q x.arrival.time xs)) →
       KeepsEpoch q (x ∷ xs) x.arrival.time h
   keeps_own q x xs h own at stands =
@@ -212,7 +212,7 @@ module _ (W : ℕ) (width : IsWidth W) where
       }
 
   -- a source that is there
-  set_keeps : (x : Noting) (xs : List Noting) (last : ℕ) (s : Sources) (h : Heard) → Kept xs last s → last ≤ x.arrival.time →
+  set_keeps : (x : Noting) (xs : List Noting) (last : ℕ) (s : Sources) (h : Remembered) → Kept xs last s → last ≤ x.arrival.time →
       is_empty x.lanes ≡ false → lookup (mac_eq x.arrival.src) s ≡ Some h →
       IsNearNoted (noted_epoch x.arrival.src x.arrival.time xs) x.arrival.number →
       Kept (x ∷ xs) x.arrival.time (set_value (mac_eq x.arrival.src) s (heard_next W h (wire x.arrival.number) x.lanes x.arrival.time))
@@ -238,7 +238,8 @@ module _ (W : ℕ) (width : IsWidth W) where
         keys = rw (keys-set_value (mac_eq x.arrival.src) s next) kept.keys;
       }
     where
-      next_keeps : (x : Noting) (xs : List Noting) (last : ℕ) (h : Heard) → KeepsEpoch x.arrival.src xs last h → last ≤ x.arrival.time →
+      next_keeps : (x : Noting) (xs : List Noting) (last : ℕ) (h : Remembered) → KeepsEpoch x.arrival.src xs last h
+          → last ≤ x.arrival.time →
           is_empty x.lanes ≡ false → IsNearNoted (noted_epoch x.arrival.src x.arrival.time xs) x.arrival.number →
           KeepsEpoch x.arrival.src (x ∷ xs) x.arrival.time (heard_next W h (wire x.arrival.number) x.lanes x.arrival.time)
       next_keeps x xs last h was le some near =
@@ -263,7 +264,7 @@ module _ (W : ℕ) (width : IsWidth W) where
           ]
 
   -- an arrival that is answered
-  arrived_keeps : (x : Noting) (fresh : Lanes) (xs : List Noting) (last : ℕ) (s : Sources) (o : Option Heard) → Kept xs last s →
+  arrived_keeps : (x : Noting) (fresh : Lanes) (xs : List Noting) (last : ℕ) (s : Sources) (o : Option Remembered) → Kept xs last s →
       last ≤ x.arrival.time → is_empty x.lanes ≡ false → IsNearNoted (noted_epoch x.arrival.src x.arrival.time xs) x.arrival.number →
       lookup (mac_eq x.arrival.src) s ≡ o →
       Kept (x ∷ xs) x.arrival.time (after_of W o s x.arrival.src (wire x.arrival.number) x.lanes x.arrival.time)
@@ -322,7 +323,7 @@ module _ (W : ℕ) (width : IsWidth W) where
       (family_of_epoch a.src a.time a.number lane xs ∙ sym (noted_in_epoch a.src a.time a.number lane xs next.1))
 
   -- what a table that keeps the epochs answers
-  answers_new : (x : Noting) (fresh : Lanes) (xs : List Noting) (last : ℕ) (s : Sources) (o : Option Heard) (lane : Lane) →
+  answers_new : (x : Noting) (fresh : Lanes) (xs : List Noting) (last : ℕ) (s : Sources) (o : Option Remembered) (lane : Lane) →
       Keeps x.arrival.src xs last o → last ≤ x.arrival.time → IsNext W (arrivals_of xs) x.arrival →
       answer_of W o s (wire x.arrival.number) x.lanes x.arrival.time ≡ Some fresh →
       has fresh lane ≡ (has x.lanes lane && not (was_noted x.arrival.src x.arrival.number lane xs))

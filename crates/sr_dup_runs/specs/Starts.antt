@@ -8,9 +8,9 @@ use Rattle.sr_sequence.specs.Numbers.{wire}
 use Rattle.sr_dup_window.specs.declared.lane_sets.Lane.{Lane}
 use Rattle.sr_dup_window.specs.declared.lane_sets.Lanes.{Lanes}
 use Rattle.sr_dup_window.specs.LaneSets.{has, is_empty}
-use Rattle.sr_dup_window.specs.Spots.{IsWidth}
+use Rattle.sr_dup_window.specs.Bins.{IsWidth}
 use Rattle.sr_dup_window.specs.Records.{IsWhole}
-use Rattle.sr_dup_table.specs.Sources.{Heard, Sources}
+use Rattle.sr_dup_table.specs.Sources.{Remembered, Sources}
 use Rattle.sr_dup_runs.specs.TableRuns.{Noting, was_noted, TableTurn, arrived, notings_of, arrivals_of, TableRun, AreSteady, IsSteadyRun}
 
 -- what a record has noted, as notings at one time, the greatest number newest: n is the whole number of its first mark, and each
@@ -28,7 +28,7 @@ stood top [] = []
 stood top (e ∷ s) = pairs e.0 (top e.0) e.1.time e.1.seen.marks ++ stood top s
 
 -- a source that was last heard by this time, whose greatest number is this whole one
-pub record IsSourceOf (w : ℕ) (from : ℕ) (number : ℤ) (h : Heard) : Type 0 where
+pub record IsSourceOf (w : ℕ) (from : ℕ) (number : ℤ) (h : Remembered) : Type 0 where
   pub whole : IsWhole w h.seen
   pub reference : h.seen.reference ≡ wire number
   pub time : h.time ≤ from
@@ -36,7 +36,7 @@ pub record IsSourceOf (w : ℕ) (from : ℕ) (number : ℤ) (h : Heard) : Type 0
 -- a table that a run may begin with at this time: no source twice, and none heard later
 pub record IsStart (w : ℕ) (from : ℕ) (top : Mac → ℤ) (s : Sources) : Type 0 where
   pub keys : IsDistinct mac_eq (keys_of s)
-  pub each : (src : Mac) (h : Heard) → lookup (mac_eq src) s ≡ Some h → IsSourceOf w from (top src) h
+  pub each : (src : Mac) (h : Remembered) → lookup (mac_eq src) s ≡ Some h → IsSourceOf w from (top src) h
 
 -- in a steady run from any table an arrival is new on exactly the asked lanes on which no earlier copy was noted, what stood in the
 -- table counted as noted; under each numbering of it under which the run is steady
@@ -55,5 +55,5 @@ StartsAreSteady = (w : ℕ) → IsWidth w → (from : ℕ) (top : Mac → ℤ) (
 -- greatest ones.
 abbrev pub CanStart : ℕ → Sources → Type 0
 CanStart w s = (from : ℕ) (top : Mac → ℤ)
-    → ((src : Mac) (h : Heard) → lookup (mac_eq src) s ≡ Some h → (h.seen.reference ≡ wire (top src)) × (h.time ≤ from))
+    → ((src : Mac) (h : Remembered) → lookup (mac_eq src) s ≡ Some h → (h.seen.reference ≡ wire (top src)) × (h.time ≤ from))
     → IsStart w from top s

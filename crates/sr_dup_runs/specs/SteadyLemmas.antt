@@ -6,7 +6,7 @@ use Rattle.std.proofs.lemmas.Int.{ints}
 use Rattle.sr_frame.specs.declared.fields.Mac.{Mac}
 use Rattle.sr_sequence.specs.Numbers.{IsNear}
 use Rattle.sr_dup_window.specs.Families.{greater}
-use Rattle.sr_dup_window.specs.Spots.{IsWidth}
+use Rattle.sr_dup_window.specs.Bins.{IsWidth}
 use Rattle.sr_frame.specs.AddressLemmas.{mac_refl}
 use Rattle.sr_dup_table.specs.Limits.{forget_time}
 use Rattle.sr_dup_runs.specs.TableRuns.{

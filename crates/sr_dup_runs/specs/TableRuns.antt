@@ -31,9 +31,9 @@ use Rattle.sr_dup_window.specs.declared.lane_sets.Lanes.{Lanes}
 use Rattle.sr_dup_window.specs.LaneSets.{has, is_empty}
 use Rattle.sr_dup_window.specs.Families.{greater}
 use Rattle.sr_frame.specs.Addresses.{mac_eq}
-use Rattle.sr_dup_window.specs.Spots.{IsWidth}
+use Rattle.sr_dup_window.specs.Bins.{IsWidth}
 use Rattle.sr_dup_table.specs.Limits.{forget_time}
-use Rattle.sr_dup_table.specs.Sources.{Heard, Sources, is_live, live_at, arrive_answer, after_arrive}
+use Rattle.sr_dup_table.specs.Sources.{Remembered, Sources, is_live, live_at, arrive_answer, after_arrive}
 
 -- a numbered arrival: its source, its number without bound, its time in milliseconds
 pub record Arrival : Type 0 where
@@ -140,12 +140,12 @@ EachPairIsNewOnce = (w : ℕ) → IsWidth w → (x : Noting) (fresh : Lanes) (be
     has fresh lane ≡ (has x.lanes lane && not (was_noted x.arrival.src x.arrival.number lane (notings_of [] before)))
 
 -- a record can tell nothing of a number: its source is forgotten, or the number is a width or more behind the reference
-abbrev pub IsBeyond : ℕ → Heard → ℕ → ℕ → Type 0
+abbrev pub IsBeyond : ℕ → Remembered → ℕ → ℕ → Type 0
 IsBeyond w h seq now = (is_live now h ≡ false) ⊎ (w ≤ steps seq h.seen.reference)
 
 -- in any table of any width, such a number is new on all asked lanes
 abbrev pub BeyondIsNew : Type 0
-BeyondIsNew = (w : ℕ) (s : Sources) (src : Mac) (seq : ℕ) (lanes fresh : Lanes) (now : ℕ) (h : Heard) (lane : Lane) →
+BeyondIsNew = (w : ℕ) (s : Sources) (src : Mac) (seq : ℕ) (lanes fresh : Lanes) (now : ℕ) (h : Remembered) (lane : Lane) →
     lookup (mac_eq src) s ≡ Some h → IsBeyond w h seq now → arrive_answer w s src seq lanes now ≡ Some fresh →
     has fresh lane ≡ has lanes lane
 

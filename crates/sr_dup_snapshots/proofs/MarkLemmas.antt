@@ -8,7 +8,7 @@ use Rattle.sr_sequence.specs.declared.Distance.TheVariants.{Behind, Ahead}
 use Rattle.sr_sequence.specs.Places.{steps}
 use Rattle.sr_dup_window.specs.declared.lane_sets.Lanes.{Lanes}
 use Rattle.sr_dup_window.specs.declared.record.Record.{Record}
-use Rattle.sr_dup_window.specs.Spots.{IsWidth}
+use Rattle.sr_dup_window.specs.Bins.{IsWidth}
 use Rattle.sr_dup_window.specs.RecordLemmas.{record-width}
 use Rattle.sr_dup_window.specs.LaneSets.{has, none, known, union}
 use Rattle.sr_dup_window.specs.LaneLemmas.{has-none, lanes_where-same, known-lanes_where}

@@ -24,7 +24,7 @@ use Rattle.std.proofs.lemmas.Slice.Eq.{bytes_eq-Decides}
 use Rattle.sr_frame.specs.declared.fields.Mac.{Mac}
 use Rattle.sr_frame.specs.Addresses.{mac_eq}
 use Rattle.sr_frame.specs.AddressLemmas.{mac_same, mac_symm, mac_refl, mac_laws}
-use Rattle.sr_dup_table.specs.Sources.{Heard, Sources}
+use Rattle.sr_dup_table.specs.Sources.{Remembered, Sources}
 use Rattle.sr_dup_table.specs.Same.{AreSame}
 use Rattle.sr_dup_snapshots.specs.Snapshots.{mac_order}
 use Rattle.sr_dup_snapshots.specs.Ordered.{source_at, sources_at}
@@ -57,7 +57,7 @@ keys-at : (s : Sources) (macs : List Mac) → AllByRecursion (λ m. list_any (ma
 keys-at s [] all = refl
 keys-at s (m ∷ macs) all = by (lookup (mac_eq m) s) (is_some-lookup (mac_eq m) s ∙ all.0) (keys-at s macs all.1)
   where
-    by : (o : Option Heard) → is_some o ≡ true → keys_of (sources_at s macs) ≡ macs → keys_of (source_at m o ++ sources_at s macs) ≡ m ∷ macs
+    by : (o : Option Remembered) → is_some o ≡ true → keys_of (sources_at s macs) ≡ macs → keys_of (source_at m o ++ sources_at s macs) ≡ m ∷ macs
     by None some ih = cc
     by (Some h) some ih = ap (λ l. m ∷ l) ih
 
@@ -77,7 +77,7 @@ at-macs s q (m ∷ macs) = by (mac_eq q m) refl (lookup (mac_eq m) s) refl (at-m
     none true e = refl
     none false e = sym e
 
-    by : (b : Bool) → mac_eq q m ≡ b → (o : Option Heard) → lookup (mac_eq m) s ≡ o
+    by : (b : Bool) → mac_eq q m ≡ b → (o : Option Remembered) → lookup (mac_eq m) s ≡ o
         → lookup (mac_eq q) (sources_at s macs) ≡ cond (list_any (mac_eq q) macs) (lookup (mac_eq q) s) None
         → lookup (mac_eq q) (source_at m o ++ sources_at s macs) ≡ cond (b || list_any (mac_eq q) macs) (lookup (mac_eq q) s) None
     by true p None at ih = ih ∙ none (list_any (mac_eq q) macs) (ap (λ k. lookup (mac_eq k) s) (mac_same q m p) ∙ at)
@@ -92,7 +92,7 @@ same-at s macs moved q =
     ∙ ap (λ b. cond b (lookup (mac_eq q) s) None) (sym (list_any-IsPermutation (mac_eq q) (keys_of s) macs moved) ∙ sym (is_some-lookup (mac_eq q) s))
     ∙ there (lookup (mac_eq q) s))
   where
-    there : (o : Option Heard) → cond (is_some o) o None ≡ o
+    there : (o : Option Remembered) → cond (is_some o) o None ≡ o
     there None = refl
     there (Some h) = refl
 
@@ -109,7 +109,7 @@ below-all : (q m : Mac) (ks : List Mac) → mac_order q m ≡ Less → AllByRecu
 below-all q m [] less below = tt
 below-all q m (k ∷ ks) less below = (mac_total.trans q m k less below.0, below-all q m ks less below.1)
 
-here : (e : Mac × Heard) (s : Sources) → lookup (mac_eq e.0) (e ∷ s) ≡ Some e.1
+here : (e : Mac × Remembered) (s : Sources) → lookup (mac_eq e.0) (e ∷ s) ≡ Some e.1
 here e s = ap (λ b. cond b (Some e.1) (lookup (mac_eq e.0) s)) (mac_refl e.0)
 
 -- sources that are the same, both in ascending order, are one list

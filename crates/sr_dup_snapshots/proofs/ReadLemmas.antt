@@ -15,7 +15,7 @@ use Rattle.sr_slots.specs.EntryLemmas.{lookup-push}
 use Rattle.sr_dup_window.specs.declared.lane_sets.Lanes.{Lanes}
 use Rattle.sr_dup_window.specs.LaneSets.{known, none, is_empty}
 use Rattle.sr_dup_window.specs.LaneLemmas.{known-lanes_where}
-use Rattle.sr_dup_table.specs.Sources.{Heard, Sources, with_room, live_at}
+use Rattle.sr_dup_table.specs.Sources.{Remembered, Sources, with_room, live_at}
 use Rattle.sr_dup_snapshots.specs.Snapshots.{mac_order, source_len, IsSource}
 use Rattle.sr_dup_snapshots.specs.Reading.{is_set, lanes_noted, marks_in, lanes_in, source_in, sources_in, is_after, follows, are_in_order, source_cut, recut}
 use Rattle.sr_dup_snapshots.proofs.OrderLemmas.{mac_total, ties}
@@ -35,7 +35,7 @@ after-more (Some l) m q early late = ap is_lt (mac_total.trans l m q (less (mac_
 abbrev pub AllBefore : Option Mac → Sources → Type 0
 AllBefore last s = (q : Mac) → is_after last q ≡ true → lookup (mac_eq q) s ≡ None
 
-pub before-more : (last : Option Mac) (e : Mac × Heard) (s : Sources) → AllBefore last s → is_after last e.0 ≡ true → AllBefore (Some e.0) (s ++ e ∷ [])
+pub before-more : (last : Option Mac) (e : Mac × Remembered) (s : Sources) → AllBefore last s → is_after last e.0 ≡ true → AllBefore (Some e.0) (s ++ e ∷ [])
 before-more last e s all after q late =
     let other : mac_eq e.0 q ≡ false = ties e.0 q ∙ ap is_eq (less (mac_order e.0 q) late) in
     lookup-push e.0 q e.1 s (all e.0 after)
@@ -64,7 +64,7 @@ left-more len count place size less whole =
     let more = size-more len (count - (place + 1)) size (whole ∙ ap (λ n. len * n) is) in
     (more.0, λ next e. let rest : next ≡ size - len = omega arith in rest ∙ more.1)
 
-pub order-more : (last : Option Mac) (e : Mac × Heard) (s : Sources) → are_in_order last (e ∷ s) ≡ (follows last e && are_in_order (Some e.0) s)
+pub order-more : (last : Option Mac) (e : Mac × Remembered) (s : Sources) → are_in_order last (e ∷ s) ≡ (follows last e && are_in_order (Some e.0) s)
 unfolding are_in_order
 order-more last e s = refl
 
@@ -73,7 +73,7 @@ unfolding are_in_order
 order-none last = refl
 
 -- sources in order ascend, and each has its greatest number on some lane
-abbrev pub HasGreatest : Mac × Heard → Type 0
+abbrev pub HasGreatest : Mac × Remembered → Type 0
 HasGreatest e = is_empty (get_or e.1.seen.marks 0 none) ≡ false
 
 all-less : (m : Mac) (ks : List Mac) → AllByRecursion (λ y. is_after (Some m) y ≡ true) ks → AllByRecursion (λ y. mac_order m y ≡ Less) ks
@@ -144,7 +144,7 @@ pub roomy : (now : ℕ) (s : Sources) → length s < 1024 → with_room now s �
 roomy now s h = cond-true (ltb (length s) 1024) s (live_at now s) (lt-ltb (length s) 1024 h)
 
 -- a source follows by its address and by the lanes of its greatest number
-pub follows-parts : (last : Option Mac) (e : Mac × Heard) → follows last e ≡ true → (is_after last e.0 ≡ true) × (follows None e ≡ true)
+pub follows-parts : (last : Option Mac) (e : Mac × Remembered) → follows last e ≡ true → (is_after last e.0 ≡ true) × (follows None e ≡ true)
 follows-parts last e h = and_parts (is_after last e.0) (not (is_empty (get_or e.1.seen.marks 0 none))) h
 
 -- whether a source can follow, by its address and the lanes of its greatest number

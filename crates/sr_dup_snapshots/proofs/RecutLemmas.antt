@@ -13,7 +13,7 @@ use Rattle.sr_dup_table.specs.declared.fault.DupFault.TheVariants.{NoMemory, Bad
 use Rattle.sr_dup_table.specs.declared.width.Width.{Width}
 use Rattle.sr_dup_table.specs.declared.width.Width.TheVariants.{Narrow, Wide}
 use Rattle.sr_dup_table.specs.Widths.{numbers_in}
-use Rattle.sr_dup_table.specs.Sources.{Heard, Sources}
+use Rattle.sr_dup_table.specs.Sources.{Remembered, Sources}
 use Rattle.sr_dup_table.specs.Same.{AreSame}
 use Rattle.sr_dup_snapshots.specs.Snapshots.{IsSource, IsSnapshot}
 use Rattle.sr_dup_snapshots.specs.Reading.{sources_in, are_in_order, window_cut, source_cut, recut, IsText, IsReadAs}
@@ -21,7 +21,7 @@ use Rattle.sr_dup_snapshots.proofs.SpellLemmas.{AreOctets}
 use Rattle.sr_dup_snapshots.proofs.TextLemmas.{eights, one-width, behind-head, only-order, found-text, text-sources}
 
 -- a record of its own width stays as it is
-cut-same : (w : ℕ) (e : Mac × Heard) → IsSource w e → source_cut w e ≡ e
+cut-same : (w : ℕ) (e : Mac × Remembered) → IsSource w e → source_cut w e ≡ e
 cut-same w e is =
     λ i. (e.0, record { seen = record { reference = e.1.seen.reference; marks = take_at e.1.seen.marks (no_marks w) w is.whole.count i }; time = e.1.time })
 
@@ -30,7 +30,7 @@ recut-same w [] each = refl
 recut-same w (e ∷ s) each = λ i. cut-same w e each.0 i ∷ recut-same w s each.1 i
 
 -- what stands at an address is what stood there, at the other width
-abbrev heard_cut : ℕ → Heard → Heard
+abbrev heard_cut : ℕ → Remembered → Remembered
 heard_cut w h = record { seen = window_cut w h.seen; time = h.time }
 
 recut-lookup : (w : ℕ) (q : Mac) (s : Sources) → lookup (mac_eq q) (recut w s) ≡ option_map (heard_cut w) (lookup (mac_eq q) s)

@@ -17,7 +17,7 @@ use Rattle.sr_dup_window.specs.LaneSets.{flag, index_of, has, none}
 use Rattle.sr_dup_window.specs.LaneLemmas.{has-lanes_where, lanes_where-same}
 use Rattle.sr_dup_window.specs.Windows.{Window}
 use Rattle.sr_dup_window.specs.Records.{IsWhole}
-use Rattle.sr_dup_table.specs.Sources.{Heard, Sources}
+use Rattle.sr_dup_table.specs.Sources.{Remembered, Sources}
 use Rattle.sr_dup_snapshots.specs.Snapshots.{is_noted, octet_of, lane_octet, lane_octets, lane_len, source_octets, source_len, IsSource}
 use Rattle.sr_dup_snapshots.specs.Reading.{is_set, lanes_noted, marks_in, time_in, reference_in, lanes_in, source_in, sources_in}
 
@@ -253,7 +253,7 @@ lanes-spelled w lanes count all =
     (λ lane i h. lane-at w (marks_in w lanes) lane i h ∙ octet-read w lanes all lane i h)
 
 -- the parts of a source, one behind the other
-pub regrouped : (w : ℕ) (e : Mac × Heard)
+pub regrouped : (w : ℕ) (e : Mac × Remembered)
     → source_octets w e ≡ e.0.0 ++ (to_be_bytes w64 e.1.time ++ (to_be_bytes w16 e.1.seen.reference ++ six_lanes w e.1.seen.marks))
 regrouped w e =
     let of : Lane → List ℕ = lane_octets w e.1.seen.marks in
@@ -266,7 +266,7 @@ regrouped w e =
     ∙ append_assoc r (of H) (of A ++ (of B ++ (of C ++ (of GotA ++ of GotB)))))
     ∙ append_assoc e.0.0 (to_be_bytes w64 e.1.time) (r ++ six_lanes w e.1.seen.marks)
 
-pub source-count : (w : ℕ) (e : Mac × Heard) → length e.0.0 ≡ 6 → length (source_octets w e) ≡ source_len w
+pub source-count : (w : ℕ) (e : Mac × Remembered) → length e.0.0 ≡ 6 → length (source_octets w e) ≡ source_len w
 source-count w e address =
     let r = to_be_bytes w16 e.1.seen.reference in
     let t = to_be_bytes w64 e.1.time in
@@ -314,7 +314,7 @@ parts-read w m t r l six eight two =
     after : drop 8 (t ++ (r ++ l)) ≡ r ++ l
     after = drop_at t (r ++ l) 8 eight
 
-source-read : (w : ℕ) → w % 8 ≡ 0 → (e : Mac × Heard) → IsSource w e → source_in w (source_octets w e) ≡ e
+source-read : (w : ℕ) → w % 8 ≡ 0 → (e : Mac × Remembered) → IsSource w e → source_in w (source_octets w e) ≡ e
 source-read w eights e is =
     (λ i. source_in w (regrouped w e i))
     ∙ parts-read w e.0.0 (to_be_bytes w64 e.1.time) (to_be_bytes w16 e.1.seen.reference) (six_lanes w e.1.seen.marks) is.address refl refl

@@ -4,10 +4,10 @@ use Rattle.std.specs.List.{flat_map}
 use Rattle.std.specs.Map.{lookup}
 use Rattle.sr_frame.specs.declared.fields.Mac.{Mac}
 use Rattle.sr_frame.specs.Addresses.{mac_eq}
-use Rattle.sr_dup_table.specs.Sources.{Heard, Sources}
+use Rattle.sr_dup_table.specs.Sources.{Remembered, Sources}
 
 -- the source at an address, if there is one
-abbrev pub source_at : Mac → Option Heard → Sources
+abbrev pub source_at : Mac → Option Remembered → Sources
 source_at src None = []
 source_at src (Some heard) = (src, heard) ∷ []
 

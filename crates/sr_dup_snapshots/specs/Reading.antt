@@ -10,7 +10,7 @@ use Rattle.sr_dup_window.specs.declared.lane_sets.Lanes.{Lanes}
 use Rattle.sr_dup_window.specs.LaneSets.{index_of, lanes_where, is_empty, none}
 use Rattle.sr_dup_window.specs.Windows.{Window, no_marks}
 use Rattle.sr_dup_table.specs.Limits.{window, wide_window, most_sources}
-use Rattle.sr_dup_table.specs.Sources.{Heard, Sources}
+use Rattle.sr_dup_table.specs.Sources.{Remembered, Sources}
 use Rattle.sr_dup_snapshots.specs.Snapshots.{mac_order, lane_len, source_len, head, IsSnapshot}
 
 -- whether the number at a distance before the greatest one is noted on a lane, by the octets of the six lanes
@@ -38,7 +38,7 @@ lanes_in source = drop 2 (drop 8 (drop 6 source))
 abbrev pub window_in : ℕ → ℕ → List ℕ → Window
 window_in w reference lanes = record { reference = reference; marks = marks_in w lanes }
 
-abbrev pub source_in : ℕ → List ℕ → Mac × Heard
+abbrev pub source_in : ℕ → List ℕ → Mac × Remembered
 source_in w source =
     (record { 0 = take 6 source }, record { seen = window_in w (reference_in source) (lanes_in source); time = time_in source })
 
@@ -53,7 +53,7 @@ is_after None src = true
 is_after (Some last) src = is_lt (mac_order last src)
 
 -- whether a source can follow: its address comes after the last one, and it has its greatest number on some lane
-abbrev pub follows : Option Mac → Mac × Heard → Bool
+abbrev pub follows : Option Mac → Mac × Remembered → Bool
 follows last e = is_after last e.0 && not (is_empty (slice_index_or e.1.seen.marks 0 none))
 
 -- whether sources stand in order behind an address
@@ -75,7 +75,7 @@ abbrev pub window_cut : ℕ → Window → Window
 window_cut w r = record { reference = r.reference; marks = marks_cut w r.marks }
 
 -- sources at another width
-abbrev pub source_cut : ℕ → Mac × Heard → Mac × Heard
+abbrev pub source_cut : ℕ → Mac × Remembered → Mac × Remembered
 source_cut w e = (e.0, record { seen = window_cut w e.1.seen; time = e.1.time })
 
 abbrev pub recut : ℕ → Sources → Sources

@@ -17,7 +17,7 @@ use Rattle.sr_dup_window.specs.LaneSets.{flag, has, none}
 use Rattle.sr_dup_window.specs.Windows.{Window}
 use Rattle.sr_dup_window.specs.Records.{IsWhole}
 use Rattle.sr_dup_table.specs.Limits.{window, most_sources}
-use Rattle.sr_dup_table.specs.Sources.{Heard, Sources}
+use Rattle.sr_dup_table.specs.Sources.{Remembered, Sources}
 use Rattle.sr_dup_table.specs.Same.{AreSame}
 
 -- whether the number at a distance before the greatest one is noted on a lane
@@ -49,7 +49,7 @@ record_octets w r =
     ++ lane_octets w r.marks C ++ lane_octets w r.marks GotA ++ lane_octets w r.marks GotB
 
 -- a source: its address, when it was last heard, and its record
-abbrev pub source_octets : ℕ → Mac × Heard → List ℕ
+abbrev pub source_octets : ℕ → Mac × Remembered → List ℕ
 source_octets w e = e.0.0 ++ to_be_bytes w64 e.1.time ++ record_octets w e.1.seen
 
 -- how many octets a source has: address, time, greatest number and six lanes
@@ -73,7 +73,7 @@ abbrev pub mac_order : Mac → Mac → Ordering
 mac_order x y = slice_cmp nat_cmp x.0 y.0
 
 -- what stands in a table: an address of six octets, a time of 64 bits, and a record of w numbers, the greatest noted on some lane
-pub record IsSource (w : ℕ) (e : Mac × Heard) : Type 0 where
+pub record IsSource (w : ℕ) (e : Mac × Remembered) : Type 0 where
   pub address : length e.0.0 ≡ 6
   pub time : e.1.time < 2 ^ 64
   pub whole : IsWhole w e.1.seen

@@ -8,13 +8,13 @@ ghost use Rattle.sr_dup_window.specs.LaneSets.{is_empty, none};
 ghost use Rattle.sr_dup_window.specs.Windows.{window_of};
 ghost use Rattle.sr_dup_table.specs.Limits.{most_sources};
 ghost use Rattle.sr_dup_table.specs.Widths.{numbers_in};
-ghost use Rattle.sr_dup_table.specs.Sources.{Heard, Sources};
+ghost use Rattle.sr_dup_table.specs.Sources.{Remembered, Sources};
 ghost use Rattle.sr_dup_snapshots.specs.Snapshots.{head, source_len, IsSnapshot};
 ghost use Rattle.sr_dup_snapshots.specs.Reading.{time_in, reference_in, lanes_in, source_in, sources_in, is_after, follows, are_in_order, source_cut, recut, IsText, IsReadAs};
 
 use crate::fields::{NARROW_HEAD, WIDE_HEAD, source_len};
 use crate::record::{lanes_noted, read_record};
-use sr_dup_table::{DupFault, DupTable, MOST_SOURCES, TableOf, Width};
+use sr_dup_table::{DupFault, DupTable, MAX_SOURCES, TableOf, Width};
 use sr_dup_window::Record;
 use sr_frame::{Mac, NoMemory};
 use sr_sequence::Seq;
@@ -70,7 +70,7 @@ fn sources_of(octets: &[u8]) -> Option<Text<'_>>
     let (width, rest) = width_front(octets)?;
     let (count, sources) = number_front(rest)?;
     let count = usize::from(count);
-    if count <= MOST_SOURCES && sources.len() == source_len(width) * count {
+    if count <= MAX_SOURCES && sources.len() == source_len(width) * count {
         Some(Text {
             width,
             count,

@@ -10,7 +10,7 @@ use Rattle.sr_frame.specs.AddressLemmas.{mac_same}
 use Rattle.sr_slots.specs.EntryLemmas.{lookup-passing}
 use Rattle.sr_slots.specs.Calls.{passing}
 use Rattle.sr_sequence.specs.Places.{steps}
-use Rattle.sr_dup_window.specs.Spots.{IsWidth}
+use Rattle.sr_dup_window.specs.Bins.{IsWidth}
 use Rattle.sr_dup_window.specs.WindowLemmas.{merged-stands}
 use Rattle.sr_dup_window.specs.MergeLemmas.{merged-commutes, merged-self, merged-associates}
 use Rattle.sr_dup_window.specs.declared.record.Record.{Record}
@@ -20,15 +20,15 @@ use Rattle.sr_dup_table.specs.Shown.{heard_of, sources_of}
 use Rattle.sr_dup_table.proofs.SourceLemmas.{lookup-shown}
 use Rattle.sr_dup_window.specs.Records.{IsWhole}
 use Rattle.sr_dup_window.specs.Families.{Family, IsClose, join, greater}
-use Rattle.sr_dup_table.specs.Sources.{Heard, Sources, IsTable, is_live, live_at}
+use Rattle.sr_dup_table.specs.Sources.{Remembered, Sources, IsTable, is_live, live_at}
 use Rattle.sr_dup_table.specs.Joins.{joined, joined_heard, is_apart, first_apart}
 use Rattle.sr_dup_table.specs.JoinLaws.{IsSound, MergesTo, AreClose, Stands, MergeCommutes, MergeIsIdempotent, MergeAssociates, MergeStands}
 
 -- records of an address, or none, each of w numbers
-abbrev pub WholeRecord : ℕ → Option Heard → Type 0
-WholeRecord w o = (h : Heard) → o ≡ Some h → IsWhole w h.seen
+abbrev pub WholeRecord : ℕ → Option Remembered → Type 0
+WholeRecord w o = (h : Remembered) → o ≡ Some h → IsWhole w h.seen
 
-heard-same : (a b : Heard) → a.seen ≡ b.seen → a.time ≡ b.time → a ≡ b
+heard-same : (a b : Remembered) → a.seen ≡ b.seen → a.time ≡ b.time → a ≡ b
 heard-same a b e f = λ i. record { seen = e i; time = f i }
 
 max-turned : (x y : ℕ) → max x y ≡ max y x
@@ -43,28 +43,28 @@ whole-shown {N} es src h e = by (lookup (mac_eq src) es) (sym (lookup-shown (mac
   where
     by : (o : Option (Aged (Record N))) → option_map heard_of o ≡ Some h → IsWhole (64 * N) h.seen
     by None p = cc
-    by (Some x) p = let same : heard_of x ≡ h = cc in subst (λ (g : Heard). IsWhole (64 * N) g.seen) same (record-whole x.value)
+    by (Some x) p = let same : heard_of x ≡ h = cc in subst (λ (g : Remembered). IsWhole (64 * N) g.seen) same (record-whole x.value)
 
 -- no two records that are looked at are apart
-abbrev AreNear : Option Heard → Option Heard → Type 0
-AreNear a b = (x y : Heard) → a ≡ Some x → b ≡ Some y → steps x.seen.reference y.seen.reference ≢ 32768
+abbrev AreNear : Option Remembered → Option Remembered → Type 0
+AreNear a b = (x y : Remembered) → a ≡ Some x → b ≡ Some y → steps x.seen.reference y.seen.reference ≢ 32768
 
-joined-commutes : (w : ℕ) → IsWidth w → (a b : Option Heard) → WholeRecord w a → WholeRecord w b → AreNear a b → joined w a b ≡ joined w b a
+joined-commutes : (w : ℕ) → IsWidth w → (a b : Option Remembered) → WholeRecord w a → WholeRecord w b → AreNear a b → joined w a b ≡ joined w b a
 joined-commutes w width None None one two near = refl
 joined-commutes w width None (Some b) one two near = refl
 joined-commutes w width (Some a) None one two near = refl
 joined-commutes w width (Some a) (Some b) one two near =
     ap Some (heard-same (joined_heard w a b) (joined_heard w b a) (merged-commutes w a.seen b.seen width (one a refl) (two b refl) (near a b refl refl)) (max-turned a.time b.time))
 
-joined-self : (w : ℕ) → IsWidth w → (a : Option Heard) → WholeRecord w a → joined w a a ≡ a
+joined-self : (w : ℕ) → IsWidth w → (a : Option Remembered) → WholeRecord w a → joined w a a ≡ a
 joined-self w width None one = refl
 joined-self w width (Some a) one = ap Some (heard-same (joined_heard w a a) a (merged-self w a.seen width (one a refl)) (omega arith))
 
-joined-none : (w : ℕ) (a : Option Heard) → joined w a None ≡ a
+joined-none : (w : ℕ) (a : Option Remembered) → joined w a None ≡ a
 joined-none w None = refl
 joined-none w (Some a) = refl
 
-joined-associates : (w : ℕ) → IsWidth w → (a b c : Option Heard) → WholeRecord w a → WholeRecord w b → WholeRecord w c → AreClose a b c → joined w (joined w a b) c ≡ joined w a (joined w b c)
+joined-associates : (w : ℕ) → IsWidth w → (a b c : Option Remembered) → WholeRecord w a → WholeRecord w b → WholeRecord w c → AreClose a b c → joined w (joined w a b) c ≡ joined w a (joined w b c)
 joined-associates w width None b c one two three close = refl
 joined-associates w width (Some a) None c one two three close = refl
 joined-associates w width (Some a) (Some b) None one two three close = refl
@@ -97,7 +97,7 @@ find-near one (e ∷ other) none src x y p q = by (is_apart (lookup (mac_eq e.0)
 live-lookup : (now : ℕ) (s : Sources) (src : Mac) → IsTable s → lookup (mac_eq src) (live_at now s) ≡ passing (is_live now) (lookup (mac_eq src) s)
 live-lookup now s src table = lookup-passing (is_live now) src s table.unique
 
-passing-some : (now : ℕ) (o : Option Heard) (h : Heard) → passing (is_live now) o ≡ Some h → (o ≡ Some h) × (is_live now h ≡ true)
+passing-some : (now : ℕ) (o : Option Remembered) (h : Remembered) → passing (is_live now) o ≡ Some h → (o ≡ Some h) × (is_live now h ≡ true)
 passing-some now None h e = cc
 passing-some now (Some g) h e = by (is_live now g) refl e
   where
@@ -109,18 +109,18 @@ live-whole : (w : ℕ) (now : ℕ) (s : Sources) (src : Mac) → IsSound w s →
 live-whole w now s src sound h e = sound.1 src h (passing-some now (lookup (mac_eq src) s) h (sym (live-lookup now s src sound.0) ∙ e)).0
 
 -- what live sources join to is live
-later-live : (w : ℕ) (now : ℕ) (a b : Heard) → is_live now a ≡ true → is_live now (joined_heard w a b) ≡ true
+later-live : (w : ℕ) (now : ℕ) (a b : Remembered) → is_live now a ≡ true → is_live now (joined_heard w a b) ≡ true
 later-live w now a b live = let l : now - a.time < 400 = ltb-true (now - a.time) 400 live in lt-ltb (now - max a.time b.time) 400 (omega arith)
 
-AllLive : ℕ → Option Heard → Type 0
-AllLive now o = (h : Heard) → o ≡ Some h → is_live now h ≡ true
+AllLive : ℕ → Option Remembered → Type 0
+AllLive now o = (h : Remembered) → o ≡ Some h → is_live now h ≡ true
 
-passing-live : (now : ℕ) (o : Option Heard) → AllLive now o → passing (is_live now) o ≡ o
+passing-live : (now : ℕ) (o : Option Remembered) → AllLive now o → passing (is_live now) o ≡ o
 unfolding AllLive
 passing-live now None live = refl
 passing-live now (Some h) live = ap (λ b. cond b (Some h) None) (live h refl)
 
-joined-live : (w : ℕ) (now : ℕ) (a b : Option Heard) → AllLive now a → AllLive now b → AllLive now (joined w a b)
+joined-live : (w : ℕ) (now : ℕ) (a b : Option Remembered) → AllLive now a → AllLive now b → AllLive now (joined w a b)
 unfolding AllLive
 joined-live w now None b one two = two
 joined-live w now (Some a) None one two = one
@@ -160,7 +160,7 @@ merge_associates_lem w width now one other third first second left right a b c d
     ∙ sym (ap (joined w x) (join-live w now other third second src b.0 c.0 e bc))
     ∙ sym (a_bc.each src)
 
-joined-stands : (w : ℕ) → IsWidth w → (a b : Option Heard) (f g : Family) (m n : ℤ) (time late : ℕ) → Stands w a f m time → Stands w b g n late → IsClose m n
+joined-stands : (w : ℕ) → IsWidth w → (a b : Option Remembered) (f g : Family) (m n : ℤ) (time late : ℕ) → Stands w a f m time → Stands w b g n late → IsClose m n
     → Stands w (joined w a b) (join f g) (greater m n) (max time late)
 joined-stands w width None b f g m n time late s t close = absurd s
 joined-stands w width (Some a) None f g m n time late s t close = absurd t

@@ -15,24 +15,24 @@ use Rattle.sr_slots.specs.Calls.{passing}
 use Rattle.std.proofs.lemmas.Bool.{ltb-false, le-ltb}
 use Rattle.sr_dup_table.specs.declared.fault.DupFault.{DupFault}
 use Rattle.sr_dup_table.specs.declared.fault.DupFault.TheVariants.{TableFull, Apart, NoMemory}
-use Rattle.sr_dup_table.specs.Sources.{Heard, Sources, Table, is_live, live_at}
+use Rattle.sr_dup_table.specs.Sources.{Remembered, Sources, Table, is_live, live_at}
 use Rattle.sr_dup_table.specs.Joins.{joined, joined_heard, lacking_in, IsJoin, join_count, is_apart, first_apart, join_fault, merge_fault, new_source, apart_source, or_else, put_with, with_source, with_sources}
 use Rattle.sr_dup_table.proofs.SameLemmas.{absent_apart}
 
 -- what stands at an address after one source was joined
-at_with : (w : ℕ) (s : Sources) (e : Mac × Heard) (q : Mac) (o : Option Heard) → lookup (mac_eq e.0) s ≡ o
+at_with : (w : ℕ) (s : Sources) (e : Mac × Remembered) (q : Mac) (o : Option Remembered) → lookup (mac_eq e.0) s ≡ o
     → lookup (mac_eq q) (put_with w o s e) ≡ cond (mac_eq e.0 q) (joined w o (Some e.1)) (lookup (mac_eq q) s)
 at_with w s e q None at = lookup-push e.0 q e.1 s at
 at_with w s e q (Some h) at = lookup-set e.0 q (joined_heard w h e.1) s (ap is_some at)
 
-lookup-with : (w : ℕ) (s : Sources) (e : Mac × Heard) (q : Mac) → lookup (mac_eq q) (with_source w s e) ≡ cond (mac_eq e.0 q) (joined w (lookup (mac_eq e.0) s) (Some e.1)) (lookup (mac_eq q) s)
+lookup-with : (w : ℕ) (s : Sources) (e : Mac × Remembered) (q : Mac) → lookup (mac_eq q) (with_source w s e) ≡ cond (mac_eq e.0 q) (joined w (lookup (mac_eq e.0) s) (Some e.1)) (lookup (mac_eq q) s)
 lookup-with w s e q = at_with w s e q (lookup (mac_eq e.0) s) refl
 
 -- another address is left as it was
-pub lookup-other : (w : ℕ) (s : Sources) (e : Mac × Heard) (q : Mac) → mac_eq e.0 q ≡ false → lookup (mac_eq q) (with_source w s e) ≡ lookup (mac_eq q) s
+pub lookup-other : (w : ℕ) (s : Sources) (e : Mac × Remembered) (q : Mac) → mac_eq e.0 q ≡ false → lookup (mac_eq q) (with_source w s e) ≡ lookup (mac_eq q) s
 lookup-other w s e q apart = lookup-with w s e q ∙ ap (λ b. cond b (joined w (lookup (mac_eq e.0) s) (Some e.1)) (lookup (mac_eq q) s)) apart
 
-joined-right : (w : ℕ) (a : Option Heard) → joined w a None ≡ a
+joined-right : (w : ℕ) (a : Option Remembered) → joined w a None ≡ a
 joined-right w None = refl
 joined-right w (Some a) = refl
 
@@ -61,28 +61,28 @@ apart-same m s other (x ∷ t) apart same = by (is_apart (lookup (mac_eq x.0) s)
 pub live-none : (now : ℕ) (s : Sources) (q : Mac) → IsDistinct mac_eq (keys_of s) → lookup (mac_eq q) s ≡ None → lookup (mac_eq q) (live_at now s) ≡ None
 live-none now s q unique at = lookup-passing (is_live now) q s unique ∙ ap (passing (is_live now)) at
 
-pub live-there : (now : ℕ) (s : Sources) (q : Mac) (h : Heard) → IsDistinct mac_eq (keys_of s) → lookup (mac_eq q) s ≡ Some h → is_live now h ≡ true → lookup (mac_eq q) (live_at now s) ≡ Some h
+pub live-there : (now : ℕ) (s : Sources) (q : Mac) (h : Remembered) → IsDistinct mac_eq (keys_of s) → lookup (mac_eq q) s ≡ Some h → is_live now h ≡ true → lookup (mac_eq q) (live_at now s) ≡ Some h
 live-there now s q h unique at live = lookup-passing (is_live now) q s unique ∙ ap (passing (is_live now)) at ∙ ap (λ b. cond b (Some h) None) live
 
-pub live-gone : (now : ℕ) (s : Sources) (q : Mac) (h : Heard) → IsDistinct mac_eq (keys_of s) → lookup (mac_eq q) s ≡ Some h → is_live now h ≡ false → lookup (mac_eq q) (live_at now s) ≡ None
+pub live-gone : (now : ℕ) (s : Sources) (q : Mac) (h : Remembered) → IsDistinct mac_eq (keys_of s) → lookup (mac_eq q) s ≡ Some h → is_live now h ≡ false → lookup (mac_eq q) (live_at now s) ≡ None
 live-gone now s q h unique at dead = lookup-passing (is_live now) q s unique ∙ ap (passing (is_live now)) at ∙ ap (λ b. cond b (Some h) None) dead
 
 -- the first of some is live, or not
-pub live-first : (now : ℕ) (e : Mac × Heard) (r es : Sources) → es ≡ e ∷ r → is_live now e.1 ≡ true → live_at now es ≡ e ∷ live_at now r
+pub live-first : (now : ℕ) (e : Mac × Remembered) (r es : Sources) → es ≡ e ∷ r → is_live now e.1 ≡ true → live_at now es ≡ e ∷ live_at now r
 live-first now e r es parts live = ap (live_at now) parts ∙ ap (λ b. cond b (e ∷ live_at now r) (live_at now r)) live
 
-pub live-passed : (now : ℕ) (e : Mac × Heard) (r es : Sources) → es ≡ e ∷ r → is_live now e.1 ≡ false → live_at now es ≡ live_at now r
+pub live-passed : (now : ℕ) (e : Mac × Remembered) (r es : Sources) → es ≡ e ∷ r → is_live now e.1 ≡ false → live_at now es ≡ live_at now r
 live-passed now e r es parts dead = ap (live_at now) parts ∙ ap (λ b. cond b (e ∷ live_at now r) (live_at now r)) dead
 
 -- what is seen of the first of some
-pub count-first : (s t : Sources) (e : Mac × Heard) → length (lacking_in s (e ∷ t)) ≡ length (new_source (lookup (mac_eq e.0) s) e) + length (lacking_in s t)
+pub count-first : (s t : Sources) (e : Mac × Remembered) → length (lacking_in s (e ∷ t)) ≡ length (new_source (lookup (mac_eq e.0) s) e) + length (lacking_in s t)
 count-first s t e = by (is_some (lookup (mac_eq e.0) s))
   where
     by : (b : Bool) → length (cond (not b) (e ∷ lacking_in s t) (lacking_in s t)) ≡ length (cond b [] (e ∷ [])) + length (lacking_in s t)
     by true = omega arith
     by false = omega arith
 
-pub apart-first : (s t : Sources) (e : Mac × Heard) (o : Option Mac) → or_else o (first_apart s (e ∷ t)) ≡ or_else (or_else o (apart_source (lookup (mac_eq e.0) s) e)) (first_apart s t)
+pub apart-first : (s t : Sources) (e : Mac × Remembered) (o : Option Mac) → or_else o (first_apart s (e ∷ t)) ≡ or_else (or_else o (apart_source (lookup (mac_eq e.0) s) e)) (first_apart s t)
 apart-first s t e (Some m) = refl
 apart-first s t e None = by (is_apart (lookup (mac_eq e.0) s) e.1)
   where
@@ -103,20 +103,20 @@ pub not-true : (b : Bool) → not b ≡ true → b ≡ false
 not-true true h = sym h
 not-true false h = refl
 
-put-more : (w : ℕ) (s : Sources) (e : Mac × Heard) (o : Option Heard) → length (put_with w o s e) ≡ length s + length (new_source o e)
+put-more : (w : ℕ) (s : Sources) (e : Mac × Remembered) (o : Option Remembered) → length (put_with w o s e) ≡ length s + length (new_source o e)
 put-more w s e None = length-append s (e ∷ [])
 put-more w s e (Some h) = omega (arith, length-set_value (mac_eq e.0) s (joined_heard w h e.1))
 
-pub length-known : (w : ℕ) (s : Sources) (e : Mac × Heard) → is_some (lookup (mac_eq e.0) s) ≡ true → length (with_source w s e) ≡ length s
+pub length-known : (w : ℕ) (s : Sources) (e : Mac × Remembered) → is_some (lookup (mac_eq e.0) s) ≡ true → length (with_source w s e) ≡ length s
 length-known w s e there = omega (arith, put-more w s e (lookup (mac_eq e.0) s), ap (λ b. length (cond b [] (e ∷ []))) there)
 
 -- one live source that is close is joined, and what is left makes the same of it
-pub record Takes (w : ℕ) (now : ℕ) (s : Sources) (e : Mac × Heard) (r es : Sources) : Type 0 where
+pub record Takes (w : ℕ) (now : ℕ) (s : Sources) (e : Mac × Remembered) (r es : Sources) : Type 0 where
   pub rest : with_sources w (with_source w s e) (live_at now r) ≡ with_sources w s (live_at now es)
   pub close : first_apart (with_source w s e) (live_at now r) ≡ first_apart s (live_at now es)
   pub count : length (with_source w s e) + length (lacking_in (with_source w s e) (live_at now r)) ≡ join_count s (live_at now es)
 
-pub takes : (w : ℕ) (now : ℕ) (s : Sources) (e : Mac × Heard) (r es : Sources) → es ≡ e ∷ r → is_live now e.1 ≡ true → IsDistinct mac_eq (keys_of es)
+pub takes : (w : ℕ) (now : ℕ) (s : Sources) (e : Mac × Remembered) (r es : Sources) → es ≡ e ∷ r → is_live now e.1 ≡ true → IsDistinct mac_eq (keys_of es)
     → is_apart (lookup (mac_eq e.0) s) e.1 ≡ false → Takes w now s e r es
 unfolding IsDistinct
 takes w now s e r es parts live unique near =
@@ -135,11 +135,11 @@ takes w now s e r es parts live unique near =
     }
 
 -- of what has a join, each live source is close and finds room
-pub record Fits (w : ℕ) (s : Sources) (e : Mac × Heard) : Type 0 where
+pub record Fits (w : ℕ) (s : Sources) (e : Mac × Remembered) : Type 0 where
   pub room : length (with_source w s e) ≤ 1024
   pub close : is_apart (lookup (mac_eq e.0) s) e.1 ≡ false
 
-pub fits : (w : ℕ) (now : ℕ) (s : Sources) (e : Mac × Heard) (r es : Sources) → es ≡ e ∷ r → is_live now e.1 ≡ true → first_apart s (live_at now es) ≡ None
+pub fits : (w : ℕ) (now : ℕ) (s : Sources) (e : Mac × Remembered) (r es : Sources) → es ≡ e ∷ r → is_live now e.1 ≡ true → first_apart s (live_at now es) ≡ None
     → join_count s (live_at now es) ≤ 1024 → Fits w s e
 fits w now s e r es parts live none few =
     let here : live_at now es ≡ e ∷ live_at now r = live-first now e r es parts live in
@@ -157,12 +157,12 @@ pub joinable : (s t : Sources) → join_count s t ≤ 1024 → first_apart s t �
 joinable s t few none = rw (le-ltb 1024 (join_count s t) few, none) refl
 
 -- the keys that are left
-pub distinct-rest : (e : Mac × Heard) (r es : Sources) → es ≡ e ∷ r → IsDistinct mac_eq (keys_of es) → IsDistinct mac_eq (keys_of r)
+pub distinct-rest : (e : Mac × Remembered) (r es : Sources) → es ≡ e ∷ r → IsDistinct mac_eq (keys_of es) → IsDistinct mac_eq (keys_of r)
 unfolding IsDistinct
 distinct-rest e r es parts unique = (subst (λ x. IsDistinct mac_eq (keys_of x)) parts unique).1
 
 -- sources that are joined one after another are the join
-keys-put : (w : ℕ) (s t : Sources) (e : Mac × Heard) (o : Option Heard) → lookup (mac_eq e.0) s ≡ o → lacking_in (put_with w o s e) t ≡ lacking_in s t
+keys-put : (w : ℕ) (s t : Sources) (e : Mac × Remembered) (o : Option Remembered) → lookup (mac_eq e.0) s ≡ o → lacking_in (put_with w o s e) t ≡ lacking_in s t
     → keys_of (put_with w o s e) ++ keys_of (lacking_in (put_with w o s e) t) ≡ keys_of s ++ keys_of (cond (not (is_some o)) (e ∷ lacking_in s t) (lacking_in s t))
 keys-put w s t e None at same =
     (λ i. keys_of (s ++ e ∷ []) ++ keys_of (same i))

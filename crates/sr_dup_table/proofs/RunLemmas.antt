@@ -10,29 +10,29 @@ use Rattle.sr_slots.specs.Calls.{passing}
 use Rattle.sr_slots.specs.EntryLemmas.{one_if, lookup-set, distinct-set, lookup-push, distinct-push, lookup-passing, distinct-passing, length-passing-set, length-passing-push}
 use Rattle.sr_dup_window.specs.declared.lane_sets.Lanes.{Lanes}
 use Rattle.sr_dup_window.specs.Windows.{window_noted, fresh_lanes}
-use Rattle.sr_dup_table.specs.Sources.{Heard, Sources, IsTable, is_live, live_at, with_room, begun_at, heard_next, answer_of, arrive_answer, after_of, after_arrive}
+use Rattle.sr_dup_table.specs.Sources.{Remembered, Sources, IsTable, is_live, live_at, with_room, begun_at, heard_next, answer_of, arrive_answer, after_of, after_arrive}
 use Rattle.sr_dup_table.specs.Ageing.{TableArrival, answer_to, left_by, answers, AreFrom, AgeingKeepsAnswers}
 use Rattle.sr_dup_table.proofs.SourceLemmas.{length-live_le}
 
 -- the record of a source, if it is live
-abbrev live_record : ℕ → Sources → Mac → Option Heard
+abbrev live_record : ℕ → Sources → Mac → Option Remembered
 live_record now s src = passing (is_live now) (lookup (mac_eq src) s)
 
 -- what a table answers, by that record and the number of the live ones alone
-abbrev answer_by : ℕ → Option Heard → ℕ → ℕ → Lanes → Option Lanes
+abbrev answer_by : ℕ → Option Remembered → ℕ → ℕ → Lanes → Option Lanes
 answer_by w (Some h) n seq lanes = Some (fresh_lanes w h.seen seq lanes)
 answer_by w None n seq lanes = cond (nat_lt n 1024) (Some lanes) None
 
 -- the record after it
-abbrev next_by : ℕ → Option Heard → ℕ → Lanes → ℕ → Heard
+abbrev next_by : ℕ → Option Remembered → ℕ → Lanes → ℕ → Remembered
 next_by w (Some h) seq lanes now = record { seen = window_noted w h.seen seq lanes; time = max h.time now }
 next_by w None seq lanes now = begun_at w seq lanes now
 
 -- what is live later was live before
-live_before : (now later : ℕ) (h : Heard) → now ≤ later → is_live later h ≡ true → is_live now h ≡ true
+live_before : (now later : ℕ) (h : Remembered) → now ≤ later → is_live later h ≡ true → is_live now h ≡ true
 live_before now later h le live = let l : later - h.time < 400 = ltb-true (later - h.time) 400 live in lt-ltb (now - h.time) 400 (omega arith)
 
-passing_before : (now later : ℕ) (o : Option Heard) → now ≤ later → passing (is_live later) (passing (is_live now) o) ≡ passing (is_live later) o
+passing_before : (now later : ℕ) (o : Option Remembered) → now ≤ later → passing (is_live later) (passing (is_live now) o) ≡ passing (is_live later) o
 passing_before now later None le = refl
 passing_before now later (Some h) le = by (is_live now h) refl (is_live later h) refl
   where
@@ -53,7 +53,7 @@ live_again now later (e ∷ s) le = by (is_live now e.1) refl (is_live later e.1
     by false p false q ih = ih ∙ sym (ap (λ c. cond c (e ∷ live_at later s) (live_at later s)) q)
 
 -- a source with a forgotten record is one more than the live ones
-forgotten_more : (m : Mac) (now : ℕ) (h : Heard) (s : Sources) → lookup (mac_eq m) s ≡ Some h → is_live now h ≡ false → length (live_at now s) < length s
+forgotten_more : (m : Mac) (now : ℕ) (h : Remembered) (s : Sources) → lookup (mac_eq m) s ≡ Some h → is_live now h ≡ false → length (live_at now s) < length s
 forgotten_more m now h [] there dead = cc
 forgotten_more m now h (e ∷ s) there dead = by (mac_eq m e.0) there (is_live now e.1) refl (λ t. forgotten_more m now h s t dead)
   where
@@ -74,7 +74,7 @@ room_is now s = by (nat_lt (length s) 1024) refl
 
 module _ (w : ℕ) (s : Sources) (m : Mac) (seq : ℕ) (lanes : Lanes) (now : ℕ) (table : IsTable s) where
   -- the answer
-  answer_at : (o : Option Heard) → lookup (mac_eq m) s ≡ o → answer_of w o s seq lanes now ≡ answer_by w (passing (is_live now) o) (length (live_at now s)) seq lanes
+  answer_at : (o : Option Remembered) → lookup (mac_eq m) s ≡ o → answer_of w o s seq lanes now ≡ answer_by w (passing (is_live now) o) (length (live_at now s)) seq lanes
   answer_at None at = ap (λ b. cond b (Some lanes) None) (room_is now s)
   answer_at (Some h) at = by (is_live now h) refl
     where
@@ -86,7 +86,7 @@ module _ (w : ℕ) (s : Sources) (m : Mac) (seq : ℕ) (lanes : Lanes) (now : �
   answer_is = answer_at (lookup (mac_eq m) s) refl
 
   -- the record after it
-  next_at : (h : Heard) → heard_next w h seq lanes now ≡ next_by w (passing (is_live now) (Some h)) seq lanes now
+  next_at : (h : Remembered) → heard_next w h seq lanes now ≡ next_by w (passing (is_live now) (Some h)) seq lanes now
   next_at h = by (is_live now h)
     where
       by : (b : Bool) → cond b (next_by w (Some h) seq lanes now) (begun_at w seq lanes now) ≡ next_by w (cond b (Some h) None) seq lanes now
@@ -94,23 +94,23 @@ module _ (w : ℕ) (s : Sources) (m : Mac) (seq : ℕ) (lanes : Lanes) (now : �
       by false = refl
 
   -- what was answered leaves a table, with this source's record anew and all others as they were
-  record Leaves (next : Heard) (new : Sources) : Type 0 where
+  record Leaves (next : Remembered) (new : Sources) : Type 0 where
     pub kept : IsTable new
     pub live : (u : ℕ) → now ≤ u → (q : Mac) → live_record u new q ≡ cond (mac_eq m q) (passing (is_live u) (Some next)) (live_record u s q)
     pub count : (u : ℕ) → now ≤ u → length (live_at u new) + one_if (is_some (live_record u s m)) ≡ length (live_at u s) + one_if (is_live u next)
 
-  through_cond : (u : ℕ) (b : Bool) (x : Heard) (o : Option Heard) → passing (is_live u) (cond b (Some x) o) ≡ cond b (passing (is_live u) (Some x)) (passing (is_live u) o)
+  through_cond : (u : ℕ) (b : Bool) (x : Remembered) (o : Option Remembered) → passing (is_live u) (cond b (Some x) o) ≡ cond b (passing (is_live u) (Some x)) (passing (is_live u) o)
   through_cond u true x o = refl
   through_cond u false x o = refl
 
-  is_some_passing : (u : ℕ) (h : Heard) → is_some (passing (is_live u) (Some h)) ≡ is_live u h
+  is_some_passing : (u : ℕ) (h : Remembered) → is_some (passing (is_live u) (Some h)) ≡ is_live u h
   is_some_passing u h = by (is_live u h)
     where
       by : (b : Bool) → is_some (cond b (Some h) None) ≡ b
       by true = refl
       by false = refl
 
-  leaves_again : (h v : Heard) → lookup (mac_eq m) s ≡ Some h → Leaves v (set_value (mac_eq m) s v)
+  leaves_again : (h v : Remembered) → lookup (mac_eq m) s ≡ Some h → Leaves v (set_value (mac_eq m) s v)
   leaves_again h v at = record {
     kept = record { unique = distinct-set m v s table.unique; few = omega (arith, length-set_value (mac_eq m) s v, table.few) };
     live = λ u le q. ap (passing (is_live u)) (lookup-set m q v s (ap is_some at)) ∙ through_cond u (mac_eq m q) v (lookup (mac_eq q) s);
@@ -148,7 +148,7 @@ module _ (w : ℕ) (s : Sources) (m : Mac) (seq : ℕ) (lanes : Lanes) (now : �
       by true = refl
       by false = live_again now u s le
 
-  leaves_new : (v : Heard) → lookup (mac_eq m) s ≡ None → nat_lt (length (with_room now s)) 1024 ≡ true → Leaves v (with_room now s ++ (m, v) ∷ [])
+  leaves_new : (v : Remembered) → lookup (mac_eq m) s ≡ None → nat_lt (length (with_room now s)) 1024 ≡ true → Leaves v (with_room now s ++ (m, v) ∷ [])
   leaves_new v at room =
       let r = with_room now s in
       let few : length r < 1024 = ltb-true (length r) 1024 room in
@@ -166,7 +166,7 @@ module _ (w : ℕ) (s : Sources) (m : Mac) (seq : ℕ) (lanes : Lanes) (now : �
   answered true fresh h = refl
   answered false fresh h = cc
 
-  leaves_at : (o : Option Heard) → lookup (mac_eq m) s ≡ o → (fresh : Lanes) → answer_of w o s seq lanes now ≡ Some fresh → Leaves (next_by w (passing (is_live now) o) seq lanes now) (after_of w o s m seq lanes now)
+  leaves_at : (o : Option Remembered) → lookup (mac_eq m) s ≡ o → (fresh : Lanes) → answer_of w o s seq lanes now ≡ Some fresh → Leaves (next_by w (passing (is_live now) o) seq lanes now) (after_of w o s m seq lanes now)
   leaves_at None at fresh said = leaves_new (begun_at w seq lanes now) at (answered (nat_lt (length (with_room now s)) 1024) fresh said)
   leaves_at (Some h) at fresh said =
       subst (λ v. Leaves v (set_value (mac_eq m) s (heard_next w h seq lanes now))) (next_at h) (leaves_again h (heard_next w h seq lanes now) at)

@@ -11,19 +11,19 @@ use Rattle.sr_frame.specs.declared.fields.Mac.{Mac}
 use Rattle.sr_frame.specs.Addresses.{mac_eq}
 use Rattle.sr_frame.specs.AddressLemmas.{mac_same, mac_refl, mac_laws}
 use Rattle.sr_dup_table.specs.EqualityLemmas.{Decides-heard}
-use Rattle.sr_dup_table.specs.Sources.{Heard, Sources, Table, IsTable}
+use Rattle.sr_dup_table.specs.Sources.{Remembered, Sources, Table, IsTable}
 use Rattle.sr_dup_table.specs.Same.{AreSame, is_record, has_source, has_all}
 
-is_record-there : (o : Option Heard) (h : Heard) → is_record o h ≡ true → o ≡ Some h
+is_record-there : (o : Option Remembered) (h : Remembered) → is_record o h ≡ true → o ≡ Some h
 is_record-there None h e = cc
 is_record-there (Some g) h e = ap Some ((Decides-heard g h).0 e)
 
-there-is_record : (o : Option Heard) (h : Heard) → o ≡ Some h → is_record o h ≡ true
+there-is_record : (o : Option Remembered) (h : Remembered) → o ≡ Some h → is_record o h ≡ true
 there-is_record None h e = cc
 there-is_record (Some g) h e = let same : g ≡ h = cc in (Decides-heard g h).1 same
 
 -- what stands in one stands in the other
-all_there : (s t : Sources) → has_all t s ≡ true → (src : Mac) (h : Heard) → lookup (mac_eq src) s ≡ Some h → lookup (mac_eq src) t ≡ Some h
+all_there : (s t : Sources) → has_all t s ≡ true → (src : Mac) (h : Remembered) → lookup (mac_eq src) s ≡ Some h → lookup (mac_eq src) t ≡ Some h
 all_there [] t all src h there = cc
 all_there (e ∷ s) t all src h there = by (mac_eq src e.0) refl there parts.0 (λ here. all_there s t parts.1 src h here)
   where
@@ -51,13 +51,13 @@ pub absent_apart : (m : Mac) (es : Sources) → AllByRecursion (λ y. mac_eq m y
 absent_apart m [] h = refl
 absent_apart m (e ∷ es) h = ap (λ b. cond b (Some e.1) (lookup (mac_eq m) es)) h.0 ∙ absent_apart m es h.1
 
-some_there : (o : Option Heard) (h : Heard) → o ≡ Some h → IsSome o
+some_there : (o : Option Remembered) (h : Remembered) → o ≡ Some h → IsSome o
 some_there None h e = cc
 some_there (Some g) h e = refl
 
 -- an address that stands in one list alone would make it the longer one
 absent_too : (s t : Sources) → IsDistinct mac_eq (keys_of s) → length t ≤ length s → has_all t s ≡ true
-    → (src : Mac) → lookup (mac_eq src) s ≡ None → (o : Option Heard) → lookup (mac_eq src) t ≡ o → o ≡ None
+    → (src : Mac) → lookup (mac_eq src) s ≡ None → (o : Option Remembered) → lookup (mac_eq src) t ≡ o → o ≡ None
 unfolding IsDistinct
 absent_too s t unique few all src none None at = refl
 absent_too s t unique few all src none (Some g) at = absurd (omega (arith, more, length-keys_of s))
@@ -65,7 +65,7 @@ absent_too s t unique few all src none (Some g) at = absurd (omega (arith, more,
     distinct : IsDistinct mac_eq (src ∷ keys_of s)
     distinct = (apart_absent src s none, unique)
 
-    in_list : (q : Mac) (o : Option Heard) → lookup (mac_eq q) s ≡ o → is_some (lookup (mac_eq q) s) ≡ true → IsSome (lookup (mac_eq q) t)
+    in_list : (q : Mac) (o : Option Remembered) → lookup (mac_eq q) s ≡ o → is_some (lookup (mac_eq q) s) ≡ true → IsSome (lookup (mac_eq q) t)
     in_list q None p e = let bad : false ≡ true = sym (ap is_some p) ∙ e in cc
     in_list q (Some h) p e = some_there (lookup (mac_eq q) t) h (all_there s t all q h p)
 
@@ -80,12 +80,12 @@ absent_too s t unique few all src none (Some g) at = absurd (omega (arith, more,
 pub same_from : (s t : Sources) → IsDistinct mac_eq (keys_of s) → length s ≡ length t → has_all t s ≡ true → AreSame s t
 same_from s t unique many all src = by (lookup (mac_eq src) s) refl
   where
-    by : (o : Option Heard) → lookup (mac_eq src) s ≡ o → lookup (mac_eq src) s ≡ lookup (mac_eq src) t
+    by : (o : Option Remembered) → lookup (mac_eq src) s ≡ o → lookup (mac_eq src) s ≡ lookup (mac_eq src) t
     by None at = at ∙ sym (absent_too s t unique (omega arith) all src at (lookup (mac_eq src) t) refl)
     by (Some h) at = at ∙ sym (all_there s t all src h at)
 
 -- what stands further on stands in the whole
-pub there_later : (e : Mac × Heard) (s : Sources) (src : Mac) (h : Heard) → AllByRecursion (λ y. mac_eq e.0 y ≡ false) (keys_of s)
+pub there_later : (e : Mac × Remembered) (s : Sources) (src : Mac) (h : Remembered) → AllByRecursion (λ y. mac_eq e.0 y ≡ false) (keys_of s)
     → lookup (mac_eq src) s ≡ Some h → (b : Bool) → mac_eq src e.0 ≡ b → lookup (mac_eq src) (e ∷ s) ≡ Some h
 there_later e s src h unique at true same =
     let bad : None ≡ Some h = sym (absent_apart e.0 s unique) ∙ ap (λ m. lookup (mac_eq m) s) (sym (mac_same src e.0 same)) ∙ at in cc
@@ -93,7 +93,7 @@ there_later e s src h unique at false apart = ap (λ b. cond b (Some e.1) (looku
 
 -- sources that all stand in another list are all there
 stands_all : (s t : Sources) → IsDistinct mac_eq (keys_of s)
-    → ((src : Mac) (h : Heard) → lookup (mac_eq src) s ≡ Some h → lookup (mac_eq src) t ≡ Some h) → has_all t s ≡ true
+    → ((src : Mac) (h : Remembered) → lookup (mac_eq src) s ≡ Some h → lookup (mac_eq src) t ≡ Some h) → has_all t s ≡ true
 unfolding IsDistinct
 stands_all [] t unique there = refl
 stands_all (e ∷ s) t unique there =

@@ -11,7 +11,7 @@ use Rattle.sr_dup_window.specs.declared.record.Record.{Record}
 use Rattle.sr_aged_slots.specs.declared.aged.Aged.{Aged}
 use Rattle.sr_aged_slots.specs.Ages as ages
 use Rattle.sr_aged_slots.specs.AgeLemmas.{length-live_by_le}
-use Rattle.sr_dup_table.specs.Sources.{Heard, Sources, is_live, live_at, live_others, with_room, fresh_at, answer_of, arrive_answer}
+use Rattle.sr_dup_table.specs.Sources.{Remembered, Sources, is_live, live_at, live_others, with_room, fresh_at, answer_of, arrive_answer}
 use Rattle.sr_dup_table.specs.Shown.{heard_of, sources_of}
 
 -- a look-up among what the entries show
@@ -96,7 +96,7 @@ length-others_le m now (e ∷ s) = by (is_live now e.1 && not (mac_eq m e.0)) (l
     by true h = omega arith
     by false h = omega arith
 
-others_some : (m : Mac) (now : ℕ) (s : Sources) (h : Heard) → lookup (mac_eq m) s ≡ Some h → length (live_others m now s) < length s
+others_some : (m : Mac) (now : ℕ) (s : Sources) (h : Remembered) → lookup (mac_eq m) s ≡ Some h → length (live_others m now s) < length s
 others_some m now [] h there = cc
 others_some m now (e ∷ s) h there = by (mac_eq m e.0) there (is_live now e.1) (others_some m now s h)
   where
@@ -133,7 +133,7 @@ pub full_where : (w : ℕ) (s : Sources) (m : Mac) (seq : ℕ) (lanes : Lanes) (
     → (arrive_answer w s m seq lanes now ≡ None → length (live_others m now s) ≡ 1024) × (length (live_others m now s) ≡ 1024 → arrive_answer w s m seq lanes now ≡ None)
 full_where w s m seq lanes now few = by (lookup (mac_eq m) s) refl
   where
-    by : (o : Option Heard) → lookup (mac_eq m) s ≡ o
+    by : (o : Option Remembered) → lookup (mac_eq m) s ≡ o
         → (answer_of w o s seq lanes now ≡ None → length (live_others m now s) ≡ 1024) × (length (live_others m now s) ≡ 1024 → answer_of w o s seq lanes now ≡ None)
     by (Some h) there = (λ e. cc, λ e. absurd (omega (arith, others_some m now s h there)))
     by None none =
@@ -158,7 +158,7 @@ room-shown now es = by (nat_lt (length es) 1024) ∙ sym (ap (λ n. cond (nat_lt
 pub known_answers : (w : ℕ) (s : Sources) (m : Mac) (seq : ℕ) (lanes fresh : Lanes) (now : ℕ) → Some fresh ≡ option_map (λ h. fresh_at w h seq lanes now) (lookup (mac_eq m) s) → arrive_answer w s m seq lanes now ≡ Some fresh
 known_answers w s m seq lanes fresh now h = by (lookup (mac_eq m) s) h
   where
-    by : (o : Option Heard) → Some fresh ≡ option_map (λ h. fresh_at w h seq lanes now) o → answer_of w o s seq lanes now ≡ Some fresh
+    by : (o : Option Remembered) → Some fresh ≡ option_map (λ h. fresh_at w h seq lanes now) o → answer_of w o s seq lanes now ≡ Some fresh
     by None e = cc
     by (Some x) e = sym e
 
@@ -166,6 +166,6 @@ pub unknown_answers : (w : ℕ) (s : Sources) (m : Mac) (seq : ℕ) (lanes : Lan
     → arrive_answer w s m seq lanes now ≡ cond (nat_lt (length (with_room now s)) 1024) (Some lanes) None
 unknown_answers w s m seq lanes now h = by (lookup (mac_eq m) s) h
   where
-    by : (o : Option Heard) → None ≡ option_map (λ h. fresh_at w h seq lanes now) o → answer_of w o s seq lanes now ≡ cond (nat_lt (length (with_room now s)) 1024) (Some lanes) None
+    by : (o : Option Remembered) → None ≡ option_map (λ h. fresh_at w h seq lanes now) o → answer_of w o s seq lanes now ≡ cond (nat_lt (length (with_room now s)) 1024) (Some lanes) None
     by None e = refl
     by (Some x) e = cc

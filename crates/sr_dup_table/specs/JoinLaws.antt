@@ -6,21 +6,21 @@ use Rattle.sr_frame.specs.Addresses.{mac_eq}
 use Rattle.sr_sequence.specs.Numbers.{wire}
 use Rattle.sr_dup_window.specs.Records.{IsWhole}
 use Rattle.sr_dup_window.specs.Families.{Family, IsClose, StandsFor, join, greater}
-use Rattle.sr_dup_window.specs.Spots.{IsWidth}
-use Rattle.sr_dup_table.specs.Sources.{Heard, Sources, IsTable, live_at}
+use Rattle.sr_dup_window.specs.Bins.{IsWidth}
+use Rattle.sr_dup_table.specs.Sources.{Remembered, Sources, IsTable, live_at}
 use Rattle.sr_dup_table.specs.Same.{AreSame}
 use Rattle.sr_dup_table.specs.Joins.{IsJoin, first_apart}
 
 -- the sources of a table: distinct and few, and each record is that of w numbers
 abbrev pub IsSound : ℕ → Sources → Type 0
-IsSound w s = IsTable s × ((src : Mac) (h : Heard) → lookup (mac_eq src) s ≡ Some h → IsWhole w h.seen)
+IsSound w s = IsTable s × ((src : Mac) (h : Remembered) → lookup (mac_eq src) s ≡ Some h → IsWhole w h.seen)
 
 -- what `merge` leaves at a time: the join of those that are live
 abbrev pub MergesTo : ℕ → ℕ → Sources → Sources → Sources → Type 0
 MergesTo w now one other both = IsJoin w (live_at now one) (live_at now other) both
 
 -- three records of which the greatest numbers are close, pair by pair
-abbrev pub AreClose : Option Heard → Option Heard → Option Heard → Type 0
+abbrev pub AreClose : Option Remembered → Option Remembered → Option Remembered → Type 0
 AreClose (Some a) (Some b) (Some c) = (m n k : ℤ) × (wire m ≡ a.seen.reference) × (wire n ≡ b.seen.reference) × (wire k ≡ c.seen.reference)
     × IsClose m n × IsClose n k × IsClose m k
 AreClose (Some a) (Some b) None = Unit {0}
@@ -48,7 +48,7 @@ MergeAssociates = (w : ℕ) → IsWidth w → (now : ℕ) (one other third first
     → MergesTo w now other third second → MergesTo w now one second right → AreSame left right
 
 -- a record stands for a family, which was heard at a time
-abbrev pub Stands : ℕ → Option Heard → Family → ℤ → ℕ → Type 0
+abbrev pub Stands : ℕ → Option Remembered → Family → ℤ → ℕ → Type 0
 Stands w None f m time = ⊥
 Stands w (Some h) f m time = StandsFor w h.seen f m × (h.time ≡ time)
 

@@ -10,14 +10,14 @@ use Rattle.sr_dup_window.specs.Windows.{window_merged}
 use Rattle.sr_dup_table.specs.declared.fault.DupFault.{DupFault}
 use Rattle.sr_dup_table.specs.declared.fault.DupFault.TheVariants.{TableFull, Apart, OtherWidth}
 use Rattle.sr_dup_table.specs.Limits.{most_sources}
-use Rattle.sr_dup_table.specs.Sources.{Heard, Sources, Table, live_at}
+use Rattle.sr_dup_table.specs.Sources.{Remembered, Sources, Table, live_at}
 
 -- the numbers of both records, and the later of their times
-abbrev pub joined_heard : ℕ → Heard → Heard → Heard
+abbrev pub joined_heard : ℕ → Remembered → Remembered → Remembered
 joined_heard w a b = record { seen = window_merged w a.seen b.seen; time = max a.time b.time }
 
 -- what both have of an address
-abbrev pub joined : ℕ → Option Heard → Option Heard → Option Heard
+abbrev pub joined : ℕ → Option Remembered → Option Remembered → Option Remembered
 joined w None other = other
 joined w (Some a) None = Some a
 joined w (Some a) (Some b) = Some (joined_heard w a b)
@@ -36,7 +36,7 @@ abbrev pub join_count : Sources → Sources → ℕ
 join_count one other = length one + length (lacking_in one other)
 
 -- two greatest numbers that are half of all numbers apart
-abbrev pub is_apart : Option Heard → Heard → Bool
+abbrev pub is_apart : Option Remembered → Remembered → Bool
 is_apart None b = false
 is_apart (Some a) b = nat_eq (steps a.seen.reference b.seen.reference) 32768
 
@@ -54,10 +54,10 @@ merge_fault one other now =
     if nat_eq one.width other.width then join_fault (live_at now one.sources) (live_at now other.sources) else Some OtherWidth
 
 -- a source of the other table that is new, or whose records are apart, beside what the one table has of it
-abbrev pub new_source : Option Heard → Mac × Heard → Sources
+abbrev pub new_source : Option Remembered → Mac × Remembered → Sources
 new_source known e = if is_some known then [] else e ∷ []
 
-abbrev pub apart_source : Option Heard → Mac × Heard → Option Mac
+abbrev pub apart_source : Option Remembered → Mac × Remembered → Option Mac
 apart_source known e = if is_apart known e.1 then Some e.0 else None
 
 -- the first of two
@@ -66,11 +66,11 @@ or_else None second = second
 or_else (Some first) second = Some first
 
 -- one source joined to others
-abbrev pub put_with : ℕ → Option Heard → Sources → Mac × Heard → Sources
+abbrev pub put_with : ℕ → Option Remembered → Sources → Mac × Remembered → Sources
 put_with w None s e = s ++ e ∷ []
 put_with w (Some h) s e = set_value (mac_eq e.0) s (joined_heard w h e.1)
 
-abbrev pub with_source : ℕ → Sources → Mac × Heard → Sources
+abbrev pub with_source : ℕ → Sources → Mac × Remembered → Sources
 with_source w s e = put_with w (lookup (mac_eq e.0) s) s e
 
 -- several, one after another

@@ -4,19 +4,19 @@ use Rattle.std.specs.List.{list_all}
 use Rattle.std.specs.Map.{lookup}
 use Rattle.sr_frame.specs.declared.fields.Mac.{Mac}
 use Rattle.sr_frame.specs.Addresses.{mac_eq}
-use Rattle.sr_dup_table.specs.Sources.{Heard, Sources, same_heard}
+use Rattle.sr_dup_table.specs.Sources.{Remembered, Sources, same_remembered}
 
 -- of each address both have the same record and time, or none
 abbrev pub AreSame : Sources → Sources → Type 0
 AreSame s t = (src : Mac) → lookup (mac_eq src) s ≡ lookup (mac_eq src) t
 
 -- whether this is what is there
-abbrev pub is_record : Option Heard → Heard → Bool
+abbrev pub is_record : Option Remembered → Remembered → Bool
 is_record None h = false
-is_record (Some g) h = same_heard g h
+is_record (Some g) h = same_remembered g h
 
 -- whether the sources have just this of an address
-abbrev pub has_source : Sources → Mac × Heard → Bool
+abbrev pub has_source : Sources → Mac × Remembered → Bool
 has_source t e = is_record (lookup (mac_eq e.0) t) e.1
 
 -- whether they have each of these

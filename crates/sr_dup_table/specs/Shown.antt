@@ -4,10 +4,10 @@ use Rattle.sr_frame.specs.declared.fields.Mac.{Mac}
 use Rattle.sr_dup_window.specs.Windows.{window_of}
 use Rattle.sr_dup_window.specs.declared.record.Record.{Record}
 use Rattle.sr_aged_slots.specs.declared.aged.Aged.{Aged}
-use Rattle.sr_dup_table.specs.Sources.{Heard, Sources}
+use Rattle.sr_dup_table.specs.Sources.{Remembered, Sources}
 
 -- what one entry shows
-abbrev pub heard_of : {N : ℕ} → Aged (Record N) → Heard
+abbrev pub heard_of : {N : ℕ} → Aged (Record N) → Remembered
 heard_of e = record { seen = window_of e.value; time = e.time }
 
 abbrev pub sources_of : {N : ℕ} → List (Mac × Aged (Record N)) → Sources

@@ -35,43 +35,43 @@ use Rattle.sr_dup_window.specs.Windows.{Window, window_begun, window_noted, fres
 use Rattle.sr_dup_table.specs.Limits.{most_sources, forget_time}
 
 -- what was noted of one source in this epoch, and when it was last heard
-pub record Heard : Type 0 where
+pub record Remembered : Type 0 where
   pub seen : Window
   pub time : ℕ
 
 -- the sources in the order of their first hearing
 abbrev pub Sources : Type 0
-Sources = List (Mac × Heard)
+Sources = List (Mac × Remembered)
 
 -- whether two sources show the same
-abbrev pub same_heard : Heard → Heard → Bool
-same_heard = eq_of_both (on (λ h. h.seen) same_window) (on (λ h. h.time) nat_eq)
+abbrev pub same_remembered : Remembered → Remembered → Bool
+same_remembered = eq_of_both (on (λ h. h.seen) same_window) (on (λ h. h.time) nat_eq)
 
 -- whether two lists of sources are one: the order counts
 abbrev pub same_sources : Sources → Sources → Bool
-same_sources = pointwise (eq_of_both (on (λ e. e.0.0) (pointwise nat_eq)) (on (λ e. e.1) same_heard))
+same_sources = pointwise (eq_of_both (on (λ e. e.0.0) (pointwise nat_eq)) (on (λ e. e.1) same_remembered))
 
 -- a time less than 400 ms ago; an earlier moment counts as that time
 abbrev pub is_recent : ℕ → ℕ → Bool
 is_recent = ages.is_recent forget_time
 
 -- a source that is not forgotten
-abbrev pub is_live : ℕ → Heard → Bool
+abbrev pub is_live : ℕ → Remembered → Bool
 is_live now h = is_recent now h.time
 
 -- the first arrival of an epoch
-abbrev pub begun_at : ℕ → ℕ → Lanes → ℕ → Heard
+abbrev pub begun_at : ℕ → ℕ → Lanes → ℕ → Remembered
 begun_at w seq lanes now = record { seen = window_begun w seq lanes; time = now }
 
 -- the record after an arrival: noted within the epoch, begun anew once forgotten
-abbrev pub heard_next : ℕ → Heard → ℕ → Lanes → ℕ → Heard
+abbrev pub heard_next : ℕ → Remembered → ℕ → Lanes → ℕ → Remembered
 heard_next w h seq lanes now =
     if is_live now h
     then record { seen = window_noted w h.seen seq lanes; time = max h.time now }
     else begun_at w seq lanes now
 
 -- the asked lanes on which the number is new in this epoch
-abbrev pub fresh_at : ℕ → Heard → ℕ → Lanes → ℕ → Lanes
+abbrev pub fresh_at : ℕ → Remembered → ℕ → Lanes → ℕ → Lanes
 fresh_at w h seq lanes now = if is_live now h then fresh_lanes w h.seen seq lanes else lanes
 
 -- the sources that are not forgotten
@@ -92,12 +92,12 @@ abbrev pub with_room : ℕ → Sources → Sources
 with_room now s = ages.room_by (λ h. h.time) forget_time most_sources now s
 
 -- what an arrival answers: the lanes on which it is new, or nothing where the table is full
-abbrev pub answer_of : ℕ → Option Heard → Sources → ℕ → Lanes → ℕ → Option Lanes
+abbrev pub answer_of : ℕ → Option Remembered → Sources → ℕ → Lanes → ℕ → Option Lanes
 answer_of w None s seq lanes now = if nat_lt (length (with_room now s)) most_sources then Some lanes else None
 answer_of w (Some h) s seq lanes now = Some (fresh_at w h seq lanes now)
 
 -- the sources after an arrival that is answered
-abbrev pub after_of : ℕ → Option Heard → Sources → Mac → ℕ → Lanes → ℕ → Sources
+abbrev pub after_of : ℕ → Option Remembered → Sources → Mac → ℕ → Lanes → ℕ → Sources
 after_of w None s src seq lanes now = with_room now s ++ (src, begun_at w seq lanes now) ∷ []
 after_of w (Some h) s src seq lanes now = set_value (mac_eq src) s (heard_next w h seq lanes now)
 

@@ -29,7 +29,7 @@ pub fn fresh<const N: usize>(entry: &Aged<Record<N>>, seq: Seq, lanes: Lanes, no
 }
 
 /// Notes an arrival, and answers the lanes on which it is new.
-pub fn hear<const N: usize>(entry: &mut Aged<Record<N>>, seq: Seq, lanes: Lanes, now: u64) -> Lanes
+pub fn note<const N: usize>(entry: &mut Aged<Record<N>>, seq: Seq, lanes: Lanes, now: u64) -> Lanes
     requires { is_empty lanes ≡ false }
     ensures after { heard_of entry.new ≡ heard_next (64 * N) (heard_of entry.old) seq.0 lanes now }
     ensures answer { result ≡ fresh_at (64 * N) (heard_of entry.old) seq.0 lanes now }

@@ -1,6 +1,6 @@
 //! When two tables are equal: where their widths are, and their sources, in order. Held places don't count.
 ghost use Rattle.std.specs.Prelude.{◌≡◌};
-ghost use Rattle.sr_dup_table.specs.Sources.{same_heard, same_sources};
+ghost use Rattle.sr_dup_table.specs.Sources.{same_remembered, same_sources};
 ghost use Rattle.sr_dup_table.specs.Shown.{heard_of, sources_of};
 
 use crate::table::{DupTable, Parts};
@@ -11,7 +11,7 @@ use sr_slots::Iter;
 
 // Whether two entries show the same.
 pub(crate) fn same_entry<const N: usize>(one: &Aged<Record<N>>, other: &Aged<Record<N>>) -> bool
-    ensures { result ≡ same_heard (heard_of one.now) (heard_of other.now) }
+    ensures { result ≡ same_remembered (heard_of one.now) (heard_of other.now) }
 {
     one.value.is_same(&other.value) && one.time == other.time
 }

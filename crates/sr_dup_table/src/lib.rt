@@ -16,5 +16,5 @@ pub use fault::{DupFault, TableFull};
 pub use laws::{ageing_keeps_answers, equal_where_the_sources_are};
 pub use same::same_is_an_equivalence;
 pub use table::{DupTable, NarrowTable, Parts, WideTable};
-pub use table_of::{ENTRY_FORGET_TIME, Look, MOST_SOURCES, TableOf};
+pub use table_of::{ENTRY_FORGET_TIME, Look, MAX_SOURCES, TableOf};
 pub use width::Width;

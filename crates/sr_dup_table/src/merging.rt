@@ -16,7 +16,7 @@ ghost use Rattle.sr_dup_window.specs.Windows.{window_of};
 use crate::entry::is_live;
 use crate::fault::DupFault;
 use crate::table::{DupTable, Tables};
-use crate::table_of::{MOST_SOURCES, TableOf};
+use crate::table_of::{MAX_SOURCES, TableOf};
 use sr_aged_slots::Aged;
 use sr_dup_window::Record;
 use sr_frame::Mac;
@@ -105,7 +105,7 @@ fn join_fault<const N: usize>(table: &TableOf<N>, other: &TableOf<N>, now: u64) 
             see(&mut tally, src, live_entry(table, src, now), entry);
         }
     }
-    if tally.count > MOST_SOURCES {
+    if tally.count > MAX_SOURCES {
         return Some(DupFault::TableFull);
     }
     match tally.apart {
@@ -127,7 +127,7 @@ fn add<const N: usize>(
     ensures refused { IfErr result (λ e. length table.old.sources + 1 ≤ most_sources
         → e ≡ DupFault.NoMemory) }
 {
-    if table.source_count() >= MOST_SOURCES {
+    if table.source_count() >= MAX_SOURCES {
         return Err(DupFault::TableFull);
     }
     table.put_last(src, entry.value, entry.time)?;

@@ -15,7 +15,7 @@ use crate::width::Width;
 use sr_dup_window::Lanes;
 use sr_frame::{Mac, NoMemory};
 use sr_sequence::Seq;
-use sr_slots::{Keys, Spot};
+use sr_slots::{Hint, Keys};
 use std::alloc::Global;
 use std::marker::Model;
 
@@ -222,7 +222,7 @@ impl DupTable {
             ≡ arrive_answer self.old.width self.old.sources src seq.0 lanes now }
         ensures full { IsErr result
             ↔ (length (live_others src now self.old.sources) ≡ most_sources) }
-        ensures found { IfOk result (λ look. IsFound look.spot self.old.sources src) }
+        ensures found { IfOk result (λ look. IsFound look.hint self.old.sources src) }
         ensures same { self.new ≡ self.old }
     {
         match &mut self.tables {
@@ -261,13 +261,13 @@ impl DupTable {
         self.arrive_at(None, src, seq, lanes, now)
     }
 
-    /// What `arrive` does, where the record of the source is looked for at a spot first. It notes an arrival, and answers the
+    /// What `arrive` does, where the record of the source is looked for first where a hint says. It notes an arrival, and answers the
     /// asked lanes on which its number is new in the epoch of its source.
     /// TableFull: 1024 other sources are live. NoMemory: memory ran out. Either way nothing changes.
     #[inline(always)]
     pub fn arrive_at(
         &mut self,
-        spot: Option<Spot>,
+        hint: Option<Hint>,
         src: Mac,
         seq: Seq,
         lanes: Lanes,
@@ -298,8 +298,8 @@ impl DupTable {
         ensures err { OnErr result (self.new ≡ self.old) }
     {
         match &mut self.tables {
-            Tables::Narrow(table) => table.arrive_at(spot, src, seq, lanes, now),
-            Tables::Wide(table) => table.arrive_at(spot, src, seq, lanes, now),
+            Tables::Narrow(table) => table.arrive_at(hint, src, seq, lanes, now),
+            Tables::Wide(table) => table.arrive_at(hint, src, seq, lanes, now),
         }
     }
 

@@ -12,13 +12,13 @@ ghost use Rattle.sr_dup_table.specs.Sources.{IsTable, is_held, is_ready, live_at
 ghost use Rattle.sr_dup_table.specs.Joins.{is_apart, joined_heard, with_source};
 ghost use Rattle.sr_dup_table.specs.Shown.{heard_of, sources_of};
 
-use crate::entry::{fresh, hear, join};
+use crate::entry::{fresh, join, note};
 use crate::fault::{DupFault, TableFull};
 use sr_aged_slots::{Aged, AgedSlots};
 use sr_dup_window::{Lanes, Record};
 use sr_frame::{Mac, NoMemory};
 use sr_sequence::Seq;
-use sr_slots::{Iter, Keys, Spot};
+use sr_slots::{Hint, Iter, Keys};
 use std::alloc::Global;
 use std::marker::Model;
 
@@ -26,7 +26,7 @@ use std::marker::Model;
 pub const ENTRY_FORGET_TIME: u64 = 400;
 
 /// How many sources can be live at once (choice of this project).
-pub const MOST_SOURCES: usize = 1024;
+pub const MAX_SOURCES: usize = 1024;
 
 /// What a table says of a number before it arrives.
 #[derive(Clone, Copy, Debug)]
@@ -34,7 +34,7 @@ pub struct Look {
     /// The asked lanes on which it is new.
     pub fresh: Lanes,
     /// Where the record of its source is, if there is one.
-    pub spot: Option<Spot>,
+    pub hint: Option<Hint>,
 }
 
 /// Duplicate records by source, each of the last `64 * N` numbers (`N` is 16 or 32), in the order of first hearing. Times are in
@@ -42,7 +42,7 @@ pub struct Look {
 /// it is heard again, until `age`, or until a new source meets a full table.
 #[derive(Drop)]
 pub struct TableOf<const N: usize> {
-    slots: AgedSlots<Record<N>, ENTRY_FORGET_TIME, MOST_SOURCES>,
+    slots: AgedSlots<Record<N>, ENTRY_FORGET_TIME, MAX_SOURCES>,
     ghost width: { IsTrue (N == 16 || N == 32) },
 }
 
@@ -178,7 +178,7 @@ impl<const N: usize> TableOf<N> {
             ≡ arrive_answer (64 * N) self.old.sources src seq.0 lanes now }
         ensures full { IsErr result
             ↔ (length (live_others src now self.old.sources) ≡ most_sources) }
-        ensures found { IfOk result (λ look. IsFound look.spot self.old.sources src) }
+        ensures found { IfOk result (λ look. IsFound look.hint self.old.sources src) }
         ensures same { self.new ≡ self.old }
     {
         if let Some(look) = self.look_known(src, seq, lanes, now) {
@@ -189,7 +189,7 @@ impl<const N: usize> TableOf<N> {
         }
         Ok(Look {
             fresh: lanes,
-            spot: None,
+            hint: None,
         })
     }
 
@@ -201,10 +201,10 @@ impl<const N: usize> TableOf<N> {
             (lookup (mac_eq src) self.now.sources) }
         ensures few { length self.now.sources ≤ most_sources }
     {
-        let (spot, entry) = self.slots.find(src)?;
+        let (hint, entry) = self.slots.find(src)?;
         Some(Look {
             fresh: fresh(entry, seq, lanes, now),
-            spot: Some(spot),
+            hint: Some(hint),
         })
     }
 
@@ -237,13 +237,13 @@ impl<const N: usize> TableOf<N> {
         self.arrive_at(None, src, seq, lanes, now)
     }
 
-    /// What `arrive` does, where the record of the source is looked for at a spot first. It notes an arrival, and answers the
+    /// What `arrive` does, where the record of the source is looked for first where a hint says. It notes an arrival, and answers the
     /// asked lanes on which its number is new in the epoch of its source.
     /// TableFull: 1024 other sources are live. NoMemory: memory ran out. Either way nothing changes.
     #[inline(always)]
     pub fn arrive_at(
         &mut self,
-        spot: Option<Spot>,
+        hint: Option<Hint>,
         src: Mac,
         seq: Seq,
         lanes: Lanes,
@@ -272,7 +272,7 @@ impl<const N: usize> TableOf<N> {
         ensures used { OnOk result (is_held self.new.held src ≡ false) }
         ensures err { OnErr result (self.new ≡ self.old) }
     {
-        match self.hear(spot, src, seq, lanes, now) {
+        match self.note(hint, src, seq, lanes, now) {
             Some(fresh) => Ok(fresh),
             None => self.begin(src, seq, lanes, now),
         }
@@ -280,9 +280,9 @@ impl<const N: usize> TableOf<N> {
 
     // An arrival of a source that has a record, forgotten or not.
     #[inline(always)]
-    fn hear(
+    fn note(
         &mut self,
-        spot: Option<Spot>,
+        hint: Option<Hint>,
         src: Mac,
         seq: Seq,
         lanes: Lanes,
@@ -300,14 +300,14 @@ impl<const N: usize> TableOf<N> {
         ensures none { IfNone result (self.new ≡ self.old) }
     {
         let fresh = self.slots.update_at(
-            spot,
+            hint,
             src,
             |entry: &mut Aged<Record<N>>| -> Lanes
                 requires { is_empty lanes ≡ false }
                 ensures after { heard_of entry.new
                     ≡ heard_next (64 * N) (heard_of entry.old) seq.0 lanes now }
                 ensures answer { result ≡ fresh_at (64 * N) (heard_of entry.old) seq.0 lanes now }
-            { hear(entry, seq, lanes, now) },
+            { note(entry, seq, lanes, now) },
         )?;
         Some(fresh)
     }

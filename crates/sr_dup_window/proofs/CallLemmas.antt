@@ -8,11 +8,11 @@ use Rattle.sr_dup_window.specs.declared.lane_sets.Lanes.{Lanes}
 use Rattle.sr_dup_window.specs.declared.record.Record.{Record}
 use Rattle.sr_dup_window.specs.LaneSets.{none, union, difference, is_empty}
 use Rattle.sr_dup_window.specs.LaneLemmas.{not_empty-union_left, not_empty-union_right}
-use Rattle.sr_dup_window.specs.Spots.{lanes_at, is_passed, IsWidth}
+use Rattle.sr_dup_window.specs.Bins.{lanes_at, is_passed, IsWidth}
 use Rattle.sr_dup_window.specs.Windows.{Window, window_of, marks_of, no_marks, marks_with, marks_slid, window_begun, window_noted, noted_at, window_merged, merged_at, lanes_of, lanes_behind, fresh_lanes}
 use Rattle.sr_dup_window.specs.RecordLemmas.{record-width}
 use Rattle.sr_dup_window.specs.WindowLemmas.{width-some, width-most}
-use Rattle.sr_dup_window.proofs.PlaceLemmas.{spot, spot_zero}
+use Rattle.sr_dup_window.proofs.PlaceLemmas.{bin, bin_zero}
 use Rattle.sr_dup_window.proofs.ShowLemmas.{Shows, shows_marks, marks_are, marked_shows, noted_shows, passed_shows, united_shows, empty_shows}
 
 -- the width that `begin` asks for
@@ -94,12 +94,12 @@ begun_window {N} new rows lanes seq h ref empty marks =
     let w = 64 * N in
     let width : IsWidth w = record-width new in
     is_window new seq (marks_with (no_marks w) 0 lanes) ref
-    (marked_shows w rows new.rows seq (no_marks w) 0 (seq % w) lanes width h (width-some w width) (spot_zero w seq h) (empty_shows w rows seq empty) marks)
+    (marked_shows w rows new.rows seq (no_marks w) 0 (seq % w) lanes width h (width-some w width) (bin_zero w seq h) (empty_shows w rows seq empty) marks)
 
 pub noted_behind : {N : ℕ} (r new : Record N) (lanes : Lanes) (k seq : ℕ) → seq < 65536 → Behind k ≡ place_of r.reference.0 seq (64 * N) → k < 64 * N → new.reference.0 ≡ r.reference.0 → Marks r.rows new.rows lanes (seq % (64 * N)) → window_of new ≡ window_noted (64 * N) (window_of r) seq lanes
 noted_behind {N} r new lanes k seq h at inside ref marks =
     let w = 64 * N in
-    let place : spot w r.reference.0 k ≡ seq % w = ap (λ n. n % w) (behind_carried r.reference.0 seq w k r.carried h at) in
+    let place : bin w r.reference.0 k ≡ seq % w = ap (λ n. n % w) (behind_carried r.reference.0 seq w k r.carried h at) in
     is_window new r.reference.0 (marks_with (marks_of r) k lanes) ref
     (marked_shows w r.rows new.rows r.reference.0 (marks_of r) k (seq % w) lanes (record-width r) r.carried inside place (shows_marks r) marks)
     ∙ ap (noted_at w (window_of r) seq lanes) at

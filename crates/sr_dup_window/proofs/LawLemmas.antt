@@ -7,7 +7,7 @@ use Rattle.sr_dup_window.specs.declared.lane_sets.Lane.{Lane}
 use Rattle.sr_dup_window.specs.declared.record.Record.{Record}
 use Rattle.sr_dup_window.specs.LaneSets.{has, none}
 use Rattle.sr_dup_window.specs.LaneLemmas.{lanes_where-same}
-use Rattle.sr_dup_window.specs.Spots.{IsWidth}
+use Rattle.sr_dup_window.specs.Bins.{IsWidth}
 use Rattle.sr_dup_window.specs.Windows.{Window, window_of, lanes_behind}
 use Rattle.sr_dup_window.specs.WindowLemmas.{begun-stands, noted-stands, merged-stands, width-most, has-by-family, fresh-lanes-by-family, same-numbers}
 use Rattle.sr_dup_window.specs.Families.{Family, StandsFor}

@@ -1,6 +1,6 @@
 pub mod WordLemmas
 pub mod RowLemmas
-pub mod SpotLemmas
+pub mod BinLemmas
 pub mod PlaceLemmas
 pub mod ShowLemmas
 pub mod CallLemmas

@@ -8,7 +8,7 @@ use Rattle.sr_dup_window.specs.declared.lane_sets.Lane.TheVariants.{H, A, B, C, 
 use Rattle.sr_dup_window.specs.declared.lane_sets.Lanes.{Lanes}
 use Rattle.sr_dup_window.specs.LaneSets.{has, lanes_where, none, union}
 use Rattle.sr_dup_window.specs.LaneLemmas.{has-lanes_where, lanes_where-same}
-use Rattle.sr_dup_window.specs.Spots.{has_bit, lanes_in}
+use Rattle.sr_dup_window.specs.Bins.{has_bit, lanes_in}
 
 -- a row of six words has the lanes for which a test holds
 pub six_words : (h a b c got_a got_b bit : ℕ) (test : Lane → Bool) → eqb (bit_at h bit) 1 ≡ test H → eqb (bit_at a bit) 1 ≡ test A → eqb (bit_at b bit) 1 ≡ test B → eqb (bit_at c bit) 1 ≡ test C → eqb (bit_at got_a bit) 1 ≡ test GotA → eqb (bit_at got_b bit) 1 ≡ test GotB → lanes_in (h ∷ a ∷ b ∷ c ∷ got_a ∷ got_b ∷ []) bit ≡ lanes_where test

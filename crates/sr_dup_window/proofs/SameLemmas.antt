@@ -16,11 +16,11 @@ use Rattle.sr_dup_window.specs.declared.lane_sets.Lane.TheVariants.{H, A, B, C, 
 use Rattle.sr_dup_window.specs.declared.record.Record.{Record}
 use Rattle.sr_dup_window.specs.LaneSets.{has, none, index_of, is_empty}
 use Rattle.sr_dup_window.specs.LaneLemmas.{has-lanes_where}
-use Rattle.sr_dup_window.specs.Spots.{has_bit, lanes_at, IsRow, AreRows}
+use Rattle.sr_dup_window.specs.Bins.{has_bit, lanes_at, IsRow, AreRows}
 use Rattle.sr_dup_window.specs.Windows.{window_of, same_window}
 use Rattle.sr_dup_window.specs.WindowLemmas.{Decides-same_window}
 use Rattle.sr_dup_window.specs.RecordLemmas.{record-width}
-use Rattle.sr_dup_window.proofs.PlaceLemmas.{spot, back_of, place_back}
+use Rattle.sr_dup_window.proofs.PlaceLemmas.{bin, back_of, place_back}
 use Rattle.sr_dup_window.proofs.ShowLemmas.{shows_marks}
 
 -- records that show the same have the same lanes at each place of their rings
@@ -34,7 +34,7 @@ same_place {N} a b lane p e h =
     ∙ (shows_marks a).each k at.0
     ∙ ap (λ x. get_or x.marks k none) e
     ∙ sym ((shows_marks b).each k at.0)
-    ∙ ap (λ x. lanes_at b.rows (spot w x.reference k)) (sym e)
+    ∙ ap (λ x. lanes_at b.rows (bin w x.reference k)) (sym e)
     ∙ ap (lanes_at b.rows) at.1 in
     sym (has-lanes_where (has_bit (get_or a.rows (p / 64) []) (p % 64)) lane)
     ∙ ap (λ x. has x lane) places

@@ -1,6 +1,6 @@
 pub mod LaneSets
 pub mod LaneLemmas
-pub mod Spots
+pub mod Bins
 pub mod Windows
 pub mod Families
 pub mod FamilyLemmas

@@ -4,7 +4,7 @@ use Rattle.std.proofs.Math.Bool.{or_comm, or_assoc, or_self}
 use Rattle.std.proofs.lemmas.Int.{ints}
 use Rattle.sr_sequence.specs.Numbers.{wire}
 use Rattle.sr_sequence.specs.Places.{steps}
-use Rattle.sr_dup_window.specs.Spots.{IsWidth}
+use Rattle.sr_dup_window.specs.Bins.{IsWidth}
 use Rattle.sr_dup_window.specs.Windows.{Window, window_merged}
 use Rattle.sr_dup_window.specs.WindowLemmas.{merged-stands, same-numbers}
 use Rattle.sr_dup_window.specs.Families.{Family, IsClose, join, greater, StandsFor}

@@ -35,7 +35,7 @@ use Rattle.sr_sequence.specs.Places.{steps, place_of, IsTheOne}
 use Rattle.sr_dup_window.specs.declared.lane_sets.Lane.{Lane}
 use Rattle.sr_dup_window.specs.LaneSets.{has, none}
 use Rattle.sr_dup_window.specs.LaneLemmas.{some_lane, lanes_where-same}
-use Rattle.sr_dup_window.specs.Spots.{IsWidth}
+use Rattle.sr_dup_window.specs.Bins.{IsWidth}
 use Rattle.sr_dup_window.specs.Windows.{Window, has_of, lanes_behind}
 use Rattle.sr_dup_window.specs.Families.{Family, IsClose, StandsFor}
 use Rattle.sr_dup_window.specs.Records.{IsWhole}

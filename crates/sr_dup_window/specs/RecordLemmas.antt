@@ -5,7 +5,7 @@ use Rattle.std.proofs.lemmas.List.FromFn.{length-map-range_with_len, get_or-map-
 use Rattle.sr_dup_window.specs.declared.record.Record.{Record}
 use Rattle.sr_dup_window.specs.LaneSets.{none, known, is_empty}
 use Rattle.sr_dup_window.specs.LaneLemmas.{known-lanes_where}
-use Rattle.sr_dup_window.specs.Spots.{has_bit, lanes_at, IsWidth}
+use Rattle.sr_dup_window.specs.Bins.{has_bit, lanes_at, IsWidth}
 use Rattle.sr_dup_window.specs.Windows.{window_of, marks_of}
 use Rattle.sr_dup_window.specs.Records.{IsWhole}
 use Rattle.sr_dup_window.specs.WindowLemmas.{width-some}

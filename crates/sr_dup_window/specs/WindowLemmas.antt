@@ -61,7 +61,7 @@ use Rattle.sr_dup_window.specs.declared.lane_sets.Lane.{Lane}
 use Rattle.sr_dup_window.specs.declared.lane_sets.Lanes.{Lanes}
 use Rattle.sr_dup_window.specs.LaneSets.{has, none, union, is_empty}
 use Rattle.sr_dup_window.specs.LaneLemmas.{has-lanes_where, lanes_where-same}
-use Rattle.sr_dup_window.specs.Spots.{IsWidth}
+use Rattle.sr_dup_window.specs.Bins.{IsWidth}
 use Rattle.sr_dup_window.specs.Windows.{
   Window,
   no_marks,

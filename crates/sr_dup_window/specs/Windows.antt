@@ -11,14 +11,14 @@ use Rattle.sr_dup_window.specs.declared.lane_sets.Lane.{Lane}
 use Rattle.sr_dup_window.specs.declared.lane_sets.Lanes.{Lanes}
 use Rattle.sr_dup_window.specs.declared.record.Record.{Record}
 use Rattle.sr_dup_window.specs.LaneSets.{has, none, union, difference}
-use Rattle.sr_dup_window.specs.Spots.{lanes_at}
+use Rattle.sr_dup_window.specs.Bins.{lanes_at}
 
 -- the 16 bits of the greatest number, and the lanes on which it and the numbers before it are noted, newest first
 pub record Window : Type 0 where
   pub reference : ℕ
   pub marks : List Lanes
 
--- the lanes of the W numbers of a record, newest first: number n stands at the spot `n mod W`
+-- the lanes of the W numbers of a record, newest first: number n stands at the bin `n mod W`
 unfoldable pub marks_of : {N : ℕ} → Record N → List Lanes
 marks_of {N} r = map (λ k. lanes_at r.rows ((r.reference.0 + (65536 - k)) % 65536 % (64 * N))) (range_with_len 0 (64 * N))
 

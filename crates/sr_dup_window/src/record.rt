@@ -1,11 +1,11 @@
 //! The record of one source.
 ghost use Rattle.std.specs.Prelude.{◌≡◌, ◌==◌, ◌||◌, ◌*◌, ◌%◌, ◌<◌, IsTrue, false};
 ghost use Rattle.sr_dup_window.specs.LaneSets.{is_empty};
-ghost use Rattle.sr_dup_window.specs.Spots.{AreRows, lanes_at};
+ghost use Rattle.sr_dup_window.specs.Bins.{AreRows, lanes_at};
 
+use crate::bins::{clear_all, lanes_at, mark, pass, put, unite};
 use crate::lane_sets::{Lane, Lanes};
 use crate::rows::Row;
-use crate::spots::{clear_all, lanes_at, mark, pass, put, unite};
 use sr_sequence::{Distance, Seq, place};
 use thiserror::Error;
 
@@ -15,7 +15,7 @@ use thiserror::Error;
 pub struct Apart;
 
 /// The numbers that one source has lately used, lane by lane: the greatest of them, its reference, and which of the
-/// `64 * N - 1` numbers before it. N is 16 or 32 (choice of this project). Number n stands at the spot `n mod 64N` of a
+/// `64 * N - 1` numbers before it. N is 16 or 32 (choice of this project). Number n stands at the bin `n mod 64N` of a
 /// ring of bits, in which the six lanes' words of the same 64 numbers lie side by side.
 #[derive(Clone, Copy, PartialEq, Eq, Debug)]
 pub struct Record<const N: usize> {
@@ -109,18 +109,18 @@ impl<const N: usize> Record<N> {
         ensures stands { NotesAs (64 * N) (window_of self.old) (window_of self.new) seq.0
             lanes result }
     {
-        let spot = seq.0 as usize % (64 * N);
+        let bin = seq.0 as usize % (64 * N);
         match self.distance(seq) {
             Distance::Behind(_) => {
-                let noted = lanes_at(&self.rows, spot);
-                mark(&mut self.rows, spot, lanes);
+                let noted = lanes_at(&self.rows, bin);
+                mark(&mut self.rows, bin, lanes);
                 lanes.difference(noted)
             }
             Distance::Ahead(steps) => {
                 let from = self.reference.0 as usize % (64 * N);
                 // The next number is the usual one: nothing lies between.
                 pass(&mut self.rows, from, steps as usize - 1);
-                put(&mut self.rows, spot, lanes);
+                put(&mut self.rows, bin, lanes);
                 self.reference = seq;
                 lanes.difference(Lanes::NONE)
             }
@@ -138,18 +138,18 @@ impl<const N: usize> Record<N> {
             ↔ (steps (window_of self.old).reference (window_of other.now).reference ≡ 32768) }
         ensures unchanged { OnErr result (self.new ≡ self.old) }
     {
-        let spot = self.reference.0 as usize % (64 * N);
-        let other_spot = other.reference.0 as usize % (64 * N);
+        let bin = self.reference.0 as usize % (64 * N);
+        let other_bin = other.reference.0 as usize % (64 * N);
         match place(self.reference, other.reference, 32768) {
             Distance::Behind(steps) => {
                 let mut others = other.rows;
-                pass(&mut others, other_spot, steps as usize);
+                pass(&mut others, other_bin, steps as usize);
                 unite(&mut self.rows, &others);
                 Ok(())
             }
             Distance::Ahead(32768) => Err(Apart),
             Distance::Ahead(steps) => {
-                pass(&mut self.rows, spot, steps as usize);
+                pass(&mut self.rows, bin, steps as usize);
                 unite(&mut self.rows, &other.rows);
                 self.reference = other.reference;
                 Ok(())

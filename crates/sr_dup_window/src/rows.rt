@@ -2,7 +2,7 @@
 ghost use Rattle.std.specs.Prelude.{◌≡◌, ◌==◌, ◌||◌, ◌&&◌, not, nat_le, nat_lt, ℕ, ◌+◌, ◌*◌, ◌<◌, ◌≤◌, if◌then◌else◌, slice_index, bit_and};
 ghost use Rattle.std.specs.Int.{bit_at};
 ghost use Rattle.sr_dup_window.specs.LaneSets.{flag, none, union};
-ghost use Rattle.sr_dup_window.specs.Spots.{lanes_in, IsRow};
+ghost use Rattle.sr_dup_window.specs.Bins.{lanes_in, IsRow};
 
 use crate::lane_sets::Lanes;
 use bitflags::Flags;

@@ -60,7 +60,7 @@ front Hsr octets seq path frame has =
     subst (λ o. BeginAlike o octets) (sym (without_tag_is octets has.plain has.tag has.tagged))
     (subst (λ o. BeginAlike o octets) (sym has.tagged.plain_is)
     (subst (BeginAlike _) (sym has.tagged.spelled)
-    (heads f (to_be_bytes w16 has.tag.inner) (to_be_bytes w16 f.kind) has.tagged.rest f.payload has.tagged.legal)))
+    (heads f (to_be_bytes w16 has.tag.inner) (to_be_bytes w16 f.ethertype) has.tagged.rest f.payload has.tagged.legal)))
 front Prp octets seq path frame has =
     let plain = has.plain in
     let alike = behind plain _ (long_enough plain has.trailed.frame) in

@@ -49,23 +49,23 @@ dst_of_spelling f legal = ap (take 6) (regrouped f) ∙ take_at f.dst _ 6 legal.
 pub src_of_spelling : (f : Fields) → IsLegal f → take 6 (drop 6 (spelling f)) ≡ f.src
 src_of_spelling f legal =
     ap (λ o. take 6 (drop 6 o)) (regrouped f)
-    ∙ ap (take 6) (drop_at f.dst (f.src ++ (tag_of f.vlan ++ (to_be_bytes w16 f.kind ++ f.payload))) 6 legal.dst)
+    ∙ ap (take 6) (drop_at f.dst (f.src ++ (tag_of f.vlan ++ (to_be_bytes w16 f.ethertype ++ f.payload))) 6 legal.dst)
     ∙ take_at f.src _ 6 legal.src
 
 -- the type stands behind the head
 head_len : (f : Fields) → IsLegal f → least_len (spelling f) - 2 ≡ length (head_of f)
 head_len f legal =
-    omega (arith, least_len-spelling f legal, length-append (head_of f) (to_be_bytes w16 f.kind))
+    omega (arith, least_len-spelling f legal, length-append (head_of f) (to_be_bytes w16 f.ethertype))
 
-pub type_of_spelling : (f : Fields) → IsLegal f → type_in (spelling f) ≡ f.kind
+pub type_of_spelling : (f : Fields) → IsLegal f → type_in (spelling f) ≡ f.ethertype
 type_of_spelling f legal =
-    let kind = to_be_bytes w16 f.kind in
-    let at : drop (least_len (spelling f) - 2) (spelling f) ≡ kind ++ f.payload =
-    ap (drop (least_len (spelling f) - 2)) (append_assoc (head_of f) kind f.payload)
-    ∙ drop_at (head_of f) (kind ++ f.payload) (least_len (spelling f) - 2) (sym (head_len f legal)) in
+    let ethertype = to_be_bytes w16 f.ethertype in
+    let at : drop (least_len (spelling f) - 2) (spelling f) ≡ ethertype ++ f.payload =
+    ap (drop (least_len (spelling f) - 2)) (append_assoc (head_of f) ethertype f.payload)
+    ∙ drop_at (head_of f) (ethertype ++ f.payload) (least_len (spelling f) - 2) (sym (head_len f legal)) in
     ap (λ o. from_be_bytes w16 (take 2 o)) at
-    ∙ ap (from_be_bytes w16) (take_at kind f.payload 2 refl)
-    ∙ from_be_bytes-to_be_bytes_2 f.kind legal.kind
+    ∙ ap (from_be_bytes w16) (take_at ethertype f.payload 2 refl)
+    ∙ from_be_bytes-to_be_bytes_2 f.ethertype legal.ethertype
 
 nat_decides : (x y : ℕ) → (nat_eq x y ≡ true → x ≡ y) × (x ≡ y → nat_eq x y ≡ true)
 nat_decides x y = (λ h. eqb-true x y h, λ h. eq-eqb x y h)
@@ -84,21 +84,21 @@ both_true false b h g = h
 pub supervision_is : (f : Fields) (b : Bool) → IsLegal f → (IsTrue b ↔ IsAddressed f) → b ≡ is_supervision (spelling f)
 supervision_is f b legal says =
     let dst = dst_of_spelling f legal in
-    let kind = type_of_spelling f legal in
+    let ethertype = type_of_spelling f legal in
     let there = pointwise_decides nat_decides (take 6 (spelling f)) supervision_address in
     both_ways b (is_supervision (spelling f))
-    (λ t. both_true _ _ (there.1 (dst ∙ (says.0 t).dst)) (eq-eqb (type_in (spelling f)) 0x88FB (kind ∙ (says.0 t).kind)))
+    (λ t. both_true _ _ (there.1 (dst ∙ (says.0 t).dst)) (eq-eqb (type_in (spelling f)) 0x88FB (ethertype ∙ (says.0 t).ethertype)))
     (λ t. let parts = and_parts _ _ t in
-    says.1 (record { dst = sym dst ∙ there.0 parts.0; kind = sym kind ∙ eqb-true (type_in (spelling f)) 0x88FB parts.1 }))
+    says.1 (record { dst = sym dst ∙ there.0 parts.0; ethertype = sym ethertype ∙ eqb-true (type_in (spelling f)) 0x88FB parts.1 }))
 
 -- a tagged frame, cut before its type and behind the tag
-tagged_split : (head kind path_size seq inner rest : List ℕ) →
-    (head ++ kind) ++ ((path_size ++ seq ++ inner) ++ rest) ≡ head ++ ((kind ++ path_size ++ seq) ++ (inner ++ rest))
-tagged_split head kind path_size seq inner rest =
-    append_assoc head kind ((path_size ++ seq ++ inner) ++ rest)
-    ∙ ap (λ x. head ++ (kind ++ x)) (append_assoc (path_size ++ seq) inner rest ∙ append_assoc path_size seq (inner ++ rest))
-    ∙ ap (λ x. head ++ x) (sym (append_assoc kind path_size (seq ++ (inner ++ rest))) ∙ sym
-    (append_assoc (kind ++ path_size) seq (inner ++ rest)))
+tagged_split : (head ethertype path_size seq inner rest : List ℕ) →
+    (head ++ ethertype) ++ ((path_size ++ seq ++ inner) ++ rest) ≡ head ++ ((ethertype ++ path_size ++ seq) ++ (inner ++ rest))
+tagged_split head ethertype path_size seq inner rest =
+    append_assoc head ethertype ((path_size ++ seq ++ inner) ++ rest)
+    ∙ ap (λ x. head ++ (ethertype ++ x)) (append_assoc (path_size ++ seq) inner rest ∙ append_assoc path_size seq (inner ++ rest))
+    ∙ ap (λ x. head ++ x) (sym (append_assoc ethertype path_size (seq ++ (inner ++ rest))) ∙ sym
+    (append_assoc (ethertype ++ path_size) seq (inner ++ rest)))
 
 cut_out : (head middle tail : List ℕ) (a b : ℕ) → length head ≡ a → length middle ≡ 6 → b ≡ a + 6 →
     take a (head ++ (middle ++ tail)) ++ drop b (head ++ (middle ++ tail)) ≡ head ++ tail
@@ -111,16 +111,16 @@ cut_out head middle tail a b h m e =
 pub without_tag_is : (octets plain : List ℕ) (t : HsrTag) → IsTagged octets plain t → without_tag octets ≡ plain
 without_tag_is octets plain t is =
     let f = is.fields in
-    let kind = to_be_bytes w16 f.kind in
+    let ethertype = to_be_bytes w16 f.ethertype in
     let inner = to_be_bytes w16 t.inner in
     let path_size = to_be_bytes w16 (t.path * 4096 + t.size) in
     let seq = to_be_bytes w16 t.seq.0 in
-    let split : spelling f ≡ head_of f ++ ((kind ++ path_size ++ seq) ++ (inner ++ is.rest)) =
-    ap (λ p. head_of f ++ kind ++ p) is.payload ∙ tagged_split (head_of f) kind path_size seq inner is.rest in
+    let split : spelling f ≡ head_of f ++ ((ethertype ++ path_size ++ seq) ++ (inner ++ is.rest)) =
+    ap (λ p. head_of f ++ ethertype ++ p) is.payload ∙ tagged_split (head_of f) ethertype path_size seq inner is.rest in
     ap without_tag is.spelled
     ∙ ap (λ o. take (least_len (spelling f) - 2) o ++ drop (least_len (spelling f) + 4) o) split
-    ∙ cut_out (head_of f) (kind ++ path_size ++ seq) (inner ++ is.rest) (least_len (spelling f) - 2) (least_len (spelling f) + 4)
-    (sym (head_len f is.legal)) refl (omega (arith, least_len-spelling f is.legal, length-append (head_of f) kind))
+    ∙ cut_out (head_of f) (ethertype ++ path_size ++ seq) (inner ++ is.rest) (least_len (spelling f) - 2) (least_len (spelling f) + 4)
+    (sym (head_len f is.legal)) refl (omega (arith, least_len-spelling f is.legal, length-append (head_of f) ethertype))
     ∙ sym (append_assoc (head_of f) inner is.rest)
     ∙ sym is.plain_is
 
@@ -131,7 +131,7 @@ without_trailer_is octets plain t is =
     ap (take (length octets - 6)) is.spelled ∙ take_at plain (trailer_octets t) (length octets - 6) (omega (arith, size))
 
 -- a frame's type, by its octets
-pub type_of_frame : (octets : List ℕ) (f : Fields) → IsFrame octets f → type_in octets ≡ f.kind
+pub type_of_frame : (octets : List ℕ) (f : Fields) → IsFrame octets f → type_in octets ≡ f.ethertype
 type_of_frame octets f is = ap type_in is.spelled ∙ type_of_spelling f is.legal
 
 -- fewer than six octets of payload, by the octets of the frame
@@ -148,8 +148,8 @@ tagged_len octets plain t is =
       ap length is.spelled,
       ap length is.plain_is,
       ap length is.payload,
-      length-append (head ++ to_be_bytes w16 is.fields.kind) is.fields.payload,
-      length-append head (to_be_bytes w16 is.fields.kind),
+      length-append (head ++ to_be_bytes w16 is.fields.ethertype) is.fields.payload,
+      length-append head (to_be_bytes w16 is.fields.ethertype),
       length-append (tag_octets t) is.rest,
       length-append (head ++ to_be_bytes w16 t.inner) is.rest,
       length-append head (to_be_bytes w16 t.inner),
@@ -160,7 +160,7 @@ pub tagged_frame : (octets plain : List ℕ) (t : HsrTag) → IsTagged octets pl
 tagged_frame octets plain t is = subst HasFrameLength (sym is.spelled) (HasFrameLength-spelling is.fields is.legal)
 
 pub tagged_type : (octets plain : List ℕ) (t : HsrTag) → IsTagged octets plain t → type_in octets ≡ 0x892F
-tagged_type octets plain t is = ap type_in is.spelled ∙ type_of_spelling is.fields is.legal ∙ is.kind
+tagged_type octets plain t is = ap type_in is.spelled ∙ type_of_spelling is.fields is.legal ∙ is.ethertype
 
 pub tagged_long : (octets plain : List ℕ) (t : HsrTag) → IsTagged octets plain t → least_len octets + 6 ≤ length octets
 tagged_long octets plain t is =

@@ -4,8 +4,8 @@ use Rattle.std.specs.Map.{lookup, set_value}
 use Rattle.sr_frame.specs.declared.fields.Mac.{Mac}
 use Rattle.sr_frame.specs.declared.ports.Port.{Port}
 use Rattle.sr_frame.specs.declared.ports.Port.TheVariants.{C}
-use Rattle.sr_frame.specs.declared.learnt.Learnt.{Learnt}
-use Rattle.sr_frame.specs.declared.learnt.Learnt.TheVariants.{Learned, Known, Full}
+use Rattle.sr_frame.specs.declared.learn_outcome.LearnOutcome.{LearnOutcome}
+use Rattle.sr_frame.specs.declared.learn_outcome.LearnOutcome.TheVariants.{New, Known, Full}
 use Rattle.sr_frame.specs.Addresses.{mac_eq}
 use Rattle.sr_forwarding.specs.declared.header.Header.{Header}
 use Rattle.sr_forwarding.specs.declared.role_image.RoleImage.{RoleImage}
@@ -36,11 +36,11 @@ abbrev pub proxied_after : List (Mac × ℕ) → Mac → ℕ → List (Mac × �
 proxied_after ps mac now = with_address (lookup (mac_eq mac) ps) ps mac now
 
 -- what became of a new address, and of one that stands there
-abbrev pub answer_at : Option ℕ → List (Mac × ℕ) → ℕ → Learnt
-answer_at None ps now = if nat_lt (length (with_room ps now)) most_proxied then Learned else Full
-answer_at (Some time) ps now = if is_recent now time then Known else Learned
+abbrev pub answer_at : Option ℕ → List (Mac × ℕ) → ℕ → LearnOutcome
+answer_at None ps now = if nat_lt (length (with_room ps now)) most_proxied then New else Full
+answer_at (Some time) ps now = if is_recent now time then Known else New
 
-abbrev pub proxy_answer : List (Mac × ℕ) → Mac → ℕ → Learnt
+abbrev pub proxy_answer : List (Mac × ℕ) → Mac → ℕ → LearnOutcome
 proxy_answer ps mac now = answer_at (lookup (mac_eq mac) ps) ps now
 
 -- at its interlink a RedBox for nodes that know no redundancy learns the source; nothing else is learned
@@ -52,11 +52,11 @@ abbrev pub learned : RoleImage → Header → Port → ℕ → RoleImage
 learned r h inlet now = learned_at r.kind inlet r h now
 
 -- what `learn` answers
-abbrev pub learnt_at : RoleKind → Port → RoleImage → Header → ℕ → Learnt
+abbrev pub learnt_at : RoleKind → Port → RoleImage → Header → ℕ → LearnOutcome
 learnt_at San C r h now = proxy_answer r.proxied h.src now
 learnt_at kind inlet r h now = Known
 
-abbrev pub learnt : RoleImage → Header → Port → ℕ → Learnt
+abbrev pub learnt : RoleImage → Header → Port → ℕ → LearnOutcome
 learnt r h inlet now = learnt_at r.kind inlet r h now
 
 -- the role after the forgotten addresses went

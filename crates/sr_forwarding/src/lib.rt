@@ -40,4 +40,4 @@ pub use port_list::PortList;
 pub use prp_framing::{MAX_NET, PrpFraming};
 pub use role::Role;
 pub use role_image::{Proxied, RoleImage, RoleKind};
-pub use sr_frame::{Learnt, Port};
+pub use sr_frame::{LearnOutcome, Port};

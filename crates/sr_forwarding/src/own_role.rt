@@ -5,7 +5,7 @@ ghost use Rattle.sr_forwarding.specs.RoleImages.{role_of};
 ghost use Rattle.sr_forwarding.specs.Routes.{routes};
 
 use crate::{Header, Outlets, Proxied, Role, RoleImage, RoleKind};
-use sr_frame::{Learnt, Mac, NoMemory, Port};
+use sr_frame::{LearnOutcome, Mac, NoMemory, Port};
 use std::alloc::Global;
 
 /// Where the frames go of a role that stands for its own address alone.
@@ -73,8 +73,8 @@ impl<R: Routing> Role for OwnRole<R> {
         _header: &Header,
         _inlet: Port,
         _now: u64,
-    ) -> Result<Learnt, NoMemory> {
-        Ok(Learnt::Known)
+    ) -> Result<LearnOutcome, NoMemory> {
+        Ok(LearnOutcome::Known)
     }
 
     fn prune(&mut self, _now: u64) -> usize {

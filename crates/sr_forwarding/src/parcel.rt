@@ -15,7 +15,7 @@ use std::alloc::Global;
 use std::marker::Model;
 
 /// The octets of a type.
-const KIND_LEN: usize = 2;
+const ETHERTYPE_LEN: usize = 2;
 
 /// A frame on its way through a node. Its number and path are those that its octets carry.
 #[derive(Debug, PartialEq, Eq, Drop)]
@@ -193,8 +193,8 @@ impl Parcel {
             Form::Plain => (octets, &[]),
             Form::Prp => (&octets[..octets.len() - TRAILER_LEN], &[]),
             Form::Hsr => {
-                let kind = self.octets.view().header_len() - KIND_LEN;
-                (&octets[..kind], &octets[kind + TAG_LEN..])
+                let tag_at = self.octets.view().header_len() - ETHERTYPE_LEN;
+                (&octets[..tag_at], &octets[tag_at + TAG_LEN..])
             }
         }
     }

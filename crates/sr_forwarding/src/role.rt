@@ -6,7 +6,7 @@ ghost use Rattle.sr_forwarding.specs.Routes.{routes};
 ghost use Rattle.sr_forwarding.specs.Proxies.{learned, learnt, pruned, pruned_count};
 
 use crate::{Header, Outlets, RoleImage, RoleKind};
-use sr_frame::{Learnt, Mac, NoMemory, Port};
+use sr_frame::{LearnOutcome, Mac, NoMemory, Port};
 use std::alloc::Global;
 
 /// The part of a node that decides where frames go, and for which addresses the node stands. All that it answers is a
@@ -40,7 +40,7 @@ pub trait Role: Drop {
         header: &Header,
         inlet: Port,
         now: u64,
-    ) -> Result<Learnt, NoMemory>
+    ) -> Result<LearnOutcome, NoMemory>
         ensures answer { IfOk result (λ a. a ≡ learnt (meaning self.old) header.now inlet now) }
         ensures after { OnOk result (meaning self.new
             ≡ learned (meaning self.old) header.now inlet now) }
@@ -81,7 +81,7 @@ impl Role for Box<dyn Role + Send> {
         header: &Header,
         inlet: Port,
         now: u64,
-    ) -> Result<Learnt, NoMemory> {
+    ) -> Result<LearnOutcome, NoMemory> {
         (**self).learn(alloc, header, inlet, now)
     }
 

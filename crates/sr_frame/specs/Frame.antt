@@ -29,7 +29,7 @@ pub record Fields : Type 0 where
   pub dst : List ℕ
   pub src : List ℕ
   pub vlan : Option ℕ
-  pub kind : ℕ
+  pub ethertype : ℕ
   pub payload : List ℕ
 
 -- a VLAN tag is 0x8100 and two octets of control
@@ -43,15 +43,15 @@ head_of f = f.dst ++ f.src ++ tag_of f.vlan
 
 -- the octets of the whole frame
 abbrev pub spelling : Fields → List ℕ
-spelling f = head_of f ++ to_be_bytes w16 f.kind ++ f.payload
+spelling f = head_of f ++ to_be_bytes w16 f.ethertype ++ f.payload
 
 -- the fields are those of a frame: an untagged one's type is not that of a tag, and at most 1524 octets spell it
 pub record IsLegal (f : Fields) : Type 0 where
   pub dst : length f.dst ≡ 6
   pub src : length f.src ≡ 6
   pub vlan : (control : ℕ) → f.vlan ≡ Some control → control < 2 ^ 16
-  pub kind : f.kind < 2 ^ 16
-  pub untagged : f.vlan ≡ None → f.kind ≢ 0x8100
+  pub ethertype : f.ethertype < 2 ^ 16
+  pub untagged : f.vlan ≡ None → f.ethertype ≢ 0x8100
   pub size : length (spelling f) ≤ 1524
 
 -- each member is an octet

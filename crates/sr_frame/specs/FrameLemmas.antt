@@ -42,21 +42,22 @@ tail_once (Some c) None k l p q vf wf kf lf vu wu e =
     let a = number_and_rest l 0x8100 q (to_be_bytes w16 c ++ (to_be_bytes w16 k ++ p)) lf (omega arith) (sym e) in
     absurd (wu refl a.0)
 
-pub regrouped : (f : Fields) → spelling f ≡ f.dst ++ (f.src ++ (tag_of f.vlan ++ (to_be_bytes w16 f.kind ++ f.payload)))
+pub regrouped : (f : Fields) → spelling f ≡ f.dst ++ (f.src ++ (tag_of f.vlan ++ (to_be_bytes w16 f.ethertype ++ f.payload)))
 regrouped f =
-    append_assoc (head_of f) (to_be_bytes w16 f.kind) f.payload
-    ∙ append_assoc (f.dst ++ f.src) (tag_of f.vlan) (to_be_bytes w16 f.kind ++ f.payload)
-    ∙ append_assoc f.dst f.src (tag_of f.vlan ++ (to_be_bytes w16 f.kind ++ f.payload))
+    append_assoc (head_of f) (to_be_bytes w16 f.ethertype) f.payload
+    ∙ append_assoc (f.dst ++ f.src) (tag_of f.vlan) (to_be_bytes w16 f.ethertype ++ f.payload)
+    ∙ append_assoc f.dst f.src (tag_of f.vlan ++ (to_be_bytes w16 f.ethertype ++ f.payload))
 
 abbrev fields : List ℕ → List ℕ → Option ℕ → ℕ → List ℕ → Fields
-fields dst src vlan kind payload = record { dst = dst; src = src; vlan = vlan; kind = kind; payload = payload }
+fields dst src vlan ethertype payload = record { dst = dst; src = src; vlan = vlan; ethertype = ethertype; payload = payload }
 
 same_record : (a b s t : List ℕ) (v w : Option ℕ) (k l : ℕ) (p q : List ℕ) → a ≡ b → s ≡ t → v ≡ w → k ≡ l → p ≡ q →
     fields a s v k p ≡ fields b t w l q
 same_record a b s t v w k l p q e1 e2 e3 e4 e5 = cc
 
-pub same_fields : (f g : Fields) → f.dst ≡ g.dst → f.src ≡ g.src → f.vlan ≡ g.vlan → f.kind ≡ g.kind → f.payload ≡ g.payload → f ≡ g
-same_fields f g a b c d e = same_record f.dst g.dst f.src g.src f.vlan g.vlan f.kind g.kind f.payload g.payload a b c d e
+pub same_fields : (f g : Fields) → f.dst ≡ g.dst → f.src ≡ g.src → f.vlan ≡ g.vlan → f.ethertype ≡ g.ethertype
+    → f.payload ≡ g.payload → f ≡ g
+same_fields f g a b c d e = same_record f.dst g.dst f.src g.src f.vlan g.vlan f.ethertype g.ethertype f.payload g.payload a b c d e
 
 -- legal fields with one spelling are the same fields
 pub spelled_once : (f g : Fields) → IsLegal f → IsLegal g → spelling f ≡ spelling g → f ≡ g
@@ -64,5 +65,6 @@ spelled_once f g fl gl e =
     let whole = sym (regrouped f) ∙ e ∙ regrouped g in
     let d = same_parts f.dst g.dst _ _ (fl.dst ∙ sym gl.dst) whole in
     let s = same_parts f.src g.src _ _ (fl.src ∙ sym gl.src) d.1 in
-    let t = tail_once f.vlan g.vlan f.kind g.kind f.payload g.payload fl.vlan gl.vlan fl.kind gl.kind fl.untagged gl.untagged s.1 in
+    let t = tail_once f.vlan g.vlan f.ethertype g.ethertype f.payload g.payload
+    fl.vlan gl.vlan fl.ethertype gl.ethertype fl.untagged gl.untagged s.1 in
     same_fields f g d.0 s.0 t.0 t.1 t.2

@@ -36,7 +36,7 @@ use Rattle.sr_frame.specs.FrameLemmas.{regrouped}
 
 -- the octets before the payload
 abbrev pub header_of : Fields → List ℕ
-header_of f = head_of f ++ to_be_bytes w16 f.kind
+header_of f = head_of f ++ to_be_bytes w16 f.ethertype
 
 -- the same fields before another payload
 abbrev pub with_payload : Fields → List ℕ → Fields
@@ -71,7 +71,7 @@ least_at (Some c) k p x y kf un xe ye = rw (xe, ye) refl
 -- the least length of a frame is what stands before its payload
 pub least_len-spelling : (f : Fields) → IsLegal f → least_len (spelling f) ≡ length (header_of f)
 least_len-spelling f legal =
-    let tail = tag_of f.vlan ++ (to_be_bytes w16 f.kind ++ f.payload) in
+    let tail = tag_of f.vlan ++ (to_be_bytes w16 f.ethertype ++ f.payload) in
     let at : (i : ℕ) → get_or (spelling f) (12 + i) 0 ≡ get_or tail i 0 =
     λ i. rw (
       regrouped f,
@@ -81,13 +81,14 @@ least_len-spelling f legal =
     let size : length (header_of f) ≡ 14 + length (tag_of f.vlan) =
     omega (
       arith,
-      length-append (head_of f) (to_be_bytes w16 f.kind),
+      length-append (head_of f) (to_be_bytes w16 f.ethertype),
       length-append (f.dst ++ f.src) (tag_of f.vlan),
       length-append f.dst f.src,
       legal.dst,
       legal.src,
     ) in
-    least_at f.vlan f.kind f.payload (get_or (spelling f) 12 0) (get_or (spelling f) 13 0) legal.kind legal.untagged (at 0) (at 1) ∙ sym
+    least_at f.vlan f.ethertype f.payload (get_or (spelling f) 12 0) (get_or (spelling f) 13 0)
+    legal.ethertype legal.untagged (at 0) (at 1) ∙ sym
     size
 
 pub length-spelling : (f : Fields) → length (spelling f) ≡ length (header_of f) + length f.payload
@@ -106,7 +107,7 @@ IsLegal-shorter f payload legal short = record {
   dst = legal.dst;
   src = legal.src;
   vlan = legal.vlan;
-  kind = legal.kind;
+  ethertype = legal.ethertype;
   untagged = legal.untagged;
   size = omega (arith, legal.size, length-spelling f, length-spelling (with_payload f payload));
 }

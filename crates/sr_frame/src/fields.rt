@@ -17,7 +17,7 @@ pub const VLAN_TAG_LEN: usize = 4;
 pub const MIN_PAYLOAD_LEN: usize = 46;
 
 /// The type that marks a VLAN tag.
-pub const VLAN_KIND: u16 = 0x8100;
+pub const VLAN_ETHERTYPE: u16 = 0x8100;
 
 /// A hardware address: its six octets in the order in which a frame carries them.
 ///
@@ -98,14 +98,14 @@ pub struct FrameView<'a> {
     /// The control octets of the VLAN tag, where there is one.
     pub vlan: Option<u16>,
     /// The type, after the VLAN tag where there is one.
-    pub kind: u16,
+    pub ethertype: u16,
     /// What follows the type.
     pub payload: &'a [u8],
     pub ghost legal: { IsLegal (record {
       dst = dst.0;
       src = src.0;
       vlan = vlan;
-      kind = kind;
+      ethertype = ethertype;
       payload = payload.now;
     }) },
 }

@@ -4,7 +4,7 @@
 mod fault;
 mod fields;
 mod laws;
-mod learnt;
+mod learn_outcome;
 mod owned;
 mod ports;
 mod reading;
@@ -13,10 +13,10 @@ mod writing;
 
 pub use fault::{FrameFault, NoMemory};
 pub use fields::{
-    FrameView, HEADER_LEN, MAX_FRAME_LEN, MIN_PAYLOAD_LEN, Mac, VLAN_KIND, VLAN_TAG_LEN,
+    FrameView, HEADER_LEN, MAX_FRAME_LEN, MIN_PAYLOAD_LEN, Mac, VLAN_ETHERTYPE, VLAN_TAG_LEN,
 };
 pub use laws::{fields_are_unique, frames_have_frame_length};
-pub use learnt::Learnt;
+pub use learn_outcome::LearnOutcome;
 pub use owned::Frame;
 pub use ports::Port;
 pub use reading::view;

@@ -6,7 +6,7 @@ ghost use Rattle.sr_frame.specs.Frame.{Fields, IsFrame, least_len};
 ghost use Rattle.sr_frame.specs.View.{fields_of};
 
 use crate::fault::FrameFault;
-use crate::fields::{FrameView, MAX_FRAME_LEN, Mac, VLAN_KIND};
+use crate::fields::{FrameView, MAX_FRAME_LEN, Mac, VLAN_ETHERTYPE};
 
 /// The address at the front, and what follows it.
 fn mac_front(octets: &[u8]) -> Option<(Mac, &[u8])>
@@ -34,23 +34,23 @@ fn fields_front(octets: &[u8]) -> Option<FrameView<'_>>
 {
     let (dst, rest) = mac_front(octets)?;
     let (src, rest) = mac_front(rest)?;
-    let (kind, rest) = number_front(rest)?;
-    if kind != VLAN_KIND {
+    let (ethertype, rest) = number_front(rest)?;
+    if ethertype != VLAN_ETHERTYPE {
         return Some(FrameView {
             dst,
             src,
             vlan: None,
-            kind,
+            ethertype,
             payload: rest,
         });
     }
     let (control, rest) = number_front(rest)?;
-    let (kind, payload) = number_front(rest)?;
+    let (ethertype, payload) = number_front(rest)?;
     Some(FrameView {
         dst,
         src,
         vlan: Some(control),
-        kind,
+        ethertype,
         payload,
     })
 }

@@ -5,7 +5,7 @@ ghost use Rattle.sr_frame.specs.Frame.{spelling};
 ghost use Rattle.sr_frame.specs.View.{fields_of};
 
 use crate::fault::NoMemory;
-use crate::fields::{FrameView, VLAN_KIND};
+use crate::fields::{FrameView, VLAN_ETHERTYPE};
 
 /// Appends the octets of the frame with these fields to a list.
 ///
@@ -31,9 +31,11 @@ fn put(out: &mut Vec<u8>, frame: &FrameView<'_>)
     out.extend_from_slice(&frame.dst.0).unwrap();
     out.extend_from_slice(&frame.src.0).unwrap();
     if let Some(control) = frame.vlan {
-        out.extend_from_slice(&VLAN_KIND.to_be_bytes()).unwrap();
+        out.extend_from_slice(&VLAN_ETHERTYPE.to_be_bytes())
+            .unwrap();
         out.extend_from_slice(&control.to_be_bytes()).unwrap();
     }
-    out.extend_from_slice(&frame.kind.to_be_bytes()).unwrap();
+    out.extend_from_slice(&frame.ethertype.to_be_bytes())
+        .unwrap();
     out.extend_from_slice(frame.payload).unwrap();
 }

@@ -42,10 +42,10 @@ const LAN_OF_NETWORK: PrpFraming = PrpFraming {
 };
 
 /// The most octets that an event has.
-const MOST_OCTETS: usize = 1600;
+const MAX_OCTETS: usize = 1600;
 
 /// How many parcels an outbox holds.
-const MOST_WAITING: u16 = 256;
+const MAX_WAITING: u16 = 256;
 
 fn arrive(node: &mut Node, port: Port, octets: &[u8], now: u64) -> Result<Answer, StepFault> {
     match (node.kind(), port) {
@@ -152,7 +152,7 @@ fn take_first(
 /// Takes out what waits at an outlet. False where an allocation failed.
 fn take_all(alloc: Global, node: &mut Node, port: Port, digest: &mut Digest) -> bool {
     let kind = node.kind();
-    for _ in 0..MOST_WAITING {
+    for _ in 0..MAX_WAITING {
         match take_first(alloc, node, kind, port, digest) {
             Some(true) => {}
             Some(false) => return false,
@@ -231,7 +231,7 @@ fn happen(alloc: Global, node: &mut Node, events: &[u8], begin: u64, digest: &mu
             return true;
         };
         now = now.saturating_add(u64::from(*step) << (*kind >> 5));
-        let len = u16::from_le_bytes([*low, *high]) as usize % MOST_OCTETS;
+        let len = u16::from_le_bytes([*low, *high]) as usize % MAX_OCTETS;
         let (octets, behind) = behind.split_at(len.min(behind.len()));
         rest = behind;
         if !happens(alloc, node, *kind, octets, now, digest) {

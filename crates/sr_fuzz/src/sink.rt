@@ -12,14 +12,14 @@ pub struct Sink {
 }
 
 /// The most octets that are written. A few lines can ask for more than anyone prints.
-const MOST_WRITTEN: usize = 1 << 20;
+const MAX_WRITTEN: usize = 1 << 20;
 
 impl Sink {
     /// One to which nothing was written.
     pub fn new() -> Sink {
         Sink {
             digest: Digest::new(),
-            room: MOST_WRITTEN,
+            room: MAX_WRITTEN,
         }
     }
 }

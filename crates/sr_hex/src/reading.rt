@@ -6,7 +6,7 @@ ghost use Rattle.hex.specs.Hex.{decode_of, is_hex_digit};
 ghost use Rattle.sr_hex.specs.Lanes.{HasLanes};
 ghost use Rattle.sr_hex.specs.Values.{AreSpelled, AreDigits, AreKept, AreSmall, IsDigitFront, IsEndAt, value_of};
 
-use crate::lanes::{
+use crate::vectors::{
     are_small, larger, letters, load, numbers, octets_of, small_front, smaller, store,
 };
 use std::simd::prelude::*;

@@ -4,7 +4,7 @@ ghost use Rattle.std.specs.Prelude.{◌≡◌, ◌+◌, ◌*◌, ◌≤◌, ◌<
 ghost use Rattle.hex.specs.Hex.{encode_lower};
 ghost use Rattle.sr_hex.specs.Values.{AreWritten, AreKept};
 
-use crate::lanes::{digits_of, in_turn_first, in_turn_last, load, lower, store, upper};
+use crate::vectors::{digits_of, in_turn_first, in_turn_last, load, lower, store, upper};
 use std::alloc::AllocError;
 
 /// Writes the digits of sixteen octets from a place on.

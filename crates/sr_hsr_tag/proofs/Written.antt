@@ -14,23 +14,23 @@ tag path size seq inner = record { path = path; size = size; seq = seq; inner = 
 
 -- the fields of the tagged frame
 abbrev tagged_fields : Fields → List ℕ → Fields
-tagged_fields f payload = record f { kind = 0x892F; payload = payload }
+tagged_fields f payload = record f { ethertype = 0x892F; payload = payload }
 
 legal_tagged : (f : Fields) (payload : List ℕ) → IsLegal f → length (header_of f) + length payload ≤ 1524 → IsLegal (tagged_fields f payload)
 legal_tagged f payload legal most = record {
   dst = legal.dst;
   src = legal.src;
   vlan = legal.vlan;
-  kind = omega arith;
+  ethertype = omega arith;
   untagged = λ _ e. absurd (omega (arith, e));
-  size = omega (arith, most, length-append (head_of f) (to_be_bytes w16 f.kind), length-append (head_of f) (to_be_bytes w16 0x892F), length-spelling (tagged_fields f payload));
+  size = omega (arith, most, length-append (head_of f) (to_be_bytes w16 f.ethertype), length-append (head_of f) (to_be_bytes w16 0x892F), length-spelling (tagged_fields f payload));
 }
 
 -- what is written, resized to its size, is the padded frame with the tag in it
-pub resized_is_tagged : (f : Fields) (own written : List ℕ) (path n h : ℕ) (seq : Seq) → IsLegal f → h ≡ least_len (spelling f) → n ≡ max (length f.payload) 46 + 6 → h + n ≤ 1524 → path < 16 → seq.0 < 2 ^ 16 → written ≡ head_of f ++ to_be_bytes w16 0x892F ++ (tag_octets (tag path n seq f.kind) ++ f.payload) → own ≡ take (h + n) written ++ replicate (h + n - length written) 0 → IsTagged own (padded (spelling f)) (tag path (octets_behind_type own) seq f.kind) × (least_len own ≡ least_len (padded (spelling f)))
+pub resized_is_tagged : (f : Fields) (own written : List ℕ) (path n h : ℕ) (seq : Seq) → IsLegal f → h ≡ least_len (spelling f) → n ≡ max (length f.payload) 46 + 6 → h + n ≤ 1524 → path < 16 → seq.0 < 2 ^ 16 → written ≡ head_of f ++ to_be_bytes w16 0x892F ++ (tag_octets (tag path n seq f.ethertype) ++ f.payload) → own ≡ take (h + n) written ++ replicate (h + n - length written) 0 → IsTagged own (padded (spelling f)) (tag path (octets_behind_type own) seq f.ethertype) × (least_len own ≡ least_len (padded (spelling f)))
 resized_is_tagged f own written path n h seq legal h_is n_is most path_fits seq_fits written_is own_is =
-    let t = tag path n seq f.kind in
-    let head_len : length (head_of f) + 2 ≡ h = omega (arith, length-append (head_of f) (to_be_bytes w16 f.kind), least_len-spelling f legal, h_is) in
+    let t = tag path n seq f.ethertype in
+    let head_len : length (head_of f) + 2 ≡ h = omega (arith, length-append (head_of f) (to_be_bytes w16 f.ethertype), least_len-spelling f legal, h_is) in
     let whole_len : length (spelling f) ≡ h + length f.payload = omega (arith, length-spelling f, least_len-spelling f legal, h_is) in
     let written_len : length written ≡ h + 6 + length f.payload = ap length written_is ∙ omega (arith, length-append (head_of f ++ to_be_bytes w16 0x892F) (tag_octets t ++ f.payload), length-append (head_of f) (to_be_bytes w16 0x892F), length-append (tag_octets t) f.payload, head_len) in
     let k = least_len (spelling f) + 46 - length (spelling f) in
@@ -41,7 +41,7 @@ resized_is_tagged f own written path n h seq legal h_is n_is most path_fits seq_
     let payload = tag_octets t ++ (f.payload ++ zeros) in
     let g = tagged_fields f payload in
     let payload_len : length payload ≡ n = omega (arith, length-append (tag_octets t) (f.payload ++ zeros), length-append f.payload zeros, zeros_len, n_is, whole_len, h_is) in
-    let legal_g : IsLegal g = legal_tagged f payload legal (omega (arith, payload_len, head_len, length-append (head_of f) (to_be_bytes w16 f.kind), most)) in
+    let legal_g : IsLegal g = legal_tagged f payload legal (omega (arith, payload_len, head_len, length-append (head_of f) (to_be_bytes w16 f.ethertype), most)) in
     let front = head_of f ++ to_be_bytes w16 0x892F in
     let spelled : own ≡ spelling g =
     own_is ∙ ap (λ (l : List ℕ). l ++ replicate (h + n - length written) 0) (all ∙ written_is) ∙ ap (λ (j : ℕ). front ++ (tag_octets t ++ f.payload) ++ replicate j 0) count
@@ -54,12 +54,12 @@ resized_is_tagged f own written path n h seq legal h_is n_is most path_fits seq_
       rest = f.payload ++ zeros;
       legal = legal_g;
       spelled = spelled;
-      kind = refl;
+      ethertype = refl;
       payload = refl;
       plain_is = append_assoc (header_of f) f.payload zeros;
-      tag = record { path = path_fits; size = omega (arith, most); seq = seq_fits; inner = legal.kind };
+      tag = record { path = path_fits; size = omega (arith, most); seq = seq_fits; inner = legal.ethertype };
     } in
-    let Sized : ℕ → Type 0 = λ s. IsTagged own (padded (spelling f)) (tag path s seq f.kind) in
+    let Sized : ℕ → Type 0 = λ s. IsTagged own (padded (spelling f)) (tag path s seq f.ethertype) in
     let behind : least_len (padded (spelling f)) ≡ least_len (spelling f) = least_len_more (spelling f) zeros (omega (arith, whole_len, h_is, least_len_bounds (spelling f))) in
     (subst Sized size is, least ∙ h_is ∙ sym behind)
 
@@ -78,4 +78,4 @@ resized_behind old whole end n len end_is fits len_is =
 -- how long a frame is with a tag in it
 pub length-tagged : (f : Fields) (t : HsrTag) → IsLegal f → length (head_of f ++ to_be_bytes w16 0x892F ++ (tag_octets t ++ f.payload)) ≡ least_len (spelling f) + 6 + length f.payload
 length-tagged f t legal =
-    omega (arith, length-append (head_of f ++ to_be_bytes w16 0x892F) (tag_octets t ++ f.payload), length-append (head_of f) (to_be_bytes w16 0x892F), length-append (tag_octets t) f.payload, least_len-spelling f legal, length-append (head_of f) (to_be_bytes w16 f.kind))
+    omega (arith, length-append (head_of f ++ to_be_bytes w16 0x892F) (tag_octets t ++ f.payload), length-append (head_of f) (to_be_bytes w16 0x892F), length-append (tag_octets t) f.payload, least_len-spelling f legal, length-append (head_of f) (to_be_bytes w16 f.ethertype))

@@ -26,18 +26,18 @@ tag_once s t fs ft e =
 
 -- where a frame is tagged, its own payload begins with the tag
 pub tag_in_payload : (f : Fields) (plain : List ℕ) (t : HsrTag) → IsLegal f → IsTagged (spelling f) plain t →
-    (rest : List ℕ) × (f.kind ≡ 0x892F) × (f.payload ≡ tag_octets t ++ rest) × (plain ≡ with_type f t.inner rest)
+    (rest : List ℕ) × (f.ethertype ≡ 0x892F) × (f.payload ≡ tag_octets t ++ rest) × (plain ≡ with_type f t.inner rest)
 tag_in_payload f plain t legal is =
     let same : is.fields ≡ f = spelled_once is.fields f is.legal legal (sym is.spelled) in (
       is.rest,
-      ap (λ (g : Fields). g.kind) (sym same) ∙ is.kind,
+      ap (λ (g : Fields). g.ethertype) (sym same) ∙ is.ethertype,
       ap (λ (g : Fields). g.payload) (sym same) ∙ is.payload,
       is.plain_is ∙ ap (λ (g : Fields). with_type g t.inner is.rest) same,
     )
 
 -- a tagged frame has six octets behind its type
 pub tagged_is_long : (f : Fields) (plain : List ℕ) (t : HsrTag) → IsLegal f → IsTagged (spelling f) plain t →
-    (f.kind ≡ 0x892F) × (6 ≤ length f.payload)
+    (f.ethertype ≡ 0x892F) × (6 ≤ length f.payload)
 tagged_is_long f plain t legal is =
     let at = tag_in_payload f plain t legal is in
     (at.1, omega (arith, ap length at.2, length-append (tag_octets t) at.0))
@@ -69,7 +69,7 @@ lengths : (octets plain : List ℕ) (t : HsrTag) (is : IsTagged octets plain t) 
     × (least_len octets ≡ length (head_of is.fields) + 2) × (length plain ≡ length (head_of is.fields) + 2 + length is.rest)
 lengths octets plain t is =
     let f = is.fields in
-    let header : length (header_of f) ≡ length (head_of f) + 2 = length-append (head_of f) (to_be_bytes w16 f.kind) in
+    let header : length (header_of f) ≡ length (head_of f) + 2 = length-append (head_of f) (to_be_bytes w16 f.ethertype) in
     let payload : length f.payload ≡ 6 + length is.rest = ap length is.payload ∙ length-append (tag_octets t) is.rest in
     let plain_len : length plain ≡ length (head_of f) + 2 + length is.rest = ap length is.plain_is ∙ omega
     (arith, length-append (head_of f ++ to_be_bytes w16 t.inner) is.rest, length-append (head_of f) (to_be_bytes w16 t.inner)) in (
@@ -92,11 +92,12 @@ tagged_spelled_once octets others plain t a b sized_a sized_b =
     ≡ length (head_of g ++ inner) = omega (arith, length-append (head_of f) inner, length-append (head_of g) inner, heads_len) in
     let rests = same_parts (head_of f ++ inner) (head_of g ++ inner) a.rest b.rest fronts_len (sym a.plain_is ∙ b.plain_is) in
     let heads = same_parts (head_of f) (head_of g) inner inner heads_len rests.0 in
-    let whole = λ (head payload : List ℕ) (kind : ℕ). head ++ to_be_bytes w16 kind ++ payload in
-    a.spelled ∙ ap (λ (k : ℕ). whole (head_of f) f.payload k) a.kind ∙ ap (λ (p : List ℕ). whole (head_of f) p 0x892F) a.payload
+    let whole = λ (head payload : List ℕ) (ethertype : ℕ). head ++ to_be_bytes w16 ethertype ++ payload in
+    a.spelled ∙ ap (λ (k : ℕ). whole (head_of f) f.payload k) a.ethertype ∙ ap (λ (p : List ℕ). whole (head_of f) p 0x892F) a.payload
     ∙ ap (λ (r : List ℕ). whole (head_of f) (tag_octets t ++ r) 0x892F) rests.1 ∙ ap
     (λ (h : List ℕ). whole h (tag_octets t ++ b.rest) 0x892F) heads.0
-    ∙ sym (b.spelled ∙ ap (λ (k : ℕ). whole (head_of g) g.payload k) b.kind ∙ ap (λ (p : List ℕ). whole (head_of g) p 0x892F) b.payload)
+    ∙ sym (b.spelled ∙ ap (λ (k : ℕ). whole (head_of g) g.payload k) b.ethertype
+    ∙ ap (λ (p : List ℕ). whole (head_of g) p 0x892F) b.payload)
 
 -- tags before the type of one frame, at one place, have one inner type
 placed_once : (octets others plain : List ℕ) (s t : HsrTag) → IsTagged octets plain s → IsTagged others plain t →

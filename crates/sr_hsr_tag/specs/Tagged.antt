@@ -17,7 +17,7 @@ pub record IsTag (t : HsrTag) : Type 0 where
 
 -- the octets of the frame with another type and payload
 abbrev pub with_type : Fields → ℕ → List ℕ → List ℕ
-with_type f kind payload = head_of f ++ to_be_bytes w16 kind ++ payload
+with_type f ethertype payload = head_of f ++ to_be_bytes w16 ethertype ++ payload
 
 -- The octets are a frame of type 0x892F whose payload begins with this tag. Plain is that frame without the tag:
 -- its type is the inner one, and its payload what stands behind. It may be too short for a frame.
@@ -26,7 +26,7 @@ pub record IsTagged (octets plain : List ℕ) (t : HsrTag) : Type 0 where
   pub rest : List ℕ
   pub legal : IsLegal fields
   pub spelled : octets ≡ spelling fields
-  pub kind : fields.kind ≡ 0x892F
+  pub ethertype : fields.ethertype ≡ 0x892F
   pub payload : fields.payload ≡ tag_octets t ++ rest
   pub plain_is : plain ≡ with_type fields t.inner rest
   pub tag : IsTag t

@@ -10,5 +10,5 @@ mod writing;
 pub use fault::{TagFault, UntagFault};
 pub use laws::{spellings_are_unique, tags_are_unique};
 pub use reading::{read, untagged, untagged_view};
-pub use tag::{HSR_KIND, HsrTag, TAG_LEN};
+pub use tag::{HSR_ETHERTYPE, HsrTag, TAG_LEN};
 pub use writing::{append_tagged, tagged};

@@ -8,9 +8,9 @@ ghost use Rattle.sr_hsr_tag.specs.Tagged.{IsTag, IsTagged, tag_octets, with_type
 ghost use Rattle.sr_hsr_tag.specs.declared.tag.HsrTag.{HsrTag};
 
 use crate::fault::{TagFault, UntagFault};
-use crate::tag::{HSR_KIND, HsrTag};
+use crate::tag::{HSR_ETHERTYPE, HsrTag};
 use crate::writing::frame_of;
-use sr_frame::{Frame, FrameView, VLAN_KIND};
+use sr_frame::{Frame, FrameView, VLAN_ETHERTYPE};
 use sr_sequence::Seq;
 use std::alloc::Global;
 
@@ -44,11 +44,11 @@ fn parted<'a>(frame: &FrameView<'a>) -> Result<(HsrTag, &'a [u8]), TagFault>
         → IsOkAnd result (λ r.
         (r.0 ≡ t) × (with_type (fields_of frame.now) r.0.inner r.1.now ≡ plain)) }
     ensures shorter { IfOk result (λ r. length r.1.now + 6 ≡ length frame.now.payload.now) }
-    ensures not_tagged { IsErrOf result TagFault.NotTagged ↔ (frame.now.kind ≢ HSR_KIND) }
+    ensures not_tagged { IsErrOf result TagFault.NotTagged ↔ (frame.now.ethertype ≢ HSR_ETHERTYPE) }
     ensures truncated { IsErrOf result TagFault.Truncated
-        ↔ (frame.now.kind ≡ HSR_KIND) × (length frame.now.payload.now < 6) }
+        ↔ (frame.now.ethertype ≡ HSR_ETHERTYPE) × (length frame.now.payload.now < 6) }
 {
-    if frame.kind != HSR_KIND {
+    if frame.ethertype != HSR_ETHERTYPE {
         return Err(TagFault::NotTagged);
     }
     let Some((front, rest)) = frame.payload.split_first_chunk::<6>() else {
@@ -58,43 +58,43 @@ fn parted<'a>(frame: &FrameView<'a>) -> Result<(HsrTag, &'a [u8]), TagFault>
 }
 
 /// A VLAN tag's control and the type behind it.
-fn control_and_kind(octets: &[u8]) -> Option<(u16, u16, &[u8])>
+fn control_and_ethertype(octets: &[u8]) -> Option<(u16, u16, &[u8])>
     ensures short { IsNone result ↔ (length octets.now < 4) }
     ensures front { IfSome result (λ r.
         octets.now ≡ to_be_bytes w16 r.0 ++ to_be_bytes w16 r.1 ++ r.2.now) }
 {
     let (front, rest) = octets.split_first_chunk::<4>()?;
-    let [control_high, control_low, kind_high, kind_low] = *front;
+    let [control_high, control_low, ethertype_high, ethertype_low] = *front;
     let control = u16::from_be_bytes([control_high, control_low]);
-    let kind = u16::from_be_bytes([kind_high, kind_low]);
-    Some((control, kind, rest))
+    let ethertype = u16::from_be_bytes([ethertype_high, ethertype_low]);
+    Some((control, ethertype, rest))
 }
 
 /// The frame with another type and payload. A type that marks a VLAN tag takes the tag from the payload.
-fn retyped<'a>(frame: &FrameView<'a>, kind: u16, payload: &'a [u8]) -> Option<FrameView<'a>>
+fn retyped<'a>(frame: &FrameView<'a>, ethertype: u16, payload: &'a [u8]) -> Option<FrameView<'a>>
     requires { length payload.now ≤ length frame.now.payload.now }
     ensures found { IfSome result (λ v.
-        spelling (fields_of v) ≡ with_type (fields_of frame.now) kind payload.now) }
+        spelling (fields_of v) ≡ with_type (fields_of frame.now) ethertype payload.now) }
     ensures short { IsNone result
-        ↔ (let plain = with_type (fields_of frame.now) kind payload.now in length plain
+        ↔ (let plain = with_type (fields_of frame.now) ethertype payload.now in length plain
         < least_len plain) }
 {
     let FrameView { dst, src, vlan, .. } = *frame;
-    if kind != VLAN_KIND || vlan.is_some() {
+    if ethertype != VLAN_ETHERTYPE || vlan.is_some() {
         return Some(FrameView {
             dst,
             src,
             vlan,
-            kind,
+            ethertype,
             payload,
         });
     }
-    let (control, kind, payload) = control_and_kind(payload)?;
+    let (control, ethertype, payload) = control_and_ethertype(payload)?;
     Some(FrameView {
         dst,
         src,
         vlan: Some(control),
-        kind,
+        ethertype,
         payload,
     })
 }
@@ -111,9 +111,9 @@ pub fn read(frame: &FrameView<'_>) -> Result<HsrTag, TagFault>
         → result ≡ Ok t }
 
     // Each fault exactly where it is due.
-    ensures not_tagged { IsErrOf result TagFault.NotTagged ↔ (frame.now.kind ≢ HSR_KIND) }
+    ensures not_tagged { IsErrOf result TagFault.NotTagged ↔ (frame.now.ethertype ≢ HSR_ETHERTYPE) }
     ensures truncated { IsErrOf result TagFault.Truncated
-        ↔ (frame.now.kind ≡ HSR_KIND) × (length frame.now.payload.now < 6) }
+        ↔ (frame.now.ethertype ≡ HSR_ETHERTYPE) × (length frame.now.payload.now < 6) }
 {
     let (tag, _) = parted(frame)?;
     Ok(tag)
@@ -133,9 +133,10 @@ pub fn untagged_view<'a>(frame: &FrameView<'a>) -> Result<(FrameView<'a>, HsrTag
         → IsOkAnd result (λ r. (spelling (fields_of r.0) ≡ plain) × (r.1 ≡ t)) }
 
     // Each fault exactly where it is due.
-    ensures not_tagged { IsErrOf result UntagFault.NotTagged ↔ (frame.now.kind ≢ HSR_KIND) }
+    ensures not_tagged { IsErrOf result UntagFault.NotTagged
+        ↔ (frame.now.ethertype ≢ HSR_ETHERTYPE) }
     ensures truncated { IsErrOf result UntagFault.Truncated
-        ↔ (frame.now.kind ≡ HSR_KIND) × (length frame.now.payload.now < 6) }
+        ↔ (frame.now.ethertype ≡ HSR_ETHERTYPE) × (length frame.now.payload.now < 6) }
     ensures too_short { IsErrOf result UntagFault.TooShort
         ↔ ((plain : List ℕ) × (t : HsrTag) × IsTagged (spelling (fields_of frame.now)) plain t
         × (length plain < least_len plain)) }
@@ -157,9 +158,10 @@ pub fn untagged(alloc: Global, frame: &FrameView<'_>) -> Result<Frame, UntagFaul
     ensures only { (plain : List ℕ) (t : HsrTag) → IsTagged (spelling (fields_of frame.now)) plain t
         → HasFrameLength plain
         → MatchResult result (λ own. own ≡ plain) (λ e. e ≡ UntagFault.NoMemory) }
-    ensures not_tagged { IsErrOf result UntagFault.NotTagged ↔ (frame.now.kind ≢ HSR_KIND) }
+    ensures not_tagged { IsErrOf result UntagFault.NotTagged
+        ↔ (frame.now.ethertype ≢ HSR_ETHERTYPE) }
     ensures truncated { IsErrOf result UntagFault.Truncated
-        ↔ (frame.now.kind ≡ HSR_KIND) × (length frame.now.payload.now < 6) }
+        ↔ (frame.now.ethertype ≡ HSR_ETHERTYPE) × (length frame.now.payload.now < 6) }
     ensures too_short { IsErrOf result UntagFault.TooShort
         ↔ ((plain : List ℕ) × (t : HsrTag) × IsTagged (spelling (fields_of frame.now)) plain t
         × (length plain < least_len plain)) }

@@ -3,7 +3,7 @@
 use sr_sequence::Seq;
 
 /// The type of a frame with an HSR tag (IEC 62439-3, clause 5).
-pub const HSR_KIND: u16 = 0x892F;
+pub const HSR_ETHERTYPE: u16 = 0x892F;
 
 /// The octets of a tag: its type, path and size, and number.
 pub const TAG_LEN: usize = 6;

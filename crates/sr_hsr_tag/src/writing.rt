@@ -6,7 +6,7 @@ ghost use Rattle.sr_frame.specs.Frame.{spelling, head_of, least_len, padded};
 ghost use Rattle.sr_frame.specs.View.{fields_of};
 ghost use Rattle.sr_hsr_tag.specs.Tagged.{IsTag, IsTagged, tag_octets, octets_behind_type};
 
-use crate::tag::{HSR_KIND, HsrTag, TAG_LEN};
+use crate::tag::{HSR_ETHERTYPE, HsrTag, TAG_LEN};
 use sr_frame::{Frame, FrameFault, FrameView, MAX_FRAME_LEN, MIN_PAYLOAD_LEN, NoMemory, append};
 use sr_sequence::Seq;
 use std::alloc::Global;
@@ -31,7 +31,7 @@ fn put_head(out: &mut Vec<u8>, frame: &FrameView<'_>)
         dst: frame.dst,
         src: frame.src,
         vlan: frame.vlan,
-        kind: HSR_KIND,
+        ethertype: HSR_ETHERTYPE,
         payload: &[],
     };
     append(out, &head).unwrap();
@@ -85,7 +85,7 @@ pub fn append_tagged(
           path = path;
           size = octets_behind_type own;
           seq = seq;
-          inner = frame.now.kind;
+          inner = frame.now.ethertype;
         }) × (least_len own ≡ least_len plain))) }
     ensures err { OnErr result (out.new.items ≡ out.old.items) }
     ensures long { IsErrOf result FrameFault.TooLong
@@ -106,7 +106,7 @@ pub fn append_tagged(
         path,
         size: size as u16,
         seq,
-        inner: frame.kind,
+        inner: frame.ethertype,
     };
     let end = out.len() + len;
     out.reserve(len)?;
@@ -125,7 +125,7 @@ pub fn tagged(alloc: Global, frame: &FrameView<'_>, path: u8, seq: Seq) -> Resul
           path = path;
           size = octets_behind_type own;
           seq = seq;
-          inner = frame.now.kind;
+          inner = frame.now.ethertype;
         }) × (least_len own ≡ least_len plain)) }
     ensures long { IsErrOf result FrameFault.TooLong
         ↔ (MAX_FRAME_LEN < length (padded (spelling (fields_of frame.now))) + 6) }

@@ -13,7 +13,7 @@ use crate::waiting::Waiting;
 use sr_dup_table::DupTable;
 use sr_dup_window::{Lane, Lanes};
 use sr_frame::NoMemory;
-use sr_slots::{Keys, Spot};
+use sr_slots::{Hint, Keys};
 use std::alloc::Global;
 use std::marker::Model;
 
@@ -21,10 +21,10 @@ use std::marker::Model;
 const MILLISECOND: u64 = 1_000_000;
 
 /// Once so many packets wait, the first one is to be written without a verdict (choice of this project).
-pub const MOST_WAITING: usize = 262_144;
+pub const MAX_WAITING: usize = 262_144;
 
 /// The most lists of octets that are used again.
-const MOST_SPARE: usize = 4096;
+const MAX_SPARE: usize = 4096;
 
 /// The packets that came in and were not written yet, and the duplicate record that tells which are copies of earlier ones.
 #[derive(Drop)]
@@ -53,22 +53,22 @@ impl Model for Merge {
 }
 
 /// Makes the table ready for a copy that it can take. Nothing that shows changes.
-fn make_ready(table: &mut DupTable, spot: Option<Spot>, frame: FrameId) -> Result<(), NoMemory>
-    requires { IsFound spot table.old.sources frame.src }
+fn make_ready(table: &mut DupTable, hint: Option<Hint>, frame: FrameId) -> Result<(), NoMemory>
+    requires { IsFound hint table.old.sources frame.src }
     ensures width { table.new.width ≡ table.old.width }
     ensures sources { table.new.sources ≡ table.old.sources }
     ensures ready { OnOk result (is_ready table.new.held table.new.sources frame.src ≡ true) }
 {
-    if spot.is_none() {
+    if hint.is_none() {
         table.reserve(frame.src)?;
     }
     Ok(())
 }
 
 /// Notes a copy that the table can take.
-fn note(table: &mut DupTable, spot: Option<Spot>, frame: FrameId, time: u64)
+fn note(table: &mut DupTable, hint: Option<Hint>, frame: FrameId, time: u64)
     requires width { table.old.width ≡ window }
-    requires spot { IsFound spot table.old.sources frame.src }
+    requires hint { IsFound hint table.old.sources frame.src }
     requires ready { is_ready table.old.held table.old.sources frame.src ≡ true }
     requires told { is_some (answer_for table.old.sources frame time) ≡ true }
     ensures width { table.new.width ≡ window }
@@ -76,7 +76,7 @@ fn note(table: &mut DupTable, spot: Option<Spot>, frame: FrameId, time: u64)
 {
     let now = time / MILLISECOND;
     table
-        .arrive_at(spot, frame.src, frame.seq, Lanes::H, now)
+        .arrive_at(hint, frame.src, frame.seq, Lanes::H, now)
         .unwrap();
 }
 
@@ -108,7 +108,7 @@ impl Merge {
         ensures sources { IfOk result (λ merge. merge.sources ≡ []) }
         ensures waiting { IfOk result (λ merge. merge.waiting ≡ []) }
     {
-        let spare = spare_of(alloc, MOST_SPARE)?;
+        let spare = spare_of(alloc, MAX_SPARE)?;
         Ok(Merge {
             alloc,
             table: DupTable::with_keys(alloc, keys),
@@ -187,9 +187,9 @@ impl Merge {
         &mut self,
         packet: Packet<'_>,
         frame: FrameId,
-        spot: Option<Spot>,
+        hint: Option<Hint>,
     ) -> Result<(), NoMemory>
-        requires spot { IsFound spot self.old.sources frame.src }
+        requires hint { IsFound hint self.old.sources frame.src }
         requires told { is_some (answer_for self.old.sources frame packet.came.time) ≡ true }
         ensures sources { OnOk result (self.new.sources
             ≡ sources_told self.old.sources packet.entry.came.time (Some frame)) }
@@ -198,9 +198,9 @@ impl Merge {
         ensures err { OnErr result (self.new ≡ self.old) }
     {
         let waiting = self.kept(packet)?;
-        make_ready(&mut self.table, spot, frame)?;
+        make_ready(&mut self.table, hint, frame)?;
         self.queue.push(waiting)?;
-        note(&mut self.table, spot, frame, packet.came.time);
+        note(&mut self.table, hint, frame, packet.came.time);
         Ok(())
     }
 
@@ -209,9 +209,9 @@ impl Merge {
         &mut self,
         packet: Packet<'_>,
         frame: FrameId,
-        spot: Option<Spot>,
+        hint: Option<Hint>,
     ) -> Result<(), NoMemory>
-        requires spot { IsFound spot self.old.sources frame.src }
+        requires hint { IsFound hint self.old.sources frame.src }
         requires told { is_some (answer_for self.old.sources frame packet.came.time) ≡ true }
         ensures sources { OnOk result (self.new.sources
             ≡ sources_told self.old.sources packet.entry.came.time (Some frame)) }
@@ -219,8 +219,8 @@ impl Merge {
             ≡ copy_noted packet.entry.came (Some frame) self.old.waiting) }
         ensures err { OnErr result (self.new ≡ self.old) }
     {
-        make_ready(&mut self.table, spot, frame)?;
-        note(&mut self.table, spot, frame, packet.came.time);
+        make_ready(&mut self.table, hint, frame)?;
+        note(&mut self.table, hint, frame, packet.came.time);
         self.queue.note(packet.came, frame);
         Ok(())
     }
@@ -238,9 +238,9 @@ impl Merge {
             return Ok(());
         };
         if look.fresh.has(Lane::H) {
-            self.keep_first(packet, frame, look.spot)
+            self.keep_first(packet, frame, look.hint)
         } else {
-            self.note_copy(packet, frame, look.spot)
+            self.note_copy(packet, frame, look.hint)
         }
     }
 

@@ -1,6 +1,6 @@
 -- What holds of every start.
 use Rattle.std.proofs.Common.{refl, inl, inr}
-use Rattle.sr_dup_window.specs.Spots.{IsWidth}
+use Rattle.sr_dup_window.specs.Bins.{IsWidth}
 use Rattle.sr_dup_table.specs.declared.width.Width.{Width}
 use Rattle.sr_dup_table.specs.declared.width.Width.TheVariants as width
 use Rattle.sr_dup_table.specs.Widths.{numbers_in}

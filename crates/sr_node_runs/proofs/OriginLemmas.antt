@@ -16,9 +16,9 @@ use Rattle.sr_dup_window.specs.declared.lane_sets.Lane.{Lane}
 use Rattle.sr_dup_window.specs.declared.lane_sets.Lanes.{Lanes}
 use Rattle.sr_dup_window.specs.LaneSets as lanes
 use Rattle.sr_dup_window.specs.LaneSets.{is_empty}
-use Rattle.sr_dup_window.specs.Spots.{IsWidth}
+use Rattle.sr_dup_window.specs.Bins.{IsWidth}
 use Rattle.sr_dup_table.specs.Limits.{forget_time}
-use Rattle.sr_dup_table.specs.Sources.{Heard, Sources}
+use Rattle.sr_dup_table.specs.Sources.{Remembered, Sources}
 use Rattle.sr_dup_runs.specs.TableRuns.{Arrival, Noting, epoch, copies_of, was_noted, IsNearAll, IsNext, AreSteady, TableTurn, notings_of, arrivals_of}
 use Rattle.sr_dup_runs.specs.TableRuns as table
 use Rattle.sr_dup_runs.specs.Starts.{pairs, stood, IsStart, StartsAreSteady}
@@ -86,7 +86,7 @@ is_steady (new start) turns tops numbered steady = (numbered, subst (AreSteady (
 is_steady (resumed role mode width sources top) turns tops numbered steady = (tops, numbered, steady)
 
 -- no source was heard later than the latest
-least_latest : (src : Mac) (h : Heard) (s : Sources) → lookup (mac_eq src) s ≡ Some h → h.time ≤ last_heard s
+least_latest : (src : Mac) (h : Remembered) (s : Sources) → lookup (mac_eq src) s ≡ Some h → h.time ≤ last_heard s
 least_latest src h [] found = absurd (let no : None ≡ Some h = found in cc)
 least_latest src h (e ∷ es) found =
     elim (cases_Bool (mac_eq src e.0)) [
@@ -112,7 +112,7 @@ is_start (resumed role mode width sources top) s b tops = record {
 }
 
 -- what is found among the others is found among all, and is of another address
-found_other : (mac src : Mac) (h : Heard) (s : Sources) → lookup (mac_eq src) (sources_but mac s) ≡ Some h → (mac_eq mac src ≡ false) × (lookup (mac_eq src) s ≡ Some h)
+found_other : (mac src : Mac) (h : Remembered) (s : Sources) → lookup (mac_eq src) (sources_but mac s) ≡ Some h → (mac_eq mac src ≡ false) × (lookup (mac_eq src) s ≡ Some h)
 found_other mac src h [] found = absurd (let no : None ≡ Some h = found in cc)
 found_other mac src h (e ∷ es) found =
     elim (cases_Bool (mac_eq mac e.0)) [

@@ -17,13 +17,13 @@ use Rattle.sr_dup_window.specs.declared.lane_sets.Lane.TheVariants as lane
 use Rattle.sr_dup_window.specs.declared.lane_sets.Lanes.{Lanes}
 use Rattle.sr_dup_window.specs.LaneSets as lanes
 use Rattle.sr_dup_window.specs.LaneSets.{is_empty}
-use Rattle.sr_dup_window.specs.Spots.{IsWidth}
+use Rattle.sr_dup_window.specs.Bins.{IsWidth}
 use Rattle.sr_dup_window.specs.Windows.{no_marks}
 use Rattle.sr_dup_table.specs.declared.width.Width.{Width}
 use Rattle.sr_dup_table.specs.Limits.{forget_time}
 use Rattle.sr_dup_table.specs.JoinLaws.{IsSound}
 use Rattle.sr_dup_table.specs.Widths.{numbers_in}
-use Rattle.sr_dup_table.specs.Sources.{Heard, Sources}
+use Rattle.sr_dup_table.specs.Sources.{Remembered, Sources}
 use Rattle.sr_dup_runs.specs.TableRuns.{Arrival, Noting, epoch, copies_of, was_noted, IsNearAll, IsNext, AreSteady, arrivals_of}
 use Rattle.sr_dup_runs.specs.Starts.{pairs}
 use Rattle.sr_forwarding.specs.declared.role_image.RoleImage.{RoleImage}
@@ -67,7 +67,7 @@ one_stands role mode width src n lanes time other some =
 
 has_one_top : (role : RoleImage) (mode : Mode) (width : Width) (src : Mac) (n : ℤ) (lanes : Lanes) (time : ℕ) → HasTops (resumed_with_one role mode width src n lanes time)
 has_one_top role mode width src n lanes time q h found =
-    let heard : Heard = record { seen = record { reference = wire n; marks = lanes ∷ no_marks (numbers_in width - 1) }; time = time } in
+    let heard : Remembered = record { seen = record { reference = wire n; marks = lanes ∷ no_marks (numbers_in width - 1) }; time = time } in
     elim (cases_Bool (mac_eq q src)) [
       | inl same ↦
           let is : Some heard ≡ Some h = rw same at found in

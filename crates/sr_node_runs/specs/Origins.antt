@@ -7,7 +7,7 @@ use Rattle.sr_sequence.specs.Numbers.{wire}
 use Rattle.sr_dup_table.specs.declared.width.Width.{Width}
 use Rattle.sr_dup_table.specs.Widths.{numbers_in}
 use Rattle.sr_dup_table.specs.JoinLaws.{IsSound}
-use Rattle.sr_dup_table.specs.Sources.{Heard, Sources}
+use Rattle.sr_dup_table.specs.Sources.{Remembered, Sources}
 use Rattle.sr_dup_runs.specs.TableRuns.{Noting}
 use Rattle.sr_dup_runs.specs.Starts.{stood}
 use Rattle.sr_forwarding.specs.declared.role_image.RoleImage.{RoleImage}
@@ -47,7 +47,7 @@ stands_before (resumed role mode width sources top) = stood top (sources_but rol
 abbrev pub HasTops : Origin → Type 0
 HasTops (new start) = Unit {0}
 HasTops (resumed role mode width sources top) =
-    (src : Mac) (h : Heard) → lookup (mac_eq src) sources ≡ Some h → h.seen.reference ≡ wire (top src)
+    (src : Mac) (h : Remembered) → lookup (mac_eq src) sources ≡ Some h → h.seen.reference ≡ wire (top src)
 
 -- a node of any role, in either mode, can be resumed with a table of this width, under every choice of whole numbers
 abbrev pub CanBeResumedWith : ℕ → Sources → Type 0

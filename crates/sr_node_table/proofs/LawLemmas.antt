@@ -6,8 +6,8 @@ use Rattle.std.proofs.lemmas.Bool.{ltb-true, lt-ltb}
 use Rattle.sr_frame.specs.declared.fields.Mac.{Mac}
 use Rattle.sr_frame.specs.declared.ports.Port.{Port}
 use Rattle.sr_frame.specs.declared.ports.Port.TheVariants.{H, A, B, C}
-use Rattle.sr_frame.specs.declared.learnt.Learnt.{Learnt}
-use Rattle.sr_frame.specs.declared.learnt.Learnt.TheVariants.{Learned, Known, Full}
+use Rattle.sr_frame.specs.declared.learn_outcome.LearnOutcome.{LearnOutcome}
+use Rattle.sr_frame.specs.declared.learn_outcome.LearnOutcome.TheVariants.{New, Known, Full}
 use Rattle.sr_frame.specs.Addresses.{mac_eq}
 use Rattle.sr_frame.specs.AddressLemmas.{mac_same}
 use Rattle.sr_slots.specs.Calls.{passing}
@@ -202,15 +202,15 @@ module _ (h : Hearing) (events : List Event) (up : AreUpTo h.time events) (was :
       by true = refl
       by false = refl
 
-  heard_by : (a : Learnt) → (u : ℕ) → h.time ≤ u → (m : Mac)
+  heard_by : (a : LearnOutcome) → (u : ℕ) → h.time ≤ u → (m : Mac)
       → live_entry (after_answer a before h) m u ≡ expected (cond (mac_eq h.mac m && is_kept a) (h ∷ hearings_of m events) (hearings_of m events)) u
   heard_by Full u le m = unkept_live u le m
-  heard_by Learned u le m = kept_live u le m
+  heard_by New u le m = kept_live u le m
   heard_by Known u le m = kept_live u le m
 
-  heard_unique : (a : Learnt) → IsDistinct mac_eq (keys_of (after_answer a before h).entries)
+  heard_unique : (a : LearnOutcome) → IsDistinct mac_eq (keys_of (after_answer a before h).entries)
   heard_unique Full = was.unique
-  heard_unique Learned = (leaves before was.unique h).apart
+  heard_unique New = (leaves before was.unique h).apart
   heard_unique Known = (leaves before was.unique h).apart
 
   hears : Holds (Hears h ∷ events) h.time (after_hearing before h)

@@ -5,8 +5,8 @@ use Rattle.sr_frame.specs.Addresses.{mac_eq}
 use Rattle.sr_frame.specs.declared.fields.Mac.{Mac}
 use Rattle.sr_frame.specs.declared.ports.Port.{Port}
 use Rattle.sr_frame.specs.declared.ports.Port.TheVariants.{A}
-use Rattle.sr_frame.specs.declared.learnt.Learnt.{Learnt}
-use Rattle.sr_frame.specs.declared.learnt.Learnt.TheVariants.{Full}
+use Rattle.sr_frame.specs.declared.learn_outcome.LearnOutcome.{LearnOutcome}
+use Rattle.sr_frame.specs.declared.learn_outcome.LearnOutcome.TheVariants.{Full}
 use Rattle.sr_aged_slots.specs.Ages as ages
 use Rattle.sr_node_table.specs.declared.node.Node.{Node}
 use Rattle.sr_node_table.specs.declared.node.Announced.{Announced}
@@ -78,7 +78,7 @@ table_after [] = empty_table
 table_after (Hears h ∷ events) = after_hearing (table_after events) h
 table_after (Prunes now ∷ events) = after_prune (table_after events) now
 
-abbrev pub is_kept : Learnt → Bool
+abbrev pub is_kept : LearnOutcome → Bool
 is_kept Full = false
 is_kept _ = true
 

@@ -7,8 +7,8 @@ use Rattle.sr_frame.specs.Addresses.{mac_eq}
 use Rattle.sr_frame.specs.declared.fields.Mac.{Mac}
 use Rattle.sr_frame.specs.declared.ports.Port.{Port}
 use Rattle.sr_frame.specs.declared.ports.Port.TheVariants.{A}
-use Rattle.sr_frame.specs.declared.learnt.Learnt.{Learnt}
-use Rattle.sr_frame.specs.declared.learnt.Learnt.TheVariants.{Learned, Known, Full}
+use Rattle.sr_frame.specs.declared.learn_outcome.LearnOutcome.{LearnOutcome}
+use Rattle.sr_frame.specs.declared.learn_outcome.LearnOutcome.TheVariants.{New, Known, Full}
 use Rattle.sr_aged_slots.specs.Ages as ages
 use Rattle.sr_supervision.specs.declared.message.Supervision.{Supervision}
 use Rattle.sr_aged_slots.specs.declared.aged.Aged.{Aged}
@@ -100,8 +100,8 @@ abbrev pub entry_after : Entry → Port → Told → ℕ → Entry
 entry_after e port told now =
     if is_live now e then record { value = node_after e.value port told now; time = max e.time now } else entry_begun port told now
 
-abbrev pub learnt_again : ℕ → Entry → Learnt
-learnt_again now e = if is_live now e then Known else Learned
+abbrev pub learnt_again : ℕ → Entry → LearnOutcome
+learnt_again now e = if is_live now e then Known else New
 
 -- what a full table keeps for a new node
 abbrev pub with_room : ℕ → Entries → Entries
@@ -137,11 +137,11 @@ abbrev pub raised : List Alarm → List Alarm → List Alarm
 raised alarms more = keep_last most_alarms (alarms ++ more)
 
 -- what a hearing is answered: an address of which the table has an entry is kept; for another one there may be no room
-abbrev pub answer_of : Option Entry → Entries → ℕ → Learnt
+abbrev pub answer_of : Option Entry → Entries → ℕ → LearnOutcome
 answer_of (Some e) es now = learnt_again now e
-answer_of None es now = if nat_lt (length (with_room now es)) most_nodes then Learned else Full
+answer_of None es now = if nat_lt (length (with_room now es)) most_nodes then New else Full
 
-abbrev pub answer_to : Table → Hearing → Learnt
+abbrev pub answer_to : Table → Hearing → LearnOutcome
 answer_to t h = answer_of (lookup (mac_eq h.mac) t.entries) t.entries h.time
 
 -- the table after a hearing that is kept: an entry keeps its place; a new one goes last, and where the table was full
@@ -154,7 +154,7 @@ kept_by None t h =
       alarms = raised t.alarms (downs_of h.time t.entries);
     }
 
-abbrev pub after_answer : Learnt → Table → Hearing → Table
+abbrev pub after_answer : LearnOutcome → Table → Hearing → Table
 after_answer Full t h = t
 after_answer answer t h = kept_by (lookup (mac_eq h.mac) t.entries) t h
 

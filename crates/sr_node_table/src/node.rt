@@ -4,7 +4,7 @@ ghost use Rattle.sr_node_table.specs.Nodes.{is_live, times_after, port_after, no
 
 use crate::table::NODE_FORGET_TIME;
 use sr_aged_slots::Aged;
-use sr_frame::{Learnt, Mac, Port};
+use sr_frame::{LearnOutcome, Mac, Port};
 use sr_sequence::Seq;
 use sr_supervision::Life;
 
@@ -65,7 +65,7 @@ fn later(time: Option<u64>, now: u64) -> u64
 }
 
 // Records an observation of the node at this port.
-fn hear_at(port: &mut AtPort, told: Told, now: u64)
+fn observe_at(port: &mut AtPort, told: Told, now: u64)
     ensures { port.new ≡ port_after port.old told now }
 {
     port.time = Some(later(port.time, now));
@@ -75,12 +75,12 @@ fn hear_at(port: &mut AtPort, told: Told, now: u64)
 }
 
 // Takes a hearing of a node up.
-fn hear_node(node: &mut Node, port: Port, told: Told, now: u64)
+fn observe_node(node: &mut Node, port: Port, told: Told, now: u64)
     ensures { node.new ≡ node_after node.old port told now }
 {
     match port {
-        Port::A => hear_at(&mut node.a, told, now),
-        _ => hear_at(&mut node.b, told, now),
+        Port::A => observe_at(&mut node.a, told, now),
+        _ => observe_at(&mut node.b, told, now),
     }
     if let Told::Announces(announced) = told {
         node.announced = Some(announced);
@@ -92,7 +92,7 @@ pub(crate) fn begun(port: Port, told: Told, now: u64) -> Node
     ensures { result ≡ begun_by port told now }
 {
     let mut node = UNHEARD;
-    hear_node(&mut node, port, told, now);
+    observe_node(&mut node, port, told, now);
     node
 }
 
@@ -104,18 +104,18 @@ pub(crate) fn is_live(entry: &Aged<Node>, now: u64) -> bool
 }
 
 /// Takes a hearing up: within the node's life, or as the first of a new one. Answers whether it was known.
-pub(crate) fn hear(entry: &mut Aged<Node>, port: Port, told: Told, now: u64) -> Learnt
+pub(crate) fn observe(entry: &mut Aged<Node>, port: Port, told: Told, now: u64) -> LearnOutcome
     ensures after { entry.new ≡ entry_after entry.old port told now }
     ensures answer { result ≡ learnt_again now entry.old }
 {
     if is_live(entry, now) {
         entry.time = entry.time.max(now);
-        hear_node(&mut entry.value, port, told, now);
-        Learnt::Known
+        observe_node(&mut entry.value, port, told, now);
+        LearnOutcome::Known
     } else {
         entry.time = now;
         entry.value = begun(port, told, now);
-        Learnt::Learned
+        LearnOutcome::New
     }
 }
 

@@ -12,14 +12,14 @@ ghost use Rattle.sr_node_table.specs.Stating.{live_entry, has_at, status_at, lis
 
 use crate::alarm::{Alarm, copy_of};
 use crate::late::LatePorts;
-use crate::node::{Announced, Node, Told, begun, hear, is_live};
+use crate::node::{Announced, Node, Told, begun, is_live, observe};
 use crate::status::{Status, status_of};
 use crate::watching::{finds_same, raise_downs, watch};
 use circular_buffer::HeapCircularBuffer;
 use sr_aged_slots::{Aged, AgedSlots};
-use sr_frame::{Learnt, Mac, NoMemory, Port};
+use sr_frame::{LearnOutcome, Mac, NoMemory, Port};
 use sr_sequence::Seq;
-use sr_slots::{Iter, Keys, Spot};
+use sr_slots::{Hint, Iter, Keys};
 use sr_supervision::Supervision;
 use std::alloc::{AllocError, Global};
 use std::marker::Model;
@@ -207,37 +207,37 @@ impl NodeTable {
         }
     }
 
-    /// Where the entry of a node is, forgotten or not, for the calls that look there first. It is looked for at a spot first,
+    /// Where the entry of a node is, forgotten or not, for the calls that look there first. It is looked for first where a hint says,
     /// which may be that of another table: where both meet new addresses in one order, it is the same.
     #[inline(always)]
-    pub fn find_at(&self, spot: Option<Spot>, mac: Mac) -> Option<Spot>
+    pub fn find_at(&self, hint: Option<Hint>, mac: Mac) -> Option<Hint>
         ensures { is_some result ≡ is_some (lookup (mac_eq mac) self.now.table.entries) }
     {
-        let (spot, _entry) = self.nodes.find_at(spot, mac)?;
-        Some(spot)
+        let (hint, _entry) = self.nodes.find_at(hint, mac)?;
+        Some(hint)
     }
 
-    // Whether there is a spot, and the node has an entry, forgotten or not.
-    fn is_at(&self, spot: Option<Spot>, mac: Mac) -> bool
-        ensures { result ≡ (is_some spot && is_some (lookup (mac_eq mac) self.now.table.entries)) }
+    // Whether there is a hint, and the node has an entry, forgotten or not.
+    fn is_at(&self, hint: Option<Hint>, mac: Mac) -> bool
+        ensures { result ≡ (is_some hint && is_some (lookup (mac_eq mac) self.now.table.entries)) }
     {
-        spot.is_some() && self.nodes.get_at(spot, mac).is_some()
+        hint.is_some() && self.nodes.get_at(hint, mac).is_some()
     }
 
-    /// Sees to it that the next hearing of an address takes no memory: one that has an entry needs none, where a spot tells of
+    /// Sees to it that the next hearing of an address takes no memory: one that has an entry needs none, where a hint tells of
     /// it; for any other a place is held. NoMemory: memory ran out, and nothing changes.
     #[inline(always)]
-    pub fn reserve_at(&mut self, spot: Option<Spot>, mac: Mac) -> Result<Ready, NoMemory>
+    pub fn reserve_at(&mut self, hint: Option<Hint>, mac: Mac) -> Result<Ready, NoMemory>
         ensures table { self.new.table ≡ self.old.table }
         ensures known { (result ≡ Ok Ready.Known)
-            ↔ ((is_some spot && is_some (lookup (mac_eq mac) self.old.table.entries)) ≡ true) }
+            ↔ ((is_some hint && is_some (lookup (mac_eq mac) self.old.table.entries)) ≡ true) }
         ensures same { result ≡ Ok Ready.Known → self.new ≡ self.old }
         ensures held { result ≡ Ok Ready.Held → is_held self.new mac ≡ true }
         ensures others { OnOk result (KeepsHeld self.old.held self.new.held mac) }
         ensures again { is_held self.old mac ≡ true → IsOk result }
         ensures err { OnErr result (self.new ≡ self.old) }
     {
-        if self.is_at(spot, mac) {
+        if self.is_at(hint, mac) {
             return Ok(Ready::Known);
         }
         self.nodes.hold(mac)?;
@@ -265,7 +265,13 @@ impl NodeTable {
 
     /// Hears a numbered frame of a node at a ring port, A or B. Full: 1024 other nodes are live, and nothing is kept.
     /// NoMemory: memory ran out for a new node. Either way nothing changes.
-    pub fn heard(&mut self, mac: Mac, port: Port, seq: Seq, now: u64) -> Result<Learnt, NoMemory>
+    pub fn heard(
+        &mut self,
+        mac: Mac,
+        port: Port,
+        seq: Seq,
+        now: u64,
+    ) -> Result<LearnOutcome, NoMemory>
         requires ring { (port ≡ Port.A) ⊎ (port ≡ Port.B) }
         ensures answer { IfOk result (λ learnt.
             learnt ≡ answer_to self.old.table (hearing_of mac port (Told.Numbered seq) now)) }
@@ -273,7 +279,7 @@ impl NodeTable {
             ≡ after_hearing self.old.table (hearing_of mac port (Told.Numbered seq) now)) }
 
         // Full exactly where 1024 others are live. An address that has an entry, or a held place, takes no memory.
-        ensures full { (result ≡ Ok Learnt.Full)
+        ensures full { (result ≡ Ok LearnOutcome.Full)
             ↔ (length (live_others mac now self.old.table.entries) ≡ most_nodes) }
         ensures known { is_some (lookup (mac_eq mac) self.old.table.entries) ≡ true → IsOk result }
         ensures reserved { is_held self.old mac ≡ true → IsOk result }
@@ -281,24 +287,24 @@ impl NodeTable {
         // A held place is used up, and no other.
         ensures held { OnOk result (KeepsHeld self.old.held self.new.held mac) }
         ensures used { IfOk result (λ learnt.
-            ¬ (learnt ≡ Learnt.Full) → is_held self.new mac ≡ false) }
-        ensures nothing { result ≡ Ok Learnt.Full → self.new ≡ self.old }
+            ¬ (learnt ≡ LearnOutcome.Full) → is_held self.new mac ≡ false) }
+        ensures nothing { result ≡ Ok LearnOutcome.Full → self.new ≡ self.old }
         ensures err { OnErr result (self.new ≡ self.old) }
     {
         self.heard_at(None, mac, port, seq, now)
     }
 
-    /// What `heard` does, where the entry of the node is looked for at a spot first. It hears a numbered frame of a node at a
+    /// What `heard` does, where the entry of the node is looked for first where a hint says. It hears a numbered frame of a node at a
     /// ring port, A or B. Full and NoMemory: as `heard`.
     #[inline(always)]
     pub fn heard_at(
         &mut self,
-        spot: Option<Spot>,
+        hint: Option<Hint>,
         mac: Mac,
         port: Port,
         seq: Seq,
         now: u64,
-    ) -> Result<Learnt, NoMemory>
+    ) -> Result<LearnOutcome, NoMemory>
         requires ring { (port ≡ Port.A) ⊎ (port ≡ Port.B) }
         ensures answer { IfOk result (λ learnt.
             learnt ≡ answer_to self.old.table (hearing_of mac port (Told.Numbered seq) now)) }
@@ -306,7 +312,7 @@ impl NodeTable {
             ≡ after_hearing self.old.table (hearing_of mac port (Told.Numbered seq) now)) }
 
         // Full exactly where 1024 others are live. An address that has an entry, or a held place, takes no memory.
-        ensures full { (result ≡ Ok Learnt.Full)
+        ensures full { (result ≡ Ok LearnOutcome.Full)
             ↔ (length (live_others mac now self.old.table.entries) ≡ most_nodes) }
         ensures known { is_some (lookup (mac_eq mac) self.old.table.entries) ≡ true → IsOk result }
         ensures reserved { is_held self.old mac ≡ true → IsOk result }
@@ -314,11 +320,11 @@ impl NodeTable {
         // A held place is used up, and no other.
         ensures held { OnOk result (KeepsHeld self.old.held self.new.held mac) }
         ensures used { IfOk result (λ learnt.
-            ¬ (learnt ≡ Learnt.Full) → is_held self.new mac ≡ false) }
-        ensures nothing { result ≡ Ok Learnt.Full → self.new ≡ self.old }
+            ¬ (learnt ≡ LearnOutcome.Full) → is_held self.new mac ≡ false) }
+        ensures nothing { result ≡ Ok LearnOutcome.Full → self.new ≡ self.old }
         ensures err { OnErr result (self.new ≡ self.old) }
     {
-        self.hear(spot, mac, port, Told::Numbered(seq), now)
+        self.observe(hint, mac, port, Told::Numbered(seq), now)
     }
 
     /// Takes up what a supervision frame that came in at a ring port, A or B, says of a node.
@@ -328,7 +334,7 @@ impl NodeTable {
         supervision: &Supervision,
         port: Port,
         now: u64,
-    ) -> Result<Learnt, NoMemory>
+    ) -> Result<LearnOutcome, NoMemory>
         requires ring { (port ≡ Port.A) ⊎ (port ≡ Port.B) }
         ensures answer { IfOk result (λ learnt.
             learnt ≡ answer_to self.old.table (announcement supervision.now port now)) }
@@ -336,7 +342,7 @@ impl NodeTable {
             ≡ after_hearing self.old.table (announcement supervision.now port now)) }
 
         // Full exactly where 1024 others are live. An address that has an entry, or a held place, takes no memory.
-        ensures full { (result ≡ Ok Learnt.Full)
+        ensures full { (result ≡ Ok LearnOutcome.Full)
             ↔ (length (live_others supervision.now.mac now self.old.table.entries) ≡ most_nodes) }
         ensures known { is_some (lookup (mac_eq supervision.now.mac) self.old.table.entries) ≡ true
             → IsOk result }
@@ -345,22 +351,22 @@ impl NodeTable {
         // A held place is used up, and no other.
         ensures held { OnOk result (KeepsHeld self.old.held self.new.held supervision.now.mac) }
         ensures used { IfOk result (λ learnt.
-            ¬ (learnt ≡ Learnt.Full) → is_held self.new supervision.now.mac ≡ false) }
-        ensures nothing { result ≡ Ok Learnt.Full → self.new ≡ self.old }
+            ¬ (learnt ≡ LearnOutcome.Full) → is_held self.new supervision.now.mac ≡ false) }
+        ensures nothing { result ≡ Ok LearnOutcome.Full → self.new ≡ self.old }
         ensures err { OnErr result (self.new ≡ self.old) }
     {
         self.announce_at(None, supervision, port, now)
     }
 
-    /// What `announce` does, where the entry of the node is looked for at a spot first. It takes up what a supervision frame
+    /// What `announce` does, where the entry of the node is looked for first where a hint says. It takes up what a supervision frame
     /// that came in at a ring port, A or B, says of a node. Full and NoMemory: as `heard`.
     pub fn announce_at(
         &mut self,
-        spot: Option<Spot>,
+        hint: Option<Hint>,
         supervision: &Supervision,
         port: Port,
         now: u64,
-    ) -> Result<Learnt, NoMemory>
+    ) -> Result<LearnOutcome, NoMemory>
         requires ring { (port ≡ Port.A) ⊎ (port ≡ Port.B) }
         ensures answer { IfOk result (λ learnt.
             learnt ≡ answer_to self.old.table (announcement supervision.now port now)) }
@@ -368,7 +374,7 @@ impl NodeTable {
             ≡ after_hearing self.old.table (announcement supervision.now port now)) }
 
         // Full exactly where 1024 others are live. An address that has an entry, or a held place, takes no memory.
-        ensures full { (result ≡ Ok Learnt.Full)
+        ensures full { (result ≡ Ok LearnOutcome.Full)
             ↔ (length (live_others supervision.now.mac now self.old.table.entries) ≡ most_nodes) }
         ensures known { is_some (lookup (mac_eq supervision.now.mac) self.old.table.entries) ≡ true
             → IsOk result }
@@ -377,55 +383,55 @@ impl NodeTable {
         // A held place is used up, and no other.
         ensures held { OnOk result (KeepsHeld self.old.held self.new.held supervision.now.mac) }
         ensures used { IfOk result (λ learnt.
-            ¬ (learnt ≡ Learnt.Full) → is_held self.new supervision.now.mac ≡ false) }
-        ensures nothing { result ≡ Ok Learnt.Full → self.new ≡ self.old }
+            ¬ (learnt ≡ LearnOutcome.Full) → is_held self.new supervision.now.mac ≡ false) }
+        ensures nothing { result ≡ Ok LearnOutcome.Full → self.new ≡ self.old }
         ensures err { OnErr result (self.new ≡ self.old) }
     {
         let announced = Announced {
             life: supervision.life,
             redbox: supervision.redbox,
         };
-        self.hear(spot, supervision.mac, port, Told::Announces(announced), now)
+        self.observe(hint, supervision.mac, port, Told::Announces(announced), now)
     }
 
     // A hearing of a node at a ring port.
-    fn hear(
+    fn observe(
         &mut self,
-        spot: Option<Spot>,
+        hint: Option<Hint>,
         mac: Mac,
         port: Port,
         told: Told,
         now: u64,
-    ) -> Result<Learnt, NoMemory>
+    ) -> Result<LearnOutcome, NoMemory>
         ensures answer { IfOk result (λ learnt.
             learnt ≡ answer_to self.old.table (hearing_of mac port told now)) }
         ensures after { OnOk result (self.new.table
             ≡ after_hearing self.old.table (hearing_of mac port told now)) }
-        ensures full { (result ≡ Ok Learnt.Full)
+        ensures full { (result ≡ Ok LearnOutcome.Full)
             ↔ (length (live_others mac now self.old.table.entries) ≡ most_nodes) }
         ensures known { is_some (lookup (mac_eq mac) self.old.table.entries) ≡ true → IsOk result }
         ensures reserved { is_held self.old mac ≡ true → IsOk result }
         ensures held { OnOk result (KeepsHeld self.old.held self.new.held mac) }
         ensures used { IfOk result (λ learnt.
-            ¬ (learnt ≡ Learnt.Full) → is_held self.new mac ≡ false) }
-        ensures nothing { result ≡ Ok Learnt.Full → self.new ≡ self.old }
+            ¬ (learnt ≡ LearnOutcome.Full) → is_held self.new mac ≡ false) }
+        ensures nothing { result ≡ Ok LearnOutcome.Full → self.new ≡ self.old }
         ensures err { OnErr result (self.new ≡ self.old) }
     {
-        match self.hear_again(spot, mac, port, told, now) {
+        match self.observe_again(hint, mac, port, told, now) {
             Some(answer) => Ok(answer),
             None => self.begin(mac, port, told, now),
         }
     }
 
     // A hearing of a node that has an entry, forgotten or not.
-    fn hear_again(
+    fn observe_again(
         &mut self,
-        spot: Option<Spot>,
+        hint: Option<Hint>,
         mac: Mac,
         port: Port,
         told: Told,
         now: u64,
-    ) -> Option<Learnt>
+    ) -> Option<LearnOutcome>
         ensures few { length self.old.table.entries ≤ most_nodes }
         ensures found { is_some result ≡ is_some (lookup (mac_eq mac) self.old.table.entries) }
         ensures answer { IfSome result (λ learnt.
@@ -437,39 +443,45 @@ impl NodeTable {
         ensures none { IfNone result (self.new ≡ self.old) }
     {
         let answer = self.nodes.update_at(
-            spot,
+            hint,
             mac,
-            |entry: &mut Aged<Node>| -> Learnt
+            |entry: &mut Aged<Node>| -> LearnOutcome
                 ensures after { entry.new ≡ entry_after entry.old port told now }
                 ensures answer { result ≡ learnt_again now entry.old }
-            { hear(entry, port, told, now) },
+            { observe(entry, port, told, now) },
         )?;
         Some(answer)
     }
 
     // The first hearing of a node that has no entry.
-    fn begin(&mut self, mac: Mac, port: Port, told: Told, now: u64) -> Result<Learnt, NoMemory>
+    fn begin(
+        &mut self,
+        mac: Mac,
+        port: Port,
+        told: Told,
+        now: u64,
+    ) -> Result<LearnOutcome, NoMemory>
         requires absent { lookup (mac_eq mac) self.old.table.entries ≡ None }
         ensures answer { IfOk result (λ learnt.
             learnt ≡ answer_to self.old.table (hearing_of mac port told now)) }
         ensures after { OnOk result (self.new.table
             ≡ after_hearing self.old.table (hearing_of mac port told now)) }
-        ensures full { answer_to self.old.table (hearing_of mac port told now) ≡ Learnt.Full
-            → result ≡ Ok Learnt.Full }
-        ensures nothing { result ≡ Ok Learnt.Full → self.new ≡ self.old }
+        ensures full { answer_to self.old.table (hearing_of mac port told now) ≡ LearnOutcome.Full
+            → result ≡ Ok LearnOutcome.Full }
+        ensures nothing { result ≡ Ok LearnOutcome.Full → self.new ≡ self.old }
         ensures reserved { is_held self.old mac ≡ true → IsOk result }
         ensures held { OnOk result (KeepsHeld self.old.held self.new.held mac) }
         ensures used { IfOk result (λ learnt.
-            ¬ (learnt ≡ Learnt.Full) → is_held self.new mac ≡ false) }
+            ¬ (learnt ≡ LearnOutcome.Full) → is_held self.new mac ≡ false) }
         ensures err { OnErr result (self.new ≡ self.old) }
     {
         if self.nodes.is_full_now(now) {
-            return Ok(Learnt::Full);
+            return Ok(LearnOutcome::Full);
         }
         self.nodes.hold(mac)?;
         self.raise_downs(now);
         self.nodes.append(mac, begun(port, told, now), now)?;
-        Ok(Learnt::Learned)
+        Ok(LearnOutcome::New)
     }
 
     // Raises the alarms of the nodes that a full table is about to let go.

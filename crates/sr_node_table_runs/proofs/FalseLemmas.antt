@@ -7,7 +7,7 @@ use Rattle.std.proofs.lemmas.List.{length-drop}
 use Rattle.std.proofs.lemmas.Bool.{true≢false}
 use Rattle.sr_frame.specs.declared.fields.Mac.{Mac}
 use Rattle.sr_frame.specs.declared.ports.Port.{Port}
-use Rattle.sr_frame.specs.declared.learnt.Learnt.TheVariants.{Learned, Full}
+use Rattle.sr_frame.specs.declared.learn_outcome.LearnOutcome.TheVariants.{New, Full}
 use Rattle.sr_frame.specs.Addresses.{mac_eq}
 use Rattle.sr_node_table.specs.declared.alarm.Alarm.{Alarm}
 use Rattle.sr_node_table.specs.declared.alarm.Alarm.TheVariants.{RingError, NodeDown}
@@ -26,8 +26,8 @@ pub none_is_full_before_1024 : FullWhereOthersAreLive → (events : List Event) 
 none_is_full_before_1024 law events h up few full = let e : length (others_live (kept_in events) h.time h.mac) ≡ 1024 = (law events h up).0 full in absurd (omega arith)
 
 -- a table without a limit: a new address is learned beside 1024 others
-pub none_learns_beyond_1024 : FullWhereOthersAreLive → (events : List Event) (h : Hearing) → AreUpTo h.time events → length (others_live (kept_in events) h.time h.mac) ≡ 1024 → answer_to (table_after events) h ≡ Learned → ⊥
-none_learns_beyond_1024 law events h up many learned = let e : Learned ≡ Full = sym learned ∙ (law events h up).1 many in cc
+pub none_learns_beyond_1024 : FullWhereOthersAreLive → (events : List Event) (h : Hearing) → AreUpTo h.time events → length (others_live (kept_in events) h.time h.mac) ≡ 1024 → answer_to (table_after events) h ≡ New → ⊥
+none_learns_beyond_1024 law events h up many learned = let e : New ≡ Full = sym learned ∙ (law events h up).1 many in cc
 
 -- a table that counts silent addresses: full though nobody is live
 pub none_is_full_of_silent_ones : FullWhereOthersAreLive → (events : List Event) (h : Hearing) → AreUpTo h.time events → others_live (kept_in events) h.time h.mac ≡ [] → answer_to (table_after events) h ≡ Full → ⊥

@@ -6,7 +6,7 @@ use Rattle.std.proofs.lemmas.Bool.{lt-ltb, le-leb, lt-leb, false_from_ne_true, a
 use Rattle.std.proofs.lemmas.List.{length-append}
 use Rattle.circular_buffer.specs.Buffer.{keep_last}
 use Rattle.sr_frame.specs.declared.fields.Mac.{Mac}
-use Rattle.sr_frame.specs.declared.learnt.Learnt.TheVariants.{Learned, Known, Full}
+use Rattle.sr_frame.specs.declared.learn_outcome.LearnOutcome.TheVariants.{New, Known, Full}
 use Rattle.sr_frame.specs.Addresses.{mac_eq}
 use Rattle.sr_frame.specs.AddressLemmas.{mac_same, mac_refl, mac_symm}
 use Rattle.sr_node_table.specs.declared.alarm.Alarm.{Alarm}
@@ -252,7 +252,7 @@ full_is_worked_out = record {
   refused = (full_where_others_are_live (crowd 1024) too_early (crowd_order 1024 59999)).1 refused_early;
   taken =
       answers_are_of_kept (crowd 1024) in_time (crowd_order 1024 60000)
-      ∙ (λ j. cond (none_live (numbered_node 1024) j) Known (cond (room_in_time j) Learned Full));
+      ∙ (λ j. cond (none_live (numbered_node 1024) j) Known (cond (room_in_time j) New Full));
   alarms = alarms_are_the_latest (Hears in_time ∷ crowd 1024) 60000 (omega arith, crowd_order 1024 60000) ∙ ap (keep_last 64) raised_in_time;
   listed = list_is_of_kept (Hears in_time ∷ crowd 1024) 60000 (omega arith, crowd_order 1024 60000) ∙ live_in_time;
 }

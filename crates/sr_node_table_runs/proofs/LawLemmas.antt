@@ -4,8 +4,8 @@ use Rattle.std.specs.List.{filter_map}
 use Rattle.std.specs.Map.{lookup}
 use Rattle.std.proofs.lemmas.Bool.{false_from_ne_true}
 use Rattle.circular_buffer.specs.Buffer.{keep_last}
-use Rattle.sr_frame.specs.declared.learnt.Learnt.{Learnt}
-use Rattle.sr_frame.specs.declared.learnt.Learnt.TheVariants.{Learned, Known, Full}
+use Rattle.sr_frame.specs.declared.learn_outcome.LearnOutcome.{LearnOutcome}
+use Rattle.sr_frame.specs.declared.learn_outcome.LearnOutcome.TheVariants.{New, Known, Full}
 use Rattle.sr_frame.specs.declared.fields.Mac.{Mac}
 use Rattle.sr_frame.specs.Addresses.{mac_eq}
 use Rattle.sr_node_table.specs.Nodes.{Hearing, Entry, with_room, answer_of, answer_to}
@@ -44,14 +44,14 @@ kept_where events h up =
     (kept_before events h.time up) (removal_le events h.time up)
 
 -- what an address with an entry is answered, and one without
-known_or_learned : (live room : Bool) (a : Learnt) → a ≡ cond live Known Learned → is_kept a ≡ room → a ≡ cond live Known (cond room Learned Full)
+known_or_learned : (live room : Bool) (a : LearnOutcome) → a ≡ cond live Known New → is_kept a ≡ room → a ≡ cond live Known (cond room New Full)
 known_or_learned true room a e k = e
-known_or_learned false room a e k = e ∙ ap (λ b. cond b Learned Full) (sym (ap is_kept e) ∙ k)
+known_or_learned false room a e k = e ∙ ap (λ b. cond b New Full) (sym (ap is_kept e) ∙ k)
 
-learned_or_full : (b live room : Bool) (a : Learnt) → a ≡ cond b Learned Full → is_kept a ≡ room → live ≡ false → a ≡ cond live Known (cond room Learned Full)
-learned_or_full b live room a e k silent = e ∙ ap (λ x. cond x Learned Full) (sym (kept b) ∙ sym (ap is_kept e) ∙ k) ∙ sym (ap (λ x. cond x Known (cond room Learned Full)) silent)
+learned_or_full : (b live room : Bool) (a : LearnOutcome) → a ≡ cond b New Full → is_kept a ≡ room → live ≡ false → a ≡ cond live Known (cond room New Full)
+learned_or_full b live room a e k silent = e ∙ ap (λ x. cond x New Full) (sym (kept b) ∙ sym (ap is_kept e) ∙ k) ∙ sym (ap (λ x. cond x Known (cond room New Full)) silent)
   where
-    kept : (x : Bool) → is_kept (cond x Learned Full) ≡ x
+    kept : (x : Bool) → is_kept (cond x New Full) ≡ x
     kept true = refl
     kept false = refl
 
@@ -74,7 +74,7 @@ answers_are_of_kept events h up = by (has_entry_in events h.mac) refl
     by : (b : Bool) → has_entry_in events h.mac ≡ b → answer_to (table_after events) h ≡ answer_by (kept_in events) h
     by true e = known_or_learned (is_live_by (kept_in events) h.time h.mac) (finds_room (kept_in events) h) (answer_to (table_after events) h)
         (answered (Some (shown_by (kept_in events) h.mac)) (found ∙ ap (λ b. cond b (Some (shown_by (kept_in events) h.mac)) None) e)
-        ∙ ap (λ b. cond b Known Learned) (shown_live (kept_in events) h.time (removal_in events) (kept_before events h.time up) h.time h.mac e)) (kept_where events h up)
+        ∙ ap (λ b. cond b Known New) (shown_live (kept_in events) h.time (removal_in events) (kept_before events h.time up) h.time h.mac e)) (kept_where events h up)
     by false e = learned_or_full (nat_lt (length (with_room h.time (table_after events).entries)) 1024) (is_live_by (kept_in events) h.time h.mac) (finds_room (kept_in events) h)
         (answer_to (table_after events) h) (answered None (found ∙ ap (λ b. cond b (Some (shown_by (kept_in events) h.mac)) None) e)) (kept_where events h up) (silent e)
 

@@ -5,8 +5,8 @@ use Rattle.std.specs.List.{IsDistinct, AllByRecursion}
 use Rattle.std.specs.Map.{lookup}
 use Rattle.std.proofs.lemmas.Bool.{ltb-false, lt-ltb, le-ltb, leb-true, leb-false, and_parts, true_from_ne_false}
 use Rattle.sr_frame.specs.declared.fields.Mac.{Mac}
-use Rattle.sr_frame.specs.declared.learnt.Learnt.{Learnt}
-use Rattle.sr_frame.specs.declared.learnt.Learnt.TheVariants.{Learned, Known, Full}
+use Rattle.sr_frame.specs.declared.learn_outcome.LearnOutcome.{LearnOutcome}
+use Rattle.sr_frame.specs.declared.learn_outcome.LearnOutcome.TheVariants.{New, Known, Full}
 use Rattle.sr_frame.specs.Addresses.{mac_eq}
 use Rattle.sr_aged_slots.specs.FullLemmas.{full_where, kept_again}
 use Rattle.sr_node_table.specs.Nodes.{Hearing, Table, is_live, live_others, answer_of, answer_to, kept_by, after_answer}
@@ -72,14 +72,14 @@ lt_or n = by (nat_le 1024 n) refl
     by false e = let l : n < 1024 = leb-false 1024 n e in lt-ltb n 1024 l
 
 -- what a table answers and what it is then
-kept_unless_full : (a : Learnt) (n : ℕ) → n ≤ 1024 → (a ≡ Full → n ≡ 1024) → (n ≡ 1024 → a ≡ Full) → is_kept a ≡ nat_lt n 1024
+kept_unless_full : (a : LearnOutcome) (n : ℕ) → n ≤ 1024 → (a ≡ Full → n ≡ 1024) → (n ≡ 1024 → a ≡ Full) → is_kept a ≡ nat_lt n 1024
 kept_unless_full Full n le to from = let e : n ≡ 1024 = to refl in sym (le-ltb n 1024 (omega arith))
-kept_unless_full Learned n le to from = sym (true_from_ne_false (nat_lt n 1024) (λ f. let k : 1024 ≤ n = ltb-false n 1024 f in let e : Learned ≡ Full = from (omega arith) in absurd cc))
+kept_unless_full New n le to from = sym (true_from_ne_false (nat_lt n 1024) (λ f. let k : 1024 ≤ n = ltb-false n 1024 f in let e : New ≡ Full = from (omega arith) in absurd cc))
 kept_unless_full Known n le to from = sym (true_from_ne_false (nat_lt n 1024) (λ f. let k : 1024 ≤ n = ltb-false n 1024 f in let e : Known ≡ Full = from (omega arith) in absurd cc))
 
-pub after_is : (a : Learnt) (t : Table) (h : Hearing) → after_answer a t h ≡ cond (is_kept a) (kept_by (lookup (mac_eq h.mac) t.entries) t h) t
+pub after_is : (a : LearnOutcome) (t : Table) (h : Hearing) → after_answer a t h ≡ cond (is_kept a) (kept_by (lookup (mac_eq h.mac) t.entries) t h) t
 after_is Full t h = refl
-after_is Learned t h = refl
+after_is New t h = refl
 after_is Known t h = refl
 
 module _ (hs : List Hearing) (removal : ℕ) (ks : List Mac) (distinct : IsDistinct mac_eq ks) (have : (m : Mac) → has ks m ≡ has_entry hs removal m) (all : AllByRecursion (λ m. has_entry hs removal m ≡ true) ks)

@@ -3,7 +3,7 @@ use Rattle.std.specs.Prelude.{ℕ, zero, suc, ◌≡◌, ◌-◌, ◌/◌, ◌%�
 use Rattle.circular_buffer.specs.Buffer.{keep_last}
 use Rattle.sr_frame.specs.declared.fields.Mac.{Mac}
 use Rattle.sr_frame.specs.declared.ports.Port.TheVariants.{A}
-use Rattle.sr_frame.specs.declared.learnt.Learnt.TheVariants.{Learned, Full}
+use Rattle.sr_frame.specs.declared.learn_outcome.LearnOutcome.TheVariants.{New, Full}
 use Rattle.sr_node_table.specs.declared.alarm.Alarm.TheVariants.{NodeDown}
 use Rattle.sr_node_table.specs.declared.node.Told.TheVariants.{Numbered}
 use Rattle.sr_node_table.specs.Limits.{forget_time, most_nodes, most_alarms}
@@ -39,7 +39,7 @@ in_time = heard_at most_nodes forget_time
 -- The one that comes early is refused. For the other one all of them go, of whose alarms the latest 64 stand.
 pub record FullIsWorkedOut : Type 0 where
   pub refused : answer_to (table_after (crowd most_nodes)) too_early ≡ Full
-  pub taken : answer_to (table_after (crowd most_nodes)) in_time ≡ Learned
+  pub taken : answer_to (table_after (crowd most_nodes)) in_time ≡ New
   pub alarms :
       (table_after (Hears in_time ∷ crowd most_nodes)).alarms
       ≡ keep_last most_alarms (map (λ mac. NodeDown mac forget_time) (first_ones most_nodes))

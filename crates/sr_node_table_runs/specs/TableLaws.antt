@@ -6,8 +6,8 @@ use Rattle.circular_buffer.specs.Buffer.{keep_last}
 use Rattle.sr_frame.specs.Addresses.{mac_eq}
 use Rattle.sr_frame.specs.declared.fields.Mac.{Mac}
 use Rattle.sr_frame.specs.declared.ports.Port.{Port}
-use Rattle.sr_frame.specs.declared.learnt.Learnt.{Learnt}
-use Rattle.sr_frame.specs.declared.learnt.Learnt.TheVariants.{Learned, Known, Full}
+use Rattle.sr_frame.specs.declared.learn_outcome.LearnOutcome.{LearnOutcome}
+use Rattle.sr_frame.specs.declared.learn_outcome.LearnOutcome.TheVariants.{New, Known, Full}
 use Rattle.sr_node_table.specs.declared.alarm.Alarm.TheVariants.{RingError, NodeDown}
 use Rattle.sr_node_table.specs.Limits.{most_nodes, most_alarms}
 use Rattle.sr_node_table.specs.Nodes.{Hearing, answer_to}
@@ -25,8 +25,8 @@ FullWhereOthersAreLive =
     → (answer_to (table_after events) h ≡ Full) ↔ (length (others_live (kept_in events) h.time h.mac) ≡ most_nodes)
 
 -- a hearing is known within a life; it is learned where it begins one, unless it finds no room
-abbrev pub answer_by : List Hearing → Hearing → Learnt
-answer_by hs h = if is_live_by hs h.time h.mac then Known else if finds_room hs h then Learned else Full
+abbrev pub answer_by : List Hearing → Hearing → LearnOutcome
+answer_by hs h = if is_live_by hs h.time h.mac then Known else if finds_room hs h then New else Full
 
 abbrev pub AnswersAreOfKept : Type 0
 AnswersAreOfKept =

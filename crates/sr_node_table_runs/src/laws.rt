@@ -8,7 +8,7 @@ use sr_node_table::status_is_of_hearings;
 
 /// In every run, a hearing is kept unless 1024 other addresses are live: unless of each of these a kept hearing is less
 /// than 60000 ms old. Then it is answered `Full`, and nothing is kept of it. One of a live address is answered `Known`, and
-/// one that begins a life `Learned`.
+/// one that begins a life `New`.
 pub fn hearings_are_kept_where_there_is_room()
     ensures answers { AnswersAreOfKept }
     ensures full { FullWhereOthersAreLive }

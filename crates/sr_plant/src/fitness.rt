@@ -6,7 +6,7 @@ ghost use Rattle.sr_plant.specs.Images.{states_of};
 ghost use Rattle.sr_plant.specs.Building.{is_lan, is_kind, is_fit, are_fit, has_address, are_apart, are_apart_from, is_plant, are_few, is_plant_of_both};
 
 use crate::Topology;
-use crate::size::MOST_NODES;
+use crate::size::MAX_NODES;
 use sr_forwarding::{Role, RoleKind};
 use sr_frame::{Mac, Port};
 use sr_node::NodeOf;
@@ -109,7 +109,7 @@ pub(crate) fn is_plant<R: Role>(topology: Topology, nodes: &[NodeOf<R>]) -> bool
 pub(crate) fn are_few<R: Role>(nodes: &[NodeOf<R>], behind: &[NodeOf<R>]) -> bool
     ensures { result ≡ are_few (states_of R.meaning nodes.now) (states_of R.meaning behind.now) }
 {
-    nodes.len() <= MOST_NODES && behind.len() <= MOST_NODES
+    nodes.len() <= MAX_NODES && behind.len() <= MAX_NODES
 }
 
 /// Whether one is made of these nodes and those behind them.

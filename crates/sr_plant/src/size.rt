@@ -10,13 +10,13 @@ use sr_forwarding::MAX_NET;
 const FEWEST_NODES: usize = 2;
 
 /// The most.
-pub(crate) const MOST_NODES: usize = 16;
+pub(crate) const MAX_NODES: usize = 16;
 
 /// The fewest nodes of a ring with the boxes of two LANs.
 const FEWEST_WITH_BOXES: usize = 3;
 
 /// The most doubly attached nodes of these LANs.
-const MOST_IN_LANS: usize = 14;
+const MAX_IN_LANS: usize = 14;
 
 // Whether a number is not below the one and not above the other.
 fn is_between(fewest: usize, most: usize, number: usize) -> bool
@@ -40,8 +40,8 @@ impl RingLanShape {
     fn is_size(self, nodes: usize) -> bool
         ensures { result ≡ is_size (Topology.RingLan self) nodes }
     {
-        is_between(FEWEST_WITH_BOXES, MOST_NODES, self.ring)
-            && is_between(1, MOST_IN_LANS, self.lan)
+        is_between(FEWEST_WITH_BOXES, MAX_NODES, self.ring)
+            && is_between(1, MAX_IN_LANS, self.lan)
             && self.ring + self.lan == nodes
             && self.has_boxes()
     }
@@ -75,8 +75,8 @@ impl TwoRingsShape {
     fn is_size(self, nodes: usize) -> bool
         ensures { result ≡ is_size (Topology.TwoRings self) nodes }
     {
-        is_between(FEWEST_NODES, MOST_NODES, self.left)
-            && is_between(FEWEST_NODES, MOST_NODES, self.right)
+        is_between(FEWEST_NODES, MAX_NODES, self.left)
+            && is_between(FEWEST_NODES, MAX_NODES, self.right)
             && self.left + self.right == nodes
             && self.is_join(self.first)
             && self.is_second_join()
@@ -89,7 +89,7 @@ impl Topology {
         ensures { result ≡ is_size self nodes }
     {
         match self {
-            Topology::Ring | Topology::TwinLan => is_between(FEWEST_NODES, MOST_NODES, nodes),
+            Topology::Ring | Topology::TwinLan => is_between(FEWEST_NODES, MAX_NODES, nodes),
             Topology::RingLan(shape) => shape.is_size(nodes),
             Topology::TwoRings(shape) => shape.is_size(nodes),
         }

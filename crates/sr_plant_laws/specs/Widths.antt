@@ -1,6 +1,6 @@
 -- How many numbers of a source the tables of members remember, each its own count.
 use Rattle.std.specs.Prelude.{ℕ, ◌≤◌}
-use Rattle.sr_dup_window.specs.Spots.{IsWidth}
+use Rattle.sr_dup_window.specs.Bins.{IsWidth}
 use Rattle.sr_dup_table.specs.Limits.{window}
 
 -- that of each member, and bounds for all of them

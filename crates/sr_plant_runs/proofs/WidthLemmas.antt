@@ -1,7 +1,7 @@
 -- The widths of a plant's tables are widths, and lie between the least and the greatest.
 use Rattle.std.proofs.Common.{◌≡◌, inl, inr, ℕ, zero, suc, ◌≤◌, min, true, List, [], ◌∷◌, map, Some, slice_get, refl, sym, ap, arith}
 use Rattle.std.proofs.lemmas.Bool.{true≢false}
-use Rattle.sr_dup_window.specs.Spots.{IsWidth}
+use Rattle.sr_dup_window.specs.Bins.{IsWidth}
 use Rattle.sr_node.specs.StartLemmas.{has_width}
 use Rattle.sr_node.specs.Starts.{Start, begun_as, width_of}
 use Rattle.sr_plant_laws.specs.Widths.{AreWidths}

@@ -13,7 +13,7 @@ use sr_plant::PlantFault;
 use std::alloc::{AllocError, Global};
 
 /// The type of the frames: the first that IEEE 802 leaves to local experiments.
-const SENT_KIND: u16 = 0x88b5;
+const SENT_ETHERTYPE: u16 = 0x88b5;
 
 /// The address of all nodes.
 const BROADCAST: Mac = Mac([0xff; 6]);
@@ -72,7 +72,7 @@ pub fn sent_frame(
     let mut octets = Vec::with_capacity(alloc, HEADER_LEN + payload.len())?;
     octets.extend_from_slice(&address_of(receiver).0)?;
     octets.extend_from_slice(&mac_of(node).0)?;
-    octets.extend_from_slice(&SENT_KIND.to_be_bytes())?;
+    octets.extend_from_slice(&SENT_ETHERTYPE.to_be_bytes())?;
     octets.extend_from_slice(payload)?;
     Ok(Frame::of(octets))
 }

@@ -23,8 +23,8 @@ use Rattle.std.specs.List.{filter_map}
 use Rattle.std.specs.Map.{lookup, set_value}
 use Rattle.sr_frame.specs.Addresses.{mac_eq}
 use Rattle.sr_frame.specs.declared.fields.Mac.{Mac}
-use Rattle.sr_frame.specs.declared.learnt.Learnt.{Learnt}
-use Rattle.sr_frame.specs.declared.learnt.Learnt.TheVariants.{Learned, Known, Full}
+use Rattle.sr_frame.specs.declared.learn_outcome.LearnOutcome.{LearnOutcome}
+use Rattle.sr_frame.specs.declared.learn_outcome.LearnOutcome.TheVariants.{New, Known, Full}
 use Rattle.sr_slots.specs.Calls.{passing}
 use Rattle.sr_aged_slots.specs.Ages as ages
 use Rattle.sr_aged_slots.specs.declared.aged.Aged.{Aged}
@@ -73,15 +73,15 @@ with_room now s = ages.with_room forget_time most_proxied now s
 abbrev pub learned_again : Entry → ℕ → Entry
 learned_again e now = record e { time = max e.time now }
 
-abbrev pub learnt_again : ℕ → Entry → Learnt
-learnt_again now e = if is_live now e then Known else Learned
+abbrev pub learnt_again : ℕ → Entry → LearnOutcome
+learnt_again now e = if is_live now e then Known else New
 
 -- what a learning is answered
-abbrev pub answer_of : Option Entry → Entries → ℕ → Learnt
+abbrev pub answer_of : Option Entry → Entries → ℕ → LearnOutcome
 answer_of (Some e) s now = learnt_again now e
-answer_of None s now = if nat_lt (length (with_room now s)) most_proxied then Learned else Full
+answer_of None s now = if nat_lt (length (with_room now s)) most_proxied then New else Full
 
-abbrev pub answer_to : Entries → Mac → ℕ → Learnt
+abbrev pub answer_to : Entries → Mac → ℕ → LearnOutcome
 answer_to s mac now = answer_of (lookup (mac_eq mac) s) s now
 
 -- the addresses after one that is kept: it keeps its place, or comes last
@@ -89,7 +89,7 @@ abbrev pub kept_by : Option Entry → Entries → Mac → ℕ → Entries
 kept_by (Some e) s mac now = set_value (mac_eq mac) s (learned_again e now)
 kept_by None s mac now = with_room now s ++ (mac, learned_at now) ∷ []
 
-abbrev pub after_answer : Learnt → Entries → Mac → ℕ → Entries
+abbrev pub after_answer : LearnOutcome → Entries → Mac → ℕ → Entries
 after_answer Full s mac now = s
 after_answer _ s mac now = kept_by (lookup (mac_eq mac) s) s mac now
 

@@ -6,7 +6,7 @@ ghost use Rattle.sr_frame.specs.Addresses.{mac_eq};
 ghost use Rattle.sr_proxy_table.specs.Proxied.{most_proxied, is_live, live_at, live_others, has_at, learned_again, learnt_again, times_of, answer_to, after_learning, live_mac, listed_at};
 
 use sr_aged_slots::{Aged, AgedSlots};
-use sr_frame::{Learnt, Mac, NoMemory};
+use sr_frame::{LearnOutcome, Mac, NoMemory};
 use sr_slots::Keys;
 use std::alloc::{AllocError, Global};
 use std::marker::Model;
@@ -65,16 +65,16 @@ fn is_live(entry: &Aged<Proxied>, now: u64) -> bool
 }
 
 // Learns an address again, and answers whether it was known.
-fn learn_again(entry: &mut Aged<Proxied>, now: u64) -> Learnt
+fn learn_again(entry: &mut Aged<Proxied>, now: u64) -> LearnOutcome
     ensures after { entry.new ≡ learned_again entry.old now }
     ensures answer { result ≡ learnt_again now entry.old }
 {
     let was_live = is_live(entry, now);
     entry.time = entry.time.max(now);
     if was_live {
-        Learnt::Known
+        LearnOutcome::Known
     } else {
-        Learnt::Learned
+        LearnOutcome::New
     }
 }
 
@@ -108,13 +108,13 @@ impl ProxyTable {
 
     /// Learns an address, or renews its time. Full: 256 other addresses are live, and nothing is kept.
     /// NoMemory: memory ran out for a new address. Either way nothing changes.
-    pub fn learn(&mut self, mac: Mac, now: u64) -> Result<Learnt, NoMemory>
+    pub fn learn(&mut self, mac: Mac, now: u64) -> Result<LearnOutcome, NoMemory>
         ensures answer { IfOk result (λ learnt. learnt ≡ answer_to self.old mac now) }
         ensures after { OnOk result (self.new ≡ after_learning self.old mac now) }
 
         // There are never more. Full exactly where 256 others are live. An address that has an entry takes no memory.
         ensures few { length self.old ≤ most_proxied }
-        ensures full { (result ≡ Ok Learnt.Full)
+        ensures full { (result ≡ Ok LearnOutcome.Full)
             ↔ (length (live_others mac now self.old) ≡ most_proxied) }
         ensures known { is_some (lookup (mac_eq mac) self.old) ≡ true → IsOk result }
         ensures err { OnErr result (self.new ≡ self.old) }
@@ -126,7 +126,7 @@ impl ProxyTable {
     }
 
     // Renews the time of an address that has an entry, forgotten or not.
-    fn renew(&mut self, mac: Mac, now: u64) -> Option<Learnt>
+    fn renew(&mut self, mac: Mac, now: u64) -> Option<LearnOutcome>
         ensures few { length self.old ≤ most_proxied }
         ensures found { is_some result ≡ is_some (lookup (mac_eq mac) self.old) }
         ensures answer { IfSome result (λ learnt. learnt ≡ answer_to self.old mac now) }
@@ -136,7 +136,7 @@ impl ProxyTable {
         let answer = self.slots.update_at(
             None,
             mac,
-            |entry: &mut Aged<Proxied>| -> Learnt
+            |entry: &mut Aged<Proxied>| -> LearnOutcome
                 ensures after { entry.new ≡ learned_again entry.old now }
                 ensures answer { result ≡ learnt_again now entry.old }
             { learn_again(entry, now) },
@@ -145,18 +145,19 @@ impl ProxyTable {
     }
 
     // Learns an address that has no entry.
-    fn begin(&mut self, mac: Mac, now: u64) -> Result<Learnt, NoMemory>
+    fn begin(&mut self, mac: Mac, now: u64) -> Result<LearnOutcome, NoMemory>
         requires absent { lookup (mac_eq mac) self.old ≡ None }
         ensures answer { IfOk result (λ learnt. learnt ≡ answer_to self.old mac now) }
         ensures after { OnOk result (self.new ≡ after_learning self.old mac now) }
-        ensures full { answer_to self.old mac now ≡ Learnt.Full → result ≡ Ok Learnt.Full }
+        ensures full { answer_to self.old mac now ≡ LearnOutcome.Full
+            → result ≡ Ok LearnOutcome.Full }
         ensures err { OnErr result (self.new ≡ self.old) }
     {
         if self.slots.is_full_now(now) {
-            return Ok(Learnt::Full);
+            return Ok(LearnOutcome::Full);
         }
         self.slots.append(mac, Proxied, now)?;
-        Ok(Learnt::Learned)
+        Ok(LearnOutcome::New)
     }
 
     /// Takes the addresses out that were not learned for 60000 ms or more, and answers how many.

@@ -73,7 +73,7 @@ pub fn parted<'a>(frame: &FrameView<'a>) -> Option<(FrameView<'a>, Trailer)>
         dst: frame.dst,
         src: frame.src,
         vlan: frame.vlan,
-        kind: frame.kind,
+        ethertype: frame.ethertype,
         payload: front,
     };
     Some((plain, trailer))

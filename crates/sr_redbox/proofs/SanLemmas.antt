@@ -5,8 +5,8 @@ use Rattle.std.specs.Map.{lookup, set_value}
 use Rattle.std.proofs.lemmas.Bool.{ltb-false}
 use Rattle.std.proofs.lemmas.List.{length-map, map-append}
 use Rattle.sr_frame.specs.declared.fields.Mac.{Mac}
-use Rattle.sr_frame.specs.declared.learnt.Learnt.{Learnt}
-use Rattle.sr_frame.specs.declared.learnt.Learnt.TheVariants.{Learned, Known, Full}
+use Rattle.sr_frame.specs.declared.learn_outcome.LearnOutcome.{LearnOutcome}
+use Rattle.sr_frame.specs.declared.learn_outcome.LearnOutcome.TheVariants.{New, Known, Full}
 use Rattle.sr_frame.specs.Addresses.{mac_eq}
 use Rattle.sr_forwarding.specs.RoleImages.{is_recent_in, is_proxied}
 use Rattle.sr_forwarding.specs.Proxies.{recent_of, proxied_after, proxy_answer, with_address, with_new, answer_at}
@@ -17,9 +17,9 @@ use Rattle.sr_proxy_table.specs.Proxied.{Entry, Entries, times_of, is_live, live
 use Rattle.sr_redbox.specs.SanBoxes.{SanView, san_of}
 
 -- the entries after an answer, where the table has this of the address
-abbrev after_kept : Learnt → Option Entry → Entries → Mac → ℕ → Entries
+abbrev after_kept : LearnOutcome → Option Entry → Entries → Mac → ℕ → Entries
 after_kept Full o es m now = es
-after_kept Learned o es m now = kept_by o es m now
+after_kept New o es m now = kept_by o es m now
 after_kept Known o es m now = kept_by o es m now
 
 abbrev time_in : Option Entry → Option ℕ
@@ -99,24 +99,24 @@ pub learnt_where : (m : Mac) (es : Entries) (now : ℕ) → proxy_answer (times_
 learnt_where m es now = ap (λ o. answer_at o (times_of es) now) (look m es) ∙ by (lookup (mac_eq m) es)
   where
     by : (o : Option Entry) → answer_at (time_in o) (times_of es) now ≡ answer_of o es now
-    by None = ap (λ n. cond (nat_lt n 256) Learned Full) (ap length (room_times now es) ∙ length-times (with_room now es))
+    by None = ap (λ n. cond (nat_lt n 256) New Full) (ap length (room_times now es) ∙ length-times (with_room now es))
     by (Some e) = refl
 
 -- the addresses after it are the role's
 pub learned_where : (m : Mac) (es : Entries) (now : ℕ) → length es ≤ 256 → proxied_after (times_of es) m now ≡ times_of (after_learning es m now)
 learned_where m es now few = ap (λ o. with_address o (times_of es) m now) (look m es) ∙ by (lookup (mac_eq m) es) ∙ ap times_of (after_is (answer_to es m now))
   where
-    after_is : (a : Learnt) → after_kept a (lookup (mac_eq m) es) es m now ≡ after_answer a es m now
+    after_is : (a : LearnOutcome) → after_kept a (lookup (mac_eq m) es) es m now ≡ after_answer a es m now
     after_is Full = refl
-    after_is Learned = refl
+    after_is New = refl
     after_is Known = refl
 
-    again : (e : Entry) (b : Bool) → set_value (mac_eq m) (times_of es) (max e.time now) ≡ times_of (after_kept (cond b Known Learned) (Some e) es m now)
+    again : (e : Entry) (b : Bool) → set_value (mac_eq m) (times_of es) (max e.time now) ≡ times_of (after_kept (cond b Known New) (Some e) es m now)
     again e true = times_set m now e es
     again e false = times_set m now e es
 
     new : (b : Bool) → nat_lt (length (with_room now es)) 256 ≡ b
-        → cond b (times_of (with_room now es) ++ (m, now) ∷ []) (times_of (with_room now es)) ≡ times_of (after_kept (cond b Learned Full) None es m now)
+        → cond b (times_of (with_room now es) ++ (m, now) ∷ []) (times_of (with_room now es)) ≡ times_of (after_kept (cond b New Full) None es m now)
     new true room = sym (map-append (λ e. (e.0, e.1.time)) (with_room now es) ((m, learned_at now) ∷ []))
     new false room = ap times_of (no_room now es few room)
 

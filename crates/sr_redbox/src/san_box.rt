@@ -7,7 +7,7 @@ ghost use Rattle.sr_forwarding.specs.Routes.{san_from_host, san_from_interlink, 
 ghost use Rattle.sr_redbox.specs.SanBoxes.{san_of};
 
 use bitflags::Flags;
-use sr_forwarding::{Header, Learnt, Outlets, Port, Proxied, Role, RoleImage, RoleKind};
+use sr_forwarding::{Header, LearnOutcome, Outlets, Port, Proxied, Role, RoleImage, RoleKind};
 use sr_frame::{Mac, NoMemory};
 use sr_proxy_table::ProxyTable;
 use sr_slots::Keys;
@@ -56,7 +56,7 @@ impl SanBox {
     }
 
     // Stands for this address from now on, where there is room. NoMemory: memory ran out, and nothing changes.
-    fn proxy(&mut self, mac: Mac, now: u64) -> Result<Learnt, NoMemory>
+    fn proxy(&mut self, mac: Mac, now: u64) -> Result<LearnOutcome, NoMemory>
         ensures answer { IfOk result (λ a. a ≡ proxy_answer (san_of self.old).proxied mac now) }
         ensures after { OnOk result (san_of self.new
             ≡ record (san_of self.old) {
@@ -157,10 +157,10 @@ impl Role for SanBox {
         header: &Header,
         inlet: Port,
         now: u64,
-    ) -> Result<Learnt, NoMemory> {
+    ) -> Result<LearnOutcome, NoMemory> {
         match inlet {
             Port::C => self.proxy(header.src, now),
-            Port::H | Port::A | Port::B => Ok(Learnt::Known),
+            Port::H | Port::A | Port::B => Ok(LearnOutcome::Known),
         }
     }
 

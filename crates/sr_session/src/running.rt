@@ -18,7 +18,7 @@ use std::io::{BufRead, Write};
 const MAX_LINES: u64 = 1_000_000;
 
 /// So many octets that wait are written before another line is obeyed.
-const MOST_WAITING: usize = 65536;
+const MAX_WAITING: usize = 65536;
 
 /// How far the lines at hand are obeyed.
 #[derive(Clone, Copy, Debug)]
@@ -140,7 +140,7 @@ fn obey_front<S: Session>(
 {
     let mut used = 0;
     let mut next = first;
-    while next <= MAX_LINES && waiting.text.len() < MOST_WAITING {
+    while next <= MAX_LINES && waiting.text.len() < MAX_WAITING {
         match obey_whole(session, next, &octets[used..], waiting) {
             Ok(Some(length)) => {
                 used += length + 1;

@@ -21,9 +21,9 @@ is_held places key = list_any (mac_eq key) places.held
 abbrev pub value_at : {V : Type 0} → Places V → Mac → Option V
 value_at places key = lookup (mac_eq key) places.entries
 
--- an address for which a spot was found has a value
+-- an address for which a hint was found has a value
 abbrev pub IsFound : {S V : Type 0} → Option S → List (Mac × V) → Mac → Type 0
-IsFound spot entries key = is_some spot ≡ true → is_some (lookup (mac_eq key) entries) ≡ true
+IsFound hint entries key = is_some hint ≡ true → is_some (lookup (mac_eq key) entries) ≡ true
 
 -- each other address has a held place as before
 abbrev pub KeepsHeld : List Mac → List Mac → Mac → Type 0

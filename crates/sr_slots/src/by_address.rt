@@ -20,7 +20,7 @@ use std::marker::Model;
 
 /// Where an address was found in a table. It may have moved since, or gone: who looks there compares the address first.
 #[derive(Clone, Copy, PartialEq, Eq, Debug)]
-pub struct Spot {
+pub struct Hint {
     index: usize,
 }
 
@@ -92,28 +92,28 @@ impl<V: Drop + Ranked> Slots<V> {
     }
 
     /// The value at an address, and where it is.
-    pub fn find(&self, key: Mac) -> Option<(Spot, &V)>
+    pub fn find(&self, key: Mac) -> Option<(Hint, &V)>
         ensures { option_map (λ found. found.1.now) result ≡ value_at self.now key }
     {
         let (index, value) = places::find(&self.map, key)?;
-        Some((Spot { index }, value))
+        Some((Hint { index }, value))
     }
 
-    /// The value at an address, which is looked for at a spot first, and where it is.
+    /// The value at an address, which is looked for first where a hint says, and where it is.
     #[inline(always)]
-    pub fn find_at(&self, spot: Option<Spot>, key: Mac) -> Option<(Spot, &V)>
+    pub fn find_at(&self, hint: Option<Hint>, key: Mac) -> Option<(Hint, &V)>
         ensures { option_map (λ found. found.1.now) result ≡ value_at self.now key }
     {
-        let first = spot.map(|spot| spot.index);
+        let first = hint.map(|hint| hint.index);
         let (index, value) = places::find_at(&self.map, first, key)?;
-        Some((Spot { index }, value))
+        Some((Hint { index }, value))
     }
 
-    /// The value at an address, which is looked for at a spot first.
-    pub fn get_at(&self, spot: Option<Spot>, key: Mac) -> Option<&V>
+    /// The value at an address, which is looked for first where a hint says.
+    pub fn get_at(&self, hint: Option<Hint>, key: Mac) -> Option<&V>
         ensures { option_copied result ≡ value_at self.now key }
     {
-        places::value_at(&self.map, spot.map(|spot| spot.index), key)
+        places::value_at(&self.map, hint.map(|hint| hint.index), key)
     }
 
     /// The addresses that have a value, in order, with their values.
@@ -126,11 +126,11 @@ impl<V: Drop + Ranked> Slots<V> {
         }
     }
 
-    /// Changes the value at an address in its place, which is looked for at a spot first, and answers what the change answers.
+    /// Changes the value at an address in its place, which is looked for first where a hint says, and answers what the change answers.
     /// A held place of the address is used up. None: the address has no value, and nothing changes.
     pub fn update_at<R: Drop, F: FnOnce(&mut V) -> R>(
         &mut self,
-        spot: Option<Spot>,
+        hint: Option<Hint>,
         key: Mac,
         change: F,
     ) -> Option<R>
@@ -142,7 +142,7 @@ impl<V: Drop + Ranked> Slots<V> {
         ensures used { IfSome result (λ answer. is_held self.new key ≡ false) }
         ensures none { IfNone result (self.new ≡ self.old) }
     {
-        let first = spot.map(|spot| spot.index);
+        let first = hint.map(|hint| hint.index);
         let (answer, was_held) = places::change_at(&mut self.map, first, key, change)?;
         if was_held {
             self.held -= 1;

@@ -5,10 +5,10 @@ ghost use Rattle.sr_frame.specs.Addresses.{mac_eq};
 ghost use Rattle.sr_slots.specs.Places.{entries_of, held_of, held_but, slot_of, IsLast, entries_from};
 ghost use Rattle.sr_slots.specs.Effects.{HoldsPlace};
 
+use crate::cell::Cell;
 use crate::keys::Keys;
 use crate::places::{Slot, stands_at};
 use crate::ranked::Ranked;
-use crate::room::Room;
 use indexmap::IndexMap;
 use indexmap::map::Entry;
 use sr_frame::{Mac, NoMemory};
@@ -67,7 +67,7 @@ fn hold_sought<V: Drop + Ranked>(
             Ok(hold_place(slot))
         }
         Entry::Vacant(entry) => {
-            let value = Room::new(alloc)?;
+            let value = Cell::new(alloc)?;
             entry.insert(Slot { value, held: true });
             Ok(true)
         }

@@ -2,16 +2,16 @@
 #![tactic(auto)]
 
 mod by_address;
+mod cell;
 mod entries;
 mod holding;
 mod keys;
 mod places;
 mod putting;
 mod ranked;
-mod room;
 mod sifting;
 
-pub use by_address::{Slots, Spot};
+pub use by_address::{Hint, Slots};
 pub use entries::Iter;
 pub use keys::{KeyedHasher, Keys};
 pub use ranked::Ranked;

@@ -7,16 +7,16 @@ ghost use Rattle.sr_frame.specs.Addresses.{mac_eq};
 ghost use Rattle.sr_slots.specs.Places.{entries_of, slot_of, StandsAt, entries_from};
 ghost use Rattle.sr_slots.specs.Effects.{ChangesPlace};
 
+use crate::cell::Cell;
 use crate::keys::Keys;
 use crate::ranked::Ranked;
-use crate::room::Room;
 use indexmap::IndexMap;
 use sr_frame::{Mac, NoMemory};
 
 /// A place: its value, if there is one, and whether it is held.
 #[derive(Drop)]
 pub struct Slot<V: Drop + Ranked> {
-    pub value: Room<V>,
+    pub value: Cell<V>,
     pub held: bool,
 }
 

@@ -7,10 +7,10 @@ ghost use Rattle.sr_frame.specs.Addresses.{mac_eq};
 ghost use Rattle.sr_slots.specs.Places.{entries_of, held_of, slot_of, entries_from};
 ghost use Rattle.sr_slots.specs.Effects.{PutsLast, GetsPlace, Settles};
 
+use crate::cell::Cell;
 use crate::keys::Keys;
 use crate::places::{Slot, stands_at};
 use crate::ranked::Ranked;
-use crate::room::Room;
 use indexmap::IndexMap;
 use sr_frame::{Mac, NoMemory};
 use std::alloc::{AllocError, Global};
@@ -69,7 +69,7 @@ fn place_for<V: Drop + Ranked>(
     if let Some(index) = map.get_index_of(&key) {
         return Ok(index);
     }
-    let value = Room::new(alloc)?;
+    let value = Cell::new(alloc)?;
     match map.insert(key, Slot { value, held: false }) {
         Ok(_) => Ok(places),
         Err(e) => Err(AllocError::from(e).into()),

@@ -26,7 +26,7 @@ enum Step {
     Hold(u8),
     /// All held places are given up.
     Release,
-    /// Room is made for so many more addresses, or there is no memory for so many.
+    /// Cell is made for so many more addresses, or there is no memory for so many.
     Reserve(usize, bool),
     /// This value replaces the one of the address, looked for where the other address is. Whether there was one.
     Set(u8, u8, u32, bool),
@@ -109,7 +109,7 @@ const HELD_PLACES_ARE_GIVEN_UP: [Step; 20] = [
     Step::Shows(132564, 210),
 ];
 
-// Room for more, or none, shows nowhere.
+// Cell for more, or none, shows nowhere.
 const ROOM_SHOWS_NOWHERE: [Step; 11] = [
     Step::Reserve(0, true),
     Step::Reserve(2, true),
@@ -210,9 +210,9 @@ fn shows(slots: &Slots<u32>, order: u32, sum: u32) -> bool {
 }
 
 fn set(slots: &mut Slots<u32>, last: u8, at: u8, value: u32) -> bool {
-    let spot = slots.find(mac(at)).map(|found| found.0);
+    let hint = slots.find(mac(at)).map(|found| found.0);
     slots
-        .update_at(spot, mac(last), |old| *old = value)
+        .update_at(hint, mac(last), |old| *old = value)
         .is_some()
 }
 

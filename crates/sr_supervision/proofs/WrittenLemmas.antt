@@ -54,9 +54,9 @@ legal_written s is =
       dst = refl;
       src = src;
       vlan = λ c e. absurd cc;
-      kind = omega arith;
+      ethertype = omega arith;
       untagged = λ _ e. absurd (omega (arith, e));
-      size = omega (arith, length-spelling f, payload_len, length-append (head_of f) (to_be_bytes w16 f.kind), length-append (supervision_address ++ f.src) [], length-append supervision_address f.src, src);
+      size = omega (arith, length-spelling f, payload_len, length-append (head_of f) (to_be_bytes w16 f.ethertype), length-append (supervision_address ++ f.src) [], length-append supervision_address f.src, src);
     }
 
 redbox_is : (m : Mac) → length m.0 ≡ 6 → redbox_in 30 m.0 ≡ Some m
@@ -88,7 +88,7 @@ written_says s is =
       fields = written_fields s;
       legal = legal_written s is;
       spelled = refl;
-      addressed = record { dst = refl; kind = refl };
+      addressed = record { dst = refl; ethertype = refl };
       content = record {
         version = 1;
         behind = behind;

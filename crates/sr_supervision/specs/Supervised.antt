@@ -15,7 +15,7 @@ supervision_address = 0x01 ∷ 0x15 ∷ 0x4E ∷ 0x00 ∷ 0x01 ∷ 0x00 ∷ []
 -- destination and type are those of supervision
 pub record IsAddressed (f : Fields) : Type 0 where
   pub dst : f.dst ≡ supervision_address
-  pub kind : f.kind ≡ 0x88FB
+  pub ethertype : f.ethertype ≡ 0x88FB
 
 -- the type of the first TLV
 abbrev pub life_type : Life → ℕ

@@ -31,7 +31,7 @@ written_fields s = record {
   dst = supervision_address;
   src = (unwrap_or s.redbox s.mac).0;
   vlan = None;
-  kind = 0x88FB;
+  ethertype = 0x88FB;
   payload = content_octets s ++ replicate (46 - length (content_octets s)) 0;
 }
 

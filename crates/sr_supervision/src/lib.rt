@@ -11,5 +11,5 @@ mod writing;
 pub use fault::SupFault;
 pub use laws::supervisions_are_unique;
 pub use message::{Life, Supervision};
-pub use reading::{PRP_KIND, SUPERVISION, is_supervision, read};
+pub use reading::{PRP_ETHERTYPE, SUPERVISION, is_supervision, read};
 pub use writing::write;

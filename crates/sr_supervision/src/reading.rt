@@ -22,7 +22,7 @@ use sr_sequence::Seq;
 pub const SUPERVISION: Mac = Mac([0x01, 0x15, 0x4E, 0x00, 0x01, 0x00]);
 
 /// The type of a supervision frame (IEC 62439-3, clauses 4 and 5).
-pub const PRP_KIND: u16 = 0x88FB;
+pub const PRP_ETHERTYPE: u16 = 0x88FB;
 
 /// The greatest version that is read.
 const MAX_VERSION: u16 = 1;
@@ -33,7 +33,7 @@ const MAX_VERSION: u16 = 1;
 pub fn is_supervision(frame: &FrameView<'_>) -> bool
     ensures { IsTrue result ↔ IsAddressed (fields_of frame.now) }
 {
-    frame.dst == SUPERVISION && frame.kind == PRP_KIND
+    frame.dst == SUPERVISION && frame.ethertype == PRP_ETHERTYPE
 }
 
 /// Path and version, and the number.

@@ -6,7 +6,7 @@ ghost use Rattle.sr_supervision.specs.Supervised.{IsSupervision, supervision_add
 ghost use Rattle.sr_supervision.specs.Written.{Fits, address_tlv, content_octets, written};
 
 use crate::message::{Life, Supervision};
-use crate::reading::{PRP_KIND, SUPERVISION};
+use crate::reading::{PRP_ETHERTYPE, SUPERVISION};
 use crate::tlv::{
     END_OF_TLVS, HSR_ANNOUNCE, HSR_LIFE_CHECK, MAC_LEN, PRP_LIFE_CHECK_DA, PRP_LIFE_CHECK_DD,
     REDBOX_MAC,
@@ -41,7 +41,7 @@ fn put_head(out: &mut Vec<u8>, src: Mac) -> Result<(), NoMemory>
         dst: SUPERVISION,
         src,
         vlan: None,
-        kind: PRP_KIND,
+        ethertype: PRP_ETHERTYPE,
         payload: &[],
     };
     append(out, &head)

@@ -21,7 +21,7 @@ use std::thread::Threads;
 pub(crate) const FEWEST_NODES: usize = 2;
 
 /// The most nodes of a network.
-pub(crate) const MOST_NODES: usize = 16;
+pub(crate) const MAX_NODES: usize = 16;
 
 /// A node at its wires.
 pub(crate) fn wired<N: Role, G: Framing, F: Feed>(

@@ -7,7 +7,7 @@ ghost use Rattle.sr_threaded.specs.Ran.{RanInRing, WiredInRing, ring_starts, sta
 
 use crate::judging::judge_ring;
 use crate::lists::join_all;
-use crate::network::{FEWEST_NODES, MOST_NODES, run_wired, wired};
+use crate::network::{FEWEST_NODES, MAX_NODES, run_wired, wired};
 use crate::node::Wired;
 use crate::wiring::ring_wires;
 use crate::{Judgement, NetworkFault, NodeEnd, NodeKit};
@@ -119,7 +119,7 @@ pub fn run_ring<N: Role + Send, G: Framing + Send, F: Feed + Send, W: Threads + 
         (map (λ k. ring_starts F.Feed (G.meaning k.a) (G.meaning k.b) (G.meaning k.host) turns
         k.feed) kits.items) r.0.items) }
 {
-    if kits.len() < FEWEST_NODES || kits.len() > MOST_NODES {
+    if kits.len() < FEWEST_NODES || kits.len() > MAX_NODES {
         return Err(NetworkFault::Size);
     }
     let nodes = match all_in_ring(alloc, kits, turns) {

@@ -7,7 +7,7 @@ ghost use Rattle.sr_threaded.specs.Ran.{RanInLans, WiredInLans, lan_starts, star
 ghost use Rattle.sr_threaded.specs.Sources.{IsJudgedInLans};
 
 use crate::lists::join_all;
-use crate::network::{FEWEST_NODES, MOST_NODES, run_wired, wired};
+use crate::network::{FEWEST_NODES, MAX_NODES, run_wired, wired};
 use crate::node::Wired;
 use crate::sources::judge_twin;
 use crate::wiring::lan_wires;
@@ -137,7 +137,7 @@ pub fn run_twin<N: Role + Send, G: Framing + Send, F: Feed + Send, W: Threads + 
         (map (λ k. lan_starts F.Feed (G.meaning k.a) (G.meaning k.b) (G.meaning k.host) turns
         k.feed) kits.items) r.0.items) }
 {
-    if kits.len() < FEWEST_NODES || kits.len() > MOST_NODES {
+    if kits.len() < FEWEST_NODES || kits.len() > MAX_NODES {
         return Err(NetworkFault::Size);
     }
     let nodes = match all_in_lans(alloc, kits, turns) {

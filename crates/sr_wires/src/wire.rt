@@ -11,7 +11,7 @@ use std::marker::Model;
 use std::sync::Wait;
 
 /// The most frames that wait on a wire.
-const MOST_WAITING: usize = 256;
+const MAX_WAITING: usize = 256;
 
 /// Frames on their way from one thread to another, at most 256. A contract sees which wire it is.
 #[derive(Drop)]
@@ -80,7 +80,7 @@ impl Wire {
         ensures send { IfOk result (λ r. r.1 ≡ wire_end r.0 []) }
         ensures take { IfOk result (λ r. r.2 ≡ wire_end r.0 []) }
     {
-        let (queue, mut end) = Queue::ruled(alloc, MOST_WAITING)?;
+        let (queue, mut end) = Queue::ruled(alloc, MAX_WAITING)?;
         let taker = queue.another::<Both>(&mut end);
         Ok((Wire { queue }, SendPass { end }, TakePass { end: taker }))
     }

@@ -55,9 +55,9 @@ pub enum Sent {
 }
 
 /// 46 zeros behind the addresses and the type, and a trailer with this number, LAN id and size.
-fn frame(dst: Mac, src: Mac, kind: [u8; 2], seq: u16, lan: u8, size: u8) -> [u8; 66] {
+fn frame(dst: Mac, src: Mac, ethertype: [u8; 2], seq: u16, lan: u8, size: u8) -> [u8; 66] {
     let (Mac(d), Mac(s)) = (dst, src);
-    let [first, last] = kind;
+    let [first, last] = ethertype;
     let [high, low] = seq.to_be_bytes();
     [
         d[0], d[1], d[2], d[3], d[4], d[5], s[0], s[1], s[2], s[3], s[4], s[5], first, last, 0, 0,
@@ -104,14 +104,14 @@ pub fn octets_of(sent: Sent) -> [u8; 66] {
     match sent {
         Sent::InA(seq) => frame(OWN, OTHER, IP, seq, 0xa0, 0x34),
         Sent::InB(seq) => frame(OWN, OTHER, IP, seq, 0xb0, 0x34),
-        Sent::NoNumber(dst, kind) => frame(dst, OTHER, kind, 0, 0xa0, 0x35),
+        Sent::NoNumber(dst, ethertype) => frame(dst, OTHER, ethertype, 0, 0xa0, 0x35),
         Sent::OfSource(number) => frame(OWN, source(number), IP, 5, 0xa0, 0x34),
         Sent::OfSourceNoNumber(number) => frame(OWN, source(number), IP, 5, 0xa0, 0x35),
         Sent::Own => frame(EVERYONE, OWN, IP, 7, 0xa0, 0x34),
         Sent::Tagged(dst, src, path, seq) => tagged(dst, src, path, seq),
-        Sent::TaggedAround(kind) => {
+        Sent::TaggedAround(ethertype) => {
             let mut octets = tagged(OWN, OTHER, 0, 0);
-            octets[18..20].copy_from_slice(&kind);
+            octets[18..20].copy_from_slice(&ethertype);
             octets
         }
         Sent::Supervision(seq) => supervision(seq),

@@ -15,7 +15,7 @@ use std::alloc::Global;
 const RING_A: HsrFraming = HsrFraming { path: 0 };
 
 /// How many sources a node knows at most.
-const MOST_SOURCES: u16 = 1024;
+const MAX_SOURCES: u16 = 1024;
 
 /// One node more.
 pub fn append<R: Role>(nodes: &mut Vec<NodeOf<R>>, node: NodeOf<R>) -> Result<(), NoMemory> {
@@ -59,7 +59,7 @@ pub fn danps(alloc: Global, count: u8) -> Result<Vec<NodeOf<Danp>>, NoMemory> {
 
 // Whether a node hears as many sources as it can know, and lets their frames go.
 fn hears_sources(node: &mut NodeOf<Danh>) -> bool {
-    (0..MOST_SOURCES).all(|number| {
+    (0..MAX_SOURCES).all(|number| {
         let octets = of_source(number);
         let heard = node.arrive(&RING_A, Port::A, &octets, 0).is_ok()
             || node.arrive(&RING_A, Port::A, &octets, 0).is_ok();

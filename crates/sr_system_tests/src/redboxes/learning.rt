@@ -1,6 +1,6 @@
 //! What boxes learn and forget, and for whom they stand.
 
-use sr_forwarding::{Header, Learnt, Port, Role, RoleImage};
+use sr_forwarding::{Header, LearnOutcome, Port, Role, RoleImage};
 use sr_frame::{Mac, NoMemory};
 use sr_redbox::SanBox;
 use std::alloc::Global;
@@ -11,7 +11,7 @@ const OWN: Mac = Mac([2, 0, 0, 0, 0, 1]);
 #[derive(Clone, Copy)]
 enum Step {
     /// A frame of this source comes in at this port and time.
-    Learn(u16, Port, u64, Learnt),
+    Learn(u16, Port, u64, LearnOutcome),
     /// So many sources from this one on send a frame at the interlink.
     Fill(u16, u16, u64),
     Owns(u16, u64, bool),
@@ -63,13 +63,13 @@ fn is_as(alloc: Global, role: &SanBox, before: Option<RoleImage>) -> bool {
 // What a call comes to.
 #[derive(Clone, Copy)]
 enum Came {
-    Answered(Learnt),
+    Answered(LearnOutcome),
     NoMemory,
     Otherwise,
 }
 
 // Want of memory is to leave the box as it was.
-fn came_of(call: Result<Learnt, NoMemory>, is_same: bool) -> Came {
+fn came_of(call: Result<LearnOutcome, NoMemory>, is_same: bool) -> Came {
     match call {
         Ok(learnt) => Came::Answered(learnt),
         Err(_) if is_same => Came::NoMemory,
@@ -85,7 +85,13 @@ fn learn_whole(alloc: Global, role: &mut SanBox, header: &Header, port: Port, no
 }
 
 // What is learned, asked once more where an allocation failed.
-fn learn(alloc: Global, role: &mut SanBox, number: u16, port: Port, now: u64) -> Option<Learnt> {
+fn learn(
+    alloc: Global,
+    role: &mut SanBox,
+    number: u16,
+    port: Port,
+    now: u64,
+) -> Option<LearnOutcome> {
     let header = header(mac(number));
     let came = match learn_whole(alloc, role, &header, port, now) {
         Came::NoMemory => learn_whole(alloc, role, &header, port, now),
@@ -99,7 +105,7 @@ fn learn(alloc: Global, role: &mut SanBox, number: u16, port: Port, now: u64) ->
 
 fn fills(alloc: Global, role: &mut SanBox, first: u16, count: u16, now: u64) -> bool {
     for number in 0..count {
-        if learn(alloc, role, first.wrapping_add(number), Port::C, now) != Some(Learnt::Learned) {
+        if learn(alloc, role, first.wrapping_add(number), Port::C, now) != Some(LearnOutcome::New) {
             return false;
         }
     }
@@ -149,16 +155,16 @@ fn differs(alloc: Global, steps: &[Step]) -> Option<usize> {
 
 // At the interlink alone; the age is that of the last frame.
 const LEARNS: &[Step] = &[
-    Step::Learn(9, Port::A, 0, Learnt::Known),
-    Step::Learn(9, Port::H, 0, Learnt::Known),
+    Step::Learn(9, Port::A, 0, LearnOutcome::Known),
+    Step::Learn(9, Port::H, 0, LearnOutcome::Known),
     Step::Owns(9, 0, false),
-    Step::Learn(9, Port::C, 0, Learnt::Learned),
-    Step::Learn(8, Port::C, 0, Learnt::Learned),
+    Step::Learn(9, Port::C, 0, LearnOutcome::New),
+    Step::Learn(8, Port::C, 0, LearnOutcome::New),
     Step::Owns(9, 59999, true),
     Step::Owns(9, 60000, false),
-    Step::Learn(9, Port::B, 40000, Learnt::Known),
+    Step::Learn(9, Port::B, 40000, LearnOutcome::Known),
     Step::Prune(59999, 0),
-    Step::Learn(8, Port::C, 59999, Learnt::Known),
+    Step::Learn(8, Port::C, 59999, LearnOutcome::Known),
     Step::Image(2, 59999),
     Step::Prune(60000, 1),
     Step::Image(1, 59999),
@@ -169,12 +175,12 @@ const LEARNS: &[Step] = &[
 // One of 257 is not kept until the others are forgotten.
 const FULL: &[Step] = &[
     Step::Fill(1, 256, 100),
-    Step::Learn(257, Port::C, 100, Learnt::Full),
-    Step::Learn(257, Port::C, 60099, Learnt::Full),
+    Step::Learn(257, Port::C, 100, LearnOutcome::Full),
+    Step::Learn(257, Port::C, 60099, LearnOutcome::Full),
     Step::Owns(257, 60099, false),
-    Step::Learn(1, Port::C, 60099, Learnt::Known),
+    Step::Learn(1, Port::C, 60099, LearnOutcome::Known),
     Step::Image(256, 100),
-    Step::Learn(257, Port::C, 60100, Learnt::Learned),
+    Step::Learn(257, Port::C, 60100, LearnOutcome::New),
     Step::Image(2, 60100),
     Step::Owns(257, 60100, true),
 ];

@@ -28,14 +28,14 @@ pub fn has_fields(
     let Ok(fields) = view(&octets) else {
         return Some(false);
     };
-    let are_same = (fields.dst, fields.src, fields.vlan, fields.kind) == names
+    let are_same = (fields.dst, fields.src, fields.vlan, fields.ethertype) == names
         && (fields.header_len(), fields.frame_len()) == lengths;
     Some(are_same && is_text(alloc, fields.payload, &[payload])?)
 }
 
-fn is_cloned(alloc: Global, frame: &Frame, kind: u16) -> Option<bool> {
+fn is_cloned(alloc: Global, frame: &Frame, ethertype: u16) -> Option<bool> {
     let other = frame.try_clone(alloc).ok()?;
-    Some(other == *frame && other.octets() == frame.octets() && other.view().kind == kind)
+    Some(other == *frame && other.octets() == frame.octets() && other.view().ethertype == ethertype)
 }
 
 /// A list to which nothing could be appended stays empty.
@@ -49,14 +49,14 @@ fn is_put_in_a_list(alloc: Global, frame: &Frame) -> Option<bool> {
 }
 
 /// Whether octets are copied into a frame of their own, which can be cloned and put into a list.
-pub fn is_copied(alloc: Global, text: Text, kind: u16) -> Option<bool> {
+pub fn is_copied(alloc: Global, text: Text, ethertype: u16) -> Option<bool> {
     let octets = joined(alloc, &[text])?;
     match Frame::copy(alloc, &octets) {
         Err(FrameFault::NoMemory) => None,
         Err(_) => Some(false),
         Ok(frame) => Some(
             frame.octets() == octets.as_slice()
-                && is_cloned(alloc, &frame, kind)?
+                && is_cloned(alloc, &frame, ethertype)?
                 && is_put_in_a_list(alloc, &frame)?,
         ),
     }
@@ -217,7 +217,7 @@ pub fn has_untagged_view(
     };
     match untagged_view(&frame) {
         Ok((plain, _)) => Some(
-            (plain.vlan, plain.kind) == names && is_text(alloc, plain.payload, &[payload])?,
+            (plain.vlan, plain.ethertype) == names && is_text(alloc, plain.payload, &[payload])?,
         ),
         Err(_) => Some(false),
     }

@@ -2,7 +2,7 @@
 
 use sr_aged_slots::AgedSlots;
 use sr_frame::Mac;
-use sr_slots::Spot;
+use sr_slots::Hint;
 use std::alloc::Global;
 
 /// How long an address is remembered here, and how many can be.
@@ -81,9 +81,9 @@ struct Event {
 }
 
 // The value and the time that the table has for an address, found in each way that there is.
-fn shown(table: &Small, spot: Option<Spot>, number: usize) -> Option<(u32, u64)> {
+fn shown(table: &Small, hint: Option<Hint>, number: usize) -> Option<(u32, u64)> {
     let at = table
-        .get_at(spot, mac(number))
+        .get_at(hint, mac(number))
         .map(|entry| (entry.value, entry.time));
     let here = table
         .get(mac(number))
@@ -119,15 +119,15 @@ fn hold(table: &mut Small, key: Mac) -> bool {
     table.hold(key).is_ok() || (table.len() == len && table.hold(key).is_ok())
 }
 
-// Hears an address, at a spot that may be another's or old. Whether the two agree.
-fn hear(table: &mut Small, plain: &mut Plain, spot: Option<Spot>, event: Event) -> bool {
+// Hears an address, at a hint that may be another's or old. Whether the two agree.
+fn hear(table: &mut Small, plain: &mut Plain, hint: Option<Hint>, event: Event) -> bool {
     let Event {
         number,
         value,
         now,
         ..
     } = event;
-    let known = table.update_at(spot, mac(number), |entry| {
+    let known = table.update_at(hint, mac(number), |entry| {
         entry.time = entry.time.max(now);
         entry.value = value;
     });
@@ -147,7 +147,7 @@ fn hear(table: &mut Small, plain: &mut Plain, spot: Option<Spot>, event: Event) 
 }
 
 // One event at both. Whether they agree after it.
-fn agree(table: &mut Small, plain: &mut Plain, spot: Option<Spot>, event: Event) -> bool {
+fn agree(table: &mut Small, plain: &mut Plain, hint: Option<Hint>, event: Event) -> bool {
     let done = match event.kind {
         0 => {
             let before = plain.len();
@@ -159,10 +159,10 @@ fn agree(table: &mut Small, plain: &mut Plain, spot: Option<Spot>, event: Event)
             table.release();
             true
         }
-        _ => hear(table, plain, spot, event),
+        _ => hear(table, plain, hint, event),
     };
     done && table.len() == plain.len()
-        && shown(table, spot, event.number) == plain.rows[event.number % ADDRESSES]
+        && shown(table, hint, event.number) == plain.rows[event.number % ADDRESSES]
 }
 
 // The place of the first event after which they differ.
@@ -171,7 +171,7 @@ fn first_difference(alloc: Global, seed: u64) -> Option<u32> {
     let mut plain = Plain {
         rows: [None; ADDRESSES],
     };
-    let mut spots = [None; ADDRESSES];
+    let mut hints = [None; ADDRESSES];
     let mut random = seed;
     let mut clock = 0u64;
     for place in 0..EVENTS {
@@ -187,10 +187,10 @@ fn first_difference(alloc: Global, seed: u64) -> Option<u32> {
             now: clock.saturating_sub((random >> 45) % 8),
             kind: ((random >> 48) % 24) as u32,
         };
-        if !agree(&mut table, &mut plain, spots[other], event) {
+        if !agree(&mut table, &mut plain, hints[other], event) {
             return Some(place);
         }
-        spots[number] = table.find(mac(number)).map(|found| found.0);
+        hints[number] = table.find(mac(number)).map(|found| found.0);
     }
     None
 }

@@ -3,11 +3,11 @@
 ghost use Rattle.std.specs.Prelude.{◌≡◌, false};
 ghost use Rattle.sr_dup_window.specs.LaneSets.{is_empty};
 
-use sr_dup_table::{DupFault, DupTable, Look, MOST_SOURCES, TableFull};
+use sr_dup_table::{DupFault, DupTable, Look, MAX_SOURCES, TableFull};
 use sr_dup_window::Lanes;
 use sr_frame::Mac;
 use sr_sequence::Seq;
-use sr_slots::Spot;
+use sr_slots::Hint;
 use std::alloc::Global;
 
 fn mac(number: u16) -> Mac {
@@ -48,12 +48,12 @@ fn answer_of(lanes: Option<Lanes>) -> Answer {
 }
 
 // What is told ahead, and where the source is; two calls tell it.
-fn told(table: &mut DupTable, src: Mac, now: u64) -> (Answer, Option<Spot>) {
+fn told(table: &mut DupTable, src: Mac, now: u64) -> (Answer, Option<Hint>) {
     let first = answer_of(table.fresh(src, Seq(5), handed_up(), now).ok());
     match table.look(src, Seq(5), handed_up(), now) {
         Ok(look) => {
             if answer_of(Some(look.fresh)) == first {
-                (first, look.spot)
+                (first, look.hint)
             } else {
                 (Answer::Wrong, None)
             }
@@ -66,14 +66,14 @@ fn told(table: &mut DupTable, src: Mac, now: u64) -> (Answer, Option<Spot>) {
 fn hear(table: &mut DupTable, number: u16, now: u64) -> Answer {
     let src = mac(number);
     let count = table.source_count();
-    let (ahead, spot) = told(table, src, now);
-    if spot.is_none()
+    let (ahead, hint) = told(table, src, now);
+    if hint.is_none()
         && table.reserve(src).is_err()
         && (table.source_count() != count || table.reserve(src).is_err())
     {
         return Answer::Wrong;
     }
-    let answer = answer_of(table.arrive_at(spot, src, Seq(5), handed_up(), now).ok());
+    let answer = answer_of(table.arrive_at(hint, src, Seq(5), handed_up(), now).ok());
     table.release();
     if answer == ahead {
         answer
@@ -134,7 +134,7 @@ const A_FULL_TABLE: [(u16, u64, Answer); 8] = [
 
 #[test]
 fn a_full_table(rt: HostRuntime) {
-    assert!(rt; first_wrong(rt.alloc(), MOST_SOURCES as u16, A_FULL_TABLE.as_slice()).is_none());
+    assert!(rt; first_wrong(rt.alloc(), MAX_SOURCES as u16, A_FULL_TABLE.as_slice()).is_none());
 }
 
 // How many are forgotten at 399, at 400, and at 800, where one of eight is heard again at 400.

@@ -1,6 +1,6 @@
 //! The nodes that are heard: ages, late ports, alarms and limits.
 
-use sr_frame::{Learnt, Mac, Port};
+use sr_frame::{LearnOutcome, Mac, Port};
 use sr_node_table::{Alarm, NodeTable};
 use sr_sequence::Seq;
 use sr_supervision::{Life, Supervision};
@@ -16,9 +16,9 @@ enum At {
 #[derive(Clone, Copy)]
 enum Step {
     // Node, port, number, time.
-    Heard(u16, At, u16, u64, Learnt),
+    Heard(u16, At, u16, u64, LearnOutcome),
     // Node, its RedBox, port, time.
-    Announce(u16, Option<u16>, At, u64, Learnt),
+    Announce(u16, Option<u16>, At, u64, LearnOutcome),
     // So many nodes from this one on, each heard at both ports at this time.
     Fill(u16, u16, u64),
     // So many nodes from this one on, each heard at A alone.
@@ -45,7 +45,7 @@ const fn mac(number: u16) -> Mac {
 }
 
 // A call is made once more where memory ran out.
-fn heard(table: &mut NodeTable, node: u16, at: At, seq: u16, now: u64) -> Option<Learnt> {
+fn heard(table: &mut NodeTable, node: u16, at: At, seq: u16, now: u64) -> Option<LearnOutcome> {
     for _ in 0..2u8 {
         let answer = match at {
             At::A => table.heard(mac(node), Port::A, Seq(seq), now),
@@ -64,7 +64,7 @@ fn announce(
     redbox: Option<u16>,
     at: At,
     now: u64,
-) -> Option<Learnt> {
+) -> Option<LearnOutcome> {
     let supervision = Supervision {
         seq: Seq(9),
         life: Life::PrpDiscard,
@@ -86,10 +86,10 @@ fn announce(
 fn fills(table: &mut NodeTable, first: u16, count: u16, now: u64, both: bool) -> bool {
     for number in 0..count {
         let node = first.wrapping_add(number);
-        if heard(table, node, At::A, 1, now) != Some(Learnt::Learned) {
+        if heard(table, node, At::A, 1, now) != Some(LearnOutcome::New) {
             return false;
         }
-        if both && heard(table, node, At::B, 1, now) != Some(Learnt::Known) {
+        if both && heard(table, node, At::B, 1, now) != Some(LearnOutcome::Known) {
             return false;
         }
     }
@@ -234,12 +234,12 @@ const NEVER: u32 = 2147483647;
 #[test]
 fn a_port_falls_behind(rt: HostRuntime) {
     let steps = [
-        Step::Heard(2, At::A, 5, 0, Learnt::Learned),
-        Step::Heard(2, At::B, 5, 0, Learnt::Known),
-        Step::Heard(2, At::B, 6, 3000, Learnt::Known),
+        Step::Heard(2, At::A, 5, 0, LearnOutcome::New),
+        Step::Heard(2, At::B, 5, 0, LearnOutcome::Known),
+        Step::Heard(2, At::B, 6, 3000, LearnOutcome::Known),
         Step::Prune(3000, 0),
         Step::Alarms(0, None, None),
-        Step::Heard(2, At::B, 7, 3001, Learnt::Known),
+        Step::Heard(2, At::B, 7, 3001, LearnOutcome::Known),
         Step::Prune(3001, 0),
         Step::Tells(2, 3001, Some((3001, 0, 5, 7))),
         Step::Alarms(
@@ -265,13 +265,13 @@ fn a_port_falls_behind(rt: HostRuntime) {
 #[test]
 fn edges(rt: HostRuntime) {
     let behind_2999 = [
-        Step::Heard(2, At::A, 5, 0, Learnt::Learned),
-        Step::Heard(2, At::B, 5, 2999, Learnt::Known),
+        Step::Heard(2, At::A, 5, 0, LearnOutcome::New),
+        Step::Heard(2, At::B, 5, 2999, LearnOutcome::Known),
         Step::Prune(2999, 0),
         Step::Alarms(0, None, None),
     ];
     let never_heard = [
-        Step::Heard(2, At::A, 5, 100, Learnt::Learned),
+        Step::Heard(2, At::A, 5, 100, LearnOutcome::New),
         Step::Tells(2, 100, Some((0, NEVER, 5, 0))),
         Step::Prune(4599, 0),
         Step::Alarms(
@@ -281,7 +281,7 @@ fn edges(rt: HostRuntime) {
         ),
     ];
     let not_heard_lately = [
-        Step::Heard(2, At::A, 5, 100, Learnt::Learned),
+        Step::Heard(2, At::A, 5, 100, LearnOutcome::New),
         Step::Prune(4600, 0),
         Step::Alarms(0, None, None),
         Step::Has(2, 60099, true),
@@ -290,7 +290,7 @@ fn edges(rt: HostRuntime) {
         Step::Prune(60100, 1),
     ];
     let old = [
-        Step::Heard(2, At::B, 65535, 100, Learnt::Learned),
+        Step::Heard(2, At::B, 65535, 100, LearnOutcome::New),
         Step::Has(2, 50, true),
         Step::Tells(2, 50, Some((NEVER, 0, 0, 65535))),
         Step::Has(3, 100, false),
@@ -307,25 +307,25 @@ fn edges(rt: HostRuntime) {
 #[test]
 fn lives(rt: HostRuntime) {
     let steps = [
-        Step::Announce(3, Some(2), At::A, 0, Learnt::Learned),
+        Step::Announce(3, Some(2), At::A, 0, LearnOutcome::New),
         Step::Tells(3, 0, Some((0, NEVER, 0, 0))),
         Step::RedBox(3, 0, Some(2)),
-        Step::Heard(4, At::B, 7, 0, Learnt::Learned),
-        Step::Announce(3, None, At::B, 10, Learnt::Known),
+        Step::Heard(4, At::B, 7, 0, LearnOutcome::New),
+        Step::Announce(3, None, At::B, 10, LearnOutcome::Known),
         Step::RedBox(3, 10, None),
-        Step::Announce(3, Some(4), At::B, 20, Learnt::Known),
-        Step::Heard(3, At::A, 8, 30, Learnt::Known),
+        Step::Announce(3, Some(4), At::B, 20, LearnOutcome::Known),
+        Step::Heard(3, At::A, 8, 30, LearnOutcome::Known),
         Step::RedBox(3, 30, Some(4)),
-        Step::Heard(4, At::A, 9, 59999, Learnt::Known),
+        Step::Heard(4, At::A, 9, 59999, LearnOutcome::Known),
         Step::Tells(4, 59999, Some((0, 59999, 9, 7))),
-        Step::Heard(3, At::B, 6, 60030, Learnt::Learned),
+        Step::Heard(3, At::B, 6, 60030, LearnOutcome::New),
         Step::Tells(3, 60030, Some((NEVER, 0, 0, 6))),
         Step::RedBox(3, 60030, None),
         Step::Lists(60030, &[3, 4]),
         Step::Alarms(0, None, None),
-        Step::Heard(4, At::A, 1, 120029, Learnt::Learned),
+        Step::Heard(4, At::A, 1, 120029, LearnOutcome::New),
         Step::Prune(120030, 1),
-        Step::Heard(3, At::A, 1, 120030, Learnt::Learned),
+        Step::Heard(3, At::A, 1, 120030, LearnOutcome::New),
         Step::Lists(120030, &[4, 3]),
     ];
     assert_eq!(rt; differs(rt.alloc(), &steps), None);
@@ -354,13 +354,13 @@ fn a_full_table(rt: HostRuntime) {
         Step::Fill(1024, 1, 0),
         Step::FullFor(2000, 59999, true),
         Step::FullFor(5, 59999, false),
-        Step::Heard(2000, At::A, 1, 400, Learnt::Full),
-        Step::Announce(2000, None, At::A, 59999, Learnt::Full),
+        Step::Heard(2000, At::A, 1, 400, LearnOutcome::Full),
+        Step::Announce(2000, None, At::A, 59999, LearnOutcome::Full),
         Step::Has(2000, 59999, false),
         Step::Counts(59999, 1024),
         Step::Alarms(0, None, None),
         Step::FullFor(2000, 60000, false),
-        Step::Heard(2000, At::A, 2, 60000, Learnt::Learned),
+        Step::Heard(2000, At::A, 2, 60000, LearnOutcome::New),
         Step::Tells(2000, 60000, Some((0, NEVER, 2, 0))),
         Step::Lists(60000, &[2000]),
         Step::Alarms(64, node_down(961, 60000), node_down(1024, 60000)),
@@ -377,13 +377,13 @@ fn lateness_outlives_its_entry(rt: HostRuntime) {
         Step::Prune(0, 0),
         Step::Alarms(2, ring_error(1, Port::B, 0), ring_error(2, Port::B, 0)),
         Step::Fill(3, 1022, 1),
-        Step::Heard(2000, At::A, 1, 60000, Learnt::Learned),
+        Step::Heard(2000, At::A, 1, 60000, LearnOutcome::New),
         Step::Alarms(4, ring_error(1, Port::B, 0), node_down(2, 60000)),
-        Step::Heard(2000, At::B, 1, 60000, Learnt::Known),
-        Step::Heard(1, At::A, 1, 60000, Learnt::Learned),
+        Step::Heard(2000, At::B, 1, 60000, LearnOutcome::Known),
+        Step::Heard(1, At::A, 1, 60000, LearnOutcome::New),
         Step::Prune(60000, 0),
         Step::Alarms(4, ring_error(1, Port::B, 0), node_down(2, 60000)),
-        Step::Heard(3, At::A, 2, 60001, Learnt::Learned),
+        Step::Heard(3, At::A, 2, 60001, LearnOutcome::New),
         Step::Counts(60001, 3),
         Step::Alarms(4, ring_error(1, Port::B, 0), node_down(2, 60000)),
     ];
@@ -399,10 +399,10 @@ fn places(rt: HostRuntime) {
         Step::Has(5, 0, false),
         Step::Lists(0, &[]),
         Step::Prune(0, 0),
-        Step::Heard(7, At::A, 1, 0, Learnt::Learned),
-        Step::Heard(6, At::A, 1, 0, Learnt::Learned),
+        Step::Heard(7, At::A, 1, 0, LearnOutcome::New),
+        Step::Heard(6, At::A, 1, 0, LearnOutcome::New),
         Step::Release,
-        Step::Heard(5, At::A, 1, 0, Learnt::Learned),
+        Step::Heard(5, At::A, 1, 0, LearnOutcome::New),
         Step::Lists(0, &[7, 6, 5]),
     ];
     assert_eq!(rt; differs(rt.alloc(), &steps), None);
@@ -414,8 +414,8 @@ fn places(rt: HostRuntime) {
 fn clones_are_equal(rt: HostRuntime) {
     let steps = [
         Step::Clones(0, true),
-        Step::Heard(2, At::A, 5, 0, Learnt::Learned),
-        Step::Announce(3, Some(2), At::B, 0, Learnt::Learned),
+        Step::Heard(2, At::A, 5, 0, LearnOutcome::New),
+        Step::Announce(3, Some(2), At::B, 0, LearnOutcome::New),
         Step::Reserve(9, None),
         Step::Clones(0, false),
         Step::Prune(0, 0),

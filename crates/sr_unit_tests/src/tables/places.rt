@@ -2,7 +2,7 @@
 
 use sr_aged_slots::AgedSlots;
 use sr_frame::Mac;
-use sr_slots::Spot;
+use sr_slots::Hint;
 use std::alloc::Global;
 
 /// How long an address is remembered here.
@@ -94,7 +94,7 @@ fn fills(table: &mut Small, first: u8, count: u8, now: u64) -> bool {
 }
 
 // Where the newcomer stands.
-fn spot_of_newcomer(alloc: Global, forgotten: u8, live: u8, is_aged: bool) -> Option<Spot> {
+fn hint_of_newcomer(alloc: Global, forgotten: u8, live: u8, is_aged: bool) -> Option<Hint> {
     let mut table = Small::new(alloc);
     if !fills(&mut table, 0, forgotten, EARLY) || !fills(&mut table, forgotten, live, LATE) {
         return None;
@@ -109,9 +109,9 @@ fn spot_of_newcomer(alloc: Global, forgotten: u8, live: u8, is_aged: bool) -> Op
 }
 
 fn holds(alloc: Global, case: Case) -> bool {
-    let spot = spot_of_newcomer(alloc, case.forgotten, case.live, case.is_aged);
-    let alone = spot_of_newcomer(alloc, 0, case.live, false);
-    spot.is_some() && alone.is_some() && (spot == alone) == case.is_swept
+    let hint = hint_of_newcomer(alloc, case.forgotten, case.live, case.is_aged);
+    let alone = hint_of_newcomer(alloc, 0, case.live, false);
+    hint.is_some() && alone.is_some() && (hint == alone) == case.is_swept
 }
 
 // The first case that does not hold.

@@ -1,13 +1,13 @@
 //! The addresses that a RedBox stands for.
 
-use sr_frame::{Learnt, Mac};
+use sr_frame::{LearnOutcome, Mac};
 use sr_proxy_table::ProxyTable;
 use std::alloc::Global;
 
 // What is done to a table, or asked of it, and what it has to answer.
 #[derive(Clone, Copy)]
 enum Step {
-    Learn(u16, u64, Learnt),
+    Learn(u16, u64, LearnOutcome),
     // So many addresses from this one on.
     Fill(u16, u16, u64),
     Has(u16, u64, bool),
@@ -38,7 +38,7 @@ fn is_as(table: &ProxyTable, before: Option<Vec<(Mac, u64)>>) -> bool {
 }
 
 // What is learned. Want of memory leaves the table as it was, and the call is made once more.
-fn learn(table: &mut ProxyTable, number: u16, now: u64) -> Option<Learnt> {
+fn learn(table: &mut ProxyTable, number: u16, now: u64) -> Option<LearnOutcome> {
     let before = times_of(table);
     match table.learn(mac(number), now) {
         Ok(learnt) => Some(learnt),
@@ -49,7 +49,7 @@ fn learn(table: &mut ProxyTable, number: u16, now: u64) -> Option<Learnt> {
 
 fn fills(table: &mut ProxyTable, first: u16, count: u16, now: u64) -> bool {
     for number in 0..count {
-        if learn(table, first.wrapping_add(number), now) != Some(Learnt::Learned) {
+        if learn(table, first.wrapping_add(number), now) != Some(LearnOutcome::New) {
             return false;
         }
     }
@@ -103,19 +103,19 @@ fn differs(alloc: Global, steps: &[Step]) -> Option<usize> {
 fn addresses_are_learned_renewed_and_forgotten(rt: HostRuntime) {
     let steps = [
         Step::Has(9, 0, false),
-        Step::Learn(9, 0, Learnt::Learned),
+        Step::Learn(9, 0, LearnOutcome::New),
         Step::Prune(59999, 0),
         Step::Has(9, 59999, true),
         Step::Has(9, 60000, false),
         Step::Prune(60000, 1),
-        Step::Learn(9, 100, Learnt::Learned),
-        Step::Learn(8, 100, Learnt::Learned),
-        Step::Learn(9, 60099, Learnt::Known),
-        Step::Learn(9, 50, Learnt::Known),
+        Step::Learn(9, 100, LearnOutcome::New),
+        Step::Learn(8, 100, LearnOutcome::New),
+        Step::Learn(9, 60099, LearnOutcome::Known),
+        Step::Learn(9, 50, LearnOutcome::Known),
         Step::Has(9, 120098, true),
         Step::Lists(60099, &[9, 8]),
         Step::Lists(60100, &[9]),
-        Step::Learn(8, 60100, Learnt::Learned),
+        Step::Learn(8, 60100, LearnOutcome::New),
         Step::Lists(60100, &[9, 8]),
     ];
     assert_eq!(rt; differs(rt.alloc(), &steps), None);
@@ -125,11 +125,11 @@ fn addresses_are_learned_renewed_and_forgotten(rt: HostRuntime) {
 fn a_full_table(rt: HostRuntime) {
     let steps = [
         Step::Fill(1, 255, 0),
-        Step::Learn(256, 1, Learnt::Learned),
-        Step::Learn(257, 59999, Learnt::Full),
+        Step::Learn(256, 1, LearnOutcome::New),
+        Step::Learn(257, 59999, LearnOutcome::Full),
         Step::Has(257, 59999, false),
         Step::Counts(59999, 256),
-        Step::Learn(257, 60000, Learnt::Learned),
+        Step::Learn(257, 60000, LearnOutcome::New),
         Step::Lists(60000, &[256, 257]),
     ];
     assert_eq!(rt; differs(rt.alloc(), &steps), None);

@@ -5,7 +5,7 @@ use Rattle.sr_merge.specs.Merging.{pending_of, packet_of}
 use Rattle.sr_capture_merge.specs.Entries.{written_piece}
 use Rattle.sr_capture_merge.proofs.Settled.{written_later, written_next}
 use Rattle.sr_capture_merge.proofs.merging.write_due.Goals as goal
-use Rattle.sr_capture_merge.proofs.merging.write_due.Goals.{else-is_none-via-then-is_none+else-len-lt-MOST_WAITING, else-is_none-via-else-is_none}
+use Rattle.sr_capture_merge.proofs.merging.write_due.Goals.{else-is_none-via-then-is_none+else-len-lt-MAX_WAITING, else-is_none-via-else-is_none}
 
 pub waiting-init : goal.waiting-init
 waiting-init g c = record {
@@ -28,7 +28,7 @@ waiting-preserved g c =
           (i.on taken before held le h) c.in-Some.ensures.some c.drop_front.ensures.sources c.drop_front.ensures.waiting
           (sym c.verdict-verdict.ensures)
           (λ e. elim c.else-is_none.branch [
-            | else-is_none-via-then-is_none+else-len-lt-MOST_WAITING w ↦ let n = w.len.ensures in omega (arith, n)
+            | else-is_none-via-then-is_none+else-len-lt-MAX_WAITING w ↦ let n = w.len.ensures in omega (arith, n)
             | else-is_none-via-else-is_none w ↦ let f = w.if-is_none.false in absurd (grind (arith, common_steps, none, e, f))
           ])
           (subst (λ p. Appends (g.W.Write.contents c.waiting.writer) (g.W.Write.contents c.put.new.writer) (written_piece p c.args.output.now.start v own)) i.plan

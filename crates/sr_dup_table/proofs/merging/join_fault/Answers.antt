@@ -17,5 +17,5 @@ loop-src-init g c =
       few = omega (arith, lacking_le one all, length-live_le c.args.now c.args.table.now.sources, length-live_le c.args.now c.args.other.now.sources, c.requires.one.few, c.requires.other.few);
     }
 
-pub returns-then-tally-gt-MOST_SOURCES : goal.returns-then-tally-gt-MOST_SOURCES
-returns-then-tally-gt-MOST_SOURCES g c = search rules
+pub returns-then-tally-gt-MAX_SOURCES : goal.returns-then-tally-gt-MAX_SOURCES
+returns-then-tally-gt-MAX_SOURCES g c = search rules

@@ -4,7 +4,7 @@ use Rattle.std.specs.Map.{keys_of}
 use Rattle.sr_frame.specs.declared.fields.Mac.{Mac}
 use Rattle.sr_frame.specs.Addresses.{mac_eq}
 use Rattle.sr_dup_table.specs.declared.fault.DupFault.TheVariants.{NoMemory}
-use Rattle.sr_dup_table.specs.Sources.{Heard, live_at}
+use Rattle.sr_dup_table.specs.Sources.{Remembered, live_at}
 use Rattle.sr_dup_table.specs.Joins.{first_apart, join_fault, lacking_in, with_sources}
 use Rattle.sr_dup_table.specs.Shown.{heard_of, sources_of}
 use Rattle.sr_dup_table.proofs.JoinLemmas.{takes, fits, joinable, none-in-the-way, live-passed, distinct-rest}
@@ -28,7 +28,7 @@ take-requires g c = (omega arith, (omega arith, c.loop-src.invariant.few))
 
 pub loop-src-preserved-in-Continue-1 : goal.loop-src-preserved-in-Continue-1
 loop-src-preserved-in-Continue-1 g c =
-    let e : Mac × Heard = (c.in-Some.src, heard_of c.in-Some.entry.now) in
+    let e : Mac × Remembered = (c.in-Some.src, heard_of c.in-Some.entry.now) in
     let rest = sources_of c.next.new.self in
     let now = c.args.now in
     let parts = ap sources_of c.in-Some.ensures.steps in
@@ -45,7 +45,7 @@ loop-src-preserved-in-Continue-1 g c =
 
 pub loop-src-preserved : goal.loop-src-preserved
 loop-src-preserved g c =
-    let e : Mac × Heard = (c.in-Some.src, heard_of c.in-Some.entry.now) in
+    let e : Mac × Remembered = (c.in-Some.src, heard_of c.in-Some.entry.now) in
     let rest = sources_of c.next.new.self in
     let parts = ap sources_of c.in-Some.ensures.steps in
     let s = c.loop-src.table.sources in
@@ -60,7 +60,7 @@ loop-src-preserved g c =
 
 pub returns-in_err-take-clause-refused : goal.returns-in_err-take-clause-refused
 returns-in_err-take-clause-refused g c =
-    let e : Mac × Heard = (c.in-Some.src, heard_of c.in-Some.entry.now) in
+    let e : Mac × Remembered = (c.in-Some.src, heard_of c.in-Some.entry.now) in
     let one = c.args.table.now.sources in
     let all = live_at c.args.now c.args.other.now.sources in
     let known : join_fault one all ≡ None → c.in_err-take.field-0.0 ≡ NoMemory =

@@ -1,6 +1,6 @@
 use Rattle.std.proofs.Common.{◌&&◌, eqb, ◌∙◌}
 use Rattle.std.specs.Int.{bit_at}
-use Rattle.sr_dup_window.specs.Spots.{has_bit}
+use Rattle.sr_dup_window.specs.Bins.{has_bit}
 use Rattle.sr_dup_window.proofs.RowLemmas.{six_words, kept_lanes}
 use Rattle.sr_dup_window.proofs.rows.keep_in.Goals as goal
 

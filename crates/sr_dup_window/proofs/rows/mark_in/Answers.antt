@@ -2,7 +2,7 @@ use Rattle.std.proofs.Common.{◌||◌, ◌&&◌, Bool, eqb, ap, ◌∙◌}
 use Rattle.sr_dup_window.specs.declared.lane_sets.Lane.{Lane}
 use Rattle.sr_dup_window.specs.declared.lane_sets.Lane.TheVariants.{H, A, B, C, GotA, GotB}
 use Rattle.sr_dup_window.specs.LaneSets.{has}
-use Rattle.sr_dup_window.specs.Spots.{has_bit}
+use Rattle.sr_dup_window.specs.Bins.{has_bit}
 use Rattle.sr_dup_window.proofs.WordLemmas.{has_by_mask}
 use Rattle.sr_dup_window.proofs.RowLemmas.{six_words, marked_lanes}
 use Rattle.sr_dup_window.proofs.rows.mark_in.Goals as goal

@@ -1,5 +1,5 @@
 use Rattle.std.proofs.Common.{◌||◌, ◌∙◌}
-use Rattle.sr_dup_window.specs.Spots.{has_bit}
+use Rattle.sr_dup_window.specs.Bins.{has_bit}
 use Rattle.sr_dup_window.proofs.RowLemmas.{six_words, united_lanes}
 use Rattle.sr_dup_window.proofs.rows.unite_row.Goals as goal
 

@@ -18,7 +18,7 @@ returns-clause-ok c =
     let len = c.header_len.result + n in
     let end = c.len.result + len in
     let old = c.args.out.now.items in
-    let tag : HsrTag = record { path = c.args.path; size = n; seq = c.args.seq; inner = f.kind } in
+    let tag : HsrTag = record { path = c.args.path; size = n; seq = c.args.seq; inner = f.ethertype } in
     let whole = head_of f ++ to_be_bytes w16 0x892F ++ (tag_octets tag ++ f.payload) in
     let v = c.put_tagged.new.out in
     let written : v.items ≡ old ++ whole = c.put_tagged.ensures.items ∙ ap (λ (l : List ℕ). l ++ whole) c.in_ok-reserve.ensures.items in

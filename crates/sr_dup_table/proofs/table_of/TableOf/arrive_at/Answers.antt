@@ -13,7 +13,7 @@ returns-in-None-clause-exact g c =
     let was = c.in-None.ensures.none in
     let few = subst (λ t. length t.sources ≤ 1024) (sym was) c.in-None.ensures.few in
     let same = ap (λ t. length (live_others c.args.src c.args.now t.sources)) was in
-    let exactly = full_where (64 * g.row.N) c.hear.new.self.sources c.args.src c.args.seq.0 c.args.lanes c.args.now few in
+    let exactly = full_where (64 * g.row.N) c.note.new.self.sources c.args.src c.args.seq.0 c.args.lanes c.args.now few in
     (λ e. sym same ∙ exactly.0 ((rw e at c.begin.ensures.full) refl), λ e. c.begin.ensures.only_full (exactly.1 (same ∙ e)))
 
 pub returns-in-Some-clause-answer : goal.returns-in-Some-clause-answer

@@ -1,7 +1,7 @@
 use Rattle.std.proofs.Common.{refl, replicate, arith, [], ◌∷◌, ◌*◌, ◌%◌}
 use Rattle.sr_dup_window.specs.WindowLemmas.{begins-from}
 use Rattle.sr_dup_window.proofs.CallLemmas.{begun_window, some_marked, width_from}
-use Rattle.sr_dup_window.proofs.SpotLemmas.{zero_ring}
+use Rattle.sr_dup_window.proofs.BinLemmas.{zero_ring}
 use Rattle.sr_dup_window.proofs.record.Record.begin.Goals as goal
 
 pub invariant_of-result-clause-some : goal.invariant_of-result-clause-some

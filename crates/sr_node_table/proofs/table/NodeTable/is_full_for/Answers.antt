@@ -4,7 +4,7 @@ use Rattle.std.specs.Map.{lookup}
 use Rattle.std.specs.Option.{option_copied}
 use Rattle.sr_frame.specs.Addresses.{mac_eq}
 use Rattle.sr_frame.specs.declared.fields.Mac.{Mac}
-use Rattle.sr_frame.specs.declared.learnt.Learnt.TheVariants.{Learned, Full}
+use Rattle.sr_frame.specs.declared.learn_outcome.LearnOutcome.TheVariants.{New, Full}
 use Rattle.sr_node_table.specs.Nodes.{Entry, Entries, is_live, live_others, answer_of, with_room}
 use Rattle.sr_aged_slots.specs.FullLemmas.{kept_again, full_where}
 use Rattle.sr_node_table.specs.Limits.{forget_time, most_nodes}
@@ -22,7 +22,7 @@ not_not false = refl
 apart : false ≡ true → ⊥
 apart e = cc
 
-learned : Learned ≡ Full → ⊥
+learned : New ≡ Full → ⊥
 learned e = cc
 
 -- there is no room for an address that has no entry in a full table
@@ -37,8 +37,8 @@ no_room mac now es few full is result told =
     by : (o : Option Entry) (fits : Bool) → nat_lt (length (with_room now es)) most_nodes ≡ fits → (full : Bool) → full ≡ not fits
         → result ≡ (if full then not (is_some o) else false)
         → (result ≡ true → answer_of o es now ≡ Full) × (answer_of o es now ≡ Full → result ≡ true)
-    by None true fits false is told = (λ e. absurd (apart (sym told ∙ e)), λ e. absurd (learned (sym (ap (λ b. if b then Learned else Full) fits) ∙ e)))
-    by None false fits true is told = (λ e. ap (λ b. if b then Learned else Full) fits, λ e. told)
+    by None true fits false is told = (λ e. absurd (apart (sym told ∙ e)), λ e. absurd (learned (sym (ap (λ b. if b then New else Full) fits) ∙ e)))
+    by None false fits true is told = (λ e. ap (λ b. if b then New else Full) fits, λ e. told)
     by None true fits true is told = absurd (apart (sym is))
     by None false fits false is told = absurd (apart is)
     by (Some e) fits at true is told = (λ t. absurd (apart (sym told ∙ t)), λ f. absurd (kept_again (is_live now e) f))

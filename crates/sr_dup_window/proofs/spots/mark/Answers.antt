@@ -1,6 +1,0 @@
-use Rattle.sr_dup_window.specs.LaneSets.{union}
-use Rattle.sr_dup_window.proofs.SpotLemmas.{written_place}
-use Rattle.sr_dup_window.proofs.spots.mark.Goals as goal
-
-pub returns-clause-lanes : goal.returns-clause-lanes
-returns-clause-lanes c = λ p. written_place c.args.rows.now c.mark_in.new.row (λ old. union old c.args.lanes) c.args.spot p c.requires.within (λ b h. c.mark_in.ensures.lanes b)

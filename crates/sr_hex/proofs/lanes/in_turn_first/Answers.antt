@@ -1,6 +1,0 @@
-use Rattle.std.proofs.Common.{◌+◌, ◌*◌, ◌/◌, ◌%◌, ◌++◌, get_or}
-use Rattle.sr_hex.proofs.LaneLemmas.{sixteen}
-use Rattle.sr_hex.proofs.lanes.in_turn_first.Goals as goal
-
-pub returns : goal.returns
-returns c = sixteen (λ i. get_or (c.args.high ++ c.args.low) (i / 2 + 16 * (i % 2)) 0)

@@ -1,5 +1,0 @@
-use Rattle.std.proofs.Common.{rules}
-use Rattle.sr_node_table.proofs.node.hear.Goals as goal
-
-pub returns-else-is_live-clause-after : goal.returns-else-is_live-clause-after
-returns-else-is_live-clause-after c = search rules
