@@ -1,8 +1,12 @@
 //! What of the captures is wanted, and where it came in.
 
-ghost use Rattle.std.specs.Prelude.{◌≤◌, ◌^◌};
+ghost use Rattle.std.specs.Prelude.{◌≡◌, ◌≤◌, ◌^◌, ◌/◌};
+ghost use Rattle.sr_capture_script.specs.Texts.{is_wanted};
 
 use sr_pcapng::Wanted;
+
+/// The nanoseconds of a millisecond.
+pub(crate) const MILLISECOND: u64 = 1_000_000;
 
 /// A port where the packets of a file came in.
 #[derive(Clone, Copy, Debug, PartialEq, Eq)]
@@ -24,6 +28,22 @@ pub struct Choice {
     pub to: Option<u64>,
     /// How far apart ticks are, from the first time on. None: there are no tick lines.
     pub tick: Option<u64>,
+}
+
+impl Choice {
+    /// Whether lines of this time are wanted.
+    pub(crate) fn is_wanted(&self, time: u64) -> bool
+        ensures { result ≡ is_wanted self.now time }
+    {
+        !(time < self.from || self.to.unwrap_or(time) < time)
+    }
+
+    /// Whether packets of this time, in nanoseconds from the earliest packet on, are wanted.
+    pub fn covers(&self, time: u64) -> bool
+        ensures { result ≡ is_wanted self.now (time / 1000000) }
+    {
+        self.is_wanted(time / MILLISECOND)
+    }
 }
 
 /// The most that a file's times are put off, in nanoseconds: some 146 years.
