@@ -3,13 +3,11 @@
 ghost use Rattle.std.specs.Prelude.{◌≡◌, IfErr, OnOk};
 ghost use Rattle.sr_capture_script.specs.Captures.{Advances, StopsAt};
 
-use crate::advancing::advance;
 use crate::choice::{Inlet, Options};
 use crate::fault::ScriptFault;
-use crate::opening::open;
-use crate::picking::earliest;
+use crate::merge::earliest;
 use crate::scripting::reading_of;
-use crate::source::Source;
+use crate::source::{Source, advance, open};
 use sr_capture::Packet;
 use std::alloc::Global;
 use std::io::BufRead;

@@ -2,7 +2,7 @@ use Rattle.std.proofs.Common.{refl}
 use Rattle.sr_capture_script.proofs.Going.{going_from}
 use Rattle.sr_capture_script.proofs.Merged.{merges, merges_as, halts_as, halts_endless, feed_is, same_again}
 use Rattle.sr_capture_script.proofs.Outcomes.{handed_on}
-use Rattle.sr_capture_script.proofs.merging.merge.Goals as goal
+use Rattle.sr_capture_script.proofs.merge.merge.Goals as goal
 
 pub packets-init : goal.packets-init
 packets-init g c = record {

@@ -10,10 +10,20 @@ ghost use Rattle.sr_capture_script.specs.Texts.{time_since, piece_of, last_after
 use crate::choice::{Choice, Inlet, MILLISECOND};
 use crate::fault::ScriptFault;
 use crate::lines::append_line;
-use crate::serving::write_text;
 use crate::ticks::write_ticks;
 use sr_capture::Packet;
 use std::io::Write;
+
+/// Writes a text.
+pub(crate) fn write_text<W: Write>(writer: &mut W, text: &[u8]) -> Result<(), ScriptFault>
+    ensures ok { OnOk result (Appends (W.contents writer.old) (W.contents writer.new) text.now) }
+    ensures err { IfErr result (λ fault. fault ≡ ScriptFault.Write) }
+{
+    if writer.write_all(text).is_err() {
+        return Err(ScriptFault::Write);
+    }
+    Ok(())
+}
 
 /// Milliseconds since a moment.
 fn time_since(base: u64, moment: u64) -> u64

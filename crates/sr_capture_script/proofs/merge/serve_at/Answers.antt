@@ -1,7 +1,7 @@
 use Rattle.sr_capture_script.proofs.Going.{goes_a, goes_b, goes_c}
 use Rattle.sr_capture_script.proofs.Merged.{halts_a, halts_b, halts_c}
 use Rattle.sr_capture_script.proofs.Outcomes.{on_ok_both, if_err_map}
-use Rattle.sr_capture_script.proofs.merging.serve_at.Goals as goal
+use Rattle.sr_capture_script.proofs.merge.serve_at.Goals as goal
 
 pub returns-in-A-clause-goes : goal.returns-in-A-clause-goes
 returns-in-A-clause-goes g c =

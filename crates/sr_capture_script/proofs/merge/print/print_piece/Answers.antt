@@ -2,7 +2,7 @@ use Rattle.std.proofs.Common.{rules, refl}
 use Rattle.sr_capture_script.proofs.Outcomes.{handed_on}
 use Rattle.sr_capture_script.proofs.Stopping.{stops_without_memory, stops_writing}
 use Rattle.sr_capture_script.proofs.Writing.{no_piece, whole_piece}
-use Rattle.sr_capture_script.proofs.pieces.print_piece.Goals as goal
+use Rattle.sr_capture_script.proofs.merge.print.print_piece.Goals as goal
 
 pub returns-then-not-is_wanted-clause-ok : goal.returns-then-not-is_wanted-clause-ok
 returns-then-not-is_wanted-clause-ok g c item at when number shown =

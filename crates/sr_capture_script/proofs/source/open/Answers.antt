@@ -1,5 +1,5 @@
 use Rattle.sr_capture_script.proofs.Opened.{opened_none, opened_some, fails_in_front, fails_behind_front}
-use Rattle.sr_capture_script.proofs.opening.open.Goals as goal
+use Rattle.sr_capture_script.proofs.source.open.Goals as goal
 
 pub returns-in-None-clause-opened : goal.returns-in-None-clause-opened
 returns-in-None-clause-opened g c =

@@ -7,7 +7,7 @@ use Rattle.sr_capture_script.specs.SourceViews.{progress_of}
 use Rattle.sr_capture_script.proofs.Feeding.{serves, sticks}
 use Rattle.sr_capture_script.proofs.Outcomes.{handed_on}
 use Rattle.sr_capture_script.proofs.Stopping.{stops_serving}
-use Rattle.sr_capture_script.proofs.serving.serve.Goals as goal
+use Rattle.sr_capture_script.proofs.merge.serve.Goals as goal
 
 pub returns-in-Ok-clause-served : goal.returns-in-Ok-clause-served
 returns-in-Ok-clause-served g c start gone fed =

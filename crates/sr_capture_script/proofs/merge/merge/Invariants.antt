@@ -2,7 +2,7 @@ use Rattle.std.proofs.Common.{List, [], ℕ, Option}
 use Rattle.sr_capture_script.specs.declared.choice.Inlet.TheVariants.{A, B, C}
 use Rattle.sr_capture_script.specs.SourceViews.{IsFed, IsSame}
 use Rattle.sr_capture_script.specs.Going.{Going}
-use Rattle.sr_capture_script.proofs.merging.merge.Given as goal
+use Rattle.sr_capture_script.proofs.merge.merge.Given as goal
 
 abbrev pub invariant-packets : goal.invariant-packets
 invariant-packets g l = record {

@@ -1,5 +1,5 @@
 use Rattle.std.proofs.Common.{rules}
-use Rattle.sr_capture_script.proofs.advancing.advance.Goals as goal
+use Rattle.sr_capture_script.proofs.source.advance.Goals as goal
 
 pub returns-in-Ok-true-clause-goes : goal.returns-in-Ok-true-clause-goes
 returns-in-Ok-true-clause-goes g c = search rules
