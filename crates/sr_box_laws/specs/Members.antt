@@ -6,7 +6,7 @@ use Rattle.sr_frame.specs.Addresses.{mac_eq}
 use Rattle.sr_prp_trailer.specs.declared.trailer.Lan.{Lan}
 use Rattle.sr_forwarding.specs.declared.header.Header.{Header}
 use Rattle.sr_forwarding.specs.declared.role_image.RoleImage.{RoleImage}
-use Rattle.sr_forwarding.specs.declared.role_image.RoleKind.TheVariants.{Danp, Danh, Prp, Hsr}
+use Rattle.sr_forwarding.specs.declared.kind.RoleKind.TheVariants.{Danp, Danh, Prp, Hsr}
 use Rattle.sr_forwarding.specs.Outlets.{has}
 use Rattle.sr_forwarding.specs.RoleImages.{is_group}
 use Rattle.sr_forwarding.specs.Routes.{routes}

@@ -15,8 +15,8 @@ use Rattle.sr_forwarding.specs.declared.form.Form.{Form}
 use Rattle.sr_forwarding.specs.declared.form.Form.TheVariants.{Plain, Hsr, Prp}
 use Rattle.sr_forwarding.specs.declared.header.Header.{Header}
 use Rattle.sr_forwarding.specs.declared.role_image.RoleImage.{RoleImage}
-use Rattle.sr_forwarding.specs.declared.role_image.RoleKind.{RoleKind}
-use Rattle.sr_forwarding.specs.declared.role_image.RoleKind.TheVariants as role
+use Rattle.sr_forwarding.specs.declared.kind.RoleKind.{RoleKind}
+use Rattle.sr_forwarding.specs.declared.kind.RoleKind.TheVariants as role
 use Rattle.sr_forwarding.specs.Outlets.{has, to}
 use Rattle.sr_forwarding.specs.Octets.{plain_in}
 use Rattle.sr_forwarding.specs.OctetLemmas.{without_tag_is, without_trailer_is, tagged_len}
@@ -24,7 +24,9 @@ use Rattle.sr_forwarding.specs.Parcels.{ParcelImage, plain_of}
 use Rattle.sr_forwarding.specs.Framings.{FramingImage, Tagged, Trailed, Ordinary, framing_at}
 use Rattle.sr_forwarding.specs.Decoding.{IsSanParcel, IsTaggedParcel, IsTrailedParcel}
 use Rattle.sr_forwarding.specs.Encoding.{padded_plain, number_fault, write_fault_in, write_fault}
-use Rattle.sr_forwarding.specs.Carriage.{IsNumberedPlain, IsTaken, copy_for, HasNet}
+use Rattle.sr_forwarding.specs.Carriage.{IsNumberedPlain, IsTaken, copy_for}
+use Rattle.sr_forwarding.specs.Kinds.{HasNet}
+use Rattle.sr_forwarding.specs.KindLemmas.{host_framing}
 use Rattle.sr_forwarding.specs.Routes.{danp_from_lan, routes, routes_of}
 use Rattle.sr_forwarding.proofs.RouteLemmas.{lan_to_host}
 
@@ -114,11 +116,7 @@ Passes p None = Unit {0}
 Passes p (Some f) = write_fault f p ≡ None
 
 host_passes : (kind : RoleKind) (f : FramingImage) (p : ParcelImage) → framing_at kind port.H ≡ Some f → write_fault f p ≡ None
-host_passes role.Danp f p e = subst (Passes p) e refl
-host_passes role.Danh f p e = subst (Passes p) e refl
-host_passes role.San f p e = subst (Passes p) e refl
-host_passes (role.Prp lan net) f p e = subst (Passes p) e refl
-host_passes role.Hsr f p e = subst (Passes p) e refl
+host_passes kind f p e = subst (Passes p) (sym (host_framing kind) ∙ e) refl
 
 nothing_both : (b : Bool) {X : Type 0} → b ≡ true → b ≡ false → X
 nothing_both b t f = let no : true ≡ false = sym t ∙ f in absurd cc

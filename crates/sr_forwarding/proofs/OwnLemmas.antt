@@ -5,11 +5,11 @@ use Rattle.sr_frame.specs.declared.ports.Port.{Port}
 use Rattle.sr_frame.specs.declared.ports.Port.TheVariants.{H, A, B, C}
 use Rattle.sr_frame.specs.declared.learn_outcome.LearnOutcome.TheVariants.{Known}
 use Rattle.sr_forwarding.specs.declared.header.Header.{Header}
-use Rattle.sr_forwarding.specs.declared.role_image.RoleKind.{RoleKind}
-use Rattle.sr_forwarding.specs.declared.role_image.RoleKind.TheVariants.{Danp, Danh, San, Prp, Hsr}
+use Rattle.sr_forwarding.specs.declared.kind.RoleKind.{RoleKind}
+use Rattle.sr_forwarding.specs.declared.kind.RoleKind.TheVariants.{Danp, Danh, San, Prp, Hsr}
 use Rattle.sr_forwarding.specs.RoleImages.{role_of}
 use Rattle.sr_forwarding.specs.Proxies.{learned, learnt}
-use Rattle.sr_forwarding.specs.OwnRoles.{StandsAlone}
+use Rattle.sr_forwarding.specs.Kinds.{StandsAlone}
 use Rattle.sr_forwarding.specs.Routes.{IgnoresKnown}
 
 pub knows_all : (kind : RoleKind) (mac : Mac) (h : Header) (inlet : Port) (now : ℕ) → StandsAlone kind → Known ≡ learnt (role_of kind mac) h inlet now

@@ -7,11 +7,11 @@ use Rattle.sr_frame.specs.declared.ports.Port.TheVariants.{H, A, B, C}
 use Rattle.sr_forwarding.specs.declared.header.Header.{Header}
 use Rattle.sr_forwarding.specs.declared.outlets.Outlets.{Outlets}
 use Rattle.sr_forwarding.specs.declared.role_image.RoleImage.{RoleImage}
-use Rattle.sr_forwarding.specs.declared.role_image.RoleKind.{RoleKind}
-use Rattle.sr_forwarding.specs.declared.role_image.RoleKind.TheVariants.{Danp, Danh, San, Prp, Hsr}
+use Rattle.sr_forwarding.specs.declared.kind.RoleKind.{RoleKind}
+use Rattle.sr_forwarding.specs.declared.kind.RoleKind.TheVariants.{Danp, Danh, San, Prp, Hsr}
 use Rattle.sr_forwarding.specs.Outlets.{has, to, ring, is_nowhere}
 use Rattle.sr_forwarding.specs.RoleImages.{is_proxied, owned}
-use Rattle.sr_forwarding.specs.Routes.{is_own, to_group, is_from_role, danp_from_lan, danh_from_ring, san_from_ring, box_from_ring, box_from_interlink, box_routes, routes_of, routes, WantsAllButOwned}
+use Rattle.sr_forwarding.specs.Routes.{is_own, to_group, is_from_role, danp_from_lan, danh_from_ring, san_from_ring, box_from_ring, box_from_interlink, box_routes, routes_of, routes, DropsOnlyOwnSources}
 
 -- of sets that tests pick, none has a port
 pick1 : (a0 : Bool) (o0 o1 : Outlets) (p : Port) → has o0 p ≡ false → has o1 p ≡ false → has (if a0 then o0 else o1) p ≡ false
@@ -121,5 +121,5 @@ san_at : (r : RoleImage) (h : Header) (inlet : Port) (now : ℕ) → is_nowhere 
 san_at r h inlet now around all on =
     all_but_first (is_from_role r h || is_proxied r h.src now) h.supervision (is_own r h) (to_group h) (is_proxied r h.dst now) h.dst_known inlet around all on
 
-pub san_wants_all_but_owned : WantsAllButOwned San
-san_wants_all_but_owned r h now = (san_at r h A now refl refl refl, san_at r h B now refl refl refl)
+pub san_drops_only_own_sources : DropsOnlyOwnSources San
+san_drops_only_own_sources r h now = (san_at r h A now refl refl refl, san_at r h B now refl refl refl)

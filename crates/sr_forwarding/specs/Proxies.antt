@@ -9,8 +9,8 @@ use Rattle.sr_frame.specs.declared.learn_outcome.LearnOutcome.TheVariants.{New, 
 use Rattle.sr_frame.specs.Addresses.{mac_eq}
 use Rattle.sr_forwarding.specs.declared.header.Header.{Header}
 use Rattle.sr_forwarding.specs.declared.role_image.RoleImage.{RoleImage}
-use Rattle.sr_forwarding.specs.declared.role_image.RoleKind.{RoleKind}
-use Rattle.sr_forwarding.specs.declared.role_image.RoleKind.TheVariants.{San}
+use Rattle.sr_forwarding.specs.declared.kind.RoleKind.{RoleKind}
+use Rattle.sr_forwarding.specs.declared.kind.RoleKind.TheVariants.{San}
 use Rattle.sr_forwarding.specs.Limits.{most_proxied}
 use Rattle.sr_forwarding.specs.RoleImages.{is_recent}
 

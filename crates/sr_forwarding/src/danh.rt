@@ -43,7 +43,7 @@ fn from_ring(mac: Mac, header: &Header, inlet: Port) -> Outlets
 }
 
 impl Routing for DanhRouting {
-    ghost use Rattle.sr_forwarding.specs.declared.role_image.RoleKind.TheVariants as kind;
+    ghost use Rattle.sr_forwarding.specs.declared.kind.RoleKind.TheVariants as kind;
 
     ghost routed = { λ _. kind.Danh };
 

@@ -38,7 +38,7 @@ fn from_lan(mac: Mac, header: &Header) -> Outlets
 }
 
 impl Routing for DanpRouting {
-    ghost use Rattle.sr_forwarding.specs.declared.role_image.RoleKind.TheVariants as kind;
+    ghost use Rattle.sr_forwarding.specs.declared.kind.RoleKind.TheVariants as kind;
 
     ghost routed = { λ _. kind.Danp };
 

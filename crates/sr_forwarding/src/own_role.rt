@@ -10,8 +10,8 @@ use std::alloc::Global;
 
 /// Where the frames go of a role that stands for its own address alone.
 pub trait Routing: Drop {
-    ghost use Rattle.sr_forwarding.specs.declared.role_image.RoleKind.{RoleKind as Kind};
-    ghost use Rattle.sr_forwarding.specs.OwnRoles.{StandsAlone};
+    ghost use Rattle.sr_forwarding.specs.declared.kind.RoleKind.{RoleKind as Kind};
+    ghost use Rattle.sr_forwarding.specs.Kinds.{StandsAlone};
 
     ghost routed: { Self → Kind };
 

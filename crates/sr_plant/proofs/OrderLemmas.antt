@@ -10,8 +10,8 @@ use Rattle.sr_forwarding.specs.Parcels.{ParcelImage}
 use Rattle.sr_forwarding.specs.declared.header.Header.{Header}
 use Rattle.sr_forwarding.specs.declared.outlets.Outlets.{Outlets as Set}
 use Rattle.sr_forwarding.specs.declared.role_image.RoleImage.{RoleImage}
-use Rattle.sr_forwarding.specs.declared.role_image.RoleKind.{RoleKind}
-use Rattle.sr_forwarding.specs.declared.role_image.RoleKind.TheVariants.{Danp, Danh, San, Prp, Hsr}
+use Rattle.sr_forwarding.specs.declared.kind.RoleKind.{RoleKind}
+use Rattle.sr_forwarding.specs.declared.kind.RoleKind.TheVariants.{Danp, Danh, San, Prp, Hsr}
 use Rattle.sr_forwarding.specs.Proxies.{learned_at}
 use Rattle.sr_node.specs.declared.event.Answer.{Answer}
 use Rattle.sr_node.specs.declared.event.Answer.TheVariants as answer

@@ -4,8 +4,8 @@ use Rattle.sr_frame.specs.declared.ports.Port.{Port}
 use Rattle.sr_prp_trailer.specs.declared.trailer.Lan.TheVariants as lan
 use Rattle.sr_forwarding.specs.Framings.{FramingImage, Ordinary, framing_at}
 use Rattle.sr_forwarding.specs.Limits.{greatest_net}
-use Rattle.sr_forwarding.specs.declared.role_image.RoleKind.{RoleKind}
-use Rattle.sr_forwarding.specs.declared.role_image.RoleKind.TheVariants.{Danp, Danh, Prp, Hsr}
+use Rattle.sr_forwarding.specs.declared.kind.RoleKind.{RoleKind}
+use Rattle.sr_forwarding.specs.declared.kind.RoleKind.TheVariants.{Danp, Danh, Prp, Hsr}
 use Rattle.sr_plant_laws.specs.Ledger.{Net}
 use Rattle.sr_plant_laws.specs.Rings.{ring}
 use Rattle.sr_plant_laws.specs.TwinLans.{twin_lans}

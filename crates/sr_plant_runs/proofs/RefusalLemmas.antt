@@ -11,7 +11,7 @@ use Rattle.sr_dup_window.specs.declared.lane_sets.Lanes.{Lanes}
 use Rattle.sr_dup_table.specs.Sources.{Sources, arrive_answer}
 use Rattle.sr_forwarding.specs.declared.form.Form.{Form}
 use Rattle.sr_forwarding.specs.declared.outlets.Outlets.{Outlets}
-use Rattle.sr_forwarding.specs.declared.role_image.RoleKind.{RoleKind}
+use Rattle.sr_forwarding.specs.declared.kind.RoleKind.{RoleKind}
 use Rattle.sr_forwarding.specs.Limits.{longest_plain}
 use Rattle.sr_forwarding.specs.Decoding.{IsRead, IsUnread}
 use Rattle.sr_forwarding.specs.Encoding.{IsWritten, write_fault}

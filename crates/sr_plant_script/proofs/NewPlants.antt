@@ -3,8 +3,8 @@ use Rattle.std.proofs.Common.{◌≡◌, ℕ, zero, suc, ◌+◌, ◌<◌, ◌�
 use Rattle.std.proofs.lemmas.List.{map-append}
 use Rattle.std.proofs.lemmas.Bool.{and_parts, cases_Bool, eq-eqb}
 use Rattle.std.proofs.lemmas.Bool.Decides.{nat_tests}
-use Rattle.sr_forwarding.specs.declared.role_image.RoleKind.{RoleKind}
-use Rattle.sr_forwarding.specs.declared.role_image.RoleKind.TheVariants as kind
+use Rattle.sr_forwarding.specs.declared.kind.RoleKind.{RoleKind}
+use Rattle.sr_forwarding.specs.declared.kind.RoleKind.TheVariants as kind
 use Rattle.sr_prp_trailer.specs.declared.trailer.Lan.{Lan}
 use Rattle.sr_prp_trailer.specs.declared.trailer.Lan.TheVariants as lan
 use Rattle.sr_frame.specs.Addresses.{mac_eq}

@@ -3,8 +3,8 @@ use Rattle.std.specs.Prelude.{ℕ, ◌<◌, ◌≤◌, zero, suc, List, [], ◌�
 use Rattle.sr_frame.specs.declared.fields.Mac.{Mac}
 use Rattle.sr_forwarding.specs.Limits.{greatest_net}
 use Rattle.sr_forwarding.specs.RoleImages.{role_of}
-use Rattle.sr_forwarding.specs.declared.role_image.RoleKind.{RoleKind}
-use Rattle.sr_forwarding.specs.declared.role_image.RoleKind.TheVariants as kind
+use Rattle.sr_forwarding.specs.declared.kind.RoleKind.{RoleKind}
+use Rattle.sr_forwarding.specs.declared.kind.RoleKind.TheVariants as kind
 use Rattle.sr_node.specs.declared.mode.Settings.{Settings}
 use Rattle.sr_node.specs.Images.{State, begun}
 use Rattle.sr_plant.specs.declared.topology.Topology.{Topology}

@@ -24,7 +24,7 @@ pub enum MemberRouting {
 pub type Member = OwnRole<MemberRouting>;
 
 impl Routing for MemberRouting {
-    ghost use Rattle.sr_forwarding.specs.OwnRoles.{StandsAlone};
+    ghost use Rattle.sr_forwarding.specs.Kinds.{StandsAlone};
     ghost use Rattle.sr_plant_script.specs.Members.{routed_as};
     ghost use Rattle.sr_plant_script.specs.declared.members.MemberRouting.TheVariants as member;
 

@@ -5,7 +5,7 @@ use Rattle.sr_frame.specs.declared.ports.Port.TheVariants.{A, B, C}
 use Rattle.sr_prp_trailer.specs.declared.trailer.Lan.{Lan}
 use Rattle.sr_forwarding.specs.declared.header.Header.{Header}
 use Rattle.sr_forwarding.specs.declared.role_image.RoleImage.{RoleImage}
-use Rattle.sr_forwarding.specs.declared.role_image.RoleKind.TheVariants.{Prp}
+use Rattle.sr_forwarding.specs.declared.kind.RoleKind.TheVariants.{Prp}
 use Rattle.sr_forwarding.specs.Outlets.{has}
 use Rattle.sr_forwarding.specs.Routes.{routes}
 use Rattle.sr_forwarding.specs.Parcels.{ParcelImage}

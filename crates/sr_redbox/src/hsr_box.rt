@@ -13,7 +13,7 @@ pub type HsrBox = OwnRole<HsrRouting>;
 pub struct HsrRouting;
 
 impl Routing for HsrRouting {
-    ghost use Rattle.sr_forwarding.specs.declared.role_image.RoleKind.TheVariants as kind;
+    ghost use Rattle.sr_forwarding.specs.declared.kind.RoleKind.TheVariants as kind;
 
     ghost routed = { λ _. kind.Hsr };
 

@@ -1,11 +1,11 @@
 //! The role of a RedBox between a ring and one LAN of a PRP network.
 
-ghost use Rattle.std.specs.Prelude.{◌≡◌, ◌<◌, ◌≤◌};
+ghost use Rattle.std.specs.Prelude.{◌≡◌};
 ghost use Rattle.sr_forwarding.specs.Routes.{interlink_unless_from};
 ghost use Rattle.sr_redbox.specs.Interlinks.{ports_of};
 
 use crate::ring_boxes::{Interlink, outlets};
-use sr_forwarding::{Header, Outlets, OwnRole, Port, RoleKind, Routing};
+use sr_forwarding::{Header, NetId, Outlets, OwnRole, Port, RoleKind, Routing};
 use sr_frame::Mac;
 use sr_prp_trailer::Lan;
 
@@ -18,17 +18,15 @@ pub type PrpBox = OwnRole<PrpRouting>;
 pub struct PrpRouting {
     /// The LAN at the interlink.
     pub lan: Lan,
-    /// The number of the network at the ring, 1 to 6.
-    pub net: u8,
-    ghost numbered: { 0 < net },
-    ghost fits: { net ≤ 6 },
+    /// The number of the network at the ring.
+    pub net: NetId,
 }
 
 // Whether a ring frame goes on into the network of this number: the path of its tag tells the network that it came from.
-fn interlink_for(net: u8, header: &Header) -> Interlink
+fn interlink_for(net: NetId, header: &Header) -> Interlink
     ensures { ports_of result ≡ interlink_unless_from net header.now }
 {
-    if header.path / 2 == net {
+    if header.path / 2 == net.number() {
         Interlink::Closed
     } else {
         Interlink::Open
@@ -36,7 +34,7 @@ fn interlink_for(net: u8, header: &Header) -> Interlink
 }
 
 impl Routing for PrpRouting {
-    ghost use Rattle.sr_forwarding.specs.declared.role_image.RoleKind.TheVariants as kind;
+    ghost use Rattle.sr_forwarding.specs.declared.kind.RoleKind.TheVariants as kind;
 
     ghost routed = { λ r. kind.Prp r.lan r.net };
 

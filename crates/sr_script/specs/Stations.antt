@@ -3,8 +3,8 @@ use Rattle.std.specs.Prelude.{unwrap_or}
 use Rattle.sr_frame.specs.declared.ports.Port.{Port}
 use Rattle.sr_forwarding.specs.Framings.{FramingImage, Ordinary, framing_at}
 use Rattle.sr_forwarding.specs.RoleImages.{role_of}
-use Rattle.sr_forwarding.specs.declared.role_image.RoleKind.{RoleKind}
-use Rattle.sr_forwarding.specs.declared.role_image.RoleKind.TheVariants as kind
+use Rattle.sr_forwarding.specs.declared.kind.RoleKind.{RoleKind}
+use Rattle.sr_forwarding.specs.declared.kind.RoleKind.TheVariants as kind
 use Rattle.sr_node.specs.Images.{State, begun}
 use Rattle.sr_script.specs.declared.setups.RoleName.{RoleName}
 use Rattle.sr_script.specs.declared.setups.RoleName.TheVariants.{Danp, Danh, San, Prp, Hsr}

@@ -1,7 +1,7 @@
 -- Of what kind the nodes of a threaded network are, and what the framings of their ports mean.
 use Rattle.sr_forwarding.specs.Framings.{FramingImage, Tagged, Trailed, Ordinary}
-use Rattle.sr_forwarding.specs.declared.role_image.RoleKind.{RoleKind}
-use Rattle.sr_forwarding.specs.declared.role_image.RoleKind.TheVariants.{Danp, Danh}
+use Rattle.sr_forwarding.specs.declared.kind.RoleKind.{RoleKind}
+use Rattle.sr_forwarding.specs.declared.kind.RoleKind.TheVariants.{Danp, Danh}
 use Rattle.sr_threaded_script.specs.declared.setup.ThreadedNet.{ThreadedNet}
 use Rattle.sr_threaded_script.specs.declared.setup.ThreadedNet.TheVariants as net
 use Rattle.sr_threaded_script.specs.declared.port_framing.PortFraming.{PortFraming}

@@ -1,7 +1,7 @@
 //! Of which nodes coupled networks are made, worked out by the checker.
 
 ghost use Rattle.std.specs.Prelude.{◌≡◌, true, false};
-ghost use Rattle.sr_forwarding.specs.declared.role_image.RoleKind.TheVariants.{Danh, Danp, Hsr, Prp, San};
+ghost use Rattle.sr_forwarding.specs.declared.kind.RoleKind.TheVariants.{Danh, Danp, Hsr, Prp, San};
 ghost use Rattle.sr_prp_trailer.specs.declared.trailer.Lan.TheVariants as lan;
 ghost use Rattle.sr_system_tests.specs.Boxes.{join_lans, join_rings};
 

@@ -1,7 +1,7 @@
 use Rattle.std.proofs.Common.{◌≡◌, ap, ◌∙◌, arith}
 use Rattle.sr_frame.specs.declared.fields.Mac.{Mac}
 use Rattle.sr_forwarding.specs.RoleImages.{role_of}
-use Rattle.sr_forwarding.specs.declared.role_image.RoleKind.{RoleKind}
+use Rattle.sr_forwarding.specs.declared.kind.RoleKind.{RoleKind}
 use Rattle.sr_node.specs.Images.{begun, node_state}
 use Rattle.sr_plant.specs.Topologies.{kind_of}
 use Rattle.sr_plant_script.specs.Members.{new_node, routed_as}
