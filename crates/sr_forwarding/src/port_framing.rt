@@ -49,22 +49,33 @@ impl Framing for PortFraming {
 pub fn framing_at(kind: RoleKind, port: Port) -> PortFraming
     ensures { carried_as result ≡ carriage kind port }
 {
-    match (kind, port) {
-        (RoleKind::Danp, Port::A) => PortFraming::Prp(PrpFraming {
-            lan: Lan::A,
-            net: 0,
-        }),
-        (RoleKind::Danp, Port::B) => PortFraming::Prp(PrpFraming {
-            lan: Lan::B,
-            net: 0,
-        }),
-        (_, Port::A) => PortFraming::Hsr(HsrFraming { path: 0 }),
-        (_, Port::B) => PortFraming::Hsr(HsrFraming { path: 1 }),
-        (RoleKind::Prp { lan, net }, Port::C) => PortFraming::Prp(PrpFraming {
-            lan,
-            net: net.number(),
-        }),
-        (RoleKind::Hsr, Port::C) => PortFraming::Hsr(HsrFraming { path: 0 }),
-        (_, Port::C | Port::H) => PortFraming::Plain(PlainFraming),
+    match port {
+        Port::H => PortFraming::Plain(PlainFraming),
+        Port::A => match kind {
+            RoleKind::Danp => PortFraming::Prp(PrpFraming {
+                lan: Lan::A,
+                net: 0,
+            }),
+            RoleKind::Danh | RoleKind::San | RoleKind::Prp { .. } | RoleKind::Hsr => {
+                PortFraming::Hsr(HsrFraming { path: 0 })
+            }
+        },
+        Port::B => match kind {
+            RoleKind::Danp => PortFraming::Prp(PrpFraming {
+                lan: Lan::B,
+                net: 0,
+            }),
+            RoleKind::Danh | RoleKind::San | RoleKind::Prp { .. } | RoleKind::Hsr => {
+                PortFraming::Hsr(HsrFraming { path: 1 })
+            }
+        },
+        Port::C => match kind {
+            RoleKind::Prp { lan, net } => PortFraming::Prp(PrpFraming {
+                lan,
+                net: net.number(),
+            }),
+            RoleKind::Hsr => PortFraming::Hsr(HsrFraming { path: 0 }),
+            RoleKind::Danp | RoleKind::Danh | RoleKind::San => PortFraming::Plain(PlainFraming),
+        },
     }
 }

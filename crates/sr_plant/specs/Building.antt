@@ -7,8 +7,7 @@ use Rattle.sr_frame.specs.Addresses.{mac_eq}
 use Rattle.sr_prp_trailer.specs.declared.trailer.Lan.{Lan}
 use Rattle.sr_prp_trailer.specs.declared.trailer.Lan.TheVariants as lan
 use Rattle.sr_forwarding.specs.Parcels.{ParcelImage}
-use Rattle.sr_forwarding.specs.declared.kind.RoleKind.{RoleKind}
-use Rattle.sr_forwarding.specs.declared.kind.RoleKind.TheVariants.{Danp, Danh, San, Prp, Hsr}
+use Rattle.sr_forwarding.specs.contracts.kind.RoleKindPartialEq.TheImpl as kind
 use Rattle.sr_node.specs.Images.{State}
 use Rattle.sr_node.specs.Outboxes.{Outboxes}
 use Rattle.sr_forwarding.specs.Limits.{greatest_net}
@@ -28,15 +27,6 @@ is_lan lan.A lan.A = true
 is_lan lan.B lan.B = true
 is_lan l m = false
 
--- the kinds are one
-abbrev pub is_kind : RoleKind → RoleKind → Bool
-is_kind Danp Danp = true
-is_kind Danh Danh = true
-is_kind San San = true
-is_kind (Prp l n) (Prp m k) = is_lan l m && n == k
-is_kind Hsr Hsr = true
-is_kind one other = false
-
 abbrev pub is_empty : List ParcelImage → Bool
 is_empty [] = true
 is_empty (p ∷ ps) = false
@@ -47,7 +37,7 @@ has_nothing_waiting o = is_empty o.h && is_empty o.a && is_empty o.b && is_empty
 
 -- node k of a plant of this topology
 abbrev pub is_fit : Topology → ℕ → State → Bool
-is_fit topology k n = is_kind n.role.kind (kind_of topology k) && has_nothing_waiting n.core.out
+is_fit topology k n = kind.ghosts.eq n.role.kind (kind_of topology k) && has_nothing_waiting n.core.out
 
 -- these are its nodes from k on
 abbrev pub are_fit : Topology → ℕ → List State → Bool

@@ -13,7 +13,6 @@ use Rattle.sr_plant.specs.declared.coupled.Sought.TheVariants.{LanBox, RingBox}
 use Rattle.sr_plant.specs.declared.topology.Topology.{Topology}
 use Rattle.sr_plant.specs.declared.topology.Topology.TheVariants.{RingLan, TwoRings}
 use Rattle.sr_plant.specs.Building.{is_lan}
-use Rattle.sr_plant.specs.PortFramings.{network_of}
 
 -- a node of this kind is a box of this LAN, or one between two rings
 abbrev pub is_sought : Sought → RoleKind → Bool
@@ -27,9 +26,14 @@ box_place sought from k [] = k
 box_place sought from k (n ∷ ns) =
     if nat_le from k && is_sought sought n.role.kind then k else box_place sought from (suc k) ns
 
--- the number of the network of a node, if there is one
+-- the number of the network of a box, and 1 of any other node
+abbrev pub network_of : RoleKind → ℕ
+network_of (Prp lan net) = net
+network_of kind = 1
+
+-- the number of the network of a node, if there is one; without a box of a network a ring and nodes of two LANs are joined to nothing
 abbrev pub network_in : Option State → ℕ
-network_in None = 0
+network_in None = 1
 network_in (Some n) = network_of n.role.kind
 
 -- the first box of LAN A and the first of LAN B, of the nodes of the ring, join it with the LANs

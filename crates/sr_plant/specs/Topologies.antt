@@ -2,7 +2,7 @@
 use Rattle.std.specs.Prelude.{◌≡◌, ℕ, ◌+◌, ◌*◌, ◌<◌, ◌≤◌, ◌==◌, nat_lt, List, [], ◌∷◌, length, Option, None, Some, if◌then◌else◌}
 use Rattle.sr_frame.specs.declared.ports.Port.{Port}
 use Rattle.sr_prp_trailer.specs.declared.trailer.Lan.TheVariants as lan
-use Rattle.sr_forwarding.specs.Framings.{FramingImage, Ordinary, framing_at}
+use Rattle.sr_forwarding.specs.Framings.{FramingImage, carriage}
 use Rattle.sr_forwarding.specs.Limits.{greatest_net}
 use Rattle.sr_forwarding.specs.declared.kind.RoleKind.{RoleKind}
 use Rattle.sr_forwarding.specs.declared.kind.RoleKind.TheVariants.{Danp, Danh, Prp, Hsr}
@@ -63,14 +63,6 @@ kind_of Ring k = Danh
 kind_of TwinLan k = Danp
 kind_of (RingLan s) k = if nat_lt k s.ring then kind_in_ring s k else Danp
 kind_of (TwoRings s) k = if is_joined (joins_of s) k then Hsr else Danh
-
-abbrev pub or_ordinary : Option FramingImage → FramingImage
-or_ordinary None = Ordinary
-or_ordinary (Some f) = f
-
--- how frames are carried at a port of a node of this kind: as ordinary ones where it has no such port
-abbrev pub carriage : RoleKind → Port → FramingImage
-carriage kind port = or_ordinary (framing_at kind port)
 
 -- how frames are carried at a port of node k
 abbrev pub framing_of : Topology → ℕ → Port → FramingImage

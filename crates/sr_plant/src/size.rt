@@ -33,7 +33,7 @@ impl RingLanShape {
         self.box_a < self.ring
             && self.box_b < self.ring
             && self.box_a != self.box_b
-            && is_between(1, usize::from(MAX_NET), usize::from(self.net))
+            && is_between(1, usize::from(MAX_NET), usize::from(self.net.number()))
     }
 
     // Whether so many nodes are joined so.

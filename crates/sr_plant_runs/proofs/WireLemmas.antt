@@ -7,7 +7,7 @@ use Rattle.sr_prp_trailer.specs.declared.trailer.Lan.{Lan}
 use Rattle.sr_prp_trailer.specs.declared.trailer.Lan.TheVariants as lan
 use Rattle.sr_forwarding.specs.declared.kind.RoleKind.{RoleKind}
 use Rattle.sr_forwarding.specs.declared.kind.RoleKind.TheVariants.{Danp, Danh, San, Prp, Hsr}
-use Rattle.sr_forwarding.specs.Framings.{FramingImage, Tagged, Trailed}
+use Rattle.sr_forwarding.specs.Framings.{FramingImage, Tagged, Trailed, carriage}
 use Rattle.sr_plant_laws.specs.Lists.{Each}
 use Rattle.sr_plant_laws.specs.ListLemmas.{each_map, each_append}
 use Rattle.sr_plant_laws.specs.Ledger.{Hop}
@@ -23,7 +23,7 @@ use Rattle.sr_plant.specs.declared.topology.Topology.{Topology}
 use Rattle.sr_plant.specs.declared.topology.Topology.TheVariants.{Ring, TwinLan, RingLan, TwoRings}
 use Rattle.sr_plant.specs.declared.shapes.RingLanShape.{RingLanShape}
 use Rattle.sr_plant.specs.declared.shapes.TwoRingsShape.{TwoRingsShape}
-use Rattle.sr_plant.specs.Topologies.{carriage, framing_of, kind_of, joins_of, net_of, IsJoinedAs, IsRingLan}
+use Rattle.sr_plant.specs.Topologies.{framing_of, kind_of, joins_of, net_of, IsJoinedAs, IsRingLan}
 use Rattle.sr_plant_runs.specs.Histories.{is_outlet}
 
 -- with a tag, of which the path is that of a side; with a trailer

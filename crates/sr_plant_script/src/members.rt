@@ -64,9 +64,9 @@ impl MemberRouting {
         match kind {
             RoleKind::Danp => MemberRouting::Danp,
             RoleKind::Danh => MemberRouting::Danh,
-            RoleKind::San => unreachable!(),
             RoleKind::Prp { lan, net } => MemberRouting::Prp(PrpRouting { lan, net }),
             RoleKind::Hsr => MemberRouting::Hsr,
+            _ => unreachable!(),
         }
     }
 }

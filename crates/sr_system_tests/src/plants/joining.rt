@@ -3,7 +3,7 @@
 use super::frames::mac_of;
 use super::makers::append;
 use Is::{BoxA, BoxB, BoxOf2, InLans, InRing, RingBox};
-use sr_forwarding::{Danh, Danp, Role};
+use sr_forwarding::{Danh, Danp, NetId, Role};
 use sr_frame::Mac;
 use sr_node::Node;
 use sr_plant::{Coupled, PlantFault};
@@ -43,21 +43,6 @@ enum Case {
 /// The number of the first node behind.
 const BEHIND: u8 = 32;
 
-const BOX_A: PrpRouting = PrpRouting {
-    lan: Lan::A,
-    net: 1,
-};
-
-const BOX_B: PrpRouting = PrpRouting {
-    lan: Lan::B,
-    net: 1,
-};
-
-const BOX_OF_2: PrpRouting = PrpRouting {
-    lan: Lan::B,
-    net: 2,
-};
-
 fn node_over(alloc: Global, role: Box<dyn Role + Send>) -> Option<Node> {
     Node::new(alloc, role).ok()
 }
@@ -76,7 +61,9 @@ fn danp(alloc: Global, mac: Mac) -> Option<Node> {
     }
 }
 
-fn prp_box(alloc: Global, mac: Mac, routing: PrpRouting) -> Option<Node> {
+fn prp_box(alloc: Global, mac: Mac, lan: Lan, net: u8) -> Option<Node> {
+    let net = NetId::checked(net)?;
+    let routing = PrpRouting { lan, net };
     match Box::new(alloc, PrpBox::of(mac, routing)) {
         Ok(role) => node_over(alloc, role),
         Err(_) => None,
@@ -96,9 +83,9 @@ fn node_of(alloc: Global, is: Is, number: u8) -> Option<Node> {
     match is {
         Is::InRing => danh(alloc, mac),
         Is::InLans => danp(alloc, mac),
-        Is::BoxA => prp_box(alloc, mac, BOX_A),
-        Is::BoxB => prp_box(alloc, mac, BOX_B),
-        Is::BoxOf2 => prp_box(alloc, mac, BOX_OF_2),
+        Is::BoxA => prp_box(alloc, mac, Lan::A, 1),
+        Is::BoxB => prp_box(alloc, mac, Lan::B, 1),
+        Is::BoxOf2 => prp_box(alloc, mac, Lan::B, 2),
         Is::RingBox => ring_box(alloc, mac),
     }
 }

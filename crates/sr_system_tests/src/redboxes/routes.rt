@@ -1,6 +1,6 @@
 //! Where frames go, line by line of the three tables.
 
-use sr_forwarding::{Header, OwnRole, Port, Role, Routing};
+use sr_forwarding::{Header, NetId, OwnRole, Port, Role, Routing};
 use sr_frame::Mac;
 use sr_prp_trailer::Lan;
 use sr_redbox::{HsrBox, HsrRouting, PrpBox, PrpRouting, SanBox};
@@ -191,7 +191,10 @@ const OF_NETS: &[Row] = &[
 fn ring_boxes_differ(alloc: Global) -> Option<usize> {
     let boxes: [PrpBox; 2] = [Lan::A, Lan::B].map(|lan| OwnRole::of(
         OWN,
-        PrpRouting { lan, net: 3 },
+        PrpRouting {
+            lan,
+            net: NetId::new(3),
+        },
     ));
     for role in boxes.iter() {
         if let Some(place) = differs(alloc, role, OPEN, 0).or(differs(alloc, role, OF_NETS, 0)) {
