@@ -9,7 +9,8 @@ use Rattle.sr_forwarding.specs.declared.form.Form.TheVariants as form
 use Rattle.sr_forwarding.specs.declared.kind.RoleKind.{RoleKind}
 use Rattle.sr_forwarding.specs.Limits.{longest_plain}
 use Rattle.sr_forwarding.specs.Parcels.{ParcelImage, plain_of, as_plain}
-use Rattle.sr_forwarding.specs.Framings.{FramingImage, Tagged, Trailed, Ordinary, framing_at}
+use Rattle.sr_forwarding.specs.Framings.{FramingImage, Tagged, Trailed, Ordinary}
+use Rattle.sr_forwarding.specs.Kinds.{framing_at}
 use Rattle.sr_forwarding.specs.Decoding.{IsRead}
 use Rattle.sr_forwarding.specs.Encoding.{padded_plain}
 

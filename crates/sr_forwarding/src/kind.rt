@@ -1,10 +1,13 @@
-//! The kinds of roles, and what they differ in beside their routes.
+//! The kinds of roles, and what they differ in beside their routes: a method for each property.
 
-ghost use Rattle.std.specs.Prelude.{◌≡◌, false, true};
-ghost use Rattle.sr_forwarding.specs.Kinds.{has_interlink, life_of, takes_unnumbered};
+ghost use Rattle.std.specs.Prelude.{◌≡◌, ◌<◌, false, true, unwrap_or};
+ghost use Rattle.sr_forwarding.specs.Framings.{Ordinary, lane_of};
+ghost use Rattle.sr_forwarding.specs.Kinds.{carriage, has_interlink, interlink_framing, life_of, side_framing, takes_unnumbered};
+ghost use Rattle.sr_forwarding.specs.PortFramings.{carried_as};
 ghost use Rattle.sr_forwarding.specs.Routes.{DropsOnlyOwnSources, IgnoresKnown};
 
-use crate::NetId;
+use crate::{HsrFraming, NetId, PlainFraming, PortFraming, PrpFraming};
+use sr_frame::Port;
 use sr_prp_trailer::Lan;
 use sr_supervision::Life;
 
@@ -60,7 +63,7 @@ impl RoleKind {
     }
 
     /// Whether the routes of such a role read whether the destination is known as a node.
-    #[tactic(auto, using(crate::proofs::OwnLemmas::ignores_known))]
+    #[tactic(auto, using(crate::proofs::KindLemmas::ignores_known))]
     pub fn routes_by_dst_known(self) -> bool
         ensures { result ≡ false → IgnoresKnown self }
     {
@@ -77,5 +80,61 @@ impl RoleKind {
         ensures { result ≡ true → DropsOnlyOwnSources self }
     {
         matches!(self, RoleKind::San)
+    }
+
+    // The framing of the port of this side, A or B.
+    #[inline(always)]
+    fn side_framing(self, side: Lan) -> PortFraming
+        ensures { carried_as result ≡ side_framing self side }
+    {
+        match self {
+            RoleKind::Danp => PortFraming::Prp(PrpFraming { lan: side, net: 0 }),
+            RoleKind::Danh | RoleKind::San | RoleKind::Prp { .. } | RoleKind::Hsr => {
+                PortFraming::Hsr(HsrFraming {
+                    path: path_at(side),
+                })
+            }
+        }
+    }
+
+    // The framing of the interlink, and where there is none that of ordinary frames.
+    #[inline(always)]
+    fn interlink_framing(self) -> PortFraming
+        ensures { carried_as result ≡ unwrap_or (interlink_framing self) Ordinary }
+    {
+        match self {
+            RoleKind::Danp | RoleKind::Danh | RoleKind::San => PortFraming::Plain(PlainFraming),
+            RoleKind::Prp { lan, net } => PortFraming::Prp(PrpFraming {
+                lan,
+                net: net.number(),
+            }),
+            RoleKind::Hsr => PortFraming::Hsr(HsrFraming { path: 0 }),
+        }
+    }
+}
+
+// The path of a frame of a ring's node that goes out at this side.
+#[inline(always)]
+fn path_at(side: Lan) -> u8
+    ensures path { result ≡ lane_of side }
+    ensures fits { result < 16 }
+{
+    match side {
+        Lan::A => 0,
+        Lan::B => 1,
+    }
+}
+
+/// The framing of a port of a node of this kind. Where the node has no such port nothing comes in and nothing goes out; it
+/// then counts as one of ordinary frames.
+#[inline(always)]
+pub fn framing_at(kind: RoleKind, port: Port) -> PortFraming
+    ensures { carried_as result ≡ carriage kind port }
+{
+    match port {
+        Port::H => PortFraming::Plain(PlainFraming),
+        Port::A => kind.side_framing(Lan::A),
+        Port::B => kind.side_framing(Lan::B),
+        Port::C => kind.interlink_framing(),
     }
 }

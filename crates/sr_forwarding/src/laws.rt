@@ -8,11 +8,11 @@ ghost use Rattle.sr_forwarding.specs.declared.fault.ReadFault.{ReadFault};
 ghost use Rattle.sr_forwarding.specs.Outlets.{has};
 ghost use Rattle.sr_forwarding.specs.Routes.{routes};
 ghost use Rattle.sr_forwarding.specs.Parcels.{ParcelImage, IsParcel};
-ghost use Rattle.sr_forwarding.specs.Framings.{FramingImage, framing_at};
+ghost use Rattle.sr_forwarding.specs.Framings.{FramingImage};
 ghost use Rattle.sr_forwarding.specs.Decoding.{IsRead, Reads, longest};
 ghost use Rattle.sr_forwarding.specs.Encoding.{IsWritten, write_fault, or_no_memory};
 ghost use Rattle.sr_forwarding.specs.Carriage.{IsTaken, copy_for, IsReadAgain};
-ghost use Rattle.sr_forwarding.specs.Kinds.{HasNet};
+ghost use Rattle.sr_forwarding.specs.Kinds.{HasNet, framing_at};
 
 /// No frame goes back to the port where it came in, whatever the role.
 pub fn routes_never_have_the_inlet()

@@ -29,7 +29,7 @@ pub use form::Form;
 pub use framing::Framing;
 pub use header::Header;
 pub use hsr_framing::HsrFraming;
-pub use kind::RoleKind;
+pub use kind::{RoleKind, framing_at};
 pub use laws::{
     readings_are_unique, routes_never_have_the_inlet, want_of_memory_is_no_fault_of_a_parcel,
     what_is_read_keeps_its_octets, what_is_wanted_is_written, what_is_written_is_read_again,
@@ -41,7 +41,7 @@ pub use own_role::{OwnRole, Routing};
 pub use parcel::Parcel;
 pub use parcel_view::ParcelView;
 pub use plain_framing::{MAX_PLAIN_LEN, PlainFraming};
-pub use port_framing::{PortFraming, framing_at};
+pub use port_framing::PortFraming;
 pub use port_list::PortList;
 pub use prp_framing::PrpFraming;
 pub use role::Role;

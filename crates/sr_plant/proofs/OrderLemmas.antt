@@ -7,11 +7,7 @@ use Rattle.std.proofs.lemmas.List.{length-set}
 use Rattle.sr_frame.specs.declared.ports.Port.{Port}
 use Rattle.sr_frame.specs.declared.ports.Port.TheVariants.{H, A, B, C}
 use Rattle.sr_forwarding.specs.Parcels.{ParcelImage}
-use Rattle.sr_forwarding.specs.declared.header.Header.{Header}
 use Rattle.sr_forwarding.specs.declared.outlets.Outlets.{Outlets as Set}
-use Rattle.sr_forwarding.specs.declared.role_image.RoleImage.{RoleImage}
-use Rattle.sr_forwarding.specs.declared.kind.RoleKind.{RoleKind}
-use Rattle.sr_forwarding.specs.declared.kind.RoleKind.TheVariants.{Danp, Danh, San, Prp, Hsr}
 use Rattle.sr_forwarding.specs.KindLemmas.{learned_keeps}
 use Rattle.sr_node.specs.declared.event.Answer.{Answer}
 use Rattle.sr_node.specs.declared.event.Answer.TheVariants as answer
@@ -26,7 +22,7 @@ use Rattle.sr_plant_laws.specs.Ledger.{Hop}
 use Rattle.sr_plant_laws.specs.Rings.{ring}
 use Rattle.sr_plant_laws.specs.TwinLans.{other_members, lan_hops}
 use Rattle.sr_plant_laws.specs.RingLans.{others, lan_copies, ring_lan}
-use Rattle.sr_plant_laws.specs.TwoRings.{TwoShape, shifted, over_hops, is_joined, AreJoins, two_rings}
+use Rattle.sr_plant_laws.specs.TwoRings.{TwoShape, shifted, over_hops, AreJoins, two_rings}
 use Rattle.sr_plant.specs.declared.shapes.RingLanShape.{RingLanShape}
 use Rattle.sr_plant.specs.declared.shapes.TwoRingsShape.{TwoRingsShape}
 use Rattle.sr_plant.specs.declared.topology.Topology.{Topology}
@@ -212,7 +208,7 @@ arrived_kind s port p now (answer.Passed outlets) t came = by_outlets (goes s po
   where
     by_outlets : (o : Option Set) → PassedTo s port p now o outlets t → t.role.kind ≡ s.role.kind
     by_outlets None came = absurd came
-    by_outlets (Some o) came = rw came.3 (learned_keeps s.role.kind port s.role (header_at s (going_on s port p) now) now).0
+    by_outlets (Some o) came = rw came.3 (learned_keeps s.role (header_at s (going_on s port p) now) port now).0
 arrived_kind s port p now (answer.Sent number) t came = absurd came
 arrived_kind s port p now (answer.Ticked sources nodes proxies life) t came = absurd came
 arrived_kind s port p now (answer.Taken given) t came = absurd came

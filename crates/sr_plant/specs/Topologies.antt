@@ -2,7 +2,8 @@
 use Rattle.std.specs.Prelude.{◌≡◌, ℕ, ◌+◌, ◌*◌, ◌<◌, ◌≤◌, ◌==◌, nat_lt, List, [], ◌∷◌, length, Option, None, Some, if◌then◌else◌}
 use Rattle.sr_frame.specs.declared.ports.Port.{Port}
 use Rattle.sr_prp_trailer.specs.declared.trailer.Lan.TheVariants as lan
-use Rattle.sr_forwarding.specs.Framings.{FramingImage, carriage}
+use Rattle.sr_forwarding.specs.Framings.{FramingImage}
+use Rattle.sr_forwarding.specs.Kinds.{carriage}
 use Rattle.sr_forwarding.specs.Limits.{greatest_net}
 use Rattle.sr_forwarding.specs.declared.kind.RoleKind.{RoleKind}
 use Rattle.sr_forwarding.specs.declared.kind.RoleKind.TheVariants.{Danp, Danh, Prp, Hsr}

@@ -7,7 +7,8 @@ use Rattle.sr_prp_trailer.specs.declared.trailer.Lan.{Lan}
 use Rattle.sr_prp_trailer.specs.declared.trailer.Lan.TheVariants as lan
 use Rattle.sr_forwarding.specs.declared.kind.RoleKind.{RoleKind}
 use Rattle.sr_forwarding.specs.declared.kind.RoleKind.TheVariants.{Danp, Danh, San, Prp, Hsr}
-use Rattle.sr_forwarding.specs.Framings.{FramingImage, Tagged, Trailed, carriage}
+use Rattle.sr_forwarding.specs.Framings.{FramingImage, Tagged, Trailed}
+use Rattle.sr_forwarding.specs.Kinds.{carriage}
 use Rattle.sr_plant_laws.specs.Lists.{Each}
 use Rattle.sr_plant_laws.specs.ListLemmas.{each_map, each_append}
 use Rattle.sr_plant_laws.specs.Ledger.{Hop}

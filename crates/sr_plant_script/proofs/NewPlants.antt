@@ -1,12 +1,10 @@
 -- Of new nodes a plant is made.
 use Rattle.std.proofs.Common.{◌≡◌, ℕ, zero, suc, ◌+◌, ◌<◌, ◌≤◌, ◌==◌, true, false, not, nat_lt, List, [], ◌∷◌, ◌++◌, length, map, ap, refl, ◌∙◌, add-one, arith, inl, inr, length-append}
 use Rattle.std.proofs.lemmas.List.{map-append}
-use Rattle.std.proofs.lemmas.Bool.{and_parts, cases_Bool, eq-eqb}
+use Rattle.std.proofs.lemmas.Bool.{and_parts, cases_Bool}
 use Rattle.std.proofs.lemmas.Bool.Decides.{nat_tests}
 use Rattle.sr_forwarding.specs.declared.kind.RoleKind.{RoleKind}
 use Rattle.sr_forwarding.specs.contracts.kind.RoleKindPartialEq.TheImpl as kind
-use Rattle.sr_prp_trailer.specs.declared.trailer.Lan.{Lan}
-use Rattle.sr_prp_trailer.specs.declared.trailer.Lan.TheVariants as lan
 use Rattle.sr_frame.specs.Addresses.{mac_eq}
 use Rattle.sr_plant_laws.specs.TwoRings.{is_joined}
 use Rattle.sr_plant.specs.declared.topology.Topology.{Topology}

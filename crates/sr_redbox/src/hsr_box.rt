@@ -13,11 +13,12 @@ pub type HsrBox = OwnRole<HsrRouting>;
 pub struct HsrRouting;
 
 impl Routing for HsrRouting {
+    ghost use Rattle.std.specs.Prelude.{refl};
     ghost use Rattle.sr_forwarding.specs.declared.kind.RoleKind.TheVariants as kind;
 
     ghost routed = { λ _. kind.Hsr };
 
-    ghost alone = { λ _. tt };
+    ghost alone = { λ _. refl };
 
     fn kind(&self) -> RoleKind {
         RoleKind::Hsr

@@ -34,11 +34,12 @@ fn interlink_for(net: NetId, header: &Header) -> Interlink
 }
 
 impl Routing for PrpRouting {
+    ghost use Rattle.std.specs.Prelude.{refl};
     ghost use Rattle.sr_forwarding.specs.declared.kind.RoleKind.TheVariants as kind;
 
     ghost routed = { λ r. kind.Prp r.lan r.net };
 
-    ghost alone = { λ _. tt };
+    ghost alone = { λ _. refl };
 
     fn kind(&self) -> RoleKind {
         RoleKind::Prp {

@@ -3,7 +3,8 @@ use Rattle.std.proofs.Common.{◌≡◌, refl, sym, ap, subst}
 use Rattle.std.specs.Prelude.{unwrap_or}
 use Rattle.sr_frame.specs.declared.ports.Port.TheVariants.{H}
 use Rattle.sr_forwarding.specs.Encoding.{IsWritten}
-use Rattle.sr_forwarding.specs.Framings.{Ordinary, carriage}
+use Rattle.sr_forwarding.specs.Framings.{Ordinary}
+use Rattle.sr_forwarding.specs.Kinds.{carriage}
 use Rattle.sr_forwarding.specs.KindLemmas.{host_framing}
 use Rattle.sr_forwarding.specs.Parcels.{ParcelImage, plain_of}
 use Rattle.sr_forwarding.specs.declared.kind.RoleKind.{RoleKind}

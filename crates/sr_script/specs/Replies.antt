@@ -17,7 +17,7 @@ use Rattle.sr_script.specs.declared.reading.Command.TheVariants.{Skip, Arrive, S
 use Rattle.sr_forwarding.specs.declared.kind.RoleKind.{RoleKind}
 use Rattle.sr_script.specs.Commands.{Says, IsEventLine}
 use Rattle.sr_session.specs.Runs.{Dialogue}
-use Rattle.sr_forwarding.specs.Framings.{carriage}
+use Rattle.sr_forwarding.specs.Kinds.{carriage}
 use Rattle.sr_script.specs.Stations.{Station}
 use Rattle.sr_script.specs.Texts.{AreLines, name_of, refusal_line}
 

@@ -11,7 +11,7 @@ use Rattle.sr_node.specs.declared.fault.StepFault.TheVariants as fault
 use Rattle.sr_forwarding.specs.declared.kind.RoleKind.{RoleKind}
 use Rattle.sr_session.specs.Octets.{spaced}
 use Rattle.sr_script.specs.Commands.{letter_of}
-use Rattle.sr_forwarding.specs.Framings.{carriage}
+use Rattle.sr_forwarding.specs.Kinds.{carriage}
 
 -- words as a line of their own
 abbrev pub printed : List (List ℕ) → List ℕ

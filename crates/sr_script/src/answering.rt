@@ -12,7 +12,7 @@ ghost use Rattle.sr_session.specs.Lines.{IsOneOf};
 ghost use Rattle.sr_session.specs.Octets.{StillHolds};
 ghost use Rattle.sr_script.specs.Commands.{IsEventLine};
 ghost use Rattle.sr_session.specs.Fronts.{AnswersFront, KnowsFront};
-ghost use Rattle.sr_forwarding.specs.Framings.{carriage};
+ghost use Rattle.sr_forwarding.specs.Kinds.{carriage};
 ghost use Rattle.sr_script.specs.Stations.{at_work};
 ghost use Rattle.sr_script.specs.Texts.{name_of, refusal_line};
 ghost use Rattle.sr_script.specs.Replies.{ArrivesSo, Obeys, Replied, replay_dialogue};

@@ -6,7 +6,7 @@ ghost use Rattle.sr_forwarding.specs.Encoding.{IsWritten};
 ghost use Rattle.sr_forwarding.specs.Parcels.{plain_of};
 ghost use Rattle.sr_script.specs.Commands.{letter_of};
 ghost use Rattle.sr_session.specs.Octets.{StillHolds};
-ghost use Rattle.sr_forwarding.specs.Framings.{carriage};
+ghost use Rattle.sr_forwarding.specs.Kinds.{carriage};
 ghost use Rattle.sr_script.specs.Texts.{frame_line, IsLine};
 ghost use Rattle.sr_script.specs.Replies.{FirstLeft, Emptied, AllEmptied};
 

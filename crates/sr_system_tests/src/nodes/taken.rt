@@ -49,7 +49,13 @@ fn goes_as_life_check(
     )
 }
 
-fn is_as_wanted(alloc: Global, framing: PortFraming, port: Port, parcel: &Parcel, wanted: Taken) -> bool {
+fn is_as_wanted(
+    alloc: Global,
+    framing: PortFraming,
+    port: Port,
+    parcel: &Parcel,
+    wanted: Taken,
+) -> bool {
     match wanted {
         Taken::Nothing => false,
         Taken::Something => true,
@@ -59,7 +65,9 @@ fn is_as_wanted(alloc: Global, framing: PortFraming, port: Port, parcel: &Parcel
         Taken::Whole(sent) => goes_whole(alloc, framing, parcel, sent) && parcel.seq().is_none(),
         Taken::As(sent) => goes_whole(alloc, framing, parcel, sent),
         Taken::Untagged(sent) => goes_untagged(alloc, framing, parcel, sent),
-        Taken::Life(seq, life_seq) => goes_as_life_check(alloc, framing, parcel, port, seq, life_seq),
+        Taken::Life(seq, life_seq) => goes_as_life_check(
+            alloc, framing, parcel, port, seq, life_seq,
+        ),
     }
 }
 

@@ -1,9 +1,7 @@
 //! One driver for all nodes: it makes a node over a box, takes it through a table of steps, and answers at which step it differs.
 
 use bitflags::Flags;
-use sr_forwarding::{
-    Danh, Framing, NetId, OwnRole, Parcel, Port, Role, RoleKind, framing_at,
-};
+use sr_forwarding::{Danh, Framing, NetId, OwnRole, Parcel, Port, Role, RoleKind, framing_at};
 use sr_frame::{Frame, Mac};
 use sr_node::{Answer, Event, Node, NodeImage, StepFault};
 use sr_prp_trailer::Lan;
@@ -285,10 +283,13 @@ fn san_differs(alloc: Global, steps: &[Step]) -> Option<usize> {
 }
 
 fn prp_differs(alloc: Global, lan: Lan, steps: &[Step]) -> Option<usize> {
-    let role: PrpBox = OwnRole::of(OWN, PrpRouting {
-        lan,
-        net: NetId::new(1),
-    });
+    let role: PrpBox = OwnRole::of(
+        OWN,
+        PrpRouting {
+            lan,
+            net: NetId::new(1),
+        },
+    );
     match Box::new(alloc, role) {
         Ok(role) => differs_over(alloc, role, steps),
         Err(_) => Some(steps.len()),
