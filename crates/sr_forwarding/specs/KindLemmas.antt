@@ -15,10 +15,12 @@ use Rattle.sr_forwarding.specs.Proxies.{learned, learned_at}
 use Rattle.sr_forwarding.specs.Routes.{is_own, to_group, danp_from_lan, routes_of}
 
 -- a role that learns keeps its kind and its address
-pub learned_keeps : (r : RoleImage) (h : Header) (port : Port) (now : ℕ) → ((learned r h port now).kind ≡ r.kind) × ((learned r h port now).mac ≡ r.mac)
+pub learned_keeps : (r : RoleImage) (h : Header) (port : Port) (now : ℕ) →
+    ((learned r h port now).kind ≡ r.kind) × ((learned r h port now).mac ≡ r.mac)
 learned_keeps r h port now = by (stands_alone r.kind) port
   where
-    by : (alone : Bool) (port : Port) → ((if alone then r else learned_at port r h now).kind ≡ r.kind) × ((if alone then r else learned_at port r h now).mac ≡ r.mac)
+    by : (alone : Bool) (port : Port) →
+        ((if alone then r else learned_at port r h now).kind ≡ r.kind) × ((if alone then r else learned_at port r h now).mac ≡ r.mac)
     by true port = (refl, refl)
     by false H = (refl, refl)
     by false A = (refl, refl)
@@ -51,7 +53,7 @@ HasMarks (Tagged path) = Unit {0}
 HasMarks (Trailed lan net) = Unit {0}
 HasMarks Ordinary = ⊥
 
--- A and B have
+-- at A and B frames have them
 pub side_has_marks : (kind : RoleKind) (side : Lan) → HasMarks (side_framing kind side)
 side_has_marks Danp side = tt
 side_has_marks Danh side = tt
@@ -69,7 +71,7 @@ abbrev pub NumbersAt : Option FramingImage → Type 0
 NumbersAt None = Unit {0}
 NumbersAt (Some f) = Numbers f
 
--- so it is at A and B, where nothing comes in without one
+-- at A and B of a role that takes no frame without one
 pub side_numbers : (kind : RoleKind) (side : Lan) → takes_unnumbered kind ≡ false → Numbers (side_framing kind side)
 side_numbers Danp side none = absurd cc
 side_numbers Danh side none = tt
@@ -77,7 +79,7 @@ side_numbers San side none = tt
 side_numbers (Prp lan net) side none = tt
 side_numbers Hsr side none = tt
 
--- and at the interlink
+-- what comes in at the interlink has a number, or gets one
 pub interlink_numbers : (kind : RoleKind) → HasNet kind → NumbersAt (interlink_framing kind)
 interlink_numbers Danp net = tt
 interlink_numbers Danh net = tt

@@ -3,13 +3,11 @@
 use crate::digest::Digest;
 use crate::scripts::settings_of;
 use bitflags::Flags;
-use sr_forwarding::{
-    Danh, Danp, Framing, NetId, Outlets, Parcel, ReadFault, Role, RoleKind, framing_at,
-};
+use sr_forwarding::{Danh, Danp, Framing, Outlets, Parcel, ReadFault, Role, RoleKind, framing_at};
 use sr_frame::{Frame, FrameFault, Mac, Port};
 use sr_node::{Answer, Event, Node, StepFault};
 use sr_prp_trailer::Lan;
-use sr_redbox::{HsrBox, HsrRouting, PrpBox, PrpRouting, SanBox};
+use sr_redbox::{HsrBox, PrpBox, SanBox};
 use std::alloc::Global;
 
 /// The node.
@@ -253,18 +251,14 @@ fn at_san(alloc: Global, choice: u8, events: &[u8]) -> Option<Digest> {
 }
 
 fn at_prp(alloc: Global, choice: u8, events: &[u8]) -> Option<Digest> {
-    let network = PrpRouting {
-        lan: Lan::A,
-        net: NetId::new(1),
-    };
-    match Box::new(alloc, PrpBox::of(OWN, network)) {
+    match Box::new(alloc, PrpBox::new(OWN, Lan::A, 1)) {
         Ok(role) => over(alloc, role, choice, events),
         Err(_) => None,
     }
 }
 
 fn at_hsr(alloc: Global, choice: u8, events: &[u8]) -> Option<Digest> {
-    match Box::new(alloc, HsrBox::of(OWN, HsrRouting)) {
+    match Box::new(alloc, HsrBox::new(OWN)) {
         Ok(role) => over(alloc, role, choice, events),
         Err(_) => None,
     }

@@ -61,7 +61,7 @@ fn network_of(kind: RoleKind) -> NetId
 {
     match kind {
         RoleKind::Prp { net, .. } => net,
-        RoleKind::Danp | RoleKind::Danh | RoleKind::San | RoleKind::Hsr => NetId::new(1),
+        _ => NetId::new(1),
     }
 }
 

@@ -16,7 +16,7 @@ use crate::status::StatusSession;
 use sr_forwarding::{Danh, Danp, Role, RoleKind};
 use sr_frame::NoMemory;
 use sr_node::NodeOf;
-use sr_redbox::{HsrBox, HsrRouting, PrpBox, PrpRouting, SanBox};
+use sr_redbox::{HsrBox, PrpBox, SanBox};
 use sr_session::{Fault, MAX_LINE, NOT_BEGUN, Session, run_session};
 use std::alloc::{AllocError, Global};
 use std::io::{BufRead, Write};
@@ -129,11 +129,11 @@ fn run_reported<R: BufRead, W: Write>(
             run_over(alloc, setup, san, report, reader, writer)
         }
         RoleKind::Prp { lan, net } => {
-            let prp = PrpBox::of(setup.mac, PrpRouting { lan, net });
+            let prp = PrpBox::new(setup.mac, lan, net.number());
             run_over(alloc, setup, prp, report, reader, writer)
         }
         RoleKind::Hsr => {
-            let hsr = HsrBox::of(setup.mac, HsrRouting);
+            let hsr = HsrBox::new(setup.mac);
             run_over(alloc, setup, hsr, report, reader, writer)
         }
     }

@@ -15,7 +15,7 @@ use crate::status_lines::tell_status;
 use crate::tallying::tally;
 use sr_forwarding::{Danh, Danp, Role, RoleKind};
 use sr_frame::NoMemory;
-use sr_redbox::{HsrBox, HsrRouting, PrpBox, PrpRouting, SanBox};
+use sr_redbox::{HsrBox, PrpBox, SanBox};
 use sr_session::{Fault, FaultKind, NOT_BEGUN, Session};
 use sr_text::Text;
 use std::alloc::Global;
@@ -121,11 +121,11 @@ pub fn run_tally<R: BufRead, W: Write>(
             tally_over(alloc, setup, san, reader, writer)
         }
         RoleKind::Prp { lan, net } => {
-            let prp = PrpBox::of(setup.mac, PrpRouting { lan, net });
+            let prp = PrpBox::new(setup.mac, lan, net.number());
             tally_over(alloc, setup, prp, reader, writer)
         }
         RoleKind::Hsr => {
-            let hsr = HsrBox::of(setup.mac, HsrRouting);
+            let hsr = HsrBox::new(setup.mac);
             tally_over(alloc, setup, hsr, reader, writer)
         }
     }

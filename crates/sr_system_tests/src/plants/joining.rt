@@ -8,7 +8,7 @@ use sr_frame::Mac;
 use sr_node::Node;
 use sr_plant::{Coupled, PlantFault};
 use sr_prp_trailer::Lan;
-use sr_redbox::{HsrBox, HsrRouting, PrpBox, PrpRouting};
+use sr_redbox::{HsrBox, PrpBox};
 use std::alloc::Global;
 
 /// What a node is.
@@ -61,17 +61,15 @@ fn danp(alloc: Global, mac: Mac) -> Option<Node> {
     }
 }
 
-fn prp_box(alloc: Global, mac: Mac, lan: Lan, net: u8) -> Option<Node> {
-    let net = NetId::checked(net)?;
-    let routing = PrpRouting { lan, net };
-    match Box::new(alloc, PrpBox::of(mac, routing)) {
+fn prp_box(alloc: Global, mac: Mac, lan: Lan, net: NetId) -> Option<Node> {
+    match Box::new(alloc, PrpBox::new(mac, lan, net.number())) {
         Ok(role) => node_over(alloc, role),
         Err(_) => None,
     }
 }
 
 fn ring_box(alloc: Global, mac: Mac) -> Option<Node> {
-    match Box::new(alloc, HsrBox::of(mac, HsrRouting)) {
+    match Box::new(alloc, HsrBox::new(mac)) {
         Ok(role) => node_over(alloc, role),
         Err(_) => None,
     }
@@ -83,9 +81,9 @@ fn node_of(alloc: Global, is: Is, number: u8) -> Option<Node> {
     match is {
         Is::InRing => danh(alloc, mac),
         Is::InLans => danp(alloc, mac),
-        Is::BoxA => prp_box(alloc, mac, Lan::A, 1),
-        Is::BoxB => prp_box(alloc, mac, Lan::B, 1),
-        Is::BoxOf2 => prp_box(alloc, mac, Lan::B, 2),
+        Is::BoxA => prp_box(alloc, mac, Lan::A, NetId::new(1)),
+        Is::BoxB => prp_box(alloc, mac, Lan::B, NetId::new(1)),
+        Is::BoxOf2 => prp_box(alloc, mac, Lan::B, NetId::new(2)),
         Is::RingBox => ring_box(alloc, mac),
     }
 }

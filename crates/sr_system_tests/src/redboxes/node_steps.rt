@@ -1,11 +1,11 @@
 //! One driver for all nodes: it makes a node over a box, takes it through a table of steps, and answers at which step it differs.
 
 use bitflags::Flags;
-use sr_forwarding::{Danh, Framing, NetId, OwnRole, Parcel, Port, Role, RoleKind, framing_at};
+use sr_forwarding::{Danh, Framing, Parcel, Port, Role, RoleKind, framing_at};
 use sr_frame::{Frame, Mac};
 use sr_node::{Answer, Event, Node, NodeImage, StepFault};
 use sr_prp_trailer::Lan;
-use sr_redbox::{HsrBox, HsrRouting, PrpBox, PrpRouting, SanBox};
+use sr_redbox::{HsrBox, PrpBox, SanBox};
 use std::alloc::Global;
 
 /// The node.
@@ -283,13 +283,7 @@ fn san_differs(alloc: Global, steps: &[Step]) -> Option<usize> {
 }
 
 fn prp_differs(alloc: Global, lan: Lan, steps: &[Step]) -> Option<usize> {
-    let role: PrpBox = OwnRole::of(
-        OWN,
-        PrpRouting {
-            lan,
-            net: NetId::new(1),
-        },
-    );
+    let role = PrpBox::new(OWN, lan, 1);
     match Box::new(alloc, role) {
         Ok(role) => differs_over(alloc, role, steps),
         Err(_) => Some(steps.len()),
@@ -297,7 +291,7 @@ fn prp_differs(alloc: Global, lan: Lan, steps: &[Step]) -> Option<usize> {
 }
 
 fn hsr_differs(alloc: Global, steps: &[Step]) -> Option<usize> {
-    let role: HsrBox = OwnRole::of(OWN, HsrRouting);
+    let role = HsrBox::new(OWN);
     match Box::new(alloc, role) {
         Ok(role) => differs_over(alloc, role, steps),
         Err(_) => Some(steps.len()),
