@@ -79,7 +79,7 @@ pub fn node_command<'a>(
 fn net_of(word: &str) -> NetId {
     match word.parse::<u8>() {
         Ok(net) => NetId::new(net.clamp(1, MAX_NET)),
-        Err(_) => NetId::new(1),
+        Err(_) => NetId::One,
     }
 }
 
@@ -89,7 +89,7 @@ fn prp_box_of(node: &ArgMatches<'_>) -> RoleKind {
         Some("b") => Lan::B,
         _ => Lan::A,
     };
-    let net = node.get_str("net").map_or(NetId::new(1), net_of);
+    let net = node.get_str("net").map_or(NetId::One, net_of);
     RoleKind::Prp { lan, net }
 }
 

@@ -25,7 +25,7 @@ use Rattle.sr_forwarding.specs.Framings.{FramingImage, Tagged, Trailed, Ordinary
 use Rattle.sr_forwarding.specs.Decoding.{IsSanParcel, IsTaggedParcel, IsTrailedParcel}
 use Rattle.sr_forwarding.specs.Encoding.{padded_plain, number_fault, write_fault_in, write_fault}
 use Rattle.sr_forwarding.specs.Carriage.{IsNumberedPlain, IsTaken, IsTakenBy, IsTakenAt, copy_for}
-use Rattle.sr_forwarding.specs.Kinds.{HasNet, framing_at, interlink_framing, side_framing, takes_unnumbered}
+use Rattle.sr_forwarding.specs.Kinds.{framing_at, interlink_framing, side_framing, takes_unnumbered}
 use Rattle.sr_forwarding.specs.KindLemmas.{Numbers, NumbersAt, interlink_numbers, side_numbers, unnumbered_to_host}
 use Rattle.sr_forwarding.specs.Routes.{routes, routes_of}
 
@@ -112,17 +112,17 @@ side_passes kind side p f wanted is up t = elim (cases_Bool (takes_unnumbered ki
   | inr none ↦ passes f p.form p (carried_by (side_framing kind side) p (side_numbers kind side none) t)
 ]
 
-kind_passes : (kind : RoleKind) (r : RoleImage) (h : Header) (inlet outlet : Port) (now : ℕ) (p : ParcelImage) (f : FramingImage) → has (to (H ∷ [])) outlet ≡ false → has (to []) outlet ≡ false → HasNet kind → IsTaken kind inlet p → has (routes_of kind r h inlet now) outlet ≡ true → write_fault f p ≡ None
-kind_passes kind r h port.H outlet now p f host none net t wanted = passes f p.form p (carried_plain p t)
-kind_passes kind r h port.A outlet now p f host none net t wanted =
+kind_passes : (kind : RoleKind) (r : RoleImage) (h : Header) (inlet outlet : Port) (now : ℕ) (p : ParcelImage) (f : FramingImage) → has (to (H ∷ [])) outlet ≡ false → has (to []) outlet ≡ false → IsTaken kind inlet p → has (routes_of kind r h inlet now) outlet ≡ true → write_fault f p ≡ None
+kind_passes kind r h port.H outlet now p f host none t wanted = passes f p.form p (carried_plain p t)
+kind_passes kind r h port.A outlet now p f host none t wanted =
     side_passes kind lan.A p f (has (routes_of kind r h port.A now) outlet) wanted (λ takes. (unnumbered_to_host kind r h outlet now takes host none).0) t
-kind_passes kind r h port.B outlet now p f host none net t wanted =
+kind_passes kind r h port.B outlet now p f host none t wanted =
     side_passes kind lan.B p f (has (routes_of kind r h port.B now) outlet) wanted (λ takes. (unnumbered_to_host kind r h outlet now takes host none).1) t
-kind_passes kind r h port.C outlet now p f host none net t wanted =
-    passes f p.form p (carried_at (interlink_framing kind) p (interlink_numbers kind net) t)
+kind_passes kind r h port.C outlet now p f host none t wanted =
+    passes f p.form p (carried_at (interlink_framing kind) p (interlink_numbers kind) t)
 
-pub written : (r : RoleImage) (h : Header) (inlet outlet : Port) (now : ℕ) (p : ParcelImage) (f : FramingImage) → HasNet r.kind → IsTaken r.kind inlet p → has (routes r h inlet now) outlet ≡ true → framing_at r.kind outlet ≡ Some f → write_fault f (copy_for outlet p) ≡ None
-written r h inlet port.H now p f net t wanted e = host_passes f (copy_for port.H p) e
-written r h inlet port.A now p f net t wanted e = kind_passes r.kind r h inlet port.A now p f refl refl net t wanted
-written r h inlet port.B now p f net t wanted e = kind_passes r.kind r h inlet port.B now p f refl refl net t wanted
-written r h inlet port.C now p f net t wanted e = kind_passes r.kind r h inlet port.C now p f refl refl net t wanted
+pub written : (r : RoleImage) (h : Header) (inlet outlet : Port) (now : ℕ) (p : ParcelImage) (f : FramingImage) → IsTaken r.kind inlet p → has (routes r h inlet now) outlet ≡ true → framing_at r.kind outlet ≡ Some f → write_fault f (copy_for outlet p) ≡ None
+written r h inlet port.H now p f t wanted e = host_passes f (copy_for port.H p) e
+written r h inlet port.A now p f t wanted e = kind_passes r.kind r h inlet port.A now p f refl refl t wanted
+written r h inlet port.B now p f t wanted e = kind_passes r.kind r h inlet port.B now p f refl refl t wanted
+written r h inlet port.C now p f t wanted e = kind_passes r.kind r h inlet port.C now p f refl refl t wanted

@@ -8,6 +8,7 @@ use Rattle.sr_forwarding.specs.declared.kind.RoleKind.{RoleKind}
 use Rattle.sr_forwarding.specs.declared.kind.RoleKind.TheVariants.{Danp, Danh, San, Prp, Hsr}
 use Rattle.sr_forwarding.specs.Outlets.{has}
 use Rattle.sr_forwarding.specs.Kinds.{stands_alone}
+use Rattle.sr_forwarding.specs.NetIds.{number_of}
 use Rattle.sr_forwarding.specs.KindLemmas.{lan_to_host}
 use Rattle.sr_forwarding.specs.Routes.{routes, routes_of, IgnoresKnown}
 use Rattle.sr_forwarding.proofs.RouteLemmas.{danh_no, san_no, box_no, box_linked_no}
@@ -43,7 +44,7 @@ kind_no Danh r h A now = danh_no r h A refl refl refl refl
 kind_no Danh r h B now = danh_no r h B refl refl refl refl
 kind_no Danh r h C now = refl
 kind_no San r h inlet now = san_no r h inlet now
-kind_no (Prp lan net) r h inlet now = box_no (h.path / 2 == net) r h inlet
+kind_no (Prp lan net) r h inlet now = box_no (h.path / 2 == number_of net) r h inlet
 kind_no Hsr r h inlet now = box_linked_no r h inlet
 
 pub no_inlet : (r : RoleImage) (h : Header) (inlet : Port) (now : ℕ) → has (routes r h inlet now) inlet ≡ false

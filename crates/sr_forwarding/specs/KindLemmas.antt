@@ -1,5 +1,5 @@
 -- What holds of the roles of every kind.
-use Rattle.std.proofs.Common.{◌≡◌, ℕ, ◌<◌, Bool, true, false, [], ◌∷◌, Option, None, Some, refl}
+use Rattle.std.proofs.Common.{◌≡◌, ℕ, ◌<◌, ◌≤◌, arith, Bool, true, false, [], ◌∷◌, Option, None, Some, refl}
 use Rattle.std.specs.Prelude.{if◌then◌else◌, ◌||◌}
 use Rattle.sr_frame.specs.declared.ports.Port.{Port}
 use Rattle.sr_frame.specs.declared.ports.Port.TheVariants.{H, A, B, C}
@@ -9,7 +9,11 @@ use Rattle.sr_forwarding.specs.declared.kind.RoleKind.{RoleKind}
 use Rattle.sr_forwarding.specs.declared.kind.RoleKind.TheVariants.{Danp, Danh, San, Prp, Hsr}
 use Rattle.sr_prp_trailer.specs.declared.trailer.Lan.{Lan}
 use Rattle.sr_forwarding.specs.Framings.{FramingImage, Tagged, Trailed, Ordinary}
-use Rattle.sr_forwarding.specs.Kinds.{HasNet, interlink_framing, side_framing, stands_alone, takes_unnumbered}
+use Rattle.sr_forwarding.specs.Kinds.{interlink_framing, side_framing, stands_alone, takes_unnumbered}
+use Rattle.sr_forwarding.specs.declared.net_id.NetId.{NetId}
+use Rattle.sr_forwarding.specs.declared.net_id.NetId.TheVariants.{One, Two, Three, Four, Five, Six}
+use Rattle.sr_forwarding.specs.Limits.{greatest_net}
+use Rattle.sr_forwarding.specs.NetIds.{number_of}
 use Rattle.sr_forwarding.specs.Outlets.{has, to}
 use Rattle.sr_forwarding.specs.Proxies.{learned, learned_at}
 use Rattle.sr_forwarding.specs.Routes.{is_own, to_group, danp_from_lan, routes_of}
@@ -47,6 +51,24 @@ unnumbered_to_host San r h outlet now takes host none = absurd cc
 unnumbered_to_host (Prp lan net) r h outlet now takes host none = absurd cc
 unnumbered_to_host Hsr r h outlet now takes host none = absurd cc
 
+-- a PRP network at a ring has a number above 0
+pub is_numbered : (net : NetId) → 0 < number_of net
+is_numbered One = omega arith
+is_numbered Two = omega arith
+is_numbered Three = omega arith
+is_numbered Four = omega arith
+is_numbered Five = omega arith
+is_numbered Six = omega arith
+
+-- its number is at most 6
+pub has_fit_number : (net : NetId) → number_of net ≤ greatest_net
+has_fit_number One = omega arith
+has_fit_number Two = omega arith
+has_fit_number Three = omega arith
+has_fit_number Four = omega arith
+has_fit_number Five = omega arith
+has_fit_number Six = omega arith
+
 -- a port with this framing has frames with a tag or a trailer
 abbrev pub HasMarks : FramingImage → Type 0
 HasMarks (Tagged path) = Unit {0}
@@ -80,9 +102,9 @@ side_numbers (Prp lan net) side none = tt
 side_numbers Hsr side none = tt
 
 -- what comes in at the interlink has a number, or gets one
-pub interlink_numbers : (kind : RoleKind) → HasNet kind → NumbersAt (interlink_framing kind)
-interlink_numbers Danp net = tt
-interlink_numbers Danh net = tt
-interlink_numbers San net = tt
-interlink_numbers (Prp lan n) net = net
-interlink_numbers Hsr net = tt
+pub interlink_numbers : (kind : RoleKind) → NumbersAt (interlink_framing kind)
+interlink_numbers Danp = tt
+interlink_numbers Danh = tt
+interlink_numbers San = tt
+interlink_numbers (Prp lan net) = is_numbered net
+interlink_numbers Hsr = tt

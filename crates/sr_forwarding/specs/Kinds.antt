@@ -1,5 +1,5 @@
 -- What the kinds of roles differ in beside their routes: a column for each property.
-use Rattle.std.specs.Prelude.{◌<◌, Bool, true, false, Option, None, Some, is_some, unwrap_or}
+use Rattle.std.specs.Prelude.{Bool, true, false, Option, None, Some, is_some, unwrap_or}
 use Rattle.sr_frame.specs.declared.ports.Port.{Port}
 use Rattle.sr_frame.specs.declared.ports.Port.TheVariants as port
 use Rattle.sr_prp_trailer.specs.declared.trailer.Lan.{Lan}
@@ -8,6 +8,7 @@ use Rattle.sr_supervision.specs.declared.message.Life.{Life}
 use Rattle.sr_supervision.specs.declared.message.Life.TheVariants as life
 use Rattle.sr_forwarding.specs.declared.kind.RoleKind.{RoleKind}
 use Rattle.sr_forwarding.specs.declared.kind.RoleKind.TheVariants.{Danp, Danh, San, Prp, Hsr}
+use Rattle.sr_forwarding.specs.NetIds.{number_of}
 use Rattle.sr_forwarding.specs.Framings.{FramingImage, Tagged, Trailed, Ordinary, lane_of}
 
 -- a doubly attached node of a PRP network alone takes frames without number at A and B
@@ -34,14 +35,6 @@ stands_alone San = false
 stands_alone (Prp lan net) = true
 stands_alone Hsr = true
 
--- a PRP network at a ring has a number above 0
-abbrev pub HasNet : RoleKind → Type 0
-HasNet Danp = Unit {0}
-HasNet Danh = Unit {0}
-HasNet San = Unit {0}
-HasNet (Prp lan net) = 0 < net
-HasNet Hsr = Unit {0}
-
 -- the framing of A or B: of this LAN of the node's own network, or of a ring, with path 0 at A and 1 at B
 abbrev pub side_framing : RoleKind → Lan → FramingImage
 side_framing Danp side = Trailed side 0
@@ -55,7 +48,7 @@ abbrev pub interlink_framing : RoleKind → Option FramingImage
 interlink_framing Danp = None
 interlink_framing Danh = None
 interlink_framing San = Some Ordinary
-interlink_framing (Prp lan net) = Some (Trailed lan net)
+interlink_framing (Prp lan net) = Some (Trailed lan (number_of net))
 interlink_framing Hsr = Some (Tagged 0)
 
 -- it has an interlink: it is a RedBox

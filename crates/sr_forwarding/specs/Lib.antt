@@ -4,6 +4,7 @@ pub mod Octets
 pub mod Parcels
 pub mod Headers
 pub mod RoleImages
+pub mod NetIds
 pub mod Kinds
 pub mod Routes
 pub mod Proxies

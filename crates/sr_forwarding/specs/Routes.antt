@@ -10,6 +10,7 @@ use Rattle.sr_forwarding.specs.declared.role_image.RoleImage.{RoleImage}
 use Rattle.sr_forwarding.specs.declared.kind.RoleKind.{RoleKind}
 use Rattle.sr_forwarding.specs.declared.kind.RoleKind.TheVariants.{Danp, Danh, San, Prp, Hsr}
 use Rattle.sr_forwarding.specs.Outlets.{to, ring, is_nowhere}
+use Rattle.sr_forwarding.specs.NetIds.{number_of}
 use Rattle.sr_forwarding.specs.RoleImages.{is_proxied, owned, is_group}
 
 -- the destination is the role's address
@@ -118,7 +119,7 @@ abbrev pub routes_of : RoleKind → RoleImage → Header → Port → ℕ → Ou
 routes_of Danp r h inlet now = danp_routes r h inlet
 routes_of Danh r h inlet now = danh_routes r h inlet
 routes_of San r h inlet now = san_routes r h inlet now
-routes_of (Prp lan net) r h inlet now = box_routes r h inlet (interlink_unless_from net h)
+routes_of (Prp lan net) r h inlet now = box_routes r h inlet (interlink_unless_from (number_of net) h)
 routes_of Hsr r h inlet now = box_routes r h inlet (C ∷ [])
 
 -- where a frame goes, by the role, what its header says, and the inlet where it came in

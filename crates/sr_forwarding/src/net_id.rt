@@ -2,27 +2,26 @@
 
 ghost use Rattle.std.specs.Prelude.{◌≡◌, ◌<◌, ◌≤◌, ◌⊎◌, IfSome, IfNone};
 ghost use Rattle.sr_forwarding.specs.Limits.{greatest_net};
-
-use std::marker::Model;
+ghost use Rattle.sr_forwarding.specs.NetIds.{net_of, number_of};
 
 /// The greatest number of a PRP network at a ring.
 pub const MAX_NET: u8 = 6;
 
-/// The number of a PRP network at a ring, 1 to 6 (IEC 62439-3, NetId). Contracts see it as the number.
+/// The number of a PRP network at a ring, 1 to 6 (IEC 62439-3, NetId).
 #[derive(Clone, Copy, Debug, PartialEq, Eq)]
-pub struct NetId(u8);
-
-impl Model for NetId {
-    ghost use Rattle.std.specs.Prelude.{ℕ, ◌<◌, ◌≤◌};
-    ghost use Rattle.sr_forwarding.specs.Limits.{greatest_net};
-
-    ghost Value = { ℕ };
-
-    ghost view = { λ net. net.0 };
-
-    ghost invariant = { λ net. (0 < net.0) × (net.0 ≤ greatest_net) };
-
-    ghost inverse = { λ net. record { 0 = net } };
+pub enum NetId {
+    /// The network of number 1.
+    One,
+    /// The network of number 2.
+    Two,
+    /// The network of number 3.
+    Three,
+    /// The network of number 4.
+    Four,
+    /// The network of number 5.
+    Five,
+    /// The network of number 6.
+    Six,
 }
 
 impl NetId {
@@ -30,30 +29,48 @@ impl NetId {
     pub fn new(number: u8) -> NetId
         requires numbered { 0 < number }
         requires fits { number ≤ greatest_net }
-        ensures { result ≡ number }
+        ensures { result ≡ net_of number }
     {
-        NetId(number)
+        match number {
+            1 => NetId::One,
+            2 => NetId::Two,
+            3 => NetId::Three,
+            4 => NetId::Four,
+            5 => NetId::Five,
+            _ => NetId::Six,
+        }
     }
 
     /// The network of this number, where it is 1 to 6.
     pub fn checked(number: u8) -> Option<NetId>
-        ensures some { IfSome result (λ net. net ≡ number) }
+        ensures some { IfSome result (λ net. number_of net ≡ number) }
         ensures none { IfNone result ((number ≡ 0) ⊎ (greatest_net < number)) }
     {
-        if 0 < number && number <= MAX_NET {
-            Some(NetId(number))
-        } else {
-            None
+        match number {
+            1 => Some(NetId::One),
+            2 => Some(NetId::Two),
+            3 => Some(NetId::Three),
+            4 => Some(NetId::Four),
+            5 => Some(NetId::Five),
+            6 => Some(NetId::Six),
+            _ => None,
         }
     }
 
     /// Its number.
     #[inline(always)]
     pub fn number(self) -> u8
-        ensures number { result ≡ self }
-        ensures numbered { 0 < self }
-        ensures fits { self ≤ greatest_net }
+        ensures number { result ≡ number_of self }
+        ensures numbered { 0 < result }
+        ensures fits { result ≤ greatest_net }
     {
-        self.0
+        match self {
+            NetId::One => 1,
+            NetId::Two => 2,
+            NetId::Three => 3,
+            NetId::Four => 4,
+            NetId::Five => 5,
+            NetId::Six => 6,
+        }
     }
 }

@@ -20,11 +20,11 @@ fn role_of(choice: u8) -> RoleKind {
         2 => RoleKind::San,
         3 => RoleKind::Prp {
             lan: Lan::A,
-            net: NetId::new(1),
+            net: NetId::One,
         },
         4 => RoleKind::Prp {
             lan: Lan::B,
-            net: NetId::new(6),
+            net: NetId::Six,
         },
         _ => RoleKind::Hsr,
     }

@@ -13,7 +13,6 @@ use Rattle.sr_forwarding.specs.contracts.kind.RoleKindPartialEq.TheImpl as kind
 use Rattle.sr_node.specs.Images.{State}
 use Rattle.sr_node.specs.Outboxes.{boxes_empty}
 use Rattle.sr_plant_laws.specs.Lists.{Each}
-use Rattle.sr_forwarding.specs.Limits.{greatest_net}
 use Rattle.sr_plant_laws.specs.TwoRings.{is_joined, AreJoins}
 use Rattle.sr_plant.specs.declared.shapes.RingLanShape.{RingLanShape}
 use Rattle.sr_plant.specs.declared.shapes.TwoRingsShape.{TwoRingsShape}
@@ -110,24 +109,18 @@ ring_lan_sized s n e =
     let a = nat_lt s.box_a s.ring in
     let b = nat_lt s.box_b s.ring in
     let other = not (s.box_a == s.box_b) in
-    let net = is_between 1 greatest_net s.net in
-    let x = both ((a && b) && other) net p.1 in
-    let y = both (a && b) other x.0 in
+    let y = both (a && b) other p.1 in
     let z = both a b y.0 in
     let sum_is = q.1 in
     let a_is = z.0 in
     let b_is = z.1 in
     let size = between fewest_with_boxes most_nodes s.ring r.0 in
     let behind = between 1 most_in_lans s.lan r.1 in
-    let named = between 1 greatest_net s.net x.1 in
-    let numbered = named.0 in
     record {
       joined = record {
         sum = grind (arith, nat_tests, sum_is);
         a_inside = grind (arith, nat_tests, a_is);
         b_inside = grind (arith, nat_tests, b_is);
-        numbered = omega (arith, numbered);
-        fits = named.1;
       };
       ring = size.1;
       lan = behind.1;

@@ -10,7 +10,6 @@ use Rattle.sr_forwarding.specs.Parcels.{ParcelImage}
 use Rattle.sr_forwarding.specs.contracts.kind.RoleKindPartialEq.TheImpl as kind
 use Rattle.sr_node.specs.Images.{State}
 use Rattle.sr_node.specs.Outboxes.{Outboxes}
-use Rattle.sr_forwarding.specs.Limits.{greatest_net}
 use Rattle.sr_plant.specs.declared.shapes.RingLanShape.{RingLanShape}
 use Rattle.sr_plant.specs.declared.shapes.TwoRingsShape.{TwoRingsShape}
 use Rattle.sr_plant.specs.declared.shapes.Join.{Join}
@@ -62,10 +61,9 @@ are_apart (n ∷ ns) = not (has_address n.role.mac ns) && are_apart ns
 abbrev pub is_between : ℕ → ℕ → ℕ → Bool
 is_between fewest most n = nat_le fewest n && nat_le n most
 
--- the boxes of the two LANs are two nodes of the ring, and their network has a number of a ring's
+-- the boxes of the two LANs are two nodes of the ring
 abbrev pub has_boxes : RingLanShape → Bool
-has_boxes s =
-    nat_lt s.box_a s.ring && nat_lt s.box_b s.ring && not (s.box_a == s.box_b) && is_between 1 greatest_net s.net
+has_boxes s = nat_lt s.box_a s.ring && nat_lt s.box_b s.ring && not (s.box_a == s.box_b)
 
 -- from a box of the left ring to one of the right
 abbrev pub is_join : TwoRingsShape → Join → Bool

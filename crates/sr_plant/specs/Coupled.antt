@@ -4,6 +4,8 @@ use Rattle.std.specs.Prelude.{length, Option, None, Some, slice_get, if◌then�
 use Rattle.sr_prp_trailer.specs.declared.trailer.Lan.TheVariants as lan
 use Rattle.sr_forwarding.specs.declared.kind.RoleKind.{RoleKind}
 use Rattle.sr_forwarding.specs.declared.kind.RoleKind.TheVariants.{Prp, Hsr}
+use Rattle.sr_forwarding.specs.declared.net_id.NetId.{NetId}
+use Rattle.sr_forwarding.specs.declared.net_id.NetId.TheVariants.{One}
 use Rattle.sr_node.specs.Images.{State}
 use Rattle.sr_plant.specs.declared.shapes.RingLanShape.{RingLanShape}
 use Rattle.sr_plant.specs.declared.shapes.TwoRingsShape.{TwoRingsShape}
@@ -26,14 +28,14 @@ box_place sought from k [] = k
 box_place sought from k (n ∷ ns) =
     if nat_le from k && is_sought sought n.role.kind then k else box_place sought from (suc k) ns
 
--- the number of the network of a box, and 1 of any other node
-abbrev pub network_of : RoleKind → ℕ
+-- the network of a box, and network 1 at any other node
+abbrev pub network_of : RoleKind → NetId
 network_of (Prp lan net) = net
-network_of kind = 1
+network_of kind = One
 
--- the number of the network of a node, if there is one; without a box of a network a ring and nodes of two LANs are joined to nothing
-abbrev pub network_in : Option State → ℕ
-network_in None = 1
+-- the network of a node, if there is one
+abbrev pub network_in : Option State → NetId
+network_in None = One
 network_in (Some n) = network_of n.role.kind
 
 -- the first box of LAN A and the first of LAN B, of the nodes of the ring, join it with the LANs

@@ -4,7 +4,6 @@ use Rattle.sr_frame.specs.declared.ports.Port.{Port}
 use Rattle.sr_prp_trailer.specs.declared.trailer.Lan.TheVariants as lan
 use Rattle.sr_forwarding.specs.Framings.{FramingImage}
 use Rattle.sr_forwarding.specs.Kinds.{carriage}
-use Rattle.sr_forwarding.specs.Limits.{greatest_net}
 use Rattle.sr_forwarding.specs.declared.kind.RoleKind.{RoleKind}
 use Rattle.sr_forwarding.specs.declared.kind.RoleKind.TheVariants.{Danp, Danh, Prp, Hsr}
 use Rattle.sr_plant_laws.specs.Ledger.{Net}
@@ -69,13 +68,11 @@ kind_of (TwoRings s) k = if is_joined (joins_of s) k then Hsr else Danh
 abbrev pub framing_of : Topology → ℕ → Port → FramingImage
 framing_of t k port = carriage (kind_of t k) port
 
--- a ring and LANs of so many nodes together, whose boxes are two of the ring, of a network that has a number
+-- a ring and LANs of so many nodes together, whose boxes are two of the ring
 pub record IsRingLan (s : RingLanShape) (n : ℕ) : Type 0 where
   pub sum : s.ring + s.lan ≡ n
   pub a_inside : s.box_a < s.ring
   pub b_inside : s.box_b < s.ring
-  pub numbered : 0 < s.net
-  pub fits : s.net ≤ greatest_net
 
 -- two rings of so many nodes together, whose joins lead from the left to the right
 pub record AreTwoRings (s : TwoRingsShape) (n : ℕ) : Type 0 where

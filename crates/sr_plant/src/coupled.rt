@@ -55,23 +55,23 @@ fn box_place<R: Role>(sought: Sought, from: usize, nodes: &[NodeOf<R>]) -> usize
     nodes.len()
 }
 
-// The number of the network of a box, and 1 of any other node.
+// The network of a box, and network 1 at any other node.
 fn network_of(kind: RoleKind) -> NetId
     ensures { result ≡ network_of kind }
 {
     match kind {
         RoleKind::Prp { net, .. } => net,
-        _ => NetId::new(1),
+        _ => NetId::One,
     }
 }
 
-// The number of the network of the node at a place, if there is one.
+// The network of the node at a place, if there is one.
 fn network_in<R: Role>(nodes: &[NodeOf<R>], place: usize) -> NetId
     ensures { result ≡ network_in (slice_get (states_of R.meaning nodes.now) place) }
 {
     match nodes.get(place) {
         Some(node) => network_of(node.kind()),
-        None => NetId::new(1),
+        None => NetId::One,
     }
 }
 

@@ -22,7 +22,7 @@ pub struct RingLanShape {
     pub box_a: usize,
     /// The node of the ring whose interlink is in LAN B.
     pub box_b: usize,
-    /// The number of the PRP network at the ring.
+    /// The PRP network at the ring.
     pub net: NetId,
 }
 

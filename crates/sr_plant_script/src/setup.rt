@@ -78,7 +78,7 @@ impl PlantSetup {
             lan,
             box_a: 0,
             box_b: 1,
-            net: NetId::new(1),
+            net: NetId::One,
         };
         PlantSetup {
             topology: Topology::RingLan(shape),

@@ -2,6 +2,7 @@
 
 ghost use Rattle.std.specs.Prelude.{◌≡◌, ◌<◌, ◌≤◌};
 ghost use Rattle.sr_forwarding.specs.Limits.{greatest_net};
+ghost use Rattle.sr_forwarding.specs.NetIds.{net_of, number_of};
 ghost use Rattle.sr_forwarding.specs.RoleImages.{role_of};
 ghost use Rattle.sr_forwarding.specs.Routes.{interlink_unless_from};
 ghost use Rattle.sr_redbox.specs.Interlinks.{ports_of};
@@ -27,14 +28,17 @@ impl PrpBox {
     pub fn new(mac: Mac, lan: Lan, net: u8) -> PrpBox
         requires numbered { 0 < net }
         requires fits { net ≤ greatest_net }
+        ensures { prp_role_of result ≡ role_of (RoleKind.Prp lan (net_of net)) mac }
+    {
+        PrpBox::of(mac, lan, NetId::new(net))
+    }
+
+    /// The role of the node with this address, at this LAN of this network.
+    pub fn of(mac: Mac, lan: Lan, net: NetId) -> PrpBox
         ensures { prp_role_of result ≡ role_of (RoleKind.Prp lan net) mac }
     {
-        let routing = PrpRouting {
-            lan,
-            net: NetId::new(net),
-        };
         PrpBox {
-            role: OwnRole::of(mac, routing),
+            role: OwnRole::of(mac, PrpRouting { lan, net }),
         }
     }
 }
@@ -50,7 +54,7 @@ pub struct PrpRouting {
 
 // Whether a ring frame goes on into the network of this number: the path of its tag tells the network that it came from.
 fn interlink_for(net: NetId, header: &Header) -> Interlink
-    ensures { ports_of result ≡ interlink_unless_from net header.now }
+    ensures { ports_of result ≡ interlink_unless_from (number_of net) header.now }
 {
     let number = net.number();
     if header.path / 2 == number {

@@ -129,7 +129,7 @@ fn run_reported<R: BufRead, W: Write>(
             run_over(alloc, setup, san, report, reader, writer)
         }
         RoleKind::Prp { lan, net } => {
-            let prp = PrpBox::new(setup.mac, lan, net.number());
+            let prp = PrpBox::of(setup.mac, lan, net);
             run_over(alloc, setup, prp, report, reader, writer)
         }
         RoleKind::Hsr => {

@@ -121,7 +121,7 @@ pub fn run_tally<R: BufRead, W: Write>(
             tally_over(alloc, setup, san, reader, writer)
         }
         RoleKind::Prp { lan, net } => {
-            let prp = PrpBox::new(setup.mac, lan, net.number());
+            let prp = PrpBox::of(setup.mac, lan, net);
             tally_over(alloc, setup, prp, reader, writer)
         }
         RoleKind::Hsr => {

@@ -62,7 +62,7 @@ fn danp(alloc: Global, mac: Mac) -> Option<Node> {
 }
 
 fn prp_box(alloc: Global, mac: Mac, lan: Lan, net: NetId) -> Option<Node> {
-    match Box::new(alloc, PrpBox::new(mac, lan, net.number())) {
+    match Box::new(alloc, PrpBox::of(mac, lan, net)) {
         Ok(role) => node_over(alloc, role),
         Err(_) => None,
     }
@@ -81,9 +81,9 @@ fn node_of(alloc: Global, is: Is, number: u8) -> Option<Node> {
     match is {
         Is::InRing => danh(alloc, mac),
         Is::InLans => danp(alloc, mac),
-        Is::BoxA => prp_box(alloc, mac, Lan::A, NetId::new(1)),
-        Is::BoxB => prp_box(alloc, mac, Lan::B, NetId::new(1)),
-        Is::BoxOf2 => prp_box(alloc, mac, Lan::B, NetId::new(2)),
+        Is::BoxA => prp_box(alloc, mac, Lan::A, NetId::One),
+        Is::BoxB => prp_box(alloc, mac, Lan::B, NetId::One),
+        Is::BoxOf2 => prp_box(alloc, mac, Lan::B, NetId::Two),
         Is::RingBox => ring_box(alloc, mac),
     }
 }
