@@ -4,7 +4,7 @@ ghost use Rattle.std.specs.Prelude.{◌≡◌, true, false, IfOk, IfErr, OnErr};
 ghost use Rattle.sr_node.specs.Arriving.{arrival_answer};
 ghost use Rattle.sr_node.specs.Octets.{OctetsArrived, OctetsRefused};
 ghost use Rattle.sr_node.specs.States.{state_of};
-ghost use Rattle.sr_plant.specs.PortFramings.{framed, HaveNets};
+ghost use Rattle.sr_forwarding.specs.PortFramings.{carried_as};
 ghost use Rattle.sr_plant.specs.Plants.{IsEmptied};
 ghost use Rattle.sr_plant.specs.Steps.{is_loss};
 ghost use Rattle.sr_plant.specs.Flights.{hop_of};
@@ -12,9 +12,8 @@ ghost use Rattle.sr_plant.specs.Carrying.{ComesAs, Lands, FailsToLand};
 
 use crate::flight::Flying;
 use crate::giving::{Given, take_out};
-use crate::port_framing::PortFraming;
 use crate::{PlantFault, Topology};
-use sr_forwarding::{Framing, Outlets, Parcel, ReadFault, Role};
+use sr_forwarding::{Framing, Outlets, Parcel, PortFraming, ReadFault, Role};
 use sr_frame::{Frame, NoMemory, Port};
 use sr_node::{NodeOf, StepFault};
 use std::alloc::Global;
@@ -36,7 +35,6 @@ impl Arriving {
         flying: Flying,
         parcel: &Parcel,
     ) -> Result<Option<Arriving>, NoMemory>
-        requires { HaveNets topology }
         ensures { IfOk result (λ a. ComesAs topology
             (record {
               hop = hop_of flying.hop;
@@ -86,10 +84,10 @@ fn arrive<R: Role>(
     octets: &[u8],
     now: u64,
 ) -> Result<Option<Outlets>, StepFault>
-    ensures ok { IfOk result (λ outlets. OctetsArrived (framed framing)
+    ensures ok { IfOk result (λ outlets. OctetsArrived (carried_as framing)
         (state_of R.meaning node.old) port octets.now now (arrival_answer outlets)
         (state_of R.meaning node.new)) }
-    ensures err { IfErr result (λ f. OctetsRefused (framed framing)
+    ensures err { IfErr result (λ f. OctetsRefused (carried_as framing)
         (state_of R.meaning node.old) port octets.now now f) }
     ensures same { OnErr result (state_of R.meaning node.new
         ≡ state_of R.meaning node.old) }
@@ -107,10 +105,10 @@ pub(crate) fn arrive_out<R: Role>(
     now: u64,
 ) -> Result<Landing, PlantFault>
     requires { IsEmptied (state_of R.meaning node.old) }
-    ensures ok { IfOk result (λ l. Lands (framed framing) (state_of R.meaning node.old)
+    ensures ok { IfOk result (λ l. Lands (carried_as framing) (state_of R.meaning node.old)
         arriving.now.port arriving.now.octets now l up.old.items up.new.items
         (state_of R.meaning node.new)) }
-    ensures err { IfErr result (λ f. FailsToLand (framed framing) (state_of R.meaning node.old)
+    ensures err { IfErr result (λ f. FailsToLand (carried_as framing) (state_of R.meaning node.old)
         arriving.now.port arriving.now.octets now f) }
     ensures same { OnErr result ((state_of R.meaning node.new
         ≡ state_of R.meaning node.old) × (up.new.items ≡ up.old.items)) }

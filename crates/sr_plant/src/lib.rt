@@ -19,7 +19,6 @@ mod hop;
 mod keeping;
 mod outlet;
 mod plant;
-mod port_framing;
 mod putting;
 mod ring;
 mod ring_hops;

@@ -9,7 +9,6 @@ use Rattle.sr_plant.specs.Steps.{Fails, acted, without}
 use Rattle.sr_plant.proofs.ActLemmas.{each_at, at_map, or_map, acted_is}
 use Rattle.sr_plant.proofs.CarryLemmas.{copy_within, receiver_within, carry_fails, taken_comes, taken_in_order, lost_goes, lost_in_order}
 use Rattle.sr_plant.specs.Topologies.{IsJoinedAs}
-use Rattle.sr_plant.proofs.OrderLemmas.{nets_fit}
 use Rattle.sr_plant.proofs.plant.PlantOf.bring.Goals as goal
 
 pub arrive_out-requires : goal.arrive_out-requires
@@ -162,9 +161,6 @@ returns-in_default-clause-in_order g c =
     let t = plant_of p.topology (map (λ n. node_state (g.R.Role.meaning n.role) n.core) (slice_set p.nodes.items a.node c.arrive_out.new.node)) c.remove.new.self (map (λ h. h.items) (slice_set p.handed.items a.node c.arrive_out.new.up)) in
     let plant : t ≡ without s c.args.place = rw (nodes, hosts, v.copies, r.copies, v.rest.0, r.rest.0, v.rest.1, r.rest.1) refl in
     lost_in_order s c.args.place t c.requires.in_order plant
-
-pub framing_of-framing-requires : goal.framing_of-framing-requires
-framing_of-framing-requires g c = nets_fit c.args.self.now.topology _ c.requires.in_order.joined
 
 pub put-requires-clause-joined : goal.put-requires-clause-joined
 put-requires-clause-joined g c =
