@@ -1,4 +1,4 @@
-//! What a line of a script asks for.
+//! What a line of a script of a plant asks for, as a value.
 
 /// Whom a frame is for.
 #[derive(Clone, Copy, Debug)]

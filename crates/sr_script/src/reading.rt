@@ -1,4 +1,4 @@
-//! What a line of a script asks for.
+//! What a line of a script of events at a node asks for.
 
 ghost use Rattle.std.specs.Prelude.{◌≡◌, ◌↔◌, ◌<◌, ◌^◌, ℕ, List, codes, IfOk, IfErr, OnOk, IfSome, IsSomeAnd, IsTrue, ◌++◌, MatchResult, Err, ◌∷◌, []};
 ghost use Rattle.std.specs.Fmt.{decimal};
@@ -124,7 +124,7 @@ fn tick_of(line: &[u8]) -> Option<u64>
 /// What a line asks for at a node of this role. The octets that it names are then in `octets`, and nothing else is.
 ///
 /// # Errors
-/// `Line` where the line is none of a script, whatever memory there is; `Memory`.
+/// `Line` where the line is not a line of a script, whatever memory there is; `Memory`.
 pub(crate) fn command_of(
     role: RoleKind,
     line: &[u8],
@@ -170,6 +170,7 @@ pub(crate) struct FrontArrival {
 /// The arrival at the front of a text, whose line ends where its digits end: nobody has to look for the LF. The octets that it names
 /// are then the first ones of `octets`. None where the front is to be read line by line: it is another line, or has a fault, or its
 /// end is too near to that of the text.
+// speed: D-session-unended
 #[inline(always)]
 pub(crate) fn arrival_at(role: RoleKind, text: &[u8], octets: &mut [u8]) -> Option<FrontArrival>
     ensures { IfSome result (λ a. StandsAtFront role text.now a octets.new) }

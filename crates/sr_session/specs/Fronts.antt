@@ -1,5 +1,5 @@
 -- The whole line at the front of a text, and what is done with it.
-use Rattle.std.specs.Prelude.{◌≡◌, ℕ, ◌+◌, ◌≤◌, ◌<◌, Option, None, Some, List, ◌∷◌, ◌++◌, [], length, drop}
+use Rattle.std.specs.Prelude.{◌≡◌, ℕ, ◌+◌, ◌≤◌, ◌<◌, Option, None, Some, Result, Ok, Err, List, ◌∷◌, ◌++◌, [], length, drop}
 use Rattle.sr_session.specs.declared.fault.FaultKind.{FaultKind}
 use Rattle.sr_session.specs.declared.fault.FaultKind.TheVariants as kind
 use Rattle.sr_session.specs.declared.waiting.Mark.{Mark}
@@ -36,3 +36,9 @@ AddsFront d s number front (Some n) text marks later more t = (line : List ℕ) 
 abbrev pub FrontFails : {S : Type 0} → Dialogue S → S → List ℕ → FaultKind → Type 0
 FrontFails d s front w = IsOneOf w (kind.Line ∷ kind.Memory ∷ []) × (line : List ℕ) × IsFrontLine front line
     × (w ≡ kind.Line → d.Knows s line → ⊥) × (w ≡ kind.Memory → d.Knows s line)
+
+-- What comes of the line at the front. Without a fault it is answered, or nothing is done; with one nothing more waits.
+abbrev pub ObeysFront : {S : Type 0} → Dialogue S → S → ℕ → List ℕ → List ℕ → List Mark → List ℕ → List Mark → S
+    → Result (Option ℕ) FaultKind → Type 0
+ObeysFront d s number front text marks later more t (Ok found) = AddsFront d s number front found text marks later more t
+ObeysFront d s number front text marks later more t (Err w) = FrontFails d s front w × (later ≡ text) × (more ≡ marks)

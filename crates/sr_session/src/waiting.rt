@@ -71,7 +71,8 @@ impl Waiting {
         }
     }
 
-    /// Takes back what stands from a place on.
+    /// Cuts off the text from a place on.
+    // speed: D-session-inlined
     #[inline(always)]
     pub(crate) fn cut(&mut self, start: usize)
         ensures text { self.new.text ≡ take start self.old.text }
@@ -80,10 +81,11 @@ impl Waiting {
         self.text.truncate(start);
     }
 
-    /// Marks what stands from a place on as the text of a line.
+    /// Marks the text from a place on as that of a line.
     ///
     /// # Errors
     /// `Memory`.
+    // speed: D-session-inlined
     #[inline(always)]
     pub(crate) fn mark(&mut self, line: u64, start: usize) -> Result<(), FaultKind>
         ensures text { self.new.text ≡ self.old.text }

@@ -1,4 +1,4 @@
-//! What happens to a plant, and what is printed for it.
+//! A plant obeys an event or a flow, and what comes of it is printed.
 
 ghost use Rattle.std.specs.Prelude.{◌≡◌, ◌++◌, ℕ, List, OnOk, IfErr};
 ghost use Rattle.sr_plant_script.specs.Texts.{all_up_lines};
@@ -14,7 +14,7 @@ use sr_text::Text;
 /// The most carries of one flow.
 const MAX_CARRIES: usize = 100_000;
 
-/// What was handed up is printed and let go.
+/// Prints what was handed up, and drops it.
 fn take_up(network: &mut Network, text: &mut Text) -> Result<(), FaultKind>
     ensures told { OnOk result (text.new
         ≡ text.old ++ all_up_lines 0 network.old.handed) }

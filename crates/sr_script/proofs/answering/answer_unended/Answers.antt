@@ -2,7 +2,7 @@ use Rattle.std.proofs.Common.{◌++◌, ℕ, List, Result, Ok, Err, take, ap, re
 use Rattle.std.specs.Prelude.{OnErr}
 use Rattle.sr_node.specs.Images.{node_state}
 use Rattle.sr_script.specs.declared.reading.Command.TheVariants.{Arrive}
-use Rattle.sr_script.proofs.answering.answer_front.Goals as goal
+use Rattle.sr_script.proofs.answering.answer_unended.Goals as goal
 
 on_err : {A E : Type 0} (r : Result A E) (P : Type 0) → P → OnErr r P
 on_err (Ok x) P p = tt

@@ -1,6 +1,6 @@
 use Rattle.std.proofs.lemmas.Result.{on_ok_weaker}
 use Rattle.sr_plant_script.proofs.FlowLemmas.{refused}
-use Rattle.sr_plant_script.proofs.happening.happen.Goals as goal
+use Rattle.sr_plant_script.proofs.obeying.happen.Goals as goal
 
 pub returns-in-Err-clause-ok : goal.returns-in-Err-clause-ok
 returns-in-Err-clause-ok c =

@@ -1,16 +1,15 @@
-//! Runs that begin with a new node.
+//! The runs of a script on a new node.
 
-ghost use Rattle.std.specs.Prelude.{◌≡◌, ◌⊎◌, IfOk, IfErr, OnOk, IfSome};
+ghost use Rattle.std.specs.Prelude.{◌≡◌, IfOk};
 ghost use Rattle.sr_forwarding.specs.RoleImages.{role_of};
-ghost use Rattle.sr_session.specs.Lines.{lines_of};
 ghost use Rattle.sr_script.specs.Replies.{replay_dialogue};
-ghost use Rattle.sr_session.specs.Runs.{IsAnswered, EndsAt, IsNotBegun};
+ghost use Rattle.sr_session.specs.Runs.{Runs};
 ghost use Rattle.sr_node.specs.States.{state_of};
 ghost use Rattle.sr_script.specs.Stations.{at_work, start_of};
 ghost use Rattle.sr_script.specs.Statuses.{status_dialogue};
 ghost use Rattle.sr_script.specs.Reports.{dialogue_of};
 
-use crate::replaying::NodeSession;
+use crate::node_session::NodeSession;
 use crate::setups::{Report, Setup};
 use crate::status::StatusSession;
 use sr_forwarding::{Danh, Danp, Role, RoleKind};
@@ -21,14 +20,14 @@ use sr_session::{Fault, MAX_LINE, NOT_BEGUN, Session, run_session};
 use std::alloc::{AllocError, Global};
 use std::io::{BufRead, Write};
 
-/// A list of so many octets. It stands apart, so that no proof works out a list of thousands.
+/// A list of so many octets. It is a function of its own, so that no proof works out a list of thousands.
 fn list_of(alloc: Global, count: usize) -> Result<Vec<u8>, AllocError> {
     let mut octets = Vec::new(alloc);
     octets.resize(count, 0)?;
     Ok(octets)
 }
 
-/// A new node over this role, ready for a script. An error where memory was refused.
+/// A new node over this role, ready for a script. An error: an allocation failed.
 pub(crate) fn session_of<P: Role>(
     alloc: Global,
     setup: &Setup,
@@ -49,26 +48,22 @@ pub(crate) fn session_of<P: Role>(
     })
 }
 
-/// Has a session obey the script, and lets it go. It is over any session, so that its proof doesn't go through what a node lets go.
+/// Has a session obey the script, and drops it. It is generic in the session, so that its proof does not go through the drop code of
+/// a node.
 pub(crate) fn run_owned<S: Session + Drop, R: BufRead, W: Write>(
     alloc: Global,
     mut session: S,
     reader: &mut R,
     writer: &mut W,
 ) -> Result<(), Fault>
-    ensures done { OnOk result (IfSome (R.remaining reader.old) (λ input. IsAnswered S.dialogue
-        (S.state session) (lines_of input) (W.contents writer.old) (W.contents writer.new))) }
-    ensures ended { IfErr result (λ fault.
-        IsNotBegun fault (R.remaining reader.old) (R.remaining reader.new) (W.contents writer.old)
-        (W.contents writer.new)
-        ⊎ IfSome (R.remaining reader.old) (λ input.
-        EndsAt S.dialogue (S.state session) (lines_of input) fault (R.remaining reader.new)
-        (W.contents writer.old) (W.contents writer.new))) }
+    ensures { Runs S.dialogue (S.state session) (R.remaining reader.old)
+        (R.remaining reader.new) (W.contents writer.old) (W.contents writer.new) result }
 {
     run_session(alloc, &mut session, reader, writer)
 }
 
-/// Has a new node over this role obey the script. It is compiled for each role, so that no frame asks which role it is.
+/// Has a new node over this role obey the script.
+// speed: D-session-one-loop. Compiled for each role, so that no frame asks which role it is.
 fn run_over<P: Role, R: BufRead, W: Write>(
     alloc: Global,
     setup: &Setup,
@@ -78,15 +73,8 @@ fn run_over<P: Role, R: BufRead, W: Write>(
     writer: &mut W,
 ) -> Result<(), Fault>
     requires { P.meaning role ≡ role_of setup.now.role setup.now.mac }
-    ensures done { OnOk result (IfSome (R.remaining reader.old) (λ input.
-        IsAnswered (dialogue_of report)
-        (start_of setup.now) (lines_of input) (W.contents writer.old) (W.contents writer.new))) }
-    ensures ended { IfErr result (λ fault.
-        IsNotBegun fault (R.remaining reader.old) (R.remaining reader.new) (W.contents writer.old)
-        (W.contents writer.new)
-        ⊎ IfSome (R.remaining reader.old) (λ input.
-        EndsAt (dialogue_of report) (start_of setup.now) (lines_of input) fault
-        (R.remaining reader.new) (W.contents writer.old) (W.contents writer.new))) }
+    ensures { Runs (dialogue_of report) (start_of setup.now) (R.remaining reader.old)
+        (R.remaining reader.new) (W.contents writer.old) (W.contents writer.new) result }
 {
     match session_of(alloc, setup, role) {
         Ok(session) => match report {
@@ -105,15 +93,8 @@ fn run_reported<R: BufRead, W: Write>(
     reader: &mut R,
     writer: &mut W,
 ) -> Result<(), Fault>
-    ensures done { OnOk result (IfSome (R.remaining reader.old) (λ input.
-        IsAnswered (dialogue_of report)
-        (start_of setup.now) (lines_of input) (W.contents writer.old) (W.contents writer.new))) }
-    ensures ended { IfErr result (λ fault.
-        IsNotBegun fault (R.remaining reader.old) (R.remaining reader.new) (W.contents writer.old)
-        (W.contents writer.new)
-        ⊎ IfSome (R.remaining reader.old) (λ input.
-        EndsAt (dialogue_of report) (start_of setup.now) (lines_of input) fault
-        (R.remaining reader.new) (W.contents writer.old) (W.contents writer.new))) }
+    ensures { Runs (dialogue_of report) (start_of setup.now) (R.remaining reader.old)
+        (R.remaining reader.new) (W.contents writer.old) (W.contents writer.new) result }
 {
     match setup.role {
         RoleKind::Danp => {
@@ -146,26 +127,18 @@ fn run_reported<R: BufRead, W: Write>(
 /// lines that the reader has at hand is written together, and flushed, before more is read, and before a fault.
 ///
 /// # Errors
-/// `Line` and `Long` come at the first line that is none of a script, whatever memory there is. `Read`, `Write` and
-/// `Memory` come where the reader, the writer or the allocator fails, and at no such line. What stands before the line of
-/// the fault is answered, and nothing else is written; where the writer failed, a part of the text of that line may be.
+/// `Line` and `Long` come at the first line that is not a line of a script, whatever memory there is. `Read`, `Write` and
+/// `Memory` come where the reader, the writer or an allocation fails, and at no such line. The lines before that of the fault are
+/// answered, and nothing else is written, but for a part of the text of that line where the writer failed.
 pub fn run<R: BufRead, W: Write>(
     alloc: Global,
     setup: &Setup,
     reader: &mut R,
     writer: &mut W,
 ) -> Result<(), Fault>
-    // All lines are lines of a script, and what is written is the answers to them.
-    ensures done { OnOk result (IfSome (R.remaining reader.old) (λ input. IsAnswered replay_dialogue
-        (start_of setup.now) (lines_of input) (W.contents writer.old) (W.contents writer.new))) }
-
-    // Memory was refused before anything was read. Or the lines before that of the fault are answered, and that line has this fault.
-    ensures ended { IfErr result (λ fault.
-        IsNotBegun fault (R.remaining reader.old) (R.remaining reader.new) (W.contents writer.old)
-        (W.contents writer.new)
-        ⊎ IfSome (R.remaining reader.old) (λ input.
-        EndsAt replay_dialogue (start_of setup.now) (lines_of input) fault
-        (R.remaining reader.new) (W.contents writer.old) (W.contents writer.new))) }
+    // What is written is the answers to the lines.
+    ensures { Runs replay_dialogue (start_of setup.now) (R.remaining reader.old)
+        (R.remaining reader.new) (W.contents writer.old) (W.contents writer.new) result }
 {
     run_reported(alloc, setup, Report::Frames, reader, writer)
 }
@@ -182,17 +155,9 @@ pub fn run_status<R: BufRead, W: Write>(
     reader: &mut R,
     writer: &mut W,
 ) -> Result<(), Fault>
-    // All lines are lines of a script, and what is written is the refusals of them, and then the status.
-    ensures done { OnOk result (IfSome (R.remaining reader.old) (λ input. IsAnswered status_dialogue
-        (start_of setup.now) (lines_of input) (W.contents writer.old) (W.contents writer.new))) }
-
-    // Memory was refused before anything was read. Or the lines before that of the fault are answered, and that line has this fault.
-    ensures ended { IfErr result (λ fault.
-        IsNotBegun fault (R.remaining reader.old) (R.remaining reader.new) (W.contents writer.old)
-        (W.contents writer.new)
-        ⊎ IfSome (R.remaining reader.old) (λ input.
-        EndsAt status_dialogue (start_of setup.now) (lines_of input) fault
-        (R.remaining reader.new) (W.contents writer.old) (W.contents writer.new))) }
+    // What is written is the refusals among the answers to the lines, and then the status.
+    ensures { Runs status_dialogue (start_of setup.now) (R.remaining reader.old)
+        (R.remaining reader.new) (W.contents writer.old) (W.contents writer.new) result }
 {
     run_reported(alloc, setup, Report::Status, reader, writer)
 }

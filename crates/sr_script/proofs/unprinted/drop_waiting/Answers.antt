@@ -3,7 +3,7 @@ use Rattle.sr_node.specs.Images.{State, node_state}
 use Rattle.sr_node.specs.Outboxes.{box_at}
 use Rattle.sr_script.specs.Replies.{emptied}
 use Rattle.sr_script.proofs.PrintedLines.{none_first, emptied_left, is_emptied}
-use Rattle.sr_script.proofs.noting.drop_waiting.Goals as goal
+use Rattle.sr_script.proofs.unprinted.drop_waiting.Goals as goal
 
 pub parcels-preserved : goal.parcels-preserved
 parcels-preserved g c =

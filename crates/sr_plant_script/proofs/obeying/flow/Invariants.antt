@@ -1,6 +1,6 @@
 use Rattle.std.proofs.Common.{◌≡◌, ◌++◌, ℕ, List}
 use Rattle.sr_plant_script.specs.Happenings.{Carries}
-use Rattle.sr_plant_script.proofs.happening.flow.Given as goal
+use Rattle.sr_plant_script.proofs.obeying.flow.Given as goal
 
 -- so many carries so far, and their lines
 abbrev pub invariant-loop-carries : goal.invariant-loop-carries

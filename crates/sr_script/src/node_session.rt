@@ -1,6 +1,7 @@
-//! A script of events at a node: what it hands out and puts out is printed.
+//! A node at work on a script of events: what it puts out is printed.
 
-use crate::answering::{answer, answer_front};
+use crate::answering::{answer, answer_unended};
+use crate::setups::Report;
 use sr_forwarding::{Role, RoleKind};
 use sr_node::NodeOf;
 use sr_session::{FaultKind, Session};
@@ -39,6 +40,7 @@ impl<P: Role> Session for NodeSession<P> {
         answer(
             self.alloc,
             self.role,
+            Report::Frames,
             &mut self.node,
             number,
             line,
@@ -48,13 +50,13 @@ impl<P: Role> Session for NodeSession<P> {
         )
     }
 
-    fn answer_front(
+    fn answer_unended(
         &mut self,
         number: u64,
         front: &[u8],
         text: &mut Text,
     ) -> Result<Option<usize>, FaultKind> {
-        answer_front(
+        answer_unended(
             self.role,
             &mut self.node,
             number,

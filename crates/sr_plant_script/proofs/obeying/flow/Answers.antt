@@ -1,7 +1,7 @@
 use Rattle.std.proofs.Common.{◌≡◌, ◌≤◌, length, arith}
 use Rattle.std.proofs.lemmas.Result.{on_ok_weaker}
 use Rattle.sr_plant_script.proofs.FlowLemmas.{carried_more, flow_empty, flow_full, flow_refused}
-use Rattle.sr_plant_script.proofs.happening.flow.Goals as goal
+use Rattle.sr_plant_script.proofs.obeying.flow.Goals as goal
 
 pub returns-then-in_flight-eq0-clause-ok : goal.returns-then-in_flight-eq0-clause-ok
 returns-then-in_flight-eq0-clause-ok c =

@@ -2,7 +2,7 @@ use Rattle.std.proofs.Common.{◌≡◌, length}
 use Rattle.sr_node.specs.Images.{node_state}
 use Rattle.sr_node.specs.Outboxes.{box_at}
 use Rattle.sr_script.specs.Replies.{emptied}
-use Rattle.sr_script.proofs.noting.drop_waiting.Given as goal
+use Rattle.sr_script.proofs.unprinted.drop_waiting.Given as goal
 
 abbrev pub invariant-parcels : goal.invariant-parcels
 invariant-parcels g l =

@@ -1,6 +1,6 @@
 use Rattle.sr_node.specs.Outboxes.{box_at}
 use Rattle.sr_script.proofs.PrintedLines.{line_of_first}
-use Rattle.sr_script.proofs.printing.append_first_at.Goals as goal
+use Rattle.sr_script.proofs.printing.append_first.Goals as goal
 
 pub returns-in_ok-append_parcel-clause-ok : goal.returns-in_ok-append_parcel-clause-ok
 returns-in_ok-append_parcel-clause-ok g c =
