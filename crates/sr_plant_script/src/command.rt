@@ -24,7 +24,7 @@ pub enum Verb {
     Mend,
 }
 
-/// What a line asks for. Its octets stand beside it.
+/// What a line asks for. The octets that it names are kept beside it.
 #[derive(Clone, Copy, Debug)]
 pub enum Command {
     /// Nothing: the line is empty or begins with `#`.

@@ -112,7 +112,7 @@ fn bare_command(line: &[u8]) -> Option<Command>
     Some(Command::On(verb, place))
 }
 
-/// Reads what stands behind the word `send`: the sender, the receiver and the octets.
+/// Reads the text behind the word `send`: the sender, the receiver and the octets.
 fn sending(text: &[u8], octets: &mut Vec<u8>) -> Result<(usize, Receiver), FaultKind>
     ensures found { IfOk result (λ parts. IsSending text.now parts.0 parts.1 octets.new.items) }
     ensures only { (node : ℕ) (receiver : Receiver) (os : List ℕ)

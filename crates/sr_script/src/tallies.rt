@@ -1,4 +1,4 @@
-//! A script of events at a node: at the end it is told what the node knows of other nodes, and what was counted of the lines.
+//! A node at work on a script of events: at the end is printed what it knows of other nodes, and what was counted of the lines.
 
 ghost use Rattle.std.specs.Prelude.{◌≡◌};
 ghost use Rattle.sr_forwarding.specs.RoleImages.{role_of};

@@ -9,14 +9,14 @@ use Rattle.sr_session.specs.Octets.{Lacks}
 use Rattle.sr_session.specs.Runs.{Dialogue}
 use Rattle.sr_session.specs.Turns.{AddsAnswer}
 
--- a line that is not too long stands at the front of a text, and then the LF that ends it
+-- the text begins with this line, which is not too long, and the LF that ends it
 pub record IsFrontLine (text line : List ℕ) : Type 0 where
   pub unbroken : Lacks 10 line
   pub short : length line ≤ longest_line
   pub parts : text ≡ line ++ 10 ∷ drop (length line + 1) text
   pub within : length line < length text
 
--- The line at the front, of this length, is known and answered, and the answer stands behind a text. Without a length nothing is done.
+-- The line at the front, of this length, is known and answered, and the answer is appended to a text. Without a length nothing is done.
 abbrev pub AnswersFront : {S : Type 0} → Dialogue S → S → ℕ → List ℕ → Option ℕ → List ℕ → List ℕ → S → Type 0
 AnswersFront d s number front None text later t = (later ≡ text) × (t ≡ s)
 AnswersFront d s number front (Some n) text later t = (line answer : List ℕ) × IsFrontLine front line × (n ≡ length line)

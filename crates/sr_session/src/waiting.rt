@@ -19,7 +19,7 @@ pub(crate) struct Mark {
 }
 
 /// Writes a text. The answer is how many of its octets the writer took: all, unless it failed.
-pub(crate) fn write_out<W: Write>(writer: &mut W, text: &[u8]) -> usize
+pub fn write_out<W: Write>(writer: &mut W, text: &[u8]) -> usize
     ensures bound { result ≤ length text.now }
     ensures held { Appends (W.contents writer.old) (W.contents writer.new) (take result text.now) }
 {

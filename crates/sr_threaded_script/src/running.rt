@@ -1,6 +1,6 @@
 //! A script whose nodes run on threads.
 
-ghost use Rattle.std.specs.Prelude.{◌≡◌, ◌≤◌, length, take, true, OnOk, OnErr, ℕ, List};
+ghost use Rattle.std.specs.Prelude.{◌≡◌, true, OnOk, OnErr, ℕ, List};
 ghost use Rattle.std.specs.Io.KnownBytes.{Appends};
 ghost use Rattle.sr_threaded_script.specs.Reports.{IsReport};
 ghost use Rattle.sr_threaded_script.specs.Runs.{no_sendings_of, RunsThreaded, WritesFront};
@@ -9,32 +9,12 @@ use crate::fault::{ThreadedFault, fault_at};
 use crate::network::run_network;
 use crate::session::SendSession;
 use crate::setup::ThreadedSetup;
-use sr_session::{Fault, FaultKind, run_session};
+use sr_session::{Fault, FaultKind, run_session, write_out};
 use sr_text::Text;
 use std::alloc::Global;
-use std::io::{BufRead, ErrorKind, Write};
+use std::io::{BufRead, Write};
 use std::sync::Wait;
 use std::thread::Threads;
-
-// Writes a text. The answer is how many of its octets the writer took: all, unless it failed.
-fn write_out<O: Write>(writer: &mut O, text: &[u8]) -> usize
-    ensures bound { result ≤ length text.now }
-    ensures held { Appends (O.contents writer.old) (O.contents writer.new) (take result text.now) }
-{
-    let mut taken = 0;
-    for _ in 0..u64::MAX {
-        if taken == text.len() {
-            return taken;
-        }
-        match writer.write(&text[taken..]) {
-            Ok(0) => return taken,
-            Ok(count) => taken += count,
-            Err(error) if error.kind() == ErrorKind::Interrupted => {}
-            Err(_) => return taken,
-        }
-    }
-    taken
-}
 
 // Writes what is printed at the end. False where the writer failed.
 fn write_report<O: Write>(writer: &mut O, text: &Text) -> bool
