@@ -1,8 +1,7 @@
-use Rattle.std.proofs.Common.{inl, subst}
+use Rattle.std.proofs.Common.{subst}
 use Rattle.std.specs.Prelude.{IfSome}
 use Rattle.sr_session.specs.Lines.{lines_of}
 use Rattle.sr_session.specs.Runs.{IsAnswered}
-use Rattle.sr_session.specs.RunLemmas.{runs_from}
 use Rattle.sr_threaded_script.specs.Lines.{threaded_dialogue}
 use Rattle.sr_threaded_script.specs.Runs.{no_sendings_of}
 use Rattle.sr_threaded_script.proofs.Taken.{runs_behind}
@@ -15,6 +14,3 @@ returns-in-Ok g c =
     let left = g.R.Read.remaining c.args.reader.now in
     runs_behind (no_sendings_of c.args.setup.now) c.report.result left _ held mid _ c.report.ensures.done c.report.ensures.failed
     (subst (λ s. IfSome left (λ input. IsAnswered threaded_dialogue s (lines_of input) held mid)) c.new-session.ensures c.in-Ok.ensures)
-
-pub returns-in-Err : goal.returns-in-Err
-returns-in-Err g c = inl (runs_from threaded_dialogue _ _ _ _ _ _ _ c.new-session.ensures c.in-Err.ensures)
