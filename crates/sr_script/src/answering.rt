@@ -4,10 +4,9 @@ ghost use Rattle.std.specs.Prelude.{◌≡◌, ◌++◌, ◌∷◌, [], ℕ, Lis
 ghost use Rattle.std.specs.Option.{option_copied};
 ghost use Rattle.sr_node.specs.declared.event.Event.TheVariants as event;
 ghost use Rattle.sr_node.specs.Arriving.{arrival_answer};
-ghost use Rattle.sr_node.specs.Faults.{or_no_memory};
 ghost use Rattle.sr_node.specs.States.{state_of};
-ghost use Rattle.sr_node.specs.Octets.{OctetsArrived, OctetsRefused};
-ghost use Rattle.sr_node.specs.Steps.{Step, refusal_of};
+ghost use Rattle.sr_node.specs.Octets.{TakesOctets};
+ghost use Rattle.sr_node.specs.Steps.{TakesEvent};
 ghost use Rattle.sr_session.specs.Lines.{IsOneOf};
 ghost use Rattle.sr_session.specs.Octets.{StillHolds};
 ghost use Rattle.sr_script.specs.Commands.{IsEventLine};
@@ -85,12 +84,8 @@ pub(crate) fn arrive<R: Role>(
     octets: &[u8],
     time: u64,
 ) -> Result<Option<Outlets>, StepFault>
-    ensures taken { IfOk result (λ outlets. OctetsArrived (carriage role port)
-        (state_of R.meaning node.old) port octets.now time (arrival_answer outlets)
-        (state_of R.meaning node.new)) }
-    ensures refused { IfErr result (λ f. OctetsRefused (carriage role port)
-        (state_of R.meaning node.old) port octets.now time f) }
-    ensures same { OnErr result (state_of R.meaning node.new ≡ state_of R.meaning node.old) }
+    ensures { TakesOctets arrival_answer (carriage role port) (state_of R.meaning node.old) port
+        octets.now time result (state_of R.meaning node.new) }
 {
     // One call for each kind of framing: `receive` is compiled for the framing.
     match framing_at(role, port) {
@@ -118,13 +113,8 @@ fn send<R: Role>(
     octets: &mut Vec<u8>,
     time: u64,
 ) -> Result<Answer, StepFault>
-    ensures taken { IfOk result (λ a. Step (state_of R.meaning node.old) (event.Send
-        octets.old.items time) a (state_of R.meaning node.new)) }
-    ensures ok { OnOk result (refusal_of (state_of R.meaning node.old) (event.Send octets.old.items
-        time) ≡ None) }
-    ensures refused { IfErr result (λ f. f ≡ or_no_memory (refusal_of (state_of R.meaning node.old)
-        (event.Send octets.old.items time))) }
-    ensures same { OnErr result (state_of R.meaning node.new ≡ state_of R.meaning node.old) }
+    ensures { TakesEvent (state_of R.meaning node.old) (event.Send octets.old.items time) result
+        (state_of R.meaning node.new) }
 {
     match view(octets) {
         Ok(_) => {}
@@ -142,12 +132,8 @@ fn send<R: Role>(
 // speed: D-session-inlined
 #[inline(never)]
 fn tick<R: Role>(node: &mut NodeOf<R>, now: u64) -> Result<Answer, StepFault>
-    ensures taken { IfOk result (λ a. Step (state_of R.meaning node.old) (event.Tick now) a
-        (state_of R.meaning node.new)) }
-    ensures ok { OnOk result (refusal_of (state_of R.meaning node.old) (event.Tick now) ≡ None) }
-    ensures refused { IfErr result (λ f. f ≡ or_no_memory (refusal_of (state_of R.meaning node.old)
-        (event.Tick now))) }
-    ensures same { OnErr result (state_of R.meaning node.new ≡ state_of R.meaning node.old) }
+    ensures { TakesEvent (state_of R.meaning node.old) (event.Tick now) result
+        (state_of R.meaning node.new) }
 {
     node.step(&Event::Tick { now })
 }
