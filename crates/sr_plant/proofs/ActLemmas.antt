@@ -7,7 +7,7 @@ use Rattle.sr_forwarding.specs.Parcels.{ParcelImage}
 use Rattle.sr_node.specs.Images.{State}
 use Rattle.sr_plant_laws.specs.Lists.{Each}
 use Rattle.sr_plant.specs.declared.topology.Topology.{Topology}
-use Rattle.sr_plant.specs.declared.giving.Given.{Given}
+use Rattle.sr_plant.specs.declared.node_step.Given.{Given}
 use Rattle.sr_plant.specs.Copies.{Copy, is_stopped}
 use Rattle.sr_plant.specs.Puts.{all_put, put_out, those_passing}
 use Rattle.sr_plant.specs.Plants.{Plant}

@@ -4,7 +4,7 @@ use Rattle.sr_forwarding.specs.Parcels.{ParcelImage}
 use Rattle.sr_node.specs.Images.{State, time_at}
 use Rattle.sr_plant.specs.declared.event.PlantEvent.TheVariants.{Carry}
 use Rattle.sr_plant.specs.declared.fault.PlantFault.{PlantFault}
-use Rattle.sr_plant.specs.declared.giving.Given.{Given}
+use Rattle.sr_plant.specs.declared.node_step.Given.{Given}
 use Rattle.sr_plant.specs.declared.arriving.Arriving.{Arriving}
 use Rattle.sr_plant.specs.Copies.{Copy}
 use Rattle.sr_plant.specs.Topologies.{framing_of}

@@ -12,7 +12,7 @@ use Rattle.sr_node.specs.Octets.{OctetsArrived, OctetsRefused}
 use Rattle.sr_plant.specs.declared.topology.Topology.{Topology}
 use Rattle.sr_plant.specs.declared.fault.PlantFault.{PlantFault}
 use Rattle.sr_plant.specs.declared.fault.PlantFault.TheVariants.{Node, NoMemory}
-use Rattle.sr_plant.specs.declared.giving.Given.{Given}
+use Rattle.sr_plant.specs.declared.node_step.Given.{Given}
 use Rattle.sr_plant.specs.declared.arriving.Arriving.{Arriving}
 use Rattle.sr_plant.specs.declared.arriving.Landing.{Landing}
 use Rattle.sr_plant.specs.declared.arriving.Landing.TheVariants.{Lost, Taken}

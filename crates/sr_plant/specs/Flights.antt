@@ -5,8 +5,8 @@ use Rattle.sr_forwarding.specs.Parcels.{ParcelImage, plain_parcel}
 use Rattle.sr_plant_laws.specs.Ledger.{Hop as Step}
 use Rattle.sr_plant_laws.specs.Lists.{how_many}
 use Rattle.sr_plant.specs.declared.hop.Hop.{Hop}
-use Rattle.sr_plant.specs.declared.keeping.Kept.{Kept}
-use Rattle.sr_plant.specs.declared.flight.Flying.{Flying}
+use Rattle.sr_plant.specs.declared.flight.parcels.Kept.{Kept}
+use Rattle.sr_plant.specs.declared.flight.copies.Flying.{Flying}
 use Rattle.sr_plant.specs.Copies.{Copy}
 
 -- of how many copies in flight a parcel is

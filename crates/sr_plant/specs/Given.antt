@@ -7,7 +7,7 @@ use Rattle.sr_node.specs.declared.event.Event.{Event}
 use Rattle.sr_node.specs.Images.{State}
 use Rattle.sr_node.specs.Outboxes.{Outboxes}
 use Rattle.sr_node.specs.Steps.{Step, refusal_of}
-use Rattle.sr_plant.specs.declared.giving.Given.{Given}
+use Rattle.sr_plant.specs.declared.node_step.Given.{Given}
 use Rattle.sr_plant.specs.Steps.{emptied}
 
 -- at each outlet one parcel at most

@@ -1,6 +1,6 @@
 -- What happens to a plant with an event: from one plant to the next, by cases of the event.
 use Rattle.std.specs.Prelude.{◌≡◌, ℕ, ◌⊎◌, Bool, true, false, not, nat_lt, List, [], ◌++◌, length, Option, None, Some, if◌then◌else◌}
-use Rattle.std.specs.Prelude.{slice_get, slice_set, slice_index_or}
+use Rattle.std.specs.Prelude.{slice_get, slice_set, slice_index_or, Result, OnOk, OnErr, IfErr}
 use Rattle.std.specs.List.{filter, remove}
 use Rattle.sr_forwarding.specs.declared.fault.ReadFault.{ReadFault}
 use Rattle.sr_forwarding.specs.Encoding.{IsWritten, write_fault}
@@ -21,7 +21,7 @@ use Rattle.sr_plant.specs.declared.fault.PlantFault.TheVariants.{NoSuchNode, NoS
 use Rattle.sr_plant.specs.Topologies.{framing_of}
 use Rattle.sr_plant.specs.Copies.{Copy, is_on, Doubles}
 use Rattle.sr_plant.specs.Puts.{put_out, those_passing}
-use Rattle.sr_plant.specs.Plants.{Plant}
+use Rattle.sr_plant.specs.Plants.{Plant, IsInOrder}
 
 -- a node after all that waited in it was taken out
 abbrev pub emptied : State → State
@@ -138,3 +138,12 @@ Fails s (Tick i now) f = (f ≡ NoMemory) ⊎ NodeRefuses s i (node.Tick now) f
 -- the plant refuses an event with this fault
 abbrev pub PlantRefuses : Plant → PlantEvent → PlantFault → Type 0
 PlantRefuses s e f = (plant_refusal s e ≡ Some f) ⊎ ((plant_refusal s e ≡ None) × Fails s e f)
+
+-- What a plant does with an event: it takes one step, and only where there is no reason to refuse the event; or it refuses the event and
+-- stays as it is. Either way it is in order.
+pub record TakesEvent (s : Plant) (e : PlantEvent) (result : Result (Unit {0}) PlantFault) (t : Plant) : Type 0 where
+  pub step : OnOk result (PlantStep s e t)
+  pub ok : OnOk result (plant_refusal s e ≡ None)
+  pub err : IfErr result (λ f. PlantRefuses s e f)
+  pub same : OnErr result (t ≡ s)
+  pub in_order : IsInOrder t

@@ -7,7 +7,7 @@ ghost use Rattle.sr_plant.specs.PortFramings.{network_of};
 ghost use Rattle.sr_plant.specs.Building.{is_plant, opening, plant_fault};
 ghost use Rattle.sr_plant.specs.Coupled.{is_sought, box_place, network_in, second_of, ring_lan_of, two_rings_of};
 
-use crate::fitness::{are_few, is_lan, is_plant_of_both};
+use crate::building::{are_few, is_lan, is_plant_of_both};
 use crate::{Join, PlantFault, PlantOf, RingLanShape, Topology, TwoRingsShape};
 use sr_forwarding::{Role, RoleKind};
 use sr_node::NodeOf;

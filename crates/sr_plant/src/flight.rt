@@ -1,37 +1,29 @@
 //! The copies in flight. Each parcel is kept once, until its last copy is gone.
 
-ghost use Rattle.std.specs.Prelude.{◌≡◌, ◌≤◌, ◌<◌, ◌+◌, [], ◌∷◌, ◌++◌, length, filter, not, remove, slice_get, IsSome, IfOk, OnOk, OnErr, Some, option_to_list};
-ghost use Rattle.std.specs.VecDeque.{deque_len, deque_capacity};
-ghost use Rattle.slab.specs.Slab.{get, slab_len};
+ghost use Rattle.std.specs.Prelude.{◌≡◌, ◌≤◌, ◌<◌, ◌+◌, [], ◌++◌, length, filter, not, remove, IfOk, OnOk, OnErr, option_to_list};
 ghost use Rattle.sr_plant.specs.Copies.{is_on, Doubles};
 ghost use Rattle.sr_plant.specs.Limits.{most_members};
 ghost use Rattle.sr_plant.specs.Puts.{all_put, those_passing};
-ghost use Rattle.sr_plant.specs.Flights.{AreCounted, AreUsed, AreUsedBut, copy_in, copies_in, parcel_of};
 ghost use Rattle.sr_plant.specs.Carrying.{OneComesAs};
 ghost use Rattle.sr_plant.specs.PortFramings.{HaveNets};
 ghost use Rattle.sr_plant.specs.Topologies.{IsJoinedAs};
 
+mod copies;
+mod parcels;
+
+pub(crate) use copies::Flying;
+
 use crate::Topology;
 use crate::arriving::Arriving;
-use crate::hop::Hop;
-use crate::keeping::{Kept, add_copy, drop_copy, drop_unused};
 use crate::outlet::Outlet;
-use crate::putting::put_copies;
+use copies::{attach, keep_off, put_copies};
+use parcels::{Kept, drop_copy, drop_unused};
 use slab::Slab;
 use sr_forwarding::Parcel;
-use sr_frame::{NoMemory, Port};
+use sr_frame::NoMemory;
 use std::alloc::Global;
 use std::collections::VecDeque;
 use std::marker::Model;
-
-/// A copy in flight: where its parcel is kept, where it leads, and the node and the outlet that put it out.
-#[derive(Clone, Copy)]
-pub(crate) struct Flying {
-    pub(crate) key: usize,
-    pub(crate) hop: Hop,
-    pub(crate) from: usize,
-    pub(crate) outlet: Port,
-}
 
 /// The copies in flight, in the order in which they were put out.
 #[derive(Drop)]
@@ -58,74 +50,6 @@ impl Model for Flight {
     } };
 
     ghost invariant = { λ f. AreCounted f.kept f.places.items × AreUsed f.kept };
-}
-
-// The copy goes behind all others.
-fn put_last(places: &mut VecDeque<Flying>, flying: Flying)
-    requires { deque_len places.old < deque_capacity places.old }
-    ensures items { places.new.items ≡ places.old.items ++ flying ∷ [] }
-    ensures len { deque_len places.new ≡ deque_len places.old + 1 }
-    ensures capacity { deque_capacity places.new ≡ deque_capacity places.old }
-{
-    places.push_back_reserved(flying);
-}
-
-/// One copy more of a parcel that is kept.
-pub(crate) fn attach(kept: &mut Slab<Kept>, places: &mut VecDeque<Flying>, flying: Flying)
-    requires room { deque_len places.old < deque_capacity places.old }
-    requires counted { AreCounted kept.old places.old.items }
-    requires used { AreUsedBut flying.key kept.old }
-    requires there { IsSome (get kept.old flying.key) }
-    ensures counted { AreCounted kept.new places.new.items }
-    ensures used { AreUsed kept.new }
-    ensures copies { copies_in kept.new places.new.items
-        ≡ copies_in kept.old places.old.items ++ copy_in kept.old flying ∷ [] }
-    ensures there { IsSome (get kept.new flying.key) }
-    ensures parcel { parcel_of (get kept.new flying.key) ≡ parcel_of (get kept.old flying.key) }
-    ensures kept_len { slab_len kept.new ≡ slab_len kept.old }
-    ensures kept_capacity { kept.new.capacity ≡ kept.old.capacity }
-    ensures len { deque_len places.new ≡ deque_len places.old + 1 }
-    ensures capacity { deque_capacity places.new ≡ deque_capacity places.old }
-{
-    add_copy(kept, flying.key);
-    put_last(places, flying);
-}
-
-// A copy that was taken out goes last, if it is not on this link.
-fn look_at(kept: &mut Slab<Kept>, places: &mut VecDeque<Flying>, seen: Flying, link: usize)
-    requires room { deque_len places.old < deque_capacity places.old }
-    requires counted { AreCounted kept.old (seen ∷ places.old.items) }
-    requires used { AreUsed kept.old }
-    ensures counted { AreCounted kept.new places.new.items }
-    ensures used { AreUsed kept.new }
-    ensures copies { copies_in kept.new places.new.items
-        ≡ copies_in kept.old places.old.items
-        ++ filter (λ c. not (is_on link c)) (copy_in kept.old seen ∷ []) }
-    ensures len { deque_len places.new ≤ deque_len places.old + 1 }
-    ensures capacity { deque_capacity places.new ≡ deque_capacity places.old }
-{
-    if seen.hop.is_on(link) {
-        drop_copy(kept, seen.key);
-        return;
-    }
-    put_last(places, seen);
-}
-
-// The copies that are not on a link stay.
-fn keep_off(kept: &mut Slab<Kept>, places: &mut VecDeque<Flying>, link: usize)
-    requires counted { AreCounted kept.old places.old.items }
-    requires used { AreUsed kept.old }
-    ensures counted { AreCounted kept.new places.new.items }
-    ensures used { AreUsed kept.new }
-    ensures copies { copies_in kept.new places.new.items
-        ≡ filter (λ c. not (is_on link c)) (copies_in kept.old places.old.items) }
-{
-    for _ in 0..places.len() {
-        let Some(flying) = places.pop_front() else {
-            return;
-        };
-        look_at(kept, places, flying, link);
-    }
 }
 
 impl Flight {

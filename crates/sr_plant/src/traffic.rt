@@ -11,7 +11,7 @@ ghost use Rattle.sr_plant.specs.Topologies.{IsJoinedAs};
 use crate::Topology;
 use crate::arriving::Arriving;
 use crate::flight::Flight;
-use crate::giving::Given;
+use crate::node_step::Given;
 use crate::outlet::Outlet;
 use sr_frame::{NoMemory, Port};
 use std::alloc::Global;
