@@ -1,6 +1,6 @@
 -- Of what nodes a plant is made, and how it begins.
 use Rattle.std.specs.Prelude.{ℕ, suc, ◌+◌, Bool, true, false, not, ◌&&◌, ◌==◌, nat_le, nat_lt, Option}
-use Rattle.std.specs.Prelude.{None, Some, List, [], ◌∷◌, length, replicate}
+use Rattle.std.specs.Prelude.{None, Some, List, [], ◌∷◌, length, replicate, ◌≡◌, Result, IfOk, OnOk, IfErr}
 use Rattle.std.specs.List.{list_any}
 use Rattle.sr_frame.specs.declared.fields.Mac.{Mac}
 use Rattle.sr_frame.specs.Addresses.{mac_eq}
@@ -21,7 +21,7 @@ use Rattle.sr_plant.specs.declared.fault.PlantFault.{PlantFault}
 use Rattle.sr_plant.specs.declared.fault.PlantFault.TheVariants.{BadPlant, NoMemory}
 use Rattle.sr_plant.specs.Limits.{fewest_nodes, most_nodes, fewest_with_boxes, most_in_lans}
 use Rattle.sr_plant.specs.Topologies.{link_count, kind_of}
-use Rattle.sr_plant.specs.Plants.{Plant}
+use Rattle.sr_plant.specs.Plants.{Plant, IsInOrder}
 
 abbrev pub is_lan : Lan → Lan → Bool
 is_lan lan.A lan.A = true
@@ -127,3 +127,10 @@ opening topology ns = record {
 abbrev pub plant_fault : Bool → PlantFault
 plant_fault true = NoMemory
 plant_fault false = BadPlant
+
+-- A network is made of these nodes, and begins in order, only where they make a plant; else the fault says why not.
+pub record MakesPlant {T : Type 0} (result : Result T PlantFault) (plant : T → Plant) (topology : Topology) (ns : List State) : Type 0 where
+  pub begun : IfOk result (λ made. plant made ≡ opening topology ns)
+  pub in_order : IfOk result (λ made. IsInOrder (plant made))
+  pub ok : OnOk result (is_plant topology ns ≡ true)
+  pub err : IfErr result (λ fault. fault ≡ plant_fault (is_plant topology ns))

@@ -1,10 +1,9 @@
 //! How a plant is made, and of which nodes.
 
-ghost use Rattle.std.specs.Prelude.{◌≡◌, ◌<◌, map, length, replicate, [], true, IfOk, OnOk, IfErr};
+ghost use Rattle.std.specs.Prelude.{◌≡◌, ◌<◌, map, length, replicate, [], IfOk};
 ghost use Rattle.sr_node.specs.States.{state_of};
 ghost use Rattle.sr_plant.specs.Images.{plant_state, states_of};
-ghost use Rattle.sr_plant.specs.Plants.{IsInOrder};
-ghost use Rattle.sr_plant.specs.Building.{is_lan, is_kind, is_fit, are_fit, has_address, are_apart, are_apart_from, is_plant, are_few, is_plant_of_both, opening, plant_fault};
+ghost use Rattle.sr_plant.specs.Building.{is_lan, is_kind, is_fit, are_fit, has_address, are_apart, are_apart_from, is_plant, are_few, is_plant_of_both, MakesPlant};
 
 use crate::size::MAX_NODES;
 use crate::{PlantFault, PlantOf, Topology, Traffic};
@@ -152,13 +151,7 @@ impl<R: Role> PlantOf<R> {
         topology: Topology,
         nodes: Vec<NodeOf<R>>,
     ) -> Result<PlantOf<R>, PlantFault>
-        ensures begun { IfOk result (λ p.
-            plant_state R.meaning p
-            ≡ opening topology (states_of R.meaning nodes.items)) }
-        ensures in_order { IfOk result (λ p. IsInOrder (plant_state R.meaning p)) }
-        ensures ok { OnOk result (is_plant topology (states_of R.meaning nodes.items) ≡ true) }
-        ensures err { IfErr result (λ f. f ≡ plant_fault
-            (is_plant topology (states_of R.meaning nodes.items))) }
+        ensures { MakesPlant result (plant_state R.meaning) topology (states_of R.meaning nodes.items) }
     {
         if !is_plant(topology, &nodes) {
             return Err(PlantFault::BadPlant);

@@ -1,10 +1,9 @@
 //! Coupled networks.
 
-ghost use Rattle.std.specs.Prelude.{◌≡◌, ◌≤◌, ◌<◌, ◌++◌, ◌&&◌, nat_le, length, slice_get, true, IfOk, OnOk, IfErr};
+ghost use Rattle.std.specs.Prelude.{◌≡◌, ◌≤◌, ◌<◌, ◌++◌, ◌&&◌, nat_le, length, slice_get};
 ghost use Rattle.sr_plant.specs.Images.{plant_state, states_of};
-ghost use Rattle.sr_plant.specs.Plants.{IsInOrder};
 ghost use Rattle.sr_plant.specs.PortFramings.{network_of};
-ghost use Rattle.sr_plant.specs.Building.{is_plant, opening, plant_fault};
+ghost use Rattle.sr_plant.specs.Building.{MakesPlant};
 ghost use Rattle.sr_plant.specs.Coupled.{is_sought, box_place, network_in, second_of, ring_lan_of, two_rings_of};
 
 use crate::building::{are_few, is_lan, is_plant_of_both};
@@ -147,13 +146,8 @@ fn plant_of_both<R: Role>(
 ) -> Result<CoupledOf<R>, PlantFault>
     requires first { length first.items < 1000 }
     requires behind { length behind.items < 1000 }
-    ensures begun { IfOk result (λ c. plant_state R.meaning c.plant
-        ≡ opening topology (states_of R.meaning first.items ++ states_of R.meaning behind.items)) }
-    ensures in_order { IfOk result (λ c. IsInOrder (plant_state R.meaning c.plant)) }
-    ensures ok { OnOk result (is_plant topology
-        (states_of R.meaning first.items ++ states_of R.meaning behind.items) ≡ true) }
-    ensures err { IfErr result (λ f. f ≡ plant_fault (is_plant topology
-        (states_of R.meaning first.items ++ states_of R.meaning behind.items))) }
+    ensures { MakesPlant result (λ made. plant_state R.meaning made.plant) topology
+        (states_of R.meaning first.items ++ states_of R.meaning behind.items) }
 {
     if !is_plant_of_both(topology, &first, &behind) {
         return Err(PlantFault::BadPlant);
@@ -182,17 +176,9 @@ impl<R: Role> CoupledOf<R> {
         ring: Vec<NodeOf<R>>,
         lan: Vec<NodeOf<R>>,
     ) -> Result<CoupledOf<R>, PlantFault>
-        ensures begun { IfOk result (λ c. plant_state R.meaning c.plant
-            ≡ opening
+        ensures { MakesPlant result (λ made. plant_state R.meaning made.plant)
             (ring_lan_of (states_of R.meaning ring.items) (states_of R.meaning lan.items))
-            (states_of R.meaning ring.items ++ states_of R.meaning lan.items)) }
-        ensures in_order { IfOk result (λ c. IsInOrder (plant_state R.meaning c.plant)) }
-        ensures ok { OnOk result (is_plant
-            (ring_lan_of (states_of R.meaning ring.items) (states_of R.meaning lan.items))
-            (states_of R.meaning ring.items ++ states_of R.meaning lan.items) ≡ true) }
-        ensures err { IfErr result (λ f. f ≡ plant_fault (is_plant
-            (ring_lan_of (states_of R.meaning ring.items) (states_of R.meaning lan.items))
-            (states_of R.meaning ring.items ++ states_of R.meaning lan.items))) }
+            (states_of R.meaning ring.items ++ states_of R.meaning lan.items) }
     {
         if !are_few(&ring, &lan) {
             return Err(PlantFault::BadPlant);
@@ -209,17 +195,9 @@ impl<R: Role> CoupledOf<R> {
         left: Vec<NodeOf<R>>,
         right: Vec<NodeOf<R>>,
     ) -> Result<CoupledOf<R>, PlantFault>
-        ensures begun { IfOk result (λ c. plant_state R.meaning c.plant
-            ≡ opening
+        ensures { MakesPlant result (λ made. plant_state R.meaning made.plant)
             (two_rings_of (states_of R.meaning left.items) (states_of R.meaning right.items))
-            (states_of R.meaning left.items ++ states_of R.meaning right.items)) }
-        ensures in_order { IfOk result (λ c. IsInOrder (plant_state R.meaning c.plant)) }
-        ensures ok { OnOk result (is_plant
-            (two_rings_of (states_of R.meaning left.items) (states_of R.meaning right.items))
-            (states_of R.meaning left.items ++ states_of R.meaning right.items) ≡ true) }
-        ensures err { IfErr result (λ f. f ≡ plant_fault (is_plant
-            (two_rings_of (states_of R.meaning left.items) (states_of R.meaning right.items))
-            (states_of R.meaning left.items ++ states_of R.meaning right.items))) }
+            (states_of R.meaning left.items ++ states_of R.meaning right.items) }
     {
         if !are_few(&left, &right) {
             return Err(PlantFault::BadPlant);

@@ -11,11 +11,10 @@ ghost use Rattle.sr_plant.specs.Topologies.{IsJoinedAs};
 mod copies;
 mod parcels;
 
-pub(crate) use copies::Flying;
-
 use crate::Topology;
 use crate::arriving::Arriving;
 use crate::outlet::Outlet;
+pub(crate) use copies::Flying;
 use copies::{attach, keep_off, put_copies};
 use parcels::{Kept, drop_copy, drop_unused};
 use slab::Slab;

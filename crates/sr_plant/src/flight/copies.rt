@@ -76,8 +76,8 @@ fn look_at(kept: &mut Slab<Kept>, places: &mut VecDeque<Flying>, seen: Flying, l
     put_last(places, seen);
 }
 
-// The copies that are not on a link stay.
-fn keep_off(kept: &mut Slab<Kept>, places: &mut VecDeque<Flying>, link: usize)
+/// Takes all copies on a link out of flight. The others stay, in their order.
+pub(crate) fn keep_off(kept: &mut Slab<Kept>, places: &mut VecDeque<Flying>, link: usize)
     requires counted { AreCounted kept.old places.old.items }
     requires used { AreUsed kept.old }
     ensures counted { AreCounted kept.new places.new.items }
