@@ -151,7 +151,8 @@ impl<R: Role> PlantOf<R> {
         topology: Topology,
         nodes: Vec<NodeOf<R>>,
     ) -> Result<PlantOf<R>, PlantFault>
-        ensures { MakesPlant result (plant_state R.meaning) topology (states_of R.meaning nodes.items) }
+        ensures { MakesPlant result (plant_state R.meaning) topology
+            (states_of R.meaning nodes.items) }
     {
         if !is_plant(topology, &nodes) {
             return Err(PlantFault::BadPlant);
