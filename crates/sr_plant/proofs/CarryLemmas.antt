@@ -32,7 +32,7 @@ pub receiver_inside : {N : Type 0} (f : N → State) (ns : List N) (s : Plant) (
 receiver_inside f ns s place a nodes order one =
     omega (arith, receiver_within s place a order one, ap length nodes, length-map ns f)
 
--- and the plant has its state
+-- the plant has the receiver at the place that the copy leads to
 pub receiver_there : {N : Type 0} (f : N → State) (ns : List N) (s : Plant) (place : ℕ) (a : Arriving) (n : N) → s.nodes ≡ map f ns → IsInOrder s →
     OneComesAs s.topology s.flight place (Some a) → n ≡ get_or ns a.node n → slice_get s.nodes a.node ≡ Some (f n)
 receiver_there f ns s place a n nodes order one here =

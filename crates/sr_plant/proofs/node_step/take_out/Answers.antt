@@ -1,16 +1,16 @@
 use Rattle.std.proofs.Common.{◌∙◌, ◌++◌, List, ap}
-use Rattle.sr_node.specs.Images.{node_state}
 use Rattle.sr_forwarding.specs.Parcels.{ParcelImage}
+use Rattle.sr_node.specs.States.{state_of}
 use Rattle.sr_plant.proofs.GivenLemmas.{taken_out}
 use Rattle.sr_plant.proofs.node_step.take_out.Goals as goal
 
 pub returns : goal.returns
 returns g c =
-    let s = node_state (g.R.Role.meaning c.args.node.now.role) c.args.node.now.core in
-    let t = node_state (g.R.Role.meaning c.take.new.self.role) c.take.new.self.core in
-    let u = node_state (g.R.Role.meaning c.take-a.new.self.role) c.take-a.new.self.core in
-    let v = node_state (g.R.Role.meaning c.take-b.new.self.role) c.take-b.new.self.core in
-    let w = node_state (g.R.Role.meaning c.take-c.new.self.role) c.take-c.new.self.core in
+    let s = state_of g.R.Role.meaning c.args.node.now in
+    let t = state_of g.R.Role.meaning c.take.new.self in
+    let u = state_of g.R.Role.meaning c.take-a.new.self in
+    let v = state_of g.R.Role.meaning c.take-b.new.self in
+    let w = state_of g.R.Role.meaning c.take-c.new.self in
     let all = taken_out s t u v w c.take.result c.take-a.result c.take-b.result c.take-c.result c.requires.few c.take.ensures.took c.take-a.ensures.took c.take-b.ensures.took c.take-c.ensures.took in
     record {
       a = all.1;
