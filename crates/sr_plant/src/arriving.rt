@@ -29,8 +29,8 @@ pub(crate) struct Arriving {
 }
 
 impl Arriving {
-    /// The copy of a parcel that leads there from an outlet. None where the outlet has no octets for it. NoMemory: a growth
-    /// was refused.
+    /// The copy of this parcel, on its way from an outlet to a port. `None` where the outlet has no octets for the parcel.
+    /// `NoMemory` where an allocation fails.
     pub(crate) fn of(
         alloc: Global,
         topology: Topology,
@@ -59,7 +59,7 @@ impl Arriving {
     }
 }
 
-/// What becomes of it there.
+/// What becomes of a copy at its receiver.
 #[derive(Drop)]
 enum Landing {
     /// The receiver refuses it, and it is lost.
@@ -68,7 +68,7 @@ enum Landing {
     Taken(Given),
 }
 
-// What a refusal by the receiver comes to: the copy is lost, or the plant refuses it too.
+// What comes of a refusal by the receiver: the copy is lost, or the plant refuses the event too.
 fn refused(fault: StepFault) -> Result<Landing, PlantFault>
     ensures ok { IfOk result (λ l. (is_loss fault ≡ true) × (l ≡ Landing.Lost)) }
     ensures err { IfErr result (λ f. (is_loss fault ≡ false) × (f ≡ PlantFault.Node fault)) }
@@ -98,8 +98,8 @@ fn arrive<R: Role>(
     node.receive(&framing, port, octets, now)
 }
 
-// A copy comes to its receiver, what that has for its host goes up, and what came out at its ports is answered.
-// The growth comes first.
+// A copy comes to its receiver. What the receiver has for its host is appended to `up`, for which the allocation comes
+// first, and what came out at its ports is returned.
 fn arrive_out<R: Role>(
     framing: PortFraming,
     node: &mut NodeOf<R>,
@@ -124,7 +124,7 @@ fn arrive_out<R: Role>(
 }
 
 impl<R: Role> PlantOf<R> {
-    /// The copy at a place comes to its receiver, all growths first.
+    /// The copy at a place comes to its receiver. All allocations come first.
     pub(crate) fn bring(&mut self, place: usize, arriving: &Arriving) -> Result<(), PlantFault>
         requires in_order { IsInOrder (plant_state R.meaning self.old) }
         requires there { OneComesAs self.old.topology self.old.traffic.flight.copies place

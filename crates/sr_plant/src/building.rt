@@ -1,4 +1,4 @@
-//! How a plant is made, and of which nodes.
+//! Of which nodes a plant is made, and how it begins.
 
 ghost use Rattle.std.specs.Prelude.{◌≡◌, ◌<◌, map, length, replicate, [], IfOk};
 ghost use Rattle.sr_node.specs.States.{state_of};
@@ -13,14 +13,14 @@ use sr_node::NodeOf;
 use sr_prp_trailer::Lan;
 use std::alloc::Global;
 
-/// Whether both are one LAN.
+/// Whether the two LANs are the same.
 pub(crate) fn is_lan(lan: Lan, other: Lan) -> bool
     ensures { result ≡ is_lan lan other }
 {
     matches!((lan, other), (Lan::A, Lan::A) | (Lan::B, Lan::B))
 }
 
-// Whether both are one kind.
+// Whether the two kinds are the same.
 fn is_kind(kind: RoleKind, other: RoleKind) -> bool
     ensures { result ≡ is_kind kind other }
 {
@@ -47,7 +47,7 @@ fn is_fit<R: Role>(topology: Topology, place: usize, node: &NodeOf<R>) -> bool
         && node.waiting(Port::C) == 0
 }
 
-// Whether all are, from this place on.
+// Whether these nodes fit the topology, from this place on.
 fn are_fit<R: Role>(topology: Topology, first: usize, nodes: &[NodeOf<R>]) -> bool
     requires { first < 1000 }
     ensures { result ≡ are_fit topology first (states_of R.meaning nodes.now) }
@@ -86,7 +86,7 @@ fn are_apart<R: Role>(nodes: &[NodeOf<R>]) -> bool
     true
 }
 
-// Whether no node of the ones has the address of one of the others.
+// Whether no node of the first list has the address of one of the second.
 fn are_apart_from<R: Role>(nodes: &[NodeOf<R>], others: &[NodeOf<R>]) -> bool
     ensures { result ≡ are_apart_from
         (states_of R.meaning nodes.now) (states_of R.meaning others.now) }
@@ -106,14 +106,14 @@ fn is_plant<R: Role>(topology: Topology, nodes: &[NodeOf<R>]) -> bool
     topology.is_size(nodes.len()) && are_fit(topology, 0, nodes) && are_apart(nodes)
 }
 
-/// Whether these are no more than the nodes of a ring, and those behind them neither.
+/// Whether neither list has more nodes than a ring may have.
 pub(crate) fn are_few<R: Role>(nodes: &[NodeOf<R>], behind: &[NodeOf<R>]) -> bool
     ensures { result ≡ are_few (states_of R.meaning nodes.now) (states_of R.meaning behind.now) }
 {
     nodes.len() <= MAX_NODES && behind.len() <= MAX_NODES
 }
 
-/// Whether one is made of these nodes and those behind them.
+/// Whether a plant of this topology is made of the nodes of the first list and then those of the second.
 pub(crate) fn is_plant_of_both<R: Role>(
     topology: Topology,
     nodes: &[NodeOf<R>],
@@ -132,7 +132,7 @@ pub(crate) fn is_plant_of_both<R: Role>(
         && are_apart_from(nodes, behind)
 }
 
-// An empty list for each of so many hosts.
+// An empty list for each host.
 fn hosts(alloc: Global, count: usize) -> Result<Vec<Vec<Parcel>>, NoMemory>
     ensures { IfOk result (λ h. map (λ x. x.items) h.items ≡ replicate count []) }
 {
@@ -144,8 +144,9 @@ fn hosts(alloc: Global, count: usize) -> Result<Vec<Vec<Parcel>>, NoMemory>
 }
 
 impl<R: Role> PlantOf<R> {
-    /// A new plant of these nodes, 2 to 16, each with an address of its own, of its kind in the topology, and with no
-    /// frame waiting. BadPlant exactly where they are not so. NoMemory: a growth was refused.
+    /// A new plant of these nodes: as many as the topology joins, each with an address of its own, of the kind that the
+    /// topology has at its place, and with no frame waiting. `BadPlant` exactly where the nodes are not like that.
+    /// `NoMemory` where an allocation fails.
     pub fn new(
         alloc: Global,
         topology: Topology,

@@ -1,4 +1,4 @@
-//! What happens to a plant: one call for each event, and one for any of them.
+//! The calls for the events of a plant: one for each kind of event, and `apply` for any event.
 
 ghost use Rattle.std.specs.Prelude.{◌≡◌, IfErr, OnOk, None, Some};
 ghost use Rattle.sr_plant.specs.Images.{plant_state};
@@ -11,7 +11,7 @@ use sr_forwarding::Role;
 use sr_frame::Frame;
 use sr_node::Event;
 
-// Whether there is something at a number below a count, or else this fault.
+// Ok where the place is below the count, else this fault.
 fn has(place: usize, count: usize, fault: PlantFault) -> Result<(), PlantFault>
     ensures ok { OnOk result (lacks place count fault ≡ None) }
     ensures err { IfErr result (λ f. lacks place count fault ≡ Some f) }
@@ -19,7 +19,7 @@ fn has(place: usize, count: usize, fault: PlantFault) -> Result<(), PlantFault>
     if place < count { Ok(()) } else { Err(fault) }
 }
 
-// Whether a time is not before the plant's, or else why it is refused.
+// Ok where the time is not before the clock, else `ClockBack`.
 fn follows(now: u64, clock: u64) -> Result<(), PlantFault>
     ensures ok { OnOk result (clock_fault now clock ≡ None) }
     ensures err { IfErr result (λ f. clock_fault now clock ≡ Some f) }
@@ -34,7 +34,7 @@ fn follows(now: u64, clock: u64) -> Result<(), PlantFault>
 impl<R: Role> PlantOf<R> {
     /// The host of a node sends a frame, without tag and trailer, at the plant's time.
     ///
-    /// `NoSuchNode`, then `NoMemory` of the plant's own, then `Node` where the node refuses it.
+    /// `NoSuchNode`, then `NoMemory` where an allocation of the plant fails, then `Node` where the node refuses it.
     pub fn send(&mut self, node: usize, frame: &Frame) -> Result<(), PlantFault>
         requires { IsInOrder (plant_state R.meaning self.old) }
         ensures { TakesEvent (plant_state R.meaning self.old) (PlantEvent.Send node frame.now)
@@ -48,8 +48,8 @@ impl<R: Role> PlantOf<R> {
 
     /// Time passes for a node, and the plant's clock becomes this.
     ///
-    /// `NoSuchNode`, then `ClockBack` where the time is before the plant's, then `NoMemory` of the plant's own, then `Node`
-    /// where the node refuses it.
+    /// `NoSuchNode`, then `ClockBack` where the time is before the plant's, then `NoMemory` where an allocation of the plant
+    /// fails, then `Node` where the node refuses it.
     pub fn tick(&mut self, node: usize, now: u64) -> Result<(), PlantFault>
         requires { IsInOrder (plant_state R.meaning self.old) }
         ensures { TakesEvent (plant_state R.meaning self.old) (PlantEvent.Tick node now)
@@ -63,8 +63,8 @@ impl<R: Role> PlantOf<R> {
     /// The copy at a place comes to its receiver as the octets that the framing of its outlet writes, at the plant's time.
     /// It is lost where it has no octets there, and where the receiver refuses it for reading, `Untagged` or `TableFull`.
     ///
-    /// `NoSuchCopy`, then `NoMemory` of the plant's own, then `Node` where an outbox of the receiver is full or memory ran
-    /// out there.
+    /// `NoSuchCopy`, then `NoMemory` where an allocation of the plant fails, then `Node` where an outbox of the receiver is
+    /// full or an allocation fails there.
     pub fn carry(&mut self, place: usize) -> Result<(), PlantFault>
         requires { IsInOrder (plant_state R.meaning self.old) }
         ensures { TakesEvent (plant_state R.meaning self.old) (PlantEvent.Carry place)
@@ -89,7 +89,8 @@ impl<R: Role> PlantOf<R> {
         Ok(())
     }
 
-    /// The copy at a place is doubled, and the double goes last. `NoSuchCopy` where there is none, then `NoMemory`.
+    /// The copy at a place is doubled, and the double goes last. `NoSuchCopy` where there is none, then `NoMemory` where the
+    /// allocation fails.
     pub fn repeat(&mut self, place: usize) -> Result<(), PlantFault>
         requires { IsInOrder (plant_state R.meaning self.old) }
         ensures { TakesEvent (plant_state R.meaning self.old) (PlantEvent.Repeat place)
@@ -100,8 +101,8 @@ impl<R: Role> PlantOf<R> {
         Ok(())
     }
 
-    /// A link is cut: what is on it is lost, and so is what is put on it until it is mended. `NoSuchNode` where there is no
-    /// such link. That it is cut already changes nothing more.
+    /// A link is cut: the copies on it are lost, and so is what is put on it until it is mended. `NoSuchNode` where there is
+    /// no such link. A link may be cut again.
     pub fn cut(&mut self, link: usize) -> Result<(), PlantFault>
         requires { IsInOrder (plant_state R.meaning self.old) }
         ensures { TakesEvent (plant_state R.meaning self.old) (PlantEvent.Cut link)
@@ -112,7 +113,7 @@ impl<R: Role> PlantOf<R> {
         Ok(())
     }
 
-    /// A link is mended. `NoSuchNode` where there is no such link. That it is whole already changes nothing.
+    /// A link is mended. `NoSuchNode` where there is no such link. A whole link may be mended.
     pub fn mend(&mut self, link: usize) -> Result<(), PlantFault>
         requires { IsInOrder (plant_state R.meaning self.old) }
         ensures { TakesEvent (plant_state R.meaning self.old) (PlantEvent.Mend link)
@@ -125,8 +126,8 @@ impl<R: Role> PlantOf<R> {
 
     /// Takes an event whole, or refuses it and changes nothing.
     ///
-    /// It is refused in this order: `NoSuchNode`, `NoSuchCopy`, `ClockBack`, `NoMemory` where a growth of the plant's own
-    /// was refused, and `Node` where the node refuses it. A copy that its receiver refuses for reading, `Untagged` or
+    /// Refusals come in this order: `NoSuchNode`, `NoSuchCopy`, `ClockBack`, `NoMemory` where an allocation of the plant
+    /// fails, and `Node` where the node refuses the event. A copy that its receiver refuses for reading, `Untagged` or
     /// `TableFull` is lost, and that is no refusal.
     pub fn apply(&mut self, event: &PlantEvent) -> Result<(), PlantFault>
         requires { IsInOrder (plant_state R.meaning self.old) }

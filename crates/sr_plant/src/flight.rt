@@ -52,7 +52,7 @@ impl Model for Flight {
 }
 
 impl Flight {
-    /// Nothing in flight.
+    /// A flight with no copies.
     pub(crate) fn new(alloc: Global) -> Flight
         ensures { result.copies ≡ [] }
     {
@@ -69,7 +69,8 @@ impl Flight {
         self.places.len()
     }
 
-    /// Room for so many parcels and copies more. NoMemory: a growth was refused. Nothing in flight changes.
+    /// Makes room for so many more parcels and copies. `NoMemory` where the allocation fails. The copies in flight stay
+    /// the same.
     pub(crate) fn reserve(&mut self, parcels: usize, places: usize) -> Result<(), NoMemory>
         ensures copies { self.new.copies ≡ self.old.copies }
         ensures parcels { OnOk result (parcels ≤ self.new.parcels) }
@@ -80,7 +81,8 @@ impl Flight {
         Ok(())
     }
 
-    /// A parcel is put out at an outlet, if there is one: a copy for each node to which it leads over no link that is cut.
+    /// Puts a parcel out at an outlet, if there is one: a copy goes to each node to which the outlet leads over no link
+    /// that is cut.
     pub(crate) fn put(&mut self, outlet: Outlet, parcel: Option<Parcel>, cut: &[bool])
         requires small { outlet.nodes ≤ most_members }
         requires node { outlet.node < outlet.nodes }
@@ -100,7 +102,7 @@ impl Flight {
         drop_unused(&mut self.kept, key);
     }
 
-    /// The copy at a place as it comes to its receiver. None where its outlet has no octets for it.
+    /// The copy at a place as it comes to its receiver. `None` where its outlet has no octets for it.
     pub(crate) fn arriving(
         &self,
         alloc: Global,
@@ -118,7 +120,7 @@ impl Flight {
         }
     }
 
-    /// The copy at a place is gone. No room goes with it.
+    /// Takes the copy at a place out of flight. The room for it stays.
     pub(crate) fn remove(&mut self, place: usize)
         requires { place < length self.old.copies }
         ensures copies { self.new.copies ≡ remove self.old.copies place }
@@ -130,7 +132,8 @@ impl Flight {
         }
     }
 
-    /// One copy more like that at a place, which goes last. NoMemory: a growth was refused, and nothing changes.
+    /// Adds a second copy like that at a place, behind all others. `NoMemory` where the allocation fails; then nothing
+    /// changes.
     pub(crate) fn repeat(&mut self, place: usize) -> Result<(), NoMemory>
         requires { place < length self.old.copies }
         ensures ok { OnOk result (Doubles self.old.copies place self.new.copies) }
@@ -144,7 +147,7 @@ impl Flight {
         Ok(())
     }
 
-    /// All copies on a link are gone.
+    /// Takes all copies on a link out of flight.
     pub(crate) fn cut(&mut self, link: usize)
         ensures { self.new.copies ≡ filter (λ c. not (is_on link c)) self.old.copies }
     {

@@ -33,8 +33,8 @@ fn append(list: &mut Vec<Parcel>, parcel: Option<Parcel>)
     }
 }
 
-/// Takes out all that waits in a node, where it is at most one parcel at each outlet: the host's goes up, and those of its
-/// ports are answered.
+/// Takes out all that waits in a node, where at most one parcel waits at each outlet. The parcel for the host is appended
+/// to `up`, and those of the ports are returned.
 pub(crate) fn take_out<R: Role>(node: &mut NodeOf<R>, up: &mut Vec<Parcel>) -> Given
     requires few { IsAtMostOneEach (state_of R.meaning node.old).core.out }
     requires room { vec_len up.old < vec_capacity up.old }
@@ -48,8 +48,8 @@ pub(crate) fn take_out<R: Role>(node: &mut NodeOf<R>, up: &mut Vec<Parcel>) -> G
     Given { a, b, c }
 }
 
-// A node takes an event, what it has for its host goes up, and what came out at its ports is answered. The growth comes
-// first.
+// A node takes an event. What it has for its host is appended to `up`, for which the allocation comes first, and what
+// came out at its ports is returned.
 fn step_out<R: Role>(
     node: &mut NodeOf<R>,
     up: &mut Vec<Parcel>,
@@ -70,7 +70,7 @@ fn step_out<R: Role>(
 }
 
 impl<R: Role> PlantOf<R> {
-    /// A node takes an event, all growths first, and the plant's clock goes to this time.
+    /// A node of the plant takes an event, and the plant's clock goes to this time. All allocations come first.
     pub(crate) fn act(&mut self, node: usize, event: &Event, now: u64) -> Result<(), PlantFault>
         requires in_order { IsInOrder (plant_state R.meaning self.old) }
         requires there { node < length self.old.nodes.items }

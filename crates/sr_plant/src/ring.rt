@@ -1,4 +1,4 @@
-//! Rings.
+//! Rings of doubly attached nodes.
 
 ghost use Rattle.std.specs.Prelude.{◌≡◌};
 ghost use Rattle.sr_plant.specs.Images.{plant_state, states_of};
@@ -20,7 +20,7 @@ pub struct RingOf<R: Drop> {
 pub type Ring = RingOf<Box<dyn Role + Send>>;
 
 impl<R: Role> RingOf<R> {
-    /// The plant that it is, for whoever takes networks of any topology.
+    /// The ring as a plant, the type of networks of any topology.
     pub fn into_plant(self) -> PlantOf<R>
         ensures { result ≡ self.plant }
     {
@@ -29,7 +29,7 @@ impl<R: Role> RingOf<R> {
     }
 
     /// A new ring of these nodes: 2 to 16 of the kind `Danh`, each with an address of its own, and with no frame waiting.
-    /// `BadPlant` exactly where they are not so. `NoMemory`: a growth was refused.
+    /// `BadPlant` exactly where the nodes are not like that. `NoMemory` where an allocation fails.
     pub fn new(alloc: Global, nodes: Vec<NodeOf<R>>) -> Result<RingOf<R>, PlantFault>
         ensures { MakesPlant result (λ made. plant_state R.meaning made.plant) Topology.Ring
             (states_of R.meaning nodes.items) }

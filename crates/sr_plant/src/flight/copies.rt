@@ -1,4 +1,4 @@
-//! The copies in flight and the parcels that are kept for them: a copy is put in flight, doubled, lost.
+//! The queue of copies in flight: a copy of a parcel that is kept is put last, or taken out.
 
 ghost use Rattle.std.specs.Prelude.{◌≡◌, ◌≤◌, ◌<◌, ◌+◌, [], ◌∷◌, ◌++◌, map, filter, not, option_to_list, IsSome};
 ghost use Rattle.std.specs.VecDeque.{deque_len, deque_capacity};
@@ -25,7 +25,7 @@ pub(crate) struct Flying {
     pub(crate) outlet: Port,
 }
 
-// The copy goes behind all others.
+// Puts a copy behind all others.
 fn put_last(places: &mut VecDeque<Flying>, flying: Flying)
     requires { deque_len places.old < deque_capacity places.old }
     ensures items { places.new.items ≡ places.old.items ++ flying ∷ [] }
@@ -35,7 +35,7 @@ fn put_last(places: &mut VecDeque<Flying>, flying: Flying)
     places.push_back_reserved(flying);
 }
 
-/// One copy more of a parcel that is kept.
+/// Puts one more copy of a parcel that is kept behind all others.
 pub(crate) fn attach(kept: &mut Slab<Kept>, places: &mut VecDeque<Flying>, flying: Flying)
     requires room { deque_len places.old < deque_capacity places.old }
     requires counted { AreCounted kept.old places.old.items }
@@ -56,7 +56,7 @@ pub(crate) fn attach(kept: &mut Slab<Kept>, places: &mut VecDeque<Flying>, flyin
     put_last(places, flying);
 }
 
-// A copy that was taken out goes last, if it is not on this link.
+// Puts a copy that was taken out behind all others, if it is not on this link.
 fn look_at(kept: &mut Slab<Kept>, places: &mut VecDeque<Flying>, seen: Flying, link: usize)
     requires room { deque_len places.old < deque_capacity places.old }
     requires counted { AreCounted kept.old (seen ∷ places.old.items) }
@@ -93,7 +93,7 @@ pub(crate) fn keep_off(kept: &mut Slab<Kept>, places: &mut VecDeque<Flying>, lin
     }
 }
 
-// The copy of a parcel that is kept to one node, if the outlet leads there, and over no link that is cut.
+// Puts the copy of a parcel to one node in flight, if the outlet leads there over no link that is cut.
 fn put_copy(
     kept: &mut Slab<Kept>,
     places: &mut VecDeque<Flying>,
@@ -138,7 +138,7 @@ fn put_copy(
     attach(kept, places, flying);
 }
 
-/// The copies of a parcel that is kept: one for each node to which the outlet leads over no link that is cut.
+/// Puts the copies of a parcel in flight: one for each node to which the outlet leads over no link that is cut.
 pub(crate) fn put_copies(
     kept: &mut Slab<Kept>,
     places: &mut VecDeque<Flying>,

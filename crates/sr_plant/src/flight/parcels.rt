@@ -1,4 +1,4 @@
-//! Parcels that are kept as long as copies of them are in flight.
+//! The parcels that are kept while copies of them are in flight.
 
 ghost use Rattle.std.specs.Prelude.{◌≡◌, ◌≢◌, ◌+◌, ◌<◌, ◌≤◌, ℕ, IsSome, None};
 ghost use Rattle.slab.specs.Slab.{get, slab_len};
@@ -7,14 +7,14 @@ ghost use Rattle.sr_plant.specs.Flights.{copies_of, parcel_of, AreUsed, AreUsedB
 use slab::Slab;
 use sr_forwarding::Parcel;
 
-/// A parcel that was put out, and of how many copies in flight it is.
+/// A parcel that was put out, and how many copies of it are in flight.
 #[derive(Drop)]
 pub(crate) struct Kept {
     pub(crate) parcel: Parcel,
     pub(crate) copies: usize,
 }
 
-/// Counts one copy more of a parcel.
+/// Counts one more copy of a parcel.
 pub(crate) fn add_copy(kept: &mut Slab<Kept>, key: usize)
     requires there { IsSome (get kept.old key) }
     requires fits { copies_of (get kept.old key) < 18446744073709551615 }
@@ -30,7 +30,7 @@ pub(crate) fn add_copy(kept: &mut Slab<Kept>, key: usize)
     }
 }
 
-/// Counts one copy fewer of a parcel, which goes with its last copy.
+/// Counts one copy less of a parcel, and removes the parcel with its last copy.
 pub(crate) fn drop_copy(kept: &mut Slab<Kept>, key: usize)
     requires { 0 < copies_of (get kept.old key) }
     ensures fewer { copies_of (get kept.new key) + 1 ≡ copies_of (get kept.old key) }
@@ -51,7 +51,7 @@ pub(crate) fn drop_copy(kept: &mut Slab<Kept>, key: usize)
     let _ = kept.try_remove(key);
 }
 
-/// Lets a parcel go that has no copy.
+/// Removes a parcel that has no copy.
 pub(crate) fn drop_unused(kept: &mut Slab<Kept>, key: usize)
     requires { AreUsedBut key kept.old }
     ensures used { AreUsed kept.new }
