@@ -1,5 +1,6 @@
 -- A plant after one of its nodes acted.
-use Rattle.std.proofs.Common.{◌≡◌, ℕ, zero, suc, ◌<◌, Bool, not, List, [], ◌∷◌, ◌++◌, length, map, get_or, slice_get, slice_set, slice_index_or, Some, refl, sym, ap, ◌∙◌, append_assoc, arith}
+use Rattle.std.proofs.Common.{◌≡◌, ℕ, zero, suc, ◌<◌, Bool, not, List, [], ◌∷◌, ◌++◌, length, map, get_or, slice_get, slice_set, slice_index_or, Some, refl, sym, ap, ◌∙◌, append_assoc, subst, arith}
+use Rattle.std.proofs.Math.Seq.{map-set_same}
 use Rattle.std.proofs.lemmas.List.{map-set, length-map}
 use Rattle.std.specs.Option.{option_to_list}
 use Rattle.std.proofs.lemmas.List.Elements.{filter-append}
@@ -10,6 +11,7 @@ use Rattle.sr_plant_laws.specs.Lists.{Each}
 use Rattle.sr_plant.specs.declared.topology.Topology.{Topology}
 use Rattle.sr_plant.specs.declared.node_step.Given.{Given}
 use Rattle.sr_plant.specs.Copies.{Copy, is_stopped}
+use Rattle.sr_plant.specs.Topologies.{IsJoinedAs}
 use Rattle.sr_plant.specs.Puts.{all_put, put_out, those_passing}
 use Rattle.sr_plant.specs.Plants.{Plant, TrafficValue, plant_of}
 use Rattle.sr_plant.specs.Steps.{emptied, acted}
@@ -31,6 +33,17 @@ pub or_map : {N X : Type 0} (f : N → X) (ns : List N) (i : ℕ) (n : N) (d : X
 or_map f [] i n d here within = absurd (omega arith)
 or_map f (m ∷ ms) zero n d here within = ap f (sym here)
 or_map f (m ∷ ms) (suc i) n d here within = or_map f ms i n d here (omega arith)
+
+-- as many nodes as are counted are joined
+pub joined_for : {N X : Type 0} (f : N → X) (ns : List N) (t : Topology) (count : ℕ) → IsJoinedAs t (length (map f ns)) → count ≡ length ns → IsJoinedAs t count
+joined_for f ns t count joined counted = subst (IsJoinedAs t) (length-map ns f ∙ sym counted) joined
+
+-- a node and what its host was handed that are put back as they were leave a plant as it is
+pub put_back : {N H : Type 0} (f : N → State) (items : H → List ParcelImage) (ns : List N) (hs : List H) (t : Topology) (traffic : TrafficValue) (i : ℕ)
+    (n m : N) (old new : H) → f m ≡ f n → n ≡ get_or ns i n → items new ≡ items old → old ≡ get_or hs i old →
+    plant_of t (map f (slice_set ns i m)) traffic (map items (slice_set hs i new)) ≡ plant_of t (map f ns) traffic (map items hs)
+put_back f items ns hs t traffic i n m old new state here handed there =
+    rw (map-set_same f ns i m n (state ∙ ap f here), map-set_same items hs i new old (handed ∙ ap items there)) refl
 
 -- what is put out at A, then at B, and then at C
 put_in_turn : (t : Topology) (n k : ℕ) (cut : List Bool) (u : State) (flight : List Copy) →

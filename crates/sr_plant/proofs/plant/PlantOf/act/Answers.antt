@@ -1,13 +1,11 @@
-use Rattle.std.proofs.Common.{◌≡◌, ◌⊎◌, length, map, slice_set, refl, ap, ◌∙◌, inl, inr, subst, ℕ, arith, rules}
-use Rattle.std.proofs.Math.Seq.{map-set_same}
+use Rattle.std.proofs.Common.{◌≡◌, ◌⊎◌, length, refl, ap, ◌∙◌, inl, inr, arith, rules}
 use Rattle.std.proofs.lemmas.List.{length-map}
 use Rattle.sr_node.specs.States.{state_of}
 use Rattle.sr_plant.specs.declared.fault.PlantFault.TheVariants.{NoMemory}
 use Rattle.sr_plant.specs.Images.{plant_state, states_of}
-use Rattle.sr_plant.specs.Plants.{TrafficValue, plant_of, IsEmptied}
+use Rattle.sr_plant.specs.Plants.{TrafficValue, IsEmptied}
 use Rattle.sr_plant.specs.Steps.{NodeRefuses}
-use Rattle.sr_plant.specs.Topologies.{IsJoinedAs}
-use Rattle.sr_plant.proofs.ActLemmas.{each_at, at_map, node_acted}
+use Rattle.sr_plant.proofs.ActLemmas.{each_at, at_map, joined_for, put_back, node_acted}
 use Rattle.sr_plant.proofs.OrderLemmas.{acts_in_order}
 use Rattle.sr_plant.proofs.plant.PlantOf.act.Goals as goal
 
@@ -31,15 +29,11 @@ returns-in_err-given-clause-err g c =
 pub returns-in_err-given-clause-same : goal.returns-in_err-given-clause-same
 returns-in_err-given-clause-same g c =
     let p = c.args.self.now in
-    let state = state_of g.R.Role.meaning in
-    let h = c.in_err-given.ensures.same in
     let r = c.in_ok-reserve.ensures in
-    let nodes = map-set_same state p.nodes.items c.args.node c.step_out.new.node c.index_mut.result.now (h.0 ∙ ap state c.index_mut.ensures.value) in
-    let hosts = map-set_same (λ h. h.items) p.handed.items c.args.node c.step_out.new.up c.index_mut-2.result.now (h.1 ∙ ap (λ h. h.items) c.index_mut-2.ensures.value) in
-    let same : plant_of p.topology (states_of g.R.Role.meaning (slice_set p.nodes.items c.args.node c.step_out.new.node)) c.reserve.new.self (map (λ h. h.items) (slice_set p.handed.items c.args.node c.step_out.new.up))
-    ≡ plant_state g.R.Role.meaning p =
-    rw (nodes, hosts, r.copies, r.rest.0, r.rest.1) refl in
-    search rules
+    let h = c.in_err-given.ensures.same in
+    let back = put_back (state_of g.R.Role.meaning) (λ h. h.items) p.nodes.items p.handed.items p.topology c.reserve.new.self c.args.node
+    c.index_mut.result.now c.step_out.new.node c.index_mut-2.result.now c.step_out.new.up h.0 c.index_mut.ensures.value h.1 c.index_mut-2.ensures.value in
+    back ∙ rw (r.copies, r.rest.0, r.rest.1) refl
 
 pub returns-clause-ok : goal.returns-clause-ok
 returns-clause-ok g c =
@@ -73,6 +67,4 @@ returns-clause-in_order g c =
 pub put-requires-clause-joined : goal.put-requires-clause-joined
 put-requires-clause-joined g c =
     let p = c.args.self.now in
-    let count : length (states_of g.R.Role.meaning p.nodes.items) ≡ c.len-nodes.result =
-    omega (arith, c.len-nodes.ensures, p.nodes.ok, length-map p.nodes.items (state_of g.R.Role.meaning)) in
-    subst (λ (n : ℕ). IsJoinedAs p.topology n) count c.requires.in_order.joined
+    joined_for (state_of g.R.Role.meaning) p.nodes.items p.topology c.len-nodes.result c.requires.in_order.joined (omega (arith, c.len-nodes.ensures, p.nodes.ok))

@@ -1,13 +1,11 @@
-use Rattle.std.proofs.Common.{◌≡◌, length, slice_set, map, refl, ap, ◌∙◌, subst, ℕ, arith, rules}
-use Rattle.std.proofs.Math.Seq.{map-set_same}
+use Rattle.std.proofs.Common.{◌≡◌, length, refl, ◌∙◌, arith, rules}
 use Rattle.std.proofs.lemmas.List.{length-map}
 use Rattle.sr_node.specs.States.{state_of}
 use Rattle.sr_plant.specs.declared.event.PlantEvent.TheVariants.{Carry}
 use Rattle.sr_plant.specs.Images.{plant_state, states_of}
-use Rattle.sr_plant.specs.Plants.{plant_of, IsEmptied}
+use Rattle.sr_plant.specs.Plants.{IsEmptied}
 use Rattle.sr_plant.specs.Steps.{Fails, without}
-use Rattle.sr_plant.specs.Topologies.{IsJoinedAs}
-use Rattle.sr_plant.proofs.ActLemmas.{each_at, node_acted}
+use Rattle.sr_plant.proofs.ActLemmas.{each_at, joined_for, put_back, node_acted}
 use Rattle.sr_plant.proofs.CarryLemmas.{copy_within, receiver_inside, receiver_there, carry_fails, taken_comes, lost_goes, carried_in_order}
 use Rattle.sr_plant.proofs.OrderLemmas.{nets_fit}
 use Rattle.sr_plant.proofs.plant.PlantOf.bring.Goals as goal
@@ -47,16 +45,11 @@ returns-in_err-landing-clause-err g c =
 pub returns-in_err-landing-clause-same : goal.returns-in_err-landing-clause-same
 returns-in_err-landing-clause-same g c =
     let p = c.args.self.now in
-    let a = c.args.arriving.now in
-    let state = state_of g.R.Role.meaning in
-    let h = c.in_err-landing.ensures.same in
     let r = c.in_ok-reserve.ensures in
-    let nodes = map-set_same state p.nodes.items a.node c.arrive_out.new.node c.index_mut.result.now (h.0 ∙ ap state c.index_mut.ensures.value) in
-    let hosts = map-set_same (λ h. h.items) p.handed.items a.node c.arrive_out.new.up c.index_mut-2.result.now (h.1 ∙ ap (λ h. h.items) c.index_mut-2.ensures.value) in
-    let same : plant_of p.topology (states_of g.R.Role.meaning (slice_set p.nodes.items a.node c.arrive_out.new.node)) c.reserve.new.self (map (λ h. h.items) (slice_set p.handed.items a.node c.arrive_out.new.up))
-    ≡ plant_state g.R.Role.meaning p =
-    rw (nodes, hosts, r.copies, r.rest.0, r.rest.1) refl in
-    search rules
+    let h = c.in_err-landing.ensures.same in
+    let back = put_back (state_of g.R.Role.meaning) (λ h. h.items) p.nodes.items p.handed.items p.topology c.reserve.new.self c.args.arriving.now.node
+    c.index_mut.result.now c.arrive_out.new.node c.index_mut-2.result.now c.arrive_out.new.up h.0 c.index_mut.ensures.value h.1 c.index_mut-2.ensures.value in
+    back ∙ rw (r.copies, r.rest.0, r.rest.1) refl
 
 pub returns-in-Taken-clause-ok : goal.returns-in-Taken-clause-ok
 returns-in-Taken-clause-ok g c =
@@ -95,11 +88,10 @@ returns-in_default-clause-ok g c =
     let v = c.remove.ensures in
     let there = receiver_there state p.nodes.items s c.args.place a n refl c.requires.in_order c.requires.there c.index_mut.ensures.value in
     let lost = rw (c.in_default.is, c.framing_of-framing.ensures) at c.in_ok-landing.ensures.ok in
-    let nodes = map-set_same state p.nodes.items a.node c.arrive_out.new.node n (lost.same ∙ ap state c.index_mut.ensures.value) in
-    let hosts = map-set_same (λ h. h.items) p.handed.items a.node c.arrive_out.new.up c.index_mut-2.result.now (lost.up ∙ ap (λ h. h.items) c.index_mut-2.ensures.value) in
-    let t = plant_of p.topology (states_of g.R.Role.meaning (slice_set p.nodes.items a.node c.arrive_out.new.node)) c.remove.new.self (map (λ h. h.items) (slice_set p.handed.items a.node c.arrive_out.new.up)) in
-    let plant : t ≡ without s c.args.place = rw (nodes, hosts, v.copies, r.copies, v.rest.0, r.rest.0, v.rest.1, r.rest.1) refl in
-    lost_goes s c.args.place c.clock-now.result a (state n) _ _ _ t c.requires.there there (c.clock-now.ensures ∙ r.rest.1) lost plant
+    let back = put_back state (λ h. h.items) p.nodes.items p.handed.items p.topology c.remove.new.self a.node
+    n c.arrive_out.new.node c.index_mut-2.result.now c.arrive_out.new.up lost.same c.index_mut.ensures.value lost.up c.index_mut-2.ensures.value in
+    let plant = back ∙ rw (v.copies, r.copies, v.rest.0, r.rest.0, v.rest.1, r.rest.1) refl in
+    lost_goes s c.args.place c.clock-now.result a (state n) _ _ _ _ c.requires.there there (c.clock-now.ensures ∙ r.rest.1) lost plant
 
 pub returns-in_default-clause-in_order : goal.returns-in_default-clause-in_order
 returns-in_default-clause-in_order g c =
@@ -111,6 +103,4 @@ framing_of-framing-requires g c = nets_fit c.args.self.now.topology _ c.requires
 pub put-requires-clause-joined : goal.put-requires-clause-joined
 put-requires-clause-joined g c =
     let p = c.args.self.now in
-    let count : length (states_of g.R.Role.meaning p.nodes.items) ≡ c.len-nodes.result =
-    omega (arith, c.len-nodes.ensures, p.nodes.ok, length-map p.nodes.items (state_of g.R.Role.meaning)) in
-    subst (λ (n : ℕ). IsJoinedAs p.topology n) count c.requires.in_order.joined
+    joined_for (state_of g.R.Role.meaning) p.nodes.items p.topology c.len-nodes.result c.requires.in_order.joined (omega (arith, c.len-nodes.ensures, p.nodes.ok))
