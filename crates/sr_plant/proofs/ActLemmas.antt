@@ -38,12 +38,15 @@ or_map f (m ∷ ms) (suc i) n d here within = or_map f ms i n d here (omega arit
 pub joined_for : {N X : Type 0} (f : N → X) (ns : List N) (t : Topology) (count : ℕ) → IsJoinedAs t (length (map f ns)) → count ≡ length ns → IsJoinedAs t count
 joined_for f ns t count joined counted = subst (IsJoinedAs t) (length-map ns f ∙ sym counted) joined
 
--- a node and what its host was handed that are put back as they were leave a plant as it is
-pub put_back : {N H : Type 0} (f : N → State) (items : H → List ParcelImage) (ns : List N) (hs : List H) (t : Topology) (traffic : TrafficValue) (i : ℕ)
-    (n m : N) (old new : H) → f m ≡ f n → n ≡ get_or ns i n → items new ≡ items old → old ≡ get_or hs i old →
-    plant_of t (map f (slice_set ns i m)) traffic (map items (slice_set hs i new)) ≡ plant_of t (map f ns) traffic (map items hs)
-put_back f items ns hs t traffic i n m old new state here handed there =
-    rw (map-set_same f ns i m n (state ∙ ap f here), map-set_same items hs i new old (handed ∙ ap items there)) refl
+-- where a node and what its host was handed are put back as they were, nothing but the traffic changes
+pub put_back : {N H : Type 0} (f : N → State) (items : H → List ParcelImage) (ns : List N) (hs : List H) (t : Topology) (traffic : TrafficValue)
+    (flight : List Copy) (cut : List Bool) (clock i : ℕ) (n m : N) (old new : H) →
+    f m ≡ f n → n ≡ get_or ns i n → items new ≡ items old → old ≡ get_or hs i old →
+    traffic.flight.copies ≡ flight → traffic.cut ≡ cut → traffic.clock ≡ clock →
+    plant_of t (map f (slice_set ns i m)) traffic (map items (slice_set hs i new))
+    ≡ record { topology = t; nodes = map f ns; flight = flight; cut = cut; clock = clock; handed = map items hs }
+put_back f items ns hs t traffic flight cut clock i n m old new state here handed there copies cuts now =
+    rw (map-set_same f ns i m n (state ∙ ap f here), map-set_same items hs i new old (handed ∙ ap items there), copies, cuts, now) refl
 
 -- what is put out at A, then at B, and then at C
 put_in_turn : (t : Topology) (n k : ℕ) (cut : List Bool) (u : State) (flight : List Copy) →

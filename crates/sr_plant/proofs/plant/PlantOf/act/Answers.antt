@@ -31,9 +31,10 @@ returns-in_err-given-clause-same g c =
     let p = c.args.self.now in
     let r = c.in_ok-reserve.ensures in
     let h = c.in_err-given.ensures.same in
-    let back = put_back (state_of g.R.Role.meaning) (λ h. h.items) p.nodes.items p.handed.items p.topology c.reserve.new.self c.args.node
-    c.index_mut.result.now c.step_out.new.node c.index_mut-2.result.now c.step_out.new.up h.0 c.index_mut.ensures.value h.1 c.index_mut-2.ensures.value in
-    back ∙ rw (r.copies, r.rest.0, r.rest.1) refl
+    let same = put_back (state_of g.R.Role.meaning) (λ h. h.items) p.nodes.items p.handed.items p.topology c.reserve.new.self _ _ _ c.args.node
+    c.index_mut.result.now c.step_out.new.node c.index_mut-2.result.now c.step_out.new.up
+    h.0 c.index_mut.ensures.value h.1 c.index_mut-2.ensures.value r.copies r.rest.0 r.rest.1 in
+    search rules
 
 pub returns-clause-ok : goal.returns-clause-ok
 returns-clause-ok g c =

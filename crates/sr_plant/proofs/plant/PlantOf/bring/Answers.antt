@@ -47,9 +47,10 @@ returns-in_err-landing-clause-same g c =
     let p = c.args.self.now in
     let r = c.in_ok-reserve.ensures in
     let h = c.in_err-landing.ensures.same in
-    let back = put_back (state_of g.R.Role.meaning) (λ h. h.items) p.nodes.items p.handed.items p.topology c.reserve.new.self c.args.arriving.now.node
-    c.index_mut.result.now c.arrive_out.new.node c.index_mut-2.result.now c.arrive_out.new.up h.0 c.index_mut.ensures.value h.1 c.index_mut-2.ensures.value in
-    back ∙ rw (r.copies, r.rest.0, r.rest.1) refl
+    let same = put_back (state_of g.R.Role.meaning) (λ h. h.items) p.nodes.items p.handed.items p.topology c.reserve.new.self _ _ _ c.args.arriving.now.node
+    c.index_mut.result.now c.arrive_out.new.node c.index_mut-2.result.now c.arrive_out.new.up
+    h.0 c.index_mut.ensures.value h.1 c.index_mut-2.ensures.value r.copies r.rest.0 r.rest.1 in
+    search rules
 
 pub returns-in-Taken-clause-ok : goal.returns-in-Taken-clause-ok
 returns-in-Taken-clause-ok g c =
@@ -88,9 +89,10 @@ returns-in_default-clause-ok g c =
     let v = c.remove.ensures in
     let there = receiver_there state p.nodes.items s c.args.place a n refl c.requires.in_order c.requires.there c.index_mut.ensures.value in
     let lost = rw (c.in_default.is, c.framing_of-framing.ensures) at c.in_ok-landing.ensures.ok in
-    let back = put_back state (λ h. h.items) p.nodes.items p.handed.items p.topology c.remove.new.self a.node
-    n c.arrive_out.new.node c.index_mut-2.result.now c.arrive_out.new.up lost.same c.index_mut.ensures.value lost.up c.index_mut-2.ensures.value in
-    let plant = back ∙ rw (v.copies, r.copies, v.rest.0, r.rest.0, v.rest.1, r.rest.1) refl in
+    let plant = put_back state (λ h. h.items) p.nodes.items p.handed.items p.topology c.remove.new.self _ _ _ a.node
+    n c.arrive_out.new.node c.index_mut-2.result.now c.arrive_out.new.up
+    lost.same c.index_mut.ensures.value lost.up c.index_mut-2.ensures.value
+    (rw r.copies at v.copies) (v.rest.0 ∙ r.rest.0) (v.rest.1 ∙ r.rest.1) in
     lost_goes s c.args.place c.clock-now.result a (state n) _ _ _ _ c.requires.there there (c.clock-now.ensures ∙ r.rest.1) lost plant
 
 pub returns-in_default-clause-in_order : goal.returns-in_default-clause-in_order
