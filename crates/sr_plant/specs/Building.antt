@@ -86,8 +86,8 @@ abbrev pub is_second_join : TwoRingsShape → Option Join → Bool
 is_second_join s None = true
 is_second_join s (Some j) = is_join s j && not (j.left == s.first.left) && not (j.right == s.first.right)
 
--- So many nodes make such a network: 2 to 16 in a ring or in two LANs; 3 to 16 in a ring with 1 to 14 in LANs behind it; 2 to 16 in each of two
--- rings.
+-- So many nodes make such a network: 2 to 16 in a ring or in two LANs; 3 to 16 in a ring with 1 to 14 in LANs behind it; 2 to 16 in each of
+-- two rings.
 abbrev pub is_size : Topology → ℕ → Bool
 is_size Ring n = is_between fewest_nodes most_nodes n
 is_size TwinLan n = is_between fewest_nodes most_nodes n

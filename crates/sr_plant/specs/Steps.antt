@@ -122,7 +122,8 @@ abbrev pub NodeRefuses : Plant → ℕ → Event → PlantFault → Type 0
 NodeRefuses s i event f =
     (before : State) × (slice_get s.nodes i ≡ Some before) × (f ≡ Node (or_no_memory (refusal_of before event)))
 
--- Why the event is refused after that: an allocation of the plant failed, or the node refuses the event. What only takes away can do neither.
+-- Why the event is refused after that: an allocation of the plant failed, or the node refuses the event. An event that only takes away is
+-- not refused.
 abbrev pub Fails : Plant → PlantEvent → PlantFault → Type 0
 Fails s (Send i frame) f = (f ≡ NoMemory) ⊎ NodeRefuses s i (node.Send frame s.clock) f
 Fails s (Carry place) f =
