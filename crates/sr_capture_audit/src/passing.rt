@@ -1,8 +1,5 @@
 //! Going over the packets of captures.
 
-ghost use Rattle.std.specs.Prelude.{◌≡◌, ◌/◌};
-ghost use Rattle.sr_capture_script.specs.Texts.{is_wanted};
-
 use crate::network::{Ports, Tap};
 use sr_audit::Side;
 use sr_capture::Packet;
@@ -30,14 +27,6 @@ pub(crate) trait Pass {
     /// # Errors
     /// What ends the pass early.
     fn take(&mut self, place: Place, packet: &Packet) -> Result<(), ScriptFault>;
-}
-
-/// Whether packets of this time are wanted.
-fn is_wanted(choice: &Choice, time: u64) -> bool
-    ensures { result ≡ is_wanted choice.now (time / 1000000) }
-{
-    let time = time / MILLISECOND;
-    !(time < choice.from || choice.to.unwrap_or(time) < time)
 }
 
 /// Where the capture of an inlet was made. None: it is none of an audit.
@@ -69,7 +58,7 @@ pub(crate) fn pass_over<R: BufRead + Drop, P: Pass>(
         base = Some(start);
         let time = front.moment.saturating_sub(start);
         if let Some(tap) = tap_of(ports, front.inlet) {
-            if is_wanted(choice, time) {
+            if choice.is_wanted(time / MILLISECOND) {
                 let place = Place {
                     tap,
                     number: front.number,

@@ -1,10 +1,9 @@
 //! Going over the packets of two captures, and writing each frame once.
 
-ghost use Rattle.std.specs.Prelude.{◌≡◌, ◌≢◌, ◌/◌, [], List, ℕ, Option, OnOk, IfOk, IfErr, IfSome};
+ghost use Rattle.std.specs.Prelude.{◌≡◌, ◌≢◌, [], List, ℕ, Option, OnOk, IfOk, IfErr, IfSome};
 ghost use Rattle.sr_capture_script.specs.declared.choice.Inlet.TheVariants.{A as AtA, B as AtB, C as AtC};
 ghost use Rattle.sr_capture_script.specs.Merging.{feed_of};
 ghost use Rattle.sr_capture_script.specs.SourceViews.{IsFed};
-ghost use Rattle.sr_capture_script.specs.Texts.{is_wanted};
 ghost use Rattle.sr_capture_merge.specs.Reading.{side_at};
 ghost use Rattle.sr_capture_merge.specs.Files.{IsStop, WritesOn, TakesOn, EndsOn, EndsBy};
 ghost use Rattle.sr_capture_merge.specs.Merged.{MergesOn, MergesAll, MergesUntil, IsMerged, IsMergedUpTo};
@@ -25,14 +24,6 @@ use std::io::{BufRead, Write};
 
 /// The nanoseconds of a millisecond.
 const MILLISECOND: u64 = 1_000_000;
-
-/// Whether packets of this time are wanted.
-fn is_wanted(choice: &Choice, time: u64) -> bool
-    ensures { result ≡ is_wanted choice.now (time / 1000000) }
-{
-    let time = time / MILLISECOND;
-    choice.from <= time && time <= choice.to.unwrap_or(time)
-}
 
 /// The side of an inlet.
 fn side_of(inlet: Inlet) -> Side
@@ -178,7 +169,7 @@ fn pass<R: BufRead + Drop, W: Write>(
     ensures start { output.new.start ≡ output.old.start }
 {
     let time = front.moment.saturating_sub(output.start);
-    if is_wanted(choice, time) {
+    if choice.is_wanted(time / MILLISECOND) {
         let side = side_of(front.inlet);
         let packet = captures.packet(front.inlet);
         take(merge, output, side, front.number, time, packet, writer)?;

@@ -1,6 +1,7 @@
 //! What of the captures is wanted, and where it came in.
 
-ghost use Rattle.std.specs.Prelude.{◌≤◌, ◌^◌};
+ghost use Rattle.std.specs.Prelude.{◌≡◌, ◌≤◌, ◌^◌};
+ghost use Rattle.sr_capture_script.specs.Texts.{is_wanted};
 
 use sr_pcapng::Wanted;
 
@@ -24,6 +25,15 @@ pub struct Choice {
     pub to: Option<u64>,
     /// How far apart ticks are, from the first time on. None: there are no tick lines.
     pub tick: Option<u64>,
+}
+
+impl Choice {
+    /// Whether lines of this time are wanted.
+    pub fn is_wanted(&self, time: u64) -> bool
+        ensures { result ≡ is_wanted self.now time }
+    {
+        !(time < self.from || self.to.unwrap_or(time) < time)
+    }
 }
 
 /// The most that a file's times are put off, in nanoseconds: some 146 years.

@@ -5,7 +5,7 @@ ghost use Rattle.std.specs.Io.KnownBytes.{Appends};
 ghost use Rattle.sr_capture.specs.Records.{Shows};
 ghost use Rattle.sr_capture_script.specs.Items.{Item};
 ghost use Rattle.sr_capture_script.specs.SourceViews.{StopsPrinting};
-ghost use Rattle.sr_capture_script.specs.Texts.{time_since, is_wanted, piece_of, last_after};
+ghost use Rattle.sr_capture_script.specs.Texts.{time_since, piece_of, last_after};
 
 use crate::choice::{Choice, Inlet};
 use crate::fault::ScriptFault;
@@ -17,13 +17,6 @@ use std::io::Write;
 
 /// The nanoseconds of a millisecond.
 const MILLISECOND: u64 = 1_000_000;
-
-/// Whether lines of this time are wanted.
-fn is_wanted(choice: &Choice, time: u64) -> bool
-    ensures { result ≡ is_wanted choice.now time }
-{
-    !(time < choice.from || choice.to.unwrap_or(time) < time)
-}
 
 /// Milliseconds since a moment.
 fn time_since(base: u64, moment: u64) -> u64
@@ -60,7 +53,7 @@ pub(crate) fn print_piece<W: Write>(
         StopsPrinting fault (W.contents writer.old) (W.contents writer.new)) }
 {
     let time = time_since(base, place.moment);
-    if !is_wanted(choice, time) {
+    if !choice.is_wanted(time) {
         return Ok(());
     }
     text.clear();

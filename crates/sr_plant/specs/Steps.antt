@@ -142,7 +142,7 @@ PlantRefuses s e f = (plant_refusal s e ≡ Some f) ⊎ ((plant_refusal s e ≡ 
 
 -- What a plant does with an event: it takes one step, and only where there is no reason to refuse the event; or it refuses the event and
 -- stays as it is. Either way it is in order.
-pub record TakesEvent (s : Plant) (e : PlantEvent) (result : Result (Unit {0}) PlantFault) (t : Plant) : Type 0 where
+pub record PlantTakes (s : Plant) (e : PlantEvent) (result : Result (Unit {0}) PlantFault) (t : Plant) : Type 0 where
   pub step : OnOk result (PlantStep s e t)
   pub ok : OnOk result (plant_refusal s e ≡ None)
   pub err : IfErr result (λ f. PlantRefuses s e f)

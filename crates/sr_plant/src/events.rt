@@ -4,7 +4,7 @@ ghost use Rattle.std.specs.Prelude.{◌≡◌, IfErr, OnOk, None, Some};
 ghost use Rattle.sr_plant.specs.Images.{plant_state};
 ghost use Rattle.sr_plant.specs.declared.fault.PlantFault.TheVariants.{NoSuchNode, NoSuchCopy};
 ghost use Rattle.sr_plant.specs.Plants.{IsInOrder};
-ghost use Rattle.sr_plant.specs.Steps.{TakesEvent, lacks, clock_fault};
+ghost use Rattle.sr_plant.specs.Steps.{PlantTakes, lacks, clock_fault};
 
 use crate::{PlantEvent, PlantFault, PlantOf};
 use sr_forwarding::Role;
@@ -37,7 +37,7 @@ impl<R: Role> PlantOf<R> {
     /// `NoSuchNode`, then `NoMemory` where an allocation of the plant fails, then `Node` where the node refuses it.
     pub fn send(&mut self, node: usize, frame: &Frame) -> Result<(), PlantFault>
         requires { IsInOrder (plant_state R.meaning self.old) }
-        ensures { TakesEvent (plant_state R.meaning self.old) (PlantEvent.Send node frame.now)
+        ensures { PlantTakes (plant_state R.meaning self.old) (PlantEvent.Send node frame.now)
             result (plant_state R.meaning self.new) }
     {
         has(node, self.nodes.len(), PlantFault::NoSuchNode)?;
@@ -52,7 +52,7 @@ impl<R: Role> PlantOf<R> {
     /// fails, then `Node` where the node refuses it.
     pub fn tick(&mut self, node: usize, now: u64) -> Result<(), PlantFault>
         requires { IsInOrder (plant_state R.meaning self.old) }
-        ensures { TakesEvent (plant_state R.meaning self.old) (PlantEvent.Tick node now)
+        ensures { PlantTakes (plant_state R.meaning self.old) (PlantEvent.Tick node now)
             result (plant_state R.meaning self.new) }
     {
         has(node, self.nodes.len(), PlantFault::NoSuchNode)?;
@@ -67,7 +67,7 @@ impl<R: Role> PlantOf<R> {
     /// full or an allocation fails there.
     pub fn carry(&mut self, place: usize) -> Result<(), PlantFault>
         requires { IsInOrder (plant_state R.meaning self.old) }
-        ensures { TakesEvent (plant_state R.meaning self.old) (PlantEvent.Carry place)
+        ensures { PlantTakes (plant_state R.meaning self.old) (PlantEvent.Carry place)
             result (plant_state R.meaning self.new) }
     {
         has(place, self.traffic.len(), PlantFault::NoSuchCopy)?;
@@ -81,7 +81,7 @@ impl<R: Role> PlantOf<R> {
     /// The copy at a place is lost. `NoSuchCopy` where there is none.
     pub fn lose(&mut self, place: usize) -> Result<(), PlantFault>
         requires { IsInOrder (plant_state R.meaning self.old) }
-        ensures { TakesEvent (plant_state R.meaning self.old) (PlantEvent.Drop place)
+        ensures { PlantTakes (plant_state R.meaning self.old) (PlantEvent.Drop place)
             result (plant_state R.meaning self.new) }
     {
         has(place, self.traffic.len(), PlantFault::NoSuchCopy)?;
@@ -93,7 +93,7 @@ impl<R: Role> PlantOf<R> {
     /// allocation fails.
     pub fn repeat(&mut self, place: usize) -> Result<(), PlantFault>
         requires { IsInOrder (plant_state R.meaning self.old) }
-        ensures { TakesEvent (plant_state R.meaning self.old) (PlantEvent.Repeat place)
+        ensures { PlantTakes (plant_state R.meaning self.old) (PlantEvent.Repeat place)
             result (plant_state R.meaning self.new) }
     {
         has(place, self.traffic.len(), PlantFault::NoSuchCopy)?;
@@ -105,7 +105,7 @@ impl<R: Role> PlantOf<R> {
     /// no such link. A link may be cut again.
     pub fn cut(&mut self, link: usize) -> Result<(), PlantFault>
         requires { IsInOrder (plant_state R.meaning self.old) }
-        ensures { TakesEvent (plant_state R.meaning self.old) (PlantEvent.Cut link)
+        ensures { PlantTakes (plant_state R.meaning self.old) (PlantEvent.Cut link)
             result (plant_state R.meaning self.new) }
     {
         has(link, self.traffic.links(), PlantFault::NoSuchNode)?;
@@ -116,7 +116,7 @@ impl<R: Role> PlantOf<R> {
     /// A link is mended. `NoSuchNode` where there is no such link. A whole link may be mended.
     pub fn mend(&mut self, link: usize) -> Result<(), PlantFault>
         requires { IsInOrder (plant_state R.meaning self.old) }
-        ensures { TakesEvent (plant_state R.meaning self.old) (PlantEvent.Mend link)
+        ensures { PlantTakes (plant_state R.meaning self.old) (PlantEvent.Mend link)
             result (plant_state R.meaning self.new) }
     {
         has(link, self.traffic.links(), PlantFault::NoSuchNode)?;
@@ -131,7 +131,7 @@ impl<R: Role> PlantOf<R> {
     /// `TableFull` is lost, and that is no refusal.
     pub fn apply(&mut self, event: &PlantEvent) -> Result<(), PlantFault>
         requires { IsInOrder (plant_state R.meaning self.old) }
-        ensures { TakesEvent (plant_state R.meaning self.old) event.now
+        ensures { PlantTakes (plant_state R.meaning self.old) event.now
             result (plant_state R.meaning self.new) }
     {
         match event {
