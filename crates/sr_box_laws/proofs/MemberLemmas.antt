@@ -3,6 +3,7 @@ use Rattle.std.proofs.Common.{◌≡◌, ℕ, ◌==◌, Bool, true, false, not, 
 use Rattle.sr_frame.specs.declared.ports.Port.{Port}
 use Rattle.sr_frame.specs.declared.ports.Port.TheVariants.{H, A, B, C}
 use Rattle.sr_forwarding.specs.declared.outlets.Outlets.{Outlets}
+use Rattle.sr_forwarding.specs.NetIds.{number_of}
 use Rattle.sr_forwarding.specs.Outlets.{has, to, ring}
 use Rattle.sr_forwarding.specs.Routes.{routes}
 use Rattle.sr_plant_laws.specs.Frames.{Dest, one, group, is_only, is_for, Frame}
@@ -235,7 +236,7 @@ ring_box_table k f C C = refl
 pub prp_boxes : PrpBoxesAreMembers
 prp_boxes s net k lan role h f p kind shown path o now = by p shown path ∙ lan_box_table s k f p o
   where
-    by : (p : Port) → IsShown p k role h f → IsPathOf s net p h f →
+    by : (p : Port) → IsShown p k role h f → IsPathOf s (number_of net) p h f →
         has (routes role h p now) o
         ≡ box_wants f.supervision (is_only k f.dest) (is_to_group f.dest) (not (is_in_ring s f.src)) p o
     by H shown path =

@@ -6,7 +6,9 @@ use Rattle.sr_frame.specs.Addresses.{mac_eq}
 use Rattle.sr_prp_trailer.specs.declared.trailer.Lan.{Lan}
 use Rattle.sr_forwarding.specs.declared.header.Header.{Header}
 use Rattle.sr_forwarding.specs.declared.role_image.RoleImage.{RoleImage}
-use Rattle.sr_forwarding.specs.declared.role_image.RoleKind.TheVariants.{Danp, Danh, Prp, Hsr}
+use Rattle.sr_forwarding.specs.declared.kind.RoleKind.TheVariants.{Danp, Danh, Prp, Hsr}
+use Rattle.sr_forwarding.specs.declared.net_id.NetId.{NetId}
+use Rattle.sr_forwarding.specs.NetIds.{number_of}
 use Rattle.sr_forwarding.specs.Outlets.{has}
 use Rattle.sr_forwarding.specs.RoleImages.{is_group}
 use Rattle.sr_forwarding.specs.Routes.{routes}
@@ -55,8 +57,8 @@ DanpsAreMembers =
 -- whichever LAN is the box's
 abbrev pub PrpBoxesAreMembers : Type 0
 PrpBoxesAreMembers =
-    (s : Shape) (net k : ℕ) (lan : Lan) (role : RoleImage) (h : Header) (f : Frame) (p : Port) → role.kind ≡ Prp lan net →
-    IsShown p k role h f → IsPathOf s net p h f → WantsBy (lan_box_routes s) k role h f p
+    (s : Shape) (net : NetId) (k : ℕ) (lan : Lan) (role : RoleImage) (h : Header) (f : Frame) (p : Port) → role.kind ≡ Prp lan net →
+    IsShown p k role h f → IsPathOf s (number_of net) p h f → WantsBy (lan_box_routes s) k role h f p
 
 abbrev pub HsrBoxesAreMembers : Type 0
 HsrBoxesAreMembers =

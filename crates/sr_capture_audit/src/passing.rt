@@ -6,9 +6,6 @@ use sr_capture::Packet;
 use sr_capture_script::{Captures, Choice, Inlet, ScriptFault};
 use std::io::BufRead;
 
-/// The nanoseconds of a millisecond.
-const MILLISECOND: u64 = 1_000_000;
-
 /// Where and when a packet came in.
 #[derive(Clone, Copy)]
 pub(crate) struct Place {
@@ -58,7 +55,7 @@ pub(crate) fn pass_over<R: BufRead + Drop, P: Pass>(
         base = Some(start);
         let time = front.moment.saturating_sub(start);
         if let Some(tap) = tap_of(ports, front.inlet) {
-            if choice.is_wanted(time / MILLISECOND) {
+            if choice.covers(time) {
                 let place = Place {
                     tap,
                     number: front.number,

@@ -22,9 +22,6 @@ use sr_slots::Keys;
 use std::alloc::Global;
 use std::io::{BufRead, Write};
 
-/// The nanoseconds of a millisecond.
-const MILLISECOND: u64 = 1_000_000;
-
 /// The side of an inlet.
 fn side_of(inlet: Inlet) -> Side
     ensures { result ≡ side_at inlet }
@@ -169,7 +166,7 @@ fn pass<R: BufRead + Drop, W: Write>(
     ensures start { output.new.start ≡ output.old.start }
 {
     let time = front.moment.saturating_sub(output.start);
-    if choice.is_wanted(time / MILLISECOND) {
+    if choice.covers(time) {
         let side = side_of(front.inlet);
         let packet = captures.packet(front.inlet);
         take(merge, output, side, front.number, time, packet, writer)?;

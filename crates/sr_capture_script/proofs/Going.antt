@@ -6,7 +6,7 @@ use Rattle.std.proofs.KnownBytes.{Appends-nil, Appends-trans}
 use Rattle.sr_capture_script.specs.declared.choice.Choice.{Choice}
 use Rattle.sr_capture_script.specs.declared.choice.Inlet.{Inlet}
 use Rattle.sr_capture_script.specs.declared.choice.Inlet.TheVariants.{A, B, C}
-use Rattle.sr_capture_script.specs.declared.serving.Clock.{Clock}
+use Rattle.sr_capture_script.specs.declared.merge.Clock.{Clock}
 use Rattle.sr_capture_script.specs.declared.source.Source.{Source}
 use Rattle.sr_capture_script.specs.Items.{Item, key_of, came_at, AllTo, AllToDue}
 use Rattle.sr_capture_script.specs.Picking.{NotBefore, IsAfter, IsEarliest}

@@ -14,7 +14,7 @@ use Rattle.sr_capture_script.specs.declared.choice.Inlet.TheVariants.{A, B, C}
 use Rattle.sr_capture_script.specs.declared.fault.ScriptFault.{ScriptFault}
 use Rattle.sr_capture_script.specs.declared.fault.ScriptFault.TheVariants.{File, Write, NoMemory, Endless}
 use Rattle.sr_capture_script.specs.declared.flaws.FlawCounts.{FlawCounts}
-use Rattle.sr_capture_script.specs.declared.serving.Clock.{Clock}
+use Rattle.sr_capture_script.specs.declared.merge.Clock.{Clock}
 use Rattle.sr_capture_script.specs.declared.source.Source.{Source}
 use Rattle.sr_capture_script.specs.Items.{Item, key_of, came_at, items_of, AllTo, AllToDue}
 use Rattle.sr_capture_script.specs.Picking.{IsEarliest, NoneDue}

@@ -3,7 +3,7 @@ use Rattle.std.specs.Prelude.{◌≡◌, ℕ, List, Option}
 use Rattle.std.specs.Io.KnownBytes.{Appends}
 use Rattle.sr_capture_script.specs.declared.choice.Choice.{Choice}
 use Rattle.sr_capture_script.specs.declared.choice.Inlet.TheVariants.{A, B, C}
-use Rattle.sr_capture_script.specs.declared.serving.Clock.{Clock}
+use Rattle.sr_capture_script.specs.declared.merge.Clock.{Clock}
 use Rattle.sr_capture_script.specs.declared.source.Source.{Source}
 use Rattle.sr_capture_script.specs.Items.{Item, came_at, IsInOrder, AllToDue}
 use Rattle.sr_capture_script.specs.SourceViews.{IsFed}

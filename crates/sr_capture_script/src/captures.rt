@@ -3,11 +3,10 @@
 ghost use Rattle.std.specs.Prelude.{◌≡◌, IfErr, OnOk};
 ghost use Rattle.sr_capture_script.specs.Captures.{Advances, StopsAt};
 
-use crate::advancing::advance;
 use crate::choice::{Inlet, Options};
 use crate::fault::ScriptFault;
-use crate::opening::open;
-use crate::picking::earliest;
+use crate::merge::earliest;
+use crate::packets::{advance, open};
 use crate::scripting::reading_of;
 use crate::source::Source;
 use sr_capture::Packet;

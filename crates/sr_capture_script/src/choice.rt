@@ -1,9 +1,12 @@
 //! What of the captures is wanted, and where it came in.
 
-ghost use Rattle.std.specs.Prelude.{◌≡◌, ◌≤◌, ◌^◌};
+ghost use Rattle.std.specs.Prelude.{◌≡◌, ◌≤◌, ◌^◌, ◌/◌};
 ghost use Rattle.sr_capture_script.specs.Texts.{is_wanted};
 
 use sr_pcapng::Wanted;
+
+/// The nanoseconds of a millisecond.
+pub(crate) const MILLISECOND: u64 = 1_000_000;
 
 /// A port where the packets of a file came in.
 #[derive(Clone, Copy, Debug, PartialEq, Eq)]
@@ -29,10 +32,17 @@ pub struct Choice {
 
 impl Choice {
     /// Whether lines of this time are wanted.
-    pub fn is_wanted(&self, time: u64) -> bool
+    pub(crate) fn is_wanted(&self, time: u64) -> bool
         ensures { result ≡ is_wanted self.now time }
     {
         !(time < self.from || self.to.unwrap_or(time) < time)
+    }
+
+    /// Whether packets of this time, in nanoseconds from the earliest packet on, are wanted.
+    pub fn covers(&self, time: u64) -> bool
+        ensures { result ≡ is_wanted self.now (time / 1000000) }
+    {
+        self.is_wanted(time / MILLISECOND)
     }
 }
 

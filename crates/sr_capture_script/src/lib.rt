@@ -1,7 +1,6 @@
 //! Scripts from captures: the packets of up to three files, merged by time, a line for each.
 #![tactic(auto)]
 
-mod advancing;
 mod captures;
 mod choice;
 mod fault;
@@ -9,12 +8,9 @@ mod flaws;
 mod format;
 mod front;
 mod lines;
-mod merging;
-mod opening;
-mod picking;
-mod pieces;
+mod merge;
+mod packets;
 mod scripting;
-mod serving;
 mod shifts;
 mod source;
 mod ticks;

@@ -10,9 +10,8 @@ ghost use Rattle.sr_capture_script.specs.Opening.{reading_of, IsScript, IsScript
 use crate::choice::{Inlet, Options, Reading};
 use crate::fault::ScriptFault;
 use crate::lines::append_numbers;
-use crate::merging::merge;
-use crate::opening::open;
-use crate::serving::write_text;
+use crate::merge::{merge, write_text};
+use crate::packets::open;
 use crate::source::Source;
 use crate::ticks::write_last_ticks;
 use std::alloc::Global;

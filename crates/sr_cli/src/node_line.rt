@@ -1,13 +1,12 @@
 //! The options of a node: of `replay` and `status`.
 
-ghost use Rattle.std.specs.Prelude.{◌<◌, ◌≤◌};
-
 use crate::address::mac_of;
 use crate::command_line::{Words, settings_of, with_arg, with_settings};
 use crate::refusal::Refused;
 use clap::{Arg, ArgAction, ArgMatches, Command};
+use sr_forwarding::{MAX_NET, NetId, RoleKind};
 use sr_prp_trailer::Lan;
-use sr_script::{PrpRouting, RoleName, Setup};
+use sr_script::Setup;
 use sr_slots::Keys;
 use std::alloc::{AllocError, Global};
 
@@ -77,34 +76,31 @@ pub fn node_command<'a>(
 }
 
 /// The number of a network, of a word that the parser let through.
-fn net_of(word: &str) -> u8
-    ensures least { 0 < result }
-    ensures most { result ≤ 6 }
-{
+fn net_of(word: &str) -> NetId {
     match word.parse::<u8>() {
-        Ok(net) => net.clamp(1, 6),
-        Err(_) => 1,
+        Ok(net) => NetId::new(net.clamp(1, MAX_NET)),
+        Err(_) => NetId::One,
     }
 }
 
-/// The network at the interlink.
-fn network_of(node: &ArgMatches<'_>) -> PrpRouting {
+/// The box of the LAN at the interlink.
+fn prp_box_of(node: &ArgMatches<'_>) -> RoleKind {
     let lan = match node.get_str("lan") {
         Some("b") => Lan::B,
         _ => Lan::A,
     };
-    let net = node.get_str("net").map_or(1, net_of);
-    PrpRouting { lan, net }
+    let net = node.get_str("net").map_or(NetId::One, net_of);
+    RoleKind::Prp { lan, net }
 }
 
 /// The role that the parser let through.
-fn role_of(node: &ArgMatches<'_>) -> RoleName {
+fn role_of(node: &ArgMatches<'_>) -> RoleKind {
     match node.get_str("role") {
-        Some("danh") => RoleName::Danh,
-        Some("san") => RoleName::San,
-        Some("prp") => RoleName::Prp(network_of(node)),
-        Some("hsr") => RoleName::Hsr,
-        _ => RoleName::Danp,
+        Some("danh") => RoleKind::Danh,
+        Some("san") => RoleKind::San,
+        Some("prp") => prp_box_of(node),
+        Some("hsr") => RoleKind::Hsr,
+        _ => RoleKind::Danp,
     }
 }
 

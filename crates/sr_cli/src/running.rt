@@ -7,8 +7,9 @@ use crate::line_flaws::{found_in, is_capture};
 use crate::node_line::Report;
 use crate::pipes::{Kept, MAX_KEPT, Pipe};
 use crate::tails::tell_tail;
+use sr_forwarding::RoleKind;
 use sr_plant_script::{PlantSetup, run_plant};
-use sr_script::{RoleName, Setup, run, run_status, run_tally};
+use sr_script::{Setup, run, run_status, run_tally};
 use sr_session::{Fault, FaultKind, NOT_BEGUN};
 use sr_slots::Keys;
 use sr_threaded_script::{ThreadedFault, ThreadedSetup, is_threaded_line, run_threaded};
@@ -96,10 +97,11 @@ fn tell_long<R: Eprint>(rt: &R, number: u64, line: &[u8]) {
 }
 
 /// The lines of a script for a node of this role.
-fn forms_of(role: RoleName) -> &'static [Form] {
-    match role {
-        RoleName::Danp | RoleName::Danh => NODE_FORMS,
-        RoleName::San | RoleName::Prp(_) | RoleName::Hsr => REDBOX_FORMS,
+fn forms_of(role: RoleKind) -> &'static [Form] {
+    if role.has_interlink() {
+        REDBOX_FORMS
+    } else {
+        NODE_FORMS
     }
 }
 

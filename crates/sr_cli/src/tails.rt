@@ -2,8 +2,9 @@
 
 use crate::survey::{is_tagged, number_in};
 use hex::FromHex;
+use sr_forwarding::RoleKind;
 use sr_frame::Mac;
-use sr_script::{RoleName, Setup};
+use sr_script::Setup;
 
 /// Where the source of a frame stands, in digits.
 const SOURCE_AT: usize = 12;
@@ -86,7 +87,7 @@ pub fn tell_tail<R: Eprint>(rt: &R, setup: &Setup, tail: &[u8], last: &[u8]) {
             "--mac is the source of the traffic: give an address that sends none"
         );
     }
-    if frames.tagged == frames.all && matches!(setup.role, RoleName::Danp) {
+    if frames.tagged == frames.all && matches!(setup.role, RoleKind::Danp) {
         let _ = eprintln!(rt; "the frames have HSR tags: --role danh?");
     }
 }

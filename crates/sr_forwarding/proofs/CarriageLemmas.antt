@@ -1,7 +1,7 @@
 -- What a role's node puts at an outlet is written there.
 use Rattle.std.proofs.Common.{◌≡◌, ℕ, ◌+◌, ◌-◌, ◌<◌, ◌≤◌, Bool, true, false, List, [], ◌∷◌, ◌⊎◌, length, Option, None, Some, refl, sym, ap, subst, ◌∙◌, arith, inl, inr}
 use Rattle.std.specs.Prelude.{replicate}
-use Rattle.std.proofs.lemmas.Bool.{le-ltb}
+use Rattle.std.proofs.lemmas.Bool.{cases_Bool, le-ltb}
 use Rattle.std.proofs.lemmas.List.{length-append, length-replicate}
 use Rattle.sr_frame.specs.Frame.{least_len, padded}
 use Rattle.sr_frame.specs.LengthLemmas.{least_len_bounds}
@@ -11,22 +11,23 @@ use Rattle.sr_frame.specs.declared.ports.Port.TheVariants.{H}
 use Rattle.sr_sequence.specs.declared.Seq.{Seq}
 use Rattle.sr_prp_trailer.specs.Trailed.{trailer_octets}
 use Rattle.sr_prp_trailer.specs.declared.trailer.Lan.{Lan}
+use Rattle.sr_prp_trailer.specs.declared.trailer.Lan.TheVariants as lan
 use Rattle.sr_forwarding.specs.declared.form.Form.{Form}
 use Rattle.sr_forwarding.specs.declared.form.Form.TheVariants.{Plain, Hsr, Prp}
 use Rattle.sr_forwarding.specs.declared.header.Header.{Header}
 use Rattle.sr_forwarding.specs.declared.role_image.RoleImage.{RoleImage}
-use Rattle.sr_forwarding.specs.declared.role_image.RoleKind.{RoleKind}
-use Rattle.sr_forwarding.specs.declared.role_image.RoleKind.TheVariants as role
+use Rattle.sr_forwarding.specs.declared.kind.RoleKind.{RoleKind}
 use Rattle.sr_forwarding.specs.Outlets.{has, to}
 use Rattle.sr_forwarding.specs.Octets.{plain_in}
 use Rattle.sr_forwarding.specs.OctetLemmas.{without_tag_is, without_trailer_is, tagged_len}
 use Rattle.sr_forwarding.specs.Parcels.{ParcelImage, plain_of}
-use Rattle.sr_forwarding.specs.Framings.{FramingImage, Tagged, Trailed, Ordinary, framing_at}
+use Rattle.sr_forwarding.specs.Framings.{FramingImage, Tagged, Trailed, Ordinary}
 use Rattle.sr_forwarding.specs.Decoding.{IsSanParcel, IsTaggedParcel, IsTrailedParcel}
 use Rattle.sr_forwarding.specs.Encoding.{padded_plain, number_fault, write_fault_in, write_fault}
-use Rattle.sr_forwarding.specs.Carriage.{IsNumberedPlain, IsTaken, copy_for, HasNet}
-use Rattle.sr_forwarding.specs.Routes.{danp_from_lan, routes, routes_of}
-use Rattle.sr_forwarding.proofs.RouteLemmas.{lan_to_host}
+use Rattle.sr_forwarding.specs.Carriage.{IsNumberedPlain, IsTaken, IsTakenBy, IsTakenAt, copy_for}
+use Rattle.sr_forwarding.specs.Kinds.{framing_at, interlink_framing, side_framing, takes_unnumbered}
+use Rattle.sr_forwarding.specs.KindLemmas.{Numbers, NumbersAt, interlink_numbers, side_numbers, unnumbered_to_host}
+use Rattle.sr_forwarding.specs.Routes.{routes, routes_of}
 
 -- a parcel with a number, whose plain form leaves room for a tag
 record IsCarried (p : ParcelImage) : Type 0 where
@@ -85,60 +86,43 @@ carried_in_lan : (p : ParcelImage) (lan : Lan) (net : ℕ) (octets : List ℕ) �
 carried_in_lan p lan net octets some (inl is) = carried_trailed p lan net octets is
 carried_in_lan p lan net octets some (inr is) = absurd (omega (arith, some, is.node))
 
-carried_danh : (inlet : Port) (p : ParcelImage) → IsTaken role.Danh inlet p → IsCarried p
-carried_danh port.H p t = carried_plain p t
-carried_danh port.A p t = carried_tagged p t.0 t.1
-carried_danh port.B p t = carried_tagged p t.0 t.1
-carried_danh port.C p t = absurd t
+carried_by : (f : FramingImage) (p : ParcelImage) → Numbers f → IsTakenBy f p → IsCarried p
+carried_by (Tagged path) p some t = carried_tagged p t.0 t.1
+carried_by (Trailed lan net) p some t = carried_in_lan p lan net t.0 some t.1
+carried_by Ordinary p some t = carried_plain p t
 
-carried_san : (inlet : Port) (p : ParcelImage) → IsTaken role.San inlet p → IsCarried p
-carried_san port.H p t = carried_plain p t
-carried_san port.A p t = carried_tagged p t.0 t.1
-carried_san port.B p t = carried_tagged p t.0 t.1
-carried_san port.C p t = carried_plain p t
-
-carried_prp : (lan : Lan) (net : ℕ) (inlet : Port) (p : ParcelImage) → 0 < net → IsTaken (role.Prp lan net) inlet p → IsCarried p
-carried_prp lan net port.H p some t = carried_plain p t
-carried_prp lan net port.A p some t = carried_tagged p t.0 t.1
-carried_prp lan net port.B p some t = carried_tagged p t.0 t.1
-carried_prp lan net port.C p some t = carried_in_lan p lan net t.0 some t.1
-
-carried_hsr : (inlet : Port) (p : ParcelImage) → IsTaken role.Hsr inlet p → IsCarried p
-carried_hsr port.H p t = carried_plain p t
-carried_hsr port.A p t = carried_tagged p t.0 t.1
-carried_hsr port.B p t = carried_tagged p t.0 t.1
-carried_hsr port.C p t = carried_tagged p t.0 t.1
+carried_at : (f : Option FramingImage) (p : ParcelImage) → NumbersAt f → IsTakenAt f p → IsCarried p
+carried_at None p some t = absurd t
+carried_at (Some f) p some t = carried_by f p some t
 
 abbrev Passes : ParcelImage → Option FramingImage → Type 0
 Passes p None = Unit {0}
 Passes p (Some f) = write_fault f p ≡ None
 
-host_passes : (kind : RoleKind) (f : FramingImage) (p : ParcelImage) → framing_at kind port.H ≡ Some f → write_fault f p ≡ None
-host_passes role.Danp f p e = subst (Passes p) e refl
-host_passes role.Danh f p e = subst (Passes p) e refl
-host_passes role.San f p e = subst (Passes p) e refl
-host_passes (role.Prp lan net) f p e = subst (Passes p) e refl
-host_passes role.Hsr f p e = subst (Passes p) e refl
+host_passes : (f : FramingImage) (p : ParcelImage) → Some Ordinary ≡ Some f → write_fault f p ≡ None
+host_passes f p e = subst (Passes p) e refl
 
 nothing_both : (b : Bool) {X : Type 0} → b ≡ true → b ≡ false → X
 nothing_both b t f = let no : true ≡ false = sym t ∙ f in absurd cc
 
--- at a doubly attached node of a PRP network what comes from a LAN goes to the host alone
-danp_passes : (r : RoleImage) (h : Header) (inlet outlet : Port) (now : ℕ) (p : ParcelImage) (f : FramingImage) → has (to (H ∷ [])) outlet ≡ false → has (to []) outlet ≡ false → IsTaken role.Danp inlet p → has (routes_of role.Danp r h inlet now) outlet ≡ true → write_fault f p ≡ None
-danp_passes r h port.H outlet now p f host none t wanted = passes f p.form p (carried_plain p t)
-danp_passes r h port.A outlet now p f host none t wanted = nothing_both (has (danp_from_lan r h) outlet) wanted (lan_to_host r h outlet host none)
-danp_passes r h port.B outlet now p f host none t wanted = nothing_both (has (danp_from_lan r h) outlet) wanted (lan_to_host r h outlet host none)
-danp_passes r h port.C outlet now p f host none t wanted = absurd t
+-- from A or B: a frame without a number goes to the host alone
+side_passes : (kind : RoleKind) (side : Lan) (p : ParcelImage) (f : FramingImage) (wanted : Bool) → wanted ≡ true → (takes_unnumbered kind ≡ true → wanted ≡ false) → IsTakenBy (side_framing kind side) p → write_fault f p ≡ None
+side_passes kind side p f wanted is up t = elim (cases_Bool (takes_unnumbered kind)) [
+  | inl takes ↦ nothing_both wanted is (up takes)
+  | inr none ↦ passes f p.form p (carried_by (side_framing kind side) p (side_numbers kind side none) t)
+]
 
-kind_passes : (kind : RoleKind) (r : RoleImage) (h : Header) (inlet outlet : Port) (now : ℕ) (p : ParcelImage) (f : FramingImage) → has (to (H ∷ [])) outlet ≡ false → has (to []) outlet ≡ false → HasNet kind → IsTaken kind inlet p → has (routes_of kind r h inlet now) outlet ≡ true → write_fault f p ≡ None
-kind_passes role.Danp r h inlet outlet now p f host none net t wanted = danp_passes r h inlet outlet now p f host none t wanted
-kind_passes role.Danh r h inlet outlet now p f host none net t wanted = passes f p.form p (carried_danh inlet p t)
-kind_passes role.San r h inlet outlet now p f host none net t wanted = passes f p.form p (carried_san inlet p t)
-kind_passes (role.Prp lan n) r h inlet outlet now p f host none net t wanted = passes f p.form p (carried_prp lan n inlet p net t)
-kind_passes role.Hsr r h inlet outlet now p f host none net t wanted = passes f p.form p (carried_hsr inlet p t)
+kind_passes : (kind : RoleKind) (r : RoleImage) (h : Header) (inlet outlet : Port) (now : ℕ) (p : ParcelImage) (f : FramingImage) → has (to (H ∷ [])) outlet ≡ false → has (to []) outlet ≡ false → IsTaken kind inlet p → has (routes_of kind r h inlet now) outlet ≡ true → write_fault f p ≡ None
+kind_passes kind r h port.H outlet now p f host none t wanted = passes f p.form p (carried_plain p t)
+kind_passes kind r h port.A outlet now p f host none t wanted =
+    side_passes kind lan.A p f (has (routes_of kind r h port.A now) outlet) wanted (λ takes. (unnumbered_to_host kind r h outlet now takes host none).0) t
+kind_passes kind r h port.B outlet now p f host none t wanted =
+    side_passes kind lan.B p f (has (routes_of kind r h port.B now) outlet) wanted (λ takes. (unnumbered_to_host kind r h outlet now takes host none).1) t
+kind_passes kind r h port.C outlet now p f host none t wanted =
+    passes f p.form p (carried_at (interlink_framing kind) p (interlink_numbers kind) t)
 
-pub written : (r : RoleImage) (h : Header) (inlet outlet : Port) (now : ℕ) (p : ParcelImage) (f : FramingImage) → HasNet r.kind → IsTaken r.kind inlet p → has (routes r h inlet now) outlet ≡ true → framing_at r.kind outlet ≡ Some f → write_fault f (copy_for outlet p) ≡ None
-written r h inlet port.H now p f net t wanted e = host_passes r.kind f (copy_for port.H p) e
-written r h inlet port.A now p f net t wanted e = kind_passes r.kind r h inlet port.A now p f refl refl net t wanted
-written r h inlet port.B now p f net t wanted e = kind_passes r.kind r h inlet port.B now p f refl refl net t wanted
-written r h inlet port.C now p f net t wanted e = kind_passes r.kind r h inlet port.C now p f refl refl net t wanted
+pub written : (r : RoleImage) (h : Header) (inlet outlet : Port) (now : ℕ) (p : ParcelImage) (f : FramingImage) → IsTaken r.kind inlet p → has (routes r h inlet now) outlet ≡ true → framing_at r.kind outlet ≡ Some f → write_fault f (copy_for outlet p) ≡ None
+written r h inlet port.H now p f t wanted e = host_passes f (copy_for port.H p) e
+written r h inlet port.A now p f t wanted e = kind_passes r.kind r h inlet port.A now p f refl refl t wanted
+written r h inlet port.B now p f t wanted e = kind_passes r.kind r h inlet port.B now p f refl refl t wanted
+written r h inlet port.C now p f t wanted e = kind_passes r.kind r h inlet port.C now p f refl refl t wanted

@@ -1,5 +1,6 @@
 pub mod HeaderLemmas
 pub mod RouteLemmas
+pub mod KindLemmas
 pub mod CarriageLemmas
 pub mod ReadingLemmas
 pub mod AgainLemmas

@@ -1,17 +1,15 @@
--- Routes never have the inlet; those of a LAN have the host alone; those of a box for nodes without redundancy are nowhere
--- where it owns the source.
-use Rattle.std.proofs.Common.{◌≡◌, ℕ, ◌==◌, ◌/◌, Bool, true, false, List, [], ◌∷◌, ◌++◌, refl}
+-- Routes of a role never have the inlet; those of a box for nodes without redundancy are nowhere where it owns the source.
+use Rattle.std.proofs.Common.{◌≡◌, ℕ, Bool, true, false, List, [], ◌∷◌, ◌++◌, refl}
 use Rattle.std.specs.Prelude.{if◌then◌else◌, ◌||◌}
 use Rattle.sr_frame.specs.declared.ports.Port.{Port}
 use Rattle.sr_frame.specs.declared.ports.Port.TheVariants.{H, A, B, C}
 use Rattle.sr_forwarding.specs.declared.header.Header.{Header}
 use Rattle.sr_forwarding.specs.declared.outlets.Outlets.{Outlets}
 use Rattle.sr_forwarding.specs.declared.role_image.RoleImage.{RoleImage}
-use Rattle.sr_forwarding.specs.declared.role_image.RoleKind.{RoleKind}
-use Rattle.sr_forwarding.specs.declared.role_image.RoleKind.TheVariants.{Danp, Danh, San, Prp, Hsr}
+use Rattle.sr_forwarding.specs.declared.kind.RoleKind.TheVariants.{San}
 use Rattle.sr_forwarding.specs.Outlets.{has, to, ring, is_nowhere}
 use Rattle.sr_forwarding.specs.RoleImages.{is_proxied, owned}
-use Rattle.sr_forwarding.specs.Routes.{is_own, to_group, is_from_role, danp_from_lan, danh_from_ring, san_from_ring, box_from_ring, box_from_interlink, box_routes, routes_of, routes, WantsAllButOwned}
+use Rattle.sr_forwarding.specs.Routes.{is_own, to_group, is_from_role, danh_from_ring, san_from_ring, box_from_ring, box_from_interlink, box_routes, routes_of, DropsOnlyOwnSources}
 
 -- of sets that tests pick, none has a port
 pick1 : (a0 : Bool) (o0 o1 : Outlets) (p : Port) → has o0 p ≡ false → has o1 p ≡ false → has (if a0 then o0 else o1) p ≡ false
@@ -38,11 +36,7 @@ pick6 : (a0 a1 a2 a3 a4 a5 : Bool) (o0 o1 o2 o3 o4 o5 o6 : Outlets) (p : Port) �
 pick6 true a1 a2 a3 a4 a5 o0 o1 o2 o3 o4 o5 o6 p h0 h1 h2 h3 h4 h5 h6 = h0
 pick6 false a1 a2 a3 a4 a5 o0 o1 o2 o3 o4 o5 o6 p h0 h1 h2 h3 h4 h5 h6 = pick5 a1 a2 a3 a4 a5 o1 o2 o3 o4 o5 o6 p h1 h2 h3 h4 h5 h6
 
-pub lan_to_host : (r : RoleImage) (h : Header) (outlet : Port) → (has (to (H ∷ [])) outlet ≡ false) → (has (to []) outlet ≡ false) → has (danp_from_lan r h) outlet ≡ false
-lan_to_host r h outlet host none =
-    pick2 h.supervision (is_own r h || to_group h) (to []) (to (H ∷ [])) (to []) outlet none host none
-
-danh_no : (r : RoleImage) (h : Header) (inlet : Port) → has (to []) inlet ≡ false → has (to (ring inlet)) inlet ≡ false → has (to (H ∷ [])) inlet ≡ false → has (to (H ∷ ring inlet)) inlet ≡ false → has (danh_from_ring r h inlet) inlet ≡ false
+pub danh_no : (r : RoleImage) (h : Header) (inlet : Port) → has (to []) inlet ≡ false → has (to (ring inlet)) inlet ≡ false → has (to (H ∷ [])) inlet ≡ false → has (to (H ∷ ring inlet)) inlet ≡ false → has (danh_from_ring r h inlet) inlet ≡ false
 danh_no r h inlet none around host both =
     pick4 (is_from_role r h) h.supervision (is_own r h) (to_group h)
     (to []) (to (ring inlet)) (to (H ∷ [])) (to (H ∷ ring inlet)) (to (ring inlet)) inlet none around host both around
@@ -53,7 +47,7 @@ san_ring_no r h inlet now none around host all link on =
     (to []) (to (ring inlet)) (to (H ∷ [])) (to (H ∷ ring inlet ++ C ∷ [])) (to (C ∷ [])) (to (ring inlet)) (to (ring inlet ++ C ∷ [])) inlet
     none around host all link around on
 
-san_no : (r : RoleImage) (h : Header) (inlet : Port) (now : ℕ) → has (routes_of San r h inlet now) inlet ≡ false
+pub san_no : (r : RoleImage) (h : Header) (inlet : Port) (now : ℕ) → has (routes_of San r h inlet now) inlet ≡ false
 san_no r h H now =
     pick4 h.supervision (to_group h) (is_proxied r h.dst now) h.dst_known
     (to (A ∷ B ∷ [])) (to (A ∷ B ∷ C ∷ [])) (to (C ∷ [])) (to (A ∷ B ∷ [])) (to (A ∷ B ∷ C ∷ [])) H refl refl refl refl refl
@@ -73,7 +67,7 @@ box_interlink_no r h =
     pick4 (is_from_role r h) (is_own r h) h.supervision (to_group h)
     (to []) (to (H ∷ [])) (to (A ∷ B ∷ [])) (to (H ∷ A ∷ B ∷ [])) (to (A ∷ B ∷ [])) C refl refl refl refl refl
 
-box_linked_no : (r : RoleImage) (h : Header) (inlet : Port) → has (box_routes r h inlet (C ∷ [])) inlet ≡ false
+pub box_linked_no : (r : RoleImage) (h : Header) (inlet : Port) → has (box_routes r h inlet (C ∷ [])) inlet ≡ false
 box_linked_no r h H = refl
 box_linked_no r h A = box_ring_no r h A (C ∷ []) refl refl refl refl
 box_linked_no r h B = box_ring_no r h B (C ∷ []) refl refl refl refl
@@ -85,25 +79,9 @@ box_apart_no r h A = box_ring_no r h A [] refl refl refl refl
 box_apart_no r h B = box_ring_no r h B [] refl refl refl refl
 box_apart_no r h C = box_interlink_no r h
 
-box_no : (b : Bool) (r : RoleImage) (h : Header) (inlet : Port) → has (box_routes r h inlet (if b then [] else C ∷ [])) inlet ≡ false
+pub box_no : (b : Bool) (r : RoleImage) (h : Header) (inlet : Port) → has (box_routes r h inlet (if b then [] else C ∷ [])) inlet ≡ false
 box_no true r h inlet = box_apart_no r h inlet
 box_no false r h inlet = box_linked_no r h inlet
-
-kind_no : (kind : RoleKind) (r : RoleImage) (h : Header) (inlet : Port) (now : ℕ) → has (routes_of kind r h inlet now) inlet ≡ false
-kind_no Danp r h H now = refl
-kind_no Danp r h A now = lan_to_host r h A refl refl
-kind_no Danp r h B now = lan_to_host r h B refl refl
-kind_no Danp r h C now = refl
-kind_no Danh r h H now = refl
-kind_no Danh r h A now = danh_no r h A refl refl refl refl
-kind_no Danh r h B now = danh_no r h B refl refl refl refl
-kind_no Danh r h C now = refl
-kind_no San r h inlet now = san_no r h inlet now
-kind_no (Prp lan net) r h inlet now = box_no (h.path / 2 == net) r h inlet
-kind_no Hsr r h inlet now = box_linked_no r h inlet
-
-pub no_inlet : (r : RoleImage) (h : Header) (inlet : Port) (now : ℕ) → has (routes r h inlet now) inlet ≡ false
-no_inlet r h inlet now = kind_no r.kind r h inlet now
 
 -- of the lines of a RedBox for nodes that know no redundancy, the first alone sends a ring frame nowhere
 all_but_first : (owns says own group link known : Bool) (inlet : Port) → is_nowhere (to (ring inlet)) ≡ false → is_nowhere (to (H ∷ ring inlet ++ C ∷ [])) ≡ false → is_nowhere (to (ring inlet ++ C ∷ [])) ≡ false
@@ -121,5 +99,5 @@ san_at : (r : RoleImage) (h : Header) (inlet : Port) (now : ℕ) → is_nowhere 
 san_at r h inlet now around all on =
     all_but_first (is_from_role r h || is_proxied r h.src now) h.supervision (is_own r h) (to_group h) (is_proxied r h.dst now) h.dst_known inlet around all on
 
-pub san_wants_all_but_owned : WantsAllButOwned San
-san_wants_all_but_owned r h now = (san_at r h A now refl refl refl, san_at r h B now refl refl refl)
+pub san_drops_only_own_sources : DropsOnlyOwnSources San
+san_drops_only_own_sources r h now = (san_at r h A now refl refl refl, san_at r h B now refl refl refl)

@@ -1,26 +1,18 @@
 -- What a node of each role takes in at its ports, and what it puts out.
-use Rattle.std.specs.Prelude.{◌≡◌, ℕ, ◌<◌, ◌≤◌, List, length, Option, None, Some}
+use Rattle.std.specs.Prelude.{◌≡◌, ℕ, ◌≤◌, List, length, Option, None, Some}
 use Rattle.sr_frame.specs.Frame.{HasFrameLength}
 use Rattle.sr_frame.specs.declared.ports.Port.{Port}
 use Rattle.sr_frame.specs.declared.ports.Port.TheVariants as port
 use Rattle.sr_sequence.specs.declared.Seq.{Seq}
 use Rattle.sr_forwarding.specs.declared.form.Form.{Form}
 use Rattle.sr_forwarding.specs.declared.form.Form.TheVariants as form
-use Rattle.sr_forwarding.specs.declared.role_image.RoleKind.{RoleKind}
-use Rattle.sr_forwarding.specs.declared.role_image.RoleKind.TheVariants.{Danp, Danh, San, Prp, Hsr}
+use Rattle.sr_forwarding.specs.declared.kind.RoleKind.{RoleKind}
 use Rattle.sr_forwarding.specs.Limits.{longest_plain}
 use Rattle.sr_forwarding.specs.Parcels.{ParcelImage, plain_of, as_plain}
-use Rattle.sr_forwarding.specs.Framings.{FramingImage, Tagged, Trailed, Ordinary, framing_at}
+use Rattle.sr_forwarding.specs.Framings.{FramingImage, Tagged, Trailed, Ordinary}
+use Rattle.sr_forwarding.specs.Kinds.{framing_at}
 use Rattle.sr_forwarding.specs.Decoding.{IsRead}
 use Rattle.sr_forwarding.specs.Encoding.{padded_plain}
-
--- a PRP network at a ring has a number above 0
-abbrev pub HasNet : RoleKind → Type 0
-HasNet Danp = Unit {0}
-HasNet Danh = Unit {0}
-HasNet San = Unit {0}
-HasNet (Prp lan net) = 0 < net
-HasNet Hsr = Unit {0}
 
 -- an ordinary frame that got a number from the node
 pub record IsNumberedPlain (p : ParcelImage) : Type 0 where

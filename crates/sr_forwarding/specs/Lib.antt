@@ -4,12 +4,15 @@ pub mod Octets
 pub mod Parcels
 pub mod Headers
 pub mod RoleImages
-pub mod OwnRoles
+pub mod NetIds
+pub mod Kinds
 pub mod Routes
 pub mod Proxies
 pub mod Framings
+pub mod PortFramings
 pub mod Decoding
 pub mod Encoding
 pub mod Carriage
+pub mod KindLemmas
 pub mod OctetLemmas
 pub mod ParcelLemmas

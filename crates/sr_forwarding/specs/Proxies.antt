@@ -9,10 +9,9 @@ use Rattle.sr_frame.specs.declared.learn_outcome.LearnOutcome.TheVariants.{New, 
 use Rattle.sr_frame.specs.Addresses.{mac_eq}
 use Rattle.sr_forwarding.specs.declared.header.Header.{Header}
 use Rattle.sr_forwarding.specs.declared.role_image.RoleImage.{RoleImage}
-use Rattle.sr_forwarding.specs.declared.role_image.RoleKind.{RoleKind}
-use Rattle.sr_forwarding.specs.declared.role_image.RoleKind.TheVariants.{San}
 use Rattle.sr_forwarding.specs.Limits.{most_proxied}
 use Rattle.sr_forwarding.specs.RoleImages.{is_recent}
+use Rattle.sr_forwarding.specs.Kinds.{stands_alone}
 
 -- those that are not forgotten
 abbrev pub recent_of : List (Mac × ℕ) → ℕ → List (Mac × ℕ)
@@ -43,21 +42,21 @@ answer_at (Some time) ps now = if is_recent now time then Known else New
 abbrev pub proxy_answer : List (Mac × ℕ) → Mac → ℕ → LearnOutcome
 proxy_answer ps mac now = answer_at (lookup (mac_eq mac) ps) ps now
 
--- at its interlink a RedBox for nodes that know no redundancy learns the source; nothing else is learned
-abbrev pub learned_at : RoleKind → Port → RoleImage → Header → ℕ → RoleImage
-learned_at San C r h now = record r { proxied = proxied_after r.proxied h.src now }
-learned_at kind inlet r h now = r
+-- at its interlink a role that stands for other addresses too learns the source; nothing else is learned
+abbrev pub learned_at : Port → RoleImage → Header → ℕ → RoleImage
+learned_at C r h now = record r { proxied = proxied_after r.proxied h.src now }
+learned_at inlet r h now = r
 
 abbrev pub learned : RoleImage → Header → Port → ℕ → RoleImage
-learned r h inlet now = learned_at r.kind inlet r h now
+learned r h inlet now = if stands_alone r.kind then r else learned_at inlet r h now
 
 -- what `learn` answers
-abbrev pub learnt_at : RoleKind → Port → RoleImage → Header → ℕ → LearnOutcome
-learnt_at San C r h now = proxy_answer r.proxied h.src now
-learnt_at kind inlet r h now = Known
+abbrev pub learnt_at : Port → RoleImage → Header → ℕ → LearnOutcome
+learnt_at C r h now = proxy_answer r.proxied h.src now
+learnt_at inlet r h now = Known
 
 abbrev pub learnt : RoleImage → Header → Port → ℕ → LearnOutcome
-learnt r h inlet now = learnt_at r.kind inlet r h now
+learnt r h inlet now = if stands_alone r.kind then Known else learnt_at inlet r h now
 
 -- the role after the forgotten addresses went
 abbrev pub pruned : RoleImage → ℕ → RoleImage

@@ -7,9 +7,10 @@ use Rattle.sr_frame.specs.Addresses.{mac_eq}
 use Rattle.sr_forwarding.specs.declared.header.Header.{Header}
 use Rattle.sr_forwarding.specs.declared.outlets.Outlets.{Outlets}
 use Rattle.sr_forwarding.specs.declared.role_image.RoleImage.{RoleImage}
-use Rattle.sr_forwarding.specs.declared.role_image.RoleKind.{RoleKind}
-use Rattle.sr_forwarding.specs.declared.role_image.RoleKind.TheVariants.{Danp, Danh, San, Prp, Hsr}
+use Rattle.sr_forwarding.specs.declared.kind.RoleKind.{RoleKind}
+use Rattle.sr_forwarding.specs.declared.kind.RoleKind.TheVariants.{Danp, Danh, San, Prp, Hsr}
 use Rattle.sr_forwarding.specs.Outlets.{to, ring, is_nowhere}
+use Rattle.sr_forwarding.specs.NetIds.{number_of}
 use Rattle.sr_forwarding.specs.RoleImages.{is_proxied, owned, is_group}
 
 -- the destination is the role's address
@@ -118,7 +119,7 @@ abbrev pub routes_of : RoleKind → RoleImage → Header → Port → ℕ → Ou
 routes_of Danp r h inlet now = danp_routes r h inlet
 routes_of Danh r h inlet now = danh_routes r h inlet
 routes_of San r h inlet now = san_routes r h inlet now
-routes_of (Prp lan net) r h inlet now = box_routes r h inlet (interlink_unless_from net h)
+routes_of (Prp lan net) r h inlet now = box_routes r h inlet (interlink_unless_from (number_of net) h)
 routes_of Hsr r h inlet now = box_routes r h inlet (C ∷ [])
 
 -- where a frame goes, by the role, what its header says, and the inlet where it came in
@@ -131,7 +132,7 @@ IgnoresKnown kind = (r : RoleImage) (h : Header) (known : Bool) (inlet : Port) (
     routes_of kind r (record h { dst_known = known }) inlet now ≡ routes_of kind r h inlet now
 
 -- of the frames from A and B, such a role wants exactly those nowhere of which it owns the source
-abbrev pub WantsAllButOwned : RoleKind → Type 0
-WantsAllButOwned kind = (r : RoleImage) (h : Header) (now : ℕ) →
+abbrev pub DropsOnlyOwnSources : RoleKind → Type 0
+DropsOnlyOwnSources kind = (r : RoleImage) (h : Header) (now : ℕ) →
     (is_nowhere (routes_of kind r h A now) ≡ owned r h.src now)
     × (is_nowhere (routes_of kind r h B now) ≡ owned r h.src now)

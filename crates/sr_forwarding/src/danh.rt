@@ -43,11 +43,12 @@ fn from_ring(mac: Mac, header: &Header, inlet: Port) -> Outlets
 }
 
 impl Routing for DanhRouting {
-    ghost use Rattle.sr_forwarding.specs.declared.role_image.RoleKind.TheVariants as kind;
+    ghost use Rattle.std.specs.Prelude.{refl};
+    ghost use Rattle.sr_forwarding.specs.declared.kind.RoleKind.TheVariants as kind;
 
     ghost routed = { λ _. kind.Danh };
 
-    ghost alone = { λ _. tt };
+    ghost alone = { λ _. refl };
 
     fn kind(&self) -> RoleKind {
         RoleKind::Danh

@@ -38,11 +38,12 @@ fn from_lan(mac: Mac, header: &Header) -> Outlets
 }
 
 impl Routing for DanpRouting {
-    ghost use Rattle.sr_forwarding.specs.declared.role_image.RoleKind.TheVariants as kind;
+    ghost use Rattle.std.specs.Prelude.{refl};
+    ghost use Rattle.sr_forwarding.specs.declared.kind.RoleKind.TheVariants as kind;
 
     ghost routed = { λ _. kind.Danp };
 
-    ghost alone = { λ _. tt };
+    ghost alone = { λ _. refl };
 
     fn kind(&self) -> RoleKind {
         RoleKind::Danp

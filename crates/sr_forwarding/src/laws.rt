@@ -8,10 +8,11 @@ ghost use Rattle.sr_forwarding.specs.declared.fault.ReadFault.{ReadFault};
 ghost use Rattle.sr_forwarding.specs.Outlets.{has};
 ghost use Rattle.sr_forwarding.specs.Routes.{routes};
 ghost use Rattle.sr_forwarding.specs.Parcels.{ParcelImage, IsParcel};
-ghost use Rattle.sr_forwarding.specs.Framings.{FramingImage, framing_at};
+ghost use Rattle.sr_forwarding.specs.Framings.{FramingImage};
 ghost use Rattle.sr_forwarding.specs.Decoding.{IsRead, Reads, longest};
 ghost use Rattle.sr_forwarding.specs.Encoding.{IsWritten, write_fault, or_no_memory};
-ghost use Rattle.sr_forwarding.specs.Carriage.{IsTaken, copy_for, HasNet, IsReadAgain};
+ghost use Rattle.sr_forwarding.specs.Carriage.{IsTaken, copy_for, IsReadAgain};
+ghost use Rattle.sr_forwarding.specs.Kinds.{framing_at};
 
 /// No frame goes back to the port where it came in, whatever the role.
 pub fn routes_never_have_the_inlet()
@@ -23,7 +24,7 @@ pub fn routes_never_have_the_inlet()
 pub fn what_is_wanted_is_written()
     ensures { (r : RoleImage) (h : Header) (inlet outlet : Port) (now : ℕ) (p : ParcelImage)
         (f : FramingImage)
-        → HasNet r.kind → IsTaken r.kind inlet p → has (routes r h inlet now) outlet ≡ true
+        → IsTaken r.kind inlet p → has (routes r h inlet now) outlet ≡ true
         → framing_at r.kind outlet ≡ Some f → write_fault f (copy_for outlet p) ≡ None }
 {}
 

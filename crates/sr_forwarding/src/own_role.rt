@@ -1,6 +1,6 @@
 //! Roles that stand for their own address alone: they differ in where frames go, and in nothing else.
 
-ghost use Rattle.std.specs.Prelude.{◌≡◌, ℕ};
+ghost use Rattle.std.specs.Prelude.{◌≡◌, true, ℕ};
 ghost use Rattle.sr_forwarding.specs.RoleImages.{role_of};
 ghost use Rattle.sr_forwarding.specs.Routes.{routes};
 
@@ -10,12 +10,12 @@ use std::alloc::Global;
 
 /// Where the frames go of a role that stands for its own address alone.
 pub trait Routing: Drop {
-    ghost use Rattle.sr_forwarding.specs.declared.role_image.RoleKind.{RoleKind as Kind};
-    ghost use Rattle.sr_forwarding.specs.OwnRoles.{StandsAlone};
+    ghost use Rattle.sr_forwarding.specs.declared.kind.RoleKind.{RoleKind as Kind};
+    ghost use Rattle.sr_forwarding.specs.Kinds.{stands_alone};
 
     ghost routed: { Self → Kind };
 
-    ghost alone: { (r : Self) → StandsAlone (routed r) };
+    ghost alone: { (r : Self) → stands_alone (routed r) ≡ true };
 
     /// Which table it is.
     fn kind(&self) -> RoleKind

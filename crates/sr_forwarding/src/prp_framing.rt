@@ -12,9 +12,6 @@ use crate::{Form, Framing, ParcelView, ReadFault};
 use sr_frame::{FrameFault, FrameView, MAX_FRAME_LEN};
 use sr_prp_trailer::{Lan, append_trailed, parted};
 
-/// The greatest number of a PRP network at a ring.
-pub const MAX_NET: u8 = 6;
-
 /// A port of a LAN of a PRP network.
 #[derive(Clone, Copy, Debug)]
 pub struct PrpFraming {

@@ -1,53 +1,10 @@
 //! Roles as data.
 
-ghost use Rattle.std.specs.Prelude.{◌≡◌, false, true};
-ghost use Rattle.sr_forwarding.specs.Routes.{IgnoresKnown, WantsAllButOwned};
+ghost use Rattle.std.specs.Prelude.{◌≡◌};
 
+use crate::RoleKind;
 use sr_frame::Mac;
-use sr_prp_trailer::Lan;
 use std::marker::Model;
-
-/// The kinds of roles.
-#[derive(Clone, Copy, Debug, PartialEq, Eq)]
-pub enum RoleKind {
-    /// A doubly attached node of a PRP network (IEC 62439-3 clause 4).
-    Danp,
-    /// A doubly attached node of an HSR ring (IEC 62439-3 clause 5).
-    Danh,
-    /// A RedBox between a ring and nodes that know no redundancy.
-    San,
-    /// A RedBox between a ring and one LAN of a PRP network of this number.
-    Prp {
-        /// The LAN at the interlink.
-        lan: Lan,
-        /// The number of the network, 1 to 6.
-        net: u8,
-    },
-    /// A RedBox between two rings.
-    Hsr,
-}
-
-impl RoleKind {
-    /// Whether the routes of such a role read whether the destination is known as a node.
-    #[tactic(auto, using(crate::proofs::OwnLemmas::ignores_known))]
-    pub fn reads_known(self) -> bool
-        ensures { result ≡ false → IgnoresKnown self }
-    {
-        match self {
-            RoleKind::San => true,
-            RoleKind::Danp | RoleKind::Danh | RoleKind::Prp { .. } | RoleKind::Hsr => false,
-        }
-    }
-
-    /// Whether roles of this kind drop a frame from A or B exactly where they own its source. The routes then tell who owns
-    /// it, and no second look-up is needed.
-    #[tactic(auto, using(crate::proofs::RouteLemmas::san_wants_all_but_owned))]
-    pub fn wants_all_but_owned(self) -> bool
-        ensures { result ≡ true → WantsAllButOwned self }
-    {
-        matches!(self, RoleKind::San)
-    }
-}
 
 /// The addresses that a role stands for beside its own, each with the time when it was last learned, in the order in
 /// which they were learned first.

@@ -3,43 +3,15 @@
 use crate::digest::Digest;
 use crate::scripts::settings_of;
 use bitflags::Flags;
-use sr_forwarding::{
-    Danh, Danp, Framing, HsrFraming, Outlets, Parcel, PlainFraming, PrpFraming, ReadFault, Role,
-    RoleKind,
-};
+use sr_forwarding::{Danh, Danp, Framing, Outlets, Parcel, ReadFault, Role, RoleKind, framing_at};
 use sr_frame::{Frame, FrameFault, Mac, Port};
 use sr_node::{Answer, Event, Node, StepFault};
 use sr_prp_trailer::Lan;
-use sr_redbox::{HsrBox, HsrRouting, PrpBox, PrpRouting, SanBox};
+use sr_redbox::{HsrBox, PrpBox, SanBox};
 use std::alloc::Global;
 
 /// The node.
 const OWN: Mac = Mac([2, 0, 0, 0, 0, 1]);
-
-const RING_A: HsrFraming = HsrFraming { path: 0 };
-
-const RING_B: HsrFraming = HsrFraming { path: 1 };
-
-const LAN_A: PrpFraming = PrpFraming {
-    lan: Lan::A,
-    net: 0,
-};
-
-const LAN_B: PrpFraming = PrpFraming {
-    lan: Lan::B,
-    net: 0,
-};
-
-/// The network at the interlink of a box.
-const NETWORK: PrpRouting = PrpRouting {
-    lan: Lan::A,
-    net: 1,
-};
-
-const LAN_OF_NETWORK: PrpFraming = PrpFraming {
-    lan: Lan::A,
-    net: 1,
-};
 
 /// The most octets that an event has.
 const MAX_OCTETS: usize = 1600;
@@ -48,26 +20,12 @@ const MAX_OCTETS: usize = 1600;
 const MAX_WAITING: u16 = 256;
 
 fn arrive(node: &mut Node, port: Port, octets: &[u8], now: u64) -> Result<Answer, StepFault> {
-    match (node.kind(), port) {
-        (RoleKind::Danp, Port::A) => node.arrive(&LAN_A, port, octets, now),
-        (RoleKind::Danp, Port::B) => node.arrive(&LAN_B, port, octets, now),
-        (_, Port::A) | (RoleKind::Hsr, Port::C) => node.arrive(&RING_A, port, octets, now),
-        (_, Port::B) => node.arrive(&RING_B, port, octets, now),
-        (RoleKind::Prp { .. }, Port::C) => node.arrive(&LAN_OF_NETWORK, port, octets, now),
-        _ => node.arrive(&PlainFraming, port, octets, now),
-    }
+    node.arrive(&framing_at(node.kind(), port), port, octets, now)
 }
 
 /// A parcel as the port writes it.
 fn encoded(alloc: Global, kind: RoleKind, port: Port, parcel: &Parcel) -> Result<Frame, ReadFault> {
-    match (kind, port) {
-        (RoleKind::Danp, Port::A) => LAN_A.encode(alloc, parcel),
-        (RoleKind::Danp, Port::B) => LAN_B.encode(alloc, parcel),
-        (_, Port::A) | (RoleKind::Hsr, Port::C) => RING_A.encode(alloc, parcel),
-        (_, Port::B) => RING_B.encode(alloc, parcel),
-        (RoleKind::Prp { .. }, Port::C) => LAN_OF_NETWORK.encode(alloc, parcel),
-        _ => PlainFraming.encode(alloc, parcel),
-    }
+    framing_at(kind, port).encode(alloc, parcel)
 }
 
 /// Puts an answer in.
@@ -293,14 +251,14 @@ fn at_san(alloc: Global, choice: u8, events: &[u8]) -> Option<Digest> {
 }
 
 fn at_prp(alloc: Global, choice: u8, events: &[u8]) -> Option<Digest> {
-    match Box::new(alloc, PrpBox::of(OWN, NETWORK)) {
+    match Box::new(alloc, PrpBox::new(OWN, Lan::A, 1)) {
         Ok(role) => over(alloc, role, choice, events),
         Err(_) => None,
     }
 }
 
 fn at_hsr(alloc: Global, choice: u8, events: &[u8]) -> Option<Digest> {
-    match Box::new(alloc, HsrBox::of(OWN, HsrRouting)) {
+    match Box::new(alloc, HsrBox::new(OWN)) {
         Ok(role) => over(alloc, role, choice, events),
         Err(_) => None,
     }

@@ -3,29 +3,30 @@
 use crate::digest::Digest;
 use crate::sink::Sink;
 use sr_dup_table::Width;
+use sr_forwarding::{NetId, RoleKind};
 use sr_frame::Mac;
 use sr_node::{Mode, Settings};
 use sr_prp_trailer::Lan;
-use sr_script::{PrpRouting, RoleName, Setup, run, run_status, run_tally};
+use sr_script::{Setup, run, run_status, run_tally};
 use sr_session::{Fault, FaultKind};
 use sr_slots::Keys;
 use std::alloc::Global;
 
 /// The role that an octet names.
-fn role_of(choice: u8) -> RoleName {
+fn role_of(choice: u8) -> RoleKind {
     match choice % 6 {
-        0 => RoleName::Danp,
-        1 => RoleName::Danh,
-        2 => RoleName::San,
-        3 => RoleName::Prp(PrpRouting {
+        0 => RoleKind::Danp,
+        1 => RoleKind::Danh,
+        2 => RoleKind::San,
+        3 => RoleKind::Prp {
             lan: Lan::A,
-            net: 1,
-        }),
-        4 => RoleName::Prp(PrpRouting {
+            net: NetId::One,
+        },
+        4 => RoleKind::Prp {
             lan: Lan::B,
-            net: 6,
-        }),
-        _ => RoleName::Hsr,
+            net: NetId::Six,
+        },
+        _ => RoleKind::Hsr,
     }
 }
 

@@ -75,7 +75,7 @@ impl<R: Role> NodeOf<R> {
         ensures { result
             ≡ owned (R.meaning self.now.role) arrival.now.header.src arrival.now.moment }
     {
-        if self.role.kind().wants_all_but_owned() {
+        if self.role.kind().drops_only_own_sources() {
             arrival.wanted.is_empty()
         } else {
             self.role.owns(arrival.header.src, arrival.moment)

@@ -1,20 +1,18 @@
 -- Of what nodes a plant is made.
-use Rattle.std.proofs.Common.{◌≡◌, ℕ, zero, suc, ◌+◌, ◌<◌, ◌≤◌, ◌==◌, Some, slice_get, arith, Bool, true, false, not, ◌&&◌, ◌||◌, List, [], ◌∷◌, ◌++◌, length, map, drop, get_or, refl, sym, ap, ◌∙◌, inl, inr, Option, None, nat_le, nat_lt, length-append}
+use Rattle.std.proofs.Common.{rules, ◌≡◌, ℕ, zero, suc, ◌+◌, ◌<◌, ◌≤◌, ◌==◌, Some, slice_get, arith, Bool, true, false, not, ◌&&◌, ◌||◌, List, [], ◌∷◌, ◌++◌, length, map, drop, get_or, refl, sym, ap, ◌∙◌, inl, inr, Option, None, nat_le, nat_lt, length-append}
 use Rattle.std.proofs.lemmas.Bool.{cases_Bool, ne_eqb, eq-eqb, true≢false}
 use borrow.Author.Tests.{leb-true}
+use Rattle.std.specs.Bool.{Decides}
 use Rattle.std.proofs.lemmas.Bool.Decides.{nat_tests}
 use Rattle.std.proofs.lemmas.List.{length-replicate}
 use Rattle.sr_frame.specs.declared.fields.Mac.{Mac}
 use Rattle.sr_frame.specs.Addresses.{mac_eq}
-use Rattle.sr_prp_trailer.specs.declared.trailer.Lan.{Lan}
-use Rattle.sr_prp_trailer.specs.declared.trailer.Lan.TheVariants as lan
 use Rattle.sr_forwarding.specs.Parcels.{ParcelImage}
-use Rattle.sr_forwarding.specs.declared.role_image.RoleKind.{RoleKind}
-use Rattle.sr_forwarding.specs.declared.role_image.RoleKind.TheVariants.{Danp, Danh, San, Prp, Hsr}
+use Rattle.sr_forwarding.specs.declared.kind.RoleKind.{RoleKind}
+use Rattle.sr_forwarding.specs.contracts.kind.RoleKindPartialEq.TheImpl as kind
 use Rattle.sr_node.specs.Images.{State}
 use Rattle.sr_node.specs.Outboxes.{boxes_empty}
 use Rattle.sr_plant_laws.specs.Lists.{Each}
-use Rattle.sr_forwarding.specs.Limits.{greatest_net}
 use Rattle.sr_plant_laws.specs.TwoRings.{is_joined, AreJoins}
 use Rattle.sr_plant.specs.declared.shapes.RingLanShape.{RingLanShape}
 use Rattle.sr_plant.specs.declared.shapes.TwoRingsShape.{TwoRingsShape}
@@ -23,7 +21,7 @@ use Rattle.sr_plant.specs.declared.topology.Topology.{Topology}
 use Rattle.sr_plant.specs.declared.topology.Topology.TheVariants.{Ring, TwinLan, RingLan, TwoRings}
 use Rattle.sr_plant.specs.Topologies.{kind_of, link_count, IsJoinedAs, IsRingLan, AreTwoRings, joined_pair, second_join, two_shape}
 use Rattle.sr_plant.specs.Plants.{IsEmptied, IsInOrder}
-use Rattle.sr_plant.specs.Building.{is_lan, is_kind, is_between, has_boxes, is_join, is_second_join, is_size, is_plant_of_both, are_apart_from, has_nothing_waiting, is_fit, are_fit, has_address, are_apart, is_plant, opening}
+use Rattle.sr_plant.specs.Building.{is_between, has_boxes, is_join, is_second_join, is_size, is_plant_of_both, are_apart_from, has_nothing_waiting, is_fit, are_fit, has_address, are_apart, is_plant, opening}
 use Rattle.sr_plant.specs.Limits.{fewest_nodes, most_nodes, fewest_with_boxes, most_in_lans, most_members}
 use Rattle.sr_plant.proofs.ListLemmas.{drop_at}
 
@@ -31,41 +29,8 @@ both : (a b : Bool) → (a && b) ≡ true → (a ≡ true) × (b ≡ true)
 both true b e = (refl, e)
 both false b e = absurd (cc)
 
-same_lan : (l m : Lan) → is_lan l m ≡ true → l ≡ m
-same_lan lan.A lan.A e = refl
-same_lan lan.B lan.B e = refl
-same_lan lan.A lan.B e = absurd (cc)
-same_lan lan.B lan.A e = absurd (cc)
-
-same_kind : (j k : RoleKind) → is_kind j k ≡ true → j ≡ k
-same_kind Danp Danp e = refl
-same_kind Danh Danh e = refl
-same_kind San San e = refl
-same_kind Hsr Hsr e = refl
-same_kind (Prp l n) (Prp m k) e =
-    let parts = both (is_lan l m) (n == k) e in
-    let net : n ≡ k = grind (arith, nat_tests, parts.1) in
-    rw (same_lan l m parts.0, net) refl
-same_kind Danp Danh e = absurd (cc)
-same_kind Danp San e = absurd (cc)
-same_kind Danp (Prp m k) e = absurd (cc)
-same_kind Danp Hsr e = absurd (cc)
-same_kind Danh Danp e = absurd (cc)
-same_kind Danh San e = absurd (cc)
-same_kind Danh (Prp m k) e = absurd (cc)
-same_kind Danh Hsr e = absurd (cc)
-same_kind San Danp e = absurd (cc)
-same_kind San Danh e = absurd (cc)
-same_kind San (Prp m k) e = absurd (cc)
-same_kind San Hsr e = absurd (cc)
-same_kind (Prp l n) Danp e = absurd (cc)
-same_kind (Prp l n) Danh e = absurd (cc)
-same_kind (Prp l n) San e = absurd (cc)
-same_kind (Prp l n) Hsr e = absurd (cc)
-same_kind Hsr Danp e = absurd (cc)
-same_kind Hsr Danh e = absurd (cc)
-same_kind Hsr San e = absurd (cc)
-same_kind Hsr (Prp m k) e = absurd (cc)
+decides_kind : (j k : RoleKind) → Decides (kind.ghosts.eq j k) (j ≡ k)
+decides_kind j k = search (rules, nat_tests)
 
 all_empty : (h a b c : List ParcelImage) → has_nothing_waiting (record { h = h; a = a; b = b; c = c }) ≡ true →
     record { h = h; a = a; b = b; c = c } ≡ boxes_empty
@@ -79,8 +44,8 @@ fit_at : (t : Topology) (k : ℕ) (n : State) (ns : List State) → are_fit t k 
     (n.role.kind ≡ kind_of t k) × IsEmptied n × (are_fit t (suc k) ns ≡ true)
 fit_at t k n ns e =
     let fit = both (is_fit t k n) (are_fit t (suc k) ns) e in
-    let parts = both (is_kind n.role.kind (kind_of t k)) (has_nothing_waiting n.core.out) fit.0 in
-    (same_kind n.role.kind (kind_of t k) parts.0, all_empty n.core.out.h n.core.out.a n.core.out.b n.core.out.c parts.1, fit.1)
+    let parts = both (kind.ghosts.eq n.role.kind (kind_of t k)) (has_nothing_waiting n.core.out) fit.0 in
+    ((decides_kind n.role.kind (kind_of t k)).0 parts.0, all_empty n.core.out.h n.core.out.a n.core.out.b n.core.out.c parts.1, fit.1)
 
 -- from a place on
 are_of_kind : (t : Topology) (first : ℕ) (ns : List State) → are_fit t first ns ≡ true → (k : ℕ) (n : State) → slice_get ns k ≡ Some n →
@@ -144,24 +109,18 @@ ring_lan_sized s n e =
     let a = nat_lt s.box_a s.ring in
     let b = nat_lt s.box_b s.ring in
     let other = not (s.box_a == s.box_b) in
-    let net = is_between 1 greatest_net s.net in
-    let x = both ((a && b) && other) net p.1 in
-    let y = both (a && b) other x.0 in
+    let y = both (a && b) other p.1 in
     let z = both a b y.0 in
     let sum_is = q.1 in
     let a_is = z.0 in
     let b_is = z.1 in
     let size = between fewest_with_boxes most_nodes s.ring r.0 in
     let behind = between 1 most_in_lans s.lan r.1 in
-    let named = between 1 greatest_net s.net x.1 in
-    let numbered = named.0 in
     record {
       joined = record {
         sum = grind (arith, nat_tests, sum_is);
         a_inside = grind (arith, nat_tests, a_is);
         b_inside = grind (arith, nat_tests, b_is);
-        numbered = omega (arith, numbered);
-        fits = named.1;
       };
       ring = size.1;
       lan = behind.1;

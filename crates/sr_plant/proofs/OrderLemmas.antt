@@ -7,12 +7,8 @@ use Rattle.std.proofs.lemmas.List.{length-set}
 use Rattle.sr_frame.specs.declared.ports.Port.{Port}
 use Rattle.sr_frame.specs.declared.ports.Port.TheVariants.{H, A, B, C}
 use Rattle.sr_forwarding.specs.Parcels.{ParcelImage}
-use Rattle.sr_forwarding.specs.declared.header.Header.{Header}
 use Rattle.sr_forwarding.specs.declared.outlets.Outlets.{Outlets as Set}
-use Rattle.sr_forwarding.specs.declared.role_image.RoleImage.{RoleImage}
-use Rattle.sr_forwarding.specs.declared.role_image.RoleKind.{RoleKind}
-use Rattle.sr_forwarding.specs.declared.role_image.RoleKind.TheVariants.{Danp, Danh, San, Prp, Hsr}
-use Rattle.sr_forwarding.specs.Proxies.{learned_at}
+use Rattle.sr_forwarding.specs.KindLemmas.{learned_keeps}
 use Rattle.sr_node.specs.declared.event.Answer.{Answer}
 use Rattle.sr_node.specs.declared.event.Answer.TheVariants as answer
 use Rattle.sr_node.specs.declared.event.Event.{Event}
@@ -26,10 +22,9 @@ use Rattle.sr_plant_laws.specs.Ledger.{Hop}
 use Rattle.sr_plant_laws.specs.Rings.{ring}
 use Rattle.sr_plant_laws.specs.TwinLans.{other_members, lan_hops}
 use Rattle.sr_plant_laws.specs.RingLans.{others, lan_copies, ring_lan}
-use Rattle.sr_plant_laws.specs.TwoRings.{TwoShape, shifted, over_hops, is_joined, AreJoins, two_rings}
+use Rattle.sr_plant_laws.specs.TwoRings.{TwoShape, shifted, over_hops, AreJoins, two_rings}
 use Rattle.sr_plant.specs.declared.shapes.RingLanShape.{RingLanShape}
 use Rattle.sr_plant.specs.declared.shapes.TwoRingsShape.{TwoRingsShape}
-use Rattle.sr_plant.specs.PortFramings.{HaveNets}
 use Rattle.sr_plant.specs.declared.topology.Topology.{Topology}
 use Rattle.sr_plant.specs.declared.topology.Topology.TheVariants.{Ring, TwinLan, RingLan, TwoRings}
 use Rattle.sr_plant.specs.Topologies.{net_of, kind_of, IsJoinedAs, IsRingLan, AreTwoRings, lan_shape, two_shape, joins_of}
@@ -197,25 +192,6 @@ net_within TwinLan n k C within joined = tt
 net_within (RingLan s) n k o within joined = ring_lan_within s n k o joined
 net_within (TwoRings s) n k o within joined = two_rings_within s n k o within joined
 
--- the network of each node has a number that a ring can tell
-pub nets_fit : (t : Topology) (n : ℕ) → IsJoinedAs t n → HaveNets t
-nets_fit Ring n joined k = omega arith
-nets_fit TwinLan n joined k = omega arith
-nets_fit (RingLan s) n joined k = elim (cases_Bool (nat_lt k s.ring)) [
-  | inl inside ↦ elim (cases_Bool (k == s.box_a)) [
-    | inl is ↦ rw (inside, is) joined.fits
-    | inr not_a ↦ elim (cases_Bool (k == s.box_b)) [
-      | inl is ↦ rw (inside, not_a, is) joined.fits
-      | inr not_b ↦ rw (inside, not_a, not_b) (omega arith)
-    ]
-  ]
-  | inr outside ↦ rw outside (omega arith)
-]
-nets_fit (TwoRings s) n joined k = elim (cases_Bool (is_joined (joins_of s) k)) [
-  | inl is ↦ rw is (omega arith)
-  | inr not ↦ rw not (omega arith)
-]
-
 copies_within : (n k : ℕ) (o : Port) (p : ParcelImage) (hs : List Hop) → Each (λ h. h.to.node < n) hs → Each (λ c. c.hop.to.node < n) (map (copy_over k o p) hs)
 copies_within n k o p [] each = tt
 copies_within n k o p (h ∷ hs) each = (each.0, copies_within n k o p hs each.1)
@@ -226,23 +202,13 @@ put_within t n k o (p ∷ ps) within joined =
     each_append (λ (c : Copy). c.hop.to.node < n) _ _ (copies_within n k o p (net_of t n k o) (net_within t n k o within joined)) (put_within t n k o ps within joined)
 
 -- a node keeps its kind
-learned_kind : (kind : RoleKind) (port : Port) (r : RoleImage) (h : Header) (now : ℕ) → (learned_at kind port r h now).kind ≡ r.kind
-learned_kind San C r h now = refl
-learned_kind San H r h now = refl
-learned_kind San A r h now = refl
-learned_kind San B r h now = refl
-learned_kind Danp port r h now = refl
-learned_kind Danh port r h now = refl
-learned_kind (Prp lan net) port r h now = refl
-learned_kind Hsr port r h now = refl
-
 pub arrived_kind : (s : State) (port : Port) (p : ParcelImage) (now : ℕ) (a : Answer) (t : State) → Arrived s port p now a t → t.role.kind ≡ s.role.kind
 arrived_kind s port p now answer.Own t came = rw came.1 refl
 arrived_kind s port p now (answer.Passed outlets) t came = by_outlets (goes s port p now) came.1
   where
     by_outlets : (o : Option Set) → PassedTo s port p now o outlets t → t.role.kind ≡ s.role.kind
     by_outlets None came = absurd came
-    by_outlets (Some o) came = rw came.3 (learned_kind s.role.kind port s.role (header_at s (going_on s port p) now) now)
+    by_outlets (Some o) came = rw came.3 (learned_keeps s.role (header_at s (going_on s port p) now) port now).0
 arrived_kind s port p now (answer.Sent number) t came = absurd came
 arrived_kind s port p now (answer.Ticked sources nodes proxies life) t came = absurd came
 arrived_kind s port p now (answer.Taken given) t came = absurd came

@@ -7,11 +7,9 @@ use Rattle.sr_frame.specs.Addresses.{mac_eq}
 use Rattle.sr_prp_trailer.specs.declared.trailer.Lan.{Lan}
 use Rattle.sr_prp_trailer.specs.declared.trailer.Lan.TheVariants as lan
 use Rattle.sr_forwarding.specs.Parcels.{ParcelImage}
-use Rattle.sr_forwarding.specs.declared.role_image.RoleKind.{RoleKind}
-use Rattle.sr_forwarding.specs.declared.role_image.RoleKind.TheVariants.{Danp, Danh, San, Prp, Hsr}
+use Rattle.sr_forwarding.specs.contracts.kind.RoleKindPartialEq.TheImpl as kind
 use Rattle.sr_node.specs.Images.{State}
 use Rattle.sr_node.specs.Outboxes.{Outboxes}
-use Rattle.sr_forwarding.specs.Limits.{greatest_net}
 use Rattle.sr_plant.specs.declared.shapes.RingLanShape.{RingLanShape}
 use Rattle.sr_plant.specs.declared.shapes.TwoRingsShape.{TwoRingsShape}
 use Rattle.sr_plant.specs.declared.shapes.Join.{Join}
@@ -28,15 +26,6 @@ is_lan lan.A lan.A = true
 is_lan lan.B lan.B = true
 is_lan l m = false
 
--- The two kinds are the same.
-abbrev pub is_kind : RoleKind → RoleKind → Bool
-is_kind Danp Danp = true
-is_kind Danh Danh = true
-is_kind San San = true
-is_kind (Prp l n) (Prp m k) = is_lan l m && n == k
-is_kind Hsr Hsr = true
-is_kind one other = false
-
 abbrev pub is_empty : List ParcelImage → Bool
 is_empty [] = true
 is_empty (p ∷ ps) = false
@@ -47,7 +36,7 @@ has_nothing_waiting o = is_empty o.h && is_empty o.a && is_empty o.b && is_empty
 
 -- The node can be node k of a plant of this topology.
 abbrev pub is_fit : Topology → ℕ → State → Bool
-is_fit topology k n = is_kind n.role.kind (kind_of topology k) && has_nothing_waiting n.core.out
+is_fit topology k n = kind.ghosts.eq n.role.kind (kind_of topology k) && has_nothing_waiting n.core.out
 
 -- The nodes can be those of a plant of this topology from place k on.
 abbrev pub are_fit : Topology → ℕ → List State → Bool
@@ -72,10 +61,9 @@ are_apart (n ∷ ns) = not (has_address n.role.mac ns) && are_apart ns
 abbrev pub is_between : ℕ → ℕ → ℕ → Bool
 is_between fewest most n = nat_le fewest n && nat_le n most
 
--- The boxes of the two LANs are two nodes of the ring, and their network has a number that a ring can tell.
+-- The boxes of the two LANs are two nodes of the ring.
 abbrev pub has_boxes : RingLanShape → Bool
-has_boxes s =
-    nat_lt s.box_a s.ring && nat_lt s.box_b s.ring && not (s.box_a == s.box_b) && is_between 1 greatest_net s.net
+has_boxes s = nat_lt s.box_a s.ring && nat_lt s.box_b s.ring && not (s.box_a == s.box_b)
 
 -- The join leads from a node of the left ring to one of the right ring.
 abbrev pub is_join : TwoRingsShape → Join → Bool

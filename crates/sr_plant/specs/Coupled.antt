@@ -2,8 +2,10 @@
 use Rattle.std.specs.Prelude.{ℕ, suc, ◌+◌, Bool, true, false, ◌&&◌, nat_lt, nat_le, List, [], ◌∷◌}
 use Rattle.std.specs.Prelude.{length, Option, None, Some, slice_get, if◌then◌else◌}
 use Rattle.sr_prp_trailer.specs.declared.trailer.Lan.TheVariants as lan
-use Rattle.sr_forwarding.specs.declared.role_image.RoleKind.{RoleKind}
-use Rattle.sr_forwarding.specs.declared.role_image.RoleKind.TheVariants.{Prp, Hsr}
+use Rattle.sr_forwarding.specs.declared.kind.RoleKind.{RoleKind}
+use Rattle.sr_forwarding.specs.declared.kind.RoleKind.TheVariants.{Prp, Hsr}
+use Rattle.sr_forwarding.specs.declared.net_id.NetId.{NetId}
+use Rattle.sr_forwarding.specs.declared.net_id.NetId.TheVariants.{One}
 use Rattle.sr_node.specs.Images.{State}
 use Rattle.sr_plant.specs.declared.shapes.RingLanShape.{RingLanShape}
 use Rattle.sr_plant.specs.declared.shapes.TwoRingsShape.{TwoRingsShape}
@@ -13,7 +15,6 @@ use Rattle.sr_plant.specs.declared.coupled.Sought.TheVariants.{LanBox, RingBox}
 use Rattle.sr_plant.specs.declared.topology.Topology.{Topology}
 use Rattle.sr_plant.specs.declared.topology.Topology.TheVariants.{RingLan, TwoRings}
 use Rattle.sr_plant.specs.Building.{is_lan}
-use Rattle.sr_plant.specs.PortFramings.{network_of}
 
 -- A node of this kind is a box of this LAN, or a box between two rings.
 abbrev pub is_sought : Sought → RoleKind → Bool
@@ -27,9 +28,14 @@ box_place sought from k [] = k
 box_place sought from k (n ∷ ns) =
     if nat_le from k && is_sought sought n.role.kind then k else box_place sought from (suc k) ns
 
--- The number of the PRP network at a node, if there is one.
-abbrev pub network_in : Option State → ℕ
-network_in None = 0
+-- The network of a box, and network 1 at any other node.
+abbrev pub network_of : RoleKind → NetId
+network_of (Prp lan net) = net
+network_of kind = One
+
+-- The network of the node at a place, if there is one, else network 1.
+abbrev pub network_in : Option State → NetId
+network_in None = One
 network_in (Some n) = network_of n.role.kind
 
 -- The first box of LAN A and the first of LAN B among the nodes of the ring join the ring with the LANs.

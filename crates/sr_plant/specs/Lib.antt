@@ -1,6 +1,5 @@
 pub mod Limits
 pub mod Topologies
-pub mod PortFramings
 pub mod Copies
 pub mod Flights
 pub mod Puts

@@ -2,10 +2,10 @@
 use Rattle.std.specs.Prelude.{◌≡◌, ℕ, ◌+◌, ◌*◌, ◌<◌, ◌≤◌, ◌==◌, nat_lt, List, [], ◌∷◌, length, Option, None, Some, if◌then◌else◌}
 use Rattle.sr_frame.specs.declared.ports.Port.{Port}
 use Rattle.sr_prp_trailer.specs.declared.trailer.Lan.TheVariants as lan
-use Rattle.sr_forwarding.specs.Framings.{FramingImage, Ordinary, framing_at}
-use Rattle.sr_forwarding.specs.Limits.{greatest_net}
-use Rattle.sr_forwarding.specs.declared.role_image.RoleKind.{RoleKind}
-use Rattle.sr_forwarding.specs.declared.role_image.RoleKind.TheVariants.{Danp, Danh, Prp, Hsr}
+use Rattle.sr_forwarding.specs.Framings.{FramingImage}
+use Rattle.sr_forwarding.specs.Kinds.{carriage}
+use Rattle.sr_forwarding.specs.declared.kind.RoleKind.{RoleKind}
+use Rattle.sr_forwarding.specs.declared.kind.RoleKind.TheVariants.{Danp, Danh, Prp, Hsr}
 use Rattle.sr_plant_laws.specs.Ledger.{Net}
 use Rattle.sr_plant_laws.specs.Rings.{ring}
 use Rattle.sr_plant_laws.specs.TwinLans.{twin_lans}
@@ -64,25 +64,15 @@ kind_of TwinLan k = Danp
 kind_of (RingLan s) k = if nat_lt k s.ring then kind_in_ring s k else Danp
 kind_of (TwoRings s) k = if is_joined (joins_of s) k then Hsr else Danh
 
-abbrev pub or_ordinary : Option FramingImage → FramingImage
-or_ordinary None = Ordinary
-or_ordinary (Some f) = f
-
--- How frames are carried at a port of a node of this kind: as ordinary ones where it has no such port.
-abbrev pub carriage : RoleKind → Port → FramingImage
-carriage kind port = or_ordinary (framing_at kind port)
-
 -- How frames are carried at a port of node k.
 abbrev pub framing_of : Topology → ℕ → Port → FramingImage
 framing_of t k port = carriage (kind_of t k) port
 
--- The ring and the LANs have so many nodes together, the boxes are nodes of the ring, and their network has a number.
+-- The ring and the LANs have so many nodes together, and the boxes are nodes of the ring.
 pub record IsRingLan (s : RingLanShape) (n : ℕ) : Type 0 where
   pub sum : s.ring + s.lan ≡ n
   pub a_inside : s.box_a < s.ring
   pub b_inside : s.box_b < s.ring
-  pub numbered : 0 < s.net
-  pub fits : s.net ≤ greatest_net
 
 -- The two rings have so many nodes together, and their joins lead from the left ring to the right one.
 pub record AreTwoRings (s : TwoRingsShape) (n : ℕ) : Type 0 where

@@ -4,7 +4,7 @@ ghost use Rattle.std.specs.Prelude.{◌≡◌, true, false, Some, IfOk, IfErr, O
 ghost use Rattle.sr_node.specs.Arriving.{arrival_answer};
 ghost use Rattle.sr_node.specs.Octets.{OctetsArrived, OctetsRefused};
 ghost use Rattle.sr_node.specs.States.{state_of};
-ghost use Rattle.sr_plant.specs.PortFramings.{framed, HaveNets};
+ghost use Rattle.sr_forwarding.specs.PortFramings.{carried_as};
 ghost use Rattle.sr_plant.specs.Images.{plant_state};
 ghost use Rattle.sr_plant.specs.Plants.{IsEmptied, IsInOrder};
 ghost use Rattle.sr_plant.specs.Steps.{is_loss, Carried, Fails};
@@ -13,9 +13,8 @@ ghost use Rattle.sr_plant.specs.Carrying.{ComesAs, OneComesAs, Lands, FailsToLan
 
 use crate::flight::Flying;
 use crate::node_step::{Given, take_out};
-use crate::port_framing::PortFraming;
 use crate::{PlantEvent, PlantFault, PlantOf, Topology};
-use sr_forwarding::{Framing, Outlets, Parcel, ReadFault, Role};
+use sr_forwarding::{Framing, Outlets, Parcel, PortFraming, ReadFault, Role};
 use sr_frame::{Frame, NoMemory, Port};
 use sr_node::{NodeOf, StepFault};
 use std::alloc::Global;
@@ -37,7 +36,6 @@ impl Arriving {
         flying: Flying,
         parcel: &Parcel,
     ) -> Result<Option<Arriving>, NoMemory>
-        requires { HaveNets topology }
         ensures { IfOk result (λ a. ComesAs topology
             (record {
               hop = hop_of flying.hop;
@@ -87,10 +85,10 @@ fn arrive<R: Role>(
     octets: &[u8],
     now: u64,
 ) -> Result<Option<Outlets>, StepFault>
-    ensures ok { IfOk result (λ outlets. OctetsArrived (framed framing)
+    ensures ok { IfOk result (λ outlets. OctetsArrived (carried_as framing)
         (state_of R.meaning node.old) port octets.now now (arrival_answer outlets)
         (state_of R.meaning node.new)) }
-    ensures err { IfErr result (λ f. OctetsRefused (framed framing)
+    ensures err { IfErr result (λ f. OctetsRefused (carried_as framing)
         (state_of R.meaning node.old) port octets.now now f) }
     ensures same { OnErr result (state_of R.meaning node.new
         ≡ state_of R.meaning node.old) }
@@ -108,10 +106,10 @@ fn arrive_out<R: Role>(
     now: u64,
 ) -> Result<Landing, PlantFault>
     requires { IsEmptied (state_of R.meaning node.old) }
-    ensures ok { IfOk result (λ l. Lands (framed framing) (state_of R.meaning node.old)
+    ensures ok { IfOk result (λ l. Lands (carried_as framing) (state_of R.meaning node.old)
         arriving.now.port arriving.now.octets now l up.old.items up.new.items
         (state_of R.meaning node.new)) }
-    ensures err { IfErr result (λ f. FailsToLand (framed framing) (state_of R.meaning node.old)
+    ensures err { IfErr result (λ f. FailsToLand (carried_as framing) (state_of R.meaning node.old)
         arriving.now.port arriving.now.octets now f) }
     ensures same { OnErr result ((state_of R.meaning node.new
         ≡ state_of R.meaning node.old) × (up.new.items ≡ up.old.items)) }

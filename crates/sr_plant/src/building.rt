@@ -3,11 +3,11 @@
 ghost use Rattle.std.specs.Prelude.{◌≡◌, ◌<◌, map, length, replicate, [], IfOk};
 ghost use Rattle.sr_node.specs.States.{state_of};
 ghost use Rattle.sr_plant.specs.Images.{plant_state, states_of};
-ghost use Rattle.sr_plant.specs.Building.{is_lan, is_kind, is_fit, are_fit, has_address, are_apart, are_apart_from, is_plant, are_few, is_plant_of_both, MakesPlant};
+ghost use Rattle.sr_plant.specs.Building.{is_lan, is_fit, are_fit, has_address, are_apart, are_apart_from, is_plant, are_few, is_plant_of_both, MakesPlant};
 
 use crate::size::MAX_NODES;
 use crate::{PlantFault, PlantOf, Topology, Traffic};
-use sr_forwarding::{Parcel, Role, RoleKind};
+use sr_forwarding::{Parcel, Role};
 use sr_frame::{Mac, NoMemory, Port};
 use sr_node::NodeOf;
 use sr_prp_trailer::Lan;
@@ -20,27 +20,11 @@ pub(crate) fn is_lan(lan: Lan, other: Lan) -> bool
     matches!((lan, other), (Lan::A, Lan::A) | (Lan::B, Lan::B))
 }
 
-// Whether the two kinds are the same.
-fn is_kind(kind: RoleKind, other: RoleKind) -> bool
-    ensures { result ≡ is_kind kind other }
-{
-    match (kind, other) {
-        (RoleKind::Danp, RoleKind::Danp)
-        | (RoleKind::Danh, RoleKind::Danh)
-        | (RoleKind::San, RoleKind::San)
-        | (RoleKind::Hsr, RoleKind::Hsr) => true,
-        (RoleKind::Prp { lan, net }, RoleKind::Prp { lan: to, net: of }) => {
-            is_lan(lan, to) && net == of
-        }
-        _ => false,
-    }
-}
-
 // Whether a node is of the kind that the topology has at this place, and no frame waits in it.
 fn is_fit<R: Role>(topology: Topology, place: usize, node: &NodeOf<R>) -> bool
     ensures { result ≡ is_fit topology place (state_of R.meaning node.now) }
 {
-    is_kind(node.kind(), topology.kind_of(place))
+    node.kind() == topology.kind_of(place)
         && node.waiting(Port::H) == 0
         && node.waiting(Port::A) == 0
         && node.waiting(Port::B) == 0

@@ -2,13 +2,12 @@
 
 ghost use Rattle.std.specs.Prelude.{◌≡◌, ◌≤◌, ◌<◌, ◌++◌, ◌&&◌, nat_le, length, slice_get};
 ghost use Rattle.sr_plant.specs.Images.{plant_state, states_of};
-ghost use Rattle.sr_plant.specs.PortFramings.{network_of};
 ghost use Rattle.sr_plant.specs.Building.{MakesPlant};
-ghost use Rattle.sr_plant.specs.Coupled.{is_sought, box_place, network_in, second_of, ring_lan_of, two_rings_of};
+ghost use Rattle.sr_plant.specs.Coupled.{is_sought, box_place, network_in, network_of, second_of, ring_lan_of, two_rings_of};
 
 use crate::building::{are_few, is_lan, is_plant_of_both};
 use crate::{Join, PlantFault, PlantOf, RingLanShape, Topology, TwoRingsShape};
-use sr_forwarding::{Role, RoleKind};
+use sr_forwarding::{NetId, Role, RoleKind};
 use sr_node::NodeOf;
 use sr_prp_trailer::Lan;
 use std::alloc::Global;
@@ -26,10 +25,12 @@ pub(crate) enum Sought {
 fn is_sought(sought: Sought, kind: RoleKind) -> bool
     ensures { result ≡ is_sought sought kind }
 {
-    match (sought, kind) {
-        (Sought::LanBox(lan), RoleKind::Prp { lan: to, .. }) => is_lan(lan, to),
-        (Sought::RingBox, RoleKind::Hsr) => true,
-        _ => false,
+    match sought {
+        Sought::LanBox(lan) => match kind {
+            RoleKind::Prp { lan: to, .. } => is_lan(lan, to),
+            _ => false,
+        },
+        Sought::RingBox => matches!(kind, RoleKind::Hsr),
     }
 }
 
@@ -53,23 +54,23 @@ fn box_place<R: Role>(sought: Sought, from: usize, nodes: &[NodeOf<R>]) -> usize
     nodes.len()
 }
 
-// The number of the PRP network at a box. 0 for any other node.
-fn network_of(kind: RoleKind) -> u8
+// The network of a box, and network 1 at any other node.
+fn network_of(kind: RoleKind) -> NetId
     ensures { result ≡ network_of kind }
 {
     match kind {
         RoleKind::Prp { net, .. } => net,
-        RoleKind::Danp | RoleKind::Danh | RoleKind::San | RoleKind::Hsr => 0,
+        _ => NetId::One,
     }
 }
 
-// The number of the PRP network at the node at this place. 0 where there is no such node.
-fn network_in<R: Role>(nodes: &[NodeOf<R>], place: usize) -> u8
+// The network of the node at this place, and network 1 where there is no such node.
+fn network_in<R: Role>(nodes: &[NodeOf<R>], place: usize) -> NetId
     ensures { result ≡ network_in (slice_get (states_of R.meaning nodes.now) place) }
 {
     match nodes.get(place) {
         Some(node) => network_of(node.kind()),
-        None => 0,
+        None => NetId::One,
     }
 }
 

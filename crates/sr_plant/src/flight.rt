@@ -5,7 +5,6 @@ ghost use Rattle.sr_plant.specs.Copies.{is_on, Doubles};
 ghost use Rattle.sr_plant.specs.Limits.{most_members};
 ghost use Rattle.sr_plant.specs.Puts.{all_put, those_passing};
 ghost use Rattle.sr_plant.specs.Carrying.{OneComesAs};
-ghost use Rattle.sr_plant.specs.PortFramings.{HaveNets};
 ghost use Rattle.sr_plant.specs.Topologies.{IsJoinedAs};
 
 mod copies;
@@ -109,7 +108,6 @@ impl Flight {
         topology: Topology,
         place: usize,
     ) -> Result<Option<Arriving>, NoMemory>
-        requires nets { HaveNets topology }
         requires place { place < length self.now.copies }
         ensures { IfOk result (λ a. OneComesAs topology self.now.copies place a) }
     {

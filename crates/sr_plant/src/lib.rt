@@ -14,7 +14,6 @@ mod hop;
 mod node_step;
 mod outlet;
 mod plant;
-mod port_framing;
 mod ring;
 mod ring_hops;
 mod shapes;

@@ -4,7 +4,7 @@ ghost use Rattle.std.specs.Prelude.{◌≡◌, ◌==◌, ◌||◌, length};
 ghost use Rattle.sr_plant_laws.specs.TwoRings.{is_joined};
 ghost use Rattle.sr_plant.specs.Topologies.{kind_in_ring, joins_of};
 
-use sr_forwarding::RoleKind;
+use sr_forwarding::{NetId, RoleKind};
 use sr_prp_trailer::Lan;
 
 /// A ring with two RedBoxes of one PRP network, one in each of its LANs, and doubly attached nodes of these LANs
@@ -22,8 +22,8 @@ pub struct RingLanShape {
     pub box_a: usize,
     /// The node of the ring whose interlink is in LAN B.
     pub box_b: usize,
-    /// The number of the PRP network at the ring, 1 to 6.
-    pub net: u8,
+    /// The PRP network at the ring.
+    pub net: NetId,
 }
 
 /// Two RedBoxes, one in each of two rings, whose interlinks are joined.

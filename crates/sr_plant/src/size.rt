@@ -4,7 +4,6 @@ ghost use Rattle.std.specs.Prelude.{◌≡◌, ◌<◌};
 ghost use Rattle.sr_plant.specs.Building.{is_between, has_boxes, is_join, is_second_join, is_size};
 
 use crate::{Join, RingLanShape, Topology, TwoRingsShape};
-use sr_forwarding::MAX_NET;
 
 /// The fewest nodes of a ring, and of two LANs.
 const FEWEST_NODES: usize = 2;
@@ -26,14 +25,11 @@ fn is_between(fewest: usize, most: usize, number: usize) -> bool
 }
 
 impl RingLanShape {
-    // Whether its boxes are two nodes of the ring, and their network has a number of a ring's.
+    // Whether its boxes are two nodes of the ring.
     fn has_boxes(self) -> bool
         ensures { result ≡ has_boxes self }
     {
-        self.box_a < self.ring
-            && self.box_b < self.ring
-            && self.box_a != self.box_b
-            && is_between(1, usize::from(MAX_NET), usize::from(self.net))
+        self.box_a < self.ring && self.box_b < self.ring && self.box_a != self.box_b
     }
 
     // Whether so many nodes are joined so.

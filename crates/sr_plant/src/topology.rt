@@ -1,13 +1,12 @@
 //! How the nodes of a plant are joined.
 
 ghost use Rattle.std.specs.Prelude.{◌≡◌, ◌≤◌};
-ghost use Rattle.sr_plant.specs.PortFramings.{framed, HaveNets};
+ghost use Rattle.sr_forwarding.specs.PortFramings.{carried_as};
 ghost use Rattle.sr_plant.specs.Topologies.{link_count, kind_of, framing_of, IsJoinedAs};
 ghost use Rattle.sr_plant.specs.Limits.{most_members};
 
-use crate::port_framing::PortFraming;
 use crate::{RingLanShape, TwoRingsShape};
-use sr_forwarding::RoleKind;
+use sr_forwarding::{PortFraming, RoleKind, framing_at};
 use sr_frame::Port;
 
 /// How the nodes of a plant are joined.
@@ -42,10 +41,9 @@ impl Topology {
 
     /// How a port of a node carries frames.
     pub(crate) fn framing_of(self, node: usize, port: Port) -> PortFraming
-        requires { HaveNets self }
-        ensures { framed result ≡ framing_of self node port }
+        ensures { carried_as result ≡ framing_of self node port }
     {
-        PortFraming::of(self.kind_of(node), port)
+        framing_at(self.kind_of(node), port)
     }
 
     /// How many links join so many nodes.

@@ -11,7 +11,7 @@ use Rattle.sr_dup_window.specs.declared.lane_sets.Lanes.{Lanes}
 use Rattle.sr_dup_table.specs.Sources.{Sources, arrive_answer}
 use Rattle.sr_forwarding.specs.declared.form.Form.{Form}
 use Rattle.sr_forwarding.specs.declared.outlets.Outlets.{Outlets}
-use Rattle.sr_forwarding.specs.declared.role_image.RoleKind.{RoleKind}
+use Rattle.sr_forwarding.specs.declared.kind.RoleKind.{RoleKind}
 use Rattle.sr_forwarding.specs.Limits.{longest_plain}
 use Rattle.sr_forwarding.specs.Decoding.{IsRead, IsUnread}
 use Rattle.sr_forwarding.specs.Encoding.{IsWritten, write_fault}
@@ -19,7 +19,8 @@ use Rattle.sr_forwarding.specs.Headers.{header_of}
 use Rattle.sr_forwarding.specs.Parcels.{ParcelImage}
 use Rattle.sr_node.specs.declared.fault.StepFault.{StepFault}
 use Rattle.sr_node.specs.declared.mode.Mode.{Mode}
-use Rattle.sr_node.specs.Arriving.{is_plain, is_too_long, takes_unnumbered, is_untagged, is_own, wanted_at, going_on, goes, full_fault, outlets_fault, arrive_refusal}
+use Rattle.sr_forwarding.specs.Kinds.{takes_unnumbered}
+use Rattle.sr_node.specs.Arriving.{is_plain, is_too_long, is_untagged, is_own, wanted_at, going_on, goes, full_fault, outlets_fault, arrive_refusal}
 use Rattle.sr_node.specs.Faults.{or_no_memory}
 use Rattle.sr_node.specs.Images.{State, time_at}
 use Rattle.sr_node.specs.Starts.{Start, begun_as}

@@ -5,9 +5,11 @@ use Rattle.sr_frame.specs.declared.ports.Port.{Port}
 use Rattle.sr_frame.specs.declared.ports.Port.TheVariants.{H, A, B, C}
 use Rattle.sr_prp_trailer.specs.declared.trailer.Lan.{Lan}
 use Rattle.sr_prp_trailer.specs.declared.trailer.Lan.TheVariants as lan
-use Rattle.sr_forwarding.specs.declared.role_image.RoleKind.{RoleKind}
-use Rattle.sr_forwarding.specs.declared.role_image.RoleKind.TheVariants.{Danp, Danh, San, Prp, Hsr}
+use Rattle.sr_forwarding.specs.declared.kind.RoleKind.{RoleKind}
+use Rattle.sr_forwarding.specs.declared.kind.RoleKind.TheVariants.{Danp, Danh, Prp, Hsr}
 use Rattle.sr_forwarding.specs.Framings.{FramingImage, Tagged, Trailed}
+use Rattle.sr_forwarding.specs.Kinds.{carriage}
+use Rattle.sr_forwarding.specs.NetIds.{number_of}
 use Rattle.sr_plant_laws.specs.Lists.{Each}
 use Rattle.sr_plant_laws.specs.ListLemmas.{each_map, each_append}
 use Rattle.sr_plant_laws.specs.Ledger.{Hop}
@@ -23,7 +25,7 @@ use Rattle.sr_plant.specs.declared.topology.Topology.{Topology}
 use Rattle.sr_plant.specs.declared.topology.Topology.TheVariants.{Ring, TwinLan, RingLan, TwoRings}
 use Rattle.sr_plant.specs.declared.shapes.RingLanShape.{RingLanShape}
 use Rattle.sr_plant.specs.declared.shapes.TwoRingsShape.{TwoRingsShape}
-use Rattle.sr_plant.specs.Topologies.{carriage, framing_of, kind_of, joins_of, net_of, IsJoinedAs, IsRingLan}
+use Rattle.sr_plant.specs.Topologies.{framing_of, kind_of, joins_of, net_of, IsJoinedAs, IsRingLan}
 use Rattle.sr_plant_runs.specs.Histories.{is_outlet}
 
 -- with a tag, of which the path is that of a side; with a trailer
@@ -46,7 +48,7 @@ IsFromLan Ring k h = Unit {0}
 IsFromLan TwinLan k h = Unit {0}
 IsFromLan (RingLan s) k h =
     nat_lt h.to.node s.ring ≡ true →
-    (nat_lt k s.ring ≡ false) × ((l : Lan) × (framing_of (RingLan s) h.to.node h.to.port ≡ Trailed l s.net))
+    (nat_lt k s.ring ≡ false) × ((l : Lan) × (framing_of (RingLan s) h.to.node h.to.port ≡ Trailed l (number_of s.net)))
 IsFromLan (TwoRings s) k h = Unit {0}
 
 -- both ends carry frames alike
@@ -63,13 +65,13 @@ not_host A kind e = refl
 not_host B kind e = refl
 not_host C kind e = refl
 
--- no node of a plant is a RedBox of nodes without redundancy
+-- the kinds of nodes of a plant
 abbrev pub IsNetworked : RoleKind → Type 0
 IsNetworked Danp = Unit {0}
 IsNetworked Danh = Unit {0}
-IsNetworked San = ⊥
 IsNetworked (Prp l net) = Unit {0}
 IsNetworked Hsr = Unit {0}
+IsNetworked kind = ⊥
 
 pub networked : (t : Topology) (k : ℕ) → IsNetworked (kind_of t k)
 networked Ring k = tt
@@ -96,13 +98,13 @@ carried Danp C net e = absurd (true≢false (sym e))
 carried Danh A net e = inl (0, refl, omega arith)
 carried Danh B net e = inl (1, refl, omega arith)
 carried Danh C net e = absurd (true≢false (sym e))
-carried San port net e = absurd net
 carried (Prp l n) A net e = inl (0, refl, omega arith)
 carried (Prp l n) B net e = inl (1, refl, omega arith)
-carried (Prp l n) C net e = inr (l, n, refl)
+carried (Prp l n) C net e = inr (l, number_of n, refl)
 carried Hsr A net e = inl (0, refl, omega arith)
 carried Hsr B net e = inl (1, refl, omega arith)
 carried Hsr C net e = inl (0, refl, omega arith)
+carried kind port net e = absurd net
 
 -- the ports of a ring's node
 sided : (kind : RoleKind) → (is_outlet A kind ≡ true) × (is_outlet B kind ≡ true)
@@ -127,7 +129,7 @@ tag_b s k inside = rw inside (by (k == s.box_a) (k == s.box_b))
 -- a box, by its interlink
 record IsBoxOf (s : RingLanShape) (k : ℕ) : Type 0 where
   lan_is : Lan
-  framing : framing_of (RingLan s) k C ≡ Trailed lan_is s.net
+  framing : framing_of (RingLan s) k C ≡ Trailed lan_is (number_of s.net)
   outlet : is_outlet C (kind_of (RingLan s) k) ≡ true
 
 box_at : (s : RingLanShape) (k : ℕ) → nat_lt k s.ring ≡ true → ((k == s.box_a) || (k == s.box_b)) ≡ true → IsBoxOf s k
@@ -177,7 +179,7 @@ into_box : (s : RingLanShape) (k box : ℕ) (o : Port) (links : List ℕ) → is
 into_box s k box o links out trail away is = record {
   out = out;
   port = is.outlet;
-  alike = inr (trail, (is.lan_is, s.net, is.framing), λ inside. (away, (is.lan_is, is.framing)));
+  alike = inr (trail, (is.lan_is, number_of s.net, is.framing), λ inside. (away, (is.lan_is, is.framing)));
 }
 
 ring_wires : (s : RingLanShape) (n : ℕ) → IsRingLan s n → (k : ℕ) (o : Port) → Each (IsWire (RingLan s) k o) (net_of (RingLan s) n k o)
@@ -205,13 +207,13 @@ ring_wires s n is k C =
       | inl a ↦
           let inside : nat_lt k s.ring ≡ true = lt-ltb k s.ring (let e = eqb-true k s.box_a a in let l = is.a_inside in omega (arith, e, l)) in
           let box = box_at s k inside (rw a refl) in
-          rw a (each_lan_copy (IsWire (RingLan s) k C) (λ j. nat_lt j s.ring ≡ false) A (s.ring + s.lan) 0 (others s.ring s.lan k) (behind s.ring s.lan k) (λ j links far. lan_a s k j C links box.outlet (box.lan_is, s.net, box.framing) far))
+          rw a (each_lan_copy (IsWire (RingLan s) k C) (λ j. nat_lt j s.ring ≡ false) A (s.ring + s.lan) 0 (others s.ring s.lan k) (behind s.ring s.lan k) (λ j links far. lan_a s k j C links box.outlet (box.lan_is, number_of s.net, box.framing) far))
       | inr not_a ↦
           elim (cases_Bool (k == s.box_b)) [
             | inl b ↦
                 let inside : nat_lt k s.ring ≡ true = lt-ltb k s.ring (let e = eqb-true k s.box_b b in let l = is.b_inside in omega (arith, e, l)) in
                 let box = box_at s k inside (or_right (k == s.box_a) (k == s.box_b) b) in
-                rw (not_a, b) (each_lan_copy (IsWire (RingLan s) k C) (λ j. nat_lt j s.ring ≡ false) B (s.ring + 2 * s.lan + 1) (s.lan + 1) (others s.ring s.lan k) (behind s.ring s.lan k) (λ j links far. lan_b s k j C links box.outlet (box.lan_is, s.net, box.framing) far))
+                rw (not_a, b) (each_lan_copy (IsWire (RingLan s) k C) (λ j. nat_lt j s.ring ≡ false) B (s.ring + 2 * s.lan + 1) (s.lan + 1) (others s.ring s.lan k) (behind s.ring s.lan k) (λ j links far. lan_b s k j C links box.outlet (box.lan_is, number_of s.net, box.framing) far))
             | inr not_b ↦ rw (not_a, not_b) tt
           ]
     ]

@@ -14,7 +14,7 @@ use Rattle.sr_dup_table.specs.declared.width.Width.TheVariants as width
 use Rattle.sr_dup_table.specs.Limits.{forget_time}
 use Rattle.sr_dup_window.specs.Windows.{no_marks}
 use Rattle.sr_forwarding.specs.declared.form.Form.TheVariants as form
-use Rattle.sr_forwarding.specs.declared.role_image.RoleKind.TheVariants.{Danp}
+use Rattle.sr_forwarding.specs.declared.kind.RoleKind.TheVariants.{Danp}
 use Rattle.sr_forwarding.specs.Decoding.{IsTrailedParcel}
 use Rattle.sr_forwarding.specs.Encoding.{IsTrailedAnew}
 use Rattle.sr_forwarding.specs.Framings.{path_of}

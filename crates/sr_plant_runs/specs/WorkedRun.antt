@@ -1,7 +1,7 @@
 -- A run of real nodes, worked out: two LANs of two nodes, one of which sends a frame to the other.
 use Rattle.std.specs.Prelude.{◌≡◌, ℕ, List, [], ◌∷◌, ◌++◌, map, Some, slice_get}
 use Rattle.sr_frame.specs.declared.fields.Mac.{Mac}
-use Rattle.sr_forwarding.specs.declared.role_image.RoleKind.TheVariants.{Danp}
+use Rattle.sr_forwarding.specs.declared.kind.RoleKind.TheVariants.{Danp}
 use Rattle.sr_forwarding.specs.Parcels.{ParcelImage}
 use Rattle.sr_forwarding.specs.RoleImages.{role_of}
 use Rattle.sr_node.specs.declared.mode.Settings.{Settings}

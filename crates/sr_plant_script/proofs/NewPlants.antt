@@ -1,34 +1,23 @@
 -- Of new nodes a plant is made.
 use Rattle.std.proofs.Common.{◌≡◌, ℕ, zero, suc, ◌+◌, ◌<◌, ◌≤◌, ◌==◌, true, false, not, nat_lt, List, [], ◌∷◌, ◌++◌, length, map, ap, refl, ◌∙◌, add-one, arith, inl, inr, length-append}
 use Rattle.std.proofs.lemmas.List.{map-append}
-use Rattle.std.proofs.lemmas.Bool.{and_parts, cases_Bool, eq-eqb}
+use Rattle.std.proofs.lemmas.Bool.{and_parts, cases_Bool}
 use Rattle.std.proofs.lemmas.Bool.Decides.{nat_tests}
-use Rattle.sr_forwarding.specs.declared.role_image.RoleKind.{RoleKind}
-use Rattle.sr_forwarding.specs.declared.role_image.RoleKind.TheVariants as kind
-use Rattle.sr_prp_trailer.specs.declared.trailer.Lan.{Lan}
-use Rattle.sr_prp_trailer.specs.declared.trailer.Lan.TheVariants as lan
+use Rattle.sr_forwarding.specs.declared.kind.RoleKind.{RoleKind}
+use Rattle.sr_forwarding.specs.contracts.kind.RoleKindPartialEq.TheImpl as kind
 use Rattle.sr_frame.specs.Addresses.{mac_eq}
 use Rattle.sr_plant_laws.specs.TwoRings.{is_joined}
 use Rattle.sr_plant.specs.declared.topology.Topology.{Topology}
 use Rattle.sr_plant.specs.declared.topology.Topology.TheVariants.{Ring, TwinLan, RingLan, TwoRings}
-use Rattle.sr_plant.specs.Topologies.{IsJoinedAs, kind_of, joins_of}
-use Rattle.sr_plant.specs.Building.{is_lan, is_kind, is_size, has_address, are_fit, are_apart, are_apart_from, is_plant}
+use Rattle.sr_plant.specs.Topologies.{kind_of, joins_of}
+use Rattle.sr_plant.specs.Building.{is_size, has_address, are_fit, are_apart, are_apart_from, is_plant}
 use Rattle.sr_plant.proofs.BuildingLemmas.{fit_append, apart_append}
 use Rattle.sr_node.specs.declared.mode.Settings.{Settings}
 use Rattle.sr_node.specs.Images.{State}
 use Rattle.sr_plant_script.specs.Members.{IsMemberKind, mac_of, new_node, new_nodes}
 
--- a kind is itself
-is_lan_itself : (l : Lan) → is_lan l l ≡ true
-is_lan_itself lan.A = refl
-is_lan_itself lan.B = refl
-
-is_kind_itself : (k : RoleKind) → is_kind k k ≡ true
-is_kind_itself kind.Danp = refl
-is_kind_itself kind.Danh = refl
-is_kind_itself kind.San = refl
-is_kind_itself (kind.Prp l n) = rw (is_lan_itself l, eq-eqb n n refl) refl
-is_kind_itself kind.Hsr = refl
+decides_kind : (j k : RoleKind) → Decides (kind.ghosts.eq j k) (j ≡ k)
+decides_kind j k = search (rules, nat_tests)
 
 count_new : (t : Topology) (x : Settings) (n : ℕ) → length (new_nodes t x n) ≡ n
 count_new t x zero = refl
@@ -41,7 +30,7 @@ new_are_fit : (t : Topology) (x : Settings) (n : ℕ) → are_fit t 0 (new_nodes
 new_are_fit t x zero = refl
 new_are_fit t x (suc n) =
     let place : 0 + length (new_nodes t x n) ≡ n = (let c = count_new t x n in omega (arith, c)) in
-    rw (fit_append t 0 (new_nodes t x n) (new_node t x n ∷ []), new_are_fit t x n, place, is_kind_itself (kind_of t n)) refl
+    rw (fit_append t 0 (new_nodes t x n) (new_node t x n ∷ []), new_are_fit t x n, place, (decides_kind (kind_of t n) (kind_of t n)).1 refl) refl
 
 -- they are apart from one that comes later
 apart_from_later : (t : Topology) (x : Settings) (n k : ℕ) → n ≤ k → are_apart_from (new_nodes t x n) (new_node t x k ∷ []) ≡ true
@@ -73,20 +62,20 @@ pub makes_plant : (t : Topology) (x : Settings) (n : ℕ) → is_size t n ≡ tr
 makes_plant t x n sized = rw (count_new t x n, sized, new_are_fit t x n, new_are_apart t x n) refl
 
 -- its nodes are of kinds that a plant has
-pub are_members : (t : Topology) (n : ℕ) → IsJoinedAs t n → (k : ℕ) → IsMemberKind (kind_of t k)
-are_members Ring n joined k = tt
-are_members TwinLan n joined k = tt
-are_members (RingLan s) n joined k = elim (cases_Bool (nat_lt k s.ring)) [
+pub are_members : (t : Topology) (k : ℕ) → IsMemberKind (kind_of t k)
+are_members Ring k = tt
+are_members TwinLan k = tt
+are_members (RingLan s) k = elim (cases_Bool (nat_lt k s.ring)) [
   | inl inside ↦ elim (cases_Bool (k == s.box_a)) [
-    | inl is ↦ rw (inside, is) (joined.numbered, joined.fits)
+    | inl is ↦ rw (inside, is) tt
     | inr not_a ↦ elim (cases_Bool (k == s.box_b)) [
-      | inl is ↦ rw (inside, not_a, is) (joined.numbered, joined.fits)
+      | inl is ↦ rw (inside, not_a, is) tt
       | inr not_b ↦ rw (inside, not_a, not_b) tt
     ]
   ]
   | inr outside ↦ rw outside tt
 ]
-are_members (TwoRings s) n joined k = elim (cases_Bool (is_joined (joins_of s) k)) [
+are_members (TwoRings s) k = elim (cases_Bool (is_joined (joins_of s) k)) [
   | inl is ↦ rw is tt
   | inr not ↦ rw not tt
 ]

@@ -1,10 +1,9 @@
 -- The nodes of a script's plant.
-use Rattle.std.specs.Prelude.{ℕ, ◌<◌, ◌≤◌, zero, suc, List, [], ◌∷◌, ◌++◌}
+use Rattle.std.specs.Prelude.{ℕ, zero, suc, List, [], ◌∷◌, ◌++◌}
 use Rattle.sr_frame.specs.declared.fields.Mac.{Mac}
-use Rattle.sr_forwarding.specs.Limits.{greatest_net}
 use Rattle.sr_forwarding.specs.RoleImages.{role_of}
-use Rattle.sr_forwarding.specs.declared.role_image.RoleKind.{RoleKind}
-use Rattle.sr_forwarding.specs.declared.role_image.RoleKind.TheVariants as kind
+use Rattle.sr_forwarding.specs.declared.kind.RoleKind.{RoleKind}
+use Rattle.sr_forwarding.specs.declared.kind.RoleKind.TheVariants as kind
 use Rattle.sr_node.specs.declared.mode.Settings.{Settings}
 use Rattle.sr_node.specs.Images.{State, begun}
 use Rattle.sr_plant.specs.declared.topology.Topology.{Topology}
@@ -29,13 +28,13 @@ routed_as member.Danh = kind.Danh
 routed_as (member.Prp p) = kind.Prp p.lan p.net
 routed_as member.Hsr = kind.Hsr
 
--- a plant has nodes of this kind; the network of a box has a number of a ring's
+-- a plant has nodes of this kind
 abbrev pub IsMemberKind : RoleKind → Type 0
 IsMemberKind kind.Danp = Unit {0}
 IsMemberKind kind.Danh = Unit {0}
-IsMemberKind kind.San = ⊥
-IsMemberKind (kind.Prp lan net) = (0 < net) × (net ≤ greatest_net)
+IsMemberKind (kind.Prp lan net) = Unit {0}
 IsMemberKind kind.Hsr = Unit {0}
+IsMemberKind other = ⊥
 
 -- a new node of a plant of this topology
 abbrev pub new_node : Topology → Settings → ℕ → State

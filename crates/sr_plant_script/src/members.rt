@@ -24,14 +24,15 @@ pub enum MemberRouting {
 pub type Member = OwnRole<MemberRouting>;
 
 impl Routing for MemberRouting {
-    ghost use Rattle.sr_forwarding.specs.OwnRoles.{StandsAlone};
+    ghost use Rattle.std.specs.Prelude.{◌≡◌, true, refl};
+    ghost use Rattle.sr_forwarding.specs.Kinds.{stands_alone};
     ghost use Rattle.sr_plant_script.specs.Members.{routed_as};
     ghost use Rattle.sr_plant_script.specs.declared.members.MemberRouting.TheVariants as member;
 
     ghost routed = { routed_as };
 
-    ghost alone = { λ r. elim r as (λ m. StandsAlone (routed_as m))
-        [ member.Danp ↦ tt | member.Danh ↦ tt | member.Prp p ↦ tt | member.Hsr ↦ tt ] };
+    ghost alone = { λ r. elim r as (λ m. stands_alone (routed_as m) ≡ true)
+        [ member.Danp ↦ refl | member.Danh ↦ refl | member.Prp p ↦ refl | member.Hsr ↦ refl ] };
 
     fn kind(&self) -> RoleKind {
         match self {
@@ -64,9 +65,9 @@ impl MemberRouting {
         match kind {
             RoleKind::Danp => MemberRouting::Danp,
             RoleKind::Danh => MemberRouting::Danh,
-            RoleKind::San => unreachable!(),
             RoleKind::Prp { lan, net } => MemberRouting::Prp(PrpRouting { lan, net }),
             RoleKind::Hsr => MemberRouting::Hsr,
+            _ => unreachable!(),
         }
     }
 }

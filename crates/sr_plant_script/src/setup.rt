@@ -5,6 +5,7 @@ ghost use Rattle.sr_plant.specs.Building.{is_size};
 ghost use Rattle.sr_plant.specs.Limits.{fewest_nodes, most_nodes, fewest_with_boxes, most_in_lans};
 ghost use Rattle.sr_plant_script.specs.Setups.{ring_lan_topology, two_rings_topology};
 
+use sr_forwarding::NetId;
 use sr_node::Settings;
 use sr_plant::{Join, RingLanShape, Topology, TwoRingsShape};
 
@@ -77,7 +78,7 @@ impl PlantSetup {
             lan,
             box_a: 0,
             box_b: 1,
-            net: 1,
+            net: NetId::One,
         };
         PlantSetup {
             topology: Topology::RingLan(shape),

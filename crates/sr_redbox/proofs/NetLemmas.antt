@@ -13,6 +13,7 @@ use Rattle.sr_forwarding.specs.declared.form.Form.TheVariants as form
 use Rattle.sr_forwarding.specs.declared.header.Header.{Header}
 use Rattle.sr_forwarding.specs.declared.outlets.Outlets.{Outlets}
 use Rattle.sr_forwarding.specs.declared.role_image.RoleImage.{RoleImage}
+use Rattle.sr_forwarding.specs.NetIds.{number_of}
 use Rattle.sr_forwarding.specs.Outlets.{has}
 use Rattle.sr_forwarding.specs.Routes.{is_own, to_group, is_from_role, box_routes, routes_of}
 use Rattle.sr_forwarding.specs.Parcels.{ParcelImage}
@@ -60,4 +61,4 @@ closed r h inlet (inr b) = subst (λ q. has (box_routes r h q []) C ≡ false) (
 pub no_frame_goes_back : NoFrameGoesBack
 no_frame_goes_back r lan net h inlet now kind of_net ring =
     subst (λ k. has (routes_of k r h inlet now) C ≡ false) (sym kind)
-    (subst (λ b. has (box_routes r h inlet (if b then [] else C ∷ [])) C ≡ false) (sym (eq-eqb (h.path / 2) net of_net)) (closed r h inlet ring))
+    (subst (λ b. has (box_routes r h inlet (if b then [] else C ∷ [])) C ≡ false) (sym (eq-eqb (h.path / 2) (number_of net) of_net)) (closed r h inlet ring))

@@ -1,3 +1,4 @@
 pub mod SanBoxes
 pub mod Interlinks
+pub mod RingBoxes
 pub mod Nets

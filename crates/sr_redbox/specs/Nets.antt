@@ -5,7 +5,9 @@ use Rattle.sr_frame.specs.declared.ports.Port.TheVariants.{A, B, C}
 use Rattle.sr_prp_trailer.specs.declared.trailer.Lan.{Lan}
 use Rattle.sr_forwarding.specs.declared.header.Header.{Header}
 use Rattle.sr_forwarding.specs.declared.role_image.RoleImage.{RoleImage}
-use Rattle.sr_forwarding.specs.declared.role_image.RoleKind.TheVariants.{Prp}
+use Rattle.sr_forwarding.specs.declared.kind.RoleKind.TheVariants.{Prp}
+use Rattle.sr_forwarding.specs.declared.net_id.NetId.{NetId}
+use Rattle.sr_forwarding.specs.NetIds.{number_of}
 use Rattle.sr_forwarding.specs.Outlets.{has}
 use Rattle.sr_forwarding.specs.Routes.{routes}
 use Rattle.sr_forwarding.specs.Parcels.{ParcelImage}
@@ -36,5 +38,5 @@ PathsNameNets =
 -- no box of the network, of whichever LAN, puts a frame with such a path from the ring into its LAN
 abbrev pub NoFrameGoesBack : Type 0
 NoFrameGoesBack =
-    (r : RoleImage) (lan : Lan) (net : ℕ) (h : Header) (inlet : Port) (now : ℕ)
-    → r.kind ≡ Prp lan net → IsOfNet net h.path → (inlet ≡ A) ⊎ (inlet ≡ B) → has (routes r h inlet now) C ≡ false
+    (r : RoleImage) (lan : Lan) (net : NetId) (h : Header) (inlet : Port) (now : ℕ)
+    → r.kind ≡ Prp lan net → IsOfNet (number_of net) h.path → (inlet ≡ A) ⊎ (inlet ≡ B) → has (routes r h inlet now) C ≡ false

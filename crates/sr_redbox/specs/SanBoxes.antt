@@ -1,7 +1,7 @@
 -- A RedBox for nodes that know no redundancy.
 use Rattle.sr_frame.specs.declared.fields.Mac.{Mac}
 use Rattle.sr_forwarding.specs.declared.role_image.RoleImage.{RoleImage}
-use Rattle.sr_forwarding.specs.declared.role_image.RoleKind.TheVariants.{San}
+use Rattle.sr_forwarding.specs.declared.kind.RoleKind.TheVariants.{San}
 use Rattle.sr_proxy_table.specs.Proxied.{Entries, times_of}
 
 -- what contracts see of it: its address, and the table of those that it stands for

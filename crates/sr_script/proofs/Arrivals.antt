@@ -8,7 +8,7 @@ use Rattle.hex.specs.Hex.{decode_of, is_hex_digit}
 use Rattle.sr_frame.specs.declared.ports.Port.{Port}
 use Rattle.sr_frame.specs.declared.ports.Port.TheVariants.{H, A, B, C}
 use Rattle.sr_hex.specs.Values.{IsDigitFront}
-use Rattle.sr_script.specs.declared.setups.RoleName.{RoleName}
+use Rattle.sr_forwarding.specs.declared.kind.RoleKind.{RoleKind}
 use Rattle.sr_session.specs.Octets.{spaced}
 use Rattle.sr_words.specs.Words.{IsHex}
 use Rattle.sr_script.specs.Commands.{IsInlet, letter_of}
@@ -37,7 +37,7 @@ digits_unbroken (d ∷ ds) h = (λ e. no_digit d e (h 0 0 (omega arith)), digits
         absurd cc
 
 -- the words of the line, one behind the other, and what stands behind its digits
-pub stands : (role : RoleName) (text rest timed behind word out : List ℕ) (port : Port) (time n : ℕ)
+pub stands : (role : RoleKind) (text rest timed behind word out : List ℕ) (port : Port) (time n : ℕ)
     → text ≡ codes "in " ++ rest → rest ≡ letter_of port ++ 32 ∷ timed → IsInlet role port → timed ≡ word ++ 32 ∷ behind → word ≡ decimal time → time < 2 ^ 64
     → IsDigitFront behind n → slice_index behind n ≡ 10 → 0 < n → n % 2 ≡ 0 → length text - length behind + n ≤ 8000
     → decode_of (take (2 * (n / 2)) behind) ≡ Ok (take (n / 2) out) → n / 2 ≤ length out

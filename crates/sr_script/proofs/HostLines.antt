@@ -1,20 +1,17 @@
 -- The host's port has ordinary frames.
-use Rattle.std.proofs.Common.{◌≡◌, refl, sym, subst}
+use Rattle.std.proofs.Common.{◌≡◌, refl, sym, ap, subst}
+use Rattle.std.specs.Prelude.{unwrap_or}
 use Rattle.sr_frame.specs.declared.ports.Port.TheVariants.{H}
 use Rattle.sr_forwarding.specs.Encoding.{IsWritten}
 use Rattle.sr_forwarding.specs.Framings.{Ordinary}
+use Rattle.sr_forwarding.specs.Kinds.{carriage}
+use Rattle.sr_forwarding.specs.KindLemmas.{host_framing}
 use Rattle.sr_forwarding.specs.Parcels.{ParcelImage, plain_of}
-use Rattle.sr_script.specs.declared.setups.RoleName.{RoleName}
-use Rattle.sr_script.specs.declared.setups.RoleName.TheVariants.{Danp, Danh, San, Prp, Hsr}
-use Rattle.sr_script.specs.Stations.{framing_of}
+use Rattle.sr_forwarding.specs.declared.kind.RoleKind.{RoleKind}
 
-is_ordinary : (role : RoleName) → framing_of role H ≡ Ordinary
-is_ordinary Danp = refl
-is_ordinary Danh = refl
-is_ordinary San = refl
-is_ordinary (Prp routing) = refl
-is_ordinary Hsr = refl
+is_ordinary : (role : RoleKind) → carriage role H ≡ Ordinary
+is_ordinary role = ap (λ f. unwrap_or f Ordinary) (host_framing role)
 
 -- what the host gets is what its framing writes
-pub plain_is_written : (role : RoleName) (p : ParcelImage) → IsWritten (framing_of role H) p.form p (plain_of p)
+pub plain_is_written : (role : RoleKind) (p : ParcelImage) → IsWritten (carriage role H) p.form p (plain_of p)
 plain_is_written role p = subst (λ f. IsWritten f p.form p (plain_of p)) (sym (is_ordinary role)) refl

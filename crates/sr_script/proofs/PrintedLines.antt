@@ -7,42 +7,42 @@ use Rattle.sr_forwarding.specs.Parcels.{ParcelImage}
 use Rattle.sr_node.specs.Images.{State}
 use Rattle.sr_node.specs.Outboxes.{Outboxes, box_at, first_of}
 use Rattle.sr_node.specs.PerPort.{with_at}
-use Rattle.sr_script.specs.declared.setups.RoleName.{RoleName}
+use Rattle.sr_forwarding.specs.declared.kind.RoleKind.{RoleKind}
 use Rattle.sr_script.specs.Texts.{IsLine, AreLines}
 use Rattle.sr_script.specs.Replies.{left_at, emptied}
 
 -- what is to be printed of a queue, once this is printed of what is left of it
-abbrev pub Printed : RoleName → Port → List ParcelImage → List ParcelImage → List ℕ → List ℕ → Type 0
+abbrev pub Printed : RoleKind → Port → List ParcelImage → List ParcelImage → List ℕ → List ℕ → Type 0
 Printed role port whole left before text =
     (rest : List ℕ) → AreLines role port left rest → (lines : List ℕ) × AreLines role port whole lines × (text ++ rest ≡ before ++ lines)
 
-pub printed_none : (role : RoleName) (port : Port) (whole : List ParcelImage) (before : List ℕ) → Printed role port whole whole before before
+pub printed_none : (role : RoleKind) (port : Port) (whole : List ParcelImage) (before : List ℕ) → Printed role port whole whole before before
 printed_none role port whole before rest lines = (rest, lines, refl)
 
 -- the line of the first, if there is one, and then the lines of the others
-first_and_rest : (role : RoleName) (port : Port) (q : List ParcelImage) (line rest : List ℕ)
+first_and_rest : (role : RoleKind) (port : Port) (q : List ParcelImage) (line rest : List ℕ)
     → AreLines role port (take 1 q) line → AreLines role port (drop 1 q) rest → AreLines role port q (line ++ rest)
 first_and_rest role port [] line rest e more = subst (λ (l : List ℕ). l ++ rest ≡ []) (sym e) more
 first_and_rest role port (x ∷ xs) line rest (l, none, is, e, same) more =
     (l, rest, is, more, ap (λ (t : List ℕ). t ++ rest) (same ∙ ap (λ (t : List ℕ). l ++ t) e ∙ append-nil l))
 
-pub printed_more : (role : RoleName) (port : Port) (whole q : List ParcelImage) (before text line : List ℕ)
+pub printed_more : (role : RoleKind) (port : Port) (whole q : List ParcelImage) (before text line : List ℕ)
     → AreLines role port (take 1 q) line → Printed role port whole q before text → Printed role port whole (drop 1 q) before (text ++ line)
 printed_more role port whole q before text line first so_far rest more =
     let all = so_far (line ++ rest) (first_and_rest role port q line rest first more) in
     (all.0, all.1, append_assoc text line rest ∙ all.2)
 
-pub line_of_first : (role : RoleName) (port : Port) (q : List ParcelImage) (p : ParcelImage) (line : List ℕ)
+pub line_of_first : (role : RoleKind) (port : Port) (q : List ParcelImage) (p : ParcelImage) (line : List ℕ)
     → first_of q ≡ Some p → IsLine role port p line → AreLines role port (take 1 q) line
 line_of_first role port [] p line e is = absurd cc
 line_of_first role port (x ∷ xs) p line e is =
     let same : p ≡ x = cc in (line, [], subst (λ (v : ParcelImage). IsLine role port v line) same is, refl, sym (append-nil line))
 
-nothing_left : (role : RoleName) (port : Port) (q : List ParcelImage) → first_of q ≡ None → AreLines role port q []
+nothing_left : (role : RoleKind) (port : Port) (q : List ParcelImage) → first_of q ≡ None → AreLines role port q []
 nothing_left role port [] e = refl
 nothing_left role port (x ∷ xs) e = absurd cc
 
-pub printed_all : (role : RoleName) (port : Port) (whole q : List ParcelImage) (before text : List ℕ)
+pub printed_all : (role : RoleKind) (port : Port) (whole q : List ParcelImage) (before text : List ℕ)
     → first_of q ≡ None → Printed role port whole q before text → (lines : List ℕ) × AreLines role port whole lines × (text ≡ before ++ lines)
 printed_all role port whole q before text e so_far =
     let all = so_far [] (nothing_left role port q e) in (all.0, all.1, sym (append-nil text) ∙ all.2)

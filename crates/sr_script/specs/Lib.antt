@@ -1,6 +1,5 @@
 pub mod Commands
 pub mod FrontArrivals
-pub mod Carriers
 pub mod Stations
 pub mod Texts
 pub mod Replies

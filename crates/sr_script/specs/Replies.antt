@@ -14,10 +14,11 @@ use Rattle.sr_node.specs.PerPort.{with_at}
 use Rattle.sr_node.specs.Steps.{Step, refusal_of}
 use Rattle.sr_script.specs.declared.reading.Command.{Command}
 use Rattle.sr_script.specs.declared.reading.Command.TheVariants.{Skip, Arrive, Send, Tick}
-use Rattle.sr_script.specs.declared.setups.RoleName.{RoleName}
+use Rattle.sr_forwarding.specs.declared.kind.RoleKind.{RoleKind}
 use Rattle.sr_script.specs.Commands.{Says, IsEventLine}
 use Rattle.sr_session.specs.Runs.{Dialogue}
-use Rattle.sr_script.specs.Stations.{Station, framing_of}
+use Rattle.sr_forwarding.specs.Kinds.{carriage}
+use Rattle.sr_script.specs.Stations.{Station}
 use Rattle.sr_script.specs.Texts.{AreLines, name_of, refusal_line}
 
 -- the node once the first parcel that waits at a port is taken, if one waits
@@ -29,15 +30,15 @@ abbrev pub emptied : State → Port → State
 emptied s port = record s { core = record s.core { out = with_at s.core.out port [] } }
 
 -- the first parcel that waits at a port is taken and printed, if one waits
-abbrev pub FirstLeft : RoleName → Port → State → List ℕ → State → Type 0
+abbrev pub FirstLeft : RoleKind → Port → State → List ℕ → State → Type 0
 FirstLeft role port s text t = AreLines role port (take 1 (box_at s.core.out port)) text × (t ≡ left_at s port)
 
 -- all that waits at a port is taken and printed
-abbrev pub Emptied : RoleName → Port → State → List ℕ → State → Type 0
+abbrev pub Emptied : RoleKind → Port → State → List ℕ → State → Type 0
 Emptied role port s text t = AreLines role port (box_at s.core.out port) text × (t ≡ emptied s port)
 
 -- all that waits is taken and printed, outlet by outlet in the order H, A, B, C
-abbrev pub AllEmptied : RoleName → State → List ℕ → State → Type 0
+abbrev pub AllEmptied : RoleKind → State → List ℕ → State → Type 0
 AllEmptied role s text t = (h a b c : List ℕ) × (u v w : State) × Emptied role H s h u × Emptied role A u a v
     × Emptied role B v b w × Emptied role C w c t × (text ≡ h ++ (a ++ (b ++ c)))
 
@@ -51,10 +52,10 @@ IsRefused s number Refused text t = (fault : StepFault) × (name : List ℕ) × 
     × (name_of fault ≡ Some name) × (text ≡ refusal_line number name) × (t ≡ s)
 
 -- octets come in at a port, and are taken or refused
-abbrev pub ArrivesSo : RoleName → State → ℕ → Port → ℕ → List ℕ → List ℕ → State → Type 0
+abbrev pub ArrivesSo : RoleKind → State → ℕ → Port → ℕ → List ℕ → List ℕ → State → Type 0
 ArrivesSo role s number port time octets text t =
-    IsTaken (λ a. OctetsArrived (framing_of role port) s port octets time a t) text
-    ⊎ IsRefused s number (OctetsRefused (framing_of role port) s port octets time) text t
+    IsTaken (λ a. OctetsArrived (carriage role port) s port octets time a t) text
+    ⊎ IsRefused s number (OctetsRefused (carriage role port) s port octets time) text t
 
 -- an event is handed to the node, and is taken or refused
 abbrev pub StepsSo : State → ℕ → Event → List ℕ → State → Type 0
@@ -63,14 +64,14 @@ StepsSo s number event text t =
     ⊎ IsRefused s number (λ f. f ≡ or_no_memory (refusal_of s event)) text t
 
 -- the node obeys a command of the line with this number, and this is printed
-abbrev pub Obeys : RoleName → State → ℕ → Command → List ℕ → List ℕ → State → Type 0
+abbrev pub Obeys : RoleKind → State → ℕ → Command → List ℕ → List ℕ → State → Type 0
 Obeys role s number Skip octets text t = (text ≡ []) × (t ≡ s)
 Obeys role s number (Arrive port time) octets text t = ArrivesSo role s number port time octets text t
 Obeys role s number (Send time) octets text t = StepsSo s number (event.Send octets time) text t
 Obeys role s number (Tick time) octets text t = StepsSo s number (event.Tick time) text t
 
 -- the line with this number is one of a script; the node obeys it, and then all that waits is taken and printed
-abbrev pub Replied : RoleName → State → ℕ → List ℕ → List ℕ → State → Type 0
+abbrev pub Replied : RoleKind → State → ℕ → List ℕ → List ℕ → State → Type 0
 Replied role s number line text t = (command : Command) × (octets : List ℕ) × Says role line command octets
     × (told : List ℕ) × (u : State) × Obeys role s number command octets told u
     × (lines : List ℕ) × AllEmptied role u lines t × (text ≡ told ++ lines)

@@ -3,7 +3,7 @@ use Rattle.std.specs.Prelude.{◌≡◌, ℕ, List}
 use Rattle.sr_node.specs.Images.{State}
 use Rattle.sr_node.specs.Outboxes.{boxes_empty}
 use Rattle.sr_script.specs.declared.reading.Command.{Command}
-use Rattle.sr_script.specs.declared.setups.RoleName.{RoleName}
+use Rattle.sr_forwarding.specs.declared.kind.RoleKind.{RoleKind}
 use Rattle.sr_script.specs.Commands.{Says, IsEventLine}
 use Rattle.sr_script.specs.Replies.{Obeys}
 use Rattle.sr_session.specs.Runs.{Dialogue}
@@ -16,7 +16,7 @@ all_taken s = record s { core = record s.core { out = boxes_empty } }
 
 -- the line with this number is one of a script; the node obeys it, and then all that waits is taken: what is printed is a
 -- refusal alone
-abbrev pub Noted : RoleName → State → ℕ → List ℕ → List ℕ → State → Type 0
+abbrev pub Noted : RoleKind → State → ℕ → List ℕ → List ℕ → State → Type 0
 Noted role s number line text t = (command : Command) × (octets : List ℕ) × Says role line command octets
     × (u : State) × Obeys role s number command octets text u × (t ≡ all_taken u)
 

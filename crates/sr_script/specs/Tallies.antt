@@ -3,7 +3,7 @@ use Rattle.std.specs.Prelude.{◌≡◌, ℕ, List, ◌++◌}
 use Rattle.sr_node.specs.Images.{State}
 use Rattle.sr_script.specs.declared.counts.Counts.{Counts}
 use Rattle.sr_script.specs.declared.reading.Command.{Command}
-use Rattle.sr_script.specs.declared.setups.RoleName.{RoleName}
+use Rattle.sr_forwarding.specs.declared.kind.RoleKind.{RoleKind}
 use Rattle.sr_script.specs.declared.setups.Setup.{Setup}
 use Rattle.sr_script.specs.Commands.{Says, IsEventLine}
 use Rattle.sr_script.specs.Counts.{IsCounted, no_counts}
@@ -28,7 +28,7 @@ tally_start setup = with_counts (start_of setup) no_counts
 
 -- The line with this number is one of a script; the node obeys it, and then all that waits is taken: what is printed is a
 -- refusal alone. It is counted.
-abbrev pub Tallied : RoleName → State → Counts → ℕ → List ℕ → List ℕ → State → Counts → Type 0
+abbrev pub Tallied : RoleKind → State → Counts → ℕ → List ℕ → List ℕ → State → Counts → Type 0
 Tallied role s c number line text t d = (command : Command) × (octets : List ℕ) × Says role line command octets
     × (u : State) × Obeys role s number command octets text u × IsCounted number command text c d × (t ≡ all_taken u)
 

@@ -8,10 +8,10 @@ use Rattle.sr_forwarding.specs.Encoding.{IsWritten}
 use Rattle.sr_forwarding.specs.Parcels.{ParcelImage}
 use Rattle.sr_node.specs.declared.fault.StepFault.{StepFault}
 use Rattle.sr_node.specs.declared.fault.StepFault.TheVariants as fault
-use Rattle.sr_script.specs.declared.setups.RoleName.{RoleName}
+use Rattle.sr_forwarding.specs.declared.kind.RoleKind.{RoleKind}
 use Rattle.sr_session.specs.Octets.{spaced}
 use Rattle.sr_script.specs.Commands.{letter_of}
-use Rattle.sr_script.specs.Stations.{framing_of}
+use Rattle.sr_forwarding.specs.Kinds.{carriage}
 
 -- words as a line of their own
 abbrev pub printed : List (List ℕ) → List ℕ
@@ -22,15 +22,15 @@ abbrev pub frame_line : Port → List ℕ → List ℕ
 frame_line port octets = printed (letter_of port ∷ encode_lower octets ∷ [])
 
 -- the octets that a parcel goes out as: what the framing of the port writes, at the host's port too
-abbrev pub GoesAs : RoleName → Port → ParcelImage → List ℕ → Type 0
-GoesAs role port p octets = IsWritten (framing_of role port) p.form p octets
+abbrev pub GoesAs : RoleKind → Port → ParcelImage → List ℕ → Type 0
+GoesAs role port p octets = IsWritten (carriage role port) p.form p octets
 
 -- the line of a parcel
-abbrev pub IsLine : RoleName → Port → ParcelImage → List ℕ → Type 0
+abbrev pub IsLine : RoleKind → Port → ParcelImage → List ℕ → Type 0
 IsLine role port p line = (octets : List ℕ) × GoesAs role port p octets × (line ≡ frame_line port octets)
 
 -- the lines of parcels, in order
-abbrev pub AreLines : RoleName → Port → List ParcelImage → List ℕ → Type 0
+abbrev pub AreLines : RoleKind → Port → List ParcelImage → List ℕ → Type 0
 AreLines role port [] text = text ≡ []
 AreLines role port (p ∷ ps) text =
     (line : List ℕ) × (rest : List ℕ) × IsLine role port p line × AreLines role port ps rest × (text ≡ line ++ rest)

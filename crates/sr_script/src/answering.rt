@@ -12,16 +12,15 @@ ghost use Rattle.sr_session.specs.Lines.{IsOneOf};
 ghost use Rattle.sr_session.specs.Octets.{StillHolds};
 ghost use Rattle.sr_script.specs.Commands.{IsEventLine};
 ghost use Rattle.sr_session.specs.Fronts.{AnswersFront, KnowsFront};
-ghost use Rattle.sr_script.specs.Stations.{framing_of, at_work};
+ghost use Rattle.sr_forwarding.specs.Kinds.{carriage};
+ghost use Rattle.sr_script.specs.Stations.{at_work};
 ghost use Rattle.sr_script.specs.Texts.{name_of, refusal_line};
 ghost use Rattle.sr_script.specs.Replies.{ArrivesSo, Obeys, Replied, replay_dialogue};
 
-use crate::carriers::{Carrier, carrier_of};
 use crate::printing::append_outlets;
 use crate::reading::{Command, arrival_at, command_of};
-use crate::setups::RoleName;
 use itoa::Buffer;
-use sr_forwarding::{Outlets, ReadFault, Role};
+use sr_forwarding::{Outlets, PortFraming, ReadFault, Role, RoleKind, framing_at};
 use sr_frame::{Frame, FrameFault, Port, view};
 use sr_node::{Answer, Event, NodeOf, StepFault};
 use sr_session::FaultKind;
@@ -75,24 +74,24 @@ pub fn append_refusal(text: &mut Text, number: u64, name: &str) -> Result<(), Fa
 /// Octets come in at a port.
 #[inline(always)]
 pub(crate) fn arrive<R: Role>(
-    role: RoleName,
+    role: RoleKind,
     node: &mut NodeOf<R>,
     port: Port,
     octets: &[u8],
     time: u64,
 ) -> Result<Option<Outlets>, StepFault>
-    ensures taken { IfOk result (λ outlets. OctetsArrived (framing_of role port)
+    ensures taken { IfOk result (λ outlets. OctetsArrived (carriage role port)
         (state_of R.meaning node.old) port octets.now time (arrival_answer outlets)
         (state_of R.meaning node.new)) }
-    ensures refused { IfErr result (λ f. OctetsRefused (framing_of role port)
+    ensures refused { IfErr result (λ f. OctetsRefused (carriage role port)
         (state_of R.meaning node.old) port octets.now time f) }
     ensures same { OnErr result (state_of R.meaning node.new ≡ state_of R.meaning node.old) }
 {
     // The call stands at each kind, so that what is read goes into the node without a detour.
-    match carrier_of(role, port) {
-        Carrier::Plain(framing) => node.receive(&framing, port, octets, time),
-        Carrier::Ring(framing) => node.receive(&framing, port, octets, time),
-        Carrier::Network(framing) => node.receive(&framing, port, octets, time),
+    match framing_at(role, port) {
+        PortFraming::Plain(framing) => node.receive(&framing, port, octets, time),
+        PortFraming::Hsr(framing) => node.receive(&framing, port, octets, time),
+        PortFraming::Prp(framing) => node.receive(&framing, port, octets, time),
     }
 }
 
@@ -162,7 +161,7 @@ pub(crate) fn tell_refusal(text: &mut Text, number: u64, fault: StepFault) -> Re
 /// Has the node obey an arrival of the line with this number, and appends a line where it refuses.
 #[inline(always)]
 fn obey_arrival<R: Role>(
-    role: RoleName,
+    role: RoleKind,
     node: &mut NodeOf<R>,
     number: u64,
     port: Port,
@@ -184,7 +183,7 @@ fn obey_arrival<R: Role>(
 /// Has the node obey a command of the line with this number, and appends a line where it refuses.
 pub(crate) fn obey<R: Role>(
     alloc: Global,
-    role: RoleName,
+    role: RoleKind,
     node: &mut NodeOf<R>,
     number: u64,
     command: Command,
@@ -219,7 +218,7 @@ pub(crate) fn obey<R: Role>(
 /// `Line` where the line is none of a script, whatever memory there is; `Memory`.
 pub(crate) fn answer<R: Role>(
     alloc: Global,
-    role: RoleName,
+    role: RoleKind,
     node: &mut NodeOf<R>,
     number: u64,
     line: &[u8],
@@ -248,7 +247,7 @@ pub(crate) fn answer<R: Role>(
 /// `Memory`.
 #[inline(always)]
 pub(crate) fn answer_front<R: Role>(
-    role: RoleName,
+    role: RoleKind,
     node: &mut NodeOf<R>,
     number: u64,
     front: &[u8],

@@ -6,9 +6,8 @@ ghost use Rattle.sr_session.specs.Octets.{spaced};
 ghost use Rattle.sr_script.specs.CountTexts.{port_words, port_line, interlink_line, left_out_line, counts_text};
 
 use crate::counts::Counts;
-use crate::setups::RoleName;
 use crate::status_lines::name_of;
-use sr_forwarding::Role;
+use sr_forwarding::{Role, RoleKind};
 use sr_frame::Port;
 use sr_node::NodeOf;
 use sr_session::FaultKind;
@@ -59,7 +58,7 @@ fn append_port<R: Role>(
 /// Appends the line of the interlink, where the role has one.
 fn append_interlink<R: Role>(
     text: &mut Vec<u8>,
-    role: RoleName,
+    role: RoleKind,
     node: &NodeOf<R>,
     counts: &Counts,
 ) -> Result<(), FaultKind>
@@ -67,11 +66,10 @@ fn append_interlink<R: Role>(
         ++ interlink_line role (shown node.now.core) counts.now) }
     ensures err { IfErr result (λ kind. kind ≡ FaultKind.Memory) }
 {
-    match role {
-        RoleName::Danp | RoleName::Danh => Ok(()),
-        RoleName::San | RoleName::Prp(_) | RoleName::Hsr => {
-            append_port(text, node, counts, Port::C)
-        }
+    if role.has_interlink() {
+        append_port(text, node, counts, Port::C)
+    } else {
+        Ok(())
     }
 }
 
@@ -92,7 +90,7 @@ fn append_left_out(text: &mut Vec<u8>, count: u64) -> Result<(), FaultKind>
 /// Appends what a run counted: a line for each port at which frames come in, and one for sources that were left out.
 pub(crate) fn append_counts<R: Role>(
     text: &mut Vec<u8>,
-    role: RoleName,
+    role: RoleKind,
     node: &NodeOf<R>,
     counts: &Counts,
 ) -> Result<(), FaultKind>

@@ -2,7 +2,6 @@
 #![tactic(auto)]
 
 mod answering;
-mod carriers;
 mod count_lines;
 mod counts;
 mod noting;
@@ -19,7 +18,6 @@ mod tallying;
 pub use answering::{append_refusal, name_of};
 pub use counts::Counts;
 pub use reading::Command;
-pub use setups::{RoleName, Setup};
-pub use sr_redbox::PrpRouting;
+pub use setups::Setup;
 pub use starting::{run, run_status};
 pub use tallies::run_tally;

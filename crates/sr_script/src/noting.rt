@@ -10,8 +10,7 @@ ghost use Rattle.sr_script.specs.Statuses.{Noted, all_taken};
 
 use crate::answering::obey;
 use crate::reading::command_of;
-use crate::setups::RoleName;
-use sr_forwarding::Role;
+use sr_forwarding::{Role, RoleKind};
 use sr_frame::Port;
 use sr_node::NodeOf;
 use sr_session::FaultKind;
@@ -43,7 +42,7 @@ pub(crate) fn drop_all_waiting<R: Role>(node: &mut NodeOf<R>)
 /// As those of `answer`.
 pub(crate) fn note<R: Role>(
     alloc: Global,
-    role: RoleName,
+    role: RoleKind,
     node: &mut NodeOf<R>,
     number: u64,
     line: &[u8],

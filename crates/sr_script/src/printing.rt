@@ -6,13 +6,11 @@ ghost use Rattle.sr_forwarding.specs.Encoding.{IsWritten};
 ghost use Rattle.sr_forwarding.specs.Parcels.{plain_of};
 ghost use Rattle.sr_script.specs.Commands.{letter_of};
 ghost use Rattle.sr_session.specs.Octets.{StillHolds};
-ghost use Rattle.sr_script.specs.Stations.{framing_of};
+ghost use Rattle.sr_forwarding.specs.Kinds.{carriage};
 ghost use Rattle.sr_script.specs.Texts.{frame_line, IsLine};
 ghost use Rattle.sr_script.specs.Replies.{FirstLeft, Emptied, AllEmptied};
 
-use crate::carriers::{Carrier, carrier_of};
-use crate::setups::RoleName;
-use sr_forwarding::{Form, Framing, Parcel, Role};
+use sr_forwarding::{Form, Framing, Parcel, PortFraming, Role, RoleKind, framing_at};
 use sr_frame::Port;
 use sr_node::NodeOf;
 use sr_session::FaultKind;
@@ -43,33 +41,33 @@ fn append_frame(text: &mut Text, port: Port, front: &[u8], behind: &[u8]) -> Res
 
 /// Writes a parcel by the framing of a port into an empty list.
 fn write_framed(
-    role: RoleName,
+    role: RoleKind,
     port: Port,
     parcel: &Parcel,
     frame: &mut Vec<u8>,
 ) -> Result<(), FaultKind>
     requires { frame.old.items ≡ [] }
     ensures ok { OnOk result
-        (IsWritten (framing_of role port) parcel.now.form parcel.now frame.new.items) }
+        (IsWritten (carriage role port) parcel.now.form parcel.now frame.new.items) }
     ensures size { OnOk result (length frame.new.items ≤ 1524) }
     ensures err { IfErr result (λ kind. kind ≡ FaultKind.Memory) }
 {
-    match carrier_of(role, port).write(frame, &parcel.view()) {
+    match framing_at(role, port).write(frame, &parcel.view()) {
         Ok(()) => Ok(()),
         Err(_) => Err(FaultKind::Memory),
     }
 }
 
 /// The octets of a parcel, where the framing of a port writes them as they are.
-fn framed_in_place(role: RoleName, port: Port, parcel: &Parcel) -> Option<&[u8]>
+fn framed_in_place(role: RoleKind, port: Port, parcel: &Parcel) -> Option<&[u8]>
     ensures written { IfSome result (λ octets.
-        IsWritten (framing_of role port) parcel.now.form parcel.now octets.now) }
+        IsWritten (carriage role port) parcel.now.form parcel.now octets.now) }
     ensures size { IfSome result (λ octets. length octets.now ≤ 1524) }
 {
-    match (carrier_of(role, port), parcel.form()) {
-        (Carrier::Plain(_), Form::Plain) => Some(parcel.octets()),
-        (Carrier::Ring(_), Form::Hsr) => Some(parcel.octets()),
-        (Carrier::Network(_), Form::Prp) => Some(parcel.octets()),
+    match (framing_at(role, port), parcel.form()) {
+        (PortFraming::Plain(_), Form::Plain) => Some(parcel.octets()),
+        (PortFraming::Hsr(_), Form::Hsr) => Some(parcel.octets()),
+        (PortFraming::Prp(_), Form::Prp) => Some(parcel.octets()),
         _ => None,
     }
 }
@@ -77,14 +75,14 @@ fn framed_in_place(role: RoleName, port: Port, parcel: &Parcel) -> Option<&[u8]>
 /// Appends the line for a parcel that goes out at another port than the host's. The list is used again.
 #[inline(always)]
 fn append_framed(
-    role: RoleName,
+    role: RoleKind,
     port: Port,
     parcel: &Parcel,
     frame: &mut Vec<u8>,
     text: &mut Text,
 ) -> Result<(), FaultKind>
     ensures ok { OnOk result ((octets : List ℕ)
-        × IsWritten (framing_of role port) parcel.now.form parcel.now octets
+        × IsWritten (carriage role port) parcel.now.form parcel.now octets
         × (text.new ≡ text.old ++ frame_line port octets)) }
     ensures kept { OnErr result (StillHolds text.old text.new) }
     ensures err { IfErr result (λ kind. kind ≡ FaultKind.Memory) }
@@ -102,7 +100,7 @@ fn append_framed(
 /// Appends the line for a parcel that goes out at a port. The list is used again.
 #[inline(always)]
 fn append_parcel(
-    role: RoleName,
+    role: RoleKind,
     port: Port,
     parcel: &Parcel,
     frame: &mut Vec<u8>,
@@ -126,7 +124,7 @@ fn append_parcel(
 /// Takes the first parcel that waits at a port, if one waits, and appends the line for its frame.
 #[inline(always)]
 fn append_first_at<R: Role>(
-    role: RoleName,
+    role: RoleKind,
     node: &mut NodeOf<R>,
     port: Port,
     frame: &mut Vec<u8>,
@@ -148,7 +146,7 @@ fn append_first_at<R: Role>(
 /// and in each of the four answers that is known where the code is made.
 #[inline(never)]
 fn append_first<R: Role>(
-    role: RoleName,
+    role: RoleKind,
     node: &mut NodeOf<R>,
     port: Port,
     frame: &mut Vec<u8>,
@@ -169,7 +167,7 @@ fn append_first<R: Role>(
 
 /// Takes all that waits at a port, one after the other, and appends a line for each frame. As a rule nothing waits.
 fn append_waiting<R: Role>(
-    role: RoleName,
+    role: RoleKind,
     node: &mut NodeOf<R>,
     port: Port,
     frame: &mut Vec<u8>,
@@ -189,7 +187,7 @@ fn append_waiting<R: Role>(
 /// Takes all that waits, outlet by outlet, and appends a line for each frame.
 #[inline(always)]
 pub(crate) fn append_outlets<R: Role>(
-    role: RoleName,
+    role: RoleKind,
     node: &mut NodeOf<R>,
     frame: &mut Vec<u8>,
     text: &mut Text,

@@ -5,10 +5,10 @@ ghost use Rattle.std.specs.Fmt.{decimal};
 ghost use Rattle.sr_session.specs.Lines.{IsOneOf};
 ghost use Rattle.sr_session.specs.Octets.{spaced};
 ghost use Rattle.sr_words.specs.Words.{IsComment, IsHex};
-ghost use Rattle.sr_script.specs.Commands.{Says, IsEventLine, HasInterlink, IsInlet, letter_of, IsTimed, IsArrival, IsSending, IsTick};
+ghost use Rattle.sr_script.specs.Commands.{Says, IsEventLine, IsInlet, letter_of, IsTimed, IsArrival, IsSending, IsTick};
 ghost use Rattle.sr_script.specs.FrontArrivals.{StandsAtFront};
 
-use crate::setups::RoleName;
+use sr_forwarding::RoleKind;
 use sr_frame::Port;
 use sr_hex::read_front;
 use sr_session::{FaultKind, MAX_LINE};
@@ -39,18 +39,8 @@ fn behind_in(line: &[u8]) -> Option<&[u8]>
     }
 }
 
-/// Whether a node of this role has an interlink.
-fn has_interlink(role: RoleName) -> bool
-    ensures { IsTrue result ↔ HasInterlink role }
-{
-    match role {
-        RoleName::Danp | RoleName::Danh => false,
-        RoleName::San | RoleName::Prp(_) | RoleName::Hsr => true,
-    }
-}
-
 /// The port that a text begins with, where frames come in, and what stands behind it and a space.
-fn split_inlet(role: RoleName, text: &[u8]) -> Option<(Port, &[u8])>
+fn split_inlet(role: RoleKind, text: &[u8]) -> Option<(Port, &[u8])>
     ensures found { IfSome result (λ parts.
         (text.now ≡ letter_of parts.0 ++ 32 ∷ parts.1.now) × IsInlet role parts.0) }
     ensures only { (port : Port) (rest : List ℕ) → IsInlet role port
@@ -60,7 +50,7 @@ fn split_inlet(role: RoleName, text: &[u8]) -> Option<(Port, &[u8])>
     match text {
         [b'A', b' ', rest @ ..] => Some((Port::A, rest)),
         [b'B', b' ', rest @ ..] => Some((Port::B, rest)),
-        [b'C', b' ', rest @ ..] if has_interlink(role) => Some((Port::C, rest)),
+        [b'C', b' ', rest @ ..] if role.has_interlink() => Some((Port::C, rest)),
         _ => None,
     }
 }
@@ -88,7 +78,7 @@ fn timed(text: &[u8], octets: &mut Vec<u8>) -> Result<u64, FaultKind>
 }
 
 /// Reads what stands behind the word `in`: the port, the time and the octets.
-fn arrival(role: RoleName, text: &[u8], octets: &mut Vec<u8>) -> Result<Command, FaultKind>
+fn arrival(role: RoleKind, text: &[u8], octets: &mut Vec<u8>) -> Result<Command, FaultKind>
     ensures found { IfOk result (λ command. IsArrival role text.now command octets.new.items) }
     ensures only { (port : Port) (time : ℕ) (os : List ℕ)
         → IsArrival role text.now (Command.Arrive port time) os
@@ -136,7 +126,7 @@ fn tick_of(line: &[u8]) -> Option<u64>
 /// # Errors
 /// `Line` where the line is none of a script, whatever memory there is; `Memory`.
 pub(crate) fn command_of(
-    role: RoleName,
+    role: RoleKind,
     line: &[u8],
     octets: &mut Vec<u8>,
 ) -> Result<Command, FaultKind>
@@ -181,7 +171,7 @@ pub(crate) struct FrontArrival {
 /// are then the first ones of `octets`. None where the front is to be read line by line: it is another line, or has a fault, or its
 /// end is too near to that of the text.
 #[inline(always)]
-pub(crate) fn arrival_at(role: RoleName, text: &[u8], octets: &mut [u8]) -> Option<FrontArrival>
+pub(crate) fn arrival_at(role: RoleKind, text: &[u8], octets: &mut [u8]) -> Option<FrontArrival>
     ensures { IfSome result (λ a. StandsAtFront role text.now a octets.new) }
 {
     let (port, rest) = split_inlet(role, behind_in(text)?)?;

@@ -1,8 +1,7 @@
 //! A script of events at a node: what it hands out and puts out is printed.
 
 use crate::answering::{answer, answer_front};
-use crate::setups::RoleName;
-use sr_forwarding::Role;
+use sr_forwarding::{Role, RoleKind};
 use sr_node::NodeOf;
 use sr_session::{FaultKind, Session};
 use sr_text::Text;
@@ -12,7 +11,7 @@ use std::alloc::Global;
 #[derive(Drop)]
 pub(crate) struct NodeSession<P: Role> {
     pub(crate) alloc: Global,
-    pub(crate) role: RoleName,
+    pub(crate) role: RoleKind,
     pub(crate) node: NodeOf<P>,
     // The octets of a line, in a list that is used again.
     pub(crate) octets: Vec<u8>,

@@ -6,17 +6,17 @@ ghost use Rattle.sr_session.specs.Lines.{lines_of};
 ghost use Rattle.sr_script.specs.Replies.{replay_dialogue};
 ghost use Rattle.sr_session.specs.Runs.{IsAnswered, EndsAt, IsNotBegun};
 ghost use Rattle.sr_node.specs.States.{state_of};
-ghost use Rattle.sr_script.specs.Stations.{at_work, kind_of, start_of};
+ghost use Rattle.sr_script.specs.Stations.{at_work, start_of};
 ghost use Rattle.sr_script.specs.Statuses.{status_dialogue};
 ghost use Rattle.sr_script.specs.Reports.{dialogue_of};
 
 use crate::replaying::NodeSession;
-use crate::setups::{Report, RoleName, Setup};
+use crate::setups::{Report, Setup};
 use crate::status::StatusSession;
-use sr_forwarding::{Danh, Danp, Role};
+use sr_forwarding::{Danh, Danp, Role, RoleKind};
 use sr_frame::NoMemory;
 use sr_node::NodeOf;
-use sr_redbox::{HsrBox, HsrRouting, PrpBox, SanBox};
+use sr_redbox::{HsrBox, PrpBox, SanBox};
 use sr_session::{Fault, MAX_LINE, NOT_BEGUN, Session, run_session};
 use std::alloc::{AllocError, Global};
 use std::io::{BufRead, Write};
@@ -34,7 +34,7 @@ pub(crate) fn session_of<P: Role>(
     setup: &Setup,
     role: P,
 ) -> Result<NodeSession<P>, NoMemory>
-    requires { P.meaning role ≡ role_of (kind_of setup.now.role) setup.now.mac }
+    requires { P.meaning role ≡ role_of setup.now.role setup.now.mac }
     ensures { IfOk result (λ s. at_work s.role (state_of P.meaning s.node) ≡ start_of setup.now) }
 {
     let arriving = list_of(alloc, MAX_LINE / 2)?;
@@ -77,7 +77,7 @@ fn run_over<P: Role, R: BufRead, W: Write>(
     reader: &mut R,
     writer: &mut W,
 ) -> Result<(), Fault>
-    requires { P.meaning role ≡ role_of (kind_of setup.now.role) setup.now.mac }
+    requires { P.meaning role ≡ role_of setup.now.role setup.now.mac }
     ensures done { OnOk result (IfSome (R.remaining reader.old) (λ input.
         IsAnswered (dialogue_of report)
         (start_of setup.now) (lines_of input) (W.contents writer.old) (W.contents writer.new))) }
@@ -116,24 +116,24 @@ fn run_reported<R: BufRead, W: Write>(
         (R.remaining reader.new) (W.contents writer.old) (W.contents writer.new))) }
 {
     match setup.role {
-        RoleName::Danp => {
+        RoleKind::Danp => {
             let danp = Danp::new(setup.mac);
             run_over(alloc, setup, danp, report, reader, writer)
         }
-        RoleName::Danh => {
+        RoleKind::Danh => {
             let danh = Danh::new(setup.mac);
             run_over(alloc, setup, danh, report, reader, writer)
         }
-        RoleName::San => {
+        RoleKind::San => {
             let san = SanBox::with_keys(alloc, setup.mac, setup.keys);
             run_over(alloc, setup, san, report, reader, writer)
         }
-        RoleName::Prp(routing) => {
-            let prp = PrpBox::of(setup.mac, routing);
+        RoleKind::Prp { lan, net } => {
+            let prp = PrpBox::of(setup.mac, lan, net);
             run_over(alloc, setup, prp, report, reader, writer)
         }
-        RoleName::Hsr => {
-            let hsr = HsrBox::of(setup.mac, HsrRouting);
+        RoleKind::Hsr => {
+            let hsr = HsrBox::new(setup.mac);
             run_over(alloc, setup, hsr, report, reader, writer)
         }
     }

@@ -4,19 +4,18 @@ ghost use Rattle.std.specs.Prelude.{◌≡◌, ◌⊎◌, IfErr, OnOk, IfSome};
 ghost use Rattle.sr_forwarding.specs.RoleImages.{role_of};
 ghost use Rattle.sr_session.specs.Lines.{lines_of};
 ghost use Rattle.sr_session.specs.Runs.{IsAnswered, EndsAt, IsNotBegun};
-ghost use Rattle.sr_script.specs.Stations.{kind_of};
 ghost use Rattle.sr_script.specs.Tallies.{tally_dialogue, tally_start};
 
 use crate::count_lines::append_counts;
 use crate::counts::Counts;
 use crate::replaying::NodeSession;
-use crate::setups::{RoleName, Setup};
+use crate::setups::Setup;
 use crate::starting::{run_owned, session_of};
 use crate::status_lines::tell_status;
 use crate::tallying::tally;
-use sr_forwarding::{Danh, Danp, Role};
+use sr_forwarding::{Danh, Danp, Role, RoleKind};
 use sr_frame::NoMemory;
-use sr_redbox::{HsrBox, HsrRouting, PrpBox, SanBox};
+use sr_redbox::{HsrBox, PrpBox, SanBox};
 use sr_session::{Fault, FaultKind, NOT_BEGUN, Session};
 use sr_text::Text;
 use std::alloc::Global;
@@ -70,7 +69,7 @@ fn tally_over<P: Role, R: BufRead, W: Write>(
     reader: &mut R,
     writer: &mut W,
 ) -> Result<(), Fault>
-    requires { P.meaning role ≡ role_of (kind_of setup.now.role) setup.now.mac }
+    requires { P.meaning role ≡ role_of setup.now.role setup.now.mac }
     ensures done { OnOk result (IfSome (R.remaining reader.old) (λ input.
         IsAnswered tally_dialogue (tally_start setup.now) (lines_of input)
         (W.contents writer.old) (W.contents writer.new))) }
@@ -115,18 +114,18 @@ pub fn run_tally<R: BufRead, W: Write>(
         (R.remaining reader.new) (W.contents writer.old) (W.contents writer.new))) }
 {
     match setup.role {
-        RoleName::Danp => tally_over(alloc, setup, Danp::new(setup.mac), reader, writer),
-        RoleName::Danh => tally_over(alloc, setup, Danh::new(setup.mac), reader, writer),
-        RoleName::San => {
+        RoleKind::Danp => tally_over(alloc, setup, Danp::new(setup.mac), reader, writer),
+        RoleKind::Danh => tally_over(alloc, setup, Danh::new(setup.mac), reader, writer),
+        RoleKind::San => {
             let san = SanBox::with_keys(alloc, setup.mac, setup.keys);
             tally_over(alloc, setup, san, reader, writer)
         }
-        RoleName::Prp(routing) => {
-            let prp = PrpBox::of(setup.mac, routing);
+        RoleKind::Prp { lan, net } => {
+            let prp = PrpBox::of(setup.mac, lan, net);
             tally_over(alloc, setup, prp, reader, writer)
         }
-        RoleName::Hsr => {
-            let hsr = HsrBox::of(setup.mac, HsrRouting);
+        RoleKind::Hsr => {
+            let hsr = HsrBox::new(setup.mac);
             tally_over(alloc, setup, hsr, reader, writer)
         }
     }

@@ -14,8 +14,7 @@ use crate::answering::{arrive, obey, tell_refusal};
 use crate::counts::Counts;
 use crate::noting::drop_all_waiting;
 use crate::reading::{Command, command_of};
-use crate::setups::RoleName;
-use sr_forwarding::Role;
+use sr_forwarding::{Role, RoleKind};
 use sr_frame::Port;
 use sr_node::NodeOf;
 use sr_session::FaultKind;
@@ -24,7 +23,7 @@ use std::alloc::Global;
 
 /// Has the node obey an arrival of the line with this number, counts it, and appends a line where the node refuses.
 fn count_arrival<R: Role>(
-    role: RoleName,
+    role: RoleKind,
     node: &mut NodeOf<R>,
     counts: &mut Counts,
     number: u64,
@@ -54,7 +53,7 @@ fn count_arrival<R: Role>(
 /// Has the node obey a command of the line with this number, counts it, and appends a line where the node refuses.
 fn obey_counted<R: Role>(
     alloc: Global,
-    role: RoleName,
+    role: RoleKind,
     node: &mut NodeOf<R>,
     counts: &mut Counts,
     number: u64,
@@ -84,7 +83,7 @@ fn obey_counted<R: Role>(
 /// As those of `note`.
 pub(crate) fn tally<R: Role>(
     alloc: Global,
-    role: RoleName,
+    role: RoleKind,
     node: &mut NodeOf<R>,
     counts: &mut Counts,
     number: u64,

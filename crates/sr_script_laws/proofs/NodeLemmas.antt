@@ -17,7 +17,7 @@ use Rattle.sr_node_runs.specs.NodeLaws.{EachOnce}
 use Rattle.sr_session.specs.Runs.{Replies}
 use Rattle.sr_script.specs.declared.reading.Command.{Command}
 use Rattle.sr_script.specs.declared.reading.Command.TheVariants.{Skip, Arrive, Send, Tick}
-use Rattle.sr_script.specs.declared.setups.RoleName.{RoleName}
+use Rattle.sr_forwarding.specs.declared.kind.RoleKind.{RoleKind}
 use Rattle.sr_script.specs.Replies.{emptied, Emptied, AllEmptied, ArrivesSo, StepsSo, Obeys, Replied, replay_dialogue}
 use Rattle.sr_script.specs.Stations.{Station, start_of}
 use Rattle.sr_script.specs.Texts.{refusal_line}
@@ -45,7 +45,7 @@ use Rattle.sr_script_laws.specs.NodeScripts.{
 }
 
 -- from these turns on there is a run to these others, of which this text tells in these pieces, and which leaves this node
-pub record Leads (start : Start) (role : RoleName) (turns after : List Turn) (pieces : List Piece) (text : List ℕ) (t : State) : Type 0 where
+pub record Leads (start : Start) (role : RoleKind) (turns after : List Turn) (pieces : List Piece) (text : List ℕ) (t : State) : Type 0 where
   pub run : Run start after t
   pub out : (o : Port) → taken o after ≡ taken o turns ++ outward_at o pieces
   pub printed : ArePrinted role pieces text
@@ -57,7 +57,7 @@ outward_more o (outward port ps ∷ a) b =
     ∙ sym (append_assoc (if is_at o port then ps else []) (outward_at o a) (outward_at o b))
 outward_more o (refused number name ∷ a) b = outward_more o a b
 
-printed_more : (role : RoleName) (a b : List Piece) (front last : List ℕ) → ArePrinted role a front → ArePrinted role b last →
+printed_more : (role : RoleKind) (a b : List Piece) (front last : List ℕ) → ArePrinted role a front → ArePrinted role b last →
     ArePrinted role (a ++ b) (front ++ last)
 printed_more role [] b front last none second = subst (λ (x : List ℕ). ArePrinted role b (x ++ last)) (sym none) second
 printed_more role (outward port ps ∷ a) b front last (lines, rest, are, more, parts) second = (
@@ -74,11 +74,11 @@ printed_more role (refused number name ∷ a) b front last (rest, more, parts) s
 )
 
 -- nothing happens
-stays : (start : Start) (role : RoleName) (turns : List Turn) (s : State) → Run start turns s → Leads start role turns turns [] [] s
+stays : (start : Start) (role : RoleKind) (turns : List Turn) (s : State) → Run start turns s → Leads start role turns turns [] [] s
 stays start role turns s run = record { run = run; out = λ o. sym (append-nil (taken o turns)); printed = refl }
 
 -- one behind the other
-followed : (start : Start) (role : RoleName) (turns mid after : List Turn) (a b : List Piece) (front last : List ℕ) (u t : State) →
+followed : (start : Start) (role : RoleKind) (turns mid after : List Turn) (a b : List Piece) (front last : List ℕ) (u t : State) →
     Leads start role turns mid a front u → Leads start role mid after b last t → Leads start role turns after (a ++ b) (front ++ last) t
 followed start role turns mid after a b front last u t first second = record {
   run = second.run;
@@ -89,7 +89,7 @@ followed start role turns mid after a b front last u t first second = record {
 }
 
 -- a line is refused, which is printed and changes nothing
-refuses : (start : Start) (role : RoleName) (turns : List Turn) (s u : State) (number : ℕ) (name text : List ℕ) → Run start turns s →
+refuses : (start : Start) (role : RoleKind) (turns : List Turn) (s u : State) (number : ℕ) (name text : List ℕ) → Run start turns s →
     text ≡ refusal_line number name → u ≡ s → Leads start role turns turns (refused number name ∷ []) text u
 refuses start role turns s u number name text run line same = record {
   run = subst (Run start turns) (sym same) run;
@@ -97,7 +97,7 @@ refuses start role turns s u number name text run line same = record {
   printed = ([], refl, line ∙ sym (append-nil (refusal_line number name)));
 }
 
-arrives_on : (start : Start) (role : RoleName) (turns : List Turn) (s : State) (number : ℕ) (port : Port) (time : ℕ) (octets text : List ℕ)
+arrives_on : (start : Start) (role : RoleKind) (turns : List Turn) (s : State) (number : ℕ) (port : Port) (time : ℕ) (octets text : List ℕ)
     (u : State) (n : ℤ) → Run start turns s → (h : ArrivesSo role s number port time octets text u) →
     Leads start role turns (arrival_turns role s number port time octets text u n h turns) (arrival_pieces role s number port time octets text u h) text u
 arrives_on start role turns s number port time octets text u n run (inl (a, (p, read, fits, arrived), none)) =
@@ -105,7 +105,7 @@ arrives_on start role turns s number port time octets text u n run (inl (a, (p, 
 arrives_on start role turns s number port time octets text u n run (inr (fault, name, why, named, line, same)) =
     refuses start role turns s u number name text run line same
 
-send_on : (start : Start) (role : RoleName) (turns : List Turn) (s : State) (number : ℕ) (frame : List ℕ) (time : ℕ) (text : List ℕ) (u : State) →
+send_on : (start : Start) (role : RoleKind) (turns : List Turn) (s : State) (number : ℕ) (frame : List ℕ) (time : ℕ) (text : List ℕ) (u : State) →
     Run start turns s → (h : StepsSo s number (event.Send frame time) text u) →
     Leads start role turns (step_turns s number (event.Send frame time) text u h turns) (step_pieces s number (event.Send frame time) text u h) text u
 send_on start role turns s number frame time text u run (inl (a, stepped, none)) =
@@ -113,7 +113,7 @@ send_on start role turns s number frame time text u run (inl (a, stepped, none))
 send_on start role turns s number frame time text u run (inr (fault, name, why, named, line, same)) =
     refuses start role turns s u number name text run line same
 
-tick_on : (start : Start) (role : RoleName) (turns : List Turn) (s : State) (number time : ℕ) (text : List ℕ) (u : State) →
+tick_on : (start : Start) (role : RoleKind) (turns : List Turn) (s : State) (number time : ℕ) (text : List ℕ) (u : State) →
     Run start turns s → (h : StepsSo s number (event.Tick time) text u) →
     Leads start role turns (step_turns s number (event.Tick time) text u h turns) (step_pieces s number (event.Tick time) text u h) text u
 tick_on start role turns s number time text u run (inl (a, stepped, none)) =
@@ -121,7 +121,7 @@ tick_on start role turns s number time text u run (inl (a, stepped, none)) =
 tick_on start role turns s number time text u run (inr (fault, name, why, named, line, same)) =
     refuses start role turns s u number name text run line same
 
-pub obeys_on : (start : Start) (role : RoleName) (turns : List Turn) (s : State) (number : ℕ) (command : Command) (octets text : List ℕ) (u : State)
+pub obeys_on : (start : Start) (role : RoleKind) (turns : List Turn) (s : State) (number : ℕ) (command : Command) (octets text : List ℕ) (u : State)
     (n : ℤ) → Run start turns s → (h : Obeys role s number command octets text u) →
     Leads start role turns (command_turns role s number command octets text u n h turns) (command_pieces role s number command octets text u h) text u
 obeys_on start role turns s number Skip octets text u n run (none, same) =
@@ -131,7 +131,7 @@ obeys_on start role turns s number (Send time) octets text u n run h = send_on s
 obeys_on start role turns s number (Tick time) octets text u n run h = tick_on start role turns s number time text u run h
 
 -- an outlet is emptied
-empties_on : EmptiesOutlets → TakesWhatWaits → (start : Start) (role : RoleName) (turns : List Turn) (s : State) (port : Port) (text : List ℕ) (u : State) → Run start turns s →
+empties_on : EmptiesOutlets → TakesWhatWaits → (start : Start) (role : RoleKind) (turns : List Turn) (s : State) (port : Port) (text : List ℕ) (u : State) → Run start turns s →
     Emptied role port s text u →
     Leads start role turns (takes_all s port (box_at s.core.out port) turns) (outward port (box_at s.core.out port) ∷ []) text u
 empties_on empty grows start role turns s port text u run (are, same) = record {
@@ -141,7 +141,7 @@ empties_on empty grows start role turns s port text u run (are, same) = record {
   printed = (text, [], are, refl, sym (append-nil text));
 }
 
-all_on : EmptiesOutlets → TakesWhatWaits → (start : Start) (role : RoleName) (turns : List Turn) (s : State) (text : List ℕ) (t : State) → Run start turns s →
+all_on : EmptiesOutlets → TakesWhatWaits → (start : Start) (role : RoleKind) (turns : List Turn) (s : State) (text : List ℕ) (t : State) → Run start turns s →
     (h : AllEmptied role s text t) → Leads start role turns (emptied_turns role s text t h turns) (emptied_pieces role s text t h) text t
 all_on empty grows start role turns s text t run (h, a, b, c, u, v, w, at_h, at_a, at_b, at_c, parts) =
     let from_h = takes_all s H (box_at s.core.out H) turns in
@@ -160,7 +160,7 @@ all_on empty grows start role turns s text t run (h, a, b, c, u, v, w, at_h, at_
     (followed start role turns from_h from_c (outward H (box_at s.core.out H) ∷ [])
     (outward A (box_at u.core.out A) ∷ outward B (box_at v.core.out B) ∷ outward C (box_at w.core.out C) ∷ []) h (a ++ (b ++ c)) u t l_h abc)
 
-replied_on : EmptiesOutlets → TakesWhatWaits → (start : Start) (role : RoleName) (turns : List Turn) (s : State) (number : ℕ) (line text : List ℕ) (t : State) (n : ℤ) →
+replied_on : EmptiesOutlets → TakesWhatWaits → (start : Start) (role : RoleKind) (turns : List Turn) (s : State) (number : ℕ) (line text : List ℕ) (t : State) (n : ℤ) →
     Run start turns s → (h : Replied role s number line text t) →
     Leads start role turns (line_turns role s number line text t n h turns) (line_pieces role s number line text t h) text t
 replied_on empty grows start role turns s number line text t n run (command, octets, says, told, u, obeys, lines, all, parts) =
@@ -187,7 +187,7 @@ lines_on empty grows start numbers turns s number (line ∷ lines) text t run (f
     let b = script_pieces u (number + 1) lines rest t replies in
     let first = replied_on empty grows start s.role turns s.node number line front u.node (numbers number) run replied in
     let second = lines_on empty grows start numbers mid u (number + 1) lines rest t first.run replies in
-    let same_role = subst (λ (r : RoleName). Leads start r mid after b rest t.node) role second in
+    let same_role = subst (λ (r : RoleKind). Leads start r mid after b rest t.node) role second in
     subst (λ (x : List ℕ). Leads start s.role turns after (a ++ b) x t.node) (sym parts)
     (followed start s.role turns mid after a b front rest u.node t.node first same_role)
 
@@ -195,7 +195,7 @@ lines_on empty grows start numbers turns s number (line ∷ lines) text t run (f
 AreEmpty : State → Type 0
 AreEmpty s = (o : Port) → box_at s.core.out o ≡ []
 
-all_empty : (role : RoleName) (s : State) (text : List ℕ) (t : State) → AllEmptied role s text t → AreEmpty t
+all_empty : (role : RoleKind) (s : State) (text : List ℕ) (t : State) → AllEmptied role s text t → AreEmpty t
 unfolding AreEmpty
 all_empty role s text t (h, a, b, c, u, v, w, at_h, at_a, at_b, at_c, parts) o =
     ap (λ (x : State). box_at x.core.out o)

@@ -17,15 +17,15 @@ use Rattle.sr_node_runs.specs.SteadyNodes.{IsSteady}
 use Rattle.sr_session.specs.Runs.{Replies}
 use Rattle.sr_script.specs.declared.reading.Command.{Command}
 use Rattle.sr_script.specs.declared.reading.Command.TheVariants.{Skip, Arrive, Send, Tick}
-use Rattle.sr_script.specs.declared.setups.RoleName.{RoleName}
+use Rattle.sr_forwarding.specs.declared.kind.RoleKind.{RoleKind}
 use Rattle.sr_script.specs.declared.setups.Setup.{Setup}
 use Rattle.sr_script.specs.Replies.{AllEmptied, ArrivesSo, StepsSo, Obeys, Replied, replay_dialogue}
-use Rattle.sr_script.specs.Stations.{Station, kind_of, start_of}
+use Rattle.sr_script.specs.Stations.{Station, start_of}
 use Rattle.sr_script.specs.Texts.{AreLines, refusal_line}
 
 -- how the script's node begins
 abbrev pub node_start : Setup → Start
-node_start setup = record { role = role_of (kind_of setup.role) setup.mac; settings = setup.settings }
+node_start setup = record { role = role_of setup.role setup.mac; settings = setup.settings }
 
 -- A piece of what is printed: the parcels that were taken out at an outlet, in order; or that the line of this number was refused.
 pub data Piece : Type 0 where
@@ -33,13 +33,13 @@ pub data Piece : Type 0 where
   refused : (number : ℕ) (name : List ℕ) → Piece
 
 -- octets that come in, as a turn on top of earlier ones, where the node took them; their frame has this whole number
-abbrev pub arrival_turns : (role : RoleName) (s : State) (number : ℕ) (port : Port) (time : ℕ) (octets text : List ℕ) (u : State) → ℤ →
+abbrev pub arrival_turns : (role : RoleKind) (s : State) (number : ℕ) (port : Port) (time : ℕ) (octets text : List ℕ) (u : State) → ℤ →
     ArrivesSo role s number port time octets text u → List Turn → List Turn
 arrival_turns role s number port time octets text u n (inl (a, (p, read, fits, arrived), none)) turns =
     happened s (event.Arrive port p time) a n ∷ turns
 arrival_turns role s number port time octets text u n (inr is_refused) turns = turns
 
-abbrev pub arrival_pieces : (role : RoleName) (s : State) (number : ℕ) (port : Port) (time : ℕ) (octets text : List ℕ) (u : State) →
+abbrev pub arrival_pieces : (role : RoleKind) (s : State) (number : ℕ) (port : Port) (time : ℕ) (octets text : List ℕ) (u : State) →
     ArrivesSo role s number port time octets text u → List Piece
 arrival_pieces role s number port time octets text u (inl taken) = []
 arrival_pieces role s number port time octets text u (inr (fault, name, refuses, named, line, same)) = refused number name ∷ []
@@ -54,7 +54,7 @@ step_pieces s number e text u (inl taken) = []
 step_pieces s number e text u (inr (fault, name, refuses, named, line, same)) = refused number name ∷ []
 
 -- what a line asks for
-abbrev pub command_turns : (role : RoleName) (s : State) (number : ℕ) (command : Command) (octets text : List ℕ) (u : State) → ℤ →
+abbrev pub command_turns : (role : RoleKind) (s : State) (number : ℕ) (command : Command) (octets text : List ℕ) (u : State) → ℤ →
     Obeys role s number command octets text u → List Turn → List Turn
 command_turns role s number Skip octets text u n obeys turns = turns
 command_turns role s number (Arrive port time) octets text u n obeys turns =
@@ -62,7 +62,7 @@ command_turns role s number (Arrive port time) octets text u n obeys turns =
 command_turns role s number (Send time) octets text u n obeys turns = step_turns s number (event.Send octets time) text u obeys turns
 command_turns role s number (Tick time) octets text u n obeys turns = step_turns s number (event.Tick time) text u obeys turns
 
-abbrev pub command_pieces : (role : RoleName) (s : State) (number : ℕ) (command : Command) (octets text : List ℕ) (u : State) →
+abbrev pub command_pieces : (role : RoleKind) (s : State) (number : ℕ) (command : Command) (octets text : List ℕ) (u : State) →
     Obeys role s number command octets text u → List Piece
 command_pieces role s number Skip octets text u obeys = []
 command_pieces role s number (Arrive port time) octets text u obeys = arrival_pieces role s number port time octets text u obeys
@@ -70,23 +70,23 @@ command_pieces role s number (Send time) octets text u obeys = step_pieces s num
 command_pieces role s number (Tick time) octets text u obeys = step_pieces s number (event.Tick time) text u obeys
 
 -- all that waits is taken out, outlet by outlet
-abbrev pub emptied_turns : (role : RoleName) (s : State) (text : List ℕ) (t : State) → AllEmptied role s text t → List Turn → List Turn
+abbrev pub emptied_turns : (role : RoleKind) (s : State) (text : List ℕ) (t : State) → AllEmptied role s text t → List Turn → List Turn
 emptied_turns role s text t (h, a, b, c, u, v, w, at_h, at_a, at_b, at_c, parts) turns =
     takes_all w C (box_at w.core.out C)
     (takes_all v B (box_at v.core.out B) (takes_all u A (box_at u.core.out A) (takes_all s H (box_at s.core.out H) turns)))
 
-abbrev pub emptied_pieces : (role : RoleName) (s : State) (text : List ℕ) (t : State) → AllEmptied role s text t → List Piece
+abbrev pub emptied_pieces : (role : RoleKind) (s : State) (text : List ℕ) (t : State) → AllEmptied role s text t → List Piece
 emptied_pieces role s text t (h, a, b, c, u, v, w, at_h, at_a, at_b, at_c, parts) =
     outward H (box_at s.core.out H)
     ∷ (outward A (box_at u.core.out A) ∷ (outward B (box_at v.core.out B) ∷ (outward C (box_at w.core.out C) ∷ [])))
 
 -- a line: what it asks for, and then all that waits is taken out
-abbrev pub line_turns : (role : RoleName) (s : State) (number : ℕ) (line text : List ℕ) (t : State) → ℤ →
+abbrev pub line_turns : (role : RoleKind) (s : State) (number : ℕ) (line text : List ℕ) (t : State) → ℤ →
     Replied role s number line text t → List Turn → List Turn
 line_turns role s number line text t n (command, octets, says, told, u, obeys, lines, emptied, parts) turns =
     emptied_turns role u lines t emptied (command_turns role s number command octets told u n obeys turns)
 
-abbrev pub line_pieces : (role : RoleName) (s : State) (number : ℕ) (line text : List ℕ) (t : State) →
+abbrev pub line_pieces : (role : RoleKind) (s : State) (number : ℕ) (line text : List ℕ) (t : State) →
     Replied role s number line text t → List Piece
 line_pieces role s number line text t (command, octets, says, told, u, obeys, lines, emptied, parts) =
     command_pieces role s number command octets told u obeys ++ emptied_pieces role u lines t emptied
@@ -106,7 +106,7 @@ script_pieces s number (line ∷ lines) text t (first, u, rest, place, (role, re
     line_pieces s.role s.node number line first u.node replied ++ script_pieces u (number + 1) lines rest t replies
 
 -- the text is these pieces, one behind the other: of each parcel a line with its octets, and of each refusal a line
-abbrev pub ArePrinted : RoleName → List Piece → List ℕ → Type 0
+abbrev pub ArePrinted : RoleKind → List Piece → List ℕ → Type 0
 ArePrinted role [] text = text ≡ []
 ArePrinted role (outward port ps ∷ pieces) text =
     (lines : List ℕ) × (rest : List ℕ) × AreLines role port ps lines × ArePrinted role pieces rest × (text ≡ lines ++ rest)

@@ -6,14 +6,14 @@ use Rattle.sr_node_runs.specs.Emptying.{takes_everywhere}
 use Rattle.sr_node_runs.specs.Heard.{HappenIn, TellsOf}
 use Rattle.sr_node_table.specs.Hearings as nodes
 use Rattle.sr_session.specs.Runs.{Replies}
-use Rattle.sr_script.specs.declared.setups.RoleName.{RoleName}
+use Rattle.sr_forwarding.specs.declared.kind.RoleKind.{RoleKind}
 use Rattle.sr_script.specs.declared.setups.Setup.{Setup}
 use Rattle.sr_script.specs.Stations.{Station, start_of}
 use Rattle.sr_script.specs.Statuses.{Noted, status_dialogue}
 use Rattle.sr_script_laws.specs.NodeScripts.{node_start, command_turns}
 
 -- a line: what it asks for, and then all that waits is taken out
-abbrev pub noted_turns : (role : RoleName) (s : State) (number : ℕ) (line text : List ℕ) (t : State) → ℤ →
+abbrev pub noted_turns : (role : RoleKind) (s : State) (number : ℕ) (line text : List ℕ) (t : State) → ℤ →
     Noted role s number line text t → List Turn → List Turn
 noted_turns role s number line text t n (command, octets, says, u, obeys, same) turns =
     takes_everywhere u (command_turns role s number command octets text u n obeys turns)

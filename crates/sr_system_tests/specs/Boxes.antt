@@ -1,7 +1,7 @@
 -- Nodes of coupled networks, worked out.
 use Rattle.std.specs.Prelude.{ℕ, Bool, List, [], ◌∷◌, ◌++◌}
-use Rattle.sr_forwarding.specs.declared.role_image.RoleKind.{RoleKind}
-use Rattle.sr_forwarding.specs.declared.role_image.RoleKind.TheVariants.{Danp, Danh}
+use Rattle.sr_forwarding.specs.declared.kind.RoleKind.{RoleKind}
+use Rattle.sr_forwarding.specs.declared.kind.RoleKind.TheVariants.{Danp, Danh}
 use Rattle.sr_forwarding.specs.RoleImages.{role_of}
 use Rattle.sr_node.specs.Images.{State, begun, plain_settings}
 use Rattle.sr_plant.specs.Building.{is_plant}

@@ -1,5 +1,5 @@
 pub mod Hosts
-pub mod Ports
+pub mod Members
 pub mod Reports
 pub mod Lines
 pub mod Runs

@@ -4,7 +4,6 @@
 mod fault;
 mod host;
 mod network;
-mod port_framing;
 mod printing;
 mod reading;
 mod running;
@@ -13,7 +12,6 @@ mod setup;
 
 pub use fault::ThreadedFault;
 pub use host::Host;
-pub use port_framing::PortFraming;
 pub use reading::is_threaded_line;
 pub use running::run_threaded;
 pub use setup::{ThreadedNet, ThreadedSetup};

@@ -3,48 +3,24 @@
 ghost use Rattle.std.specs.Prelude.{◌≡◌, ◌≤◌, ◌<◌, ◌++◌, [], ℕ, List, length, vec_len, IfOk, OnOk};
 ghost use Rattle.sr_plant.specs.Limits.{most_nodes};
 ghost use Rattle.sr_plant_script.specs.Members.{routed_as};
-ghost use Rattle.sr_threaded_script.specs.Ports.{member_kind};
+ghost use Rattle.sr_threaded_script.specs.Members.{member_kind};
 ghost use Rattle.sr_threaded_script.specs.Reports.{IsReport, IsNodeReport};
 
 use crate::fault::RunFault;
 use crate::host::Host;
-use crate::port_framing::PortFraming;
 use crate::printing::append_report;
 use crate::setup::{ThreadedNet, ThreadedSetup};
-use sr_forwarding::{HsrFraming, OwnRole, PrpFraming};
+use sr_forwarding::{OwnRole, Port, PortFraming, Routing, framing_at};
 use sr_frame::{Frame, NoMemory};
 use sr_lines::Line;
 use sr_node::NodeOf;
 use sr_plant_script::{Member, MemberRouting, mac_of};
-use sr_prp_trailer::Lan;
 use sr_text::Text;
 use sr_threaded::{Judgement, NetworkFault, NodeEnd, NodeKit, run_ring, run_twin, settlement_of};
 use sr_workers::WorkerFault;
 use std::alloc::{AllocError, Global};
 use std::sync::Wait;
 use std::thread::Threads;
-
-// How port A carries frames.
-fn framing_at_a(net: ThreadedNet) -> PortFraming {
-    match net {
-        ThreadedNet::Ring => PortFraming::Ring(HsrFraming { path: 0 }),
-        ThreadedNet::TwinLan => PortFraming::Lan(PrpFraming {
-            lan: Lan::A,
-            net: 0,
-        }),
-    }
-}
-
-// How port B does.
-fn framing_at_b(net: ThreadedNet) -> PortFraming {
-    match net {
-        ThreadedNet::Ring => PortFraming::Ring(HsrFraming { path: 1 }),
-        ThreadedNet::TwinLan => PortFraming::Lan(PrpFraming {
-            lan: Lan::B,
-            net: 0,
-        }),
-    }
-}
 
 // Where frames go at the nodes: as at doubly attached nodes of what the network is.
 fn routing_of(net: ThreadedNet) -> MemberRouting
@@ -65,15 +41,16 @@ fn kit_of(
 ) -> Result<NodeKit<Member, PortFraming, Host>, NoMemory>
     requires { number < most_nodes }
 {
-    let net = setup.net;
-    let role = OwnRole::of(mac_of(number), routing_of(net));
+    let routing = routing_of(setup.net);
+    let kind = routing.kind();
+    let role = OwnRole::of(mac_of(number), routing);
     let feed = Host::new(alloc, frames);
     match NodeOf::with(alloc, role, setup.settings) {
         Ok(node) => Ok(NodeKit {
             node,
-            a: framing_at_a(net),
-            b: framing_at_b(net),
-            host: PortFraming::Host,
+            a: framing_at(kind, Port::A),
+            b: framing_at(kind, Port::B),
+            host: framing_at(kind, Port::H),
             feed,
         }),
         Err(refused) => Err(refused),

@@ -1,16 +1,15 @@
 //! Runs of threaded networks, and what is looked for in them.
 
 use crate::host::Host;
-use sr_forwarding::{HsrFraming, OwnRole, PrpFraming};
+use sr_forwarding::{OwnRole, Port, PortFraming, Routing, framing_at};
 use sr_frame::{Frame, Mac};
 use sr_lines::Line;
 use sr_node::{Answer, Event, NodeOf};
 use sr_plant_script::{Member, MemberRouting};
 use sr_ports::{Log, Settlement, Worker};
-use sr_prp_trailer::Lan;
 use sr_sequence::Seq;
 use sr_threaded::{Judgement, NetworkFault, NodeEnd, NodeKit, run_ring, run_twin, settlement_of};
-use sr_threaded_script::{PortFraming, ThreadedNet};
+use sr_threaded_script::ThreadedNet;
 use std::alloc::Global;
 use std::process::Abort;
 use std::sync::atomic::{AtomicU64, Ordering};
@@ -93,26 +92,6 @@ fn routing_of(net: ThreadedNet) -> MemberRouting {
     }
 }
 
-// How the ports A and B of a node carry frames.
-fn framings_of(net: ThreadedNet) -> (PortFraming, PortFraming) {
-    match net {
-        ThreadedNet::Ring => (
-            PortFraming::Ring(HsrFraming { path: 0 }),
-            PortFraming::Ring(HsrFraming { path: 1 }),
-        ),
-        ThreadedNet::TwinLan => (
-            PortFraming::Lan(PrpFraming {
-                lan: Lan::A,
-                net: 0,
-            }),
-            PortFraming::Lan(PrpFraming {
-                lan: Lan::B,
-                net: 0,
-            }),
-        ),
-    }
-}
-
 fn kit_of(
     alloc: Global,
     net: ThreadedNet,
@@ -120,14 +99,15 @@ fn kit_of(
     meeting: &Meeting,
 ) -> Option<NodeKit<Member, PortFraming, Host>> {
     let feed = host_of(alloc, number, meeting)?;
-    let (a, b) = framings_of(net);
-    let role = OwnRole::of(Mac([2, 0, 0, 0, 0, number]), routing_of(net));
+    let routing = routing_of(net);
+    let kind = routing.kind();
+    let role = OwnRole::of(Mac([2, 0, 0, 0, 0, number]), routing);
     match NodeOf::new(alloc, role) {
         Ok(node) => Some(NodeKit {
             node,
-            a,
-            b,
-            host: PortFraming::Host,
+            a: framing_at(kind, Port::A),
+            b: framing_at(kind, Port::B),
+            host: framing_at(kind, Port::H),
             feed,
         }),
         Err(_) => None,

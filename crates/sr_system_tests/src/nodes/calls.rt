@@ -4,7 +4,8 @@
 //! value. Whatever may want memory twice is a function that answers None for want of it, and its caller asks again.
 
 use super::steps::{Outcome, Told};
-use super::ways::{decoded, ended, read, way_of};
+use super::ways::{decoded, ended, read};
+use sr_forwarding::framing_at;
 use sr_frame::{Frame, Mac, Port};
 use sr_node::{Answer, Event, MergeFault, Node, NodeImage, StepFault};
 use sr_node_table::{Alarm, Status};
@@ -181,7 +182,7 @@ fn hand_once(
     octets: &[u8],
     now: u64,
 ) -> Option<Outcome> {
-    match decoded(alloc, way_of(node.kind(), port), octets) {
+    match decoded(alloc, framing_at(node.kind(), port), octets) {
         Some(parcel) => Some(clone_happens(alloc, node, &Event::Arrive { port, parcel, now })),
         None => None,
     }

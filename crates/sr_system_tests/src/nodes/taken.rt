@@ -2,8 +2,8 @@
 
 use super::frames::{Sent, life_check, octets_of, plain_form, untagged_form};
 use super::steps::Taken;
-use super::ways::{Way, goes_as, way_of};
-use sr_forwarding::Parcel;
+use super::ways::goes_as;
+use sr_forwarding::{Parcel, PortFraming, framing_at};
 use sr_frame::Port;
 use sr_node::Node;
 use sr_sequence::Seq;
@@ -14,18 +14,18 @@ fn is_marked(parcel: &Parcel, seq: u16, path: u8, wrong_lan: bool) -> bool {
     parcel.seq() == Some(Seq(seq)) && parcel.path() == path && parcel.wrong_lan() == wrong_lan
 }
 
-fn goes_plainly(alloc: Global, way: Way, parcel: &Parcel, sent: Sent) -> bool {
-    goes_as(alloc, way, parcel, plain_form(&octets_of(sent)))
+fn goes_plainly(alloc: Global, framing: PortFraming, parcel: &Parcel, sent: Sent) -> bool {
+    goes_as(alloc, framing, parcel, plain_form(&octets_of(sent)))
 }
 
-fn goes_whole(alloc: Global, way: Way, parcel: &Parcel, sent: Sent) -> bool {
-    goes_as(alloc, way, parcel, &octets_of(sent))
+fn goes_whole(alloc: Global, framing: PortFraming, parcel: &Parcel, sent: Sent) -> bool {
+    goes_as(alloc, framing, parcel, &octets_of(sent))
 }
 
-fn goes_untagged(alloc: Global, way: Way, parcel: &Parcel, sent: Sent) -> bool {
+fn goes_untagged(alloc: Global, framing: PortFraming, parcel: &Parcel, sent: Sent) -> bool {
     goes_as(
         alloc,
-        way,
+        framing,
         parcel,
         untagged_form(octets_of(sent)).as_slice(),
     )
@@ -34,7 +34,7 @@ fn goes_untagged(alloc: Global, way: Way, parcel: &Parcel, sent: Sent) -> bool {
 // The life check names the LAN of the port.
 fn goes_as_life_check(
     alloc: Global,
-    way: Way,
+    framing: PortFraming,
     parcel: &Parcel,
     port: Port,
     seq: u16,
@@ -43,32 +43,40 @@ fn goes_as_life_check(
     let lan = if port == Port::A { 0xa0 } else { 0xb0 };
     goes_as(
         alloc,
-        way,
+        framing,
         parcel,
         life_check(seq, life_seq, lan).as_slice(),
     )
 }
 
-fn is_as_wanted(alloc: Global, way: Way, port: Port, parcel: &Parcel, wanted: Taken) -> bool {
+fn is_as_wanted(
+    alloc: Global,
+    framing: PortFraming,
+    port: Port,
+    parcel: &Parcel,
+    wanted: Taken,
+) -> bool {
     match wanted {
         Taken::Nothing => false,
         Taken::Something => true,
         Taken::Plain(sent, seq, path, wrong_lan) => {
-            goes_plainly(alloc, way, parcel, sent) && is_marked(parcel, seq, path, wrong_lan)
+            goes_plainly(alloc, framing, parcel, sent) && is_marked(parcel, seq, path, wrong_lan)
         }
-        Taken::Whole(sent) => goes_whole(alloc, way, parcel, sent) && parcel.seq().is_none(),
-        Taken::As(sent) => goes_whole(alloc, way, parcel, sent),
-        Taken::Untagged(sent) => goes_untagged(alloc, way, parcel, sent),
-        Taken::Life(seq, life_seq) => goes_as_life_check(alloc, way, parcel, port, seq, life_seq),
+        Taken::Whole(sent) => goes_whole(alloc, framing, parcel, sent) && parcel.seq().is_none(),
+        Taken::As(sent) => goes_whole(alloc, framing, parcel, sent),
+        Taken::Untagged(sent) => goes_untagged(alloc, framing, parcel, sent),
+        Taken::Life(seq, life_seq) => goes_as_life_check(
+            alloc, framing, parcel, port, seq, life_seq,
+        ),
     }
 }
 
 /// Whether what is taken out is as wanted, and was seen before.
 pub fn takes(alloc: Global, node: &mut Node, port: Port, wanted: Taken) -> bool {
-    let way = way_of(node.kind(), port);
+    let framing = framing_at(node.kind(), port);
     let seen = node.front(port).is_some();
     match node.take(port) {
         None => !seen && matches!(wanted, Taken::Nothing),
-        Some(parcel) => seen && is_as_wanted(alloc, way, port, &parcel, wanted),
+        Some(parcel) => seen && is_as_wanted(alloc, framing, port, &parcel, wanted),
     }
 }

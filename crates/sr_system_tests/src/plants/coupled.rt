@@ -1,19 +1,19 @@
 //! Of which nodes coupled networks are made, worked out by the checker.
 
 ghost use Rattle.std.specs.Prelude.{◌≡◌, true, false};
-ghost use Rattle.sr_forwarding.specs.declared.role_image.RoleKind.TheVariants.{Danh, Danp, Hsr, Prp, San};
+ghost use Rattle.sr_forwarding.specs.declared.kind.RoleKind.TheVariants.{Danh, Danp, Hsr, Prp, San};
+ghost use Rattle.sr_forwarding.specs.declared.net_id.NetId.TheVariants.{One, Six, Two};
 ghost use Rattle.sr_prp_trailer.specs.declared.trailer.Lan.TheVariants as lan;
 ghost use Rattle.sr_system_tests.specs.Boxes.{join_lans, join_rings};
 
 // A box of each LAN of one network joins a ring with these LANs, in either order, and nothing else does.
 fn boxes_of_a_ring_with_two_lans()
-    ensures both { join_lans (Prp lan.A 1) (Prp lan.B 1) ≡ true }
-    ensures crossed { join_lans (Prp lan.B 6) (Prp lan.A 6) ≡ true }
-    ensures one_lan { join_lans (Prp lan.A 1) (Prp lan.A 1) ≡ false }
-    ensures two_networks { join_lans (Prp lan.A 1) (Prp lan.B 2) ≡ false }
-    ensures no_network { join_lans (Prp lan.A 0) (Prp lan.B 0) ≡ false }
-    ensures one_box { join_lans (Prp lan.A 1) Danh ≡ false }
-    ensures san { join_lans (Prp lan.A 1) San ≡ false }
+    ensures both { join_lans (Prp lan.A One) (Prp lan.B One) ≡ true }
+    ensures crossed { join_lans (Prp lan.B Six) (Prp lan.A Six) ≡ true }
+    ensures one_lan { join_lans (Prp lan.A One) (Prp lan.A One) ≡ false }
+    ensures two_networks { join_lans (Prp lan.A One) (Prp lan.B Two) ≡ false }
+    ensures one_box { join_lans (Prp lan.A One) Danh ≡ false }
+    ensures san { join_lans (Prp lan.A One) San ≡ false }
     ensures none { join_lans Danh Danh ≡ false }
 {}
 

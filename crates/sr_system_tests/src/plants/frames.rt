@@ -3,7 +3,7 @@
 use sr_frame::Mac;
 
 /// The type of the frames (IEEE Std 802 local experimental).
-pub const KIND: u16 = 0x88b5;
+pub const ETHERTYPE: u16 = 0x88b5;
 
 /// Where a frame goes.
 #[derive(Clone, Copy)]

@@ -3,12 +3,12 @@
 use super::frames::mac_of;
 use super::makers::append;
 use Is::{BoxA, BoxB, BoxOf2, InLans, InRing, RingBox};
-use sr_forwarding::{Danh, Danp, Role};
+use sr_forwarding::{Danh, Danp, NetId, Role};
 use sr_frame::Mac;
 use sr_node::Node;
 use sr_plant::{Coupled, PlantFault};
 use sr_prp_trailer::Lan;
-use sr_redbox::{HsrBox, HsrRouting, PrpBox, PrpRouting};
+use sr_redbox::{HsrBox, PrpBox};
 use std::alloc::Global;
 
 /// What a node is.
@@ -43,21 +43,6 @@ enum Case {
 /// The number of the first node behind.
 const BEHIND: u8 = 32;
 
-const BOX_A: PrpRouting = PrpRouting {
-    lan: Lan::A,
-    net: 1,
-};
-
-const BOX_B: PrpRouting = PrpRouting {
-    lan: Lan::B,
-    net: 1,
-};
-
-const BOX_OF_2: PrpRouting = PrpRouting {
-    lan: Lan::B,
-    net: 2,
-};
-
 fn node_over(alloc: Global, role: Box<dyn Role + Send>) -> Option<Node> {
     Node::new(alloc, role).ok()
 }
@@ -76,15 +61,15 @@ fn danp(alloc: Global, mac: Mac) -> Option<Node> {
     }
 }
 
-fn prp_box(alloc: Global, mac: Mac, routing: PrpRouting) -> Option<Node> {
-    match Box::new(alloc, PrpBox::of(mac, routing)) {
+fn prp_box(alloc: Global, mac: Mac, lan: Lan, net: NetId) -> Option<Node> {
+    match Box::new(alloc, PrpBox::of(mac, lan, net)) {
         Ok(role) => node_over(alloc, role),
         Err(_) => None,
     }
 }
 
 fn ring_box(alloc: Global, mac: Mac) -> Option<Node> {
-    match Box::new(alloc, HsrBox::of(mac, HsrRouting)) {
+    match Box::new(alloc, HsrBox::new(mac)) {
         Ok(role) => node_over(alloc, role),
         Err(_) => None,
     }
@@ -96,9 +81,9 @@ fn node_of(alloc: Global, is: Is, number: u8) -> Option<Node> {
     match is {
         Is::InRing => danh(alloc, mac),
         Is::InLans => danp(alloc, mac),
-        Is::BoxA => prp_box(alloc, mac, BOX_A),
-        Is::BoxB => prp_box(alloc, mac, BOX_B),
-        Is::BoxOf2 => prp_box(alloc, mac, BOX_OF_2),
+        Is::BoxA => prp_box(alloc, mac, Lan::A, NetId::One),
+        Is::BoxB => prp_box(alloc, mac, Lan::B, NetId::One),
+        Is::BoxOf2 => prp_box(alloc, mac, Lan::B, NetId::Two),
         Is::RingBox => ring_box(alloc, mac),
     }
 }

@@ -4,7 +4,7 @@ ghost use Rattle.std.specs.Prelude.{IfOk};
 ghost use Rattle.sr_plant.specs.Images.{plant_state};
 ghost use Rattle.sr_plant.specs.Plants.{IsInOrder};
 
-use super::frames::{KIND, To, destination, mac_of, octets_of};
+use super::frames::{ETHERTYPE, To, destination, mac_of, octets_of};
 use super::makers::{
     danhs, danhs_of_both, danhs_of_which_one_is_crowded, danps, new_lans, new_ring,
 };
@@ -190,7 +190,7 @@ fn is_plain(parcel: &Parcel, from: u8, to: To) -> bool {
     plain.dst == destination(to)
         && plain.src == mac_of(from)
         && plain.vlan.is_none()
-        && plain.kind == KIND
+        && plain.ethertype == ETHERTYPE
         && plain.payload == &octets_of(from, to)[14..]
 }
 

@@ -1,13 +1,11 @@
 //! One driver for all nodes: it makes a node over a box, takes it through a table of steps, and answers at which step it differs.
 
 use bitflags::Flags;
-use sr_forwarding::{
-    Danh, Framing, HsrFraming, OwnRole, Parcel, PlainFraming, Port, PrpFraming, Role, RoleKind,
-};
+use sr_forwarding::{Danh, Framing, Parcel, Port, Role, RoleKind, framing_at};
 use sr_frame::{Frame, Mac};
 use sr_node::{Answer, Event, Node, NodeImage, StepFault};
 use sr_prp_trailer::Lan;
-use sr_redbox::{HsrBox, HsrRouting, PrpBox, PrpRouting, SanBox};
+use sr_redbox::{HsrBox, PrpBox, SanBox};
 use std::alloc::Global;
 
 /// The node.
@@ -83,19 +81,8 @@ fn octets_of(sent: Sent) -> ([u8; 66], usize) {
     }
 }
 
-const RING_A: HsrFraming = HsrFraming { path: 0 };
-
-const RING_B: HsrFraming = HsrFraming { path: 1 };
-
 fn read(node: &mut Node, port: Port, octets: &[u8], now: u64) -> Result<Answer, StepFault> {
-    match (node.kind(), port) {
-        (_, Port::A) | (RoleKind::Hsr, Port::C) => node.arrive(&RING_A, port, octets, now),
-        (_, Port::B) => node.arrive(&RING_B, port, octets, now),
-        (RoleKind::Prp { lan, .. }, Port::C) => {
-            node.arrive(&PrpFraming { lan, net: 1 }, port, octets, now)
-        }
-        _ => node.arrive(&PlainFraming, port, octets, now),
-    }
+    node.arrive(&framing_at(node.kind(), port), port, octets, now)
 }
 
 // The node as data, asked for again where memory runs out.
@@ -232,14 +219,7 @@ fn sends(alloc: Global, node: &mut Node, dst: Mac, now: u64, number: u16) -> boo
 
 fn is_written(alloc: Global, kind: RoleKind, port: Port, parcel: &Parcel, octets: &[u8]) -> bool {
     for _ in 0..2u8 {
-        let frame = match (kind, port) {
-            (_, Port::A) | (RoleKind::Hsr, Port::C) => RING_A.encode(alloc, parcel),
-            (_, Port::B) => RING_B.encode(alloc, parcel),
-            (RoleKind::Prp { lan, .. }, Port::C) => PrpFraming { lan, net: 1 }.encode(
-                alloc, parcel,
-            ),
-            _ => PlainFraming.encode(alloc, parcel),
-        };
+        let frame = framing_at(kind, port).encode(alloc, parcel);
         if let Ok(frame) = frame {
             return frame.octets() == octets;
         }
@@ -303,7 +283,7 @@ fn san_differs(alloc: Global, steps: &[Step]) -> Option<usize> {
 }
 
 fn prp_differs(alloc: Global, lan: Lan, steps: &[Step]) -> Option<usize> {
-    let role: PrpBox = OwnRole::of(OWN, PrpRouting { lan, net: 1 });
+    let role = PrpBox::new(OWN, lan, 1);
     match Box::new(alloc, role) {
         Ok(role) => differs_over(alloc, role, steps),
         Err(_) => Some(steps.len()),
@@ -311,7 +291,7 @@ fn prp_differs(alloc: Global, lan: Lan, steps: &[Step]) -> Option<usize> {
 }
 
 fn hsr_differs(alloc: Global, steps: &[Step]) -> Option<usize> {
-    let role: HsrBox = OwnRole::of(OWN, HsrRouting);
+    let role = HsrBox::new(OWN);
     match Box::new(alloc, role) {
         Ok(role) => differs_over(alloc, role, steps),
         Err(_) => Some(steps.len()),

@@ -1,9 +1,9 @@
 //! Where frames go, line by line of the three tables.
 
-use sr_forwarding::{Header, OwnRole, Port, Role, Routing};
+use sr_forwarding::{Header, Port, Role};
 use sr_frame::Mac;
 use sr_prp_trailer::Lan;
-use sr_redbox::{HsrBox, HsrRouting, PrpBox, PrpRouting, SanBox};
+use sr_redbox::{HsrBox, PrpBox, SanBox};
 use std::alloc::Global;
 
 /// The box.
@@ -189,16 +189,13 @@ const OF_NETS: &[Row] = &[
 
 // The rows of a box of network 3 and of one between rings; what differs where, if any.
 fn ring_boxes_differ(alloc: Global) -> Option<usize> {
-    let boxes: [PrpBox; 2] = [Lan::A, Lan::B].map(|lan| OwnRole::of(
-        OWN,
-        PrpRouting { lan, net: 3 },
-    ));
+    let boxes: [PrpBox; 2] = [Lan::A, Lan::B].map(|lan| PrpBox::new(OWN, lan, 3));
     for role in boxes.iter() {
         if let Some(place) = differs(alloc, role, OPEN, 0).or(differs(alloc, role, OF_NETS, 0)) {
             return Some(place);
         }
     }
-    let role: HsrBox = OwnRole::of(OWN, HsrRouting);
+    let role = HsrBox::new(OWN);
     differs(alloc, &role, OPEN, 0)
 }
 

@@ -5,10 +5,11 @@ use super::failing::{Broken, EmptyLines, Interrupted, Narrow, Recorder, Sparse, 
 use super::texts::{Text, joined};
 use crate::answers::{Ending, are_answers, is_ended};
 use crate::settings::{MODE_X, WIDE};
+use sr_forwarding::{NetId, RoleKind};
 use sr_frame::Mac;
 use sr_node::Settings;
 use sr_prp_trailer::Lan;
-use sr_script::{PrpRouting, RoleName, Setup, run, run_status};
+use sr_script::{Setup, run, run_status};
 use sr_session::{Fault, FaultKind};
 use sr_slots::Keys;
 use std::alloc::Global;
@@ -51,18 +52,16 @@ fn run_as<R: BufRead, W: Write>(
 }
 
 /// The role of a node. None for a network that no path can name.
-fn role_of(at: At) -> Option<RoleName> {
+fn role_of(at: At) -> Option<RoleKind> {
     Some(match at {
-        At::Danp | At::WideDanp => RoleName::Danp,
-        At::Danh | At::DanhX => RoleName::Danh,
-        At::San => RoleName::San,
-        At::Prp(lan, net) => {
-            if net == 0 || net > 6 {
-                return None;
-            }
-            RoleName::Prp(PrpRouting { lan, net })
-        }
-        At::Hsr => RoleName::Hsr,
+        At::Danp | At::WideDanp => RoleKind::Danp,
+        At::Danh | At::DanhX => RoleKind::Danh,
+        At::San => RoleKind::San,
+        At::Prp(lan, net) => RoleKind::Prp {
+            lan,
+            net: NetId::checked(net)?,
+        },
+        At::Hsr => RoleKind::Hsr,
     })
 }
 
@@ -76,7 +75,7 @@ fn settings_of(at: At) -> Settings {
 }
 
 /// A node of this role with the address 02:00:00:00:00:01.
-fn node_of(role: RoleName, settings: Settings) -> Setup {
+fn node_of(role: RoleKind, settings: Settings) -> Setup {
     Setup {
         role,
         mac: Mac([2, 0, 0, 0, 0, 1]),
@@ -92,7 +91,7 @@ fn setup_of(at: At) -> Option<Setup> {
 
 /// A doubly attached node of a PRP network with that address.
 fn danp() -> Setup {
-    node_of(RoleName::Danp, Settings::PLAIN)
+    node_of(RoleKind::Danp, Settings::PLAIN)
 }
 
 /// Whether a run writes this and ends so.

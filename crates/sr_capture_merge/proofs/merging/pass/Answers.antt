@@ -4,7 +4,7 @@ use Rattle.sr_capture_script.proofs.Outcomes.{handed_on}
 use Rattle.sr_capture_script.specs.Texts.{is_wanted}
 use Rattle.sr_capture_merge.proofs.Merged.{pass_taken, pass_passed, pass_refused, pass_stuck_taken, pass_stuck_passed}
 use Rattle.sr_capture_merge.proofs.merging.pass.Goals as goal
-use Rattle.sr_capture_merge.proofs.merging.pass.Goals.{then-is_wanted+in_ok-take, else-is_wanted}
+use Rattle.sr_capture_merge.proofs.merging.pass.Goals.{then-covers+in_ok-take, else-covers}
 
 pub returns-in_err-take-clause-stops : goal.returns-in_err-take-clause-stops
 returns-in_err-take-clause-stops g c =
@@ -14,41 +14,41 @@ returns-in_err-take-clause-stops g c =
 
 pub returns-clause-goes : goal.returns-clause-goes
 returns-clause-goes g c =
-    let told = c.is_wanted.ensures in
-    on_ok_weaker c.advance.result (λ goes. elim c.if-is_wanted.branch [
-      | then-is_wanted+in_ok-take w ↦
-          let test = w.if-is_wanted.true in
+    let told = c.covers.ensures in
+    on_ok_weaker c.advance.result (λ goes. elim c.if-covers.branch [
+      | then-covers+in_ok-take w ↦
+          let test = w.if-covers.true in
           let wanted : is_wanted c.args.choice.now (c.saturating_sub-time.result / 1000000) ≡ true = cc (told, test) in
           pass_taken g.R.Read.remaining c.args.choice.now c.args.output.now.plan c.args.output.now.start c.args.captures.now c.advance.new.self c.args.front
-          c.args.now.now c.saturating_sub-time.result w.side_of-side.result w.packet-packet.result.now c.args.merge.now w.take.new.merge c.if-is_wanted.merge
-          (g.W.Write.contents c.args.writer.now) (g.W.Write.contents w.take.new.writer) (g.W.Write.contents c.if-is_wanted.writer)
+          c.args.now.now c.saturating_sub-time.result w.side_of-side.result w.packet-packet.result.now c.args.merge.now w.take.new.merge c.if-covers.merge
+          (g.W.Write.contents c.args.writer.now) (g.W.Write.contents w.take.new.writer) (g.W.Write.contents c.if-covers.writer)
           c.saturating_sub-time.ensures w.side_of-side.ensures w.packet-packet.ensures w.merge-is (ap g.W.Write.contents w.writer-is) wanted
           w.in_ok-take.ensures.goes goes c.advance.ensures.others
-      | else-is_wanted w ↦
-          let test = w.if-is_wanted.false in
+      | else-covers w ↦
+          let test = w.if-covers.false in
           let wanted : is_wanted c.args.choice.now (c.saturating_sub-time.result / 1000000) ≡ false = cc (told, test) in
           pass_passed g.R.Read.remaining c.args.choice.now c.args.output.now.plan c.args.output.now.start c.args.captures.now c.advance.new.self c.args.front
-          c.args.now.now c.saturating_sub-time.result c.args.merge.now c.if-is_wanted.merge (g.W.Write.contents c.args.writer.now)
-          (g.W.Write.contents c.if-is_wanted.writer) c.saturating_sub-time.ensures w.merge-is (ap g.W.Write.contents w.writer-is) wanted goes
+          c.args.now.now c.saturating_sub-time.result c.args.merge.now c.if-covers.merge (g.W.Write.contents c.args.writer.now)
+          (g.W.Write.contents c.if-covers.writer) c.saturating_sub-time.ensures w.merge-is (ap g.W.Write.contents w.writer-is) wanted goes
           c.advance.ensures.others
     ]) c.advance.ensures.goes
 
 pub returns-clause-stops : goal.returns-clause-stops
 returns-clause-stops g c =
-    let told = c.is_wanted.ensures in
-    IfErr-weaker c.advance.result _ _ (λ fault stops other. elim c.if-is_wanted.branch [
-      | then-is_wanted+in_ok-take w ↦
-          let test = w.if-is_wanted.true in
+    let told = c.covers.ensures in
+    IfErr-weaker c.advance.result _ _ (λ fault stops other. elim c.if-covers.branch [
+      | then-covers+in_ok-take w ↦
+          let test = w.if-covers.true in
           let wanted : is_wanted c.args.choice.now (c.saturating_sub-time.result / 1000000) ≡ true = cc (told, test) in
           pass_stuck_taken g.R.Read.remaining c.args.choice.now c.args.output.now.plan c.args.output.now.start c.args.captures.now c.advance.new.self c.args.front
-          fault c.args.now.now c.saturating_sub-time.result w.side_of-side.result w.packet-packet.result.now c.args.merge.now w.take.new.merge c.if-is_wanted.merge
-          (g.W.Write.contents c.args.writer.now) (g.W.Write.contents w.take.new.writer) (g.W.Write.contents c.if-is_wanted.writer)
+          fault c.args.now.now c.saturating_sub-time.result w.side_of-side.result w.packet-packet.result.now c.args.merge.now w.take.new.merge c.if-covers.merge
+          (g.W.Write.contents c.args.writer.now) (g.W.Write.contents w.take.new.writer) (g.W.Write.contents c.if-covers.writer)
           c.saturating_sub-time.ensures w.side_of-side.ensures w.packet-packet.ensures w.merge-is (ap g.W.Write.contents w.writer-is) wanted
           w.in_ok-take.ensures.goes stops
-      | else-is_wanted w ↦
-          let test = w.if-is_wanted.false in
+      | else-covers w ↦
+          let test = w.if-covers.false in
           let wanted : is_wanted c.args.choice.now (c.saturating_sub-time.result / 1000000) ≡ false = cc (told, test) in
           pass_stuck_passed g.R.Read.remaining c.args.choice.now c.args.output.now.plan c.args.output.now.start c.args.captures.now c.advance.new.self c.args.front
-          fault c.args.now.now c.saturating_sub-time.result c.args.merge.now c.if-is_wanted.merge (g.W.Write.contents c.args.writer.now)
-          (g.W.Write.contents c.if-is_wanted.writer) c.saturating_sub-time.ensures w.merge-is (ap g.W.Write.contents w.writer-is) wanted stops
+          fault c.args.now.now c.saturating_sub-time.result c.args.merge.now c.if-covers.merge (g.W.Write.contents c.args.writer.now)
+          (g.W.Write.contents c.if-covers.writer) c.saturating_sub-time.ensures w.merge-is (ap g.W.Write.contents w.writer-is) wanted stops
     ]) c.advance.ensures.stops

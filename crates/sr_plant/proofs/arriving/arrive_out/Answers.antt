@@ -3,14 +3,14 @@ use Rattle.sr_node.specs.Arriving.{arrival_answer}
 use Rattle.sr_node.specs.Images.{time_at}
 use Rattle.sr_node.specs.Octets.{OctetsRefused}
 use Rattle.sr_node.specs.States.{state_of}
-use Rattle.sr_plant.specs.PortFramings.{framed}
+use Rattle.sr_forwarding.specs.PortFramings.{carried_as}
 use Rattle.sr_plant.proofs.GivenLemmas.{arrived_few}
 use Rattle.sr_plant.proofs.LandLemmas.{fails, loses}
 use Rattle.sr_plant.proofs.arriving.arrive_out.Goals as goal
 
 pub returns-in-Err-clause-err : goal.returns-in-Err-clause-err
 returns-in-Err-clause-err g c =
-    let framing = framed c.args.framing in
+    let framing = carried_as c.args.framing in
     let s = state_of g.R.Role.meaning c.args.node.now in
     let a = c.args.arriving.now in
     let refused = subst (λ (octets : List ℕ). OctetsRefused framing s a.port octets c.args.now c.in-Err.fault) c.octets.ensures.whole c.in-Err.ensures.err in
@@ -18,7 +18,7 @@ returns-in-Err-clause-err g c =
 
 pub returns-in-Err-clause-ok : goal.returns-in-Err-clause-ok
 returns-in-Err-clause-ok g c =
-    let framing = framed c.args.framing in
+    let framing = carried_as c.args.framing in
     let s = state_of g.R.Role.meaning c.args.node.now in
     let a = c.args.arriving.now in
     let refused = subst (λ (octets : List ℕ). OctetsRefused framing s a.port octets c.args.now c.in-Err.fault) c.octets.ensures.whole c.in-Err.ensures.err in

@@ -1,7 +1,7 @@
 use Rattle.std.proofs.Common.{◌≡◌, ap, ◌∙◌, arith}
 use Rattle.sr_frame.specs.declared.fields.Mac.{Mac}
 use Rattle.sr_forwarding.specs.RoleImages.{role_of}
-use Rattle.sr_forwarding.specs.declared.role_image.RoleKind.{RoleKind}
+use Rattle.sr_forwarding.specs.declared.kind.RoleKind.{RoleKind}
 use Rattle.sr_node.specs.Images.{begun, node_state}
 use Rattle.sr_plant.specs.Topologies.{kind_of}
 use Rattle.sr_plant_script.specs.Members.{new_node, routed_as}
@@ -9,7 +9,7 @@ use Rattle.sr_plant_script.proofs.NewPlants.{are_members, nodes_more}
 use Rattle.sr_plant_script.proofs.network.new_nodes.Goals as goal
 
 pub of-routing-requires : goal.of-routing-requires
-of-routing-requires c = rw c.kind_of.ensures (are_members c.args.topology c.args.count c.requires.joined c.loop-number.number)
+of-routing-requires c = rw c.kind_of.ensures (are_members c.args.topology c.loop-number.number)
 
 pub loop-number-preserved : goal.loop-number-preserved
 loop-number-preserved c =

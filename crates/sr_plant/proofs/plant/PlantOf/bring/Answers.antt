@@ -7,7 +7,6 @@ use Rattle.sr_plant.specs.Plants.{IsEmptied}
 use Rattle.sr_plant.specs.Steps.{Fails, without}
 use Rattle.sr_plant.proofs.ActLemmas.{each_at, joined_for, put_back, node_acted}
 use Rattle.sr_plant.proofs.CarryLemmas.{copy_within, receiver_inside, receiver_there, carry_fails, taken_comes, lost_goes, carried_in_order}
-use Rattle.sr_plant.proofs.OrderLemmas.{nets_fit}
 use Rattle.sr_plant.proofs.plant.PlantOf.bring.Goals as goal
 
 pub arrive_out-requires : goal.arrive_out-requires
@@ -98,9 +97,6 @@ returns-in_default-clause-ok g c =
 pub returns-in_default-clause-in_order : goal.returns-in_default-clause-in_order
 returns-in_default-clause-in_order g c =
     carried_in_order (plant_state g.R.Role.meaning c.args.self.now) c.args.place _ c.requires.in_order (returns-in_default-clause-ok g c)
-
-pub framing_of-framing-requires : goal.framing_of-framing-requires
-framing_of-framing-requires g c = nets_fit c.args.self.now.topology _ c.requires.in_order.joined
 
 pub put-requires-clause-joined : goal.put-requires-clause-joined
 put-requires-clause-joined g c =

@@ -5,7 +5,6 @@ use Rattle.sr_plant.specs.Plants.{plant_of}
 use Rattle.sr_plant.specs.Steps.{without}
 use Rattle.sr_plant.specs.Carrying.{OneComesAs}
 use Rattle.sr_plant.proofs.CarryLemmas.{none_goes, carried_in_order}
-use Rattle.sr_plant.proofs.OrderLemmas.{nets_fit}
 use Rattle.sr_plant.proofs.plant.PlantOf.carry.Goals as goal
 
 pub returns-in_default : goal.returns-in_default
@@ -28,6 +27,3 @@ pub bring-requires-clause-there : goal.bring-requires-clause-there
 bring-requires-clause-there g c =
     let p = c.args.self.now in
     subst (λ (o : Option Arriving). OneComesAs p.topology p.traffic.flight.copies c.args.place o) c.in-Some.is c.in_ok-arriving.ensures
-
-pub arriving-requires-clause-nets : goal.arriving-requires-clause-nets
-arriving-requires-clause-nets g c = nets_fit c.args.self.now.topology _ c.requires.joined

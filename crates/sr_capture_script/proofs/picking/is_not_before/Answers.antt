@@ -1,5 +1,0 @@
-use Rattle.std.proofs.Common.{rules}
-use Rattle.sr_capture_script.proofs.picking.is_not_before.Goals as goal
-
-pub returns-in-Some : goal.returns-in-Some
-returns-in-Some c = search rules

@@ -1,5 +1,0 @@
-use Rattle.std.proofs.Common.{rules}
-use Rattle.sr_capture_script.proofs.pieces.time_since.Goals as goal
-
-pub returns : goal.returns
-returns c = search rules

@@ -1,5 +1,0 @@
-use Rattle.std.proofs.Common.{rules}
-use Rattle.sr_forwarding.proofs.role_image.RoleKind.wants_all_but_owned.Goals as goal
-
-pub returns-in-San : goal.returns-in-San
-returns-in-San c = search rules
