@@ -1,21 +1,17 @@
 -- What a plan puts together is a plan, and a frame that passed as its plan says went as a frame that comes in goes.
-use Rattle.std.proofs.Common.{◌≡◌, ℕ, Bool, Option, None, Some, refl, sym, ap, ◌∙◌, subst}
+use Rattle.std.proofs.Common.{◌≡◌, ℕ, Option, None, Some, refl, sym, ap, ◌∙◌, subst}
 use Rattle.sr_frame.specs.declared.ports.Port.{Port}
-use Rattle.sr_frame.specs.declared.ports.Port.TheVariants.{H, A, B, C}
 use Rattle.sr_supervision.specs.declared.message.Supervision.{Supervision}
 use Rattle.sr_forwarding.specs.declared.header.Header.{Header}
-use Rattle.sr_forwarding.specs.declared.role_image.RoleImage.{RoleImage}
-use Rattle.sr_forwarding.specs.declared.kind.RoleKind.{RoleKind}
-use Rattle.sr_forwarding.specs.declared.kind.RoleKind.TheVariants.{Danp, Danh, San, Prp, Hsr}
 use Rattle.sr_forwarding.specs.Headers.{header_of}
 use Rattle.sr_forwarding.specs.Outlets.{listed}
 use Rattle.sr_forwarding.specs.Parcels.{ParcelImage}
-use Rattle.sr_forwarding.specs.Proxies.{learned_at, learned}
+use Rattle.sr_forwarding.specs.Proxies.{learned}
 use Rattle.sr_forwarding.specs.Routes.{routes}
 use Rattle.sr_node.specs.declared.passing.Passing.{Passing}
 use Rattle.sr_node.specs.declared.passing.Plan.TheVariants.{Pass}
 use Rattle.sr_slots.specs.Places.{IsFound}
-use Rattle.sr_node.specs.Arriving.{dst_known, header_told, header_at, wanted_at, going_on, next_at, full_fault, outlets_fault, arrive_refusal, passed, PassedTo, Arrived, arrival_answer, wrong_lan_after}
+use Rattle.sr_node.specs.Arriving.{header_told, header_at, wanted_at, going_on, next_at, full_fault, outlets_fault, arrive_refusal, passed, PassedTo, Arrived, arrival_answer, wrong_lan_after}
 use Rattle.sr_node.specs.Outboxes.{first_full}
 use Rattle.sr_node.specs.Copies.{copies_for, put_copies}
 use Rattle.sr_node.specs.Hearing.{SaysOf, number_heard, announced, nodes_heard, nodes_told}
@@ -23,26 +19,13 @@ use Rattle.sr_node.specs.Images.{State}
 use Rattle.sr_node.specs.Lanes.{sources_after}
 use Rattle.sr_node.specs.Plans.{new_to, IsAdmitted, IsObserved, IsOfNetwork, IsPassing, ArrivalIs, passed_as}
 
--- whether the destination is known is nothing that a role learns of
-learned_told : (k : RoleKind) (inlet : Port) (r : RoleImage) (h : Header) (known : Bool) (now : ℕ)
-    → learned_at k inlet r h now ≡ learned_at k inlet r (record h { dst_known = known }) now
-learned_told Danp inlet r h known now = refl
-learned_told Danh inlet r h known now = refl
-learned_told San H r h known now = refl
-learned_told San A r h known now = refl
-learned_told San B r h known now = refl
-learned_told San C r h known now = refl
-learned_told (Prp lan net) inlet r h known now = refl
-learned_told Hsr inlet r h known now = refl
-
 passed_same : (s : State) (f : Passing) (p : ParcelImage) (is : IsPassing s p f)
     → passed_as s f p ≡ passed s f.arrival.inlet p f.arrival.next f.arrival.moment f.outlets is.said
 passed_same s f p is =
     let a = f.arrival in
     let read = is.other.read in
-    let role : learned s.role a.header a.inlet a.moment ≡ learned s.role (header_at s p a.moment) a.inlet a.moment =
-    ap (λ h. learned s.role h a.inlet a.moment) read
-    ∙ learned_told s.role.kind a.inlet s.role (header_of p) (dst_known s (header_of p).dst a.moment) a.moment in
+    let role : learned s.role (header_told s a.header a.moment) a.inlet a.moment ≡ learned s.role (header_at s p a.moment) a.inlet a.moment =
+    ap (λ h. learned s.role (header_told s h a.moment) a.inlet a.moment) read in
     let wanted : a.wanted ≡ wanted_at s a.inlet p a.moment =
     is.other.wanted ∙ ap (λ h. routes s.role (header_told s h a.moment) a.inlet a.moment) read in
     let number : f.observations.number ≡ number_heard s.role a.inlet (header_of p).src p.seq a.moment =

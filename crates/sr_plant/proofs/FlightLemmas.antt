@@ -7,8 +7,8 @@ use Rattle.std.specs.List.{filter, remove}
 use Rattle.slab.specs.Slab.{Slab, get, Updates}
 use Rattle.sr_plant_laws.specs.Lists.{how_many}
 use Rattle.sr_plant_laws.specs.ListLemmas.{count_append}
-use Rattle.sr_plant.specs.declared.keeping.Kept.{Kept}
-use Rattle.sr_plant.specs.declared.flight.Flying.{Flying}
+use Rattle.sr_plant.specs.declared.flight.parcels.Kept.{Kept}
+use Rattle.sr_plant.specs.declared.flight.copies.Flying.{Flying}
 use Rattle.sr_plant.specs.Copies.{Copy, is_on}
 use Rattle.sr_plant.specs.Flights.{copies_of, parcel_of, is_of, AreCounted, AreUsed, AreUsedBut, copy_in, copies_in}
 use Rattle.sr_plant.proofs.ListLemmas.{split_at}

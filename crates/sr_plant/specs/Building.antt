@@ -1,6 +1,6 @@
 -- Of what nodes a plant is made, and how it begins.
 use Rattle.std.specs.Prelude.{ℕ, suc, ◌+◌, Bool, true, false, not, ◌&&◌, ◌==◌, nat_le, nat_lt, Option}
-use Rattle.std.specs.Prelude.{None, Some, List, [], ◌∷◌, length, replicate}
+use Rattle.std.specs.Prelude.{None, Some, List, [], ◌∷◌, length, replicate, ◌≡◌, Result, IfOk, OnOk, IfErr}
 use Rattle.std.specs.List.{list_any}
 use Rattle.sr_frame.specs.declared.fields.Mac.{Mac}
 use Rattle.sr_frame.specs.Addresses.{mac_eq}
@@ -19,7 +19,7 @@ use Rattle.sr_plant.specs.declared.fault.PlantFault.{PlantFault}
 use Rattle.sr_plant.specs.declared.fault.PlantFault.TheVariants.{BadPlant, NoMemory}
 use Rattle.sr_plant.specs.Limits.{fewest_nodes, most_nodes, fewest_with_boxes, most_in_lans}
 use Rattle.sr_plant.specs.Topologies.{link_count, kind_of}
-use Rattle.sr_plant.specs.Plants.{Plant}
+use Rattle.sr_plant.specs.Plants.{Plant, IsInOrder}
 
 abbrev pub is_lan : Lan → Lan → Bool
 is_lan lan.A lan.A = true
@@ -30,52 +30,52 @@ abbrev pub is_empty : List ParcelImage → Bool
 is_empty [] = true
 is_empty (p ∷ ps) = false
 
--- no frame waits at an outlet
+-- No frame waits at an outlet.
 abbrev pub has_nothing_waiting : Outboxes → Bool
 has_nothing_waiting o = is_empty o.h && is_empty o.a && is_empty o.b && is_empty o.c
 
--- node k of a plant of this topology
+-- The node can be node k of a plant of this topology.
 abbrev pub is_fit : Topology → ℕ → State → Bool
 is_fit topology k n = kind.ghosts.eq n.role.kind (kind_of topology k) && has_nothing_waiting n.core.out
 
--- these are its nodes from k on
+-- The nodes can be those of a plant of this topology from place k on.
 abbrev pub are_fit : Topology → ℕ → List State → Bool
 are_fit topology k [] = true
 are_fit topology k (n ∷ ns) = is_fit topology k n && are_fit topology (suc k) ns
 
--- a node has this address
+-- One of the nodes has this address.
 abbrev pub has_address : Mac → List State → Bool
 has_address mac ns = list_any (λ n. mac_eq n.role.mac mac) ns
 
--- no node of the ones has the address of one of the others
+-- No node of the first list has the address of one of the second.
 abbrev pub are_apart_from : List State → List State → Bool
 are_apart_from [] others = true
 are_apart_from (n ∷ ns) others = not (has_address n.role.mac others) && are_apart_from ns others
 
--- no two nodes have one address
+-- No two nodes have one address.
 abbrev pub are_apart : List State → Bool
 are_apart [] = true
 are_apart (n ∷ ns) = not (has_address n.role.mac ns) && are_apart ns
 
--- not fewer and not more
+-- The number is not below the fewest and not above the most.
 abbrev pub is_between : ℕ → ℕ → ℕ → Bool
 is_between fewest most n = nat_le fewest n && nat_le n most
 
--- the boxes of the two LANs are two nodes of the ring
+-- The boxes of the two LANs are two nodes of the ring.
 abbrev pub has_boxes : RingLanShape → Bool
 has_boxes s = nat_lt s.box_a s.ring && nat_lt s.box_b s.ring && not (s.box_a == s.box_b)
 
--- from a box of the left ring to one of the right
+-- The join leads from a node of the left ring to one of the right ring.
 abbrev pub is_join : TwoRingsShape → Join → Bool
 is_join s j = nat_lt j.left s.left && nat_le s.left j.right && nat_lt j.right (s.left + s.right)
 
--- the second join, if there is one, joins two other boxes
+-- The second join, if there is one, joins two other nodes than the first.
 abbrev pub is_second_join : TwoRingsShape → Option Join → Bool
 is_second_join s None = true
 is_second_join s (Some j) = is_join s j && not (j.left == s.first.left) && not (j.right == s.first.right)
 
--- So many nodes are joined so: 2 to 16 in a ring or in two LANs; 3 to 16 in a ring with 1 to 14 in LANs behind it; 2 to 16 in each of two
--- rings.
+-- So many nodes make such a network: 2 to 16 in a ring or in two LANs; 3 to 16 in a ring with 1 to 14 in LANs behind it; 2 to 16 in each of
+-- two rings.
 abbrev pub is_size : Topology → ℕ → Bool
 is_size Ring n = is_between fewest_nodes most_nodes n
 is_size TwinLan n = is_between fewest_nodes most_nodes n
@@ -85,22 +85,22 @@ is_size (TwoRings s) n =
     is_between fewest_nodes most_nodes s.left && is_between fewest_nodes most_nodes s.right && s.left + s.right == n
     && is_join s s.first && is_second_join s s.second
 
--- of these nodes a plant is made: so many as are joined so, each with an address of its own, of its kind in the topology, and with no frame
--- waiting
+-- A plant is made of these nodes: they are as many as the topology joins, each has an address of its own and the kind that the topology has
+-- at its place, and no frame waits in it.
 abbrev pub is_plant : Topology → List State → Bool
 is_plant topology ns = is_size topology (length ns) && are_fit topology 0 ns && are_apart ns
 
--- no list is longer than that of a ring
+-- Neither list has more nodes than a ring may have.
 abbrev pub are_few : List State → List State → Bool
 are_few ns ms = nat_le (length ns) most_nodes && nat_le (length ms) most_nodes
 
--- of the nodes of two lists a plant is made, the second ones behind the first
+-- A plant is made of the nodes of two lists, those of the second behind those of the first.
 abbrev pub is_plant_of_both : Topology → List State → List State → Bool
 is_plant_of_both topology ns ms =
     is_size topology (length ns + length ms) && are_fit topology 0 ns && are_fit topology (length ns) ms
     && are_apart ns && are_apart ms && are_apart_from ns ms
 
--- a new plant of them: nothing is in flight, no link is cut, and nothing was handed up
+-- A new plant of these nodes: nothing is in flight, no link is cut, and nothing was handed up.
 abbrev pub opening : Topology → List State → Plant
 opening topology ns = record {
   topology = topology;
@@ -111,7 +111,14 @@ opening topology ns = record {
   handed = replicate (length ns) [];
 }
 
--- why a plant is not made
+-- Why a plant is not made: its nodes make none, or an allocation failed.
 abbrev pub plant_fault : Bool → PlantFault
 plant_fault true = NoMemory
 plant_fault false = BadPlant
+
+-- A network is made of these nodes, and begins in order, only where they make a plant; else the fault says why not.
+pub record MakesPlant {T : Type 0} (result : Result T PlantFault) (plant : T → Plant) (topology : Topology) (ns : List State) : Type 0 where
+  pub begun : IfOk result (λ made. plant made ≡ opening topology ns)
+  pub in_order : IfOk result (λ made. IsInOrder (plant made))
+  pub ok : OnOk result (is_plant topology ns ≡ true)
+  pub err : IfErr result (λ fault. fault ≡ plant_fault (is_plant topology ns))

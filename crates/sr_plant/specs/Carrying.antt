@@ -12,7 +12,7 @@ use Rattle.sr_node.specs.Octets.{OctetsArrived, OctetsRefused}
 use Rattle.sr_plant.specs.declared.topology.Topology.{Topology}
 use Rattle.sr_plant.specs.declared.fault.PlantFault.{PlantFault}
 use Rattle.sr_plant.specs.declared.fault.PlantFault.TheVariants.{Node, NoMemory}
-use Rattle.sr_plant.specs.declared.giving.Given.{Given}
+use Rattle.sr_plant.specs.declared.node_step.Given.{Given}
 use Rattle.sr_plant.specs.declared.arriving.Arriving.{Arriving}
 use Rattle.sr_plant.specs.declared.arriving.Landing.{Landing}
 use Rattle.sr_plant.specs.declared.arriving.Landing.TheVariants.{Lost, Taken}
@@ -21,22 +21,22 @@ use Rattle.sr_plant.specs.Copies.{Copy}
 use Rattle.sr_plant.specs.Given.{GivesOut}
 use Rattle.sr_plant.specs.Steps.{is_loss}
 
--- so a copy comes to its receiver: as octets at a port of a node
+-- A copy comes to its receiver as these octets, at this port of this node.
 pub record IsHeaded (t : Topology) (c : Copy) (a : Arriving) : Type 0 where
   pub node : a.node ≡ c.hop.to.node
   pub port : a.port ≡ c.hop.to.port
   pub written : IsWritten (framing_of t c.from c.outlet) c.parcel.form c.parcel a.octets
 
--- or not at all, where its outlet has no octets for it
+-- A copy comes to its receiver like this, or not at all where its outlet has no octets for it.
 abbrev pub ComesAs : Topology → Copy → Option Arriving → Type 0
 ComesAs t c None = (fault : ReadFault) × (write_fault (framing_of t c.from c.outlet) c.parcel ≡ Some fault)
 ComesAs t c (Some a) = IsHeaded t c a
 
--- so the copy at a place comes
+-- The copy at a place comes to its receiver like this.
 abbrev pub OneComesAs : Topology → List Copy → ℕ → Option Arriving → Type 0
 OneComesAs t cs place a = (c : Copy) × (slice_get cs place ≡ Some c) × ComesAs t c a
 
--- a node takes octets, which its port carries so, and is emptied
+-- A node takes octets at a port with this framing, and is emptied.
 pub record TakesOut (framing : FramingImage) (s : State) (port : Port) (octets : List ℕ) (now : ℕ) (given : Given)
     (before up_after : List ParcelImage) (u : State) : Type 0 where
   pub answer : Answer
@@ -44,7 +44,7 @@ pub record TakesOut (framing : FramingImage) (s : State) (port : Port) (octets :
   pub taken : OctetsArrived framing s port octets now answer after
   pub gives : GivesOut after given before up_after u
 
--- a node refuses octets so that they are lost, and stays as it is
+-- A node refuses octets, which are lost, and stays as it is.
 pub record LosesThem (framing : FramingImage) (s : State) (port : Port) (octets : List ℕ) (now : ℕ) (before up_after : List ParcelImage)
     (u : State) : Type 0 where
   pub fault : StepFault
@@ -53,12 +53,12 @@ pub record LosesThem (framing : FramingImage) (s : State) (port : Port) (octets 
   pub same : u ≡ s
   pub up : up_after ≡ before
 
--- so octets come to a node: they are lost, or it takes them
+-- What becomes of octets at a node: they are lost, or the node takes them.
 abbrev pub Lands : FramingImage → State → Port → List ℕ → ℕ → Landing → List ParcelImage → List ParcelImage → State → Type 0
 Lands framing s port octets now Lost before up_after u = LosesThem framing s port octets now before up_after u
 Lands framing s port octets now (Taken given) before up_after u = TakesOut framing s port octets now given before up_after u
 
--- why octets come to no node: a growth was refused, or the node refuses them and they are not lost
+-- Why octets can't come to a node: an allocation failed, or the node refuses them with a fault that is not the copy's.
 abbrev pub FailsToLand : FramingImage → State → Port → List ℕ → ℕ → PlantFault → Type 0
 FailsToLand framing s port octets now f =
     (f ≡ NoMemory)

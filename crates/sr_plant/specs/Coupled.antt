@@ -16,29 +16,29 @@ use Rattle.sr_plant.specs.declared.topology.Topology.{Topology}
 use Rattle.sr_plant.specs.declared.topology.Topology.TheVariants.{RingLan, TwoRings}
 use Rattle.sr_plant.specs.Building.{is_lan}
 
--- a node of this kind is a box of this LAN, or one between two rings
+-- A node of this kind is a box of this LAN, or a box between two rings.
 abbrev pub is_sought : Sought → RoleKind → Bool
 is_sought (LanBox l) (Prp m net) = is_lan l m
 is_sought RingBox Hsr = true
 is_sought sought kind = false
 
--- of nodes that stand from place k on, the place of the first such box at this place or behind it, else the place behind them all
+-- Of nodes from place k on, the place of the first such box at `from` or behind it, else the place behind all nodes.
 abbrev pub box_place : Sought → ℕ → ℕ → List State → ℕ
 box_place sought from k [] = k
 box_place sought from k (n ∷ ns) =
     if nat_le from k && is_sought sought n.role.kind then k else box_place sought from (suc k) ns
 
--- the network of a box, and network 1 at any other node
+-- The network of a box, and network 1 at any other node.
 abbrev pub network_of : RoleKind → NetId
 network_of (Prp lan net) = net
 network_of kind = One
 
--- the network of a node, if there is one
+-- The network of the node at a place, if there is one, else network 1.
 abbrev pub network_in : Option State → NetId
 network_in None = One
 network_in (Some n) = network_of n.role.kind
 
--- the first box of LAN A and the first of LAN B, of the nodes of the ring, join it with the LANs
+-- The first box of LAN A and the first of LAN B among the nodes of the ring join the ring with the LANs.
 abbrev pub ring_lan_shape : List State → List State → RingLanShape
 ring_lan_shape ring behind = record {
   ring = length ring;
@@ -51,18 +51,18 @@ ring_lan_shape ring behind = record {
 abbrev pub ring_lan_of : List State → List State → Topology
 ring_lan_of ring behind = RingLan (ring_lan_shape ring behind)
 
--- the places of the first box between rings, and of the second
+-- The places of the first box between rings, and of the second.
 abbrev pub first_box : List State → ℕ
 first_box ns = box_place RingBox 0 0 ns
 
 abbrev pub second_box : List State → ℕ
 second_box ns = box_place RingBox (suc (first_box ns)) 0 ns
 
--- the second boxes of both rings are joined where both have one
+-- The second boxes of both rings are joined where both rings have one.
 abbrev pub second_of : ℕ → ℕ → ℕ → ℕ → Option Join
 second_of left right l r = if nat_lt l left && nat_lt r right then Some (record { left = l; right = left + r }) else None
 
--- the first boxes of both rings are joined, and the second ones
+-- The first boxes of both rings are joined, and so are the second ones.
 abbrev pub two_rings_shape : List State → List State → TwoRingsShape
 two_rings_shape left right = record {
   left = length left;

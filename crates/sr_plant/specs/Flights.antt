@@ -5,11 +5,11 @@ use Rattle.sr_forwarding.specs.Parcels.{ParcelImage, plain_parcel}
 use Rattle.sr_plant_laws.specs.Ledger.{Hop as Step}
 use Rattle.sr_plant_laws.specs.Lists.{how_many}
 use Rattle.sr_plant.specs.declared.hop.Hop.{Hop}
-use Rattle.sr_plant.specs.declared.keeping.Kept.{Kept}
-use Rattle.sr_plant.specs.declared.flight.Flying.{Flying}
+use Rattle.sr_plant.specs.declared.flight.parcels.Kept.{Kept}
+use Rattle.sr_plant.specs.declared.flight.copies.Flying.{Flying}
 use Rattle.sr_plant.specs.Copies.{Copy}
 
--- of how many copies in flight a parcel is
+-- How many copies in flight a parcel has.
 abbrev pub copies_of : Option Kept → ℕ
 copies_of None = 0
 copies_of (Some k) = k.copies
@@ -18,29 +18,29 @@ abbrev pub parcel_of : Option Kept → ParcelImage
 parcel_of None = plain_parcel [] None
 parcel_of (Some k) = k.parcel
 
--- the copy has its parcel at this place
+-- The copy has its parcel at this place.
 abbrev pub is_of : ℕ → Flying → Bool
 is_of key f = f.key == key
 
--- the count that is kept with each parcel is that of its copies
+-- The count that is kept with each parcel is the number of its copies in flight.
 abbrev pub AreCounted : Slab Kept → List Flying → Type 0
 AreCounted kept fs = (key : ℕ) → how_many (is_of key) fs ≡ copies_of (get kept key)
 
--- each parcel that is kept has a copy in flight, but for the one at this place
+-- Each parcel that is kept has a copy in flight, the one at this place excepted.
 abbrev pub AreUsedBut : ℕ → Slab Kept → Type 0
 AreUsedBut place kept = (key : ℕ) → key ≢ place → IsSome (get kept key) → 0 < copies_of (get kept key)
 
--- each parcel that is kept has a copy in flight: none is kept longer than its last copy
+-- Each parcel that is kept has a copy in flight: no parcel is kept longer than its last copy.
 abbrev pub AreUsed : Slab Kept → Type 0
 AreUsed kept = (key : ℕ) → IsSome (get kept key) → 0 < copies_of (get kept key)
 
--- where it leads, and its links
+-- A hop as the laws of networks have it: where it leads, and its links.
 abbrev pub hop_of : Hop → Step
 hop_of h = record { to = record { node = h.node; port = h.port }; links = h.first ∷ option_to_list h.second }
 
 abbrev pub copy_in : Slab Kept → Flying → Copy
 copy_in kept f = record { hop = hop_of f.hop; from = f.from; outlet = f.outlet; parcel = parcel_of (get kept f.key) }
 
--- the copies as they are
+-- The copies in flight as data.
 abbrev pub copies_in : Slab Kept → List Flying → List Copy
 copies_in kept fs = map (copy_in kept) fs

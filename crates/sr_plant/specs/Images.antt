@@ -7,10 +7,10 @@ use Rattle.sr_node.specs.States.{state_of}
 use Rattle.sr_plant.specs.declared.plant.PlantOf.{PlantOf}
 use Rattle.sr_plant.specs.Plants.{Plant, plant_of}
 
--- nodes, where this is the image of each role
+-- The states of nodes, where `meaning` gives the image of each role.
 abbrev pub states_of : {R : Type 0} → (R → RoleImage) → List (NodeOf R) → List State
 states_of meaning ns = map (state_of meaning) ns
 
--- a plant, where this is the image of each role
+-- A plant as data, where `meaning` gives the image of each role.
 abbrev pub plant_state : {R : Type 0} → (R → RoleImage) → PlantOf R → Plant
 plant_state meaning p = plant_of p.topology (states_of meaning p.nodes.items) p.traffic (map (λ h. h.items) p.handed.items)

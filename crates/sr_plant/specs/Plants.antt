@@ -9,13 +9,13 @@ use Rattle.sr_plant.specs.Limits.{most_members}
 use Rattle.sr_plant.specs.Topologies.{link_count, kind_of, IsJoinedAs}
 use Rattle.sr_plant.specs.Copies.{Copy}
 
--- what clauses see of the copies in flight: the copies, and room for so many more parcels and copies
+-- What clauses see of the copies in flight: the copies, and room for so many more parcels and copies.
 pub record FlightValue : Type 0 where
   pub copies : List Copy
   pub parcels : ℕ
   pub places : ℕ
 
--- what clauses see of the traffic
+-- What clauses see of the traffic.
 pub record TrafficValue : Type 0 where
   pub flight : FlightValue
   pub cut : List Bool
@@ -41,11 +41,11 @@ plant_of topology nodes traffic handed = record {
   handed = handed;
 }
 
--- nothing waits at an outlet of the node
+-- Nothing waits at an outlet of the node.
 abbrev pub IsEmptied : State → Type 0
 IsEmptied s = s.core.out ≡ boxes_empty
 
--- each node is of the kind that its topology has there
+-- Each node is of the kind that the topology has at its place.
 abbrev pub AreKinds : Topology → List State → Type 0
 AreKinds t ns = (k : ℕ) (n : State) → slice_get ns k ≡ Some n → n.role.kind ≡ kind_of t k
 

@@ -19,54 +19,54 @@ use Rattle.sr_plant.specs.declared.topology.Topology.TheVariants.{Ring, TwinLan,
 use Rattle.sr_plant.specs.Topologies.{net_of, joins_of}
 use Rattle.sr_plant.specs.Copies.{Copy, is_stopped}
 
--- node k puts a parcel out at an outlet, over a hop
+-- The copy of a parcel that node k puts out at an outlet, over a hop.
 abbrev pub copy_over : ℕ → Port → ParcelImage → Hop → Copy
 copy_over k o p h = record { hop = h; from = k; outlet = o; parcel = p }
 
--- of n nodes, node k puts a parcel out at an outlet: a copy for each hop from there
+-- The copies of a parcel that node k of n nodes puts out at an outlet: one for each hop from there.
 abbrev pub copies_put : Topology → ℕ → ℕ → Port → ParcelImage → List Copy
 copies_put t n k o p = map (copy_over k o p) (net_of t n k o)
 
--- all that waits at an outlet, in its order
+-- The copies of all that waits at an outlet, in its order.
 abbrev pub all_put : Topology → ℕ → ℕ → Port → List ParcelImage → List Copy
 all_put t n k o [] = []
 all_put t n k o (p ∷ ps) = copies_put t n k o p ++ all_put t n k o ps
 
--- outlet after outlet, in the order A, B, C
+-- The copies of all that a node puts out: outlet after outlet, in the order A, B, C.
 abbrev pub put_out : Topology → ℕ → ℕ → Outboxes → List Copy
 put_out t n k out = all_put t n k A out.a ++ (all_put t n k B out.b ++ all_put t n k C out.c)
 
--- what is put on a link that is cut is lost
+-- The copies that are put on no link that is cut. The others are lost.
 abbrev pub those_passing : List Bool → List Copy → List Copy
 those_passing cut cs = filter (λ c. not (is_stopped cut c)) cs
 
--- round a ring of n nodes, from a port of node k to node j
+-- The hop round a ring of n nodes, from a port of node k to node j.
 abbrev pub ring_hop_to : ℕ → ℕ → Port → ℕ → Option Hop
 ring_hop_to n k H j = None
 ring_hop_to n k A j = if j == beyond n backward k then Some (record { to = record { node = j; port = B }; links = j ∷ [] }) else None
 ring_hop_to n k B j = if j == beyond n onward k then Some (record { to = record { node = j; port = A }; links = k ∷ [] }) else None
 ring_hop_to n k C j = None
 
--- through two LANs of n nodes
+-- The hop through two LANs of n nodes, from a port of node k to node j.
 abbrev pub twin_hop_to : ℕ → ℕ → Port → ℕ → Option Hop
 twin_hop_to n k H j = None
 twin_hop_to n k A j = if j == k then None else Some (record { to = record { node = j; port = A }; links = (0 + k) ∷ (0 + j) ∷ [] })
 twin_hop_to n k B j = if j == k then None else Some (record { to = record { node = j; port = B }; links = (n + k) ∷ (n + j) ∷ [] })
 twin_hop_to n k C j = None
 
--- through a LAN behind a ring of so many nodes: from node k, on its own link, to node j at this port, on that node's
+-- The hop through a LAN behind a ring of so many nodes: from node k, on its own link, to this port of node j, on the link of node j.
 abbrev pub lan_hop_to : ℕ → Port → ℕ → ℕ → ℕ → ℕ → Option Hop
 lan_hop_to ring port own first k j =
     if nat_lt j ring then None
     else if j == k then None
     else Some (record { to = record { node = j; port = port }; links = own ∷ (first + j) ∷ [] })
 
--- from a node of the LANs, to the box of this LAN on the box's link, or to another node of them
+-- The hop from a node of the LANs to the box of this LAN, on the link of the box, or to another node of the LANs.
 abbrev pub to_box_or_lan : ℕ → ℕ → ℕ → Port → ℕ → ℕ → ℕ → ℕ → Option Hop
 to_box_or_lan ring box over port own first k j =
     if j == box then Some (record { to = interlink_of box; links = own ∷ over ∷ [] }) else lan_hop_to ring port own first k j
 
--- over the link between two boxes, from node k to node j; links are numbered in the order of the joins
+-- The hop over the link between two boxes, from node k to node j. Links are numbered in the order of the joins.
 abbrev pub over_to : ℕ → List (ℕ × ℕ) → ℕ → ℕ → Option Hop
 over_to link [] k j = None
 over_to link (x ∷ xs) k j =
@@ -74,11 +74,11 @@ over_to link (x ∷ xs) k j =
     else if k == x.1 then (if j == x.0 then Some (record { to = interlink_of x.0; links = link ∷ [] }) else None)
     else over_to (link + 1) xs k j
 
--- a hop to a node of the right ring, where this says those of a ring by itself
+-- The hop to a node of the right ring, where `to` gives the hops of that ring by itself.
 abbrev pub beyond_left : ℕ → (ℕ → Option Hop) → ℕ → Option Hop
 beyond_left left to j = if nat_lt j left then None else option_map (shifted left) (to (j - left))
 
--- round the ring and through the LANs behind it
+-- The hop round a ring, or through the LANs behind it.
 abbrev pub ring_lan_hop_to : RingLanShape → ℕ → Port → ℕ → Option Hop
 ring_lan_hop_to s k H j = None
 ring_lan_hop_to s k A j =
@@ -91,7 +91,7 @@ ring_lan_hop_to s k C j =
     else if k == s.box_b then lan_hop_to s.ring B (s.ring + 2 * s.lan + 1) (s.lan + 1) k j
     else None
 
--- round two rings, and from one to the other
+-- The hop round one of two rings, or from one ring to the other.
 abbrev pub two_rings_hop_to : TwoRingsShape → ℕ → Port → ℕ → Option Hop
 two_rings_hop_to s k H j = None
 two_rings_hop_to s k A j =
@@ -100,14 +100,14 @@ two_rings_hop_to s k B j =
     if nat_lt k s.left then ring_hop_to s.left k B j else beyond_left s.left (ring_hop_to s.right (k - s.left) B) j
 two_rings_hop_to s k C j = over_to (s.left + s.right) (joins_of s) k j
 
--- the hop from there to node j, if there is one
+-- The hop from an outlet of node k of n nodes to node j, if there is one.
 abbrev pub hop_to : Topology → ℕ → ℕ → Port → ℕ → Option Hop
 hop_to Ring n k o j = ring_hop_to n k o j
 hop_to TwinLan n k o j = twin_hop_to n k o j
 hop_to (RingLan s) n k o j = ring_lan_hop_to s k o j
 hop_to (TwoRings s) n k o j = two_rings_hop_to s k o j
 
--- the hops to the nodes below m
+-- The hops to the nodes below m.
 abbrev pub hops_below : (ℕ → Option Hop) → ℕ → List Hop
 hops_below to zero = []
 hops_below to (suc m) = hops_below to m ++ option_to_list (to m)

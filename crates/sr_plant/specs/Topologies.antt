@@ -17,7 +17,7 @@ use Rattle.sr_plant.specs.declared.shapes.Join.{Join}
 use Rattle.sr_plant.specs.declared.topology.Topology.{Topology}
 use Rattle.sr_plant.specs.declared.topology.Topology.TheVariants.{Ring, TwinLan, RingLan, TwoRings}
 
--- a ring with two LANs, as the laws of networks have it
+-- A ring with two LANs, as the laws of networks have it.
 abbrev pub lan_shape : RingLanShape → Shape
 lan_shape s = record { ring = s.ring; lan = s.lan; box_a = s.box_a; box_b = s.box_b }
 
@@ -31,7 +31,7 @@ second_join (Some j) = joined_pair j ∷ []
 abbrev pub joins_of : TwoRingsShape → List (ℕ × ℕ)
 joins_of s = joined_pair s.first ∷ second_join s.second
 
--- two rings, as the laws of networks have them
+-- Two rings, as the laws of networks have them.
 abbrev pub two_shape : TwoRingsShape → TwoShape
 two_shape s = record { left = s.left; right = s.right; joins = joins_of s }
 
@@ -45,14 +45,14 @@ net_of TwinLan n = twin_lans n
 net_of (RingLan s) n = ring_lan (lan_shape s)
 net_of (TwoRings s) n = two_rings (two_shape s)
 
--- how many links there are
+-- How many links there are.
 abbrev pub link_count : Topology → ℕ → ℕ
 link_count Ring n = n
 link_count TwinLan n = n + n
 link_count (RingLan s) n = s.ring + 2 * s.lan + 2
 link_count (TwoRings s) n = s.left + s.right + length (joins_of s)
 
--- a box of LAN A, a box of LAN B, or a doubly attached node, of the ring
+-- The kind of node k of the ring: a box of LAN A, a box of LAN B, or a doubly attached node.
 abbrev pub kind_in_ring : RingLanShape → ℕ → RoleKind
 kind_in_ring s k = if k == s.box_a then Prp lan.A s.net else if k == s.box_b then Prp lan.B s.net else Danh
 
@@ -64,22 +64,22 @@ kind_of TwinLan k = Danp
 kind_of (RingLan s) k = if nat_lt k s.ring then kind_in_ring s k else Danp
 kind_of (TwoRings s) k = if is_joined (joins_of s) k then Hsr else Danh
 
--- how frames are carried at a port of node k
+-- How frames are carried at a port of node k.
 abbrev pub framing_of : Topology → ℕ → Port → FramingImage
 framing_of t k port = carriage (kind_of t k) port
 
--- a ring and LANs of so many nodes together, whose boxes are two of the ring
+-- The ring and the LANs have so many nodes together, and the boxes are nodes of the ring.
 pub record IsRingLan (s : RingLanShape) (n : ℕ) : Type 0 where
   pub sum : s.ring + s.lan ≡ n
   pub a_inside : s.box_a < s.ring
   pub b_inside : s.box_b < s.ring
 
--- two rings of so many nodes together, whose joins lead from the left to the right
+-- The two rings have so many nodes together, and their joins lead from the left ring to the right one.
 pub record AreTwoRings (s : TwoRingsShape) (n : ℕ) : Type 0 where
   pub sum : s.left + s.right ≡ n
   pub joins : AreJoins (two_shape s) (joins_of s)
 
--- so many nodes are joined so
+-- So many nodes can be joined like this.
 abbrev pub IsJoinedAs : Topology → ℕ → Type 0
 IsJoinedAs Ring n = Unit {0}
 IsJoinedAs TwinLan n = Unit {0}

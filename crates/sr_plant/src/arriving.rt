@@ -1,18 +1,19 @@
 //! Copies come to their receivers.
 
-ghost use Rattle.std.specs.Prelude.{◌≡◌, true, false, IfOk, IfErr, OnErr};
+ghost use Rattle.std.specs.Prelude.{◌≡◌, true, false, Some, IfOk, IfErr, OnOk, OnErr};
 ghost use Rattle.sr_node.specs.Arriving.{arrival_answer};
 ghost use Rattle.sr_node.specs.Octets.{OctetsArrived, OctetsRefused};
 ghost use Rattle.sr_node.specs.States.{state_of};
 ghost use Rattle.sr_forwarding.specs.PortFramings.{carried_as};
-ghost use Rattle.sr_plant.specs.Plants.{IsEmptied};
-ghost use Rattle.sr_plant.specs.Steps.{is_loss};
+ghost use Rattle.sr_plant.specs.Images.{plant_state};
+ghost use Rattle.sr_plant.specs.Plants.{IsEmptied, IsInOrder};
+ghost use Rattle.sr_plant.specs.Steps.{is_loss, Carried, Fails};
 ghost use Rattle.sr_plant.specs.Flights.{hop_of};
-ghost use Rattle.sr_plant.specs.Carrying.{ComesAs, Lands, FailsToLand};
+ghost use Rattle.sr_plant.specs.Carrying.{ComesAs, OneComesAs, Lands, FailsToLand};
 
 use crate::flight::Flying;
-use crate::giving::{Given, take_out};
-use crate::{PlantFault, Topology};
+use crate::node_step::{Given, take_out};
+use crate::{PlantEvent, PlantFault, PlantOf, Topology};
 use sr_forwarding::{Framing, Outlets, Parcel, PortFraming, ReadFault, Role};
 use sr_frame::{Frame, NoMemory, Port};
 use sr_node::{NodeOf, StepFault};
@@ -27,8 +28,8 @@ pub(crate) struct Arriving {
 }
 
 impl Arriving {
-    /// The copy of a parcel that leads there from an outlet. None where the outlet has no octets for it. NoMemory: a growth
-    /// was refused.
+    /// The copy of this parcel, on its way from an outlet to a port. `None` where the outlet has no octets for the parcel.
+    /// `NoMemory` where an allocation fails.
     pub(crate) fn of(
         alloc: Global,
         topology: Topology,
@@ -56,16 +57,16 @@ impl Arriving {
     }
 }
 
-/// What becomes of it there.
+/// What becomes of a copy at its receiver.
 #[derive(Drop)]
-pub(crate) enum Landing {
+enum Landing {
     /// The receiver refuses it, and it is lost.
     Lost,
     /// The receiver takes it, and puts this out at its ports.
     Taken(Given),
 }
 
-// What a refusal by the receiver comes to: the copy is lost, or the plant refuses it too.
+// What comes of a refusal by the receiver: the copy is lost, or the plant refuses the event too.
 fn refused(fault: StepFault) -> Result<Landing, PlantFault>
     ensures ok { IfOk result (λ l. (is_loss fault ≡ true) × (l ≡ Landing.Lost)) }
     ensures err { IfErr result (λ f. (is_loss fault ≡ false) × (f ≡ PlantFault.Node fault)) }
@@ -95,9 +96,9 @@ fn arrive<R: Role>(
     node.receive(&framing, port, octets, now)
 }
 
-/// A copy comes to its receiver, what that has for its host goes up, and what came out at its ports is answered.
-/// The growth comes first.
-pub(crate) fn arrive_out<R: Role>(
+// A copy comes to its receiver. What the receiver has for its host is appended to `up`, for which the allocation comes
+// first, and what came out at its ports is returned.
+fn arrive_out<R: Role>(
     framing: PortFraming,
     node: &mut NodeOf<R>,
     up: &mut Vec<Parcel>,
@@ -118,4 +119,39 @@ pub(crate) fn arrive_out<R: Role>(
         return refused(fault);
     }
     Ok(Landing::Taken(take_out(node, up)))
+}
+
+impl<R: Role> PlantOf<R> {
+    /// The copy at a place comes to its receiver. All allocations come first.
+    pub(crate) fn bring(&mut self, place: usize, arriving: &Arriving) -> Result<(), PlantFault>
+        requires in_order { IsInOrder (plant_state R.meaning self.old) }
+        requires there { OneComesAs self.old.topology self.old.traffic.flight.copies place
+            (Some arriving.now) }
+        ensures ok { OnOk result (Carried
+            (plant_state R.meaning self.old) place
+            (plant_state R.meaning self.new)) }
+        ensures in_order { OnOk result (IsInOrder (plant_state R.meaning self.new)) }
+        ensures err { IfErr result (λ f. Fails
+            (plant_state R.meaning self.old) (PlantEvent.Carry place) f) }
+        ensures same { OnErr result (plant_state R.meaning self.new
+            ≡ plant_state R.meaning self.old) }
+    {
+        let nodes = self.nodes.len();
+        self.traffic.reserve(nodes)?;
+        let node = arriving.node;
+        let framing = self.topology.framing_of(node, arriving.port);
+        let now = self.traffic.clock();
+        let landing = arrive_out(
+            framing,
+            &mut self.nodes[node],
+            &mut self.handed[node],
+            arriving,
+            now,
+        )?;
+        self.traffic.remove(place);
+        if let Landing::Taken(given) = landing {
+            self.traffic.put(self.topology, nodes, node, given);
+        }
+        Ok(())
+    }
 }

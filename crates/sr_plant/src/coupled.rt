@@ -1,28 +1,27 @@
-//! Coupled networks.
+//! Coupled networks: a ring with two LANs, and two rings.
 
-ghost use Rattle.std.specs.Prelude.{◌≡◌, ◌≤◌, ◌<◌, ◌++◌, ◌&&◌, nat_le, length, slice_get, true, IfOk, OnOk, IfErr};
+ghost use Rattle.std.specs.Prelude.{◌≡◌, ◌≤◌, ◌<◌, ◌++◌, ◌&&◌, nat_le, length, slice_get};
 ghost use Rattle.sr_plant.specs.Images.{plant_state, states_of};
-ghost use Rattle.sr_plant.specs.Plants.{IsInOrder};
-ghost use Rattle.sr_plant.specs.Building.{is_plant, opening, plant_fault};
+ghost use Rattle.sr_plant.specs.Building.{MakesPlant};
 ghost use Rattle.sr_plant.specs.Coupled.{is_sought, box_place, network_in, network_of, second_of, ring_lan_of, two_rings_of};
 
-use crate::fitness::{are_few, is_lan, is_plant_of_both};
+use crate::building::{are_few, is_lan, is_plant_of_both};
 use crate::{Join, PlantFault, PlantOf, RingLanShape, Topology, TwoRingsShape};
 use sr_forwarding::{NetId, Role, RoleKind};
 use sr_node::NodeOf;
 use sr_prp_trailer::Lan;
 use std::alloc::Global;
 
-/// Which box is sought.
+/// Which kind of RedBox is sought.
 #[derive(Clone, Copy)]
 pub(crate) enum Sought {
-    /// One whose interlink is this LAN of a PRP network.
+    /// A RedBox whose interlink is in this LAN of a PRP network.
     LanBox(Lan),
-    /// One between two rings.
+    /// A RedBox between two rings.
     RingBox,
 }
 
-// Whether a node of this kind is such a box.
+// Whether a node of this kind is the box that is sought.
 fn is_sought(sought: Sought, kind: RoleKind) -> bool
     ensures { result ≡ is_sought sought kind }
 {
@@ -35,14 +34,14 @@ fn is_sought(sought: Sought, kind: RoleKind) -> bool
     }
 }
 
-// Whether a node of this kind, at this place, is the first that counts.
+// Whether the node at a place is a box that is sought, and the place is not before `from`.
 fn is_found(sought: Sought, from: usize, place: usize, kind: RoleKind) -> bool
     ensures { result ≡ (nat_le from place && is_sought sought kind) }
 {
     from <= place && is_sought(sought, kind)
 }
 
-// The place of the first such box at this place or behind it, else how many nodes there are.
+// The place of the first box that is sought, at `from` or behind it. The count of nodes where there is none.
 fn box_place<R: Role>(sought: Sought, from: usize, nodes: &[NodeOf<R>]) -> usize
     ensures place { result ≡ box_place sought from 0 (states_of R.meaning nodes.now) }
     ensures within { result ≤ length nodes.now }
@@ -65,7 +64,7 @@ fn network_of(kind: RoleKind) -> NetId
     }
 }
 
-// The network of the node at a place, if there is one.
+// The network of the node at this place, and network 1 where there is no such node.
 fn network_in<R: Role>(nodes: &[NodeOf<R>], place: usize) -> NetId
     ensures { result ≡ network_in (slice_get (states_of R.meaning nodes.now) place) }
 {
@@ -75,7 +74,7 @@ fn network_in<R: Role>(nodes: &[NodeOf<R>], place: usize) -> NetId
     }
 }
 
-// How a ring and the nodes of two LANs are joined.
+// The topology that joins a ring and the nodes of two LANs.
 fn ring_lan_of<R: Role>(ring: &[NodeOf<R>], lan: &[NodeOf<R>]) -> Topology
     ensures { result
         ≡ ring_lan_of (states_of R.meaning ring.now) (states_of R.meaning lan.now) }
@@ -90,7 +89,7 @@ fn ring_lan_of<R: Role>(ring: &[NodeOf<R>], lan: &[NodeOf<R>]) -> Topology
     })
 }
 
-// The second boxes of two rings of so many nodes are joined where both have one.
+// The join of the second boxes of two rings of so many nodes, where both rings have a second box.
 fn second_of(left: usize, right: usize, left_box: usize, right_box: usize) -> Option<Join>
     requires left { left < 1000 }
     requires right { right < 1000 }
@@ -106,7 +105,7 @@ fn second_of(left: usize, right: usize, left_box: usize, right_box: usize) -> Op
     }
 }
 
-// How two rings are joined.
+// The topology that joins two rings.
 fn two_rings_of<R: Role>(left: &[NodeOf<R>], right: &[NodeOf<R>]) -> Topology
     requires left { length left.now < 1000 }
     requires right { length right.now < 1000 }
@@ -139,7 +138,7 @@ pub struct CoupledOf<R: Drop> {
 /// A coupled network of nodes over any role.
 pub type Coupled = CoupledOf<Box<dyn Role + Send>>;
 
-// A plant of this topology, of these nodes and those behind them.
+// A network of this topology, of the nodes of the first list and then those of the second.
 fn plant_of_both<R: Role>(
     alloc: Global,
     topology: Topology,
@@ -148,13 +147,8 @@ fn plant_of_both<R: Role>(
 ) -> Result<CoupledOf<R>, PlantFault>
     requires first { length first.items < 1000 }
     requires behind { length behind.items < 1000 }
-    ensures begun { IfOk result (λ c. plant_state R.meaning c.plant
-        ≡ opening topology (states_of R.meaning first.items ++ states_of R.meaning behind.items)) }
-    ensures in_order { IfOk result (λ c. IsInOrder (plant_state R.meaning c.plant)) }
-    ensures ok { OnOk result (is_plant topology
-        (states_of R.meaning first.items ++ states_of R.meaning behind.items) ≡ true) }
-    ensures err { IfErr result (λ f. f ≡ plant_fault (is_plant topology
-        (states_of R.meaning first.items ++ states_of R.meaning behind.items))) }
+    ensures { MakesPlant result (λ made. plant_state R.meaning made.plant) topology
+        (states_of R.meaning first.items ++ states_of R.meaning behind.items) }
 {
     if !is_plant_of_both(topology, &first, &behind) {
         return Err(PlantFault::BadPlant);
@@ -166,7 +160,7 @@ fn plant_of_both<R: Role>(
 }
 
 impl<R: Role> CoupledOf<R> {
-    /// The plant that it is, for whoever takes networks of any topology.
+    /// The coupled network as a plant, the type of networks of any topology.
     pub fn into_plant(self) -> PlantOf<R>
         ensures { result ≡ self.plant }
     {
@@ -176,24 +170,16 @@ impl<R: Role> CoupledOf<R> {
 
     /// A new ring with two LANs behind it. The ring has 3 to 16 nodes: two boxes of the kind `Prp`, of one network, the one
     /// with LAN A and the other with LAN B, and else nodes of the kind `Danh`. The LANs have 1 to 14 nodes of the kind
-    /// `Danp`. Each node has an address of its own, and no frame waiting. `BadPlant` exactly where they are not so.
-    /// `NoMemory`: a growth was refused.
+    /// `Danp`. Each node has an address of its own, and no frame waiting. `BadPlant` exactly where the nodes are not like
+    /// that. `NoMemory` where an allocation fails.
     pub fn ring_lan(
         alloc: Global,
         ring: Vec<NodeOf<R>>,
         lan: Vec<NodeOf<R>>,
     ) -> Result<CoupledOf<R>, PlantFault>
-        ensures begun { IfOk result (λ c. plant_state R.meaning c.plant
-            ≡ opening
+        ensures { MakesPlant result (λ made. plant_state R.meaning made.plant)
             (ring_lan_of (states_of R.meaning ring.items) (states_of R.meaning lan.items))
-            (states_of R.meaning ring.items ++ states_of R.meaning lan.items)) }
-        ensures in_order { IfOk result (λ c. IsInOrder (plant_state R.meaning c.plant)) }
-        ensures ok { OnOk result (is_plant
-            (ring_lan_of (states_of R.meaning ring.items) (states_of R.meaning lan.items))
-            (states_of R.meaning ring.items ++ states_of R.meaning lan.items) ≡ true) }
-        ensures err { IfErr result (λ f. f ≡ plant_fault (is_plant
-            (ring_lan_of (states_of R.meaning ring.items) (states_of R.meaning lan.items))
-            (states_of R.meaning ring.items ++ states_of R.meaning lan.items))) }
+            (states_of R.meaning ring.items ++ states_of R.meaning lan.items) }
     {
         if !are_few(&ring, &lan) {
             return Err(PlantFault::BadPlant);
@@ -204,23 +190,16 @@ impl<R: Role> CoupledOf<R> {
 
     /// Two new rings that are joined. Each has 2 to 16 nodes, and both have as many boxes of the kind `Hsr`, one or two, and
     /// else nodes of the kind `Danh`. The first boxes of both are joined, and the second ones. Each node has an address of
-    /// its own, and no frame waiting. `BadPlant` exactly where they are not so. `NoMemory`: a growth was refused.
+    /// its own, and no frame waiting. `BadPlant` exactly where the nodes are not like that. `NoMemory` where an allocation
+    /// fails.
     pub fn two_rings(
         alloc: Global,
         left: Vec<NodeOf<R>>,
         right: Vec<NodeOf<R>>,
     ) -> Result<CoupledOf<R>, PlantFault>
-        ensures begun { IfOk result (λ c. plant_state R.meaning c.plant
-            ≡ opening
+        ensures { MakesPlant result (λ made. plant_state R.meaning made.plant)
             (two_rings_of (states_of R.meaning left.items) (states_of R.meaning right.items))
-            (states_of R.meaning left.items ++ states_of R.meaning right.items)) }
-        ensures in_order { IfOk result (λ c. IsInOrder (plant_state R.meaning c.plant)) }
-        ensures ok { OnOk result (is_plant
-            (two_rings_of (states_of R.meaning left.items) (states_of R.meaning right.items))
-            (states_of R.meaning left.items ++ states_of R.meaning right.items) ≡ true) }
-        ensures err { IfErr result (λ f. f ≡ plant_fault (is_plant
-            (two_rings_of (states_of R.meaning left.items) (states_of R.meaning right.items))
-            (states_of R.meaning left.items ++ states_of R.meaning right.items))) }
+            (states_of R.meaning left.items ++ states_of R.meaning right.items) }
     {
         if !are_few(&left, &right) {
             return Err(PlantFault::BadPlant);

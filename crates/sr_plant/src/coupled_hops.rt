@@ -1,4 +1,4 @@
-//! Through coupled networks.
+//! The hops through coupled networks.
 
 ghost use Rattle.std.specs.Prelude.{◌≡◌, ◌≤◌, ◌<◌, ◌-◌, ◌==◌, [], ◌∷◌, Some, None, option_map, if◌then◌else◌};
 ghost use Rattle.sr_plant.specs.Limits.{most_members};

@@ -1,9 +1,9 @@
-//! What happens to a plant.
+//! The events of a plant.
 
 use sr_frame::Frame;
 
-/// What happens to a plant. Nodes, links, and the copies in flight are counted from 0; the copies are in the order in
-/// which they were put out.
+/// An event of a plant. Nodes, links, and the copies in flight are counted from 0; the copies are in the order in which
+/// they were put out.
 #[derive(Debug, Drop)]
 pub enum PlantEvent {
     /// The host of a node sends a frame, at the plant's time.

@@ -8,8 +8,8 @@ use sr_node::StepFault;
 use std::alloc::AllocError;
 use thiserror::Error;
 
-/// Why a plant is not made, or refuses an event. Where several reasons hold, the first in this order is answered, but
-/// for `NoMemory` of the plant's own, which comes before `Node`.
+/// Why a plant is not made, or refuses an event. Where several reasons hold, the first in this order is returned, but
+/// `NoMemory` for an allocation of the plant comes before `Node`.
 #[derive(Clone, Copy, Debug, PartialEq, Eq, Error)]
 pub enum PlantFault {
     /// 1: the plant has no such node, or no such link.
@@ -21,13 +21,13 @@ pub enum PlantFault {
     /// 3: the time is before the plant's.
     #[error("the clock would go back")]
     ClockBack,
-    /// 4: the node refuses it.
+    /// 4: the node refuses the event.
     #[error("the node refuses it")]
     Node(#[source] StepFault),
     /// 5: the nodes make no plant.
     #[error("the nodes make no plant")]
     BadPlant,
-    /// 6: memory ran out.
+    /// 6: an allocation failed.
     #[error("out of memory")]
     NoMemory,
 }

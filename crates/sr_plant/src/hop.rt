@@ -17,7 +17,7 @@ pub(crate) struct Hop {
 }
 
 impl Hop {
-    /// Whether it is on this link.
+    /// Whether the hop goes over this link.
     pub(crate) fn is_on(&self, link: usize) -> bool
         ensures { result ≡ list_any (λ l. l == link) (hop_of self.now).links }
     {
@@ -27,7 +27,7 @@ impl Hop {
         }
     }
 
-    /// Whether a link that it is on is cut.
+    /// Whether the hop goes over a link that is cut.
     pub(crate) fn is_stopped(&self, cut: &[bool]) -> bool
         ensures { result ≡ list_any (is_cut cut.now) (hop_of self.now).links }
     {

@@ -2,24 +2,18 @@
 //! them.
 #![tactic(auto)]
 
-mod acting;
-mod applying;
 mod arriving;
 mod building;
-mod carrying;
 mod coupled;
 mod coupled_hops;
 mod event;
+mod events;
 mod fault;
-mod fitness;
 mod flight;
-mod giving;
-mod happening;
 mod hop;
-mod keeping;
+mod node_step;
 mod outlet;
 mod plant;
-mod putting;
 mod ring;
 mod ring_hops;
 mod shapes;

@@ -1,4 +1,4 @@
-//! Where nodes put frames out.
+//! The outlets of nodes, and where they lead.
 
 ghost use Rattle.std.specs.Prelude.{◌≡◌, ◌≤◌, ◌<◌, option_map};
 ghost use Rattle.sr_plant.specs.Limits.{most_members};
@@ -11,7 +11,7 @@ use crate::hop::Hop;
 use crate::ring_hops::ring_hop;
 use sr_frame::Port;
 
-/// An outlet of one of so many nodes.
+/// An outlet of a node of a network with so many nodes.
 #[derive(Clone, Copy)]
 pub(crate) struct Outlet {
     pub(crate) topology: Topology,

@@ -1,4 +1,4 @@
-//! A plant over a role.
+//! A network as a value: its nodes, and what is between them.
 
 ghost use Rattle.std.specs.Prelude.{◌≡◌, ◌<◌, map, length, replicate, slice_index_or, []};
 
@@ -15,7 +15,7 @@ pub struct PlantOf<R: Drop> {
     pub(crate) nodes: Vec<NodeOf<R>>,
     /// What is between them.
     pub(crate) traffic: Traffic,
-    /// What each handed up to its host, oldest first.
+    /// What each node handed up to its host, oldest first.
     pub(crate) handed: Vec<Vec<Parcel>>,
 }
 
@@ -46,7 +46,7 @@ impl<R: Role> PlantOf<R> {
         self.handed.as_slice()
     }
 
-    /// Lets go of all that was handed up. All else stays.
+    /// Drops all that was handed up. Everything else stays.
     pub fn drop_handed(&mut self)
         ensures handed { map (λ h. h.items) self.new.handed.items
             ≡ replicate (length self.old.handed.items) [] }

@@ -1,4 +1,4 @@
-//! Round a ring.
+//! The hops round a ring.
 
 ghost use Rattle.std.specs.Prelude.{◌≡◌, ◌<◌, None, IfSome, option_map};
 ghost use Rattle.sr_plant_laws.specs.RingParts.{onward, backward};
@@ -18,7 +18,7 @@ fn next(node: usize, nodes: usize) -> usize
     if node + 1 == nodes { 0 } else { node + 1 }
 }
 
-// The node before it.
+// The previous node of a ring.
 fn previous(node: usize, nodes: usize) -> usize
     requires { node < nodes }
     ensures previous { result ≡ beyond nodes backward node }

@@ -1,4 +1,4 @@
-//! How coupled networks are joined.
+//! The shapes of coupled networks.
 
 ghost use Rattle.std.specs.Prelude.{◌≡◌, ◌==◌, ◌||◌, length};
 ghost use Rattle.sr_plant_laws.specs.TwoRings.{is_joined};
@@ -47,7 +47,7 @@ pub struct TwoRingsShape {
     pub right: usize,
     /// The first boxes of both.
     pub first: Join,
-    /// The second boxes of both, if they have such.
+    /// The second boxes of both, if both have one.
     pub second: Option<Join>,
 }
 

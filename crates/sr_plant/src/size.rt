@@ -8,7 +8,7 @@ use crate::{Join, RingLanShape, Topology, TwoRingsShape};
 /// The fewest nodes of a ring, and of two LANs.
 const FEWEST_NODES: usize = 2;
 
-/// The most.
+/// The most nodes of a ring, and of two LANs.
 pub(crate) const MAX_NODES: usize = 16;
 
 /// The fewest nodes of a ring with the boxes of two LANs.
@@ -17,7 +17,7 @@ const FEWEST_WITH_BOXES: usize = 3;
 /// The most doubly attached nodes of these LANs.
 const MAX_IN_LANS: usize = 14;
 
-// Whether a number is not below the one and not above the other.
+// Whether a number is not below the fewest and not above the most.
 fn is_between(fewest: usize, most: usize, number: usize) -> bool
     ensures { result ≡ is_between fewest most number }
 {

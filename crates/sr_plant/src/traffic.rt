@@ -10,7 +10,7 @@ ghost use Rattle.sr_plant.specs.Topologies.{IsJoinedAs};
 use crate::Topology;
 use crate::arriving::Arriving;
 use crate::flight::Flight;
-use crate::giving::Given;
+use crate::node_step::Given;
 use crate::outlet::Outlet;
 use sr_frame::{NoMemory, Port};
 use std::alloc::Global;
@@ -20,9 +20,9 @@ use std::marker::Model;
 #[derive(Drop)]
 pub struct Traffic {
     flight: Flight,
-    // Of each link whether it is cut.
+    // For each link, whether it is cut.
     cut: Vec<bool>,
-    // Milliseconds.
+    // The time in milliseconds.
     clock: u64,
     alloc: Global,
 }
@@ -36,7 +36,7 @@ impl Model for Traffic {
 }
 
 impl Traffic {
-    /// Nothing in flight over so many links, of which none is cut. NoMemory: a growth was refused.
+    /// Nothing in flight over so many links, of which none is cut. `NoMemory` where an allocation fails.
     pub(crate) fn new(alloc: Global, links: usize) -> Result<Traffic, NoMemory>
         ensures flight { IfOk result (λ t. t.flight.copies ≡ []) }
         ensures cut { IfOk result (λ t. t.cut ≡ replicate links false) }
@@ -72,7 +72,7 @@ impl Traffic {
         self.clock
     }
 
-    /// The time becomes this.
+    /// Sets the clock to this time.
     pub(crate) fn set_clock(&mut self, now: u64)
         ensures { self.new ≡ record self.old { clock = now } }
     {
@@ -84,8 +84,8 @@ impl Traffic {
         self.alloc
     }
 
-    /// Room for what a node puts out at its ports, to so many nodes. NoMemory: a growth was refused. Nothing that shows
-    /// changes.
+    /// Makes room for what a node puts out at its ports, to so many nodes. `NoMemory` where an allocation fails. Nothing
+    /// that shows changes.
     pub(crate) fn reserve(&mut self, nodes: usize) -> Result<(), NoMemory>
         requires { nodes ≤ most_members }
         ensures copies { self.new.flight.copies ≡ self.old.flight.copies }
@@ -96,8 +96,8 @@ impl Traffic {
         self.flight.reserve(3, 3 * nodes)
     }
 
-    /// What a node puts out at its ports, for which there is room, is in flight behind all else, but for what is put on a
-    /// link that is cut.
+    /// Puts in flight what a node puts out at its ports, behind all other copies. What is put on a link that is cut is
+    /// lost. There is room for all of it.
     pub(crate) fn put(&mut self, topology: Topology, nodes: usize, node: usize, given: Given)
         requires small { nodes ≤ most_members }
         requires node { node < nodes }
@@ -132,8 +132,8 @@ impl Traffic {
         self.flight.put(outlet, given.c, &self.cut);
     }
 
-    /// The copy at a place as it comes to its receiver. None where its outlet has no octets for it. NoMemory: a growth was
-    /// refused.
+    /// The copy at a place as it comes to its receiver. `None` where its outlet has no octets for it. `NoMemory` where an
+    /// allocation fails.
     pub(crate) fn arriving(
         &self,
         topology: Topology,
@@ -145,7 +145,7 @@ impl Traffic {
         self.flight.arriving(self.alloc, topology, place)
     }
 
-    /// The copy at a place is gone. No room goes with it.
+    /// Takes the copy at a place out of flight. The room for it stays.
     pub(crate) fn remove(&mut self, place: usize)
         requires { place < length self.old.flight.copies }
         ensures copies { self.new.flight.copies ≡ remove self.old.flight.copies place }
@@ -156,7 +156,8 @@ impl Traffic {
         self.flight.remove(place);
     }
 
-    /// The copy at a place is doubled. NoMemory: a growth was refused. Nothing that shows changes then.
+    /// Adds a second copy like that at a place, behind all others. `NoMemory` where the allocation fails; then nothing that
+    /// shows changes.
     pub(crate) fn repeat(&mut self, place: usize) -> Result<(), NoMemory>
         requires { place < length self.old.flight.copies }
         ensures ok { OnOk result (Doubles self.old.flight.copies place self.new.flight.copies) }
@@ -166,7 +167,7 @@ impl Traffic {
         self.flight.repeat(place)
     }
 
-    /// A link is cut, and what is on it is lost.
+    /// Cuts a link. The copies on it are lost.
     pub(crate) fn cut(&mut self, link: usize)
         requires { link < length self.old.cut }
         ensures copies { self.new.flight.copies
@@ -178,7 +179,7 @@ impl Traffic {
         self.cut[link] = true;
     }
 
-    /// A link is whole.
+    /// Mends a link.
     pub(crate) fn mend(&mut self, link: usize)
         requires { link < length self.old.cut }
         ensures copies { self.new.flight.copies ≡ self.old.flight.copies }

@@ -1,9 +1,8 @@
-//! Two LANs.
+//! Two LANs of doubly attached nodes.
 
-ghost use Rattle.std.specs.Prelude.{◌≡◌, true, IfOk, OnOk, IfErr};
+ghost use Rattle.std.specs.Prelude.{◌≡◌};
 ghost use Rattle.sr_plant.specs.Images.{plant_state, states_of};
-ghost use Rattle.sr_plant.specs.Plants.{IsInOrder};
-ghost use Rattle.sr_plant.specs.Building.{is_plant, opening, plant_fault};
+ghost use Rattle.sr_plant.specs.Building.{MakesPlant};
 
 use crate::{PlantFault, PlantOf, Topology};
 use sr_forwarding::Role;
@@ -21,7 +20,7 @@ pub struct TwinLanOf<R: Drop> {
 pub type TwinLan = TwinLanOf<Box<dyn Role + Send>>;
 
 impl<R: Role> TwinLanOf<R> {
-    /// The plant that it is, for whoever takes networks of any topology.
+    /// The LANs as a plant, the type of networks of any topology.
     pub fn into_plant(self) -> PlantOf<R>
         ensures { result ≡ self.plant }
     {
@@ -30,15 +29,10 @@ impl<R: Role> TwinLanOf<R> {
     }
 
     /// New LANs of these nodes: 2 to 16 of the kind `Danp`, each with an address of its own, and with no frame waiting.
-    /// `BadPlant` exactly where they are not so. `NoMemory`: a growth was refused.
+    /// `BadPlant` exactly where the nodes are not like that. `NoMemory` where an allocation fails.
     pub fn new(alloc: Global, nodes: Vec<NodeOf<R>>) -> Result<TwinLanOf<R>, PlantFault>
-        ensures begun { IfOk result (λ r. plant_state R.meaning r.plant
-            ≡ opening Topology.TwinLan (states_of R.meaning nodes.items)) }
-        ensures in_order { IfOk result (λ r. IsInOrder (plant_state R.meaning r.plant)) }
-        ensures ok { OnOk result
-            (is_plant Topology.TwinLan (states_of R.meaning nodes.items) ≡ true) }
-        ensures err { IfErr result (λ f. f ≡ plant_fault
-            (is_plant Topology.TwinLan (states_of R.meaning nodes.items))) }
+        ensures { MakesPlant result (λ made. plant_state R.meaning made.plant) Topology.TwinLan
+            (states_of R.meaning nodes.items) }
     {
         let plant = PlantOf::new(alloc, Topology::TwinLan, nodes)?;
         Ok(TwinLanOf { plant })

@@ -11,7 +11,7 @@ use Rattle.sr_plant.specs.Steps.{PlantStep, PlantRefuses, plant_refusal}
 use Rattle.sr_plant_script.specs.Texts.{all_up_lines, fault_name, flow_line}
 use Rattle.sr_plant_script.specs.Happenings.{taken_up, IsTaken, Happens, Carries, Flows, most_carries}
 
--- the line of a refusal stands behind a text
+-- the line of a refusal is appended to a text
 abbrev pub Tells : ℕ → PlantFault → List ℕ → List ℕ → Type 0
 Tells number f text later = (name : List ℕ) × (fault_name f ≡ Some name) × (later ≡ text ++ refusal_line number name)
 
@@ -21,7 +21,7 @@ pub refused : (s t : Plant) (number : ℕ) (e : PlantEvent) (f : PlantFault) (te
 refused s t number e f text later refuses tells same =
     (refusal_line number tells.0, inr (f, refuses, record { name = tells.0; named = tells.1; told = refl; same = same }), tells.2)
 
--- so many carries are done, and their lines stand behind a text
+-- so many carries are done, and their lines are appended to a text
 abbrev pub Carried : Plant → ℕ → Plant → List ℕ → List ℕ → Type 0
 Carried s n u before text = (ups : List ℕ) × Carries s n ups u × (text ≡ before ++ ups)
 

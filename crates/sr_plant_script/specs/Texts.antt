@@ -29,7 +29,7 @@ flow_line carries = printed (codes "flow" ∷ decimal carries ∷ [])
 abbrev pub flight_line : ℕ → List ℕ
 flight_line copies = printed (codes "flight" ∷ decimal copies ∷ [])
 
--- what a refusal is called; want of memory is none
+-- what a refusal is called; an allocation that failed is none
 abbrev pub fault_name : PlantFault → Option (List ℕ)
 fault_name NoSuchNode = Some (codes "NoSuchNode")
 fault_name NoSuchCopy = Some (codes "NoSuchCopy")

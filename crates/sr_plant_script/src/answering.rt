@@ -1,4 +1,4 @@
-//! What a plant does with a line.
+//! What a plant does with a line of a script.
 
 ghost use Rattle.std.specs.Prelude.{◌≡◌, ◌∷◌, [], ℕ, List, length, OnOk, IfErr, Err};
 ghost use Rattle.sr_session.specs.Lines.{IsOneOf};
@@ -8,8 +8,8 @@ ghost use Rattle.sr_plant_script.specs.Happenings.{event_on};
 ghost use Rattle.sr_plant_script.specs.Replies.{Sends, Obeys, Replied};
 
 use crate::command::{Command, Receiver, Verb};
-use crate::happening::{flow, happen};
 use crate::network::Network;
+use crate::obeying::{flow, happen};
 use crate::reading::command_of;
 use crate::refusing::tell_refusal;
 use crate::sending::{send_refusal, sent_frame};
@@ -82,7 +82,7 @@ fn obey(
 /// Has the plant obey a line. `text` is then what to print for it.
 ///
 /// # Errors
-/// `Line` where the line is none of a script, whatever memory there is; `Memory`.
+/// `Line` where the line is not a line of a script, whatever memory there is; `Memory`.
 pub(crate) fn answer(
     alloc: Global,
     network: &mut Network,

@@ -1,4 +1,4 @@
-//! What a line of a script asks for.
+//! What a line of a script of a plant asks for, as a value.
 
 /// Whom a frame is for.
 #[derive(Clone, Copy, Debug)]
@@ -24,7 +24,7 @@ pub enum Verb {
     Mend,
 }
 
-/// What a line asks for. Its octets stand beside it.
+/// What a line asks for. The octets that it names are kept beside it.
 #[derive(Clone, Copy, Debug)]
 pub enum Command {
     /// Nothing: the line is empty or begins with `#`.

@@ -4,10 +4,10 @@
 
 mod answering;
 mod command;
-mod happening;
 mod laws;
 mod members;
 mod network;
+mod obeying;
 mod printing;
 mod reading;
 mod refusing;

@@ -68,7 +68,7 @@ fn new_nodes(
 }
 
 impl Network {
-    /// A new one. NoMemory: a growth was refused.
+    /// A new one. `NoMemory`: an allocation failed.
     pub(crate) fn new(alloc: Global, setup: &PlantSetup) -> Result<Network, PlantFault>
         ensures made { IfOk result (λ n. n ≡ start_of setup.now) }
         ensures lack { IfErr result (λ fault. fault ≡ PlantFault.NoMemory) }

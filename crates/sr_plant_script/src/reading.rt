@@ -1,4 +1,4 @@
-//! What a line of a script asks for.
+//! Reads what a line of a script of a plant asks for.
 
 ghost use Rattle.std.specs.Prelude.{◌≡◌, ◌↔◌, IsTrue, ◌<◌, ◌^◌, ◌++◌, ◌∷◌, [], ℕ, List, codes, Some, IfSome, IfOk, IfErr, MatchResult, Err};
 ghost use Rattle.std.specs.Fmt.{decimal};
@@ -112,7 +112,7 @@ fn bare_command(line: &[u8]) -> Option<Command>
     Some(Command::On(verb, place))
 }
 
-/// Reads what stands behind the word `send`: the sender, the receiver and the octets.
+/// Reads the text behind the word `send`: the sender, the receiver and the octets.
 fn sending(text: &[u8], octets: &mut Vec<u8>) -> Result<(usize, Receiver), FaultKind>
     ensures found { IfOk result (λ parts. IsSending text.now parts.0 parts.1 octets.new.items) }
     ensures only { (node : ℕ) (receiver : Receiver) (os : List ℕ)
@@ -144,7 +144,7 @@ fn sending(text: &[u8], octets: &mut Vec<u8>) -> Result<(usize, Receiver), Fault
 /// What a line asks for. The octets that it names are then in `octets`, and nothing else is.
 ///
 /// # Errors
-/// `Line` where the line is none of a script, whatever memory there is; `Memory`, of a line that asks that a host sends.
+/// `Line` where the line is not a line of a script, whatever memory there is; `Memory`, of a line that asks that a host sends.
 pub fn command_of(line: &[u8], octets: &mut Vec<u8>) -> Result<Command, FaultKind>
     ensures found { IfOk result (λ command. Says line.now command octets.new.items) }
     ensures only { (command : Command) (os : List ℕ) → Says line.now command os

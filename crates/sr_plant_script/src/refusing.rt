@@ -1,4 +1,4 @@
-//! How refusals of a plant are told.
+//! The lines for events that a plant refuses.
 
 ghost use Rattle.std.specs.Prelude.{◌≡◌, ◌++◌, ℕ, List, Some, OnOk, OnErr, IfErr};
 ghost use Rattle.std.specs.Option.{option_copied};
@@ -11,7 +11,7 @@ use sr_script::{append_refusal, name_of};
 use sr_session::FaultKind;
 use sr_text::Text;
 
-// A refusal that has no name: the plant or a node wanted memory.
+// A refusal that has no name: an allocation of the plant or of a node failed.
 #[derive(Clone, Copy)]
 struct Nameless;
 
@@ -25,7 +25,7 @@ impl From<Nameless> for FaultKind {
     }
 }
 
-// What a refusal is called. None for want of memory.
+// What a refusal is called. None: an allocation failed.
 fn fault_name(fault: PlantFault) -> Option<&'static str>
     ensures { option_copied result ≡ fault_name fault }
 {

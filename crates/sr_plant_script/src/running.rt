@@ -1,8 +1,6 @@
-//! A script of what happens to a plant: what is handed up is printed.
+//! A plant at work on a script, and the run of a script on a new plant: what hosts are handed is printed.
 
-ghost use Rattle.std.specs.Prelude.{◌≡◌, ◌⊎◌, IfErr, OnOk, IfSome};
-ghost use Rattle.sr_session.specs.Lines.{lines_of};
-ghost use Rattle.sr_session.specs.Runs.{IsAnswered, EndsAt, IsNotBegun};
+ghost use Rattle.sr_session.specs.Runs.{Runs};
 ghost use Rattle.sr_plant_script.specs.Members.{start_of};
 ghost use Rattle.sr_plant_script.specs.Replies.{plant_dialogue};
 
@@ -63,26 +61,18 @@ impl Session for PlantSession {
 /// is written together, and flushed, before more is read, and before a fault.
 ///
 /// # Errors
-/// `Line` and `Long` come at the first line that is none of a script, whatever memory there is. `Read`, `Write` and
-/// `Memory` come where the reader, the writer or the allocator fails, and at no such line. What stands before the line of
-/// the fault is answered, and nothing else is written; where the writer failed, a part of the text of that line may be.
+/// `Line` and `Long` come at the first line that is not a line of a script, whatever memory there is. `Read`, `Write` and
+/// `Memory` come where the reader, the writer or an allocation fails, and at no such line. The lines before that of the fault are
+/// answered, and nothing else is written, but for a part of the text of that line where the writer failed.
 pub fn run_plant<R: BufRead, W: Write>(
     alloc: Global,
     setup: &PlantSetup,
     reader: &mut R,
     writer: &mut W,
 ) -> Result<(), Fault>
-    // All lines are lines of a script, and what is written is what comes of them, and how many copies are then in flight.
-    ensures done { OnOk result (IfSome (R.remaining reader.old) (λ input. IsAnswered plant_dialogue
-        (start_of setup.now) (lines_of input) (W.contents writer.old) (W.contents writer.new))) }
-
-    // Memory was refused before anything was read. Or the lines before that of the fault are answered, and that line has this fault.
-    ensures ended { IfErr result (λ fault.
-        IsNotBegun fault (R.remaining reader.old) (R.remaining reader.new) (W.contents writer.old)
-        (W.contents writer.new)
-        ⊎ IfSome (R.remaining reader.old) (λ input.
-        EndsAt plant_dialogue (start_of setup.now) (lines_of input) fault
-        (R.remaining reader.new) (W.contents writer.old) (W.contents writer.new))) }
+    // What is written is what comes of the lines, and how many copies are then in flight.
+    ensures { Runs plant_dialogue (start_of setup.now) (R.remaining reader.old)
+        (R.remaining reader.new) (W.contents writer.old) (W.contents writer.new) result }
 {
     let Ok(network) = Network::new(alloc, setup) else {
         return Err(NOT_BEGUN);

@@ -57,7 +57,7 @@ fn address_of(receiver: Receiver) -> Mac
     }
 }
 
-/// The frame with this payload that the host of a node sends. An error where its growth was refused.
+/// The frame with this payload that the host of a node sends. An error: the allocation failed.
 pub fn sent_frame(
     alloc: Global,
     node: usize,

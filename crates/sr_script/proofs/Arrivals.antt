@@ -36,7 +36,7 @@ digits_unbroken (d ∷ ds) h = (λ e. no_digit d e (h 0 0 (omega arith)), digits
         let no : is_hex_digit d ≡ false = ap is_hex_digit e in
         absurd cc
 
--- the words of the line, one behind the other, and what stands behind its digits
+-- the words of the line, one behind the other, and the octets behind its digits
 pub stands : (role : RoleKind) (text rest timed behind word out : List ℕ) (port : Port) (time n : ℕ)
     → text ≡ codes "in " ++ rest → rest ≡ letter_of port ++ 32 ∷ timed → IsInlet role port → timed ≡ word ++ 32 ∷ behind → word ≡ decimal time → time < 2 ^ 64
     → IsDigitFront behind n → slice_index behind n ≡ 10 → 0 < n → n % 2 ≡ 0 → length text - length behind + n ≤ 8000

@@ -2,7 +2,7 @@
 use Rattle.std.proofs.Common.{◌≡◌, ℕ, List, [], ◌∷◌, ◌++◌, refl, sym, ap, append_assoc, ◌∙◌}
 use Rattle.sr_session.specs.Octets.{spaced}
 
--- behind words with spaces between them stand more, and a space
+-- words with spaces between them, and then more
 spaced_more : (word : List ℕ) (words : List (List ℕ)) (next : List ℕ) (more : List (List ℕ))
     → spaced ((word ∷ words) ++ next ∷ more) ≡ spaced (word ∷ words) ++ 32 ∷ spaced (next ∷ more)
 spaced_more word [] next more = refl

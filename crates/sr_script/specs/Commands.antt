@@ -1,4 +1,4 @@
--- What a line of a script asks for.
+-- What a line of a script of events at a node asks for.
 use Rattle.std.specs.Prelude.{◌≡◌, true, ℕ, ◌<◌, ◌^◌, List, [], ◌∷◌, codes, ◌⊎◌}
 use Rattle.std.specs.Fmt.{decimal}
 use Rattle.sr_frame.specs.declared.ports.Port.{Port}

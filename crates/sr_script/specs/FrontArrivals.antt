@@ -1,4 +1,4 @@
--- A frame that arrives, of which the whole line stands at the front of a text.
+-- A frame that arrives, whose whole line is at the front of a text.
 use Rattle.std.specs.Prelude.{◌≡◌, ℕ, ◌≤◌, List, length, take}
 use Rattle.sr_script.specs.declared.reading.FrontArrival.{FrontArrival}
 use Rattle.sr_script.specs.declared.reading.Command.TheVariants.{Arrive}

@@ -35,7 +35,7 @@ AreLines role port [] text = text ≡ []
 AreLines role port (p ∷ ps) text =
     (line : List ℕ) × (rest : List ℕ) × IsLine role port p line × AreLines role port ps rest × (text ≡ line ++ rest)
 
--- what a refusal is called; want of memory is none
+-- what a refusal is called; an allocation that failed is none
 abbrev pub name_of : StepFault → Option (List ℕ)
 name_of (fault.Reading read.TooShort) = Some (codes "TooShort")
 name_of (fault.Reading read.TooLong) = Some (codes "TooLong")

@@ -4,10 +4,9 @@ ghost use Rattle.std.specs.Prelude.{◌≡◌, ◌++◌, ◌∷◌, [], ℕ, Lis
 ghost use Rattle.std.specs.Option.{option_copied};
 ghost use Rattle.sr_node.specs.declared.event.Event.TheVariants as event;
 ghost use Rattle.sr_node.specs.Arriving.{arrival_answer};
-ghost use Rattle.sr_node.specs.Faults.{or_no_memory};
 ghost use Rattle.sr_node.specs.States.{state_of};
-ghost use Rattle.sr_node.specs.Octets.{OctetsArrived, OctetsRefused};
-ghost use Rattle.sr_node.specs.Steps.{Step, refusal_of};
+ghost use Rattle.sr_node.specs.Octets.{TakesOctets};
+ghost use Rattle.sr_node.specs.Steps.{TakesEvent};
 ghost use Rattle.sr_session.specs.Lines.{IsOneOf};
 ghost use Rattle.sr_session.specs.Octets.{StillHolds};
 ghost use Rattle.sr_script.specs.Commands.{IsEventLine};
@@ -15,10 +14,13 @@ ghost use Rattle.sr_session.specs.Fronts.{AnswersFront, KnowsFront};
 ghost use Rattle.sr_forwarding.specs.Kinds.{carriage};
 ghost use Rattle.sr_script.specs.Stations.{at_work};
 ghost use Rattle.sr_script.specs.Texts.{name_of, refusal_line};
-ghost use Rattle.sr_script.specs.Replies.{ArrivesSo, Obeys, Replied, replay_dialogue};
+ghost use Rattle.sr_script.specs.Replies.{ArrivesSo, Obeys, replay_dialogue};
+ghost use Rattle.sr_script.specs.Reports.{RepliedAs};
 
 use crate::printing::append_outlets;
 use crate::reading::{Command, arrival_at, command_of};
+use crate::setups::Report;
+use crate::unprinted::drop_all_waiting;
 use itoa::Buffer;
 use sr_forwarding::{Outlets, PortFraming, ReadFault, Role, RoleKind, framing_at};
 use sr_frame::{Frame, FrameFault, Port, view};
@@ -27,7 +29,7 @@ use sr_session::FaultKind;
 use sr_text::Text;
 use std::alloc::{AllocError, Global};
 
-/// What a refusal is called. None for want of memory.
+/// What a refusal is called. None: an allocation failed.
 pub fn name_of(fault: StepFault) -> Option<&'static str>
     ensures { option_copied result ≡ name_of fault }
 {
@@ -44,6 +46,7 @@ pub fn name_of(fault: StepFault) -> Option<&'static str>
 }
 
 /// Appends the line for an event that is refused, or as much of it as there is memory for.
+// speed: D-script-refusal-text
 #[inline(always)]
 fn append_refused(text: &mut Text, number: u64, name: &str) -> Result<(), AllocError>
     ensures ok { OnOk result (text.new ≡ text.old ++ refusal_line number name.now) }
@@ -61,7 +64,7 @@ fn append_refused(text: &mut Text, number: u64, name: &str) -> Result<(), AllocE
 /// Appends the line for an event that is refused.
 ///
 /// # Errors
-/// `Memory`: the list then has a part of the line, or nothing of it.
+/// `Memory`: the text may then have a part of the line.
 pub fn append_refusal(text: &mut Text, number: u64, name: &str) -> Result<(), FaultKind>
     ensures ok { OnOk result (text.new ≡ text.old ++ refusal_line number name.now) }
     ensures kept { OnErr result (StillHolds text.old text.new) }
@@ -72,6 +75,7 @@ pub fn append_refusal(text: &mut Text, number: u64, name: &str) -> Result<(), Fa
 }
 
 /// Octets come in at a port.
+// speed: D-session-inlined
 #[inline(always)]
 pub(crate) fn arrive<R: Role>(
     role: RoleKind,
@@ -80,14 +84,10 @@ pub(crate) fn arrive<R: Role>(
     octets: &[u8],
     time: u64,
 ) -> Result<Option<Outlets>, StepFault>
-    ensures taken { IfOk result (λ outlets. OctetsArrived (carriage role port)
-        (state_of R.meaning node.old) port octets.now time (arrival_answer outlets)
-        (state_of R.meaning node.new)) }
-    ensures refused { IfErr result (λ f. OctetsRefused (carriage role port)
-        (state_of R.meaning node.old) port octets.now time f) }
-    ensures same { OnErr result (state_of R.meaning node.new ≡ state_of R.meaning node.old) }
+    ensures { TakesOctets arrival_answer (carriage role port) (state_of R.meaning node.old) port
+        octets.now time result (state_of R.meaning node.new) }
 {
-    // The call stands at each kind, so that what is read goes into the node without a detour.
+    // One call for each kind of framing: `receive` is compiled for the framing.
     match framing_at(role, port) {
         PortFraming::Plain(framing) => node.receive(&framing, port, octets, time),
         PortFraming::Hsr(framing) => node.receive(&framing, port, octets, time),
@@ -95,7 +95,7 @@ pub(crate) fn arrive<R: Role>(
     }
 }
 
-/// The list of the octets that the host sent; a new one of any other event.
+/// Gives back the list of the octets that the host sent; an empty list for any other event.
 fn list_of(alloc: Global, event: Event) -> Vec<u8> {
     match event {
         Event::Send { frame, .. } => frame.into_octets(),
@@ -103,8 +103,9 @@ fn list_of(alloc: Global, event: Event) -> Vec<u8> {
     }
 }
 
-/// The host sends octets. Their list is the frame's until the node has answered, so that the next line finds its memory again. It
-/// stands apart, as `tick` does, so that a frame that comes in clears no room for an event.
+/// The host sends octets. The frame has their list until the node has answered, and gives it back, so that the next line uses its
+/// memory again.
+// speed: D-session-inlined. Out of line, so that a frame that comes in needs no stack space for an event.
 #[inline(never)]
 fn send<R: Role>(
     alloc: Global,
@@ -112,13 +113,8 @@ fn send<R: Role>(
     octets: &mut Vec<u8>,
     time: u64,
 ) -> Result<Answer, StepFault>
-    ensures taken { IfOk result (λ a. Step (state_of R.meaning node.old) (event.Send
-        octets.old.items time) a (state_of R.meaning node.new)) }
-    ensures ok { OnOk result (refusal_of (state_of R.meaning node.old) (event.Send octets.old.items
-        time) ≡ None) }
-    ensures refused { IfErr result (λ f. f ≡ or_no_memory (refusal_of (state_of R.meaning node.old)
-        (event.Send octets.old.items time))) }
-    ensures same { OnErr result (state_of R.meaning node.new ≡ state_of R.meaning node.old) }
+    ensures { TakesEvent (state_of R.meaning node.old) (event.Send octets.old.items time) result
+        (state_of R.meaning node.new) }
 {
     match view(octets) {
         Ok(_) => {}
@@ -133,14 +129,11 @@ fn send<R: Role>(
 }
 
 /// Time passes.
+// speed: D-session-inlined
 #[inline(never)]
 fn tick<R: Role>(node: &mut NodeOf<R>, now: u64) -> Result<Answer, StepFault>
-    ensures taken { IfOk result (λ a. Step (state_of R.meaning node.old) (event.Tick now) a
-        (state_of R.meaning node.new)) }
-    ensures ok { OnOk result (refusal_of (state_of R.meaning node.old) (event.Tick now) ≡ None) }
-    ensures refused { IfErr result (λ f. f ≡ or_no_memory (refusal_of (state_of R.meaning node.old)
-        (event.Tick now))) }
-    ensures same { OnErr result (state_of R.meaning node.new ≡ state_of R.meaning node.old) }
+    ensures { TakesEvent (state_of R.meaning node.old) (event.Tick now) result
+        (state_of R.meaning node.new) }
 {
     node.step(&Event::Tick { now })
 }
@@ -159,6 +152,7 @@ pub(crate) fn tell_refusal(text: &mut Text, number: u64, fault: StepFault) -> Re
 }
 
 /// Has the node obey an arrival of the line with this number, and appends a line where it refuses.
+// speed: D-session-inlined
 #[inline(always)]
 fn obey_arrival<R: Role>(
     role: RoleKind,
@@ -212,13 +206,15 @@ pub(crate) fn obey<R: Role>(
     }
 }
 
-/// Has the node obey a line, then takes all that waits, and appends what to print for it.
+/// Has the node obey a line, then takes all that waits, and appends what to print for it: a refusal, and where frames are reported a
+/// line for each frame.
 ///
 /// # Errors
-/// `Line` where the line is none of a script, whatever memory there is; `Memory`.
+/// `Line` where the line is not a line of a script, whatever memory there is; `Memory`.
 pub(crate) fn answer<R: Role>(
     alloc: Global,
     role: RoleKind,
+    report: Report,
     node: &mut NodeOf<R>,
     number: u64,
     line: &[u8],
@@ -226,8 +222,9 @@ pub(crate) fn answer<R: Role>(
     frame: &mut Vec<u8>,
     text: &mut Text,
 ) -> Result<(), FaultKind>
-    ensures ok { OnOk result ((answer : List ℕ) × Replied role (state_of R.meaning node.old) number
-        line.now answer (state_of R.meaning node.new) × (text.new ≡ text.old ++ answer)) }
+    ensures ok { OnOk result ((answer : List ℕ) × RepliedAs report role
+        (state_of R.meaning node.old) number line.now answer (state_of R.meaning node.new)
+        × (text.new ≡ text.old ++ answer)) }
     ensures kept { OnErr result (StillHolds text.old text.new) }
     ensures known { OnOk result (IsEventLine role line.now) }
     ensures bad { result ≡ Err FaultKind.Line → IsEventLine role line.now → ⊥ }
@@ -236,8 +233,13 @@ pub(crate) fn answer<R: Role>(
 {
     let command = command_of(role, line, octets)?;
     obey(alloc, role, node, number, command, octets, text)?;
-    append_outlets(role, node, frame, text)?;
-    Ok(())
+    match report {
+        Report::Frames => append_outlets(role, node, frame, text),
+        Report::Status => {
+            drop_all_waiting(node);
+            Ok(())
+        }
+    }
 }
 
 /// Has the node obey the arrival at the front of a text, then takes all that waits, and appends what to print for its line. The
@@ -245,8 +247,9 @@ pub(crate) fn answer<R: Role>(
 ///
 /// # Errors
 /// `Memory`.
+// speed: D-session-unended, D-session-inlined
 #[inline(always)]
-pub(crate) fn answer_front<R: Role>(
+pub(crate) fn answer_unended<R: Role>(
     role: RoleKind,
     node: &mut NodeOf<R>,
     number: u64,

@@ -4,20 +4,20 @@
 mod answering;
 mod count_lines;
 mod counts;
-mod noting;
+mod node_session;
 mod printing;
 mod reading;
-mod replaying;
+mod runs;
 mod setups;
-mod starting;
 mod status;
 mod status_lines;
 mod tallies;
 mod tallying;
+mod unprinted;
 
 pub use answering::{append_refusal, name_of};
 pub use counts::Counts;
 pub use reading::Command;
+pub use runs::{run, run_status};
 pub use setups::Setup;
-pub use starting::{run, run_status};
 pub use tallies::run_tally;

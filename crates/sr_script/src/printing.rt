@@ -30,6 +30,7 @@ pub(crate) fn letter_of(port: Port) -> u8
 }
 
 /// Appends the line for a frame that goes out at a port, of the frame in two pieces.
+// speed: D-session-inlined, D-text-hex-line
 #[inline(always)]
 fn append_frame(text: &mut Text, port: Port, front: &[u8], behind: &[u8]) -> Result<(), AllocError>
     requires { length front.now + length behind.now ≤ 1524 }
@@ -59,6 +60,7 @@ fn write_framed(
 }
 
 /// The octets of a parcel, where the framing of a port writes them as they are.
+// speed: D-script-in-place
 fn framed_in_place(role: RoleKind, port: Port, parcel: &Parcel) -> Option<&[u8]>
     ensures written { IfSome result (λ octets.
         IsWritten (carriage role port) parcel.now.form parcel.now octets.now) }
@@ -72,7 +74,8 @@ fn framed_in_place(role: RoleKind, port: Port, parcel: &Parcel) -> Option<&[u8]>
     }
 }
 
-/// Appends the line for a parcel that goes out at another port than the host's. The list is used again.
+/// Appends the line for a parcel that goes out at another port than the host's. The list `frame` is used again.
+// speed: D-session-inlined
 #[inline(always)]
 fn append_framed(
     role: RoleKind,
@@ -97,7 +100,8 @@ fn append_framed(
     Ok(())
 }
 
-/// Appends the line for a parcel that goes out at a port. The list is used again.
+/// Appends the line for a parcel that goes out at a port. The list `frame` is used again.
+// speed: D-session-inlined
 #[inline(always)]
 fn append_parcel(
     role: RoleKind,
@@ -122,8 +126,9 @@ fn append_parcel(
 }
 
 /// Takes the first parcel that waits at a port, if one waits, and appends the line for its frame.
-#[inline(always)]
-fn append_first_at<R: Role>(
+// speed: D-script-waits-first. Out of line, so that a port where nothing waits costs no call.
+#[inline(never)]
+fn append_first<R: Role>(
     role: RoleKind,
     node: &mut NodeOf<R>,
     port: Port,
@@ -142,30 +147,9 @@ fn append_first_at<R: Role>(
     Ok(())
 }
 
-/// Out-of-line wrapper around `append_first_at`, so that a port where nothing waits costs no call. It is asked once which port it is,
-/// and in each of the four answers that is known where the code is made.
-#[inline(never)]
-fn append_first<R: Role>(
-    role: RoleKind,
-    node: &mut NodeOf<R>,
-    port: Port,
-    frame: &mut Vec<u8>,
-    text: &mut Text,
-) -> Result<(), FaultKind>
-    ensures ok { OnOk result ((line : List ℕ) × FirstLeft role port (state_of R.meaning node.old)
-        line (state_of R.meaning node.new) × (text.new ≡ text.old ++ line)) }
-    ensures kept { OnErr result (StillHolds text.old text.new) }
-    ensures err { IfErr result (λ kind. kind ≡ FaultKind.Memory) }
-{
-    match port {
-        Port::H => append_first_at(role, node, Port::H, frame, text),
-        Port::A => append_first_at(role, node, Port::A, frame, text),
-        Port::B => append_first_at(role, node, Port::B, frame, text),
-        Port::C => append_first_at(role, node, Port::C, frame, text),
-    }
-}
-
-/// Takes all that waits at a port, one after the other, and appends a line for each frame. As a rule nothing waits.
+/// Takes all that waits at a port, one after the other, and appends a line for each frame. As a rule nothing waits, so the port is
+/// asked first.
+// speed: D-script-waits-first
 fn append_waiting<R: Role>(
     role: RoleKind,
     node: &mut NodeOf<R>,
@@ -185,6 +169,7 @@ fn append_waiting<R: Role>(
 }
 
 /// Takes all that waits, outlet by outlet, and appends a line for each frame.
+// speed: D-session-inlined
 #[inline(always)]
 pub(crate) fn append_outlets<R: Role>(
     role: RoleKind,

@@ -1,4 +1,4 @@
-//! What a line of a script asks for.
+//! What a line of a script of events at a node asks for.
 
 ghost use Rattle.std.specs.Prelude.{◌≡◌, ◌↔◌, ◌<◌, ◌^◌, ℕ, List, codes, IfOk, IfErr, OnOk, IfSome, IsSomeAnd, IsTrue, ◌++◌, MatchResult, Err, ◌∷◌, []};
 ghost use Rattle.std.specs.Fmt.{decimal};
@@ -14,7 +14,7 @@ use sr_hex::read_front;
 use sr_session::{FaultKind, MAX_LINE};
 use sr_words::{behind_send, is_comment, number_of, read_hex, split_word};
 
-/// What a line asks for. Its octets stand beside it.
+/// What a line asks for. The octets that it names are kept beside it.
 #[derive(Clone, Copy, Debug)]
 pub enum Command {
     /// Nothing: the line is empty or begins with `#`.
@@ -27,7 +27,7 @@ pub enum Command {
     Tick(u64),
 }
 
-/// What stands behind the word `in` and a space.
+/// The text behind the word `in` and a space.
 fn behind_in(line: &[u8]) -> Option<&[u8]>
     ensures found { IfSome result (λ rest. line.now ≡ codes "in " ++ rest.now) }
     ensures only { (rest : List ℕ) → line.now ≡ codes "in " ++ rest
@@ -39,7 +39,7 @@ fn behind_in(line: &[u8]) -> Option<&[u8]>
     }
 }
 
-/// The port that a text begins with, where frames come in, and what stands behind it and a space.
+/// The port that a text begins with, if frames come in there, and the text behind it and a space.
 fn split_inlet(role: RoleKind, text: &[u8]) -> Option<(Port, &[u8])>
     ensures found { IfSome result (λ parts.
         (text.now ≡ letter_of parts.0 ++ 32 ∷ parts.1.now) × IsInlet role parts.0) }
@@ -77,7 +77,7 @@ fn timed(text: &[u8], octets: &mut Vec<u8>) -> Result<u64, FaultKind>
     }
 }
 
-/// Reads what stands behind the word `in`: the port, the time and the octets.
+/// Reads the text behind the word `in`: the port, the time and the octets.
 fn arrival(role: RoleKind, text: &[u8], octets: &mut Vec<u8>) -> Result<Command, FaultKind>
     ensures found { IfOk result (λ command. IsArrival role text.now command octets.new.items) }
     ensures only { (port : Port) (time : ℕ) (os : List ℕ)
@@ -97,7 +97,7 @@ fn arrival(role: RoleKind, text: &[u8], octets: &mut Vec<u8>) -> Result<Command,
     }
 }
 
-/// Reads what stands behind the word `send`: the time and the octets.
+/// Reads the text behind the word `send`: the time and the octets.
 fn sending(text: &[u8], octets: &mut Vec<u8>) -> Result<Command, FaultKind>
     ensures found { IfOk result (λ command. IsSending text.now command octets.new.items) }
     ensures only { (time : ℕ) (os : List ℕ) → IsSending text.now (Command.Send time) os
@@ -124,7 +124,7 @@ fn tick_of(line: &[u8]) -> Option<u64>
 /// What a line asks for at a node of this role. The octets that it names are then in `octets`, and nothing else is.
 ///
 /// # Errors
-/// `Line` where the line is none of a script, whatever memory there is; `Memory`.
+/// `Line` where the line is not a line of a script, whatever memory there is; `Memory`.
 pub(crate) fn command_of(
     role: RoleKind,
     line: &[u8],
@@ -154,7 +154,7 @@ pub(crate) fn command_of(
     }
 }
 
-/// A frame that arrives, of which the whole line stands at the front of a text.
+/// A frame that arrives, whose whole line is at the front of a text.
 #[derive(Clone, Copy)]
 pub(crate) struct FrontArrival {
     /// Where it comes in.
@@ -167,9 +167,10 @@ pub(crate) struct FrontArrival {
     pub(crate) length: usize,
 }
 
-/// The arrival at the front of a text, whose line ends where its digits end: nobody has to look for the LF. The octets that it names
-/// are then the first ones of `octets`. None where the front is to be read line by line: it is another line, or has a fault, or its
-/// end is too near to that of the text.
+/// The arrival at the front of a text, whose line ends where its digits end, so that its LF need not be looked for. The octets that it
+/// names are then the first ones of `octets`. None: the front is to be read as any other line, since it is no arrival, has a fault, or
+/// ends too near to the end of the text.
+// speed: D-session-unended
 #[inline(always)]
 pub(crate) fn arrival_at(role: RoleKind, text: &[u8], octets: &mut [u8]) -> Option<FrontArrival>
     ensures { IfSome result (λ a. StandsAtFront role text.now a octets.new) }

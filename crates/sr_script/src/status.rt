@@ -1,7 +1,8 @@
-//! A script of events at a node: at the end it is told what the node knows of other nodes.
+//! A node at work on a script of events: at the end is printed what it knows of other nodes.
 
-use crate::noting::note;
-use crate::replaying::NodeSession;
+use crate::answering::answer;
+use crate::node_session::NodeSession;
+use crate::setups::Report;
 use crate::status_lines::tell_status;
 use sr_forwarding::Role;
 use sr_session::{FaultKind, Session};
@@ -27,13 +28,15 @@ impl<P: Role> Session for StatusSession<P> {
 
     fn answer(&mut self, number: u64, line: &[u8], text: &mut Text) -> Result<(), FaultKind> {
         let at_work = &mut self.0;
-        note(
+        answer(
             at_work.alloc,
             at_work.role,
+            Report::Status,
             &mut at_work.node,
             number,
             line,
             &mut at_work.octets,
+            &mut at_work.frame,
             text,
         )
     }

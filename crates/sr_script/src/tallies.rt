@@ -1,16 +1,15 @@
-//! A script of events at a node: at the end it is told what the node knows of other nodes, and what was counted of the lines.
+//! A node at work on a script of events: at the end is printed what it knows of other nodes, and what was counted of the lines.
 
-ghost use Rattle.std.specs.Prelude.{◌≡◌, ◌⊎◌, IfErr, OnOk, IfSome};
+ghost use Rattle.std.specs.Prelude.{◌≡◌};
 ghost use Rattle.sr_forwarding.specs.RoleImages.{role_of};
-ghost use Rattle.sr_session.specs.Lines.{lines_of};
-ghost use Rattle.sr_session.specs.Runs.{IsAnswered, EndsAt, IsNotBegun};
+ghost use Rattle.sr_session.specs.Runs.{Runs};
 ghost use Rattle.sr_script.specs.Tallies.{tally_dialogue, tally_start};
 
 use crate::count_lines::append_counts;
 use crate::counts::Counts;
-use crate::replaying::NodeSession;
+use crate::node_session::NodeSession;
+use crate::runs::{run_owned, session_of};
 use crate::setups::Setup;
-use crate::starting::{run_owned, session_of};
 use crate::status_lines::tell_status;
 use crate::tallying::tally;
 use sr_forwarding::{Danh, Danp, Role, RoleKind};
@@ -70,15 +69,8 @@ fn tally_over<P: Role, R: BufRead, W: Write>(
     writer: &mut W,
 ) -> Result<(), Fault>
     requires { P.meaning role ≡ role_of setup.now.role setup.now.mac }
-    ensures done { OnOk result (IfSome (R.remaining reader.old) (λ input.
-        IsAnswered tally_dialogue (tally_start setup.now) (lines_of input)
-        (W.contents writer.old) (W.contents writer.new))) }
-    ensures ended { IfErr result (λ fault.
-        IsNotBegun fault (R.remaining reader.old) (R.remaining reader.new) (W.contents writer.old)
-        (W.contents writer.new)
-        ⊎ IfSome (R.remaining reader.old) (λ input.
-        EndsAt tally_dialogue (tally_start setup.now) (lines_of input) fault
-        (R.remaining reader.new) (W.contents writer.old) (W.contents writer.new))) }
+    ensures { Runs tally_dialogue (tally_start setup.now) (R.remaining reader.old)
+        (R.remaining reader.new) (W.contents writer.old) (W.contents writer.new) result }
 {
     match session_of(alloc, setup, role) {
         Ok(at_work) => {
@@ -101,17 +93,9 @@ pub fn run_tally<R: BufRead, W: Write>(
     reader: &mut R,
     writer: &mut W,
 ) -> Result<(), Fault>
-    // All lines are lines of a script, and what is written is the refusals of them, and then the status and the counts.
-    ensures done { OnOk result (IfSome (R.remaining reader.old) (λ input. IsAnswered tally_dialogue
-        (tally_start setup.now) (lines_of input) (W.contents writer.old) (W.contents writer.new))) }
-
-    // Memory was refused before anything was read. Or the lines before that of the fault are answered, and that line has this fault.
-    ensures ended { IfErr result (λ fault.
-        IsNotBegun fault (R.remaining reader.old) (R.remaining reader.new) (W.contents writer.old)
-        (W.contents writer.new)
-        ⊎ IfSome (R.remaining reader.old) (λ input.
-        EndsAt tally_dialogue (tally_start setup.now) (lines_of input) fault
-        (R.remaining reader.new) (W.contents writer.old) (W.contents writer.new))) }
+    // What is written is the refusals among the answers to the lines, and then the status and the counts.
+    ensures { Runs tally_dialogue (tally_start setup.now) (R.remaining reader.old)
+        (R.remaining reader.new) (W.contents writer.old) (W.contents writer.new) result }
 {
     match setup.role {
         RoleKind::Danp => tally_over(alloc, setup, Danp::new(setup.mac), reader, writer),

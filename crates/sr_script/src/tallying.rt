@@ -1,4 +1,4 @@
-//! What a node does with a line that is counted, where nothing that goes out is printed.
+//! What a node does with a line that is counted. What goes out is not printed.
 
 ghost use Rattle.std.specs.Prelude.{◌≡◌, ◌∷◌, [], ◌++◌, ℕ, List, IfErr, OnOk, OnErr, Err};
 ghost use Rattle.sr_node.specs.States.{state_of};
@@ -12,8 +12,8 @@ ghost use Rattle.sr_script.specs.Tallies.{Tallied};
 
 use crate::answering::{arrive, obey, tell_refusal};
 use crate::counts::Counts;
-use crate::noting::drop_all_waiting;
 use crate::reading::{Command, command_of};
+use crate::unprinted::drop_all_waiting;
 use sr_forwarding::{Role, RoleKind};
 use sr_frame::Port;
 use sr_node::NodeOf;
@@ -77,10 +77,10 @@ fn obey_counted<R: Role>(
     }
 }
 
-/// Has the node obey a line, counts it, then takes all that waits, of which nothing is printed.
+/// Has the node obey a line, counts it, then takes all that waits, and prints none of it.
 ///
 /// # Errors
-/// As those of `note`.
+/// Those of `answer`.
 pub(crate) fn tally<R: Role>(
     alloc: Global,
     role: RoleKind,

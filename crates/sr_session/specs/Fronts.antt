@@ -1,5 +1,5 @@
 -- The whole line at the front of a text, and what is done with it.
-use Rattle.std.specs.Prelude.{◌≡◌, ℕ, ◌+◌, ◌≤◌, ◌<◌, Option, None, Some, List, ◌∷◌, ◌++◌, [], length, drop}
+use Rattle.std.specs.Prelude.{◌≡◌, ℕ, ◌+◌, ◌≤◌, ◌<◌, Option, None, Some, Result, Ok, Err, List, ◌∷◌, ◌++◌, [], length, drop}
 use Rattle.sr_session.specs.declared.fault.FaultKind.{FaultKind}
 use Rattle.sr_session.specs.declared.fault.FaultKind.TheVariants as kind
 use Rattle.sr_session.specs.declared.waiting.Mark.{Mark}
@@ -9,14 +9,14 @@ use Rattle.sr_session.specs.Octets.{Lacks}
 use Rattle.sr_session.specs.Runs.{Dialogue}
 use Rattle.sr_session.specs.Turns.{AddsAnswer}
 
--- a line that is not too long stands at the front of a text, and then the LF that ends it
+-- the text begins with this line, which is not too long, and the LF that ends it
 pub record IsFrontLine (text line : List ℕ) : Type 0 where
   pub unbroken : Lacks 10 line
   pub short : length line ≤ longest_line
   pub parts : text ≡ line ++ 10 ∷ drop (length line + 1) text
   pub within : length line < length text
 
--- The line at the front, of this length, is known and answered, and the answer stands behind a text. Without a length nothing is done.
+-- The line at the front, of this length, is known and answered, and the answer is appended to a text. Without a length nothing is done.
 abbrev pub AnswersFront : {S : Type 0} → Dialogue S → S → ℕ → List ℕ → Option ℕ → List ℕ → List ℕ → S → Type 0
 AnswersFront d s number front None text later t = (later ≡ text) × (t ≡ s)
 AnswersFront d s number front (Some n) text later t = (line answer : List ℕ) × IsFrontLine front line × (n ≡ length line)
@@ -36,3 +36,9 @@ AddsFront d s number front (Some n) text marks later more t = (line : List ℕ) 
 abbrev pub FrontFails : {S : Type 0} → Dialogue S → S → List ℕ → FaultKind → Type 0
 FrontFails d s front w = IsOneOf w (kind.Line ∷ kind.Memory ∷ []) × (line : List ℕ) × IsFrontLine front line
     × (w ≡ kind.Line → d.Knows s line → ⊥) × (w ≡ kind.Memory → d.Knows s line)
+
+-- What comes of the line at the front. Without a fault it is answered, or nothing is done; with one nothing more waits.
+abbrev pub ObeysFront : {S : Type 0} → Dialogue S → S → ℕ → List ℕ → List ℕ → List Mark → List ℕ → List Mark → S
+    → Result (Option ℕ) FaultKind → Type 0
+ObeysFront d s number front text marks later more t (Ok found) = AddsFront d s number front found text marks later more t
+ObeysFront d s number front text marks later more t (Err w) = FrontFails d s front w × (later ≡ text) × (more ≡ marks)

@@ -53,7 +53,7 @@ TakesLine false line (Some xs) (Some ys) = lines_of xs ≡ []
 abbrev pub TakesPart : Option (List ℕ) → Option (List ℕ) → Type 0
 TakesPart before after = (part : List ℕ) × Consumes before after part × Lacks 10 part × (length part ≤ longest_line)
 
--- what stands behind the octets that were taken of a line
+-- the octets behind those that were taken of a line
 abbrev pub end_of : Piece → List ℕ
 end_of Part = []
 end_of Last = 10 ∷ []

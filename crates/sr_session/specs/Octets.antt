@@ -2,7 +2,7 @@
 use Rattle.std.specs.Prelude.{◌≡◌, ◌≢◌, ◌<◌, ◌+◌, ℕ, List, [], ◌∷◌, ◌++◌, length, take, Option, None, Some}
 use Rattle.std.specs.List.{join_with_byte}
 
--- what a text held still stands at its front
+-- a text still begins with what it held
 abbrev pub StillHolds : List ℕ → List ℕ → Type 0
 StillHolds before after = (behind : List ℕ) × (after ≡ before ++ behind)
 

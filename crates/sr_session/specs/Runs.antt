@@ -1,5 +1,5 @@
 -- What a run of a script writes, and where it ends, whatever the lines are for.
-use Rattle.std.specs.Prelude.{◌≡◌, ℕ, ◌+◌, ◌<◌, ◌≤◌, List, [], ◌∷◌, ◌++◌, length, Option, None, Some, ◌⊎◌}
+use Rattle.std.specs.Prelude.{◌≡◌, ℕ, ◌+◌, ◌<◌, ◌≤◌, List, [], ◌∷◌, ◌++◌, length, Option, None, Some, IfSome, Result, Ok, Err, ◌⊎◌}
 use Rattle.std.specs.Io.KnownBytes.{Appends, Keeps}
 use Rattle.sr_session.specs.declared.fault.Fault.{Fault}
 use Rattle.sr_session.specs.declared.fault.FaultKind.{FaultKind}
@@ -84,9 +84,18 @@ pub record EndsFrom {S : Type 0} (d : Dialogue S) (start : S) (first : ℕ) (lin
 abbrev pub EndsAt : {S : Type 0} → Dialogue S → S → List (List ℕ) → Fault → Option (List ℕ) → Option (List ℕ) → Option (List ℕ) → Type 0
 EndsAt d start lines fault rest held now = EndsFrom d start 1 lines fault rest held now
 
--- memory was refused before the first line was read
+-- an allocation failed before the first line was read
 pub record IsNotBegun (fault : Fault) (left rest held now : Option (List ℕ)) : Type 0 where
   pub line : fault.line ≡ 1
   pub kind_is : fault.kind ≡ kind.Memory
   pub read : Keeps left rest
   pub written : Keeps held now
+
+-- What comes of a run: the octets that the reader had left and has left, those that the writer held and holds, and the result. Where
+-- it ends well, all lines are answered. Where it ends early, an allocation failed before the first line was read, or the lines before
+-- that of the fault are answered, and that line has this fault.
+abbrev pub Runs : {S : Type 0} → Dialogue S → S → Option (List ℕ) → Option (List ℕ) → Option (List ℕ) → Option (List ℕ)
+    → Result (Unit {0}) Fault → Type 0
+Runs d start left rest held now (Ok done) = IfSome left (λ input. IsAnswered d start (lines_of input) held now)
+Runs d start left rest held now (Err fault) =
+    IsNotBegun fault left rest held now ⊎ IfSome left (λ input. EndsAt d start (lines_of input) fault rest held now)

@@ -9,15 +9,15 @@ use std::fmt;
 /// What ends a run.
 #[derive(Clone, Copy, Debug, PartialEq, Eq)]
 pub enum FaultKind {
-    /// The line is none of a script: not of its grammar, or not ASCII.
+    /// The line is not a line of a script: not of its grammar, or not ASCII.
     Line,
-    /// The line has more than 8000 octets, or 1,000,000 lines stand before it.
+    /// The line has more than 8000 octets, or comes behind 1,000,000 lines.
     Long,
     /// The reader failed; an interrupted read is a failure too.
     Read,
     /// The writer failed.
     Write,
-    /// Memory was refused.
+    /// An allocation failed.
     Memory,
 }
 
@@ -70,7 +70,7 @@ impl fmt::Display for Fault {
 
 impl Error for Fault {}
 
-/// Memory was refused before the first line was read.
+/// An allocation failed before the first line was read.
 pub const NOT_BEGUN: Fault = Fault {
     line: 1,
     kind: FaultKind::Memory,

@@ -11,3 +11,4 @@ pub use fault::{Fault, FaultKind, NOT_BEGUN};
 pub use lines::MAX_LINE;
 pub use running::run_session;
 pub use session::Session;
+pub use waiting::write_out;

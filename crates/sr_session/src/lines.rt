@@ -24,7 +24,7 @@ pub(crate) enum Piece {
     End,
 }
 
-/// Where an octet stands first.
+/// The place of the first octet of this value.
 pub(crate) fn place_of(octet: u8, octets: &[u8]) -> Option<usize>
     ensures { IsPlaceOf octet octets.now result }
 {
@@ -107,7 +107,7 @@ pub(crate) fn is_at_end<R: BufRead>(reader: &mut R) -> Result<bool, FaultKind>
     }
 }
 
-/// A list with room for the longest line. An error where its growth was refused.
+/// A list with room for the longest line. An error: the allocation failed.
 pub(crate) fn line_list(alloc: Global) -> Result<Vec<u8>, AllocError>
     ensures { IfOk result (λ line. 8001 ≤ vec_capacity line) }
 {

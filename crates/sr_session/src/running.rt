@@ -1,10 +1,10 @@
-//! A run of a script. It knows no node: what the lines are for is the session's.
+//! A run of a script: the loop over its lines. It knows no node: the session obeys the lines.
 
 ghost use Rattle.std.specs.Prelude.{◌≡◌, ◌⊎◌, ◌≤◌, ◌<◌, ◌++◌, ◌∷◌, [], ℕ, List, IfOk, IfErr, OnOk, OnErr, Err, IfSome, length, vec_capacity};
 ghost use Rattle.std.specs.Io.KnownBytes.{Appends};
 ghost use Rattle.sr_session.specs.Lines.{lines_of, IsOneOf};
-ghost use Rattle.sr_session.specs.Runs.{IsAnswered, IsNotBegun, EndsAt, EndsFrom, HeldSince, HasFault};
-ghost use Rattle.sr_session.specs.Fronts.{IsFrontLine, AddsFront, FrontFails};
+ghost use Rattle.sr_session.specs.Runs.{IsAnswered, EndsAt, EndsFrom, HeldSince, HasFault, Runs};
+ghost use Rattle.sr_session.specs.Fronts.{IsFrontLine, ObeysFront};
 ghost use Rattle.sr_session.specs.Turns.{AddsAnswer, IsFront, AreObeyed, Turned, AllAnswered};
 
 use crate::fault::{Fault, FaultKind, NOT_BEGUN};
@@ -17,7 +17,7 @@ use std::io::{BufRead, Write};
 /// The most lines of a script.
 const MAX_LINES: u64 = 1_000_000;
 
-/// So many octets that wait are written before another line is obeyed.
+/// As soon as so many octets wait they are written, before another line is obeyed.
 const MAX_WAITING: usize = 65536;
 
 /// How far the lines at hand are obeyed.
@@ -40,7 +40,7 @@ fn front_line(octets: &[u8]) -> Option<&[u8]>
     Some(&near[..at])
 }
 
-/// Has the session obey a line. What is to be printed for it waits then, behind what waited.
+/// Has the session obey a line, and appends what is to be printed for it to what waits. On an error what waits is unchanged.
 fn obey_line<S: Session>(
     session: &mut S,
     number: u64,
@@ -70,7 +70,8 @@ fn obey_line<S: Session>(
 }
 
 /// Looks for the end of the line at the front of octets, and has the session obey the line. The answer is how many octets it has,
-/// without its LF; None where there is no whole line. It stands apart, so that a line whose end is not looked for costs no call.
+/// without its LF; None where there is no whole line.
+// speed: D-session-unended. Out of line, so that a line whose end the session finds itself costs no call.
 #[inline(never)]
 fn obey_sought<S: Session>(
     session: &mut S,
@@ -78,13 +79,9 @@ fn obey_sought<S: Session>(
     octets: &[u8],
     waiting: &mut Waiting,
 ) -> Result<Option<usize>, FaultKind>
-    ensures ok { IfOk result (λ found. AddsFront S.dialogue (S.state session.old) number octets.now
-        found waiting.old.text waiting.old.marks.items waiting.new.text
-        waiting.new.marks.items (S.state session.new)) }
-    ensures within { IfOk result (λ found. IfSome found (λ n. n < length octets.now)) }
-    ensures fails { IfErr result (FrontFails S.dialogue (S.state session.old) octets.now) }
-    ensures same { OnErr result ((waiting.new.text ≡ waiting.old.text)
-        × (waiting.new.marks.items ≡ waiting.old.marks.items)) }
+    ensures { ObeysFront S.dialogue (S.state session.old) number octets.now
+        waiting.old.text waiting.old.marks.items waiting.new.text waiting.new.marks.items
+        (S.state session.new) result }
 {
     let Some(line) = front_line(octets) else {
         return Ok(None);
@@ -101,16 +98,12 @@ fn obey_whole<S: Session>(
     octets: &[u8],
     waiting: &mut Waiting,
 ) -> Result<Option<usize>, FaultKind>
-    ensures ok { IfOk result (λ found. AddsFront S.dialogue (S.state session.old) number octets.now
-        found waiting.old.text waiting.old.marks.items waiting.new.text
-        waiting.new.marks.items (S.state session.new)) }
-    ensures within { IfOk result (λ found. IfSome found (λ n. n < length octets.now)) }
-    ensures fails { IfErr result (FrontFails S.dialogue (S.state session.old) octets.now) }
-    ensures same { OnErr result ((waiting.new.text ≡ waiting.old.text)
-        × (waiting.new.marks.items ≡ waiting.old.marks.items)) }
+    ensures { ObeysFront S.dialogue (S.state session.old) number octets.now
+        waiting.old.text waiting.old.marks.items waiting.new.text waiting.new.marks.items
+        (S.state session.new) result }
 {
     let from = waiting.text.len();
-    let answered = match session.answer_front(number, octets, &mut waiting.text) {
+    let answered = match session.answer_unended(number, octets, &mut waiting.text) {
         Ok(None) => return obey_sought(session, number, octets, waiting),
         Ok(Some(length)) => match waiting.mark(number, from) {
             Ok(()) => Ok(Some(length)),
@@ -165,6 +158,7 @@ fn obey_front<S: Session>(
 
 /// Has the session obey the whole lines that the reader has at hand, and writes what is to be printed for them. `first` is
 /// the number of the first; the answer is the number behind them.
+// speed: D-session-at-hand
 fn obey_at_hand<S: Session, R: BufRead, W: Write>(
     session: &mut S,
     first: u64,
@@ -312,7 +306,7 @@ fn end<S: Session, W: Write>(
     Ok(())
 }
 
-/// Has the session obey the script that the reader has left, where nothing waits yet.
+/// Has the session obey the script that the reader has left, with nothing waiting yet.
 fn obey_script<S: Session, R: BufRead, W: Write>(
     session: &mut S,
     line: &mut Vec<u8>,
@@ -338,56 +332,27 @@ fn obey_script<S: Session, R: BufRead, W: Write>(
     }
 }
 
-/// Runs a session from its first line on, with no answer waiting.
-fn run_with<S: Session, R: BufRead, W: Write>(
-    alloc: Global,
-    session: &mut S,
-    line: &mut Vec<u8>,
-    reader: &mut R,
-    writer: &mut W,
-) -> Result<(), Fault>
-    requires room { 8001 ≤ vec_capacity line.old }
-    ensures done { OnOk result (IfSome (R.remaining reader.old) (λ input.
-        IsAnswered S.dialogue (S.state session.old) (lines_of input) (W.contents writer.old)
-        (W.contents writer.new))) }
-    ensures ended { IfErr result (λ fault. IfSome (R.remaining reader.old) (λ input.
-        EndsAt S.dialogue (S.state session.old) (lines_of input) fault (R.remaining reader.new)
-        (W.contents writer.old) (W.contents writer.new))) }
-{
-    let mut waiting = Waiting::new(alloc);
-    let mut text = Vec::new(alloc);
-    obey_script(session, line, &mut text, &mut waiting, reader, writer)
-}
-
 /// Has the session obey the script that the reader has left, and writes what is to be printed for each line, and then at the
 /// end. Lines are counted from 1. What is printed for lines that the reader has at hand is written together, and flushed,
 /// before more is read, and before a fault.
 ///
 /// # Errors
-/// `Line` and `Long` come at the first line that is none of a script, whatever memory there is. `Read`, `Write` and
-/// `Memory` come where the reader, the writer or the allocator fails, and at no such line. What stands before the line of
-/// the fault is answered, and nothing else is written; where the writer failed, a part of the text of that line may be.
+/// `Line` and `Long` come at the first line that is not a line of a script, whatever memory there is. `Read`, `Write` and
+/// `Memory` come where the reader, the writer or an allocation fails, and at no such line. The lines before that of the fault are
+/// answered, and nothing else is written, but for a part of the text of that line where the writer failed.
 pub fn run_session<S: Session, R: BufRead, W: Write>(
     alloc: Global,
     session: &mut S,
     reader: &mut R,
     writer: &mut W,
 ) -> Result<(), Fault>
-    // All lines are lines of a script, and what is written is the answers to them, and then the end.
-    ensures done { OnOk result (IfSome (R.remaining reader.old) (λ input.
-        IsAnswered S.dialogue (S.state session.old) (lines_of input) (W.contents writer.old)
-        (W.contents writer.new))) }
-
-    // Memory was refused before anything was read. Or the lines before that of the fault are answered, and that line has this fault.
-    ensures ended { IfErr result (λ fault.
-        IsNotBegun fault (R.remaining reader.old) (R.remaining reader.new) (W.contents writer.old)
-        (W.contents writer.new)
-        ⊎ IfSome (R.remaining reader.old) (λ input.
-        EndsAt S.dialogue (S.state session.old) (lines_of input) fault (R.remaining reader.new)
-        (W.contents writer.old) (W.contents writer.new))) }
+    ensures { Runs S.dialogue (S.state session.old) (R.remaining reader.old)
+        (R.remaining reader.new) (W.contents writer.old) (W.contents writer.new) result }
 {
     let Ok(mut line) = line_list(alloc) else {
         return Err(NOT_BEGUN);
     };
-    run_with(alloc, session, &mut line, reader, writer)
+    let mut waiting = Waiting::new(alloc);
+    let mut text = Vec::new(alloc);
+    obey_script(session, &mut line, &mut text, &mut waiting, reader, writer)
 }

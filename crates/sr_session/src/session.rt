@@ -1,4 +1,4 @@
-//! What the lines of a script are for.
+//! What obeys the lines of a script.
 
 ghost use Rattle.std.specs.Prelude.{◌≡◌, ◌∷◌, [], ◌++◌, ℕ, List, IfOk, OnOk, OnErr, IfErr, Err};
 ghost use Rattle.sr_session.specs.Octets.{StillHolds};
@@ -7,7 +7,7 @@ ghost use Rattle.sr_session.specs.Lines.{IsOneOf};
 use crate::fault::FaultKind;
 use sr_text::Text;
 
-/// What obeys the lines of a script, and says what is printed for each and at the end. It knows no reader and no writer.
+/// Obeys the lines of a script, and says what is printed for each line and at the end. It knows no reader and no writer.
 pub trait Session: Drop {
     ghost use Rattle.sr_session.specs.Runs.{Dialogue};
     ghost use Rattle.sr_session.specs.Fronts.{AnswersFront, KnowsFront};
@@ -20,10 +20,10 @@ pub trait Session: Drop {
     // Which lines it knows, what it answers to them, and what it says at the end.
     ghost dialogue: { Dialogue State };
 
-    /// Obeys the line with this number. What is to be printed for it then stands behind what `text` held.
+    /// Obeys the line with this number, and appends what is to be printed for it to `text`.
     ///
-    /// Errors: `Line` where it does not know the line, whatever memory there is; `Memory`. On an error the earlier contents of
-    /// `text` are unchanged; what was appended behind them says nothing and has to be cut off.
+    /// Errors: `Line` where it does not know the line, whatever memory there is; `Memory`. On an error the previous contents of
+    /// `text` are unchanged; anything appended after them is garbage and must be truncated.
     fn answer(&mut self, number: u64, line: &[u8], text: &mut Text) -> Result<(), FaultKind>
         ensures ok { OnOk result ((answer : List ℕ)
             × dialogue.Replied (state self.old) number line.now answer (state self.new)
@@ -35,13 +35,14 @@ pub trait Session: Drop {
         ensures fault { IfErr result
             (λ kind. IsOneOf kind (FaultKind.Line ∷ FaultKind.Memory ∷ [])) };
 
-    /// Obeys the line at the front of a text where the session can tell on the way where that ends. The answer is how many octets the
-    /// line has, without the LF that ends it. What is to be printed for it then stands behind what `text` held. None where the end of
-    /// the line has to be looked for: nothing is done then, and `answer` obeys the line.
+    /// Obeys the line at the front of a text whose end was not looked for, if the session finds the end itself as it reads the line.
+    /// The answer is how many octets the line has, without the LF that ends it; what is to be printed for it is appended to `text`.
+    /// None: the end of the line has to be looked for. Nothing is done then, and `answer` obeys the line.
     ///
-    /// Errors: `Memory`. On an error the earlier contents of `text` are unchanged; what was appended behind them says nothing and
-    /// has to be cut off.
-    fn answer_front(
+    /// Errors: `Memory`. On an error the previous contents of `text` are unchanged; anything appended after them is garbage and must
+    /// be truncated.
+    // speed: D-session-unended
+    fn answer_unended(
         &mut self,
         number: u64,
         front: &[u8],

@@ -19,7 +19,7 @@ pub(crate) struct Mark {
 }
 
 /// Writes a text. The answer is how many of its octets the writer took: all, unless it failed.
-pub(crate) fn write_out<W: Write>(writer: &mut W, text: &[u8]) -> usize
+pub fn write_out<W: Write>(writer: &mut W, text: &[u8]) -> usize
     ensures bound { result ≤ length text.now }
     ensures held { Appends (W.contents writer.old) (W.contents writer.new) (take result text.now) }
 {
@@ -71,7 +71,8 @@ impl Waiting {
         }
     }
 
-    /// Takes back what stands from a place on.
+    /// Cuts off the text from a place on.
+    // speed: D-session-inlined
     #[inline(always)]
     pub(crate) fn cut(&mut self, start: usize)
         ensures text { self.new.text ≡ take start self.old.text }
@@ -80,10 +81,11 @@ impl Waiting {
         self.text.truncate(start);
     }
 
-    /// Marks what stands from a place on as the text of a line.
+    /// Marks the text from a place on as that of a line.
     ///
     /// # Errors
     /// `Memory`.
+    // speed: D-session-inlined
     #[inline(always)]
     pub(crate) fn mark(&mut self, line: u64, start: usize) -> Result<(), FaultKind>
         ensures text { self.new.text ≡ self.old.text }

@@ -1,8 +1,8 @@
 -- How a threaded run begins, and how it ends.
-use Rattle.std.specs.Prelude.{◌≡◌, ◌⊎◌, ℕ, List, [], ◌++◌, Option, IfSome}
+use Rattle.std.specs.Prelude.{◌≡◌, ◌⊎◌, ℕ, List, [], ◌++◌, Option, IfSome, Result, Ok, Err}
 use Rattle.std.specs.Io.KnownBytes.{Appends}
 use Rattle.sr_session.specs.Lines.{lines_of}
-use Rattle.sr_session.specs.Runs.{IsAnswered, IsNotBegun, EndsAt}
+use Rattle.sr_session.specs.Runs.{IsAnswered, Runs}
 use Rattle.sr_threaded_script.specs.declared.setup.ThreadedSetup.{ThreadedSetup}
 use Rattle.sr_threaded_script.specs.declared.fault.ThreadedFault.{ThreadedFault}
 use Rattle.sr_threaded_script.specs.declared.fault.ThreadedFault.TheVariants.{Script, NoThread}
@@ -33,12 +33,15 @@ abbrev pub StopsBehind : Sendings → List ℕ → Option (List ℕ) → Option 
 StopsBehind start input held now =
     (mid : Option (List ℕ)) × (text : List ℕ) × IsAnswered threaded_dialogue start (lines_of input) held mid × WritesFront text mid now
 
--- a fault of the script, as of any script: no memory was there to begin, or the lines before that of the fault are answered
+-- a fault of the script, as of any script
 abbrev pub StopsWithin : Sendings → ThreadedFault → Option (List ℕ) → Option (List ℕ) → Option (List ℕ) → Option (List ℕ) → Type 0
-StopsWithin start (Script fault) left rest held now =
-    IsNotBegun fault left rest held now ⊎ IfSome left (λ input. EndsAt threaded_dialogue start (lines_of input) fault rest held now)
+StopsWithin start (Script fault) left rest held now = Runs threaded_dialogue start left rest held now (Err fault)
 StopsWithin start (NoThread line) left rest held now = ⊥
 
-abbrev pub StopsEarly : Sendings → ThreadedFault → Option (List ℕ) → Option (List ℕ) → Option (List ℕ) → Option (List ℕ) → Type 0
-StopsEarly start fault left rest held now =
+-- What comes of a threaded run. Where it ends well, all lines are answered, and then the nodes are reported. Where it ends early, the
+-- script does, as any script; or all lines are answered, and then no more than a front of a report is written.
+abbrev pub RunsThreaded : Sendings → Option (List ℕ) → Option (List ℕ) → Option (List ℕ) → Option (List ℕ)
+    → Result (Unit {0}) ThreadedFault → Type 0
+RunsThreaded start left rest held now (Ok done) = IfSome left (λ input. RunsWhole start input held now)
+RunsThreaded start left rest held now (Err fault) =
     StopsWithin start fault left rest held now ⊎ IfSome left (λ input. StopsBehind start input held now)

@@ -46,7 +46,7 @@ impl Host {
         &self.given
     }
 
-    // A growth was refused: that is a failure, or nothing where there were as many as can be counted.
+    // An allocation failed: that counts as a failure, unless there were as many failures as can be counted.
     fn fail(&mut self) -> Result<(), FeedFault>
         ensures lost { self.new.lost ≡ self.old.lost }
         ensures ok { OnOk result (self.new.failures ≡ self.old.failures) }

@@ -11,7 +11,7 @@ use std::alloc::Global;
 /// What a line asks for: that the host of a node sends the octets that are then in `octets`, or nothing.
 ///
 /// # Errors
-/// `Line` where the line is none of such a script, whatever memory there is; `Memory`.
+/// `Line` where the line is not a line of such a script, whatever memory there is; `Memory`.
 pub(crate) fn sending_of(
     line: &[u8],
     octets: &mut Vec<u8>,

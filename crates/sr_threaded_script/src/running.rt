@@ -1,40 +1,20 @@
 //! A script whose nodes run on threads.
 
-ghost use Rattle.std.specs.Prelude.{◌≡◌, ◌≤◌, length, take, true, IfErr, OnOk, OnErr, IfSome, ℕ, List};
+ghost use Rattle.std.specs.Prelude.{◌≡◌, true, OnOk, OnErr, ℕ, List};
 ghost use Rattle.std.specs.Io.KnownBytes.{Appends};
 ghost use Rattle.sr_threaded_script.specs.Reports.{IsReport};
-ghost use Rattle.sr_threaded_script.specs.Runs.{no_sendings_of, RunsWhole, StopsEarly, WritesFront};
+ghost use Rattle.sr_threaded_script.specs.Runs.{no_sendings_of, RunsThreaded, WritesFront};
 
 use crate::fault::{ThreadedFault, fault_at};
 use crate::network::run_network;
 use crate::session::SendSession;
 use crate::setup::ThreadedSetup;
-use sr_session::{Fault, FaultKind, run_session};
+use sr_session::{Fault, FaultKind, run_session, write_out};
 use sr_text::Text;
 use std::alloc::Global;
-use std::io::{BufRead, ErrorKind, Write};
+use std::io::{BufRead, Write};
 use std::sync::Wait;
 use std::thread::Threads;
-
-// Writes a text. The answer is how many of its octets the writer took: all, unless it failed.
-fn write_out<O: Write>(writer: &mut O, text: &[u8]) -> usize
-    ensures bound { result ≤ length text.now }
-    ensures held { Appends (O.contents writer.old) (O.contents writer.new) (take result text.now) }
-{
-    let mut taken = 0;
-    for _ in 0..u64::MAX {
-        if taken == text.len() {
-            return taken;
-        }
-        match writer.write(&text[taken..]) {
-            Ok(0) => return taken,
-            Ok(count) => taken += count,
-            Err(error) if error.kind() == ErrorKind::Interrupted => {}
-            Err(_) => return taken,
-        }
-    }
-    taken
-}
 
 // Writes what is printed at the end. False where the writer failed.
 fn write_report<O: Write>(writer: &mut O, text: &Text) -> bool
@@ -86,8 +66,8 @@ fn report<O: Write, W: Threads + Wait + Sync>(
 /// disagree; and a line `lost I K`.
 ///
 /// # Errors
-/// Those of `run_plant`, of which `Memory` comes where a worker wanted memory too, and `NoThread`. On a fault of the script no
-/// thread starts.
+/// Those of `run_plant`, of which `Memory` comes where an allocation of a worker failed too, and `NoThread`. On a fault of the
+/// script no thread starts.
 pub fn run_threaded<R: BufRead, O: Write, W: Threads + Wait + Sync>(
     rt: &W,
     alloc: Global,
@@ -96,14 +76,9 @@ pub fn run_threaded<R: BufRead, O: Write, W: Threads + Wait + Sync>(
     reader: &mut R,
     writer: &mut O,
 ) -> Result<(), ThreadedFault>
-    // All lines are lines of such a script, and what is written is what comes of them, and then a report of each node.
-    ensures done { OnOk result (IfSome (R.remaining reader.old) (λ input. RunsWhole
-        (no_sendings_of setup.now) input (O.contents writer.old) (O.contents writer.new))) }
-
-    // Or the script ends as one of a plant does, with the same fault; or all lines are answered, and no more than a front of a report.
-    ensures ended { IfErr result (λ fault. StopsEarly (no_sendings_of setup.now) fault
-        (R.remaining reader.old) (R.remaining reader.new)
-        (O.contents writer.old) (O.contents writer.new)) }
+    // What is written is what comes of the lines, and then a report of each node.
+    ensures { RunsThreaded (no_sendings_of setup.now) (R.remaining reader.old)
+        (R.remaining reader.new) (O.contents writer.old) (O.contents writer.new) result }
 {
     let mut session = SendSession::new(alloc, setup);
     match run_session(alloc, &mut session, reader, writer) {

@@ -13,14 +13,14 @@ returns-after-send-clause-ok g c = elim c.match-send.branch [
   | in-Ok w ↦
       rw (w.result-is, w.text-is) (
         [],
-        rw c.in-Send.is (inl (w.in-Ok.field-0, (w.in-Ok.ensures.ok, w.in-Ok.ensures.taken), refl)),
+        rw c.in-Send.is (inl (w.in-Ok.field-0, (w.in-Ok.ensures.ok, w.in-Ok.ensures.step), refl)),
         sym (append-nil c.args.text.now),
       )
   | in-Err w ↦
       rw (w.result-is, w.text-is) (on_ok_weaker w.tell_refusal.result
       (λ told. (
         refusal_line c.args.number told.0,
-        rw c.in-Send.is (inr (w.in-Err.fault, told.0, w.in-Err.ensures.refused, told.1, refl, w.in-Err.ensures.same)),
+        rw c.in-Send.is (inr (w.in-Err.fault, told.0, w.in-Err.ensures.err, told.1, refl, w.in-Err.ensures.same)),
         told.2,
       ))
       w.tell_refusal.ensures.ok)
@@ -31,14 +31,14 @@ returns-after-tick-clause-ok g c = elim c.match-tick.branch [
   | in-Ok-tick w ↦
       rw (w.result-is, w.text-is) (
         [],
-        rw c.in-Tick.is (inl (w.in-Ok-tick.field-0, (w.in-Ok-tick.ensures.ok, w.in-Ok-tick.ensures.taken), refl)),
+        rw c.in-Tick.is (inl (w.in-Ok-tick.field-0, (w.in-Ok-tick.ensures.ok, w.in-Ok-tick.ensures.step), refl)),
         sym (append-nil c.args.text.now),
       )
   | in-Err-tick w ↦
       rw (w.result-is, w.text-is) (on_ok_weaker w.tell_refusal-in-Err-tick.result
       (λ told. (
         refusal_line c.args.number told.0,
-        rw c.in-Tick.is (inr (w.in-Err-tick.fault, told.0, w.in-Err-tick.ensures.refused, told.1, refl, w.in-Err-tick.ensures.same)),
+        rw c.in-Tick.is (inr (w.in-Err-tick.fault, told.0, w.in-Err-tick.ensures.err, told.1, refl, w.in-Err-tick.ensures.same)),
         told.2,
       ))
       w.tell_refusal-in-Err-tick.ensures.ok)

@@ -6,14 +6,14 @@ use Rattle.sr_script.specs.Texts.{refusal_line}
 use Rattle.sr_script.proofs.answering.obey_arrival.Goals as goal
 
 pub returns-in-Ok-clause-ok : goal.returns-in-Ok-clause-ok
-returns-in-Ok-clause-ok g c = ([], inl (arrival_answer c.in-Ok.field-0, c.in-Ok.ensures.taken, refl), sym (append-nil c.args.text.now))
+returns-in-Ok-clause-ok g c = ([], inl (arrival_answer c.in-Ok.field-0, c.in-Ok.ensures, refl), sym (append-nil c.args.text.now))
 
 pub returns-in-Err-clause-ok : goal.returns-in-Err-clause-ok
 returns-in-Err-clause-ok g c =
     on_ok_weaker c.tell_refusal.result
     (λ told. (
       refusal_line c.args.number told.0,
-      inr (c.in-Err.fault, told.0, c.in-Err.ensures.refused, told.1, refl, c.in-Err.ensures.same),
+      inr (c.in-Err.fault, told.0, c.in-Err.ensures.err, told.1, refl, c.in-Err.ensures.same),
       told.2,
     ))
     c.tell_refusal.ensures.ok

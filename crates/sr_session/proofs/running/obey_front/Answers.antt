@@ -9,7 +9,7 @@ use Rattle.sr_session.proofs.running.obey_front.Goals as goal
 pub returns-in-Err : goal.returns-in-Err
 returns-in-Err g c =
     let so_far = c.loop-next.invariant.obeyed in
-    let same = c.in-Err.ensures.same in
+    let fails = c.in-Err.ensures in
     let reached = g.S.Session.state c.loop-next.session in
     let rest = take_rest c.args.octets.now c.loop-next.used in
     record {
@@ -17,11 +17,11 @@ returns-in-Err g c =
       reached = reached;
       whole = so_far.1;
       within = c.loop-next.invariant.within;
-      waits = waits_kept g.S.Session.dialogue _ _ _ 0 so_far.0 _ _ _ _ so_far.2 same.0 same.1;
+      waits = waits_kept g.S.Session.dialogue _ _ _ 0 so_far.0 _ _ _ _ so_far.2 fails.1 fails.2;
       next = so_far.3;
       count = c.loop-next.invariant.count;
       stops = front_stops g.S.Session.dialogue reached (g.S.Session.state c.obey_whole.new.session) _ c.loop-next.next c.in-Err.kind (omega arith)
-          (subst (λ (l : List ℕ). FrontFails g.S.Session.dialogue reached l c.in-Err.kind) rest c.in-Err.ensures.fails);
+          (subst (λ (l : List ℕ). FrontFails g.S.Session.dialogue reached l c.in-Err.kind) rest fails.0);
     }
 
 pub loop-next-preserved : goal.loop-next-preserved
@@ -30,7 +30,7 @@ loop-next-preserved g c =
     let octets = c.args.octets.now in
     let used = c.loop-next.used in
     let n = c.loop-next.next in
-    let added = rw c.in-Ok-Some.field-0-is at c.in-Ok-Some.ensures.ok in
+    let added = rw c.in-Ok-Some.field-0-is at c.in-Ok-Some.ensures in
     let line = added.0 in
     let front = subst (λ (l : List ℕ). IsFrontLine l line) (take_rest octets used) added.1 in
     let has : HasPlace n line = record { count = omega arith; short = front.short } in

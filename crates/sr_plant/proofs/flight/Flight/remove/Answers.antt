@@ -1,6 +1,6 @@
 use Rattle.std.proofs.Common.{◌<◌, length, List, sym, subst, ap, ◌∙◌}
 use Rattle.std.specs.List.{remove}
-use Rattle.sr_plant.specs.declared.flight.Flying.{Flying}
+use Rattle.sr_plant.specs.declared.flight.copies.Flying.{Flying}
 use Rattle.sr_plant.specs.Copies.{Copy}
 use Rattle.sr_plant.specs.Flights.{AreCounted, copies_in}
 use Rattle.sr_plant.proofs.FlightLemmas.{removed, used_after, counted_at, place_within}

@@ -1,5 +1,5 @@
 use Rattle.std.proofs.Common.{◌≡◌, ◌<◌, ◌++◌, ◌∷◌, [], length, List, ap, ◌∙◌}
-use Rattle.sr_plant.specs.declared.flight.Flying.{Flying}
+use Rattle.sr_plant.specs.declared.flight.copies.Flying.{Flying}
 use Rattle.sr_plant.specs.Copies.{Copy}
 use Rattle.sr_plant.specs.Flights.{copies_in, copy_in}
 use Rattle.sr_plant.proofs.FlightLemmas.{counted_at, place_within, copy_at, is_there}

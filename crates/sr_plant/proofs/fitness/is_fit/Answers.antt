@@ -1,5 +1,0 @@
-use Rattle.std.proofs.Common.{rules}
-use Rattle.sr_plant.proofs.fitness.is_fit.Goals as goal
-
-pub returns-then-waiting-eq0-3 : goal.returns-then-waiting-eq0-3
-returns-then-waiting-eq0-3 g c = search rules

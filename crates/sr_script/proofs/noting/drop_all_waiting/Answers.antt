@@ -1,5 +1,0 @@
-use Rattle.std.proofs.Common.{rules}
-use Rattle.sr_script.proofs.noting.drop_all_waiting.Goals as goal
-
-pub returns : goal.returns
-returns g c = search rules
