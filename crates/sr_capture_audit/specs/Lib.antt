@@ -1,2 +1,4 @@
 pub mod Faults
 pub mod Hints
+pub mod Kinds
+pub mod Counting

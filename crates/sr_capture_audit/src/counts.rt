@@ -1,11 +1,15 @@
 //! How many packets of each kind a capture has.
 
-ghost use Rattle.std.specs.Prelude.{◌≡◌};
+ghost use Rattle.std.specs.Prelude.{◌≡◌, ◌+◌, ◌≤◌, length, true};
+ghost use Rattle.sr_frame.specs.Frame.{least_len};
+ghost use Rattle.sr_capture_audit.specs.Counting.{seen_side, with_one};
 ghost use Rattle.sr_capture_audit.specs.Faults.{is_faulty, have_faults};
+ghost use Rattle.sr_capture_audit.specs.Kinds.{is_checked, is_tagged};
 
-use crate::kind::Kind;
+use crate::kind::{Kind, ends_as_trailer};
 use crate::network::Tap;
 use sr_audit::Side;
+use sr_frame::HEADER_LEN;
 
 /// How many packets of each kind came in.
 #[derive(Clone, Copy, Debug, PartialEq, Eq)]
@@ -33,30 +37,44 @@ pub struct SideCounts {
 }
 
 /// The octets end as a trailer does, four octets before their end.
-fn is_checked(octets: &[u8]) -> bool {
-    let Some(end) = octets.len().checked_sub(4) else {
-        return false;
-    };
-    octets
-        .get(..end)
-        .is_some_and(|front| front.ends_with(&[0x88, 0xFB]))
+fn is_checked(octets: &[u8]) -> bool
+    ensures { result ≡ is_checked octets.now }
+{
+    match octets.split_last_chunk::<4>() {
+        Some((front, _)) => ends_as_trailer(front),
+        None => false,
+    }
+}
+
+/// Where the type stands: behind the addresses, or behind a VLAN tag if there is one.
+fn type_at(octets: &[u8]) -> usize
+    requires { HEADER_LEN ≤ length octets.now }
+    ensures { result + 2 ≡ least_len octets.now }
+{
+    if octets[12] == 0x81 && octets[13] == 0x00 {
+        16
+    } else {
+        12
+    }
 }
 
 /// The octets have the type of an HSR tag, behind a VLAN tag if any.
-fn is_tagged(octets: &[u8]) -> bool {
-    let Some(behind) = octets.get(12..) else {
+fn is_tagged(octets: &[u8]) -> bool
+    ensures { result ≡ is_tagged octets.now }
+{
+    if octets.len() < HEADER_LEN {
         return false;
-    };
-    let kind = if behind.starts_with(&[0x81, 0x00]) {
-        behind.get(4..).unwrap_or(&[])
-    } else {
-        behind
-    };
-    kind.starts_with(&[0x89, 0x2F])
+    }
+    match octets.get(type_at(octets)..) {
+        Some(behind) => behind.starts_with(&[0x89, 0x2F]),
+        None => false,
+    }
 }
 
 /// The side of a packet. None: it came by a mirror port, and has no number that names one.
-fn side_of(tap: Tap, kind: Kind) -> Option<Side> {
+fn side_of(tap: Tap, kind: Kind) -> Option<Side>
+    ensures { result ≡ seen_side tap kind }
+{
     match (tap, kind) {
         (_, Kind::Numbered(numbered)) => Some(numbered.side),
         (Tap::Side(side), _) => Some(side),
@@ -65,11 +83,17 @@ fn side_of(tap: Tap, kind: Kind) -> Option<Side> {
 }
 
 /// A count with one more.
-fn more(count: &mut u64) {
+fn more(count: &mut u64)
+    ensures { count.new ≡ with_one true count.old }
+{
     *count = count.saturating_add(1);
 }
 
 impl SideCounts {
+    ghost use Rattle.std.specs.Prelude.{◌≡◌, true};
+    ghost use Rattle.sr_capture_audit.specs.Counting.{with_one, with_kind};
+    ghost use Rattle.sr_capture_audit.specs.Kinds.{is_checked, is_tagged};
+
     /// No packet came.
     pub const NONE: SideCounts = SideCounts {
         packets: 0,
@@ -85,7 +109,13 @@ impl SideCounts {
     };
 
     /// Counts a frame without a number.
-    fn note_plain(&mut self, octets: &[u8]) {
+    fn note_plain(&mut self, octets: &[u8])
+        ensures { self.new ≡ record self.old {
+          plain = with_one true self.old.plain;
+          checked = with_one (is_checked octets.now) self.old.checked;
+          tagged = with_one (is_tagged octets.now) self.old.tagged;
+        } }
+    {
         more(&mut self.plain);
         if is_checked(octets) {
             more(&mut self.checked);
@@ -96,7 +126,9 @@ impl SideCounts {
     }
 
     /// Counts a packet.
-    pub(crate) fn note(&mut self, kind: Kind, octets: &[u8]) {
+    fn note(&mut self, kind: Kind, octets: &[u8])
+        ensures { self.new ≡ with_kind kind octets.now self.old }
+    {
         more(&mut self.packets);
         match kind {
             Kind::Numbered(numbered) => {
@@ -133,6 +165,10 @@ pub struct Counts {
 }
 
 impl Counts {
+    ghost use Rattle.std.specs.Prelude.{◌≡◌, List, []};
+    ghost use Rattle.std.specs.List.{All};
+    ghost use Rattle.sr_capture_audit.specs.Counting.{Seen, side_figures, all_figures, CountsOne, IsMirrored};
+
     /// No packet came.
     pub const NONE: Counts = Counts {
         a: SideCounts::NONE,
@@ -141,7 +177,9 @@ impl Counts {
     };
 
     /// Counts a packet of a capture.
-    pub(crate) fn note(&mut self, tap: Tap, kind: Kind, octets: &[u8]) {
+    pub(crate) fn note(&mut self, tap: Tap, kind: Kind, octets: &[u8])
+        ensures { CountsOne tap kind octets.now self.old self.new }
+    {
         match side_of(tap, kind) {
             Some(Side::A) => self.a.note(kind, octets),
             Some(Side::B) => self.b.note(kind, octets),
@@ -150,7 +188,10 @@ impl Counts {
     }
 
     /// Those of a mirror port as a whole.
-    pub fn of_mirror(&self) -> SideCounts {
+    pub fn of_mirror(&self) -> SideCounts
+        ensures { (xs : List Seen) → All IsMirrored xs → self.now ≡ all_figures xs
+            → result ≡ side_figures xs }
+    {
         SideCounts {
             packets: self
                 .neither

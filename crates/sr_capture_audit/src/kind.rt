@@ -1,9 +1,16 @@
 //! What a packet is to an audit.
 
+ghost use Rattle.std.specs.Prelude.{◌≡◌, None, IfOk, IfErr, IfSome, IfNone};
+ghost use Rattle.sr_supervision.specs.Supervised.{life_type};
+ghost use Rattle.sr_forwarding.specs.Decoding.{IsRead, IsUnread};
+ghost use Rattle.sr_forwarding.specs.Parcels.{plain_of};
+ghost use Rattle.sr_capture.specs.Records.{Captured, Shows};
+ghost use Rattle.sr_capture_audit.specs.Kinds.{expected_lan, tap_framing, names_b, side_if, IsSignIn, Says, ends_as_trailer, IsParcelKind, IsOctetsKind, IsKind};
+
 use crate::network::{Network, Tap};
 use sr_audit::Side;
 use sr_capture::{Extent, MAX_KEPT, Packet};
-use sr_forwarding::{Framing, HsrFraming, ParcelView, PrpFraming};
+use sr_forwarding::{Framing, HsrFraming, ParcelView, PrpFraming, ReadFault};
 use sr_frame::Mac;
 use sr_prp_trailer::Lan;
 use sr_sequence::Seq;
@@ -49,7 +56,9 @@ pub(crate) enum Kind {
 }
 
 /// The type of a first TLV.
-fn type_of(life: Life) -> u8 {
+fn type_of(life: Life) -> u8
+    ensures { result ≡ life_type life }
+{
     match life {
         Life::PrpDiscard => 20,
         Life::PrpAccept => 21,
@@ -59,7 +68,9 @@ fn type_of(life: Life) -> u8 {
 }
 
 /// The sign of life that a parcel is, if it is one that can be read.
-fn sign_of(parcel: &ParcelView<'_>) -> Option<Sign> {
+fn sign_of(parcel: &ParcelView<'_>) -> Option<Sign>
+    ensures { IsSignIn (plain_of parcel.now) result }
+{
     match read(&parcel.plain()) {
         Ok(supervision) => Some(Sign {
             mac: supervision.mac,
@@ -71,7 +82,9 @@ fn sign_of(parcel: &ParcelView<'_>) -> Option<Sign> {
 
 /// The side that a frame itself names: by the LAN of its trailer, which was read as one of LAN A, or by the lowest bit of the path of
 /// its tag.
-fn named_side(network: Network, parcel: &ParcelView<'_>) -> Side {
+fn named_side(network: Network, parcel: &ParcelView<'_>) -> Side
+    ensures { result ≡ side_if (names_b network parcel.now) }
+{
     let is_b = match network {
         Network::Prp => parcel.wrong_lan(),
         Network::Hsr => parcel.path() % 2 == 1,
@@ -80,7 +93,10 @@ fn named_side(network: Network, parcel: &ParcelView<'_>) -> Side {
 }
 
 /// What a parcel with a number says. None: it has none.
-fn number_in(network: Network, tap: Tap, parcel: &ParcelView<'_>) -> Option<Numbered> {
+fn number_in(network: Network, tap: Tap, parcel: &ParcelView<'_>) -> Option<Numbered>
+    ensures says { IfSome result (λ numbered. Says network tap parcel.now numbered) }
+    ensures none { IfNone result (parcel.now.seq ≡ None) }
+{
     let seq = parcel.seq()?;
     let header = parcel.header();
     let sign = if header.supervision {
@@ -102,35 +118,62 @@ fn number_in(network: Network, tap: Tap, parcel: &ParcelView<'_>) -> Option<Numb
 }
 
 /// The LAN whose trailers are expected in a capture. At a mirror port all are read as those of LAN A, and those of LAN B say so.
-fn lan_of(tap: Tap) -> Lan {
+fn lan_of(tap: Tap) -> Lan
+    ensures { result ≡ expected_lan tap }
+{
     match tap {
         Tap::Side(Side::B) => Lan::B,
         Tap::Side(Side::A) | Tap::Mirror => Lan::A,
     }
 }
 
-/// What the octets of a frame are in a capture.
-fn frame_kind(network: Network, tap: Tap, octets: &[u8]) -> Kind {
-    let parcel = match network {
+/// What the framing of a capture answers to octets.
+fn read_at<'a>(network: Network, tap: Tap, octets: &'a [u8]) -> Result<ParcelView<'a>, ReadFault>
+    ensures ok { IfOk result (λ p. IsRead (tap_framing network tap) octets.now p) }
+    ensures err { IfErr result (λ e. IsUnread (tap_framing network tap) octets.now e) }
+{
+    match network {
         Network::Prp => PrpFraming {
             lan: lan_of(tap),
             net: 0,
         }
         .read(octets),
         Network::Hsr => HsrFraming { path: 0 }.read(octets),
-    };
-    match parcel {
-        Ok(parcel) => match number_in(network, tap, &parcel) {
-            Some(numbered) => Kind::Numbered(numbered),
-            None if octets.ends_with(&[0x88, 0xFB]) => Kind::Misfit,
-            None => Kind::Plain,
-        },
+    }
+}
+
+/// Whether octets end as a trailer does.
+pub(crate) fn ends_as_trailer(octets: &[u8]) -> bool
+    ensures { result ≡ ends_as_trailer octets.now }
+{
+    octets.ends_with(&[0x88, 0xFB])
+}
+
+/// What a frame is in a capture.
+fn parcel_kind(network: Network, tap: Tap, octets: &[u8], parcel: &ParcelView<'_>) -> Kind
+    ensures { IsParcelKind network tap parcel.now octets.now result }
+{
+    match number_in(network, tap, parcel) {
+        Some(numbered) => Kind::Numbered(numbered),
+        None if ends_as_trailer(octets) => Kind::Misfit,
+        None => Kind::Plain,
+    }
+}
+
+/// What the octets of a frame are in a capture.
+fn frame_kind(network: Network, tap: Tap, octets: &[u8]) -> Kind
+    ensures { IsOctetsKind network tap octets.now result }
+{
+    match read_at(network, tap, octets) {
+        Ok(parcel) => parcel_kind(network, tap, octets, &parcel),
         Err(_) => Kind::Plain,
     }
 }
 
 /// What a packet is in a capture.
-pub(crate) fn kind_of(network: Network, tap: Tap, packet: &Packet) -> Kind {
+pub(crate) fn kind_of(network: Network, tap: Tap, packet: &Packet) -> Kind
+    ensures { (captured : Captured) → Shows packet.now captured → IsKind network tap captured result }
+{
     if packet.extent == Extent::Cut {
         Kind::Cut
     } else if packet.len > MAX_KEPT as u64 {
