@@ -1,5 +1,5 @@
 -- Figures of packets, one by one.
-use Rattle.std.proofs.Common.{◌≡◌, ℕ, ◌+◌, ◌-◌, ◌^◌, Bool, true, false, ◌&&◌, List, [], ◌∷◌, ◌++◌, length, take, drop, Option, None, Some, refl, sym, ap, ◌∙◌, subst, arith}
+use Rattle.std.proofs.Common.{◌≡◌, ℕ, ◌+◌, ◌-◌, ◌^◌, Bool, true, false, ◌&&◌, List, [], ◌∷◌, ◌++◌, length, take, drop, Option, None, Some, refl, sym, ap, ◌∙◌, arith}
 use Rattle.std.specs.Prelude.{min, cond, filter}
 use Rattle.std.specs.List.{count_by, All}
 use Rattle.std.specs.Str.{bytes_eq}
@@ -18,7 +18,7 @@ use Rattle.sr_capture_audit.specs.declared.kind.Numbered.{Numbered}
 use Rattle.sr_capture_audit.specs.declared.network.Tap.{Tap}
 use Rattle.sr_capture_audit.specs.declared.network.Tap.TheVariants as tap
 use Rattle.sr_capture_audit.specs.Kinds.{is_checked, is_tagged}
-use Rattle.sr_capture_audit.specs.Counting.{Seen, has_number, names_other_lan, is_plain, is_misfit, is_cut, is_long, is_empty, number_with, side_figures, seen_side, is_side, seen_at, all_figures, with_one, with_kind, IsSeenAs, CountsOne, IsMirrored}
+use Rattle.sr_capture_audit.specs.Counting.{Seen, has_number, names_other_lan, is_plain_packet, is_misfit_packet, is_cut_packet, is_long_packet, is_empty_packet, number_with, side_figures, seen_side, is_of_side, seen_at, all_figures, with_one, with_kind, CountsOne, IsMirrored}
 
 -- a figure has one more where the packet has the property
 number_by : (f : Seen → Bool) (xs : List Seen) (x : Seen) (b : Bool) → f x ≡ b → number_with f (xs ++ x ∷ []) ≡ with_one b (number_with f xs)
@@ -40,7 +40,7 @@ figures_are : (a b c d e f g h i j k l m n o p q r s t : ℕ) → a ≡ k → b 
 figures_are a b c d e f g h i j k l m n o p q r s t ea eb ec ed ee ef eg eh ei ej = cc
 
 -- of a frame without number the octets count
-plain_by : (k : Kind) (f : List ℕ → Bool) (octets own : List ℕ) → (k ≡ Plain → own ≡ octets) → (is_plain k && f own) ≡ (is_plain k && f octets)
+plain_by : (k : Kind) (f : List ℕ → Bool) (octets own : List ℕ) → (k ≡ Plain → own ≡ octets) → (is_plain_packet k && f own) ≡ (is_plain_packet k && f octets)
 plain_by (kind.Numbered n) f octets own e = refl
 plain_by Plain f octets own e = ap f (e refl)
 plain_by Misfit f octets own e = refl
@@ -53,27 +53,27 @@ figures_more : (k : Kind) (octets : List ℕ) (xs : List Seen) (x : Seen) → x.
 figures_more k octets xs x is own =
     let one : (f : Kind → Bool) → with_one (f k) (number_with (λ y. f y.kind) xs) ≡ number_with (λ y. f y.kind) (xs ++ x ∷ []) =
     λ f. ap (λ j. with_one (f j) (number_with (λ y. f y.kind) xs)) (sym is) ∙ sym (number_more (λ y. f y.kind) xs x) in
-    let two : (f : List ℕ → Bool) → with_one (is_plain k && f octets) (number_with (λ y. is_plain y.kind && f y.packet.octets) xs)
-    ≡ number_with (λ y. is_plain y.kind && f y.packet.octets) (xs ++ x ∷ []) =
-    λ f. ap (λ b. with_one b (number_with (λ y. is_plain y.kind && f y.packet.octets) xs))
-    (sym (ap (λ j. is_plain j && f x.packet.octets) is ∙ plain_by k f octets x.packet.octets own))
-    ∙ sym (number_more (λ y. is_plain y.kind && f y.packet.octets) xs x) in
-    figures_are _ _ _ _ _ _ _ _ _ _ _ _ _ _ _ _ _ _ _ _ (one (λ j. true)) (one has_number) (one is_plain) (one is_misfit) (one names_other_lan)
-    (one is_cut) (one is_long) (one is_empty) (two is_checked) (two is_tagged)
+    let two : (f : List ℕ → Bool) → with_one (is_plain_packet k && f octets) (number_with (λ y. is_plain_packet y.kind && f y.packet.octets) xs)
+    ≡ number_with (λ y. is_plain_packet y.kind && f y.packet.octets) (xs ++ x ∷ []) =
+    λ f. ap (λ b. with_one b (number_with (λ y. is_plain_packet y.kind && f y.packet.octets) xs))
+    (sym (ap (λ j. is_plain_packet j && f x.packet.octets) is ∙ plain_by k f octets x.packet.octets own))
+    ∙ sym (number_more (λ y. is_plain_packet y.kind && f y.packet.octets) xs x) in
+    figures_are _ _ _ _ _ _ _ _ _ _ _ _ _ _ _ _ _ _ _ _ (one (λ j. true)) (one has_number) (one is_plain_packet) (one is_misfit_packet) (one names_other_lan)
+    (one is_cut_packet) (one is_long_packet) (one is_empty_packet) (two is_checked) (two is_tagged)
 
 -- a packet stands among those of its side alone
-seen_more : (side : Option Side) (xs : List Seen) (x : Seen) (b : Bool) → is_side side (seen_side x.tap x.kind) ≡ b →
+seen_more : (side : Option Side) (xs : List Seen) (x : Seen) (b : Bool) → is_of_side side (seen_side x.tap x.kind) ≡ b →
     seen_at side (xs ++ x ∷ []) ≡ seen_at side xs ++ cond b (x ∷ []) []
 seen_more side xs x b e =
-    filter-append (λ y. is_side side (seen_side y.tap y.kind)) xs (x ∷ []) ∙ ap (λ t. seen_at side xs ++ cond t (x ∷ []) []) e
+    filter-append (λ y. is_of_side side (seen_side y.tap y.kind)) xs (x ∷ []) ∙ ap (λ t. seen_at side xs ++ cond t (x ∷ []) []) e
 
 figures_here : (side : Option Side) (k : Kind) (octets : List ℕ) (xs : List Seen) (x : Seen) → x.kind ≡ k → (k ≡ Plain → x.packet.octets ≡ octets) →
-    is_side side (seen_side x.tap x.kind) ≡ true →
+    is_of_side side (seen_side x.tap x.kind) ≡ true →
     with_kind k octets (side_figures (seen_at side xs)) ≡ side_figures (seen_at side (xs ++ x ∷ []))
 figures_here side k octets xs x is own at =
     figures_more k octets (seen_at side xs) x is own ∙ ap side_figures (sym (seen_more side xs x true at))
 
-figures_apart : (side : Option Side) (xs : List Seen) (x : Seen) → is_side side (seen_side x.tap x.kind) ≡ false →
+figures_apart : (side : Option Side) (xs : List Seen) (x : Seen) → is_of_side side (seen_side x.tap x.kind) ≡ false →
     side_figures (seen_at side xs) ≡ side_figures (seen_at side (xs ++ x ∷ []))
 figures_apart side xs x at = ap side_figures (sym (seen_more side xs x false at ∙ append-nil (seen_at side xs)))
 
@@ -89,27 +89,27 @@ module _ (where_ : Tap) (k : Kind) (octets : List ℕ) (old : Counts) (own : Sid
       let side : seen_side x.tap x.kind ≡ Some A =
       ap (λ t. seen_side t x.kind) seen.at ∙ ap (seen_side where_) seen.is ∙ sym from ∙ is ∙ ap (λ t. Some t) same in
       counts_are _ _ _ _ _ _
-      (noted ∙ ap (λ c. with_kind k octets c.a) e ∙ figures_here (Some A) k octets xs x seen.is seen.octets_are (ap (is_side (Some A)) side))
-      (ap (λ c. c.b) e ∙ figures_apart (Some B) xs x (ap (is_side (Some B)) side))
-      (ap (λ c. c.neither) e ∙ figures_apart None xs x (ap (is_side None) side))
+      (noted ∙ ap (λ c. with_kind k octets c.a) e ∙ figures_here (Some A) k octets xs x seen.is seen.octets_are (ap (is_of_side (Some A)) side))
+      (ap (λ c. c.b) e ∙ figures_apart (Some B) xs x (ap (is_of_side (Some B)) side))
+      (ap (λ c. c.neither) e ∙ figures_apart None xs x (ap (is_of_side None) side))
 
   pub counts_b : (s : Side) → at ≡ seen_side where_ k → at ≡ Some s → s ≡ B → own ≡ with_kind k octets old.b →
       CountsOne where_ k octets old (record old { b = own })
   counts_b s from is same noted xs x seen e =
       let side : seen_side x.tap x.kind ≡ Some B =
       ap (λ t. seen_side t x.kind) seen.at ∙ ap (seen_side where_) seen.is ∙ sym from ∙ is ∙ ap (λ t. Some t) same in
-      counts_are _ _ _ _ _ _ (ap (λ c. c.a) e ∙ figures_apart (Some A) xs x (ap (is_side (Some A)) side))
-      (noted ∙ ap (λ c. with_kind k octets c.b) e ∙ figures_here (Some B) k octets xs x seen.is seen.octets_are (ap (is_side (Some B)) side))
-      (ap (λ c. c.neither) e ∙ figures_apart None xs x (ap (is_side None) side))
+      counts_are _ _ _ _ _ _ (ap (λ c. c.a) e ∙ figures_apart (Some A) xs x (ap (is_of_side (Some A)) side))
+      (noted ∙ ap (λ c. with_kind k octets c.b) e ∙ figures_here (Some B) k octets xs x seen.is seen.octets_are (ap (is_of_side (Some B)) side))
+      (ap (λ c. c.neither) e ∙ figures_apart None xs x (ap (is_of_side None) side))
 
   pub counts_neither : at ≡ seen_side where_ k → at ≡ None → own ≡ with_kind k octets old.neither →
       CountsOne where_ k octets old (record old { neither = own })
   counts_neither from is noted xs x seen e =
       let side : seen_side x.tap x.kind ≡ None =
       ap (λ t. seen_side t x.kind) seen.at ∙ ap (seen_side where_) seen.is ∙ sym from ∙ is in
-      counts_are _ _ _ _ _ _ (ap (λ c. c.a) e ∙ figures_apart (Some A) xs x (ap (is_side (Some A)) side))
-      (ap (λ c. c.b) e ∙ figures_apart (Some B) xs x (ap (is_side (Some B)) side))
-      (noted ∙ ap (λ c. with_kind k octets c.neither) e ∙ figures_here None k octets xs x seen.is seen.octets_are (ap (is_side None) side))
+      counts_are _ _ _ _ _ _ (ap (λ c. c.a) e ∙ figures_apart (Some A) xs x (ap (is_of_side (Some A)) side))
+      (ap (λ c. c.b) e ∙ figures_apart (Some B) xs x (ap (is_of_side (Some B)) side))
+      (noted ∙ ap (λ c. with_kind k octets c.neither) e ∙ figures_here None k octets xs x seen.is seen.octets_are (ap (is_of_side None) side))
 
 -- the type of a frame stands two octets before what is behind it
 pub tagged_is : (octets behind : List ℕ) (at : ℕ) (r : Bool) → at + 2 ≡ least_len octets → behind ≡ take (length octets - at) (drop at octets) →
@@ -119,10 +119,10 @@ tagged_is octets behind at r place is value =
     value ∙ ap (λ l. bytes_eq (0x89 ∷ 0x2F ∷ []) (take 2 l)) (is ∙ take_rest octets at ∙ ap (λ n. drop n octets) same)
 
 -- the packets of the sides, and those of none, are all
-here : (side : Option Side) (x : Seen) (xs : List Seen) → is_side side (seen_side x.tap x.kind) ≡ true → seen_at side (x ∷ xs) ≡ x ∷ seen_at side xs
+here : (side : Option Side) (x : Seen) (xs : List Seen) → is_of_side side (seen_side x.tap x.kind) ≡ true → seen_at side (x ∷ xs) ≡ x ∷ seen_at side xs
 here side x xs e = ap (λ b. cond b (x ∷ seen_at side xs) (seen_at side xs)) e
 
-apart : (side : Option Side) (x : Seen) (xs : List Seen) → is_side side (seen_side x.tap x.kind) ≡ false → seen_at side (x ∷ xs) ≡ seen_at side xs
+apart : (side : Option Side) (x : Seen) (xs : List Seen) → is_of_side side (seen_side x.tap x.kind) ≡ false → seen_at side (x ∷ xs) ≡ seen_at side xs
 apart side x xs e = ap (λ b. cond b (x ∷ seen_at side xs) (seen_at side xs)) e
 
 count_first : (f : Seen → Bool) (x : Seen) (xs : List Seen) → count_by f (x ∷ xs) ≡ cond (f x) 1 0 + count_by f xs
@@ -138,19 +138,19 @@ parts_more f x xs rest = by (seen_side x.tap x.kind) refl
   where
     by : (s : Option Side) → seen_side x.tap x.kind ≡ s → HasParts f (x ∷ xs)
     by None e =
-        let n = ap (count_by f) (here None x xs (ap (is_side None) e)) ∙ count_first f x (seen_at None xs) in
-        let a = ap (count_by f) (apart (Some A) x xs (ap (is_side (Some A)) e)) in
-        let b = ap (count_by f) (apart (Some B) x xs (ap (is_side (Some B)) e)) in
+        let n = ap (count_by f) (here None x xs (ap (is_of_side None) e)) ∙ count_first f x (seen_at None xs) in
+        let a = ap (count_by f) (apart (Some A) x xs (ap (is_of_side (Some A)) e)) in
+        let b = ap (count_by f) (apart (Some B) x xs (ap (is_of_side (Some B)) e)) in
         omega (arith, n, a, b, rest, count_first f x xs)
     by (Some A) e =
-        let n = ap (count_by f) (apart None x xs (ap (is_side None) e)) in
-        let a = ap (count_by f) (here (Some A) x xs (ap (is_side (Some A)) e)) ∙ count_first f x (seen_at (Some A) xs) in
-        let b = ap (count_by f) (apart (Some B) x xs (ap (is_side (Some B)) e)) in
+        let n = ap (count_by f) (apart None x xs (ap (is_of_side None) e)) in
+        let a = ap (count_by f) (here (Some A) x xs (ap (is_of_side (Some A)) e)) ∙ count_first f x (seen_at (Some A) xs) in
+        let b = ap (count_by f) (apart (Some B) x xs (ap (is_of_side (Some B)) e)) in
         omega (arith, n, a, b, rest, count_first f x xs)
     by (Some B) e =
-        let n = ap (count_by f) (apart None x xs (ap (is_side None) e)) in
-        let a = ap (count_by f) (apart (Some A) x xs (ap (is_side (Some A)) e)) in
-        let b = ap (count_by f) (here (Some B) x xs (ap (is_side (Some B)) e)) ∙ count_first f x (seen_at (Some B) xs) in
+        let n = ap (count_by f) (apart None x xs (ap (is_of_side None) e)) in
+        let a = ap (count_by f) (apart (Some A) x xs (ap (is_of_side (Some A)) e)) in
+        let b = ap (count_by f) (here (Some B) x xs (ap (is_of_side (Some B)) e)) ∙ count_first f x (seen_at (Some B) xs) in
         omega (arith, n, a, b, rest, count_first f x xs)
 
 parts : (f : Seen → Bool) (xs : List Seen) → HasParts f xs
@@ -158,11 +158,11 @@ parts f [] = refl
 parts f (x ∷ xs) = parts_more f x xs (parts f xs)
 
 -- no packet of a side has a property that none there has
-none_more : (f : Seen → Bool) (side : Option Side) (x : Seen) (xs : List Seen) → (is_side side (seen_side x.tap x.kind) ≡ true → f x ≡ false) →
+none_more : (f : Seen → Bool) (side : Option Side) (x : Seen) (xs : List Seen) → (is_of_side side (seen_side x.tap x.kind) ≡ true → f x ≡ false) →
     count_by f (seen_at side xs) ≡ 0 → count_by f (seen_at side (x ∷ xs)) ≡ 0
-none_more f side x xs none rest = by (is_side side (seen_side x.tap x.kind)) refl
+none_more f side x xs none rest = by (is_of_side side (seen_side x.tap x.kind)) refl
   where
-    by : (b : Bool) → is_side side (seen_side x.tap x.kind) ≡ b → count_by f (seen_at side (x ∷ xs)) ≡ 0
+    by : (b : Bool) → is_of_side side (seen_side x.tap x.kind) ≡ b → count_by f (seen_at side (x ∷ xs)) ≡ 0
     by true e =
         let weight : Bool → ℕ = λ b. cond b 1 0 in
         let own : weight (f x) ≡ 0 = ap weight (none e) in
@@ -170,17 +170,17 @@ none_more f side x xs none rest = by (is_side side (seen_side x.tap x.kind)) ref
     by false e = ap (count_by f) (apart side x xs e) ∙ rest
 
 none_with : (f : Seen → Bool) (side : Option Side) (xs : List Seen) →
-    ((x : Seen) → IsMirrored x → is_side side (seen_side x.tap x.kind) ≡ true → f x ≡ false) → All IsMirrored xs → count_by f (seen_at side xs) ≡ 0
+    ((x : Seen) → IsMirrored x → is_of_side side (seen_side x.tap x.kind) ≡ true → f x ≡ false) → All IsMirrored xs → count_by f (seen_at side xs) ≡ 0
 none_with f side [] none all = refl
 none_with f side (x ∷ xs) none all =
     none_more f side x xs (none x (All-head IsMirrored x xs all)) (none_with f side xs none (All-tail IsMirrored x xs all))
 
 -- at a mirror port a packet of a side has a number, and one of none has not
 sided_numbered : (g : Kind → List ℕ → Bool) (own : Side) → ((n : Numbered) (o : List ℕ) → g (kind.Numbered n) o ≡ false) → (x : Seen) → IsMirrored x →
-    is_side (Some own) (seen_side x.tap x.kind) ≡ true → g x.kind x.packet.octets ≡ false
-sided_numbered g own none x m e = by own x.kind (ap (λ t. is_side (Some own) (seen_side t x.kind)) (sym m.0) ∙ e)
+    is_of_side (Some own) (seen_side x.tap x.kind) ≡ true → g x.kind x.packet.octets ≡ false
+sided_numbered g own none x m e = by own x.kind (ap (λ t. is_of_side (Some own) (seen_side t x.kind)) (sym m.0) ∙ e)
   where
-    by : (s : Side) (k : Kind) → is_side (Some s) (seen_side tap.Mirror k) ≡ true → g k x.packet.octets ≡ false
+    by : (s : Side) (k : Kind) → is_of_side (Some s) (seen_side tap.Mirror k) ≡ true → g k x.packet.octets ≡ false
     by s (kind.Numbered n) h = none n x.packet.octets
     by A Plain h = cc
     by A Misfit h = cc
@@ -193,10 +193,10 @@ sided_numbered g own none x m e = by own x.kind (ap (λ t. is_side (Some own) (s
     by B Long h = cc
     by B Empty h = cc
 
-unsided_unnumbered : (x : Seen) → IsMirrored x → is_side None (seen_side x.tap x.kind) ≡ true → has_number x.kind ≡ false
-unsided_unnumbered x m e = by x.kind (ap (λ t. is_side None (seen_side t x.kind)) (sym m.0) ∙ e)
+unsided_unnumbered : (x : Seen) → IsMirrored x → is_of_side None (seen_side x.tap x.kind) ≡ true → has_number x.kind ≡ false
+unsided_unnumbered x m e = by x.kind (ap (λ t. is_of_side None (seen_side t x.kind)) (sym m.0) ∙ e)
   where
-    by : (k : Kind) → is_side None (seen_side tap.Mirror k) ≡ true → has_number k ≡ false
+    by : (k : Kind) → is_of_side None (seen_side tap.Mirror k) ≡ true → has_number k ≡ false
     by (kind.Numbered n) h = cc
     by Plain h = refl
     by Misfit h = refl
@@ -243,10 +243,10 @@ mirrored c xs m p n all e me pe ne =
     let astray_is : number_with astray (seen_at None xs) ≡ number_with astray xs = omega (arith, astray_n, astray_a, astray_b, parts astray xs) in
     figures_are _ _ _ _ _ _ _ _ _ _ _ _ _ _ _ _ _ _ _ _ (omega (arith, me, pe, packets_n, packets_a, packets_b, parts every xs))
     (omega (arith, ne, numbered_a, numbered_b, none_numbered, parts numbered xs))
-    (ap (λ k. k.neither.plain) e ∙ unnumbered_only (λ k o. is_plain k) xs all (λ n o. refl))
-    (ap (λ k. k.neither.misfit) e ∙ unnumbered_only (λ k o. is_misfit k) xs all (λ n o. refl)) (ap (λ k. k.neither.wrong_lan) e ∙ astray_is)
-    (ap (λ k. k.neither.cut) e ∙ unnumbered_only (λ k o. is_cut k) xs all (λ n o. refl))
-    (ap (λ k. k.neither.long) e ∙ unnumbered_only (λ k o. is_long k) xs all (λ n o. refl))
-    (ap (λ k. k.neither.empty) e ∙ unnumbered_only (λ k o. is_empty k) xs all (λ n o. refl))
-    (ap (λ k. k.neither.checked) e ∙ unnumbered_only (λ k o. is_plain k && is_checked o) xs all (λ n o. refl))
-    (ap (λ k. k.neither.tagged) e ∙ unnumbered_only (λ k o. is_plain k && is_tagged o) xs all (λ n o. refl))
+    (ap (λ k. k.neither.plain) e ∙ unnumbered_only (λ k o. is_plain_packet k) xs all (λ n o. refl))
+    (ap (λ k. k.neither.misfit) e ∙ unnumbered_only (λ k o. is_misfit_packet k) xs all (λ n o. refl)) (ap (λ k. k.neither.wrong_lan) e ∙ astray_is)
+    (ap (λ k. k.neither.cut) e ∙ unnumbered_only (λ k o. is_cut_packet k) xs all (λ n o. refl))
+    (ap (λ k. k.neither.long) e ∙ unnumbered_only (λ k o. is_long_packet k) xs all (λ n o. refl))
+    (ap (λ k. k.neither.empty) e ∙ unnumbered_only (λ k o. is_empty_packet k) xs all (λ n o. refl))
+    (ap (λ k. k.neither.checked) e ∙ unnumbered_only (λ k o. is_plain_packet k && is_checked o) xs all (λ n o. refl))
+    (ap (λ k. k.neither.tagged) e ∙ unnumbered_only (λ k o. is_plain_packet k && is_tagged o) xs all (λ n o. refl))

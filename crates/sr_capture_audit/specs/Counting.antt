@@ -27,25 +27,25 @@ abbrev pub names_other_lan : Kind → Bool
 names_other_lan (Numbered n) = n.is_astray
 names_other_lan other = false
 
-abbrev pub is_plain : Kind → Bool
-is_plain Plain = true
-is_plain other = false
+abbrev pub is_plain_packet : Kind → Bool
+is_plain_packet Plain = true
+is_plain_packet other = false
 
-abbrev pub is_misfit : Kind → Bool
-is_misfit Misfit = true
-is_misfit other = false
+abbrev pub is_misfit_packet : Kind → Bool
+is_misfit_packet Misfit = true
+is_misfit_packet other = false
 
-abbrev pub is_cut : Kind → Bool
-is_cut Cut = true
-is_cut other = false
+abbrev pub is_cut_packet : Kind → Bool
+is_cut_packet Cut = true
+is_cut_packet other = false
 
-abbrev pub is_long : Kind → Bool
-is_long Long = true
-is_long other = false
+abbrev pub is_long_packet : Kind → Bool
+is_long_packet Long = true
+is_long_packet other = false
 
-abbrev pub is_empty : Kind → Bool
-is_empty Empty = true
-is_empty other = false
+abbrev pub is_empty_packet : Kind → Bool
+is_empty_packet Empty = true
+is_empty_packet other = false
 
 -- how many packets have a property, up to 18446744073709551615
 abbrev pub number_with : (Seen → Bool) → List Seen → ℕ
@@ -56,14 +56,14 @@ abbrev pub side_figures : List Seen → SideCounts
 side_figures xs = record {
   packets = number_with (λ x. true) xs;
   numbered = number_with (λ x. has_number x.kind) xs;
-  plain = number_with (λ x. is_plain x.kind) xs;
-  misfit = number_with (λ x. is_misfit x.kind) xs;
+  plain = number_with (λ x. is_plain_packet x.kind) xs;
+  misfit = number_with (λ x. is_misfit_packet x.kind) xs;
   wrong_lan = number_with (λ x. names_other_lan x.kind) xs;
-  cut = number_with (λ x. is_cut x.kind) xs;
-  long = number_with (λ x. is_long x.kind) xs;
-  empty = number_with (λ x. is_empty x.kind) xs;
-  checked = number_with (λ x. is_plain x.kind && is_checked x.packet.octets) xs;
-  tagged = number_with (λ x. is_plain x.kind && is_tagged x.packet.octets) xs;
+  cut = number_with (λ x. is_cut_packet x.kind) xs;
+  long = number_with (λ x. is_long_packet x.kind) xs;
+  empty = number_with (λ x. is_empty_packet x.kind) xs;
+  checked = number_with (λ x. is_plain_packet x.kind && is_checked x.packet.octets) xs;
+  tagged = number_with (λ x. is_plain_packet x.kind && is_tagged x.packet.octets) xs;
 }
 
 -- the side of a packet: that of its capture; at a mirror port the one that its number came by, and none where it has no number
@@ -72,15 +72,15 @@ seen_side own (Numbered n) = Some n.side
 seen_side (tap.Side side) other = Some side
 seen_side tap.Mirror other = None
 
-abbrev pub is_side : Option Side → Option Side → Bool
-is_side None None = true
-is_side (Some A) (Some A) = true
-is_side (Some B) (Some B) = true
-is_side side other = false
+abbrev pub is_of_side : Option Side → Option Side → Bool
+is_of_side None None = true
+is_of_side (Some A) (Some A) = true
+is_of_side (Some B) (Some B) = true
+is_of_side side other = false
 
 -- the packets of a side, or of none
 abbrev pub seen_at : Option Side → List Seen → List Seen
-seen_at side xs = filter (λ x. is_side side (seen_side x.tap x.kind)) xs
+seen_at side xs = filter (λ x. is_of_side side (seen_side x.tap x.kind)) xs
 
 -- the figures of packets
 abbrev pub all_figures : List Seen → Counts
@@ -100,14 +100,14 @@ abbrev pub with_kind : Kind → List ℕ → SideCounts → SideCounts
 with_kind kind octets c = record {
   packets = with_one true c.packets;
   numbered = with_one (has_number kind) c.numbered;
-  plain = with_one (is_plain kind) c.plain;
-  misfit = with_one (is_misfit kind) c.misfit;
+  plain = with_one (is_plain_packet kind) c.plain;
+  misfit = with_one (is_misfit_packet kind) c.misfit;
   wrong_lan = with_one (names_other_lan kind) c.wrong_lan;
-  cut = with_one (is_cut kind) c.cut;
-  long = with_one (is_long kind) c.long;
-  empty = with_one (is_empty kind) c.empty;
-  checked = with_one (is_plain kind && is_checked octets) c.checked;
-  tagged = with_one (is_plain kind && is_tagged octets) c.tagged;
+  cut = with_one (is_cut_packet kind) c.cut;
+  long = with_one (is_long_packet kind) c.long;
+  empty = with_one (is_empty_packet kind) c.empty;
+  checked = with_one (is_plain_packet kind && is_checked octets) c.checked;
+  tagged = with_one (is_plain_packet kind && is_tagged octets) c.tagged;
 }
 
 -- the packet came in here and is of this kind; of a frame without number these are the octets

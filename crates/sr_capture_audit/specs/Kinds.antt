@@ -90,7 +90,7 @@ abbrev pub IsSignOf : List ℕ → Option Sign → Type 0
 IsSignOf plain sign = IsSignIf (is_supervision plain) plain sign
 
 -- what a parcel with a number says
-pub record Says (network : Network) (tap : Tap) (p : ParcelImage) (n : Numbered) : Type 0 where
+pub record IsNumberedAs (network : Network) (tap : Tap) (p : ParcelImage) (n : Numbered) : Type 0 where
   pub seq : p.seq ≡ Some n.seq
   pub src : n.src ≡ src_in (plain_of p)
   pub side : n.side ≡ numbered_side network tap p
@@ -103,7 +103,7 @@ ends_as_trailer octets = bytes_eq (0x88 ∷ 0xFB ∷ []) (drop (length octets - 
 
 -- what a frame is that was read: one with a number, or without
 abbrev pub IsParcelKind : Network → Tap → ParcelImage → List ℕ → Kind → Type 0
-IsParcelKind network tap p octets (kind.Numbered n) = Says network tap p n
+IsParcelKind network tap p octets (kind.Numbered n) = IsNumberedAs network tap p n
 IsParcelKind network tap p octets kind.Plain = (p.seq ≡ None) × (ends_as_trailer octets ≡ false)
 IsParcelKind network tap p octets kind.Misfit = (p.seq ≡ None) × (ends_as_trailer octets ≡ true)
 IsParcelKind network tap p octets kind.Cut = ⊥

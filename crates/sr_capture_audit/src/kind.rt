@@ -5,7 +5,7 @@ ghost use Rattle.sr_supervision.specs.Supervised.{life_type};
 ghost use Rattle.sr_forwarding.specs.Decoding.{IsRead, IsUnread};
 ghost use Rattle.sr_forwarding.specs.Parcels.{plain_of};
 ghost use Rattle.sr_capture.specs.Records.{Captured, Shows};
-ghost use Rattle.sr_capture_audit.specs.Kinds.{expected_lan, tap_framing, names_b, side_if, IsSignIn, Says, ends_as_trailer, IsParcelKind, IsOctetsKind, IsKind};
+ghost use Rattle.sr_capture_audit.specs.Kinds.{expected_lan, tap_framing, names_b, side_if, IsSignIn, IsNumberedAs, ends_as_trailer, IsParcelKind, IsOctetsKind, IsKind};
 
 use crate::network::{Network, Tap};
 use sr_audit::Side;
@@ -94,7 +94,7 @@ fn named_side(network: Network, parcel: &ParcelView<'_>) -> Side
 
 /// What a parcel with a number says. None: it has none.
 fn number_in(network: Network, tap: Tap, parcel: &ParcelView<'_>) -> Option<Numbered>
-    ensures says { IfSome result (λ numbered. Says network tap parcel.now numbered) }
+    ensures says { IfSome result (λ numbered. IsNumberedAs network tap parcel.now numbered) }
     ensures none { IfNone result (parcel.now.seq ≡ None) }
 {
     let seq = parcel.seq()?;
@@ -172,7 +172,8 @@ fn frame_kind(network: Network, tap: Tap, octets: &[u8]) -> Kind
 
 /// What a packet is in a capture.
 pub(crate) fn kind_of(network: Network, tap: Tap, packet: &Packet) -> Kind
-    ensures { (captured : Captured) → Shows packet.now captured → IsKind network tap captured result }
+    ensures { (captured : Captured) → Shows packet.now captured
+        → IsKind network tap captured result }
 {
     if packet.extent == Extent::Cut {
         Kind::Cut

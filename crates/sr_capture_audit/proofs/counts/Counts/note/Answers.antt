@@ -1,5 +1,3 @@
-use Rattle.std.proofs.Common.{ap, Some, None}
-use Rattle.sr_audit.specs.declared.side.Side.TheVariants.{A, B}
 use Rattle.sr_capture_audit.proofs.Counted.{counts_a, counts_b, counts_neither}
 use Rattle.sr_capture_audit.proofs.counts.Counts.note.Goals as goal
 
