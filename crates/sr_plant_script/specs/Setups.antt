@@ -1,5 +1,6 @@
 -- The coupled networks of scripts.
 use Rattle.std.specs.Prelude.{ℕ, ◌+◌, Option, None, Some}
+use Rattle.sr_forwarding.specs.declared.net_id.NetId.TheVariants as net
 use Rattle.sr_plant.specs.declared.shapes.Join.{Join}
 use Rattle.sr_plant.specs.declared.topology.Topology.{Topology}
 use Rattle.sr_plant.specs.declared.topology.Topology.TheVariants.{RingLan, TwoRings}
@@ -8,7 +9,7 @@ use Rattle.sr_plant_script.specs.declared.setup.Joins.TheVariants.{One, Two}
 
 -- nodes 0 and 1 of the ring are the boxes of LAN A and LAN B of network 1
 abbrev pub ring_lan_topology : ℕ → ℕ → Topology
-ring_lan_topology ring lan = RingLan (record { ring = ring; lan = lan; box_a = 0; box_b = 1; net = 1 })
+ring_lan_topology ring lan = RingLan (record { ring = ring; lan = lan; box_a = 0; box_b = 1; net = net.One })
 
 -- the second nodes of both rings are joined, if two are
 abbrev pub second_pair : ℕ → Joins → Option Join
