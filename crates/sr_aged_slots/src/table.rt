@@ -177,6 +177,7 @@ impl<V: Drop, const SPAN: u64, const MOST: usize> AgedSlots<V, SPAN, MOST> {
     }
 
     /// The value of an address, forgotten or not, which is looked for first where a hint says, and where it is.
+    // speed: D-node-one-look
     #[inline(always)]
     pub fn find_at(&self, hint: Option<Hint>, key: Mac) -> Option<(Hint, &Aged<V>)>
         ensures { option_map (λ found. found.1.now) result ≡ value_at self.now key }
@@ -193,6 +194,7 @@ impl<V: Drop, const SPAN: u64, const MOST: usize> AgedSlots<V, SPAN, MOST> {
 
     /// Changes the value of an address in its place, which is looked for first where a hint says, and answers what the change answers.
     /// No value may become older. None: the address has no value, and nothing changes.
+    // speed: D-node-one-look
     pub fn update_at<R: Drop, F: FnOnce(&mut Aged<V>) -> R>(
         &mut self,
         hint: Option<Hint>,

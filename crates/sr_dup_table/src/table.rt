@@ -215,6 +215,7 @@ impl DupTable {
 
     /// What `fresh` answers, and where the record of the source is: one look-up for a frame. After it no call at this time goes over
     /// the sources to see whether the table is full. Nothing that shows changes.
+    // speed: D-node-inlined
     #[inline(always)]
     pub fn look(&mut self, src: Mac, seq: Seq, lanes: Lanes, now: u64) -> Result<Look, TableFull>
         requires { is_empty lanes ≡ false }
@@ -264,6 +265,7 @@ impl DupTable {
     /// What `arrive` does, where the record of the source is looked for first where a hint says. It notes an arrival, and answers the
     /// asked lanes on which its number is new in the epoch of its source.
     /// TableFull: 1024 other sources are live. NoMemory: memory ran out. Either way nothing changes.
+    // speed: D-node-one-look
     #[inline(always)]
     pub fn arrive_at(
         &mut self,

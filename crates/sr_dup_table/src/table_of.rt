@@ -171,6 +171,7 @@ impl<const N: usize> TableOf<N> {
 
     /// What `fresh` answers, and where the record of the source is: one look-up for a frame. After it no call at this time goes over
     /// the sources to see whether the table is full. Nothing that shows changes.
+    // speed: D-node-inlined
     #[inline(always)]
     pub fn look(&mut self, src: Mac, seq: Seq, lanes: Lanes, now: u64) -> Result<Look, TableFull>
         requires { is_empty lanes ≡ false }
@@ -194,6 +195,7 @@ impl<const N: usize> TableOf<N> {
     }
 
     // What `look` answers of a source that has a record.
+    // speed: D-node-inlined
     #[inline(always)]
     fn look_known(&self, src: Mac, seq: Seq, lanes: Lanes, now: u64) -> Option<Look>
         ensures answer { option_map (λ look. look.fresh) result
@@ -240,6 +242,7 @@ impl<const N: usize> TableOf<N> {
     /// What `arrive` does, where the record of the source is looked for first where a hint says. It notes an arrival, and answers the
     /// asked lanes on which its number is new in the epoch of its source.
     /// TableFull: 1024 other sources are live. NoMemory: memory ran out. Either way nothing changes.
+    // speed: D-node-one-look
     #[inline(always)]
     pub fn arrive_at(
         &mut self,
@@ -279,6 +282,7 @@ impl<const N: usize> TableOf<N> {
     }
 
     // An arrival of a source that has a record, forgotten or not.
+    // speed: D-node-inlined
     #[inline(always)]
     fn note(
         &mut self,

@@ -28,6 +28,7 @@ fn both(a: u8x16, b: u8x16) -> u8x16
 }
 
 /// Reads sixteen octets from a place on. The results are the values of their digits.
+// speed: D-hex-blocks
 #[inline(always)]
 fn read_block(digits: &[u8], at: usize, octets: &mut [u8]) -> (u8x16, u8x16)
     requires whole { 2 * at + 32 ≤ length digits.now }
@@ -45,6 +46,7 @@ fn read_block(digits: &[u8], at: usize, octets: &mut [u8]) -> (u8x16, u8x16)
 }
 
 /// Reads sixteen octets from a place on. The result is small where all of their digits are digits.
+// speed: D-hex-blocks
 #[inline(always)]
 fn read_digits(digits: &[u8], at: usize, octets: &mut [u8]) -> u8x16
     requires pairs { length digits.now ≡ 2 * length octets.old }
@@ -60,6 +62,7 @@ fn read_digits(digits: &[u8], at: usize, octets: &mut [u8]) -> u8x16
 
 /// Reads sixteen octets from a place on. The result is the place of the first octet of the text from there on that is no digit;
 /// None where all thirty-two are digits.
+// speed: D-hex-blocks
 #[inline(always)]
 fn read_up_to(text: &[u8], at: usize, octets: &mut [u8]) -> Option<usize>
     requires whole { 2 * at + 32 ≤ length text.now }
@@ -82,6 +85,7 @@ fn read_up_to(text: &[u8], at: usize, octets: &mut [u8]) -> Option<usize>
 }
 
 /// Reads sixteen octets or more, sixteen at a time. Of the last sixteen some may have been read before.
+// speed: D-hex-blocks
 fn read_blocks(digits: &[u8], octets: &mut [u8]) -> bool
     requires pairs { length digits.now ≡ 2 * length octets.old }
     requires enough { 16 ≤ length octets.old }

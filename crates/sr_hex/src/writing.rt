@@ -8,6 +8,7 @@ use crate::vectors::{digits_of, in_turn_first, in_turn_last, load, lower, store,
 use std::alloc::AllocError;
 
 /// Writes the digits of sixteen octets from a place on.
+// speed: D-hex-blocks
 #[inline(always)]
 fn write_block(octets: &[u8], at: usize, digits: &mut [u8])
     requires pairs { length digits.old ≡ 2 * length octets.now }
@@ -24,6 +25,7 @@ fn write_block(octets: &[u8], at: usize, digits: &mut [u8])
 }
 
 /// Writes the digits of eight octets from a place on.
+// speed: D-hex-blocks
 #[inline(always)]
 fn write_half(octets: &[u8], at: usize, digits: &mut [u8])
     requires pairs { length digits.old ≡ 2 * length octets.now }

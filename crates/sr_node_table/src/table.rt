@@ -209,6 +209,7 @@ impl NodeTable {
 
     /// Where the entry of a node is, forgotten or not, for the calls that look there first. It is looked for first where a hint says,
     /// which may be that of another table: where both meet new addresses in one order, it is the same.
+    // speed: D-node-one-look
     #[inline(always)]
     pub fn find_at(&self, hint: Option<Hint>, mac: Mac) -> Option<Hint>
         ensures { is_some result ≡ is_some (lookup (mac_eq mac) self.now.table.entries) }
@@ -226,6 +227,7 @@ impl NodeTable {
 
     /// Sees to it that the next hearing of an address takes no memory: one that has an entry needs none, where a hint tells of
     /// it; for any other a place is held. NoMemory: memory ran out, and nothing changes.
+    // speed: D-node-one-look
     #[inline(always)]
     pub fn reserve_at(&mut self, hint: Option<Hint>, mac: Mac) -> Result<Ready, NoMemory>
         ensures table { self.new.table ≡ self.old.table }
@@ -296,6 +298,7 @@ impl NodeTable {
 
     /// What `heard` does, where the entry of the node is looked for first where a hint says. It hears a numbered frame of a node at a
     /// ring port, A or B. Full and NoMemory: as `heard`.
+    // speed: D-node-one-look
     #[inline(always)]
     pub fn heard_at(
         &mut self,

@@ -100,6 +100,7 @@ impl<V: Drop + Ranked> Slots<V> {
     }
 
     /// The value at an address, which is looked for first where a hint says, and where it is.
+    // speed: D-node-one-look
     #[inline(always)]
     pub fn find_at(&self, hint: Option<Hint>, key: Mac) -> Option<(Hint, &V)>
         ensures { option_map (λ found. found.1.now) result ≡ value_at self.now key }
@@ -128,6 +129,7 @@ impl<V: Drop + Ranked> Slots<V> {
 
     /// Changes the value at an address in its place, which is looked for first where a hint says, and answers what the change answers.
     /// A held place of the address is used up. None: the address has no value, and nothing changes.
+    // speed: D-node-one-look
     pub fn update_at<R: Drop, F: FnOnce(&mut V) -> R>(
         &mut self,
         hint: Option<Hint>,
@@ -237,6 +239,7 @@ impl<V: Drop + Ranked> Slots<V> {
     }
 
     /// Gives up all held places. Where they stand last and have no value, it looks at them alone.
+    // speed: D-node-inlined
     #[inline(always)]
     pub fn release(&mut self)
         ensures entries { self.new.entries ≡ self.old.entries }

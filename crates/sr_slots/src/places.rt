@@ -43,6 +43,7 @@ pub fn find<V: Drop + Ranked>(map: &IndexMap<Mac, Slot<V>, Keys>, key: Mac) -> O
 }
 
 /// Whether the place of an address is at this index.
+// speed: D-node-one-look
 #[inline(always)]
 pub fn stands_at<V: Drop + Ranked>(
     map: &IndexMap<Mac, Slot<V>, Keys>,
@@ -62,6 +63,7 @@ pub fn stands_at<V: Drop + Ranked>(
 
 // The index of the place of an address, by a look-up. It stands apart, so that an address that is where it was sought first costs
 // no more than a compare.
+// speed: D-node-one-look
 #[inline(never)]
 fn sought<V: Drop + Ranked>(map: &IndexMap<Mac, Slot<V>, Keys>, key: Mac) -> Option<usize>
     ensures found { is_some result ≡ is_some (lookup (mac_eq key) map.now.entries) }
@@ -72,6 +74,7 @@ fn sought<V: Drop + Ranked>(map: &IndexMap<Mac, Slot<V>, Keys>, key: Mac) -> Opt
 }
 
 // The index of the place of an address: the given one, if it is there, else by a look-up.
+// speed: D-node-one-look
 #[inline(always)]
 fn index_of<V: Drop + Ranked>(
     map: &IndexMap<Mac, Slot<V>, Keys>,
@@ -90,6 +93,7 @@ fn index_of<V: Drop + Ranked>(
 }
 
 /// The value at an address, whose place is looked for at an index first, and the index of that place.
+// speed: D-node-one-look
 #[inline(always)]
 pub fn find_at<V: Drop + Ranked>(
     map: &IndexMap<Mac, Slot<V>, Keys>,
@@ -118,6 +122,7 @@ pub fn value_at<V: Drop + Ranked>(
 }
 
 // Changes the value of a place, which is not held any more. With the answer it says whether it was.
+// speed: D-node-inlined
 #[inline(always)]
 fn change_in<V: Drop + Ranked, R, F: FnOnce(&mut V) -> R>(
     slot: &mut Slot<V>,

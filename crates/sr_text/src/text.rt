@@ -9,6 +9,7 @@ use std::marker::Model;
 
 /// Text that grows at its end. What is cut off or cleared stays in its memory as octets that say nothing, and what is appended is
 /// written over them: so nothing is cleared for it, and as a rule no memory is asked for.
+// speed: D-text-never-shortened
 #[derive(Drop)]
 pub struct Text {
     // The text, and behind it octets that say nothing.
@@ -28,6 +29,7 @@ impl Model for Text {
 }
 
 // Asks for memory for so many octets behind a text. It stands apart, so that what is written over octets that stand there costs no call.
+// speed: D-text-never-shortened
 #[inline(never)]
 fn lengthen(octets: &mut Vec<u8>, len: usize, more: usize) -> Result<(), AllocError>
     requires within { len ≤ vec_len octets.old }
@@ -40,6 +42,7 @@ fn lengthen(octets: &mut Vec<u8>, len: usize, more: usize) -> Result<(), AllocEr
 }
 
 // Sees that there are so many octets behind a text.
+// speed: D-session-inlined
 #[inline(always)]
 fn make_room(octets: &mut Vec<u8>, len: usize, more: usize) -> Result<(), AllocError>
     requires within { len ≤ vec_len octets.old }
@@ -154,6 +157,7 @@ impl Text {
 
     /// Appends a line: octets as they are, then others, which stand in two pieces, as hexadecimal digits of lower case, two each, and
     /// a line feed. An error: no memory was had for it, and the text is what it was.
+    // speed: D-text-hex-line
     #[inline(always)]
     pub fn append_hex_line(
         &mut self,

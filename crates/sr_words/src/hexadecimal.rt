@@ -11,6 +11,7 @@ use sr_session::FaultKind;
 
 /// Gives a list more octets than it has. Where memory has to grow for them, the digits are looked at first. It stands apart,
 /// so that octets that are no more than those of the line before cost no call.
+// speed: D-words-hex-first
 #[inline(never)]
 fn lengthen(digits: &[u8], octets: &mut Vec<u8>, count: usize) -> Result<(), FaultKind>
     ensures ok { OnOk result (length octets.new.items ≡ count) }
@@ -28,6 +29,7 @@ fn lengthen(digits: &[u8], octets: &mut Vec<u8>, count: usize) -> Result<(), Fau
 }
 
 /// Gives a list so many octets.
+// speed: D-words-hex-first
 #[inline(always)]
 fn make_room(digits: &[u8], octets: &mut Vec<u8>, count: usize) -> Result<(), FaultKind>
     ensures ok { OnOk result (length octets.new.items ≡ count) }

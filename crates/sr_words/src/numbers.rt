@@ -9,6 +9,7 @@ ghost use Rattle.std.specs.Str.Parse.{AllDigits, digits_value};
 const FEW: usize = 19;
 
 /// The value of few decimal digits. None where an octet is no digit.
+// speed: D-words-digits
 fn value_of_few(digits: &[u8]) -> Option<u64>
     requires { length digits.now ≤ 19 }
     ensures { SomeIff result (AllDigits 10 digits.now) (digits_value 10 digits.now) }
