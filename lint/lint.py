@@ -75,7 +75,7 @@ def silent_items(root):
             if not found:
                 continue
             above = number - 2
-            while above >= 0 and lines[above].lstrip().startswith("#["):
+            while above >= 0 and lines[above].lstrip().startswith(("#[", "// speed: ")):
                 above -= 1
             if not lines[above].lstrip().startswith("///"):
                 yield path, number, f"`{found[2]}` has no doc comment"

@@ -53,6 +53,11 @@ class Lint(unittest.TestCase):
             found = self.findings({"crates/sr_one/src/lib.rt": "// one\n" + item + "\n"})
             number = 1 + len(item.split("\n"))
             self.assertEqual(found, [f"crates/sr_one/src/lib.rt:{number}: `one` has no doc comment"])
+        documented = {
+            "crates/sr_one/src/lib.rt": "/// One.\n// speed: D-one-name\n#[inline]\npub fn one() {}\n",
+            "docs/DECISIONS.md": "**D-one-name.** One.\n",
+        }
+        self.assertEqual(self.findings(documented), [])
 
     def test_bare_limits(self):
         for line in ["IsShort n = n < 8000", "most n = min n 60_000", "a = b n 1524 -- 1518", "all = 1524 ∷ []"]:

@@ -1,5 +1,6 @@
--- What a plan puts together is a plan, and a frame that passed as its plan says went as a frame that comes in goes.
-use Rattle.std.proofs.Common.{◌≡◌, ℕ, Option, None, Some, refl, sym, ap, ◌∙◌, subst}
+-- Why an arrival is refused, and how a frame that passed as its plan says went.
+use Rattle.std.proofs.Common.{◌≡◌, ℕ, false, Option, None, Some, refl, sym, ap, ◌∙◌, subst, if◌then◌else◌}
+use Rattle.sr_sequence.specs.declared.Seq.{Seq}
 use Rattle.sr_frame.specs.declared.ports.Port.{Port}
 use Rattle.sr_supervision.specs.declared.message.Supervision.{Supervision}
 use Rattle.sr_forwarding.specs.declared.header.Header.{Header}
@@ -9,29 +10,30 @@ use Rattle.sr_forwarding.specs.Parcels.{ParcelImage}
 use Rattle.sr_forwarding.specs.Proxies.{learned}
 use Rattle.sr_forwarding.specs.Routes.{routes}
 use Rattle.sr_node.specs.declared.passing.Passing.{Passing}
-use Rattle.sr_node.specs.declared.passing.Plan.TheVariants.{Pass}
-use Rattle.sr_slots.specs.Places.{IsFound}
-use Rattle.sr_node.specs.Arriving.{header_told, header_at, wanted_at, going_on, next_at, full_fault, outlets_fault, arrive_refusal, passed, PassedTo, Arrived, arrival_answer, wrong_lan_after}
-use Rattle.sr_node.specs.Outboxes.{first_full}
+use Rattle.sr_node.specs.declared.passing.Arrival.{Arrival}
+use Rattle.sr_node.specs.declared.fault.StepFault.TheVariants as fault
+use Rattle.sr_forwarding.specs.declared.fault.ReadFault.TheVariants as read
+use Rattle.sr_node.specs.Arriving.{header_told, header_at, wanted_at, is_too_long, is_untagged, is_own, going_on, goes, next_at, full_fault, outlets_fault, arrive_refusal, passed, PassedTo, Arrived, arrival_answer, wrong_lan_after}
 use Rattle.sr_node.specs.Copies.{copies_for, put_copies}
 use Rattle.sr_node.specs.Hearing.{SaysOf, number_heard, announced, nodes_heard, nodes_told}
 use Rattle.sr_node.specs.Images.{State}
-use Rattle.sr_node.specs.Lanes.{sources_after}
-use Rattle.sr_node.specs.Plans.{new_to, IsAdmitted, IsObserved, IsOfNetwork, IsPassing, ArrivalIs, passed_as}
+use Rattle.sr_node.specs.Lanes.{new_outlets, sources_after}
+use Rattle.sr_node.specs.Plans.{new_to, IsOther, IsArrival, IsWay, IsObserved, passed_as}
+use Rattle.sr_node.specs.Faults.{IsAccepted}
 
-passed_same : (s : State) (f : Passing) (p : ParcelImage) (is : IsPassing s p f)
-    → passed_as s f p ≡ passed s f.arrival.inlet p f.arrival.next f.arrival.moment f.outlets is.said
-passed_same s f p is =
+passed_same : (s : State) (f : Passing) (p : ParcelImage) (said : Option Supervision) → IsOther s p f.arrival
+    → IsObserved s f.arrival said f.observations → passed_as s f p ≡ passed s f.arrival.inlet p f.arrival.next f.arrival.moment f.outlets said
+passed_same s f p said other observed =
     let a = f.arrival in
-    let read = is.other.read in
+    let read = other.read in
     let role : learned s.role (header_told s a.header a.moment) a.inlet a.moment ≡ learned s.role (header_at s p a.moment) a.inlet a.moment =
     ap (λ h. learned s.role (header_told s h a.moment) a.inlet a.moment) read in
     let wanted : a.wanted ≡ wanted_at s a.inlet p a.moment =
-    is.other.wanted ∙ ap (λ h. routes s.role (header_told s h a.moment) a.inlet a.moment) read in
+    other.wanted ∙ ap (λ h. routes s.role (header_told s h a.moment) a.inlet a.moment) read in
     let number : f.observations.number ≡ number_heard s.role a.inlet (header_of p).src p.seq a.moment =
-    is.observed.number ∙ ap (λ (h : Header). number_heard s.role a.inlet h.src h.seq a.moment) read in
-    let told : f.observations.announced ≡ announced s.role a.inlet p.seq is.said =
-    is.observed.announced ∙ ap (λ (h : Header). announced s.role a.inlet h.seq is.said) read in
+    observed.number ∙ ap (λ (h : Header). number_heard s.role a.inlet h.src h.seq a.moment) read in
+    let told : f.observations.announced ≡ announced s.role a.inlet p.seq said =
+    observed.announced ∙ ap (λ (h : Header). announced s.role a.inlet h.seq said) read in
     λ i. record {
       role = role i;
       core = record s.core {
@@ -49,34 +51,45 @@ says_same : (s : State) (inlet : Port) (p : ParcelImage) (said : Option Supervis
 says_same s inlet p None says = says
 says_same s inlet p (Some said) says = says
 
-pub arrived_as : (s t : State) (inlet : Port) (p : ParcelImage) (now : ℕ) (f : Passing) → ArrivalIs s inlet p now (Pass f)
-    → t ≡ passed_as s f (going_on s inlet p) → Arrived s inlet p now (arrival_answer (Some f.outlets)) t
-arrived_as s t inlet p now f (other, at, moment, goes, is) step =
-    let q = going_on s inlet p in
-    let next : f.arrival.next ≡ next_at s.core.next inlet p = is.other.next ∙ ap (λ port. next_at s.core.next port q) at in
-    let same : t ≡ passed s inlet q (next_at s.core.next inlet p) now f.outlets is.said =
-    step ∙ passed_same s f q is ∙ (λ i. passed s (at i) q (next i) (moment i) f.outlets is.said) in
-    (other, subst (λ o. PassedTo s inlet p now o (listed f.outlets) t) (sym goes) (is.said, says_same s inlet p is.said is.says, refl, same))
+-- where a frame of another node goes that its port lets in, and why it is refused then
+let_in : (s : State) (inlet : Port) (p : ParcelImage) (now : ℕ) (next : Seq) (h : Header) (a : Arrival)
+    → is_too_long inlet p ≡ false → is_untagged s.role.kind inlet p.form ≡ false → is_own s p ≡ false
+    → h ≡ header_of (going_on s inlet p) → IsArrival s inlet h next now a
+    → (goes s inlet p now ≡ new_to s.core a) × (arrive_refusal s inlet p now ≡ outlets_fault s.core.out (new_to s.core a))
+let_in s inlet p now next h a fits tagged other is arrival =
+    let header : a.header ≡ header_of (going_on s inlet p) = arrival.header ∙ is in
+    let wanted : a.wanted ≡ wanted_at s inlet (going_on s inlet p) now =
+    arrival.wanted ∙ (λ i. routes s.role (header_told s (header i) (arrival.moment i)) (arrival.inlet i) (arrival.moment i)) in
+    let same : new_to s.core a ≡ goes s inlet p now =
+    λ i. new_outlets s.core.mode s.core.width s.core.sources (arrival.inlet i) (header i).src (header i).seq (wanted i) (arrival.moment i) in
+    let refused : arrive_refusal s inlet p now ≡ outlets_fault s.core.out (goes s inlet p now) =
+    λ i. if fits i then Some (fault.Reading read.TooLong) else if tagged i then Some fault.Untagged else if other i then None
+        else outlets_fault s.core.out (goes s inlet p now) in
+    (sym same, refused ∙ ap (outlets_fault s.core.out) (sym same))
 
--- an arrival that is new at these outlets, with room there, passes
-pub plan_as : (s : State) (inlet : Port) (p : ParcelImage) (now : ℕ) (f : Passing) (said : Option Supervision)
-    → IsAdmitted s inlet p now (Some f.arrival) → new_to s.core f.arrival ≡ Some f.outlets → first_full s.core.out f.outlets ≡ None
-    → IsFound f.hint s.core.sources f.arrival.header.src → SaysOf (going_on s inlet p) said → IsObserved s f.arrival said f.observations
-    → IsFound f.observations.source s.core.nodes.entries f.arrival.header.src → IsOfNetwork f.arrival.inlet f.observations
-    → (arrive_refusal s inlet p now ≡ None) × ArrivalIs s inlet p now (Pass f)
-plan_as s inlet p now f said (own, at, moment, other, goes, fault) new room found says observed node network = (
-  fault ∙ ap (outlets_fault s.core.out) new ∙ ap full_fault room,
-  (
-    own,
-    at,
-    moment,
-    goes ∙ new,
+-- it is not refused where there is a way for it, and where it went that way it went as a frame that comes in goes
+pub arrived_as : (s t : State) (inlet : Port) (p : ParcelImage) (now : ℕ) (next : Seq) (h : Header) (f : Passing) (said : Option Supervision)
+    → is_too_long inlet p ≡ false → is_untagged s.role.kind inlet p.form ≡ false → is_own s p ≡ false
+    → h ≡ header_of (going_on s inlet p) → next ≡ next_at s.core.next inlet p → IsArrival s inlet h next now f.arrival
+    → IsWay s.core f.arrival f.outlets f.hint → SaysOf (going_on s inlet p) said → IsObserved s f.arrival said f.observations
+    → t ≡ passed_as s f (going_on s inlet p)
+    → IsAccepted (arrive_refusal s inlet p now) (Arrived s inlet p now (arrival_answer (Some f.outlets)) t)
+arrived_as s t inlet p now next h f said fits tagged own read after arrival way says observed step =
+    let q = going_on s inlet p in
+    let a = f.arrival in
+    let found = let_in s inlet p now next h a fits tagged own read arrival in
+    let number : a.next ≡ next_at s.core.next inlet p = arrival.next ∙ after in
+    let other : IsOther s q a =
     record {
-      other = other;
-      passes = record { asked = other.asked; goes = new; room = room; record_found = found; node_found = node; network = network };
-      said = said;
-      says = says;
-      observed = observed;
-    },
-  ),
-)
+      asked = arrival.asked;
+      read = arrival.header ∙ read;
+      wanted = arrival.wanted;
+      next = number ∙ ap (λ port. next_at s.core.next port q) (sym arrival.inlet);
+    } in
+    let same : t ≡ passed s inlet q (next_at s.core.next inlet p) now f.outlets said =
+    step ∙ passed_same s f q said other observed ∙ (λ i. passed s (arrival.inlet i) q (number i) (arrival.moment i) f.outlets said) in
+    let to : PassedTo s inlet p now (Some f.outlets) (listed f.outlets) t = (said, says_same s inlet p said says, refl, same) in
+    record {
+      ok = found.1 ∙ ap (outlets_fault s.core.out) way.goes ∙ ap full_fault way.room;
+      step = (own, subst (λ o. PassedTo s inlet p now o (listed f.outlets) t) (sym (found.0 ∙ way.goes)) to);
+    }

@@ -41,6 +41,7 @@ impl Observations {
 }
 
 /// What a frame with this header says, if it is supervision that can be read.
+// speed: D-node-inlined
 #[inline(always)]
 pub(crate) fn said_by(parcel: &ParcelView<'_>, header: &Header) -> Option<Supervision>
     requires { header.now.supervision ≡ is_supervision (plain_of parcel.now) }
@@ -67,6 +68,7 @@ fn is_network(port: Port) -> bool
 
 impl<R: Role> NodeOf<R> {
     // Whether the role owns the source of a frame. It is asked only where its routes don't tell.
+    // speed: D-node-inlined
     #[tactic(auto, using(crate::proofs::HearingLemmas::owned_where_unwanted))]
     #[inline(always)]
     fn owns_source(&self, arrival: &Arrival) -> bool
@@ -83,6 +85,7 @@ impl<R: Role> NodeOf<R> {
     }
 
     // The number under which the source of a frame is observed, if it is.
+    // speed: D-node-inlined
     #[inline(always)]
     fn observed_number(&self, arrival: &Arrival) -> Option<Seq>
         requires { IsWanted (state_of R.meaning self.now) arrival.now }
@@ -97,6 +100,7 @@ impl<R: Role> NodeOf<R> {
     }
 
     // What a frame announces that says this.
+    // speed: D-node-inlined
     #[inline(always)]
     fn announced(&self, arrival: &Arrival, said: Option<Supervision>) -> Option<Supervision>
         ensures { result ≡ announced (R.meaning self.now.role) arrival.now.inlet
@@ -115,6 +119,7 @@ impl<R: Role> NodeOf<R> {
 
     /// What a frame that says this makes known: its source, and the node that its supervision describes. The entry of its source
     /// is looked for first where its record was found: as a rule both tables met their addresses in one order.
+    // speed: D-node-inlined
     #[inline(always)]
     pub(crate) fn observations(
         &self,

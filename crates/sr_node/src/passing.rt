@@ -36,12 +36,3 @@ pub(crate) struct Passing {
     /// What it makes known of other nodes.
     pub(crate) observations: Observations,
 }
-
-/// What a frame that is not refused comes to.
-#[derive(Clone, Copy)]
-pub(crate) enum Plan {
-    /// It is the node's own.
-    Own,
-    /// It passes.
-    Pass(Passing),
-}

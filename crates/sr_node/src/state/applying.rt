@@ -38,6 +38,7 @@ fn count_wrong_lan(counts: &mut PerPort<u64>, port: Port, parcel: &ParcelView<'_
 
 impl Core {
     // Notes a frame for which there is room.
+    // speed: D-node-inlined
     #[inline(always)]
     fn note(&mut self, passing: &Passing)
         requires passes { LetsPass (shown self.old) passing.now }
@@ -60,6 +61,7 @@ impl Core {
     }
 
     // Observes the source of a frame under a number, if it is observed.
+    // speed: D-node-inlined
     #[inline(always)]
     fn observe_source(&mut self, passing: &Passing)
         requires network { IsSome passing.now.observations.number
@@ -86,6 +88,7 @@ impl Core {
     }
 
     // Takes up what a frame announces, if it announces anything.
+    // speed: D-node-inlined
     #[inline(always)]
     fn observe_announced(&mut self, passing: &Passing)
         requires network { IsSome passing.now.observations.announced
@@ -108,6 +111,7 @@ impl Core {
     }
 
     // Observes what a frame makes known, for which there is room.
+    // speed: D-node-inlined
     #[inline(always)]
     fn observe(&mut self, passing: &Passing)
         requires network { IsOfNetwork passing.now.arrival.inlet passing.now.observations }
@@ -125,6 +129,7 @@ impl Core {
     }
 
     /// The changes of a frame that passes as this parcel.
+    // speed: D-node-inlined
     #[inline(always)]
     pub(crate) fn apply_arrive(
         &mut self,
@@ -218,6 +223,7 @@ impl Core {
     }
 
     /// The first parcel that waits at a port goes, and the next copy is made in its memory.
+    // speed: D-node-memory-again
     #[inline(always)]
     pub(crate) fn drop_first(&mut self, port: Port)
         ensures shown { shown self.new

@@ -16,6 +16,7 @@ use sr_frame::NoMemory;
 
 impl Core {
     /// A copy for each of these outlets, where there is room. Nothing that shows changes. NoMemory: a growth was refused.
+    // speed: D-node-inlined
     #[inline(always)]
     pub(crate) fn reserve_copies(
         &mut self,
@@ -33,6 +34,7 @@ impl Core {
     }
 
     /// Holds places for the note of a frame that passes and for what it makes known. Nothing that shows changes.
+    // speed: D-node-inlined
     #[inline(always)]
     pub(crate) fn reserve_places(&mut self, passing: &Passing) -> Result<(), NoMemory>
         requires { LetsPass (shown self.old) passing.now }
@@ -59,6 +61,7 @@ impl Core {
     }
 
     // Holds a place for the source of a frame, where it is observed and a full table would not refuse it.
+    // speed: D-node-inlined
     #[inline(always)]
     fn reserve_source(&mut self, passing: &Passing) -> Result<(), NoMemory>
         requires { IsFound passing.now.observations.source self.old.nodes.table.entries
@@ -80,6 +83,7 @@ impl Core {
     }
 
     // Holds a place for the node of which a frame speaks, beside that for its source.
+    // speed: D-node-inlined
     #[inline(always)]
     fn reserve_announced(&mut self, passing: &Passing) -> Result<(), NoMemory>
         requires source { IsFound passing.now.observations.source self.old.nodes.table.entries
@@ -111,6 +115,7 @@ impl Core {
     }
 
     // Holds places for what a frame makes known. Nothing that shows changes.
+    // speed: D-node-inlined
     #[inline(always)]
     fn reserve_nodes(&mut self, passing: &Passing) -> Result<(), NoMemory>
         requires { IsFound passing.now.observations.source self.old.nodes.table.entries
