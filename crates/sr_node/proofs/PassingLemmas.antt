@@ -1,6 +1,8 @@
 -- Why an arrival is refused, and how a frame that passed as its plan says went.
 use Rattle.std.proofs.Common.{◌≡◌, ℕ, false, Option, None, Some, refl, sym, ap, ◌∙◌, subst, if◌then◌else◌}
 use Rattle.sr_sequence.specs.declared.Seq.{Seq}
+use Rattle.sr_slots.specs.declared.by_address.Hint.{Hint}
+use Rattle.sr_forwarding.specs.declared.outlets.Outlets.{Outlets}
 use Rattle.sr_frame.specs.declared.ports.Port.{Port}
 use Rattle.sr_supervision.specs.declared.message.Supervision.{Supervision}
 use Rattle.sr_forwarding.specs.declared.header.Header.{Header}
@@ -21,12 +23,12 @@ use Rattle.sr_node.specs.Lanes.{new_outlets, sources_after}
 use Rattle.sr_node.specs.Plans.{new_to, IsOther, IsArrival, IsWay, IsObserved, passed_as}
 use Rattle.sr_node.specs.Faults.{IsAccepted}
 
-passed_same : (s : State) (f : Passing) (p : ParcelImage) (said : Option Supervision) → IsOther s p f.arrival
+pub passed_same : (s : State) (f : Passing) (p : ParcelImage) (said : Option Supervision) → IsOther s p f.arrival
     → IsObserved s f.arrival said f.observations → passed_as s f p ≡ passed s f.arrival.inlet p f.arrival.next f.arrival.moment f.outlets said
 passed_same s f p said other observed =
     let a = f.arrival in
     let read = other.read in
-    let role : learned s.role (header_told s a.header a.moment) a.inlet a.moment ≡ learned s.role (header_at s p a.moment) a.inlet a.moment =
+    let role : learned s.role (header_told s a.header.now a.moment) a.inlet a.moment ≡ learned s.role (header_at s p a.moment) a.inlet a.moment =
     ap (λ h. learned s.role (header_told s h a.moment) a.inlet a.moment) read in
     let wanted : a.wanted ≡ wanted_at s a.inlet p a.moment =
     other.wanted ∙ ap (λ h. routes s.role (header_told s h a.moment) a.inlet a.moment) read in
@@ -57,7 +59,7 @@ let_in : (s : State) (inlet : Port) (p : ParcelImage) (now : ℕ) (next : Seq) (
     → h ≡ header_of (going_on s inlet p) → IsArrival s inlet h next now a
     → (goes s inlet p now ≡ new_to s.core a) × (arrive_refusal s inlet p now ≡ outlets_fault s.core.out (new_to s.core a))
 let_in s inlet p now next h a fits tagged other is arrival =
-    let header : a.header ≡ header_of (going_on s inlet p) = arrival.header ∙ is in
+    let header : a.header.now ≡ header_of (going_on s inlet p) = arrival.header ∙ is in
     let wanted : a.wanted ≡ wanted_at s inlet (going_on s inlet p) now =
     arrival.wanted ∙ (λ i. routes s.role (header_told s (header i) (arrival.moment i)) (arrival.inlet i) (arrival.moment i)) in
     let same : new_to s.core a ≡ goes s inlet p now =
@@ -67,29 +69,21 @@ let_in s inlet p now next h a fits tagged other is arrival =
         else outlets_fault s.core.out (goes s inlet p now) in
     (sym same, refused ∙ ap (outlets_fault s.core.out) (sym same))
 
--- it is not refused where there is a way for it, and where it went that way it went as a frame that comes in goes
-pub arrived_as : (s t : State) (inlet : Port) (p : ParcelImage) (now : ℕ) (next : Seq) (h : Header) (f : Passing) (said : Option Supervision)
+-- it is not refused where there is a way for it, and where it passed that way it went as a frame that comes in goes
+pub arrived_as : (s t : State) (inlet : Port) (p : ParcelImage) (now : ℕ) (next : Seq) (h : Header) (a : Arrival) (outlets : Outlets)
+    (hint : Option Hint) (said : Option Supervision)
     → is_too_long inlet p ≡ false → is_untagged s.role.kind inlet p.form ≡ false → is_own s p ≡ false
-    → h ≡ header_of (going_on s inlet p) → next ≡ next_at s.core.next inlet p → IsArrival s inlet h next now f.arrival
-    → IsWay s.core f.arrival f.outlets f.hint → SaysOf (going_on s inlet p) said → IsObserved s f.arrival said f.observations
-    → t ≡ passed_as s f (going_on s inlet p)
-    → IsAccepted (arrive_refusal s inlet p now) (Arrived s inlet p now (arrival_answer (Some f.outlets)) t)
-arrived_as s t inlet p now next h f said fits tagged own read after arrival way says observed step =
+    → h ≡ header_of (going_on s inlet p) → next ≡ next_at s.core.next inlet p → IsArrival s inlet h next now a
+    → IsWay s.core a outlets hint → SaysOf (going_on s inlet p) said
+    → t ≡ passed s a.inlet (going_on s inlet p) a.next a.moment outlets said
+    → IsAccepted (arrive_refusal s inlet p now) (Arrived s inlet p now (arrival_answer (Some outlets)) t)
+arrived_as s t inlet p now next h a outlets hint said fits tagged own read after arrival way says step =
     let q = going_on s inlet p in
-    let a = f.arrival in
     let found = let_in s inlet p now next h a fits tagged own read arrival in
-    let number : a.next ≡ next_at s.core.next inlet p = arrival.next ∙ after in
-    let other : IsOther s q a =
-    record {
-      asked = arrival.asked;
-      read = arrival.header ∙ read;
-      wanted = arrival.wanted;
-      next = number ∙ ap (λ port. next_at s.core.next port q) (sym arrival.inlet);
-    } in
-    let same : t ≡ passed s inlet q (next_at s.core.next inlet p) now f.outlets said =
-    step ∙ passed_same s f q said other observed ∙ (λ i. passed s (arrival.inlet i) q (number i) (arrival.moment i) f.outlets said) in
-    let to : PassedTo s inlet p now (Some f.outlets) (listed f.outlets) t = (said, says_same s inlet p said says, refl, same) in
+    let same : t ≡ passed s inlet q (next_at s.core.next inlet p) now outlets said =
+    step ∙ (λ i. passed s (arrival.inlet i) q ((arrival.next ∙ after) i) (arrival.moment i) outlets said) in
+    let to : PassedTo s inlet p now (Some outlets) (listed outlets) t = (said, says_same s inlet p said says, refl, same) in
     record {
       ok = found.1 ∙ ap (outlets_fault s.core.out) way.goes ∙ ap full_fault way.room;
-      step = (own, subst (λ o. PassedTo s inlet p now o (listed f.outlets) t) (sym (found.0 ∙ way.goes)) to);
+      step = (own, subst (λ o. PassedTo s inlet p now o (listed outlets) t) (sym (found.0 ∙ way.goes)) to);
     }

@@ -71,11 +71,11 @@ impl<R: Role> NodeOf<R> {
     // speed: D-node-inlined
     #[tactic(auto, using(crate::proofs::HearingLemmas::owned_where_unwanted))]
     #[inline(always)]
-    fn owns_source(&self, arrival: &Arrival) -> bool
+    fn owns_source(&self, arrival: &Arrival<'_>) -> bool
         requires network { is_network arrival.now.inlet ≡ true }
         requires wanted { IsWanted (state_of R.meaning self.now) arrival.now }
         ensures { result
-            ≡ owned (R.meaning self.now.role) arrival.now.header.src arrival.now.moment }
+            ≡ owned (R.meaning self.now.role) arrival.now.header.now.src arrival.now.moment }
     {
         if self.role.kind().drops_only_own_sources() {
             arrival.wanted.is_empty()
@@ -87,10 +87,10 @@ impl<R: Role> NodeOf<R> {
     // The number under which the source of a frame is observed, if it is.
     // speed: D-node-inlined
     #[inline(always)]
-    fn observed_number(&self, arrival: &Arrival) -> Option<Seq>
+    fn observed_number(&self, arrival: &Arrival<'_>) -> Option<Seq>
         requires { IsWanted (state_of R.meaning self.now) arrival.now }
         ensures { result ≡ number_heard (R.meaning self.now.role) arrival.now.inlet
-            arrival.now.header.src arrival.now.header.seq arrival.now.moment }
+            arrival.now.header.now.src arrival.now.header.now.seq arrival.now.moment }
     {
         if is_network(arrival.inlet) && !self.owns_source(arrival) {
             arrival.header.seq
@@ -102,9 +102,9 @@ impl<R: Role> NodeOf<R> {
     // What a frame announces that says this.
     // speed: D-node-inlined
     #[inline(always)]
-    fn announced(&self, arrival: &Arrival, said: Option<Supervision>) -> Option<Supervision>
+    fn announced(&self, arrival: &Arrival<'_>, said: Option<Supervision>) -> Option<Supervision>
         ensures { result ≡ announced (R.meaning self.now.role) arrival.now.inlet
-            arrival.now.header.seq said }
+            arrival.now.header.now.seq said }
     {
         let said = said?;
         if is_network(arrival.inlet)
@@ -123,14 +123,14 @@ impl<R: Role> NodeOf<R> {
     #[inline(always)]
     pub(crate) fn observations(
         &self,
-        arrival: &Arrival,
+        arrival: &Arrival<'_>,
         hint: Option<Hint>,
         said: Option<Supervision>,
     ) -> Observations
         requires { IsWanted (state_of R.meaning self.now) arrival.now }
         ensures observed { IsObserved (state_of R.meaning self.now) arrival.now said result }
         ensures source { IsFound result.source self.now.core.nodes.table.entries
-            arrival.now.header.src }
+            arrival.now.header.now.src }
         ensures network { IsOfNetwork arrival.now.inlet result }
     {
         let src = arrival.header.src;

@@ -9,11 +9,11 @@ use sr_slots::Hint;
 
 /// A frame of another node, before the table of sources is asked.
 #[derive(Clone, Copy)]
-pub(crate) struct Arrival {
+pub(crate) struct Arrival<'a> {
     /// Where it came in.
     pub(crate) inlet: Port,
     /// What routes read of it, as it goes on.
-    pub(crate) header: Header,
+    pub(crate) header: &'a Header,
     /// Where the role wants it.
     pub(crate) wanted: Outlets,
     /// The lanes on which it is noted.
@@ -26,9 +26,9 @@ pub(crate) struct Arrival {
 
 /// A frame that passes.
 #[derive(Clone, Copy)]
-pub(crate) struct Passing {
+pub(crate) struct Passing<'a> {
     /// The frame.
-    pub(crate) arrival: Arrival,
+    pub(crate) arrival: Arrival<'a>,
     /// The wanted outlets for which no copy was noted: it goes there.
     pub(crate) outlets: Outlets,
     /// Where the record of its source was found.

@@ -40,14 +40,14 @@ impl Core {
     // Notes a frame for which there is room.
     // speed: D-node-inlined
     #[inline(always)]
-    fn note(&mut self, passing: &Passing)
+    fn note(&mut self, passing: &Passing<'_>)
         requires passes { LetsPass (shown self.old) passing.now }
-        requires ready { IsReady self.old.table passing.now.arrival.header.src
-            passing.now.arrival.header.seq }
+        requires ready { IsReady self.old.table passing.now.arrival.header.now.src
+            passing.now.arrival.header.now.seq }
         ensures shown { shown self.new ≡ record (shown self.old) {
           sources = sources_after self.old.table.width self.old.table.sources
-              passing.now.arrival.inlet passing.now.arrival.header.src
-              passing.now.arrival.header.seq passing.now.arrival.wanted passing.now.arrival.moment;
+              passing.now.arrival.inlet passing.now.arrival.header.now.src
+              passing.now.arrival.header.now.seq passing.now.arrival.wanted passing.now.arrival.moment;
         } }
         ensures nodes { self.new.nodes ≡ self.old.nodes }
     {
@@ -63,18 +63,18 @@ impl Core {
     // Observes the source of a frame under a number, if it is observed.
     // speed: D-node-inlined
     #[inline(always)]
-    fn observe_source(&mut self, passing: &Passing)
+    fn observe_source(&mut self, passing: &Passing<'_>)
         requires network { IsSome passing.now.observations.number
             → is_network passing.now.arrival.inlet ≡ true }
-        requires held { HasRoomFor self.old.nodes passing.now.arrival.header.src
+        requires held { HasRoomFor self.old.nodes passing.now.arrival.header.now.src
             passing.now.observations.number passing.now.arrival.moment }
         ensures nodes { shown self.new ≡ record (shown self.old) {
           nodes = nodes_heard self.old.nodes.table passing.now.arrival.inlet
-              passing.now.arrival.header.src passing.now.observations.number
+              passing.now.arrival.header.now.src passing.now.observations.number
               passing.now.arrival.moment;
         } }
         ensures table { self.new.table ≡ self.old.table }
-        ensures ready { (mac : Address) → KeepsRoom self.old.nodes passing.now.arrival.header.src
+        ensures ready { (mac : Address) → KeepsRoom self.old.nodes passing.now.arrival.header.now.src
             passing.now.observations.number mac
             → IsReadyFor self.new.nodes mac passing.now.arrival.moment }
     {
@@ -90,7 +90,7 @@ impl Core {
     // Takes up what a frame announces, if it announces anything.
     // speed: D-node-inlined
     #[inline(always)]
-    fn observe_announced(&mut self, passing: &Passing)
+    fn observe_announced(&mut self, passing: &Passing<'_>)
         requires network { IsSome passing.now.observations.announced
             → is_network passing.now.arrival.inlet ≡ true }
         requires ready { ForSome passing.now.observations.announced (λ said.
@@ -113,12 +113,12 @@ impl Core {
     // Observes what a frame makes known, for which there is room.
     // speed: D-node-inlined
     #[inline(always)]
-    fn observe(&mut self, passing: &Passing)
+    fn observe(&mut self, passing: &Passing<'_>)
         requires network { IsOfNetwork passing.now.arrival.inlet passing.now.observations }
         requires nodes { HoldsNodes self.old.nodes passing.now }
         ensures nodes { shown self.new ≡ record (shown self.old) {
           nodes = nodes_told (nodes_heard self.old.nodes.table passing.now.arrival.inlet
-              passing.now.arrival.header.src passing.now.observations.number
+              passing.now.arrival.header.now.src passing.now.observations.number
               passing.now.arrival.moment) passing.now.arrival.inlet
               passing.now.observations.announced passing.now.arrival.moment;
         } }
@@ -133,7 +133,7 @@ impl Core {
     #[inline(always)]
     pub(crate) fn apply_arrive(
         &mut self,
-        passing: &Passing,
+        passing: &Passing<'_>,
         parcel: &ParcelView<'_>,
         copies: &mut Copies,
     )

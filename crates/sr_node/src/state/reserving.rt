@@ -36,20 +36,20 @@ impl Core {
     /// Holds places for the note of a frame that passes and for what it makes known. Nothing that shows changes.
     // speed: D-node-inlined
     #[inline(always)]
-    pub(crate) fn reserve_places(&mut self, passing: &Passing) -> Result<(), NoMemory>
+    pub(crate) fn reserve_places(&mut self, passing: &Passing<'_>) -> Result<(), NoMemory>
         requires { LetsPass (shown self.old) passing.now }
         ensures same { shown self.new ≡ shown self.old }
-        ensures ready { OnOk result (IsReady self.new.table passing.now.arrival.header.src
-            passing.now.arrival.header.seq) }
+        ensures ready { OnOk result (IsReady self.new.table passing.now.arrival.header.now.src
+            passing.now.arrival.header.now.seq) }
         ensures nodes { OnOk result (HoldsNodes self.new.nodes passing.now) }
         ensures err { OnErr result (IsIdle self.old → IsIdle self.new) }
 
         // What is neither noted nor observed takes no memory.
-        ensures free { passing.now.arrival.header.seq ≡ None
+        ensures free { passing.now.arrival.header.now.seq ≡ None
             → passing.now.observations.number ≡ None → passing.now.observations.announced ≡ None
             → (IsOk result) × (self.new ≡ self.old) }
     {
-        let header = &passing.arrival.header;
+        let header = passing.arrival.header;
         if header.seq.is_some() && passing.hint.is_none() {
             self.table.reserve(header.src)?;
         }
@@ -63,12 +63,12 @@ impl Core {
     // Holds a place for the source of a frame, where it is observed and a full table would not refuse it.
     // speed: D-node-inlined
     #[inline(always)]
-    fn reserve_source(&mut self, passing: &Passing) -> Result<(), NoMemory>
+    fn reserve_source(&mut self, passing: &Passing<'_>) -> Result<(), NoMemory>
         requires { IsFound passing.now.observations.source self.old.nodes.table.entries
-            passing.now.arrival.header.src }
+            passing.now.arrival.header.now.src }
         ensures same { shown self.new ≡ shown self.old }
         ensures table { self.new.table ≡ self.old.table }
-        ensures number { OnOk result (HasRoomFor self.new.nodes passing.now.arrival.header.src
+        ensures number { OnOk result (HasRoomFor self.new.nodes passing.now.arrival.header.now.src
             passing.now.observations.number passing.now.arrival.moment) }
         ensures free { passing.now.observations.number ≡ None
             → (IsOk result) × (self.new ≡ self.old) }
@@ -85,17 +85,17 @@ impl Core {
     // Holds a place for the node of which a frame speaks, beside that for its source.
     // speed: D-node-inlined
     #[inline(always)]
-    fn reserve_announced(&mut self, passing: &Passing) -> Result<(), NoMemory>
+    fn reserve_announced(&mut self, passing: &Passing<'_>) -> Result<(), NoMemory>
         requires source { IsFound passing.now.observations.source self.old.nodes.table.entries
-            passing.now.arrival.header.src }
-        requires number { HasRoomFor self.old.nodes passing.now.arrival.header.src
+            passing.now.arrival.header.now.src }
+        requires number { HasRoomFor self.old.nodes passing.now.arrival.header.now.src
             passing.now.observations.number passing.now.arrival.moment }
         ensures same { shown self.new ≡ shown self.old }
         ensures table { self.new.table ≡ self.old.table }
-        ensures number { OnOk result (HasRoomFor self.new.nodes passing.now.arrival.header.src
+        ensures number { OnOk result (HasRoomFor self.new.nodes passing.now.arrival.header.now.src
             passing.now.observations.number passing.now.arrival.moment) }
         ensures announced { OnOk result (HasRoomToo self.new.nodes
-            passing.now.arrival.header.src passing.now.observations.number
+            passing.now.arrival.header.now.src passing.now.observations.number
             passing.now.observations.announced) }
         ensures free { passing.now.observations.announced ≡ None
             → (IsOk result) × (self.new ≡ self.old) }
@@ -117,9 +117,9 @@ impl Core {
     // Holds places for what a frame makes known. Nothing that shows changes.
     // speed: D-node-inlined
     #[inline(always)]
-    fn reserve_nodes(&mut self, passing: &Passing) -> Result<(), NoMemory>
+    fn reserve_nodes(&mut self, passing: &Passing<'_>) -> Result<(), NoMemory>
         requires { IsFound passing.now.observations.source self.old.nodes.table.entries
-            passing.now.arrival.header.src }
+            passing.now.arrival.header.now.src }
         ensures same { shown self.new ≡ shown self.old }
         ensures table { self.new.table ≡ self.old.table }
         ensures nodes { OnOk result (HoldsNodes self.new.nodes passing.now) }
