@@ -20,10 +20,10 @@ use Rattle.sr_node.specs.Copies.{copies_for, put_copies}
 use Rattle.sr_node.specs.Hearing.{SaysOf, number_heard, announced, nodes_heard, nodes_told}
 use Rattle.sr_node.specs.Images.{State}
 use Rattle.sr_node.specs.Lanes.{new_outlets, sources_after}
-use Rattle.sr_node.specs.Plans.{new_to, IsOther, IsArrival, IsWay, IsObserved, passed_as}
+use Rattle.sr_node.specs.Plans.{new_to, IsOther, IsAdmitted, IsPlanned, IsObserved, IsPassing, passed_as}
 use Rattle.sr_node.specs.Faults.{IsAccepted}
 
-pub passed_same : (s : State) (f : Passing) (p : ParcelImage) (said : Option Supervision) → IsOther s p f.arrival
+passed_same : (s : State) (f : Passing) (p : ParcelImage) (said : Option Supervision) → IsOther s p f.arrival
     → IsObserved s f.arrival said f.observations → passed_as s f p ≡ passed s f.arrival.inlet p f.arrival.next f.arrival.moment f.outlets said
 passed_same s f p said other observed =
     let a = f.arrival in
@@ -56,7 +56,7 @@ says_same s inlet p (Some said) says = says
 -- where a frame of another node goes that its port lets in, and why it is refused then
 let_in : (s : State) (inlet : Port) (p : ParcelImage) (now : ℕ) (next : Seq) (h : Header) (a : Arrival)
     → is_too_long inlet p ≡ false → is_untagged s.role.kind inlet p.form ≡ false → is_own s p ≡ false
-    → h ≡ header_of (going_on s inlet p) → IsArrival s inlet h next now a
+    → h ≡ header_of (going_on s inlet p) → IsAdmitted s inlet h next now a
     → (goes s inlet p now ≡ new_to s.core a) × (arrive_refusal s inlet p now ≡ outlets_fault s.core.out (new_to s.core a))
 let_in s inlet p now next h a fits tagged other is arrival =
     let header : a.header.now ≡ header_of (going_on s inlet p) = arrival.header ∙ is in
@@ -66,22 +66,33 @@ let_in s inlet p now next h a fits tagged other is arrival =
     λ i. new_outlets s.core.mode s.core.width s.core.sources (arrival.inlet i) (header i).src (header i).seq (wanted i) (arrival.moment i) in
     let refused : arrive_refusal s inlet p now ≡ outlets_fault s.core.out (goes s inlet p now) =
     λ i. if fits i then Some (fault.Reading read.TooLong) else if tagged i then Some fault.Untagged else if other i then None
-        else outlets_fault s.core.out (goes s inlet p now) in
+    else outlets_fault s.core.out (goes s inlet p now) in
     (sym same, refused ∙ ap (outlets_fault s.core.out) (sym same))
 
 -- it is not refused where there is a way for it, and where it passed that way it went as a frame that comes in goes
 pub arrived_as : (s t : State) (inlet : Port) (p : ParcelImage) (now : ℕ) (next : Seq) (h : Header) (a : Arrival) (outlets : Outlets)
-    (hint : Option Hint) (said : Option Supervision)
+    (hint : Option Hint) (said : Option Supervision) (f : Passing)
     → is_too_long inlet p ≡ false → is_untagged s.role.kind inlet p.form ≡ false → is_own s p ≡ false
-    → h ≡ header_of (going_on s inlet p) → next ≡ next_at s.core.next inlet p → IsArrival s inlet h next now a
-    → IsWay s.core a outlets hint → SaysOf (going_on s inlet p) said
-    → t ≡ passed s a.inlet (going_on s inlet p) a.next a.moment outlets said
+    → h ≡ header_of (going_on s inlet p) → next ≡ next_at s.core.next inlet p → IsAdmitted s inlet h next now a
+    → IsPlanned s.core a outlets hint → SaysOf (going_on s inlet p) said → IsPassing s a outlets said f
+    → t ≡ passed_as s f (going_on s inlet p)
     → IsAccepted (arrive_refusal s inlet p now) (Arrived s inlet p now (arrival_answer (Some outlets)) t)
-arrived_as s t inlet p now next h a outlets hint said fits tagged own read after arrival way says step =
+arrived_as s t inlet p now next h a outlets hint said f fits tagged own read after arrival way says passing step =
     let q = going_on s inlet p in
     let found = let_in s inlet p now next h a fits tagged own read arrival in
+    let number : a.next ≡ next_at s.core.next inlet p = arrival.next ∙ after in
+    let other : IsOther s q a =
+    record {
+      asked = arrival.asked;
+      read = arrival.header ∙ read;
+      wanted = arrival.wanted;
+      next = number ∙ ap (λ port. next_at s.core.next port q) (sym arrival.inlet);
+    } in
+    let went : t ≡ passed s f.arrival.inlet q f.arrival.next f.arrival.moment f.outlets said =
+    step ∙ passed_same s f q said (subst (IsOther s q) (sym passing.arrival) other) passing.observed in
     let same : t ≡ passed s inlet q (next_at s.core.next inlet p) now outlets said =
-    step ∙ (λ i. passed s (arrival.inlet i) q ((arrival.next ∙ after) i) (arrival.moment i) outlets said) in
+    went ∙ (λ i. passed s (passing.arrival i).inlet q (passing.arrival i).next (passing.arrival i).moment (passing.outlets i) said)
+    ∙ (λ i. passed s (arrival.inlet i) q (number i) (arrival.moment i) outlets said) in
     let to : PassedTo s inlet p now (Some outlets) (listed outlets) t = (said, says_same s inlet p said says, refl, same) in
     record {
       ok = found.1 ∙ ap (outlets_fault s.core.out) way.goes ∙ ap full_fault way.room;

@@ -47,7 +47,8 @@ impl Core {
         ensures shown { shown self.new ≡ record (shown self.old) {
           sources = sources_after self.old.table.width self.old.table.sources
               passing.now.arrival.inlet passing.now.arrival.header.now.src
-              passing.now.arrival.header.now.seq passing.now.arrival.wanted passing.now.arrival.moment;
+              passing.now.arrival.header.now.seq passing.now.arrival.wanted
+              passing.now.arrival.moment;
         } }
         ensures nodes { self.new.nodes ≡ self.old.nodes }
     {
@@ -74,8 +75,8 @@ impl Core {
               passing.now.arrival.moment;
         } }
         ensures table { self.new.table ≡ self.old.table }
-        ensures ready { (mac : Address) → KeepsRoom self.old.nodes passing.now.arrival.header.now.src
-            passing.now.observations.number mac
+        ensures ready { (mac : Address) → KeepsRoom self.old.nodes
+            passing.now.arrival.header.now.src passing.now.observations.number mac
             → IsReadyFor self.new.nodes mac passing.now.arrival.moment }
     {
         let arrival = &passing.arrival;
