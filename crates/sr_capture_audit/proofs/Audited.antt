@@ -13,7 +13,7 @@ use Rattle.sr_capture.specs.declared.packet.Packet.{Packet}
 use Rattle.sr_capture_script.specs.declared.choice.Choice.{Choice}
 use Rattle.sr_capture_script.specs.declared.passing.Place.{Place}
 use Rattle.sr_capture_script.specs.Merging.{Feed}
-use Rattle.sr_capture_script.specs.Passing.{Handed, wanted, IsHandedAs, TakesAll}
+use Rattle.sr_capture_script.specs.Passing.{Handed, wanted, IsHandedAs, TakesWanted}
 use Rattle.sr_capture_audit.specs.declared.counts.Counts.{Counts}
 use Rattle.sr_capture_audit.specs.declared.figures.Report.{Report}
 use Rattle.sr_capture_audit.specs.declared.kind.Kind.{Kind}
@@ -22,7 +22,7 @@ use Rattle.sr_capture_audit.specs.declared.network.Subject.{Subject}
 use Rattle.sr_capture_audit.specs.declared.network.Tap.{Tap}
 use Rattle.sr_capture_audit.specs.Counting.{Seen, all_figures, CountsOne}
 use Rattle.sr_capture_audit.specs.Kinds.{IsKind}
-use Rattle.sr_capture_audit.specs.Auditing.{tap_at, AreSeenAt, AreSeen, sent_by, sent_in, signs_by, signs_in, span_with, span_from, IsReportOf, TakesPacket, TakesKind, IsAuditOf}
+use Rattle.sr_capture_audit.specs.Auditing.{tap_at, AreSeenAt, AreSeen, sent_by, sent_in, signs_by, signs_in, span_with, span_from, IsReportOf, ReportsMore, TakesKind, IsAuditOf}
 
 -- one packet more
 seen_more : (subject : Subject) (xs : List Handed) (seen : List Seen) (x : Handed) (own : List Seen) → AreSeen subject xs seen →
@@ -43,7 +43,7 @@ span_more span (y ∷ ys) s = span_more (span_with y.time span) ys s
 
 -- a packet of no capture of the audit is passed over
 pub passed_over : (place : Place) (shown : Packet) (x : Handed) (r : Report) (o : Option Tap) → IsHandedAs place shown x →
-    o ≡ tap_at r.subject.ports place.inlet → o ≡ None → TakesPacket x r r
+    o ≡ tap_at r.subject.ports place.inlet → o ≡ None → ReportsMore x r r
 passed_over place shown x r o is told none = record {
   takes = λ subject spans xs h.
       let at : tap_at subject.ports x.inlet ≡ None =
@@ -74,7 +74,7 @@ pub counted : (place : Place) (shown : Packet) (x : Handed) (old new : Report) (
     IsHandedAs place shown x → o ≡ tap_at old.subject.ports place.inlet → o ≡ Some own →
     ((captured : Captured) → Shows shown captured → IsKind old.subject.network own captured k) → octets ≡ shown.octets.items →
     CountsOne own k octets old.counts new.counts → new.whole ≡ span_with place.time old.whole → TakesKind k place.time old.audit new.audit →
-    new.subject ≡ old.subject → new.spans ≡ old.spans → TakesPacket x old new
+    new.subject ≡ old.subject → new.spans ≡ old.spans → ReportsMore x old new
 counted place shown x old new o own k octets is told some kinds are counts whole audit same_subject same_spans = record {
   takes = λ subject spans xs h.
       let at : tap_at subject.ports x.inlet ≡ Some own =
@@ -127,10 +127,10 @@ begun subject spans counts audit none audits hears same = record {
 
 -- all packets were taken
 pub audited : (choice : Choice) (subject : Subject) (spans : Spans) (x y z : Feed) (old new : Report) → IsReportOf subject spans [] old →
-    TakesAll (λ o h n. TakesPacket h o n) choice x y z old new → IsAuditOf choice subject spans x y z new
+    TakesWanted (λ o h n. ReportsMore h o n) choice x y z old new → IsAuditOf choice subject spans x y z new
 audited choice subject spans x y z old new none all = record {
   merged = all.merged;
   came = all.came;
-  report = chained_keeps (λ o h n. TakesPacket h o n) (λ xs r. IsReportOf subject spans xs r) (λ xs q h v is took. took.takes subject spans xs is)
+  report = chained_keeps (λ o h n. ReportsMore h o n) (λ xs r. IsReportOf subject spans xs r) (λ xs q h v is took. took.takes subject spans xs is)
       (wanted choice all.merged) old new none all.taken;
 }

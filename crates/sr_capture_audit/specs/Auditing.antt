@@ -97,7 +97,7 @@ pub record IsReportOf (subject : Subject) (spans : Spans) (xs : List Handed) (r 
   pub hears : Hears (signs_in seen) r.audit.sources.entries
 
 -- a report of one packet more
-pub record TakesPacket (x : Handed) (old new : Report) : Type 0 where
+pub record ReportsMore (x : Handed) (old new : Report) : Type 0 where
   pub takes : (subject : Subject) (spans : Spans) (xs : List Handed) → IsReportOf subject spans xs old →
       IsReportOf subject spans (xs ++ x ∷ []) new
 

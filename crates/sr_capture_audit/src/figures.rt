@@ -85,9 +85,9 @@ fn note_kind(audit: &mut Audit, kind: Kind, time: u64) -> Result<(), ScriptFault
 impl Pass for Report {
     ghost use Rattle.std.specs.Prelude.{◌≡◌};
     ghost use Rattle.sr_capture_script.specs.declared.fault.ScriptFault.TheVariants.{NoMemory as OutOfMemory};
-    ghost use Rattle.sr_capture_audit.specs.Auditing.{TakesPacket};
+    ghost use Rattle.sr_capture_audit.specs.Auditing.{ReportsMore};
 
-    ghost takes = { λ old x new. TakesPacket x old new };
+    ghost takes = { λ old x new. ReportsMore x old new };
 
     ghost refuses = { λ fault. fault ≡ OutOfMemory };
 
