@@ -1,5 +1,5 @@
 -- Reports that tell of faults of a network.
-use Rattle.std.specs.Prelude.{ℕ, nat_lt, Bool, ◌||◌, List}
+use Rattle.std.specs.Prelude.{nat_lt, Bool, ◌||◌}
 use Rattle.std.specs.List.{list_any}
 use Rattle.sr_audit.specs.Faults.{tells_of_faults}
 use Rattle.sr_audit.specs.Shown.{figures_of}

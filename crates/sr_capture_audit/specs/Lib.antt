@@ -2,3 +2,4 @@ pub mod Faults
 pub mod Hints
 pub mod Kinds
 pub mod Counting
+pub mod Auditing

@@ -167,6 +167,10 @@ pub struct Counts {
 impl Counts {
     ghost use Rattle.std.specs.Prelude.{◌≡◌, List, []};
     ghost use Rattle.std.specs.List.{All};
+    ghost use Rattle.sr_capture_script.specs.Passing.{Handed};
+    ghost use Rattle.sr_capture_audit.specs.declared.network.Ports.TheVariants.{Mirror as AtMirror};
+    ghost use Rattle.sr_capture_audit.specs.declared.network.Subject.{Subject};
+    ghost use Rattle.sr_capture_audit.specs.Auditing.{AreSeen};
     ghost use Rattle.sr_capture_audit.specs.Counting.{Seen, side_figures, all_figures, CountsOne, IsMirrored};
 
     /// No packet came.
@@ -189,8 +193,11 @@ impl Counts {
 
     /// Those of a mirror port as a whole.
     pub fn of_mirror(&self) -> SideCounts
-        ensures { (xs : List Seen) → All IsMirrored xs → self.now ≡ all_figures xs
+        ensures mirrored { (xs : List Seen) → All IsMirrored xs → self.now ≡ all_figures xs
             → result ≡ side_figures xs }
+        ensures audited { (subject : Subject) (xs : List Handed) (seen : List Seen)
+            → subject.ports ≡ AtMirror → AreSeen subject xs seen
+            → self.now ≡ all_figures seen → result ≡ side_figures seen }
     {
         SideCounts {
             packets: self

@@ -1,16 +1,22 @@
 //! The figures of captures, and the report of them.
 
-ghost use Rattle.std.specs.Prelude.{◌≡◌};
+ghost use Rattle.std.specs.Prelude.{◌≡◌, ◌++◌, [], List, ℕ, Option, OnOk, IfOk, IfErr};
+ghost use Rattle.sr_audit.specs.Audits.{Sent, Audits};
+ghost use Rattle.sr_audit.specs.Hearing.{Reported, Hears};
+ghost use Rattle.sr_capture_script.specs.declared.choice.Inlet.TheVariants.{A as AtA, B as AtB, C as AtC};
+ghost use Rattle.sr_capture_script.specs.Merging.{feed_of};
+ghost use Rattle.sr_capture_script.specs.Passing.{EndsFor};
+ghost use Rattle.sr_capture_script.specs.SourceViews.{IsFed};
+ghost use Rattle.sr_capture_audit.specs.Auditing.{sign_with, span_with, TakesKind, IsAuditOf};
 
 use crate::counts::Counts;
-use crate::kind::{Kind, kind_of};
+use crate::kind::{Kind, Sign, kind_of};
 use crate::lines::{print_capture, print_source, print_table_names, print_table_row};
 use crate::network::{Ports, Subject};
-use crate::passing::{Pass, Place, pass_over};
 use crate::rows::{Format, count, print_row};
-use sr_audit::{Arrival, Audit, Span, Spans};
+use sr_audit::{Arrival, Audit, Side, Span, Spans};
 use sr_capture::Packet;
-use sr_capture_script::{Captures, Choice, ScriptFault};
+use sr_capture_script::{Captures, Choice, Pass, Place, ScriptFault, pass_over};
 use sr_slots::Keys;
 use std::alloc::Global;
 use std::io::{BufRead, Write};
@@ -26,29 +32,73 @@ pub struct Report {
     audit: Audit,
 }
 
+/// The span of some packets and one more, which came then.
+fn with_time(span: Option<Span>, time: u64) -> Option<Span>
+    ensures { result ≡ span_with time span }
+{
+    let first = match span {
+        Some(span) => span.first,
+        None => time,
+    };
+    Some(Span { first, last: time })
+}
+
+/// Has an audit take a sign of life, if there is one.
+fn hear_sign(
+    audit: &mut Audit,
+    sign: Option<Sign>,
+    side: Side,
+    time: u64,
+) -> Result<(), ScriptFault>
+    ensures audits { (spans : Spans) (xs : List Sent)
+        → Audits spans xs audit.old.sources.entries → Audits spans xs audit.new.sources.entries }
+    ensures hears { OnOk result ((signs : List Reported)
+        → Hears signs audit.old.sources.entries
+        → Hears (sign_with sign side time ++ signs) audit.new.sources.entries) }
+    ensures spans { audit.new.spans ≡ audit.old.spans }
+    ensures refused { IfErr result (λ fault. fault ≡ ScriptFault.NoMemory) }
+{
+    let Some(sign) = sign else {
+        return Ok(());
+    };
+    audit.hear(sign.mac, sign.kind, side, time)?;
+    Ok(())
+}
+
+/// Has an audit take a packet, if it is a frame with a number.
+fn note_kind(audit: &mut Audit, kind: Kind, time: u64) -> Result<(), ScriptFault>
+    ensures taken { OnOk result (TakesKind kind time audit.old audit.new) }
+    ensures refused { IfErr result (λ fault. fault ≡ ScriptFault.NoMemory) }
+{
+    let Kind::Numbered(numbered) = kind else {
+        return Ok(());
+    };
+    let arrival = Arrival {
+        side: numbered.side,
+        seq: numbered.seq,
+        time,
+    };
+    audit.note(numbered.src, arrival)?;
+    hear_sign(audit, numbered.sign, numbered.side, time)
+}
+
 impl Pass for Report {
+    ghost use Rattle.std.specs.Prelude.{◌≡◌};
+    ghost use Rattle.sr_capture_script.specs.declared.fault.ScriptFault.TheVariants.{NoMemory as OutOfMemory};
+    ghost use Rattle.sr_capture_audit.specs.Auditing.{ReportsMore};
+
+    ghost takes = { λ old x new. ReportsMore x old new };
+
+    ghost refuses = { λ fault. fault ≡ OutOfMemory };
+
     fn take(&mut self, place: Place, packet: &Packet) -> Result<(), ScriptFault> {
-        let kind = kind_of(self.subject.network, place.tap, packet);
-        self.counts.note(place.tap, kind, packet.octets.as_slice());
-        let first = self.whole.map_or(place.time, |span| span.first);
-        self.whole = Some(Span {
-            first,
-            last: place.time,
-        });
-        let Kind::Numbered(numbered) = kind else {
+        let Some(tap) = self.subject.tap_at(place.inlet) else {
             return Ok(());
         };
-        let arrival = Arrival {
-            side: numbered.side,
-            seq: numbered.seq,
-            time: place.time,
-        };
-        self.audit.note(numbered.src, arrival)?;
-        if let Some(sign) = numbered.sign {
-            self.audit
-                .hear(sign.mac, sign.kind, numbered.side, place.time)?;
-        }
-        Ok(())
+        let kind = kind_of(self.subject.network, tap, packet);
+        self.counts.note(tap, kind, packet.octets.as_slice());
+        self.whole = with_time(self.whole, place.time);
+        note_kind(&mut self.audit, kind, place.time)
     }
 }
 
@@ -94,7 +144,23 @@ pub fn figures_of<R: BufRead + Drop>(
     choice: &Choice,
     subject: Subject,
     spans: Spans,
-) -> Result<Report, ScriptFault> {
+) -> Result<Report, ScriptFault>
+    // The report is that of all packets of all captures that are wanted, each once, in order of time.
+    ensures audits { IfOk result (λ report. (start_a start_b start_c : Option (List ℕ))
+        → IsFed R.remaining AtA start_a captures.old.a []
+        → IsFed R.remaining AtB start_b captures.old.b []
+        → IsFed R.remaining AtC start_c captures.old.c []
+        → IsAuditOf choice.now subject spans (feed_of captures.old.a start_a)
+        (feed_of captures.old.b start_b) (feed_of captures.old.c start_c) report) }
+
+    // What ends it early is a fault of a file, behind all of its packets that came, more packets than are counted, or memory.
+    ensures ends { IfErr result (λ fault. (start_a start_b start_c : Option (List ℕ))
+        → IsFed R.remaining AtA start_a captures.old.a []
+        → IsFed R.remaining AtB start_b captures.old.b []
+        → IsFed R.remaining AtC start_c captures.old.c []
+        → EndsFor (λ own. own ≡ ScriptFault.NoMemory) (feed_of captures.old.a start_a)
+        (feed_of captures.old.b start_b) (feed_of captures.old.c start_c) fault) }
+{
     let mut report = Report {
         subject,
         spans,
@@ -102,7 +168,7 @@ pub fn figures_of<R: BufRead + Drop>(
         counts: Counts::NONE,
         audit: Audit::new(alloc, keys, spans),
     };
-    pass_over(captures, choice, subject.ports, &mut report)?;
+    pass_over(captures, choice, &mut report)?;
     Ok(report)
 }
 

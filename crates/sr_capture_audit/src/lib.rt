@@ -10,7 +10,6 @@ mod kind;
 mod lines;
 mod lists;
 mod network;
-mod passing;
 mod picture;
 mod rows;
 mod shown;

@@ -2,11 +2,10 @@
 
 use crate::kind::{Kind, kind_of};
 use crate::network::{Ports, Subject, letter_of};
-use crate::passing::{Pass, Place, pass_over};
 use crate::rows::{Field, Format, Value, bare, count, named, print_names, print_row};
 use sr_audit::{Arrival, Copied, Listed, Listing, Side, Spans};
 use sr_capture::Packet;
-use sr_capture_script::{Captures, Choice, ScriptFault};
+use sr_capture_script::{Captures, Choice, Pass, Place, ScriptFault, pass_over};
 use sr_frame::Mac;
 use sr_sequence::Seq;
 use sr_slots::Keys;
@@ -166,8 +165,15 @@ impl<W: Write> Listings<'_, W> {
 }
 
 impl<W: Write> Pass for Listings<'_, W> {
+    ghost takes = { λ _ _ _. Unit {0} };
+
+    ghost refuses = { λ _. Unit {0} };
+
     fn take(&mut self, place: Place, packet: &Packet) -> Result<(), ScriptFault> {
-        let Kind::Numbered(numbered) = kind_of(self.subject.network, place.tap, packet) else {
+        let Some(tap) = self.subject.tap_at(place.inlet) else {
+            return Ok(());
+        };
+        let Kind::Numbered(numbered) = kind_of(self.subject.network, tap, packet) else {
             return Ok(());
         };
         let copy = Copied {
@@ -219,7 +225,7 @@ pub fn print_lists<R: BufRead + Drop, W: Write>(
         decided: Vec::new(alloc),
         writer,
     };
-    pass_over(captures, choice, subject.ports, &mut listings)?;
+    pass_over(captures, choice, &mut listings)?;
     let addresses = listings.listing.addresses()?;
     for at in 0..addresses.len() {
         listings.finish(addresses[at])?;

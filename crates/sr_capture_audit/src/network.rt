@@ -1,6 +1,7 @@
 //! The kinds of redundant networks, and of captures of them.
 
 use sr_audit::Side;
+use sr_capture_script::Inlet;
 
 /// How frames of a network have their numbers.
 #[derive(Clone, Copy, Debug, PartialEq, Eq)]
@@ -36,6 +37,23 @@ pub struct Subject {
     pub network: Network,
     /// Where the captures were made.
     pub ports: Ports,
+}
+
+impl Subject {
+    ghost use Rattle.std.specs.Prelude.{◌≡◌};
+    ghost use Rattle.sr_capture_audit.specs.Auditing.{tap_at};
+
+    /// Where the capture of an inlet was made. None: it is none of the audit.
+    pub(crate) fn tap_at(self, inlet: Inlet) -> Option<Tap>
+        ensures { result ≡ tap_at self.ports inlet }
+    {
+        match (self.ports, inlet) {
+            (Ports::Two, Inlet::A) => Some(Tap::Side(Side::A)),
+            (Ports::Two, Inlet::B) => Some(Tap::Side(Side::B)),
+            (Ports::Mirror, Inlet::A) => Some(Tap::Mirror),
+            _ => None,
+        }
+    }
 }
 
 /// The letter of a side.

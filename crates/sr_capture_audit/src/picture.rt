@@ -4,10 +4,9 @@ use crate::columns::{Chart, Times};
 use crate::drawing::{draw_chart, draw_foot, draw_head};
 use crate::kind::{Kind, kind_of};
 use crate::network::Subject;
-use crate::passing::{Pass, Place, pass_over};
 use sr_audit::{Arrival, Copied, Listed, Listing, Span, Spans};
 use sr_capture::Packet;
-use sr_capture_script::{Captures, Choice, ScriptFault};
+use sr_capture_script::{Captures, Choice, Pass, Place, ScriptFault, pass_over};
 use sr_frame::Mac;
 use sr_slots::Keys;
 use std::alloc::{AllocError, Global};
@@ -116,8 +115,15 @@ impl Picture {
 }
 
 impl Pass for Picture {
+    ghost takes = { λ _ _ _. Unit {0} };
+
+    ghost refuses = { λ _. Unit {0} };
+
     fn take(&mut self, place: Place, packet: &Packet) -> Result<(), ScriptFault> {
-        let Kind::Numbered(numbered) = kind_of(self.subject.network, place.tap, packet) else {
+        let Some(tap) = self.subject.tap_at(place.inlet) else {
+            return Ok(());
+        };
+        let Kind::Numbered(numbered) = kind_of(self.subject.network, tap, packet) else {
             return Ok(());
         };
         let copy = Copied {
@@ -158,7 +164,7 @@ pub fn print_picture<R: BufRead + Drop, W: Write>(
         decided: Vec::new(alloc),
         charts: Vec::new(alloc),
     };
-    pass_over(captures, choice, subject.ports, &mut picture)?;
+    pass_over(captures, choice, &mut picture)?;
     let sources = picture.finish()?;
     picture.draw(writer, sources)
 }

@@ -2,10 +2,9 @@
 
 use crate::kind::{Kind, kind_of};
 use crate::network::{Subject, Tap};
-use crate::passing::{Pass, Place, pass_over};
 use sr_audit::Spans;
 use sr_capture::Packet;
-use sr_capture_script::{Captures, Choice, ScriptFault};
+use sr_capture_script::{Captures, Choice, Pass, Place, ScriptFault, pass_over};
 use std::io::BufRead;
 
 /// The spans of the packets so far.
@@ -16,10 +15,17 @@ struct Spanning {
 }
 
 impl Pass for Spanning {
+    ghost takes = { λ _ _ _. Unit {0} };
+
+    ghost refuses = { λ _. Unit {0} };
+
     fn take(&mut self, place: Place, packet: &Packet) -> Result<(), ScriptFault> {
-        let side = match place.tap {
+        let Some(tap) = self.subject.tap_at(place.inlet) else {
+            return Ok(());
+        };
+        let side = match tap {
             Tap::Side(side) => side,
-            Tap::Mirror => match kind_of(self.subject.network, place.tap, packet) {
+            Tap::Mirror => match kind_of(self.subject.network, tap, packet) {
                 Kind::Numbered(numbered) => numbered.side,
                 _ => return Ok(()),
             },
@@ -42,6 +48,6 @@ pub fn spans_of<R: BufRead + Drop>(
         subject,
         spans: Spans::NONE,
     };
-    pass_over(captures, choice, subject.ports, &mut spanning)?;
+    pass_over(captures, choice, &mut spanning)?;
     Ok(spanning.spans)
 }

@@ -1,4 +1,4 @@
 pub mod Settled
-pub mod Coming
+pub mod Items
 pub mod Merged
 pub mod Reread

@@ -15,10 +15,9 @@ use Rattle.sr_capture.specs.Limits.{longest_kept}
 use Rattle.sr_capture.specs.declared.packet.Extent.{Extent}
 use Rattle.sr_capture.specs.declared.packet.Extent.TheVariants.{Whole}
 use Rattle.sr_capture.specs.declared.packet.Packet.{Packet}
-use Rattle.sr_capture.specs.Records.{Captured}
-use Rattle.sr_capture.specs.Taking.{Loses, LeavesNone}
 use Rattle.sr_capture.specs.declared.fault.CaptureFault.{CaptureFault}
 use Rattle.sr_capture_script.specs.Captures.{file_at, IsDueFirst, HasNoFront, Advances, StopsAt, KeepsOthers}
+use Rattle.sr_capture_script.specs.Coming.{StartsAt, last_time}
 use Rattle.sr_capture_script.specs.declared.captures.Captures.{Captures}
 use Rattle.sr_capture_script.specs.declared.captures.Front.{Front}
 use Rattle.sr_capture_script.specs.declared.choice.Choice.{Choice}
@@ -26,14 +25,12 @@ use Rattle.sr_capture_script.specs.declared.choice.Inlet.{Inlet}
 use Rattle.sr_capture_script.specs.declared.choice.Inlet.TheVariants.{A, B, C}
 use Rattle.sr_capture_script.specs.declared.fault.ScriptFault.{ScriptFault}
 use Rattle.sr_capture_script.specs.declared.fault.ScriptFault.TheVariants.{File, Write, NoMemory, Endless}
-use Rattle.sr_capture_script.specs.declared.format.Format.{Format}
-use Rattle.sr_capture_script.specs.declared.source.Source.{Source}
-use Rattle.sr_capture_script.specs.Formats.{AreTaken, HasPackets}
-use Rattle.sr_capture_script.specs.Items.{Item, items_of, came_at, AllToDue}
-use Rattle.sr_capture_script.specs.Merging.{Feed, feed_of, HasRecords}
-use Rattle.sr_capture_script.specs.Sources.{left_of, IsDue}
-use Rattle.sr_capture_script.specs.SourceViews.{IsFed, progress_of}
+use Rattle.sr_capture_script.specs.Items.{Item}
+use Rattle.sr_capture_script.specs.Merging.{Feed, feed_of}
+use Rattle.sr_capture_script.specs.Sources.{left_of}
+use Rattle.sr_capture_script.specs.SourceViews.{IsFed}
 use Rattle.sr_capture_script.specs.Texts.{is_wanted, time_since}
+use Rattle.sr_capture_script.proofs.Coming.{come_none, came_to, comes_first, stops_first, all_came, not_early, last_more, starts_more, none_behind}
 use Rattle.sr_pcapng.specs.Writing.{packet_block, file_head}
 use Rattle.sr_merge.specs.Merging.{Read, Pending, Merging, TakesIn}
 use Rattle.sr_capture_merge.specs.declared.plan.Plan.{Plan}
@@ -41,11 +38,11 @@ use Rattle.sr_capture_merge.specs.Entries.{names_of, entry_of, entry_block, piec
 use Rattle.sr_capture_merge.specs.Remarks.{remark_of}
 use Rattle.sr_capture_merge.specs.Settling.{Settled, AreSettled, IsVerdict}
 use Rattle.sr_capture_merge.specs.declared.plan.Spelling.{Spelling}
-use Rattle.sr_capture_merge.specs.Reading.{side_at, frame_read, packet_read, IsPacketRead, IsReadIf, is_whole, AreRead, last_time}
+use Rattle.sr_capture_merge.specs.Reading.{side_at, frame_read, packet_read, IsPacketRead, IsReadIf, is_whole, AreRead}
 use Rattle.sr_capture_merge.specs.Files.{entries_by, entries_one, merged_entries, merged_file, merged_body, HasWritten, HasEnded, IsStop, WritesOn, TakesOn, EndsOn, EndsBy}
-use Rattle.sr_capture_merge.specs.Merged.{HaveCome, StartsAt, IsMerging, HasStopped, MergesOn, MergesAll, MergesUntil, IsFileOf, IsFrontOf, whole, broken, IsMerged, IsMergedUpTo}
+use Rattle.sr_capture_merge.specs.Merged.{IsMerging, HasStopped, MergesOn, MergesAll, MergesUntil, IsFileOf, IsFrontOf, whole, broken, IsMerged, IsMergedUpTo}
 use Rattle.sr_capture_merge.proofs.Settled.{written_none, written_later, written_taken, ended_from}
-use Rattle.sr_capture_merge.proofs.Coming.{comes_first, stops_first, stand_a, stand_b, stand_c, not_early, last_more, read_more, item_read, item_unwanted, starts_more, none_behind}
+use Rattle.sr_capture_merge.proofs.Items.{read_more, item_read, item_unwanted}
 
 -- a file is its head and the pieces of its packets
 piece_is : (start early : ℕ) (comment : List ℕ) (p : Read) (shown : Bool) →
@@ -78,10 +75,6 @@ file_wrote plan start xs held mid to head body =
     subst (Appends held to) (sym (file_is plan start xs))
     (Appends-trans held mid to (file_head (names_of plan.network)) (merged_body plan start xs) head body)
 
-to_nothing : (i : Inlet) (d : Option ℕ) → AllToDue i d []
-to_nothing i None = tt
-to_nothing i (Some m) = tt
-
 module _ {R : Type 0} (remaining : R → Option (List ℕ)) (choice : Choice) (plan : Plan) (start : ℕ) where
   -- nothing came yet
   pub merging_none : (a b c : Option (List ℕ)) (all : Captures R) (first : Option Front) (m : Merging) (held : Option (List ℕ)) →
@@ -90,18 +83,7 @@ module _ {R : Type 0} (remaining : R → Option (List ℕ)) (choice : Choice) (p
       IsMerging remaining choice plan start (feed_of all.a a) (feed_of all.b b) (feed_of all.c c) all first 0 m held held
   merging_none a b c all first m held fed_a fed_b fed_c due none at sources waiting = record {
     out = [];
-    come = record {
-      same_a = refl;
-      same_b = refl;
-      same_c = refl;
-      fed_a = fed_a;
-      fed_b = fed_b;
-      fed_c = fed_c;
-      order = tt;
-      to_a = to_nothing A all.a.due;
-      to_b = to_nothing B all.b.due;
-      to_c = to_nothing C all.c.due;
-    };
+    come = come_none remaining a b c all fed_a fed_b fed_c;
     ahead = record { due = due; none = none; first = λ e. at };
     starts = tt;
     time = refl;
@@ -168,10 +150,7 @@ module _ {R : Type 0} (remaining : R → Option (List ℕ)) (choice : Choice) (p
       let le : now ≤ front.moment - start = subst (λ t. t ≤ front.moment - start) (sym h.time) early in
       record {
         out = h.out;
-        at_a = stand_a remaining x y z before h.out h.come;
-        at_b = stand_b remaining x y z before h.out h.come;
-        at_c = stand_c remaining x y z before h.out h.come;
-        order = h.come.order;
+        came = came_to remaining x y z before NoMemory h.out h.come refl refl refl;
         starts = h.starts;
         taken = h.taken;
         read = h.read;
@@ -193,10 +172,7 @@ module _ {R : Type 0} (remaining : R → Option (List ℕ)) (choice : Choice) (p
       let own = takes h.taken now held le h.written in
       let stopped : HasStopped choice plan start x y z (File front.inlet stops.0) (front.moment - start) new held to = record {
         out = h.out ++ last.item ∷ [];
-        at_a = last.at_a;
-        at_b = last.at_b;
-        at_c = last.at_c;
-        order = last.order;
+        came = last.came;
         starts = starts_more start h.out last.item h.starts (λ e. last.when ∙ h.ahead.first e);
         taken = h.taken ++ own.0;
         read = read_more choice plan start h.out h.taken last.item own.0 h.read
@@ -218,10 +194,7 @@ module _ {R : Type 0} (remaining : R → Option (List ℕ)) (choice : Choice) (p
       let le : now ≤ front.moment - start = subst (λ t. t ≤ front.moment - start) (sym h.time) early in
       let stopped : HasStopped choice plan start x y z (File front.inlet stops.0) (front.moment - start) m held to = record {
         out = h.out ++ last.item ∷ [];
-        at_a = last.at_a;
-        at_b = last.at_b;
-        at_c = last.at_c;
-        order = last.order;
+        came = last.came;
         starts = starts_more start h.out last.item h.starts (λ e. last.when ∙ h.ahead.first e);
         taken = h.taken;
         read = subst (λ l. AreRead choice plan start (h.out ++ last.item ∷ []) l) (append-nil h.taken)
@@ -299,10 +272,7 @@ module _ {R : Type 0} (remaining : R → Option (List ℕ)) (choice : Choice) (p
       IsMerging remaining choice plan start x y z all next now m held to → HasStopped choice plan start x y z Endless now m held to
   merging_endless x y z all next now m held to h = record {
     out = h.out;
-    at_a = stand_a remaining x y z all h.out h.come;
-    at_b = stand_b remaining x y z all h.out h.come;
-    at_c = stand_c remaining x y z all h.out h.come;
-    order = h.come.order;
+    came = came_to remaining x y z all Endless h.out h.come refl refl refl;
     starts = h.starts;
     taken = h.taken;
     read = h.read;
@@ -310,31 +280,6 @@ module _ {R : Type 0} (remaining : R → Option (List ℕ)) (choice : Choice) (p
     time = tt;
     written = h.written;
   }
-
--- a file at its end has given all
-has_records : (start now : Option (List ℕ)) (form : Format) (delay : ℕ) (octets : List ℕ) (packets : List Captured) (last : Format) → Loses octets start now
-    → LeavesNone start now → AreTaken form octets packets last → HasRecords (record { form = form; delay = delay; start = start }) packets
-has_records None now form delay octets packets last lost none records = tt
-has_records (Some xs) None form delay octets packets last lost none records = absurd lost
-has_records (Some xs) (Some ys) form delay octets packets last lost none records =
-    subst (λ (l : List ℕ). HasPackets form l packets) (sym (lost ∙ ap (λ (l : List ℕ). octets ++ l) none ∙ append-nil octets)) (last, records)
-
-record AllGiven (inlet : Inlet) (x : Feed) (gone : List Item) : Type 0 where
-  packets : List Captured
-  has : HasRecords x packets
-  items : gone ≡ items_of inlet x.delay packets
-
-all_given : {R : Type 0} (remaining : R → Option (List ℕ)) (inlet : Inlet) (x : Feed) (s : Source R) (gone : List Item) →
-    feed_of s x.start ≡ x → s.due ≡ None → IsFed remaining inlet x.start s gone → AllGiven inlet x gone
-all_given remaining inlet x s gone same none fed =
-    let left = left_of remaining s.reader in
-    let due = subst (λ (o : Option ℕ). IsDue inlet (progress_of s) o (items_of inlet s.delay fed.packets) gone x.start left) none fed.due in
-    let given : AllGiven inlet (feed_of s x.start) gone = record {
-      packets = fed.packets;
-      has = has_records x.start left s.form s.delay fed.octets fed.packets s.state fed.lost due.1 fed.records;
-      items = sym due.0;
-    } in
-    subst (λ f. AllGiven inlet f gone) same given
 
 -- what waits is written, and the file is whole
 file_ended : (choice : Choice) (plan : Plan) (start : ℕ) (items : List Item) (until : ℕ → Option ℕ) (taken : List Read) (held mid to : Option (List ℕ)) →
@@ -373,19 +318,9 @@ pub merges_all : {R : Type 0} (remaining : R → Option (List ℕ)) (choice : Ch
     IsMerging remaining choice plan start x y z all None now m mid late → EndsOn plan start None m.waiting [] late to →
     IsMerged choice plan x y z held to
 merges_all remaining choice plan start x y z all now m held mid late to head h ends =
-    let none = h.ahead.none in
-    let wa = all_given remaining A x all.a (came_at A h.out) h.come.same_a none.0 h.come.fed_a in
-    let wb = all_given remaining B y all.b (came_at B h.out) h.come.same_b none.1 h.come.fed_b in
-    let wc = all_given remaining C z all.c (came_at C h.out) h.come.same_c none.2 h.come.fed_c in
     record {
-      packets_a = wa.packets;
-      packets_b = wb.packets;
-      packets_c = wc.packets;
-      has_a = wa.has;
-      has_b = wb.has;
-      has_c = wc.has;
       merged = h.out;
-      is_merge = record { at_a = wa.items; at_b = wb.items; at_c = wc.items; order = h.come.order };
+      came = all_came remaining x y z all h.out h.come h.ahead.none;
       file = file_ended choice plan start h.out whole h.taken held mid to h.starts h.read head
           (ends h.taken mid (ended_from plan start h.taken None now m mid late tt h.written));
     }
@@ -401,10 +336,7 @@ halts_last remaining choice plan start x y z all now m Endless held mid late to 
 halts_last remaining choice plan start x y z all now m NoMemory held mid late to head other h ends = record {
   own = NoMemory;
   merged = h.out;
-  at_a = stand_a remaining x y z all h.out h.come;
-  at_b = stand_b remaining x y z all h.out h.come;
-  at_c = stand_c remaining x y z all h.out h.come;
-  order = h.come.order;
+  came = came_to remaining x y z all NoMemory h.out h.come refl refl refl;
   file = front_ended choice plan start h.out None h.taken ends.0 held mid to h.starts h.read head
       (ends.1 h.taken mid (ended_from plan start h.taken None now m mid late tt h.written));
 }
@@ -432,10 +364,7 @@ broken_file choice plan start x y z inlet own fault now m held mid late to head 
           let done : IsMergedUpTo choice plan x y z (File inlet own) held to = record {
             own = File inlet own;
             merged = h.out;
-            at_a = h.at_a;
-            at_b = h.at_b;
-            at_c = h.at_c;
-            order = h.order;
+            came = h.came;
             file = (refl, file_ended choice plan start h.out broken h.taken held mid to h.starts h.read head e);
           } in
           subst (λ f. IsMergedUpTo choice plan x y z f held to) (sym is) done
@@ -451,10 +380,7 @@ broken_file choice plan start x y z inlet own fault now m held mid late to head 
         let le : h.by ≤ now = subst (λ t. h.by ≤ t) h.time.1 (omega arith) in record {
           own = File inlet own;
           merged = h.out;
-          at_a = h.at_a;
-          at_b = h.at_b;
-          at_c = h.at_c;
-          order = h.order;
+          came = h.came;
           file = front_ended choice plan start h.out (Some now) h.taken stop.0 held mid to h.starts h.read head
               (stop.1 h.taken mid (ended_from plan start h.taken (Some now) h.by m mid late le h.written));
         }
@@ -471,10 +397,7 @@ halts_stopped choice plan start x y z NoMemory fault now m held mid late to head
     let done : IsMergedUpTo choice plan x y z NoMemory held late = record {
       own = NoMemory;
       merged = s.out;
-      at_a = s.at_a;
-      at_b = s.at_b;
-      at_c = s.at_c;
-      order = s.order;
+      came = s.came;
       file = front_stopped choice plan start x y z NoMemory now m held mid late head s;
     } in
     subst (λ f. IsMergedUpTo choice plan x y z f held to) (sym ends.0) (subst (λ o. IsMergedUpTo choice plan x y z NoMemory held o) (sym ends.1) done)
@@ -483,10 +406,7 @@ halts_stopped choice plan start x y z Endless fault now m held mid late to head 
     let done : IsMergedUpTo choice plan x y z Endless held late = record {
       own = Endless;
       merged = s.out;
-      at_a = s.at_a;
-      at_b = s.at_b;
-      at_c = s.at_c;
-      order = s.order;
+      came = s.came;
       file = front_stopped choice plan start x y z Endless now m held mid late head s;
     } in
     subst (λ f. IsMergedUpTo choice plan x y z f held to) (sym ends.0) (subst (λ o. IsMergedUpTo choice plan x y z Endless held o) (sym ends.1) done)
@@ -627,27 +547,13 @@ pub halts_first : {R : Type 0} (remaining : R → Option (List ℕ)) (choice : C
     IsFed remaining A a all.a [] → IsFed remaining B b all.b [] → IsFed remaining C c all.c [] →
     IsMergedUpTo choice plan (feed_of all.a a) (feed_of all.b b) (feed_of all.c c) fault held mid
 halts_first remaining choice plan a b c all fault held mid head is fed_a fed_b fed_c =
-    let come : HaveCome remaining (feed_of all.a a) (feed_of all.b b) (feed_of all.c c) all [] = record {
-      same_a = refl;
-      same_b = refl;
-      same_c = refl;
-      fed_a = fed_a;
-      fed_b = fed_b;
-      fed_c = fed_c;
-      order = tt;
-      to_a = to_nothing A all.a.due;
-      to_b = to_nothing B all.b.due;
-      to_c = to_nothing C all.c.due;
-    } in
+    let come = come_none remaining a b c all fed_a fed_b fed_c in
     let nothing : Merging = record { sources = []; waiting = [] } in
     let le : 0 ≤ 0 = omega arith in
     let done : IsMergedUpTo choice plan (feed_of all.a a) (feed_of all.b b) (feed_of all.c c) NoMemory held mid = record {
       own = NoMemory;
       merged = [];
-      at_a = stand_a remaining (feed_of all.a a) (feed_of all.b b) (feed_of all.c c) all [] come;
-      at_b = stand_b remaining (feed_of all.a a) (feed_of all.b b) (feed_of all.c c) all [] come;
-      at_c = stand_c remaining (feed_of all.a a) (feed_of all.b b) (feed_of all.c c) all [] come;
-      order = tt;
+      came = came_to remaining (feed_of all.a a) (feed_of all.b b) (feed_of all.c c) all NoMemory [] come refl refl refl;
       file = front_ended choice plan 0 [] (Some 0) [] [] held mid mid tt refl head
           (ended_from plan 0 [] (Some 0) 0 nothing mid mid le (written_none plan 0 nothing mid refl refl));
     } in

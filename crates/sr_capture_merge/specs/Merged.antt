@@ -1,48 +1,22 @@
 -- The merge of the packets of captures into a file.
 use Rattle.std.specs.Prelude.{◌≡◌, ℕ, List, [], ◌++◌, Option, None, Some, IfSome, IfNone}
 use Rattle.std.specs.Io.KnownBytes.{Appends}
-use Rattle.sr_capture.specs.Records.{Captured}
 use Rattle.sr_capture_script.specs.declared.captures.Captures.{Captures}
 use Rattle.sr_capture_script.specs.declared.captures.Front.{Front}
 use Rattle.sr_capture_script.specs.Captures.{IsDueFirst, HasNoFront}
 use Rattle.sr_capture_script.specs.declared.choice.Choice.{Choice}
-use Rattle.sr_capture_script.specs.declared.choice.Inlet.TheVariants.{A, B, C}
 use Rattle.sr_capture_script.specs.declared.fault.ScriptFault.{ScriptFault}
 use Rattle.sr_capture_script.specs.declared.fault.ScriptFault.TheVariants.{File, Write, NoMemory, Endless}
-use Rattle.sr_capture_script.specs.Items.{Item, items_of, came_at, IsInOrder, IsMerge, AllToDue}
-use Rattle.sr_capture_script.specs.Merging.{Feed, feed_of, HasRecords, Stands, fault_at}
-use Rattle.sr_capture_script.specs.SourceViews.{IsFed}
-use Rattle.sr_capture_script.specs.Texts.{first_moment}
+use Rattle.sr_capture_script.specs.Coming.{HaveCome, StartsAt, last_time, IsNextOf, AllCame, CameUpTo}
+use Rattle.sr_capture_script.specs.Items.{Item}
+use Rattle.sr_capture_script.specs.Merging.{Feed}
 use Rattle.sr_capture_merge.specs.declared.plan.Plan.{Plan}
 use Rattle.sr_capture_merge.specs.Files.{merged_file, HasWritten}
-use Rattle.sr_capture_merge.specs.Reading.{AreRead, last_time}
+use Rattle.sr_capture_merge.specs.Reading.{AreRead}
 use Rattle.sr_capture_merge.specs.Settling.{Settled, AreSettled, IsVerdict}
 use Rattle.sr_merge.specs.Merging.{Read, Pending, Merging}
 use Rattle.sr_merge.specs.MergeRuns.{packets_in}
 use Rattle.sr_merge.specs.Verdicts.{kept_of_all}
-
--- some packets of three files came, in order, and none of them behind one that is due
-pub record HaveCome {R : Type 0} (remaining : R → Option (List ℕ)) (x y z : Feed) (all : Captures R) (out : List Item) : Type 0 where
-  pub same_a : feed_of all.a x.start ≡ x
-  pub same_b : feed_of all.b y.start ≡ y
-  pub same_c : feed_of all.c z.start ≡ z
-  pub fed_a : IsFed remaining A x.start all.a (came_at A out)
-  pub fed_b : IsFed remaining B y.start all.b (came_at B out)
-  pub fed_c : IsFed remaining C z.start all.c (came_at C out)
-  pub order : IsInOrder out
-  pub to_a : AllToDue A all.a.due out
-  pub to_b : AllToDue B all.b.due out
-  pub to_c : AllToDue C all.c.due out
-
--- times are counted from the first of some packets
-abbrev pub StartsAt : ℕ → List Item → Type 0
-StartsAt start items = IfSome (first_moment items) (λ moment. moment ≡ start)
-
--- this is the packet that is due next, if there is one; the first of all is at the start
-pub record IsNextOf {R : Type 0} (all : Captures R) (start : ℕ) (next : Option Front) (out : List Item) : Type 0 where
-  pub due : IfSome next (λ front. IsDueFirst all front)
-  pub none : IfNone next (HasNoFront all)
-  pub first : out ≡ [] → IfSome next (λ front. front.moment ≡ start)
 
 -- packets came, were taken as they are read, and those that don't wait any longer were written
 pub record IsMerging {R : Type 0} (remaining : R → Option (List ℕ)) (choice : Choice) (plan : Plan) (start : ℕ) (x y z : Feed)
@@ -65,10 +39,7 @@ IsStopTime other start items now by = Unit {0}
 pub record HasStopped (choice : Choice) (plan : Plan) (start : ℕ) (x y z : Feed) (fault : ScriptFault) (now : ℕ) (m : Merging)
     (held to : Option (List ℕ)) : Type 0 where
   pub out : List Item
-  pub at_a : Stands (fault_at A fault) A x out
-  pub at_b : Stands (fault_at B fault) B y out
-  pub at_c : Stands (fault_at C fault) C z out
-  pub order : IsInOrder out
+  pub came : CameUpTo fault x y z out
   pub starts : StartsAt start out
   pub taken : List Read
   pub read : AreRead choice plan start out taken
@@ -130,14 +101,8 @@ broken time = Some time
 
 -- the packets of three files, each once and in order of time, are merged into a file
 pub record IsMerged (choice : Choice) (plan : Plan) (x y z : Feed) (held to : Option (List ℕ)) : Type 0 where
-  pub packets_a : List Captured
-  pub packets_b : List Captured
-  pub packets_c : List Captured
-  pub has_a : HasRecords x packets_a
-  pub has_b : HasRecords y packets_b
-  pub has_c : HasRecords z packets_c
   pub merged : List Item
-  pub is_merge : IsMerge (items_of A x.delay packets_a) (items_of B y.delay packets_b) (items_of C z.delay packets_c) merged
+  pub came : AllCame x y z merged
   pub file : IsFileOf choice plan merged whole held to
 
 -- what is written where there is a fault: of a file, all packets before it; else, but where the writer failed, a front of what is to be
@@ -151,8 +116,5 @@ IsHalted Write own choice plan items held to = Unit {0}
 pub record IsMergedUpTo (choice : Choice) (plan : Plan) (x y z : Feed) (fault : ScriptFault) (held to : Option (List ℕ)) : Type 0 where
   pub own : ScriptFault
   pub merged : List Item
-  pub at_a : Stands (fault_at A own) A x merged
-  pub at_b : Stands (fault_at B own) B y merged
-  pub at_c : Stands (fault_at C own) C z merged
-  pub order : IsInOrder merged
+  pub came : CameUpTo own x y z merged
   pub file : IsHalted fault own choice plan merged held to

@@ -119,8 +119,3 @@ abbrev pub AreRead : Choice → Plan → ℕ → List Item → List Read → Typ
 AreRead choice plan start [] ps = ps ≡ []
 AreRead choice plan start (item ∷ items) ps = (own : List Read) × (rest : List Read) × (ps ≡ own ++ rest)
     × IsItemRead choice plan start item own × AreRead choice plan start items rest
-
--- the time of the last of some packets, or behind none a time
-abbrev pub last_time : ℕ → ℕ → List Item → ℕ
-last_time start last [] = last
-last_time start last (item ∷ items) = last_time start (item.moment - start) items

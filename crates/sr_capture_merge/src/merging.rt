@@ -1,6 +1,6 @@
 //! Going over the packets of two captures, and writing each frame once.
 
-ghost use Rattle.std.specs.Prelude.{◌≡◌, ◌≢◌, [], List, ℕ, Option, OnOk, IfOk, IfErr, IfSome};
+ghost use Rattle.std.specs.Prelude.{◌≡◌, ◌≢◌, [], List, ℕ, Option, OnOk, IfOk, IfErr};
 ghost use Rattle.sr_capture_script.specs.declared.choice.Inlet.TheVariants.{A as AtA, B as AtB, C as AtC};
 ghost use Rattle.sr_capture_script.specs.Merging.{feed_of};
 ghost use Rattle.sr_capture_script.specs.SourceViews.{IsFed};
@@ -16,7 +16,7 @@ use crate::plan::Plan;
 use crate::reading::packet_of;
 use sr_audit::Side;
 use sr_capture::{Extent, MAX_KEPT, Packet};
-use sr_capture_script::{Captures, Choice, Front, Inlet, ScriptFault};
+use sr_capture_script::{Captures, Choice, Front, Inlet, ScriptFault, start_of};
 use sr_merge::{MAX_WAITING, Merge, Verdict, Waiting};
 use sr_slots::Keys;
 use std::alloc::Global;
@@ -134,16 +134,6 @@ fn begin(alloc: Global, keys: Keys) -> Result<Merge, ScriptFault>
     ensures err { IfErr result (λ fault. fault ≡ ScriptFault.NoMemory) }
 {
     Ok(Merge::new(alloc, keys)?)
-}
-
-/// The time from which times are counted: that of the first packet, if there is one.
-fn start_of(first: Option<Front>) -> u64
-    ensures { IfSome first (λ front. front.moment ≡ result) }
-{
-    match first {
-        Some(front) => front.moment,
-        None => 0,
-    }
 }
 
 /// Takes the packet that is due, if it is wanted, and the next one of its file.

@@ -7,3 +7,5 @@ pub mod Merged
 pub mod Stopping
 pub mod Outcomes
 pub mod Opened
+pub mod Coming
+pub mod Passes

@@ -26,7 +26,7 @@ use Rattle.sr_capture_script.specs.Going.{Going}
 use Rattle.sr_capture_script.proofs.Ordering.{order_more, came_here, came_apart}
 use Rattle.sr_capture_script.proofs.Going.{key_is, more_lines, behind_a, behind_b, behind_c}
 
-has_records : (start now : Option (List ℕ)) (form : Format) (delay : ℕ) (octets : List ℕ) (packets : List Captured) (last : Format) → Loses octets start now
+pub has_records : (start now : Option (List ℕ)) (form : Format) (delay : ℕ) (octets : List ℕ) (packets : List Captured) (last : Format) → Loses octets start now
     → LeavesNone start now → AreTaken form octets packets last → HasRecords (record { form = form; delay = delay; start = start }) packets
 has_records None now form delay octets packets last lost none records = tt
 has_records (Some xs) None form delay octets packets last lost none records = absurd lost

@@ -1,7 +1,6 @@
 -- Captures whose packets are taken one by one.
 use Rattle.std.specs.Prelude.{◌≡◌, ℕ, List, Option}
 use Rattle.sr_capture.specs.declared.fault.CaptureFault.{CaptureFault}
-use Rattle.sr_capture.specs.declared.packet.Packet.{Packet}
 use Rattle.sr_capture_script.specs.declared.captures.Captures.{Captures}
 use Rattle.sr_capture_script.specs.declared.captures.Front.{Front}
 use Rattle.sr_capture_script.specs.declared.choice.Inlet.{Inlet}

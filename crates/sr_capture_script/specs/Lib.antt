@@ -10,3 +10,5 @@ pub mod Going
 pub mod Merging
 pub mod Opening
 pub mod Captures
+pub mod Coming
+pub mod Passing

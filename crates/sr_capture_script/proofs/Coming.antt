@@ -1,37 +1,27 @@
--- Packets that come one by one from three files.
-use Rattle.std.proofs.Common.{lit≤, ◌≡◌, ℕ, ◌-◌, ◌^◌, ◌≤◌, Bool, true, false, ◌&&◌, List, [], ◌∷◌, ◌++◌, length, Option, Some, refl, sym, ap, ◌∙◌, subst, arith}
+-- The packets of three files, as they come one by one.
+use Rattle.std.proofs.Common.{lit≤, ◌≡◌, ℕ, ◌-◌, ◌^◌, ◌≤◌, List, [], ◌∷◌, ◌++◌, Option, Some, None, refl, sym, ap, ◌∙◌, subst, arith}
 use Rattle.std.specs.Prelude.{min}
-use Rattle.std.proofs.lemmas.List.{append-nil, append_assoc}
-use Rattle.std.proofs.lemmas.Bool.Decides.{nat_tests}
-use Rattle.sr_audit.specs.declared.side.Side.{Side}
-use Rattle.sr_capture.specs.Limits.{longest_kept}
 use Rattle.sr_capture.specs.Records.{Captured, Shows}
 use Rattle.sr_capture.specs.declared.fault.CaptureFault.{CaptureFault}
-use Rattle.sr_capture.specs.declared.packet.Extent.{Extent}
-use Rattle.sr_capture.specs.declared.packet.Extent.TheVariants.{Whole, Cut}
 use Rattle.sr_capture.specs.declared.packet.Packet.{Packet}
-use Rattle.sr_capture_script.specs.Captures.{file_at, IsDueFirst, Advances, KeepsOthers}
+use Rattle.sr_capture_script.specs.Captures.{file_at, IsDueFirst, HasNoFront, Advances, KeepsOthers}
+use Rattle.sr_capture_script.specs.Coming.{HaveCome, StartsAt, last_time, AllCame, CameUpTo}
 use Rattle.sr_capture_script.specs.declared.captures.Captures.{Captures}
 use Rattle.sr_capture_script.specs.declared.captures.Front.{Front}
-use Rattle.sr_capture_script.specs.declared.choice.Choice.{Choice}
 use Rattle.sr_capture_script.specs.declared.choice.Inlet.{Inlet}
 use Rattle.sr_capture_script.specs.declared.choice.Inlet.TheVariants.{A, B, C}
+use Rattle.sr_capture_script.specs.declared.fault.ScriptFault.{ScriptFault}
 use Rattle.sr_capture_script.specs.declared.fault.ScriptFault.TheVariants.{File}
 use Rattle.sr_capture_script.specs.declared.source.Source.{Source}
-use Rattle.sr_capture_script.specs.Items.{Item, rank, key_of, came_at, AllTo, AllToDue, IsInOrder}
-use Rattle.sr_capture_script.specs.Merging.{Feed, feed_of, fault_at, Stands, HasCome}
+use Rattle.sr_capture_script.specs.Items.{Item, rank, key_of, items_of, came_at, AllTo, AllToDue}
+use Rattle.sr_capture_script.specs.Merging.{Feed, feed_of, HasRecords, fault_at, Stands, HasCome}
 use Rattle.sr_capture_script.specs.Picking.{NotBefore, IsEarliest}
-use Rattle.sr_capture_script.specs.Sources.{left_of, IsFaulty, IsStuck, Feeds}
+use Rattle.sr_capture_script.specs.Sources.{left_of, IsFaulty, IsStuck, IsDue, Feeds}
 use Rattle.sr_capture_script.specs.SourceViews.{IsFed, IsSame, progress_of}
-use Rattle.sr_capture_script.specs.Texts.{is_wanted, time_since}
 use Rattle.sr_capture_script.proofs.Feeding.{serves, sticks}
 use Rattle.sr_capture_script.proofs.Going.{key_is, behind_a, behind_b, behind_c}
-use Rattle.sr_capture_script.proofs.Merged.{has_come, feed_is}
+use Rattle.sr_capture_script.proofs.Merged.{has_records, has_come, feed_is}
 use Rattle.sr_capture_script.proofs.Ordering.{order_more, due_more, came_here, came_apart}
-use Rattle.sr_capture_merge.specs.declared.plan.Plan.{Plan}
-use Rattle.sr_capture_merge.specs.Merged.{HaveCome, StartsAt}
-use Rattle.sr_capture_merge.specs.Reading.{IsReadIf, is_whole, side_at, IsItemRead, AreRead, last_time}
-use Rattle.sr_merge.specs.Merging.{Read}
 
 -- what is due is not before a moment
 not_before_is : (d : Option ℕ) (m n : ℕ) → NotBefore d m → d ≡ Some n → m ≤ n
@@ -153,21 +143,72 @@ pub comes_first : {R : Type 0} (remaining : R → Option (List ℕ)) (x y z : Fe
 comes_first remaining x y z old new front out first goes others h =
     comes remaining x y z old new front.inlet front.moment front.number out first.0 first.1 goes others h
 
--- how far files came that have no fault
-pub stand_a : {R : Type 0} (remaining : R → Option (List ℕ)) (x y z : Feed) (all : Captures R) (out : List Item) → HaveCome remaining x y z all out →
-    HasCome A x out
-stand_a remaining x y z all out h =
-    subst (λ f. HasCome A f out) h.same_a (has_come remaining A x.start all.a out h.fed_a h.to_a)
+-- nothing came yet
+to_nothing : (i : Inlet) (d : Option ℕ) → AllToDue i d []
+to_nothing i None = tt
+to_nothing i (Some m) = tt
 
-pub stand_b : {R : Type 0} (remaining : R → Option (List ℕ)) (x y z : Feed) (all : Captures R) (out : List Item) → HaveCome remaining x y z all out →
-    HasCome B y out
-stand_b remaining x y z all out h =
-    subst (λ f. HasCome B f out) h.same_b (has_come remaining B y.start all.b out h.fed_b h.to_b)
+pub come_none : {R : Type 0} (remaining : R → Option (List ℕ)) (a b c : Option (List ℕ)) (all : Captures R) → IsFed remaining A a all.a [] →
+    IsFed remaining B b all.b [] → IsFed remaining C c all.c [] → HaveCome remaining (feed_of all.a a) (feed_of all.b b) (feed_of all.c c) all []
+come_none remaining a b c all fed_a fed_b fed_c = record {
+  same_a = refl;
+  same_b = refl;
+  same_c = refl;
+  fed_a = fed_a;
+  fed_b = fed_b;
+  fed_c = fed_c;
+  order = tt;
+  to_a = to_nothing A all.a.due;
+  to_b = to_nothing B all.b.due;
+  to_c = to_nothing C all.c.due;
+}
 
-pub stand_c : {R : Type 0} (remaining : R → Option (List ℕ)) (x y z : Feed) (all : Captures R) (out : List Item) → HaveCome remaining x y z all out →
-    HasCome C z out
-stand_c remaining x y z all out h =
-    subst (λ f. HasCome C f out) h.same_c (has_come remaining C z.start all.c out h.fed_c h.to_c)
+-- how far files came, where none has a fault
+stands : (fault : Option CaptureFault) (i : Inlet) (x : Feed) (out : List Item) → fault ≡ None → HasCome i x out → Stands fault i x out
+stands fault i x out none h = subst (λ f. Stands f i x out) (sym none) h
+
+pub came_to : {R : Type 0} (remaining : R → Option (List ℕ)) (x y z : Feed) (all : Captures R) (fault : ScriptFault) (out : List Item) →
+    HaveCome remaining x y z all out → fault_at A fault ≡ None → fault_at B fault ≡ None → fault_at C fault ≡ None → CameUpTo fault x y z out
+came_to remaining x y z all fault out h none_a none_b none_c = record {
+  at_a = stands (fault_at A fault) A x out none_a (subst (λ f. HasCome A f out) h.same_a (has_come remaining A x.start all.a out h.fed_a h.to_a));
+  at_b = stands (fault_at B fault) B y out none_b (subst (λ f. HasCome B f out) h.same_b (has_come remaining B y.start all.b out h.fed_b h.to_b));
+  at_c = stands (fault_at C fault) C z out none_c (subst (λ f. HasCome C f out) h.same_c (has_come remaining C z.start all.c out h.fed_c h.to_c));
+  order = h.order;
+}
+
+-- files that are at their ends have given all
+record AllGiven (inlet : Inlet) (x : Feed) (gone : List Item) : Type 0 where
+  packets : List Captured
+  has : HasRecords x packets
+  items : gone ≡ items_of inlet x.delay packets
+
+all_given : {R : Type 0} (remaining : R → Option (List ℕ)) (inlet : Inlet) (x : Feed) (s : Source R) (gone : List Item) →
+    feed_of s x.start ≡ x → s.due ≡ None → IsFed remaining inlet x.start s gone → AllGiven inlet x gone
+all_given remaining inlet x s gone same none fed =
+    let left = left_of remaining s.reader in
+    let due = subst (λ (o : Option ℕ). IsDue inlet (progress_of s) o (items_of inlet s.delay fed.packets) gone x.start left) none fed.due in
+    let given : AllGiven inlet (feed_of s x.start) gone = record {
+      packets = fed.packets;
+      has = has_records x.start left s.form s.delay fed.octets fed.packets s.state fed.lost due.1 fed.records;
+      items = sym due.0;
+    } in
+    subst (λ f. AllGiven inlet f gone) same given
+
+pub all_came : {R : Type 0} (remaining : R → Option (List ℕ)) (x y z : Feed) (all : Captures R) (out : List Item) → HaveCome remaining x y z all out →
+    HasNoFront all → AllCame x y z out
+all_came remaining x y z all out h none =
+    let wa = all_given remaining A x all.a (came_at A out) h.same_a none.0 h.fed_a in
+    let wb = all_given remaining B y all.b (came_at B out) h.same_b none.1 h.fed_b in
+    let wc = all_given remaining C z all.c (came_at C out) h.same_c none.2 h.fed_c in
+    record {
+      packets_a = wa.packets;
+      packets_b = wb.packets;
+      packets_c = wc.packets;
+      has_a = wa.has;
+      has_b = wb.has;
+      has_c = wc.has;
+      is_merge = record { at_a = wa.items; at_b = wb.items; at_c = wc.items; order = h.order };
+    }
 
 -- the packet that was due came, and behind it its file has a fault
 pub record HasLast (x y z : Feed) (shown : Packet) (i : Inlet) (m n : ℕ) (own : CaptureFault) (out : List Item) : Type 0 where
@@ -176,10 +217,7 @@ pub record HasLast (x y z : Feed) (shown : Packet) (i : Inlet) (m n : ℕ) (own 
   pub when : item.moment ≡ m
   pub number : n ≡ min item.number (2 ^ 64 - 1)
   pub shows : Shows shown item.packet
-  pub at_a : Stands (fault_at A (File i own)) A x (out ++ item ∷ [])
-  pub at_b : Stands (fault_at B (File i own)) B y (out ++ item ∷ [])
-  pub at_c : Stands (fault_at C (File i own)) C z (out ++ item ∷ [])
-  pub order : IsInOrder (out ++ item ∷ [])
+  pub came : CameUpTo (File i own) x y z (out ++ item ∷ [])
 
 stops : {R : Type 0} (remaining : R → Option (List ℕ)) (x y z : Feed) (all : Captures R) (i : Inlet) (m n : ℕ) (own : CaptureFault)
     (left : Option (List ℕ)) (out : List Item) → IsEarliest i m all.a.due all.b.due all.c.due → n ≡ (file_at i all).number →
@@ -199,12 +237,14 @@ stops remaining x y z all A m n own left out early number stuck h =
       when = s.when;
       number = number ∙ s.number;
       shows = s.shown;
-      at_a = subst (λ (f : Feed). IsFaulty A f.form f.delay own f.start (came_at A (out ++ s.item ∷ []))) h.same_a faulty;
-      at_b = subst (λ (f : Feed). HasCome B f (out ++ s.item ∷ [])) h.same_b
-          (has_come remaining B y.start all.b (out ++ s.item ∷ []) fed_b behind.0);
-      at_c = subst (λ (f : Feed). HasCome C f (out ++ s.item ∷ [])) h.same_c
-          (has_come remaining C z.start all.c (out ++ s.item ∷ []) fed_c behind.1);
-      order = order_more out s.item h.order (subst (λ k. AllTo k out) (sym key) to);
+      came = record {
+        at_a = subst (λ (f : Feed). IsFaulty A f.form f.delay own f.start (came_at A (out ++ s.item ∷ []))) h.same_a faulty;
+        at_b = subst (λ (f : Feed). HasCome B f (out ++ s.item ∷ [])) h.same_b
+            (has_come remaining B y.start all.b (out ++ s.item ∷ []) fed_b behind.0);
+        at_c = subst (λ (f : Feed). HasCome C f (out ++ s.item ∷ [])) h.same_c
+            (has_come remaining C z.start all.c (out ++ s.item ∷ []) fed_c behind.1);
+        order = order_more out s.item h.order (subst (λ k. AllTo k out) (sym key) to);
+      };
     }
 stops remaining x y z all B m n own left out early number stuck h =
     let s = sticks B all.b.form all.b.delay own y.start (left_of remaining all.b.reader) left (progress_of all.b) m (came_at B out) early.0 h.fed_b stuck in
@@ -220,12 +260,14 @@ stops remaining x y z all B m n own left out early number stuck h =
       when = s.when;
       number = number ∙ s.number;
       shows = s.shown;
-      at_a = subst (λ (f : Feed). HasCome A f (out ++ s.item ∷ [])) h.same_a
-          (has_come remaining A x.start all.a (out ++ s.item ∷ []) fed_a behind.0);
-      at_b = subst (λ (f : Feed). IsFaulty B f.form f.delay own f.start (came_at B (out ++ s.item ∷ []))) h.same_b faulty;
-      at_c = subst (λ (f : Feed). HasCome C f (out ++ s.item ∷ [])) h.same_c
-          (has_come remaining C z.start all.c (out ++ s.item ∷ []) fed_c behind.1);
-      order = order_more out s.item h.order (subst (λ k. AllTo k out) (sym key) to);
+      came = record {
+        at_a = subst (λ (f : Feed). HasCome A f (out ++ s.item ∷ [])) h.same_a
+            (has_come remaining A x.start all.a (out ++ s.item ∷ []) fed_a behind.0);
+        at_b = subst (λ (f : Feed). IsFaulty B f.form f.delay own f.start (came_at B (out ++ s.item ∷ []))) h.same_b faulty;
+        at_c = subst (λ (f : Feed). HasCome C f (out ++ s.item ∷ [])) h.same_c
+            (has_come remaining C z.start all.c (out ++ s.item ∷ []) fed_c behind.1);
+        order = order_more out s.item h.order (subst (λ k. AllTo k out) (sym key) to);
+      };
     }
 stops remaining x y z all C m n own left out early number stuck h =
     let s = sticks C all.c.form all.c.delay own z.start (left_of remaining all.c.reader) left (progress_of all.c) m (came_at C out) early.0 h.fed_c stuck in
@@ -241,12 +283,14 @@ stops remaining x y z all C m n own left out early number stuck h =
       when = s.when;
       number = number ∙ s.number;
       shows = s.shown;
-      at_a = subst (λ (f : Feed). HasCome A f (out ++ s.item ∷ [])) h.same_a
-          (has_come remaining A x.start all.a (out ++ s.item ∷ []) fed_a behind.0);
-      at_b = subst (λ (f : Feed). HasCome B f (out ++ s.item ∷ [])) h.same_b
-          (has_come remaining B y.start all.b (out ++ s.item ∷ []) fed_b behind.1);
-      at_c = subst (λ (f : Feed). IsFaulty C f.form f.delay own f.start (came_at C (out ++ s.item ∷ []))) h.same_c faulty;
-      order = order_more out s.item h.order (subst (λ k. AllTo k out) (sym key) to);
+      came = record {
+        at_a = subst (λ (f : Feed). HasCome A f (out ++ s.item ∷ [])) h.same_a
+            (has_come remaining A x.start all.a (out ++ s.item ∷ []) fed_a behind.0);
+        at_b = subst (λ (f : Feed). HasCome B f (out ++ s.item ∷ [])) h.same_b
+            (has_come remaining B y.start all.b (out ++ s.item ∷ []) fed_b behind.1);
+        at_c = subst (λ (f : Feed). IsFaulty C f.form f.delay own f.start (came_at C (out ++ s.item ∷ []))) h.same_c faulty;
+        order = order_more out s.item h.order (subst (λ k. AllTo k out) (sym key) to);
+      };
     }
 
 pub stops_first : {R : Type 0} (remaining : R → Option (List ℕ)) (x y z : Feed) (all : Captures R) (front : Front) (own : CaptureFault)
@@ -285,54 +329,6 @@ not_early remaining x y z all front start out first h =
 pub last_more : (start last : ℕ) (xs : List Item) (x : Item) → last_time start last (xs ++ x ∷ []) ≡ x.moment - start
 last_more start last [] x = refl
 last_more start last (y ∷ ys) x = last_more start (y.moment - start) ys x
-
--- one packet more is read
-pub read_more : (choice : Choice) (plan : Plan) (start : ℕ) (items : List Item) (ps : List Read) (item : Item) (own : List Read) →
-    AreRead choice plan start items ps → IsItemRead choice plan start item own → AreRead choice plan start (items ++ item ∷ []) (ps ++ own)
-read_more choice plan start [] ps item own h more = (own, [], ap (λ l. l ++ own) h ∙ sym (append-nil own), more, refl)
-read_more choice plan start (x ∷ xs) ps item own h more =
-    (h.0, h.1 ++ own, ap (λ l. l ++ own) h.2 ∙ append_assoc h.0 h.1 own, h.3, read_more choice plan start xs h.1 item own h.4 more)
-
--- a packet is read as the item that it shows
-whole_len : (extent : Extent) (len : ℕ) → is_whole extent len ≡ true → len ≤ longest_kept
-whole_len Cut len h = cc
-whole_len Whole len h = grind (arith, nat_tests)
-
-read_shown : (plan : Plan) (side : Side) (number time : ℕ) (packet : Packet) (item : Captured) (own : List Read) → Shows packet item →
-    IsReadIf (is_whole packet.extent packet.len) plan side number time packet.octets.items own →
-    IsReadIf (is_whole item.extent (length item.octets)) plan side number time item.octets own
-read_shown plan side number time packet item own shows h = by (is_whole packet.extent packet.len) refl h
-  where
-    same : is_whole item.extent (length item.octets) ≡ is_whole packet.extent packet.len
-    same = ap (λ e. is_whole e (length item.octets)) (sym shows.extent) ∙ ap (is_whole packet.extent) (sym shows.len)
-
-    by : (b : Bool) → is_whole packet.extent packet.len ≡ b → IsReadIf b plan side number time packet.octets.items own →
-        IsReadIf (is_whole item.extent (length item.octets)) plan side number time item.octets own
-    by true is g =
-        let fits = whole_len item.extent (length item.octets) (same ∙ is) in
-        subst (λ b. IsReadIf b plan side number time item.octets own) (sym (same ∙ is))
-        (subst (λ l. IsReadIf true plan side number time l own) (shows.octets fits) g)
-    by false is g = subst (λ b. IsReadIf b plan side number time item.octets own) (sym (same ∙ is)) g
-
-pub item_read : (choice : Choice) (plan : Plan) (start number : ℕ) (inlet : Inlet) (moment : ℕ) (packet : Packet) (item : Item) (own : List Read) →
-    is_wanted choice (time_since start moment) ≡ true → item.inlet ≡ inlet → item.moment ≡ moment → number ≡ min item.number (2 ^ 64 - 1) →
-    Shows packet item.packet → IsReadIf (is_whole packet.extent packet.len) plan (side_at inlet) number (moment - start) packet.octets.items own →
-    IsItemRead choice plan start item own
-item_read choice plan start number inlet moment packet item own wanted at when is shows h =
-    let one = read_shown plan (side_at inlet) number (moment - start) packet item.packet own shows h in
-    let w = is_whole item.packet.extent (length item.packet.octets) in
-    let two = subst (λ n. IsReadIf w plan (side_at inlet) n (moment - start) item.packet.octets own) is one in
-    let three = subst (λ i. IsReadIf w plan (side_at i) (min item.number (2 ^ 64 - 1)) (moment - start) item.packet.octets own) (sym at) two in
-    let four = subst (λ t. IsReadIf w plan (side_at item.inlet) (min item.number (2 ^ 64 - 1)) (t - start) item.packet.octets own) (sym when) three in
-    let want : is_wanted choice (time_since start item.moment) ≡ true = ap (λ t. is_wanted choice (time_since start t)) when ∙ wanted in
-    subst (λ b. IsReadIf (b && w) plan (side_at item.inlet) (min item.number (2 ^ 64 - 1)) (item.moment - start) item.packet.octets own) (sym want) four
-
-pub item_unwanted : (choice : Choice) (plan : Plan) (start : ℕ) (moment : ℕ) (item : Item) →
-    is_wanted choice (time_since start moment) ≡ false → item.moment ≡ moment → IsItemRead choice plan start item []
-item_unwanted choice plan start moment item unwanted when =
-    let want : is_wanted choice (time_since start item.moment) ≡ false = ap (λ t. is_wanted choice (time_since start t)) when ∙ unwanted in
-    subst (λ b. IsReadIf (b && is_whole item.packet.extent (length item.packet.octets)) plan (side_at item.inlet) (min item.number (2 ^ 64 - 1))
-    (item.moment - start) item.packet.octets []) (sym want) refl
 
 -- where times are counted from
 pub starts_more : (start : ℕ) (out : List Item) (item : Item) → StartsAt start out → (out ≡ [] → item.moment ≡ start) → StartsAt start (out ++ item ∷ [])
