@@ -4,7 +4,7 @@ ghost use Rattle.std.specs.Prelude.{◌≡◌, ◌<◌, ◌||◌, length, nat_lt
 ghost use Rattle.std.specs.HashMap.{IsUnchanged};
 ghost use Rattle.sr_merge.specs.declared.waiting.Waiting.{Waiting as WaitingPacket};
 ghost use Rattle.sr_merge.specs.Limits.{copy_time};
-ghost use Rattle.sr_merge.specs.Merging.{PutsPlace, ForgetsPlace};
+ghost use Rattle.sr_merge.specs.Merging.{PutsPlace, ForgetsPlace, ForgetsFrame};
 
 use crate::came::{Came, FrameAt, FrameId};
 use crate::waiting::{COPY_TIME, Waiting};
@@ -19,7 +19,8 @@ use std::marker::Model;
 #[derive(Drop)]
 pub(crate) struct Queue {
     waiting: VecDeque<Waiting>,
-    // The place of the newest copy of each frame by each side, counted in 64 bits from the first packet that ever waited.
+    // The place of the newest copy of each frame by each side, counted in 64 bits from the first packet that ever waited, until a copy
+    // comes by the other side: so few are noted, however many wait.
     newest: HashMap<FrameAt, u64, Keys>,
     // How many packets waited and were taken out.
     gone: u64,
@@ -61,22 +62,32 @@ fn forget(newest: &mut HashMap<FrameAt, u64, Keys>, at: FrameAt, place: u64)
     }
 }
 
-/// Notes that a copy of the packet at a place comes by the other side.
-fn meet(waiting: &mut VecDeque<Waiting>, at: usize, time: u64)
+/// Forgets what is noted at a frame and a side.
+fn forget_all(newest: &mut HashMap<FrameAt, u64, Keys>, at: FrameAt)
+    ensures { ForgetsFrame at newest.old newest.new }
+{
+    let _ = newest.remove(&at);
+}
+
+/// Notes that a copy of the packet at a place comes by the other side, and answers whether one is known now.
+fn meet(waiting: &mut VecDeque<Waiting>, at: usize, time: u64) -> bool
     requires { at < length waiting.old.items }
-    ensures { (d : WaitingPacket) → waiting.new.items ≡ set waiting.old.items at
+    ensures met { (d : WaitingPacket) → waiting.new.items ≡ set waiting.old.items at
         (record (slice_index_or waiting.old.items at d) {
           is_met = (slice_index_or waiting.old.items at d).is_met
               || nat_lt (time - (slice_index_or waiting.old.items at d).came.time) copy_time;
         }) }
+    ensures known { (d : WaitingPacket) → result ≡ ((slice_index_or waiting.old.items at d).is_met
+        || nat_lt (time - (slice_index_or waiting.old.items at d).came.time) copy_time) }
 {
     let first = &mut waiting[at];
     first.is_met = first.is_met || time.saturating_sub(first.came.time) < COPY_TIME;
+    first.is_met
 }
 
 impl Queue {
-    ghost use Rattle.std.specs.Prelude.{◌≡◌, ◌↔◌, ◌<◌, ◌++◌, ◌∷◌, [], length, drop, None, Some, OnOk, OnErr, IfSome};
-    ghost use Rattle.sr_merge.specs.Merging.{pending_of, next_written, newest_copy, copy_noted};
+    ghost use Rattle.std.specs.Prelude.{◌≡◌, ◌↔◌, ◌<◌, ◌++◌, ◌∷◌, [], length, drop, true, None, Some, OnOk, OnErr, IfSome, IfNone};
+    ghost use Rattle.sr_merge.specs.Merging.{pending_of, next_written, newest_copy, is_settled, copy_noted};
 
     /// Nothing waits.
     pub fn new(alloc: Global, keys: Keys) -> Queue
@@ -135,9 +146,10 @@ impl Queue {
         Some(first)
     }
 
-    /// The place of the newest copy of a frame by a side.
+    /// The place of the newest copy of a frame by a side. None: nothing waits of it there, or a copy by the other side is known.
     fn newest(&self, at: FrameAt) -> Option<usize>
-        ensures place { result ≡ newest_copy at self.now }
+        ensures place { IfSome result (λ place. newest_copy at self.now ≡ Some place) }
+        ensures settled { IfNone result (is_settled self.now (newest_copy at self.now) ≡ true) }
         ensures within { IfSome result (λ place. place < length self.now) }
     {
         // The length is a number of 64 bits.
@@ -151,8 +163,12 @@ impl Queue {
         ensures { self.new ≡ copy_noted came (Some frame) self.old }
     {
         let side = came.side.other();
-        if let Some(place) = self.newest(FrameAt { frame, side }) {
-            meet(&mut self.waiting, place, came.time);
+        let at = FrameAt { frame, side };
+        let Some(place) = self.newest(at) else {
+            return;
+        };
+        if meet(&mut self.waiting, place, came.time) {
+            forget_all(&mut self.newest, at);
         }
     }
 }
