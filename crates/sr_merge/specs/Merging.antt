@@ -194,13 +194,18 @@ abbrev pub is_settled : List Pending → Option ℕ → Bool
 is_settled ws None = true
 is_settled ws (Some at) = is_met_at ws at
 
--- what is noted of a frame and a side, whose newest copy waits at this place: the place, or nothing once it is settled
+-- what is noted of a frame and a side, whose newest copy waits at this place: the place, or nothing where it is settled
 abbrev pub IsNoted : ℕ → List Pending → Option ℕ → Option ℕ → Type 0
 IsNoted gone ws newest None = is_settled ws newest ≡ true
-IsNoted gone ws newest (Some place) = noted_place gone newest ≡ Some place
+IsNoted gone ws newest (Some place) = (noted_place gone newest ≡ Some place) × (is_settled ws newest ≡ false)
 
 abbrev pub HasPlaces : {S : Type 0} → ℕ → HashMap FrameAt ℕ S → List Pending → Type 0
 HasPlaces gone map ws = (key : FrameAt) → IsNoted gone ws (newest_copy key ws) (get at_eq map key)
+
+-- the frame and side of a packet, where no copy of it is known
+abbrev pub unmet_at : Bool → Option FrameAt → Option FrameAt
+unmet_at true at = None
+unmet_at false at = at
 
 -- a place is noted at a frame and a side
 abbrev pub PutsPlace : {S : Type 0} → FrameAt → ℕ → HashMap FrameAt ℕ S → HashMap FrameAt ℕ S → Type 0

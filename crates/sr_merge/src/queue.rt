@@ -4,7 +4,7 @@ ghost use Rattle.std.specs.Prelude.{◌≡◌, ◌<◌, ◌||◌, length, nat_lt
 ghost use Rattle.std.specs.HashMap.{IsUnchanged};
 ghost use Rattle.sr_merge.specs.declared.waiting.Waiting.{Waiting as WaitingPacket};
 ghost use Rattle.sr_merge.specs.Limits.{copy_time};
-ghost use Rattle.sr_merge.specs.Merging.{PutsPlace, ForgetsPlace, ForgetsFrame};
+ghost use Rattle.sr_merge.specs.Merging.{frame_at, unmet_at, PutsPlace, ForgetsPlace, ForgetsFrame};
 
 use crate::came::{Came, FrameAt, FrameId};
 use crate::waiting::{COPY_TIME, Waiting};
@@ -36,6 +36,17 @@ impl Model for Queue {
 
     ghost invariant = { λ q.
         (q.gone < 2 ^ 64) × HasPlaces q.gone q.newest (map pending_of q.waiting.items) };
+}
+
+/// The frame and side of a packet, where no copy of it is known, so that its place may be noted.
+fn unmet_at(waiting: &Waiting) -> Option<FrameAt>
+    ensures { result ≡ unmet_at waiting.now.is_met
+        (frame_at waiting.now.came.side waiting.now.came.frame) }
+{
+    if waiting.is_met {
+        return None;
+    }
+    waiting.came.at()
 }
 
 /// Notes a place at a frame and a side.
@@ -86,7 +97,7 @@ fn meet(waiting: &mut VecDeque<Waiting>, at: usize, time: u64) -> bool
 }
 
 impl Queue {
-    ghost use Rattle.std.specs.Prelude.{◌≡◌, ◌↔◌, ◌<◌, ◌++◌, ◌∷◌, [], length, drop, true, None, Some, OnOk, OnErr, IfSome, IfNone};
+    ghost use Rattle.std.specs.Prelude.{◌≡◌, ◌↔◌, ◌<◌, ◌++◌, ◌∷◌, [], length, drop, true, false, None, Some, OnOk, OnErr, IfSome, IfNone};
     ghost use Rattle.sr_merge.specs.Merging.{pending_of, next_written, newest_copy, is_settled, copy_noted};
 
     /// Nothing waits.
@@ -115,11 +126,12 @@ impl Queue {
         self.waiting.front()
     }
 
-    /// Has a packet wait behind all others.
+    /// Has a packet wait behind all others, of which no copy is known.
     ///
     /// # Errors
     /// `NoMemory` where a growth was refused: nothing changed.
     pub fn push(&mut self, waiting: Waiting) -> Result<(), NoMemory>
+        requires { waiting.is_met ≡ false }
         ensures ok { OnOk result (self.new ≡ self.old ++ pending_of waiting ∷ []) }
         ensures err { OnErr result (self.new ≡ self.old) }
     {
@@ -139,7 +151,7 @@ impl Queue {
         // The length is a number of 64 bits.
         let _waiting = self.waiting.len();
         let first = self.waiting.pop_front()?;
-        if let Some(at) = first.came.at() {
+        if let Some(at) = unmet_at(&first) {
             forget(&mut self.newest, at, self.gone);
         }
         self.gone = self.gone.wrapping_add(1);

@@ -14,7 +14,7 @@ returns-clause-place c =
     sym (ap (newest_copy c.args.at) c.self.view_is)
     ∙ found_at c.self.inside.gone c.in_ok-place.field-0.now (newest_copy c.args.at ws) c.self.invariant.0
     (λ at e. let n = newest-within c.args.at ws at e in omega (arith, n, m, l, r))
-    (subst (IsNoted c.self.inside.gone ws (newest_copy c.args.at ws)) (sym c.in_ok-place.ensures.value) (c.self.invariant.1 c.args.at))
+    (subst (IsNoted c.self.inside.gone ws (newest_copy c.args.at ws)) (sym c.in_ok-place.ensures.value) (c.self.invariant.1 c.args.at)).0
 
 pub returns-clause-within : goal.returns-clause-within
 returns-clause-within c = newest-within c.args.at c.args.self.now _ (returns-clause-place c)

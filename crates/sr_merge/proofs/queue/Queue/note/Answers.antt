@@ -3,7 +3,7 @@ use Rattle.std.specs.Prelude.{map}
 use Rattle.std.proofs.lemmas.List.{length-map}
 use Rattle.sr_merge.specs.declared.came.FrameAt.{FrameAt}
 use Rattle.sr_merge.specs.Merging.{pending_of, HasPlaces, newest_copy, meet, meet_at}
-use Rattle.sr_merge.proofs.PlaceLemmas.{places-meet, places-met, meet_list, meet-settled, known_at}
+use Rattle.sr_merge.proofs.PlaceLemmas.{places-met, meet_list, meet-settled, meet-late, known_at}
 use Rattle.sr_merge.proofs.queue.Queue.note.Goals as goal
 
 pub returns-in_default : goal.returns-in_default
@@ -33,13 +33,22 @@ invariant_of-self c =
     )
 
 pub invariant_of-self-else-meet : goal.invariant_of-self-else-meet
-invariant_of-self-else-meet c = (
-  c.self.invariant.0,
-  subst (HasPlaces c.self.inside.gone c.self.inside.newest)
-      (sym (meet_list c.args.came.time c.in-Some.place c.self.inside.waiting.items c.meet.new.waiting.items c.meet.ensures.met))
-      (places-meet c.self.inside.gone c.args.came.time c.in-Some.place c.self.inside.newest (map pending_of c.self.inside.waiting.items)
-      c.self.invariant.1),
-)
+invariant_of-self-else-meet c =
+    let gone = c.self.inside.gone in
+    let items = c.self.inside.waiting.items in
+    let ws = map pending_of items in
+    let at = c.in-Some.place in
+    let time = c.args.came.time in
+    let m = length-map items pending_of in
+    let n : length ws ≡ length c.args.self.now = ap length c.self.view_is in
+    let l = c.in-Some.ensures.within in
+    let fits : at < length items = omega (arith, l, n, m) in (
+      c.self.invariant.0,
+      subst (HasPlaces gone c.self.inside.newest)
+          (sym (meet_list time at items c.meet.new.waiting.items c.meet.ensures.met
+          ∙ meet-late time at ws (known_at time at items c.meet.result fits c.meet.ensures.known ∙ c.if-meet.false)))
+          c.self.invariant.1,
+    )
 
 pub returns-then-meet : goal.returns-then-meet
 returns-then-meet c =
