@@ -14,7 +14,7 @@ const SECTION_HEADER: u32 = 0x0A0D_0D0A;
 
 const INTERFACE: u32 = 1;
 
-const ENHANCED: u32 = 6;
+const ENHANCED: u8 = 6;
 
 /// What tells the order of octets in a section header.
 const MAGIC: u32 = 0x1A2B_3C4D;
@@ -213,7 +213,7 @@ fn write_front<W: Write>(
     let [q, r, s, t] = held.to_le_bytes();
     let [u, v, w, x] = len.to_le_bytes();
     writer.write_all(&[
-        6, 0, 0, 0, a, b, c, d, e, f, g, h, i, j, k, l, m, n, o, p, q, r, s, t, u, v, w, x,
+        ENHANCED, 0, 0, 0, a, b, c, d, e, f, g, h, i, j, k, l, m, n, o, p, q, r, s, t, u, v, w, x,
     ])
 }
 
