@@ -60,6 +60,13 @@ fn put(newest: &mut HashMap<FrameAt, u64, Keys>, at: FrameAt, place: u64) -> Res
     }
 }
 
+/// Forgets what is noted at a frame and a side.
+fn forget_all(newest: &mut HashMap<FrameAt, u64, Keys>, at: FrameAt)
+    ensures { ForgetsFrame at newest.old newest.new }
+{
+    let _ = newest.remove(&at);
+}
+
 /// Forgets a place at a frame and a side, if it is what is noted there.
 fn forget(newest: &mut HashMap<FrameAt, u64, Keys>, at: FrameAt, place: u64)
     ensures { ForgetsPlace at place newest.old newest.new }
@@ -69,15 +76,8 @@ fn forget(newest: &mut HashMap<FrameAt, u64, Keys>, at: FrameAt, place: u64)
         None => false,
     };
     if is_noted {
-        let _ = newest.remove(&at);
+        forget_all(newest, at);
     }
-}
-
-/// Forgets what is noted at a frame and a side.
-fn forget_all(newest: &mut HashMap<FrameAt, u64, Keys>, at: FrameAt)
-    ensures { ForgetsFrame at newest.old newest.new }
-{
-    let _ = newest.remove(&at);
 }
 
 /// Notes that a copy of the packet at a place comes by the other side, and answers whether one is known now.
