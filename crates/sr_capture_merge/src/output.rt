@@ -1,20 +1,22 @@
 //! The file that is written.
 
-ghost use Rattle.std.specs.Prelude.{◌≡◌, ◌++◌, ◌<◌, ◌^◌, length, OnOk, IfOk, IfErr};
+ghost use Rattle.std.specs.Prelude.{◌≡◌, ◌++◌, ◌<◌, ◌^◌, ℕ, length, codes, decimal, OnOk, IfOk, IfErr};
 ghost use Rattle.sr_pcapng.specs.Writing.{written_of};
 ghost use Rattle.std.specs.Io.KnownBytes.{Appends};
 ghost use Rattle.sr_capture_merge.specs.Counting.{with_packet, counted_written};
 ghost use Rattle.sr_capture_merge.specs.Entries.{names_of, side_interface, written_time, first_octets, entry_of, entry_block, is_shown, piece_by};
-ghost use Rattle.sr_capture_merge.specs.Remarks.{side_word, side_letter, alone_remark, astray_remark, remark_of};
+ghost use Rattle.sr_capture_merge.specs.Remarks.{alone_remark, astray_remark, remark_of};
 ghost use Rattle.sr_merge.specs.Merging.{packet_of};
 
 use crate::counts::{Counts, more};
 use crate::plan::{Plan, Scope};
+use itoa::Buffer;
 use sr_audit::Side;
 use sr_capture_audit::Network;
 use sr_capture_script::ScriptFault;
-use sr_merge::{FrameId, Verdict, Waiting};
+use sr_merge::{Verdict, Waiting};
 use sr_pcapng::{Entry, Lane, MAX_WRITTEN, Names, write_head, write_packet};
+use sr_sequence::Seq;
 use std::alloc::Global;
 use std::io::Write;
 
@@ -42,23 +44,29 @@ fn names_of(network: Network) -> Names
     }
 }
 
-/// The word for a side.
-fn word_of(network: Network) -> &'static str
-    ensures { result.now ≡ side_word network }
+/// What is said of a frame of which no copy came by the other side, up to the number of its packet.
+fn alone_words(network: Network, side: Side) -> &'static str
+    ensures { (number seq : ℕ) → result.now ++ decimal number ++ codes ", number " ++ decimal seq
+        ≡ alone_remark network side number seq }
 {
-    match network {
-        Network::Prp => "LAN",
-        Network::Hsr => "port",
+    match (network, side) {
+        (Network::Prp, Side::A) => "LAN A alone: no copy by LAN B; packet A ",
+        (Network::Prp, Side::B) => "LAN B alone: no copy by LAN A; packet B ",
+        (Network::Hsr, Side::A) => "port A alone: no copy by port B; packet A ",
+        (Network::Hsr, Side::B) => "port B alone: no copy by port A; packet B ",
     }
 }
 
-/// The letter of a side.
-fn letter_of(side: Side) -> &'static str
-    ensures { result.now ≡ side_letter side }
+/// What is said of a frame whose first copy has the trailer of the other LAN, up to the number of its packet.
+fn astray_words(network: Network, side: Side) -> &'static str
+    ensures { (number seq : ℕ) → result.now ++ decimal number ++ codes ", number " ++ decimal seq
+        ≡ astray_remark network side number seq }
 {
-    match side {
-        Side::A => "A",
-        Side::B => "B",
+    match (network, side) {
+        (Network::Prp, Side::A) => "by LAN A with the id of LAN B; packet A ",
+        (Network::Prp, Side::B) => "by LAN B with the id of LAN A; packet B ",
+        (Network::Hsr, Side::A) => "by port A with the id of port B; packet A ",
+        (Network::Hsr, Side::B) => "by port B with the id of port A; packet B ",
     }
 }
 
@@ -72,54 +80,23 @@ fn lane_of(side: Side) -> Lane
     }
 }
 
-/// Appends that no copy of a frame came by the other side.
-fn append_alone(
+/// Appends these words, the number of a packet and that of its frame.
+fn append_remark(
     comment: &mut Vec<u8>,
-    network: Network,
-    side: Side,
+    words: &str,
     number: u64,
-    frame: FrameId,
+    seq: Seq,
 ) -> Result<(), ScriptFault>
-    ensures ok { OnOk result (comment.new.items
-        ≡ comment.old.items ++ alone_remark network side number frame.seq.0) }
+    ensures ok { OnOk result (comment.new.items ≡ comment.old.items
+        ++ (words.now ++ decimal number ++ codes ", number " ++ decimal seq.0)) }
     ensures err { IfErr result (λ fault. fault ≡ ScriptFault.NoMemory) }
 {
-    let word = word_of(network);
-    let own = letter_of(side);
-    let other = letter_of(side.other());
-    let seq = frame.seq.0;
-    match write!(
-        comment,
-        "{word} {own} alone: no copy by {word} {other}; packet {own} {number}, number {seq}"
-    ) {
-        Ok(()) => Ok(()),
-        Err(_) => Err(ScriptFault::NoMemory),
-    }
-}
-
-/// Appends that the first copy of a frame has the trailer of the other LAN.
-fn append_astray(
-    comment: &mut Vec<u8>,
-    network: Network,
-    side: Side,
-    number: u64,
-    frame: FrameId,
-) -> Result<(), ScriptFault>
-    ensures ok { OnOk result (comment.new.items
-        ≡ comment.old.items ++ astray_remark network side number frame.seq.0) }
-    ensures err { IfErr result (λ fault. fault ≡ ScriptFault.NoMemory) }
-{
-    let word = word_of(network);
-    let own = letter_of(side);
-    let other = letter_of(side.other());
-    let seq = frame.seq.0;
-    match write!(
-        comment,
-        "by {word} {own} with the id of {word} {other}; packet {own} {number}, number {seq}"
-    ) {
-        Ok(()) => Ok(()),
-        Err(_) => Err(ScriptFault::NoMemory),
-    }
+    let mut buffer = Buffer::new();
+    comment.extend_from_slice(words.as_bytes())?;
+    comment.extend_from_slice(buffer.format(number).as_bytes())?;
+    comment.extend_from_slice(b", number ")?;
+    comment.extend_from_slice(buffer.format(seq.0).as_bytes())?;
+    Ok(())
 }
 
 /// Puts what is said of a packet in place of what a list held.
@@ -138,16 +115,17 @@ fn put_remark(
         return Ok(());
     };
     let side = waiting.came.side;
-    match verdict {
-        Some(Verdict::Alone) => append_alone(comment, network, side, waiting.number, frame),
-        _ if waiting.is_astray => append_astray(comment, network, side, waiting.number, frame),
-        _ => Ok(()),
-    }
+    let words = match verdict {
+        Some(Verdict::Alone) => alone_words(network, side),
+        _ if waiting.is_astray => astray_words(network, side),
+        _ => return Ok(()),
+    };
+    append_remark(comment, words, waiting.number, frame.seq)
 }
 
-/// The counts with one packet more, whose verdict is known, or will not be.
-fn counted(mut counts: Counts, waiting: &Waiting, verdict: Option<Verdict>) -> Counts
-    ensures { result ≡ with_packet (packet_of waiting.now) verdict counts }
+/// Counts a packet whose verdict is known, or will not be.
+fn count(counts: &mut Counts, waiting: &Waiting, verdict: Option<Verdict>)
+    ensures { counts.new ≡ with_packet (packet_of waiting.now) verdict counts.old }
 {
     more(&mut counts.packets);
     match verdict {
@@ -157,7 +135,6 @@ fn counted(mut counts: Counts, waiting: &Waiting, verdict: Option<Verdict>) -> C
         Some(Verdict::Both) => more(&mut counts.both),
         None => more(&mut counts.open),
     }
-    counts
 }
 
 /// The time of a packet in the file: at most the latest that a file tells.
@@ -239,14 +216,13 @@ fn write_wanted<W: Write>(
     Ok(shown)
 }
 
-/// The counts with one packet more that is written, if it is.
-fn with_written(mut counts: Counts, is_written: bool) -> Counts
-    ensures { result ≡ counted_written is_written counts }
+/// Counts a packet that is written, if it is.
+fn count_written(counts: &mut Counts, is_written: bool)
+    ensures { counts.new ≡ counted_written is_written counts.old }
 {
     if is_written {
         more(&mut counts.written);
     }
-    counts
 }
 
 impl Output {
@@ -314,7 +290,8 @@ impl Output {
             waiting,
             self.comment.as_slice(),
         )?;
-        self.counts = with_written(counted(self.counts, waiting, verdict), shown);
+        count(&mut self.counts, waiting, verdict);
+        count_written(&mut self.counts, shown);
         Ok(())
     }
 }

@@ -14,6 +14,9 @@ use std::os::unix::fs::MetadataExt;
 use std::random::RandomSource;
 use std::rt::Files;
 
+/// So many octets of a merge are written at once, as many as a pipe holds.
+const WRITTEN_AT_ONCE: usize = 64 * 1024;
+
 /// Whether two paths lead to one file, as far as can be told.
 fn is_one_file<R: Files>(rt: &R, path: &str, other: &str) -> bool {
     match (std::fs::metadata(rt, path), std::fs::metadata(rt, other)) {
@@ -101,7 +104,8 @@ fn merge_into<'a, R: AllocGlobal + Eprint + Files, W: Write + Drop>(
     mut captures: Captures<Opened<'a, R>>,
     out: W,
 ) -> Result<(), ()> {
-    let Ok(mut writer) = BufWriter::new(rt.alloc(), Pipe::new(out)) else {
+    let Ok(mut writer) = BufWriter::with_capacity(rt.alloc(), WRITTEN_AT_ONCE, Pipe::new(out))
+    else {
         tell_ended(rt, ScriptFault::NoMemory, false);
         return Err(());
     };

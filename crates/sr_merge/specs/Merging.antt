@@ -183,9 +183,29 @@ abbrev pub noted_place : ℕ → Option ℕ → Option ℕ
 noted_place gone None = None
 noted_place gone (Some at) = Some ((gone + at) % 2 ^ 64)
 
--- of each frame and side the place of the newest copy is noted
+-- whether a copy by the other side is known of the packet at a place
+abbrev pub is_met_at : List Pending → ℕ → Bool
+is_met_at [] at = false
+is_met_at (w ∷ ws) zero = w.is_met
+is_met_at (w ∷ ws) (suc at) = is_met_at ws at
+
+-- whether no more copies are waited for: there is no packet at a place, or a copy of it is known
+abbrev pub is_settled : List Pending → Option ℕ → Bool
+is_settled ws None = true
+is_settled ws (Some at) = is_met_at ws at
+
+-- what is noted of a frame and a side, whose newest copy waits at this place: the place, or nothing where it is settled
+abbrev pub IsNoted : ℕ → List Pending → Option ℕ → Option ℕ → Type 0
+IsNoted gone ws newest None = is_settled ws newest ≡ true
+IsNoted gone ws newest (Some place) = (noted_place gone newest ≡ Some place) × (is_settled ws newest ≡ false)
+
 abbrev pub HasPlaces : {S : Type 0} → ℕ → HashMap FrameAt ℕ S → List Pending → Type 0
-HasPlaces gone map ws = (key : FrameAt) → get at_eq map key ≡ noted_place gone (newest_copy key ws)
+HasPlaces gone map ws = (key : FrameAt) → IsNoted gone ws (newest_copy key ws) (get at_eq map key)
+
+-- the frame and side of a packet, where no copy of it is known
+abbrev pub unmet_at : Bool → Option FrameAt → Option FrameAt
+unmet_at true at = None
+unmet_at false at = at
 
 -- a place is noted at a frame and a side
 abbrev pub PutsPlace : {S : Type 0} → FrameAt → ℕ → HashMap FrameAt ℕ S → HashMap FrameAt ℕ S → Type 0
@@ -200,3 +220,7 @@ unless_place place (Some at) = if nat_eq at place then None else Some at
 abbrev pub ForgetsPlace : {S : Type 0} → FrameAt → ℕ → HashMap FrameAt ℕ S → HashMap FrameAt ℕ S → Type 0
 ForgetsPlace own place old new = (key : FrameAt) → get at_eq new key
     ≡ (if at_eq own key then unless_place place (get at_eq old key) else get at_eq old key)
+
+-- what is noted at a frame and a side is forgotten
+abbrev pub ForgetsFrame : {S : Type 0} → FrameAt → HashMap FrameAt ℕ S → HashMap FrameAt ℕ S → Type 0
+ForgetsFrame own old new = (key : FrameAt) → get at_eq new key ≡ (if at_eq own key then None else get at_eq old key)

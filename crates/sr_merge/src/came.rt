@@ -20,12 +20,12 @@ pub struct FrameId {
 /// Where and when a packet came in, and of which frame it is a copy.
 #[derive(Clone, Copy, Debug)]
 pub struct Came {
-    /// The side by which it came.
-    pub side: Side,
     /// When it came, in nanoseconds from the earliest packet on. No time goes back.
     pub time: u64,
     /// The frame that it is a copy of. None: it has no number.
     pub frame: Option<FrameId>,
+    /// The side by which it came.
+    pub side: Side,
 }
 
 /// What the copies of a frame have in common that come by one side.

@@ -26,14 +26,14 @@ pub enum Verdict {
 pub struct Waiting {
     /// Where and when it came in.
     pub came: Came,
-    /// A copy of it came by the other side.
-    pub is_met: bool,
     /// The number of the packet in its capture.
     pub number: u64,
-    /// Whether its trailer names the other LAN.
-    pub is_astray: bool,
     /// The octets that are written of it.
     pub octets: Vec<u8>,
+    /// A copy of it came by the other side.
+    pub is_met: bool,
+    /// Whether its trailer names the other LAN.
+    pub is_astray: bool,
 }
 
 impl Waiting {

@@ -14,7 +14,7 @@ const SECTION_HEADER: u32 = 0x0A0D_0D0A;
 
 const INTERFACE: u32 = 1;
 
-const ENHANCED: u32 = 6;
+const ENHANCED: u8 = 6;
 
 /// What tells the order of octets in a section header.
 const MAGIC: u32 = 0x1A2B_3C4D;
@@ -206,13 +206,15 @@ fn write_front<W: Write>(
     ensures { OnOk result (Appends (W.contents writer.old) (W.contents writer.new)
         (front_of size number time held len)) }
 {
-    write_word(writer, ENHANCED)?;
-    write_word(writer, size)?;
-    write_word(writer, number)?;
-    write_word(writer, (time / 0x1_0000_0000) as u32)?;
-    write_word(writer, (time % 0x1_0000_0000) as u32)?;
-    write_word(writer, held)?;
-    write_word(writer, len)
+    let [a, b, c, d] = size.to_le_bytes();
+    let [e, f, g, h] = number.to_le_bytes();
+    let [i, j, k, l] = ((time / 0x1_0000_0000) as u32).to_le_bytes();
+    let [m, n, o, p] = ((time % 0x1_0000_0000) as u32).to_le_bytes();
+    let [q, r, s, t] = held.to_le_bytes();
+    let [u, v, w, x] = len.to_le_bytes();
+    writer.write_all(&[
+        ENHANCED, 0, 0, 0, a, b, c, d, e, f, g, h, i, j, k, l, m, n, o, p, q, r, s, t, u, v, w, x,
+    ])
 }
 
 /// Writes the block of a packet, of this length, at the interface of this number.

@@ -3,7 +3,7 @@ use Rattle.std.specs.Prelude.{map}
 use Rattle.std.proofs.lemmas.List.{length-map}
 use Rattle.sr_merge.specs.declared.queue.Queue.TheInside.{Inside}
 use Rattle.sr_merge.specs.Merging.{pending_of, HasPlaces}
-use Rattle.sr_merge.proofs.PlaceLemmas.{places-pop, places-pop_none}
+use Rattle.sr_merge.proofs.PlaceLemmas.{places-pop, places-pop_quiet}
 use Rattle.sr_merge.proofs.queue.Queue.pop.Goals as goal
 use Rattle.sr_merge.proofs.queue.Queue.pop.Goals.{in-Some, in_default}
 
@@ -20,12 +20,12 @@ invariant_of-self-2 c =
     let m = length-map c.self.inside.waiting.items pending_of in
     let n : length (w' ∷ ws) ≡ length (map pending_of c.self.inside.waiting.items) = ap (λ l. length (map pending_of l)) (sym items) in
     let small : (c.self.inside.gone + 1) % 2 ^ 64 < 2 ^ 64 = omega arith in
-    elim c.match-at.branch [
+    elim c.match-unmet_at.branch [
       | in-Some w ↦ subst P (sym w.self-inside-is) (
         small,
         places-pop c.self.inside.gone c.self.inside.newest w.forget.new.newest w' ws w.in-Some.at c.self.invariant.0
-            (omega (arith, n, m, l, r)) (sym c.at.ensures ∙ w.in-Some.is) has w.forget.ensures,
+            (omega (arith, n, m, l, r)) (sym c.unmet_at.ensures ∙ w.in-Some.is) has w.forget.ensures,
       )
       | in_default w ↦ subst P (sym w.self-inside-is)
-          (small, places-pop_none c.self.inside.gone c.self.inside.newest w' ws (sym c.at.ensures ∙ w.in_default.is) has)
+          (small, places-pop_quiet c.self.inside.gone c.self.inside.newest w' ws (sym c.unmet_at.ensures ∙ w.in_default.is) has)
     ]

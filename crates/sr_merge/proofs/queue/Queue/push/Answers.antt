@@ -26,12 +26,12 @@ invariant_of-self-2 c =
       | in-Some+in_ok-put w ↦ subst P (sym w.self-inside-is) (
         c.self.invariant.0,
         subst (HasPlaces gone w.put.new.newest) (sym (behind (ap (λ q. q.waiting.items) w.self-inside-is)))
-            (places-push gone old w.put.new.newest ws own w.in-Some.at (none ∙ w.in-Some.is) has
+            (places-push gone old w.put.new.newest ws own w.in-Some.at c.requires (none ∙ w.in-Some.is) has
             (subst (λ n. PutsPlace w.in-Some.at ((gone + n) % 2 ^ 64) old w.put.new.newest) count w.in_ok-put.ensures.ok)),
       )
       | in_default w ↦ subst P (sym w.self-inside-is) (
         c.self.invariant.0,
         subst (HasPlaces gone old) (sym (behind (ap (λ q. q.waiting.items) w.self-inside-is)))
-            (places-push_none gone old ws own (none ∙ w.in_default.is) has),
+            (places-push_none gone old ws own c.requires (none ∙ w.in_default.is) has),
       )
     ]
