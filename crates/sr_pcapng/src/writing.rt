@@ -206,14 +206,17 @@ fn write_front<W: Write>(
     ensures { OnOk result (Appends (W.contents writer.old) (W.contents writer.new)
         (front_of size number time held len)) }
 {
-    let [a, b, c, d] = size.to_le_bytes();
-    let [e, f, g, h] = number.to_le_bytes();
-    let [i, j, k, l] = ((time / 0x1_0000_0000) as u32).to_le_bytes();
-    let [m, n, o, p] = ((time % 0x1_0000_0000) as u32).to_le_bytes();
-    let [q, r, s, t] = held.to_le_bytes();
-    let [u, v, w, x] = len.to_le_bytes();
+    let high = (time / 0x1_0000_0000) as u32;
+    let low = (time % 0x1_0000_0000) as u32;
+    let [s0, s1, s2, s3] = size.to_le_bytes();
+    let [n0, n1, n2, n3] = number.to_le_bytes();
+    let [h0, h1, h2, h3] = high.to_le_bytes();
+    let [l0, l1, l2, l3] = low.to_le_bytes();
+    let [held0, held1, held2, held3] = held.to_le_bytes();
+    let [len0, len1, len2, len3] = len.to_le_bytes();
     writer.write_all(&[
-        ENHANCED, 0, 0, 0, a, b, c, d, e, f, g, h, i, j, k, l, m, n, o, p, q, r, s, t, u, v, w, x,
+        ENHANCED, 0, 0, 0, s0, s1, s2, s3, n0, n1, n2, n3, h0, h1, h2, h3, l0, l1, l2, l3, held0,
+        held1, held2, held3, len0, len1, len2, len3,
     ])
 }
 
