@@ -234,7 +234,7 @@ pub(crate) fn answer<R: Role>(
     let command = command_of(role, line, octets)?;
     obey(alloc, role, node, number, command, octets, text)?;
     match report {
-        Report::Frames => append_outlets(role, node, frame, text),
+        Report::Frames => append_outlets(&role, node, frame, text),
         Report::Status => {
             drop_all_waiting(node);
             Ok(())
@@ -250,7 +250,7 @@ pub(crate) fn answer<R: Role>(
 // speed: D-session-unended, D-session-inlined
 #[inline(always)]
 pub(crate) fn answer_unended<R: Role>(
-    role: RoleKind,
+    role: &RoleKind,
     node: &mut NodeOf<R>,
     number: u64,
     front: &[u8],
@@ -258,19 +258,19 @@ pub(crate) fn answer_unended<R: Role>(
     frame: &mut Vec<u8>,
     text: &mut Text,
 ) -> Result<Option<usize>, FaultKind>
-    ensures ok { IfOk result (λ length. AnswersFront replay_dialogue (at_work role
-        (state_of R.meaning node.old)) number front.now length text.old text.new (at_work role
+    ensures ok { IfOk result (λ length. AnswersFront replay_dialogue (at_work role.now
+        (state_of R.meaning node.old)) number front.now length text.old text.new (at_work role.now
         (state_of R.meaning node.new))) }
     ensures kept { OnErr result (StillHolds text.old text.new) }
-    ensures known { OnErr result (KnowsFront replay_dialogue (at_work role
+    ensures known { OnErr result (KnowsFront replay_dialogue (at_work role.now
         (state_of R.meaning node.old)) front.now) }
     ensures err { IfErr result (λ kind. kind ≡ FaultKind.Memory) }
 {
-    let Some(arrival) = arrival_at(role, front, octets) else {
+    let Some(arrival) = arrival_at(*role, front, octets) else {
         return Ok(None);
     };
     obey_arrival(
-        role,
+        *role,
         node,
         number,
         arrival.port,

@@ -57,7 +57,7 @@ impl<P: Role> Session for NodeSession<P> {
         text: &mut Text,
     ) -> Result<Option<usize>, FaultKind> {
         answer_unended(
-            self.role,
+            &self.role,
             &mut self.node,
             number,
             front,

@@ -129,19 +129,20 @@ fn append_parcel(
 // speed: D-script-waits-first. Out of line, so that a port where nothing waits costs no call.
 #[inline(never)]
 fn append_first<R: Role>(
-    role: RoleKind,
+    role: &RoleKind,
     node: &mut NodeOf<R>,
     port: Port,
     frame: &mut Vec<u8>,
     text: &mut Text,
 ) -> Result<(), FaultKind>
-    ensures ok { OnOk result ((line : List ℕ) × FirstLeft role port (state_of R.meaning node.old)
-        line (state_of R.meaning node.new) × (text.new ≡ text.old ++ line)) }
+    ensures ok { OnOk result ((line : List ℕ) × FirstLeft role.now port
+        (state_of R.meaning node.old) line (state_of R.meaning node.new)
+        × (text.new ≡ text.old ++ line)) }
     ensures kept { OnErr result (StillHolds text.old text.new) }
     ensures err { IfErr result (λ kind. kind ≡ FaultKind.Memory) }
 {
     if let Some(parcel) = node.front(port) {
-        append_parcel(role, port, parcel, frame, text)?;
+        append_parcel(*role, port, parcel, frame, text)?;
         node.drop_first(port);
     }
     Ok(())
@@ -150,14 +151,15 @@ fn append_first<R: Role>(
 /// Takes all that waits at a port, one after the other, and appends a line for each frame. As a rule nothing waits, so the port is
 /// asked first.
 // speed: D-script-waits-first
+#[inline(always)]
 fn append_waiting<R: Role>(
-    role: RoleKind,
+    role: &RoleKind,
     node: &mut NodeOf<R>,
     port: Port,
     frame: &mut Vec<u8>,
     text: &mut Text,
 ) -> Result<(), FaultKind>
-    ensures ok { OnOk result ((lines : List ℕ) × Emptied role port (state_of R.meaning node.old)
+    ensures ok { OnOk result ((lines : List ℕ) × Emptied role.now port (state_of R.meaning node.old)
         lines (state_of R.meaning node.new) × (text.new ≡ text.old ++ lines)) }
     ensures kept { OnErr result (StillHolds text.old text.new) }
     ensures err { IfErr result (λ kind. kind ≡ FaultKind.Memory) }
@@ -172,13 +174,13 @@ fn append_waiting<R: Role>(
 // speed: D-session-inlined
 #[inline(always)]
 pub(crate) fn append_outlets<R: Role>(
-    role: RoleKind,
+    role: &RoleKind,
     node: &mut NodeOf<R>,
     frame: &mut Vec<u8>,
     text: &mut Text,
 ) -> Result<(), FaultKind>
-    ensures ok { OnOk result ((lines : List ℕ) × AllEmptied role (state_of R.meaning node.old) lines
-        (state_of R.meaning node.new) × (text.new ≡ text.old ++ lines)) }
+    ensures ok { OnOk result ((lines : List ℕ) × AllEmptied role.now (state_of R.meaning node.old)
+        lines (state_of R.meaning node.new) × (text.new ≡ text.old ++ lines)) }
     ensures kept { OnErr result (StillHolds text.old text.new) }
     ensures err { IfErr result (λ kind. kind ≡ FaultKind.Memory) }
 {
