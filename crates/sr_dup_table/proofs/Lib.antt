@@ -1,4 +1,5 @@
 pub mod SourceLemmas
+pub mod ArriveLemmas
 pub mod RunLemmas
 pub mod EntryLemmas
 pub mod SameLemmas

@@ -8,6 +8,7 @@ use Rattle.sr_frame.specs.declared.fields.Mac.{Mac}
 use Rattle.sr_frame.specs.Addresses.{mac_eq}
 use Rattle.sr_slots.specs.Calls.{passing}
 use Rattle.sr_slots.specs.EntryLemmas.{one_if, lookup-set, distinct-set, lookup-push, distinct-push, lookup-passing, distinct-passing, length-passing-set, length-passing-push}
+use Rattle.sr_aged_slots.specs.AgeLemmas.{through_cond, passing_before, live_again}
 use Rattle.sr_dup_window.specs.declared.lane_sets.Lanes.{Lanes}
 use Rattle.sr_dup_window.specs.Windows.{window_noted, fresh_lanes}
 use Rattle.sr_dup_table.specs.Sources.{Remembered, Sources, IsTable, is_live, live_at, with_room, begun_at, heard_next, answer_of, arrive_answer, after_of, after_arrive}
@@ -27,30 +28,6 @@ answer_by w None n seq lanes = cond (nat_lt n 1024) (Some lanes) None
 abbrev next_by : ℕ → Option Remembered → ℕ → Lanes → ℕ → Remembered
 next_by w (Some h) seq lanes now = record { seen = window_noted w h.seen seq lanes; time = max h.time now }
 next_by w None seq lanes now = begun_at w seq lanes now
-
--- what is live later was live before
-live_before : (now later : ℕ) (h : Remembered) → now ≤ later → is_live later h ≡ true → is_live now h ≡ true
-live_before now later h le live = let l : later - h.time < 400 = ltb-true (later - h.time) 400 live in lt-ltb (now - h.time) 400 (omega arith)
-
-passing_before : (now later : ℕ) (o : Option Remembered) → now ≤ later → passing (is_live later) (passing (is_live now) o) ≡ passing (is_live later) o
-passing_before now later None le = refl
-passing_before now later (Some h) le = by (is_live now h) refl (is_live later h) refl
-  where
-    by : (a : Bool) → is_live now h ≡ a → (b : Bool) → is_live later h ≡ b → passing (is_live later) (cond a (Some h) None) ≡ cond (is_live later h) (Some h) None
-    by true p b q = refl
-    by false p true q = let bad : true ≡ false = sym (live_before now later h le q) ∙ p in cc
-    by false p false q = sym (ap (λ c. cond c (Some h) None) q)
-
-live_again : (now later : ℕ) (s : Sources) → now ≤ later → live_at later (live_at now s) ≡ live_at later s
-live_again now later [] le = refl
-live_again now later (e ∷ s) le = by (is_live now e.1) refl (is_live later e.1) refl (live_again now later s le)
-  where
-    by : (a : Bool) → is_live now e.1 ≡ a → (b : Bool) → is_live later e.1 ≡ b → live_at later (live_at now s) ≡ live_at later s
-        → live_at later (cond a (e ∷ live_at now s) (live_at now s)) ≡ cond (is_live later e.1) (e ∷ live_at later s) (live_at later s)
-    by true p true q ih = λ j. cond (is_live later e.1) (e ∷ ih j) (ih j)
-    by true p false q ih = λ j. cond (is_live later e.1) (e ∷ ih j) (ih j)
-    by false p true q ih = let bad : true ≡ false = sym (live_before now later e.1 le q) ∙ p in cc
-    by false p false q ih = ih ∙ sym (ap (λ c. cond c (e ∷ live_at later s) (live_at later s)) q)
 
 -- a source with a forgotten record is one more than the live ones
 forgotten_more : (m : Mac) (now : ℕ) (h : Remembered) (s : Sources) → lookup (mac_eq m) s ≡ Some h → is_live now h ≡ false → length (live_at now s) < length s
@@ -99,10 +76,6 @@ module _ (w : ℕ) (s : Sources) (m : Mac) (seq : ℕ) (lanes : Lanes) (now : �
     pub live : (u : ℕ) → now ≤ u → (q : Mac) → live_record u new q ≡ cond (mac_eq m q) (passing (is_live u) (Some next)) (live_record u s q)
     pub count : (u : ℕ) → now ≤ u → length (live_at u new) + one_if (is_some (live_record u s m)) ≡ length (live_at u s) + one_if (is_live u next)
 
-  through_cond : (u : ℕ) (b : Bool) (x : Remembered) (o : Option Remembered) → passing (is_live u) (cond b (Some x) o) ≡ cond b (passing (is_live u) (Some x)) (passing (is_live u) o)
-  through_cond u true x o = refl
-  through_cond u false x o = refl
-
   is_some_passing : (u : ℕ) (h : Remembered) → is_some (passing (is_live u) (Some h)) ≡ is_live u h
   is_some_passing u h = by (is_live u h)
     where
@@ -113,7 +86,7 @@ module _ (w : ℕ) (s : Sources) (m : Mac) (seq : ℕ) (lanes : Lanes) (now : �
   leaves_again : (h v : Remembered) → lookup (mac_eq m) s ≡ Some h → Leaves v (set_value (mac_eq m) s v)
   leaves_again h v at = record {
     kept = record { unique = distinct-set m v s table.unique; few = omega (arith, length-set_value (mac_eq m) s v, table.few) };
-    live = λ u le q. ap (passing (is_live u)) (lookup-set m q v s (ap is_some at)) ∙ through_cond u (mac_eq m q) v (lookup (mac_eq q) s);
+    live = λ u le q. ap (passing (is_live u)) (lookup-set m q v s (ap is_some at)) ∙ through_cond (is_live u) (mac_eq m q) v (lookup (mac_eq q) s);
     count = λ u le.
         let is : one_if (is_some (live_record u s m)) ≡ one_if (is_live u h) = ap (λ o. one_if (is_some (passing (is_live u) o))) at ∙ ap one_if (is_some_passing u h) in
         omega (arith, is, length-passing-set (is_live u) m h v s at);
@@ -132,7 +105,7 @@ module _ (w : ℕ) (s : Sources) (m : Mac) (seq : ℕ) (lanes : Lanes) (now : �
     where
       by : (b : Bool) → live_record u (cond b s (live_at now s)) q ≡ live_record u s q
       by true = refl
-      by false = ap (passing (is_live u)) (lookup-passing (is_live now) q s table.unique) ∙ passing_before now u (lookup (mac_eq q) s) le
+      by false = ap (passing (is_live u)) (lookup-passing (is_live now) q s table.unique) ∙ passing_before (λ h. h.time) 400 now u le (lookup (mac_eq q) s)
 
   room_none : lookup (mac_eq m) s ≡ None → lookup (mac_eq m) (with_room now s) ≡ None
   room_none at = by (nat_lt (length s) 1024)
@@ -146,7 +119,7 @@ module _ (w : ℕ) (s : Sources) (m : Mac) (seq : ℕ) (lanes : Lanes) (now : �
     where
       by : (b : Bool) → live_at u (cond b s (live_at now s)) ≡ live_at u s
       by true = refl
-      by false = live_again now u s le
+      by false = live_again (λ h. h.time) 400 now u le s
 
   leaves_new : (v : Remembered) → lookup (mac_eq m) s ≡ None → nat_lt (length (with_room now s)) 1024 ≡ true → Leaves v (with_room now s ++ (m, v) ∷ [])
   leaves_new v at room =
@@ -155,7 +128,7 @@ module _ (w : ℕ) (s : Sources) (m : Mac) (seq : ℕ) (lanes : Lanes) (now : �
       record {
         kept = record { unique = distinct-push m v r room_table.unique (room_none at); few = omega (arith, length-append r ((m, v) ∷ [])) };
         live = λ u le q.
-            ap (passing (is_live u)) (lookup-push m q v r (room_none at)) ∙ through_cond u (mac_eq m q) v (lookup (mac_eq q) r)
+            ap (passing (is_live u)) (lookup-push m q v r (room_none at)) ∙ through_cond (is_live u) (mac_eq m q) v (lookup (mac_eq q) r)
             ∙ ap (λ o. cond (mac_eq m q) (passing (is_live u) (Some v)) o) (room_lookup q u le);
         count = λ u le.
             let is : one_if (is_some (live_record u s m)) ≡ 0 = ap (λ o. one_if (is_some (passing (is_live u) o))) at in
@@ -218,6 +191,6 @@ ageing_keeps_answers_lem w s now later table from =
     alike_answers w now (live_at now s) s later (record {
       one = record { unique = distinct-passing (is_live now) s table.unique; few = omega (arith, length-live_le now s, table.few) };
       other = table;
-      live = λ u le q. ap (passing (is_live u)) (lookup-passing (is_live now) q s table.unique) ∙ passing_before now u (lookup (mac_eq q) s) le;
-      count = λ u le. ap length (live_again now u s le);
+      live = λ u le q. ap (passing (is_live u)) (lookup-passing (is_live now) q s table.unique) ∙ passing_before (λ h. h.time) 400 now u le (lookup (mac_eq q) s);
+      count = λ u le. ap length (live_again (λ h. h.time) 400 now u le s);
     }) from

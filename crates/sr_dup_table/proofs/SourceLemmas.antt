@@ -11,6 +11,7 @@ use Rattle.sr_dup_window.specs.declared.record.Record.{Record}
 use Rattle.sr_aged_slots.specs.declared.aged.Aged.{Aged}
 use Rattle.sr_aged_slots.specs.Ages as ages
 use Rattle.sr_aged_slots.specs.AgeLemmas.{length-live_by_le}
+use Rattle.sr_aged_slots.specs.FullLemmas.{full_where as full_by}
 use Rattle.sr_dup_table.specs.Sources.{Remembered, Sources, is_live, live_at, live_others, with_room, fresh_at, answer_of, arrive_answer}
 use Rattle.sr_dup_table.specs.Shown.{heard_of, sources_of}
 
@@ -77,69 +78,10 @@ pub answer_room : (b : Bool) (lanes : Lanes) → false ≡ not b → Some lanes 
 answer_room true lanes h = refl
 answer_room false lanes h = cc
 
--- the live sources but one that has no record are all live ones, and otherwise not all sources
-others_none : (m : Mac) (now : ℕ) (s : Sources) → lookup (mac_eq m) s ≡ None → live_others m now s ≡ live_at now s
-others_none m now [] h = refl
-others_none m now (e ∷ s) h = by (mac_eq m e.0) h (is_live now e.1) (others_none m now s)
-  where
-    by : (t : Bool) → cond t (Some e.1) (lookup (mac_eq m) s) ≡ None → (b : Bool) → (lookup (mac_eq m) s ≡ None → live_others m now s ≡ live_at now s)
-        → cond (b && not t) (e ∷ live_others m now s) (live_others m now s) ≡ cond b (e ∷ live_at now s) (live_at now s)
-    by true h b ih = cc
-    by false h true ih = ap (λ l. e ∷ l) (ih h)
-    by false h false ih = ih h
-
-length-others_le : (m : Mac) (now : ℕ) (s : Sources) → length (live_others m now s) ≤ length s
-length-others_le m now [] = omega arith
-length-others_le m now (e ∷ s) = by (is_live now e.1 && not (mac_eq m e.0)) (length-others_le m now s)
-  where
-    by : (b : Bool) → length (live_others m now s) ≤ length s → length (cond b (e ∷ live_others m now s) (live_others m now s)) ≤ suc (length s)
-    by true h = omega arith
-    by false h = omega arith
-
-others_some : (m : Mac) (now : ℕ) (s : Sources) (h : Remembered) → lookup (mac_eq m) s ≡ Some h → length (live_others m now s) < length s
-others_some m now [] h there = cc
-others_some m now (e ∷ s) h there = by (mac_eq m e.0) there (is_live now e.1) (others_some m now s h)
-  where
-    by : (t : Bool) → cond t (Some e.1) (lookup (mac_eq m) s) ≡ Some h → (b : Bool) → (lookup (mac_eq m) s ≡ Some h → length (live_others m now s) < length s)
-        → length (cond (b && not t) (e ∷ live_others m now s) (live_others m now s)) < suc (length s)
-    by true there true ih = omega (arith, length-others_le m now s)
-    by true there false ih = omega (arith, length-others_le m now s)
-    by false there true ih = omega (arith, ih there)
-    by false there false ih = omega (arith, ih there)
-
--- a new source is answered nothing exactly where 1024 other sources are live
-room_where : (s l : Sources) (lanes : Lanes) → length s ≤ 1024 → length l ≤ length s
-    → ((cond (nat_lt (length (cond (nat_lt (length s) 1024) s l)) 1024) (Some lanes) None ≡ None) → length l ≡ 1024)
-    × (length l ≡ 1024 → cond (nat_lt (length (cond (nat_lt (length s) 1024) s l)) 1024) (Some lanes) None ≡ None)
-room_where s l lanes few le = by (nat_lt (length s) 1024) refl
-  where
-    full : (b : Bool) → cond b (Some lanes) None ≡ None → b ≡ false
-    full true h = cc
-    full false h = refl
-
-    by : (b : Bool) → nat_lt (length s) 1024 ≡ b
-        → ((cond (nat_lt (length (cond b s l)) 1024) (Some lanes) None ≡ None) → length l ≡ 1024)
-        × (length l ≡ 1024 → cond (nat_lt (length (cond b s l)) 1024) (Some lanes) None ≡ None)
-    by true t = (
-      λ h. let a : length s < 1024 = ltb-true (length s) 1024 t in let b : 1024 ≤ length s = ltb-false (length s) 1024 (full (nat_lt (length s) 1024) h) in absurd (omega arith),
-      λ h. let a : length s < 1024 = ltb-true (length s) 1024 t in absurd (omega arith),
-    )
-    by false t = (
-      λ h. let b : 1024 ≤ length l = ltb-false (length l) 1024 (full (nat_lt (length l) 1024) h) in omega arith,
-      λ h. ap (λ b. cond b (Some lanes) None) (le-ltb (length l) 1024 (omega arith)),
-    )
-
+-- a source is answered nothing exactly where 1024 other sources are live
 pub full_where : (w : ℕ) (s : Sources) (m : Mac) (seq : ℕ) (lanes : Lanes) (now : ℕ) → length s ≤ 1024
     → (arrive_answer w s m seq lanes now ≡ None → length (live_others m now s) ≡ 1024) × (length (live_others m now s) ≡ 1024 → arrive_answer w s m seq lanes now ≡ None)
-full_where w s m seq lanes now few = by (lookup (mac_eq m) s) refl
-  where
-    by : (o : Option Remembered) → lookup (mac_eq m) s ≡ o
-        → (answer_of w o s seq lanes now ≡ None → length (live_others m now s) ≡ 1024) × (length (live_others m now s) ≡ 1024 → answer_of w o s seq lanes now ≡ None)
-    by (Some h) there = (λ e. cc, λ e. absurd (omega (arith, others_some m now s h there)))
-    by None none =
-        let room = room_where s (live_at now s) lanes few (length-live_le now s) in
-        let same : length (live_others m now s) ≡ length (live_at now s) = ap length (others_none m now s none) in
-        (λ e. same ∙ room.0 e, λ e. room.1 (sym same ∙ e))
+full_where w s m seq lanes now few = full_by (λ h. h.time) 400 1024 m now s (λ o. answer_of w o s seq lanes now) (Some lanes) None (λ e. cc) (λ h e. cc) refl few
 
 -- the distinct sources of the entries
 pub keys-shown : {N : ℕ} (es : List (Mac × Aged (Record N))) → keys_of (sources_of es) ≡ keys_of es

@@ -1,6 +1,7 @@
 pub mod Limits
 pub mod Widths
 pub mod Sources
+pub mod Arrivals
 pub mod Shown
 pub mod ShownTables
 pub mod EqualityLemmas

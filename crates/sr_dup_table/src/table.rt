@@ -7,6 +7,7 @@ ghost use Rattle.sr_slots.specs.Places.{IsFound, KeepsHeld};
 ghost use Rattle.sr_dup_table.specs.Limits.{window, most_sources};
 ghost use Rattle.sr_dup_table.specs.Widths.{numbers_in};
 ghost use Rattle.sr_dup_table.specs.Sources.{IsTable, is_held, is_ready, live_at, live_others, arrive_fault, arrive_answer, after_arrive};
+ghost use Rattle.sr_dup_table.specs.Arrivals.{Arrives};
 ghost use Rattle.sr_dup_table.specs.ShownTables.{shown_parts};
 
 use crate::fault::{DupFault, TableFull};
@@ -236,28 +237,7 @@ impl DupTable {
     /// TableFull: 1024 other sources are live. NoMemory: memory ran out. Either way nothing changes.
     pub fn arrive(&mut self, src: Mac, seq: Seq, lanes: Lanes, now: u64) -> Result<Lanes, DupFault>
         requires { is_empty lanes ≡ false }
-        ensures answer { IfOk result (λ fresh.
-            arrive_answer self.old.width self.old.sources src seq.0 lanes now ≡ Some fresh) }
-        ensures after { OnOk result (self.new.sources
-            ≡ after_arrive self.old.width self.old.sources src seq.0 lanes now) }
-        ensures width { self.new.width ≡ self.old.width }
-
-        // TableFull exactly where 1024 other sources are live, and otherwise NoMemory alone.
-        ensures exact { IsErrOf result DupFault.TableFull
-            ↔ (length (live_others src now self.old.sources) ≡ most_sources) }
-        ensures refused { IfErr result (λ e. e
-            ≡ arrive_fault (arrive_answer self.old.width self.old.sources src seq.0 lanes now)) }
-        ensures full { IfErr result (λ e. e ≡ DupFault.TableFull
-            → arrive_answer self.old.width self.old.sources src seq.0 lanes now ≡ None) }
-        ensures only_full { arrive_answer self.old.width self.old.sources src seq.0 lanes now ≡ None
-            → IsErrOf result DupFault.TableFull }
-
-        // A place that was held is used up, and no other.
-        ensures reserved { is_held self.old.held src ≡ true
-            → IfErr result (λ e. e ≡ DupFault.TableFull) }
-        ensures held { OnOk result (KeepsHeld self.old.held self.new.held src) }
-        ensures used { OnOk result (is_held self.new.held src ≡ false) }
-        ensures err { OnErr result (self.new ≡ self.old) }
+        ensures { Arrives self.old src seq.0 lanes now result self.new }
     {
         self.arrive_at(None, src, seq, lanes, now)
     }
@@ -276,28 +256,7 @@ impl DupTable {
         now: u64,
     ) -> Result<Lanes, DupFault>
         requires { is_empty lanes ≡ false }
-        ensures answer { IfOk result (λ fresh.
-            arrive_answer self.old.width self.old.sources src seq.0 lanes now ≡ Some fresh) }
-        ensures after { OnOk result (self.new.sources
-            ≡ after_arrive self.old.width self.old.sources src seq.0 lanes now) }
-        ensures width { self.new.width ≡ self.old.width }
-
-        // TableFull exactly where 1024 other sources are live, and otherwise NoMemory alone.
-        ensures exact { IsErrOf result DupFault.TableFull
-            ↔ (length (live_others src now self.old.sources) ≡ most_sources) }
-        ensures refused { IfErr result (λ e. e
-            ≡ arrive_fault (arrive_answer self.old.width self.old.sources src seq.0 lanes now)) }
-        ensures full { IfErr result (λ e. e ≡ DupFault.TableFull
-            → arrive_answer self.old.width self.old.sources src seq.0 lanes now ≡ None) }
-        ensures only_full { arrive_answer self.old.width self.old.sources src seq.0 lanes now ≡ None
-            → IsErrOf result DupFault.TableFull }
-
-        // What is ready for it takes no memory. A place that was held is used up, and no other.
-        ensures ready { is_ready self.old.held self.old.sources src ≡ true
-            → IfErr result (λ e. e ≡ DupFault.TableFull) }
-        ensures held { OnOk result (KeepsHeld self.old.held self.new.held src) }
-        ensures used { OnOk result (is_held self.new.held src ≡ false) }
-        ensures err { OnErr result (self.new ≡ self.old) }
+        ensures { Arrives self.old src seq.0 lanes now result self.new }
     {
         match &mut self.tables {
             Tables::Narrow(table) => table.arrive_at(hint, src, seq, lanes, now),

@@ -11,6 +11,7 @@ ghost use Rattle.sr_dup_table.specs.Limits.{most_sources};
 ghost use Rattle.sr_dup_table.specs.Sources.{IsTable, is_held, is_ready, live_at, live_others, arrive_fault, with_room, arrive_answer, after_arrive, heard_next, fresh_at};
 ghost use Rattle.sr_dup_table.specs.Joins.{is_apart, joined_heard, with_source};
 ghost use Rattle.sr_dup_table.specs.Shown.{heard_of, sources_of};
+ghost use Rattle.sr_dup_table.specs.Arrivals.{Arrives, as_table};
 
 use crate::entry::{fresh, join, note};
 use crate::fault::{DupFault, TableFull};
@@ -214,27 +215,8 @@ impl<const N: usize> TableOf<N> {
     /// TableFull: 1024 other sources are live. NoMemory: memory ran out. Either way nothing changes.
     pub fn arrive(&mut self, src: Mac, seq: Seq, lanes: Lanes, now: u64) -> Result<Lanes, DupFault>
         requires { is_empty lanes ≡ false }
-        ensures answer { IfOk result (λ fresh.
-            arrive_answer (64 * N) self.old.sources src seq.0 lanes now ≡ Some fresh) }
-        ensures after { OnOk result (self.new.sources
-            ≡ after_arrive (64 * N) self.old.sources src seq.0 lanes now) }
-
-        // TableFull exactly where 1024 other sources are live, and otherwise NoMemory alone.
-        ensures exact { IsErrOf result DupFault.TableFull
-            ↔ (length (live_others src now self.old.sources) ≡ most_sources) }
-        ensures refused { IfErr result (λ e.
-            e ≡ arrive_fault (arrive_answer (64 * N) self.old.sources src seq.0 lanes now)) }
-        ensures full { IfErr result (λ e. e ≡ DupFault.TableFull
-            → arrive_answer (64 * N) self.old.sources src seq.0 lanes now ≡ None) }
-        ensures only_full { arrive_answer (64 * N) self.old.sources src seq.0 lanes now ≡ None
-            → IsErrOf result DupFault.TableFull }
-
-        // A place that was held is used up, and no other.
-        ensures reserved { is_held self.old.held src ≡ true
-            → IfErr result (λ e. e ≡ DupFault.TableFull) }
-        ensures held { OnOk result (KeepsHeld self.old.held self.new.held src) }
-        ensures used { OnOk result (is_held self.new.held src ≡ false) }
-        ensures err { OnErr result (self.new ≡ self.old) }
+        ensures { Arrives (as_table (64 * N) self.old) src seq.0 lanes now result
+            (as_table (64 * N) self.new) }
     {
         self.arrive_at(None, src, seq, lanes, now)
     }
@@ -253,27 +235,8 @@ impl<const N: usize> TableOf<N> {
         now: u64,
     ) -> Result<Lanes, DupFault>
         requires { is_empty lanes ≡ false }
-        ensures answer { IfOk result (λ fresh.
-            arrive_answer (64 * N) self.old.sources src seq.0 lanes now ≡ Some fresh) }
-        ensures after { OnOk result (self.new.sources
-            ≡ after_arrive (64 * N) self.old.sources src seq.0 lanes now) }
-
-        // TableFull exactly where 1024 other sources are live, and otherwise NoMemory alone.
-        ensures exact { IsErrOf result DupFault.TableFull
-            ↔ (length (live_others src now self.old.sources) ≡ most_sources) }
-        ensures refused { IfErr result (λ e.
-            e ≡ arrive_fault (arrive_answer (64 * N) self.old.sources src seq.0 lanes now)) }
-        ensures full { IfErr result (λ e. e ≡ DupFault.TableFull
-            → arrive_answer (64 * N) self.old.sources src seq.0 lanes now ≡ None) }
-        ensures only_full { arrive_answer (64 * N) self.old.sources src seq.0 lanes now ≡ None
-            → IsErrOf result DupFault.TableFull }
-
-        // What is ready for it takes no memory. A place that was held is used up, and no other.
-        ensures ready { is_ready self.old.held self.old.sources src ≡ true
-            → IfErr result (λ e. e ≡ DupFault.TableFull) }
-        ensures held { OnOk result (KeepsHeld self.old.held self.new.held src) }
-        ensures used { OnOk result (is_held self.new.held src ≡ false) }
-        ensures err { OnErr result (self.new ≡ self.old) }
+        ensures { Arrives (as_table (64 * N) self.old) src seq.0 lanes now result
+            (as_table (64 * N) self.new) }
     {
         match self.note(hint, src, seq, lanes, now) {
             Some(fresh) => Ok(fresh),
@@ -320,21 +283,9 @@ impl<const N: usize> TableOf<N> {
     fn begin(&mut self, src: Mac, seq: Seq, lanes: Lanes, now: u64) -> Result<Lanes, DupFault>
         requires some { is_empty lanes ≡ false }
         requires absent { lookup (mac_eq src) self.old.sources ≡ None }
-        ensures answer { IfOk result (λ fresh.
-            arrive_answer (64 * N) self.old.sources src seq.0 lanes now ≡ Some fresh) }
-        ensures after { OnOk result (self.new.sources
-            ≡ after_arrive (64 * N) self.old.sources src seq.0 lanes now) }
-        ensures refused { IfErr result (λ e.
-            e ≡ arrive_fault (arrive_answer (64 * N) self.old.sources src seq.0 lanes now)) }
-        ensures full { IfErr result (λ e. e ≡ DupFault.TableFull
-            → arrive_answer (64 * N) self.old.sources src seq.0 lanes now ≡ None) }
-        ensures only_full { arrive_answer (64 * N) self.old.sources src seq.0 lanes now ≡ None
-            → IsErrOf result DupFault.TableFull }
-        ensures reserved { is_held self.old.held src ≡ true
-            → IfErr result (λ e. e ≡ DupFault.TableFull) }
-        ensures held { OnOk result (KeepsHeld self.old.held self.new.held src) }
-        ensures used { OnOk result (is_held self.new.held src ≡ false) }
-        ensures err { OnErr result (self.new ≡ self.old) }
+        requires few { length self.old.sources ≤ most_sources }
+        ensures { Arrives (as_table (64 * N) self.old) src seq.0 lanes now result
+            (as_table (64 * N) self.new) }
     {
         if self.is_full_now(now) {
             return Err(DupFault::TableFull);

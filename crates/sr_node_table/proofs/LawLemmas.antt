@@ -13,27 +13,11 @@ use Rattle.sr_frame.specs.AddressLemmas.{mac_same}
 use Rattle.sr_slots.specs.Calls.{passing}
 use Rattle.sr_slots.specs.EntryLemmas.{lookup-set, distinct-set, lookup-push, distinct-push, lookup-passing, distinct-passing}
 use Rattle.sr_aged_slots.specs.Ages.{is_recent}
+use Rattle.sr_aged_slots.specs.AgeLemmas.{through_cond, passing_before}
 use Rattle.sr_node_table.specs.Nodes.{Hearing, Entry, Table, is_live, live_at, with_room, node_after, entry_begun, entry_after, answer_to, kept_by, after_answer, after_hearing}
 use Rattle.sr_node_table.specs.Watching.{after_prune}
 use Rattle.sr_node_table.specs.Stating.{live_entry, status_if, status_of}
 use Rattle.sr_node_table.specs.Hearings.{is_heard, life_of, node_in, Event, Hears, Prunes, table_after, is_kept, hearings_of, AreUpTo, StatusIsOfHearings, HasIsOfHearings}
-
--- what is live later was live before
-live_before : (now later : ℕ) (e : Entry) → now ≤ later → is_live later e ≡ true → is_live now e ≡ true
-live_before now later e le live = let l : later - e.time < 60000 = ltb-true (later - e.time) 60000 live in lt-ltb (now - e.time) 60000 (omega arith)
-
-passing_before : (now later : ℕ) (o : Option Entry) → now ≤ later → passing (is_live later) (passing (is_live now) o) ≡ passing (is_live later) o
-passing_before now later None le = refl
-passing_before now later (Some e) le = by (is_live now e) refl (is_live later e) refl
-  where
-    by : (a : Bool) → is_live now e ≡ a → (b : Bool) → is_live later e ≡ b → passing (is_live later) (cond a (Some e) None) ≡ cond (is_live later e) (Some e) None
-    by true p b q = refl
-    by false p true q = let bad : true ≡ false = sym (live_before now later e le q) ∙ p in cc
-    by false p false q = sym (ap (λ c. cond c (Some e) None) q)
-
-through_cond : (u : ℕ) (b : Bool) (x : Entry) (o : Option Entry) → passing (is_live u) (cond b (Some x) o) ≡ cond b (passing (is_live u) (Some x)) (passing (is_live u) o)
-through_cond u true x o = refl
-through_cond u false x o = refl
 
 -- the entry after a hearing, by the live entry before it
 abbrev next_by : Option Entry → Hearing → Entry
@@ -56,7 +40,7 @@ module _ (t : Table) (unique : IsDistinct mac_eq (keys_of t.entries)) where
   prune_unique now = distinct-passing (is_live now) t.entries unique
 
   prune_live : (now u : ℕ) (q : Mac) → now ≤ u → live_entry (after_prune t now) q u ≡ live u q
-  prune_live now u q le = ap (passing (is_live u)) (lookup-passing (is_live now) q t.entries unique) ∙ passing_before now u (lookup (mac_eq q) t.entries) le
+  prune_live now u q le = ap (passing (is_live u)) (lookup-passing (is_live now) q t.entries unique) ∙ passing_before (λ e. e.time) 60000 now u le (lookup (mac_eq q) t.entries)
 
   module _ (h : Hearing) where
     -- what stays where a new node comes
@@ -93,14 +77,14 @@ module _ (t : Table) (unique : IsDistinct mac_eq (keys_of t.entries)) where
         record {
           apart = distinct-push h.mac w r room_unique (room_none at);
           live = λ u le q.
-              ap (passing (is_live u)) (lookup-push h.mac q w r (room_none at)) ∙ through_cond u (mac_eq h.mac q) w (lookup (mac_eq q) r)
+              ap (passing (is_live u)) (lookup-push h.mac q w r (room_none at)) ∙ through_cond (is_live u) (mac_eq h.mac q) w (lookup (mac_eq q) r)
               ∙ ap (λ o. cond (mac_eq h.mac q) (passing (is_live u) (Some w)) o) (room_live q u le);
         }
     leaves_at (Some e) at =
         let w = entry_after e h.port h.told h.time in
         subst (λ x. Leaves x (kept_by (Some e) t h)) (next_at e h) (record {
           apart = distinct-set h.mac w t.entries unique;
-          live = λ u le q. ap (passing (is_live u)) (lookup-set h.mac q w t.entries (ap is_some at)) ∙ through_cond u (mac_eq h.mac q) w (lookup (mac_eq q) t.entries);
+          live = λ u le q. ap (passing (is_live u)) (lookup-set h.mac q w t.entries (ap is_some at)) ∙ through_cond (is_live u) (mac_eq h.mac q) w (lookup (mac_eq q) t.entries);
         })
 
     leaves : Leaves (next_by (live h.time h.mac) h) (kept_by (lookup (mac_eq h.mac) t.entries) t h)

@@ -1,5 +1,6 @@
 pub mod Limits
 pub mod Nodes
+pub mod Observing
 pub mod Watching
 pub mod Stating
 pub mod Late

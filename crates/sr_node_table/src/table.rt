@@ -7,6 +7,7 @@ ghost use Rattle.sr_frame.specs.Addresses.{mac_eq};
 ghost use Rattle.sr_slots.specs.Places.{KeepsHeld, KeepsHeldBut};
 ghost use Rattle.sr_node_table.specs.Limits.{most_nodes};
 ghost use Rattle.sr_node_table.specs.Nodes.{hearing_of, entry_after, learnt_again, live_others, downs_of, raised, is_held, answer_to, after_hearing, announcement, empty_table};
+ghost use Rattle.sr_node_table.specs.Observing.{ObservesNode};
 ghost use Rattle.sr_node_table.specs.Watching.{after_prune};
 ghost use Rattle.sr_node_table.specs.Stating.{live_entry, has_at, status_at, listed_at, live_mac};
 
@@ -275,23 +276,8 @@ impl NodeTable {
         now: u64,
     ) -> Result<LearnOutcome, NoMemory>
         requires ring { (port ≡ Port.A) ⊎ (port ≡ Port.B) }
-        ensures answer { IfOk result (λ learnt.
-            learnt ≡ answer_to self.old.table (hearing_of mac port (Told.Numbered seq) now)) }
-        ensures after { OnOk result (self.new.table
-            ≡ after_hearing self.old.table (hearing_of mac port (Told.Numbered seq) now)) }
-
-        // Full exactly where 1024 others are live. An address that has an entry, or a held place, takes no memory.
-        ensures full { (result ≡ Ok LearnOutcome.Full)
-            ↔ (length (live_others mac now self.old.table.entries) ≡ most_nodes) }
-        ensures known { is_some (lookup (mac_eq mac) self.old.table.entries) ≡ true → IsOk result }
-        ensures reserved { is_held self.old mac ≡ true → IsOk result }
-
-        // A held place is used up, and no other.
-        ensures held { OnOk result (KeepsHeld self.old.held self.new.held mac) }
-        ensures used { IfOk result (λ learnt.
-            ¬ (learnt ≡ LearnOutcome.Full) → is_held self.new mac ≡ false) }
-        ensures nothing { result ≡ Ok LearnOutcome.Full → self.new ≡ self.old }
-        ensures err { OnErr result (self.new ≡ self.old) }
+        ensures { ObservesNode self.old (hearing_of mac port (Told.Numbered seq) now) result
+            self.new }
     {
         self.heard_at(None, mac, port, seq, now)
     }
@@ -309,23 +295,8 @@ impl NodeTable {
         now: u64,
     ) -> Result<LearnOutcome, NoMemory>
         requires ring { (port ≡ Port.A) ⊎ (port ≡ Port.B) }
-        ensures answer { IfOk result (λ learnt.
-            learnt ≡ answer_to self.old.table (hearing_of mac port (Told.Numbered seq) now)) }
-        ensures after { OnOk result (self.new.table
-            ≡ after_hearing self.old.table (hearing_of mac port (Told.Numbered seq) now)) }
-
-        // Full exactly where 1024 others are live. An address that has an entry, or a held place, takes no memory.
-        ensures full { (result ≡ Ok LearnOutcome.Full)
-            ↔ (length (live_others mac now self.old.table.entries) ≡ most_nodes) }
-        ensures known { is_some (lookup (mac_eq mac) self.old.table.entries) ≡ true → IsOk result }
-        ensures reserved { is_held self.old mac ≡ true → IsOk result }
-
-        // A held place is used up, and no other.
-        ensures held { OnOk result (KeepsHeld self.old.held self.new.held mac) }
-        ensures used { IfOk result (λ learnt.
-            ¬ (learnt ≡ LearnOutcome.Full) → is_held self.new mac ≡ false) }
-        ensures nothing { result ≡ Ok LearnOutcome.Full → self.new ≡ self.old }
-        ensures err { OnErr result (self.new ≡ self.old) }
+        ensures { ObservesNode self.old (hearing_of mac port (Told.Numbered seq) now) result
+            self.new }
     {
         self.observe(hint, mac, port, Told::Numbered(seq), now)
     }
@@ -339,24 +310,7 @@ impl NodeTable {
         now: u64,
     ) -> Result<LearnOutcome, NoMemory>
         requires ring { (port ≡ Port.A) ⊎ (port ≡ Port.B) }
-        ensures answer { IfOk result (λ learnt.
-            learnt ≡ answer_to self.old.table (announcement supervision.now port now)) }
-        ensures after { OnOk result (self.new.table
-            ≡ after_hearing self.old.table (announcement supervision.now port now)) }
-
-        // Full exactly where 1024 others are live. An address that has an entry, or a held place, takes no memory.
-        ensures full { (result ≡ Ok LearnOutcome.Full)
-            ↔ (length (live_others supervision.now.mac now self.old.table.entries) ≡ most_nodes) }
-        ensures known { is_some (lookup (mac_eq supervision.now.mac) self.old.table.entries) ≡ true
-            → IsOk result }
-        ensures reserved { is_held self.old supervision.now.mac ≡ true → IsOk result }
-
-        // A held place is used up, and no other.
-        ensures held { OnOk result (KeepsHeld self.old.held self.new.held supervision.now.mac) }
-        ensures used { IfOk result (λ learnt.
-            ¬ (learnt ≡ LearnOutcome.Full) → is_held self.new supervision.now.mac ≡ false) }
-        ensures nothing { result ≡ Ok LearnOutcome.Full → self.new ≡ self.old }
-        ensures err { OnErr result (self.new ≡ self.old) }
+        ensures { ObservesNode self.old (announcement supervision.now port now) result self.new }
     {
         self.announce_at(None, supervision, port, now)
     }
@@ -371,24 +325,7 @@ impl NodeTable {
         now: u64,
     ) -> Result<LearnOutcome, NoMemory>
         requires ring { (port ≡ Port.A) ⊎ (port ≡ Port.B) }
-        ensures answer { IfOk result (λ learnt.
-            learnt ≡ answer_to self.old.table (announcement supervision.now port now)) }
-        ensures after { OnOk result (self.new.table
-            ≡ after_hearing self.old.table (announcement supervision.now port now)) }
-
-        // Full exactly where 1024 others are live. An address that has an entry, or a held place, takes no memory.
-        ensures full { (result ≡ Ok LearnOutcome.Full)
-            ↔ (length (live_others supervision.now.mac now self.old.table.entries) ≡ most_nodes) }
-        ensures known { is_some (lookup (mac_eq supervision.now.mac) self.old.table.entries) ≡ true
-            → IsOk result }
-        ensures reserved { is_held self.old supervision.now.mac ≡ true → IsOk result }
-
-        // A held place is used up, and no other.
-        ensures held { OnOk result (KeepsHeld self.old.held self.new.held supervision.now.mac) }
-        ensures used { IfOk result (λ learnt.
-            ¬ (learnt ≡ LearnOutcome.Full) → is_held self.new supervision.now.mac ≡ false) }
-        ensures nothing { result ≡ Ok LearnOutcome.Full → self.new ≡ self.old }
-        ensures err { OnErr result (self.new ≡ self.old) }
+        ensures { ObservesNode self.old (announcement supervision.now port now) result self.new }
     {
         let announced = Announced {
             life: supervision.life,
@@ -406,19 +343,7 @@ impl NodeTable {
         told: Told,
         now: u64,
     ) -> Result<LearnOutcome, NoMemory>
-        ensures answer { IfOk result (λ learnt.
-            learnt ≡ answer_to self.old.table (hearing_of mac port told now)) }
-        ensures after { OnOk result (self.new.table
-            ≡ after_hearing self.old.table (hearing_of mac port told now)) }
-        ensures full { (result ≡ Ok LearnOutcome.Full)
-            ↔ (length (live_others mac now self.old.table.entries) ≡ most_nodes) }
-        ensures known { is_some (lookup (mac_eq mac) self.old.table.entries) ≡ true → IsOk result }
-        ensures reserved { is_held self.old mac ≡ true → IsOk result }
-        ensures held { OnOk result (KeepsHeld self.old.held self.new.held mac) }
-        ensures used { IfOk result (λ learnt.
-            ¬ (learnt ≡ LearnOutcome.Full) → is_held self.new mac ≡ false) }
-        ensures nothing { result ≡ Ok LearnOutcome.Full → self.new ≡ self.old }
-        ensures err { OnErr result (self.new ≡ self.old) }
+        ensures { ObservesNode self.old (hearing_of mac port told now) result self.new }
     {
         match self.observe_again(hint, mac, port, told, now) {
             Some(answer) => Ok(answer),

@@ -8,7 +8,7 @@ use Rattle.sr_frame.specs.declared.fields.Mac.{Mac}
 use Rattle.sr_frame.specs.declared.learn_outcome.LearnOutcome.{LearnOutcome}
 use Rattle.sr_frame.specs.declared.learn_outcome.LearnOutcome.TheVariants.{New, Known, Full}
 use Rattle.sr_frame.specs.Addresses.{mac_eq}
-use Rattle.sr_aged_slots.specs.FullLemmas.{full_where, kept_again}
+use Rattle.sr_aged_slots.specs.FullLemmas.{full_where, kept_again, new_is_kept}
 use Rattle.sr_node_table.specs.Nodes.{Hearing, Table, is_live, live_others, answer_of, answer_to, kept_by, after_answer}
 use Rattle.sr_node_table.specs.Hearings.{is_kept}
 use Rattle.sr_node_table_runs.specs.Kept.{is_live_by, addresses, others_live, finds_room}
@@ -94,7 +94,9 @@ module _ (hs : List Hearing) (removal : ℕ) (ks : List Mac) (distinct : IsDisti
   others_are = ap (λ es. length (live_others h.mac h.time es)) entries ∙ count_live_others hs removal ks distinct have h.mac h.time le order all
 
   both : (answer_to t h ≡ Full → length (live_others h.mac h.time t.entries) ≡ 1024) × (length (live_others h.mac h.time t.entries) ≡ 1024 → answer_to t h ≡ Full)
-  both = full_where 60000 1024 h.mac h.time t.entries (λ o. answer_of o t.entries h.time) (λ e. kept_again (is_live h.time e)) refl entries_few
+  both =
+      full_where (λ e. e.time) 60000 1024 h.mac h.time t.entries (λ o. answer_of o t.entries h.time) New Full new_is_kept
+      (λ e. kept_again (is_live h.time e)) refl entries_few
 
   pub full_is : answer_to t h ≡ Full → others ≡ 1024
   full_is e = sym others_are ∙ both.0 e

@@ -28,7 +28,6 @@ use Rattle.sr_frame.specs.declared.learn_outcome.LearnOutcome.TheVariants.{New, 
 use Rattle.sr_slots.specs.Calls.{passing}
 use Rattle.sr_aged_slots.specs.Ages as ages
 use Rattle.sr_aged_slots.specs.declared.aged.Aged.{Aged}
-use Rattle.sr_proxy_table.specs.declared.table.Proxied.{Proxied}
 
 -- how long an address is remembered, in milliseconds, and how many are kept: choices of this project
 abbrev pub forget_time : ℕ
@@ -39,7 +38,7 @@ most_proxied = 256
 
 -- the addresses in the order of their first learning, each with the time of its last
 abbrev pub Entry : Type 0
-Entry = Aged Proxied
+Entry = Aged (Unit {0})
 
 abbrev pub Entries : Type 0
 Entries = List (Mac × Entry)

@@ -17,16 +17,12 @@ pub const PROXY_FORGET_TIME: u64 = 60000;
 /// How many addresses are kept (choice of this project).
 pub const MAX_PROXIED: usize = 256;
 
-/// That an address was learned: the table has nothing of it but the time.
-#[derive(Clone, Copy, Debug, PartialEq, Eq)]
-pub struct Proxied;
-
 /// The addresses that a RedBox stands for, in the order of their first learning. Times are in milliseconds. An address that was not
 /// learned for `PROXY_FORGET_TIME` is forgotten: it counts as absent, and stands in the table until it is learned again, until
 /// `prune`, or until a new address meets a full table.
 #[derive(Drop)]
 pub struct ProxyTable {
-    slots: AgedSlots<Proxied, PROXY_FORGET_TIME, MAX_PROXIED>,
+    slots: AgedSlots<(), PROXY_FORGET_TIME, MAX_PROXIED>,
     alloc: Global,
 }
 
@@ -34,9 +30,8 @@ impl Model for ProxyTable {
     ghost use Rattle.std.specs.Prelude.{◌≡◌, [], List};
     ghost use Rattle.sr_frame.specs.declared.fields.Mac.{Mac as Address};
     ghost use Rattle.sr_aged_slots.specs.declared.aged.Aged.{Aged as Timed};
-    ghost use Rattle.sr_proxy_table.specs.declared.table.Proxied.{Proxied as Entry};
 
-    ghost Value = { List (Address × Timed Entry) };
+    ghost Value = { List (Address × Timed (Unit {0})) };
 
     ghost view = { λ t. t.slots.entries };
 
@@ -45,7 +40,7 @@ impl Model for ProxyTable {
 }
 
 // Adds the address of an entry that is not forgotten.
-fn push_live(macs: &mut Vec<Mac>, mac: Mac, entry: &Aged<Proxied>, now: u64) -> Result<(), NoMemory>
+fn push_live(macs: &mut Vec<Mac>, mac: Mac, entry: &Aged<()>, now: u64) -> Result<(), NoMemory>
     ensures { OnOk result (macs.new.items ≡ macs.old.items
         ++ cons_option (live_mac now (mac, entry.now)) []) }
 {
@@ -58,14 +53,14 @@ fn push_live(macs: &mut Vec<Mac>, mac: Mac, entry: &Aged<Proxied>, now: u64) -> 
 }
 
 // Whether an address is not forgotten.
-fn is_live(entry: &Aged<Proxied>, now: u64) -> bool
+fn is_live(entry: &Aged<()>, now: u64) -> bool
     ensures { result ≡ is_live now entry.now }
 {
     entry.is_live(PROXY_FORGET_TIME, now)
 }
 
 // Learns an address again, and answers whether it was known.
-fn learn_again(entry: &mut Aged<Proxied>, now: u64) -> LearnOutcome
+fn learn_again(entry: &mut Aged<()>, now: u64) -> LearnOutcome
     ensures after { entry.new ≡ learned_again entry.old now }
     ensures answer { result ≡ learnt_again now entry.old }
 {
@@ -136,7 +131,7 @@ impl ProxyTable {
         let answer = self.slots.update_at(
             None,
             mac,
-            |entry: &mut Aged<Proxied>| -> LearnOutcome
+            |entry: &mut Aged<()>| -> LearnOutcome
                 ensures after { entry.new ≡ learned_again entry.old now }
                 ensures answer { result ≡ learnt_again now entry.old }
             { learn_again(entry, now) },
@@ -156,7 +151,7 @@ impl ProxyTable {
         if self.slots.is_full_now(now) {
             return Ok(LearnOutcome::Full);
         }
-        self.slots.append(mac, Proxied, now)?;
+        self.slots.append(mac, (), now)?;
         Ok(LearnOutcome::New)
     }
 

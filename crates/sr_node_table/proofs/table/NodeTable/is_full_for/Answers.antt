@@ -6,7 +6,7 @@ use Rattle.sr_frame.specs.Addresses.{mac_eq}
 use Rattle.sr_frame.specs.declared.fields.Mac.{Mac}
 use Rattle.sr_frame.specs.declared.learn_outcome.LearnOutcome.TheVariants.{New, Full}
 use Rattle.sr_node_table.specs.Nodes.{Entry, Entries, is_live, live_others, answer_of, with_room}
-use Rattle.sr_aged_slots.specs.FullLemmas.{kept_again, full_where}
+use Rattle.sr_aged_slots.specs.FullLemmas.{kept_again, new_is_kept, full_where}
 use Rattle.sr_node_table.specs.Limits.{forget_time, most_nodes}
 use Rattle.sr_node_table.proofs.table.NodeTable.is_full_for.Goals.{then-is_full_now, else-is_full_now}
 use Rattle.sr_node_table.proofs.table.NodeTable.is_full_for.Goals as goal
@@ -30,7 +30,7 @@ no_room : (mac : Mac) (now : ℕ) (es : Entries) → length es ≤ most_nodes �
     → (result : Bool) → result ≡ (if full then not (is_some (lookup (mac_eq mac) es)) else false)
     → (result ≡ true → length (live_others mac now es) ≡ most_nodes) × (length (live_others mac now es) ≡ most_nodes → result ≡ true)
 no_room mac now es few full is result told =
-    let exactly = full_where forget_time most_nodes mac now es (λ o. answer_of o es now) (λ e. kept_again (is_live now e)) refl few in
+    let exactly = full_where (λ e. e.time) forget_time most_nodes mac now es (λ o. answer_of o es now) New Full new_is_kept (λ e. kept_again (is_live now e)) refl few in
     let same = by (lookup (mac_eq mac) es) (nat_lt (length (with_room now es)) most_nodes) refl full is told in
     (λ e. exactly.0 (same.0 e), λ e. same.1 (exactly.1 e))
   where
