@@ -15,6 +15,7 @@ pub(crate) type Row = [u64; 6];
 const HIGHEST: u64 = 1 << 63;
 
 /// Whether two words have a bit, as bits 0 and 1.
+// speed: D-record-pairs
 #[inline(always)]
 fn bits_of(first: u64, second: u64, bit: u32) -> u8
     requires { bit < 64 }
@@ -27,6 +28,7 @@ fn bits_of(first: u64, second: u64, bit: u32) -> u8
 }
 
 /// Two words with a bit set in each whose lane is in a set.
+// speed: D-record-pairs
 #[inline(always)]
 fn with_bit(first: u64, second: u64, bit: u32, set: Lanes, lane: Lanes, next: Lanes) -> [u64; 2]
     requires { bit < 64 }
@@ -75,6 +77,7 @@ fn all_but(low: u32, count: u32) -> u64
 }
 
 /// The lanes on which a row has a bit.
+// speed: D-record-pairs
 #[inline(always)]
 pub(crate) fn lanes_in(row: &Row, bit: u32) -> Lanes
     requires { bit < 64 }
@@ -87,6 +90,7 @@ pub(crate) fn lanes_in(row: &Row, bit: u32) -> Lanes
 }
 
 /// Sets a bit on some lanes.
+// speed: D-record-pairs
 #[inline(always)]
 pub(crate) fn mark_in(row: &mut Row, bit: u32, lanes: Lanes)
     requires { bit < 64 }
@@ -102,6 +106,7 @@ pub(crate) fn mark_in(row: &mut Row, bit: u32, lanes: Lanes)
 }
 
 /// Clears the bits that a mask lacks.
+// speed: D-record-pairs
 #[inline(always)]
 fn keep_in(row: &mut Row, mask: u64)
     ensures whole { IsRow row.new }
@@ -120,6 +125,7 @@ fn keep_in(row: &mut Row, mask: u64)
 }
 
 /// Has a bit on just some lanes.
+// speed: D-record-pairs
 #[inline(always)]
 pub(crate) fn put_in(row: &mut Row, bit: u32, lanes: Lanes)
     requires { bit < 64 }

@@ -20,6 +20,7 @@ pub struct HsrFraming {
 }
 
 // A frame with a tag, read in place.
+// speed: D-node-inlined
 #[inline(always)]
 fn read_tagged<'a>(octets: &'a [u8], frame: &FrameView<'a>) -> Result<ParcelView<'a>, ReadFault>
     requires { IsFrame octets.now (fields_of frame.now) }
@@ -68,6 +69,7 @@ impl Framing for HsrFraming {
 
     ghost meaning = { λ f. Tagged f.path };
 
+    // speed: D-node-inlined
     #[inline(always)]
     fn read<'a>(&self, octets: &'a [u8]) -> Result<ParcelView<'a>, ReadFault> {
         let frame = whole_frame(octets, MAX_FRAME_LEN)?;

@@ -83,6 +83,7 @@ impl RoleKind {
     }
 
     // The framing of the port of this side, A or B.
+    // speed: D-framing-table
     #[inline(always)]
     fn side_framing(self, side: Lan) -> PortFraming
         ensures { carried_as result ≡ side_framing self side }
@@ -98,6 +99,7 @@ impl RoleKind {
     }
 
     // The framing of the interlink, and where there is none that of ordinary frames.
+    // speed: D-framing-table
     #[inline(always)]
     fn interlink_framing(self) -> PortFraming
         ensures { carried_as result ≡ unwrap_or (interlink_framing self) Ordinary }
@@ -114,6 +116,7 @@ impl RoleKind {
 }
 
 // The path of a frame of a ring's node that goes out at this side.
+// speed: D-framing-table
 #[inline(always)]
 fn path_at(side: Lan) -> u8
     ensures path { result ≡ lane_of side }
@@ -127,6 +130,7 @@ fn path_at(side: Lan) -> u8
 
 /// The framing of a port of a node of this kind. Where the node has no such port nothing comes in and nothing goes out; it
 /// then counts as one of ordinary frames.
+// speed: D-framing-table
 #[inline(always)]
 pub fn framing_at(kind: RoleKind, port: Port) -> PortFraming
     ensures { carried_as result ≡ carriage kind port }

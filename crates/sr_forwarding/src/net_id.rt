@@ -58,6 +58,7 @@ impl NetId {
     }
 
     /// Its number.
+    // speed: D-framing-table
     #[inline(always)]
     pub fn number(self) -> u8
         ensures number { result ≡ number_of self }

@@ -33,6 +33,7 @@ impl Framing for PlainFraming {
 
     ghost meaning = { λ _. Ordinary };
 
+    // speed: D-node-inlined
     #[inline(always)]
     fn read<'a>(&self, octets: &'a [u8]) -> Result<ParcelView<'a>, ReadFault> {
         let _ = whole_frame(octets, MAX_PLAIN_LEN)?;

@@ -18,6 +18,7 @@ impl Framing for PortFraming {
 
     ghost meaning = { carried_as };
 
+    // speed: D-node-inlined
     #[inline(always)]
     fn read<'a>(&self, octets: &'a [u8]) -> Result<ParcelView<'a>, ReadFault> {
         match self {
@@ -27,6 +28,7 @@ impl Framing for PortFraming {
         }
     }
 
+    // speed: D-node-inlined
     #[inline(always)]
     fn write(&self, out: &mut Vec<u8>, parcel: &ParcelView<'_>) -> Result<(), ReadFault> {
         match self {

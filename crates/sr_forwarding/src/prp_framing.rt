@@ -42,6 +42,7 @@ fn is_same(one: Lan, other: Lan) -> bool
 }
 
 // A frame with a trailer, read in place.
+// speed: D-node-inlined
 #[inline(always)]
 fn read_trailed<'a>(
     lan: Lan,
@@ -90,6 +91,7 @@ impl Framing for PrpFraming {
 
     ghost meaning = { λ f. Trailed f.lan f.net };
 
+    // speed: D-node-inlined
     #[inline(always)]
     fn read<'a>(&self, octets: &'a [u8]) -> Result<ParcelView<'a>, ReadFault> {
         let frame = whole_frame(octets, MAX_FRAME_LEN)?;

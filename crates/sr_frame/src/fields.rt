@@ -51,6 +51,7 @@ impl PartialEq for Mac {
     ghost laws = { Prim.search (comparing, rules) };
 
     // As two numbers: a walk over the octets would ask six questions.
+    // speed: D-frame-compare-addresses
     #[inline(always)]
     fn eq(&self, other: &Mac) -> bool {
         (front(self.0) == front(other.0)) & (back(self.0) == back(other.0))

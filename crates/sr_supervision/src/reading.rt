@@ -127,6 +127,7 @@ fn content(payload: &[u8]) -> Result<Supervision, SupFault>
 /// The first fault of this order is answered: `NotSupervision` for another destination or type, `Truncated`
 /// where the version and number are cut short, `Version` for one above 1, `Truncated` where no TLV follows,
 /// `FirstTlv` for another type or length of it, `Truncated` where a TLV runs past the end.
+// speed: D-node-inlined
 #[inline(always)]
 pub fn read(frame: &FrameView<'_>) -> Result<Supervision, SupFault>
     // What is read is spelled so, and what is spelled so is read.
