@@ -13,6 +13,7 @@ pub mod Reaching
 pub mod Rows
 pub mod Shown
 pub mod Skewing
+pub mod Spans
 pub mod Stretches
 pub mod Taken
 pub mod Tallies

@@ -2,6 +2,7 @@
 
 ghost use Rattle.std.specs.Prelude.{◌≡◌};
 ghost use Rattle.sr_audit.specs.Edges.{is_beyond};
+ghost use Rattle.sr_audit.specs.Spans.{span_with, spans_with};
 
 use crate::side::Side;
 
@@ -23,10 +24,17 @@ pub struct Spans {
     pub b: Option<Span>,
 }
 
-/// A span with a packet more, whose time is not before those of the others.
-fn lengthened(span: Option<Span>, time: u64) -> Option<Span> {
-    let first = span.map_or(time, |span| span.first);
-    Some(Span { first, last: time })
+impl Span {
+    /// The span of some packets and one more, whose time is not before theirs. None: of no packet.
+    pub fn lengthened(span: Option<Span>, time: u64) -> Option<Span>
+        ensures { result ≡ span_with time span }
+    {
+        let first = match span {
+            Some(span) => span.first,
+            None => time,
+        };
+        Some(Span { first, last: time })
+    }
 }
 
 impl Spans {
@@ -34,10 +42,12 @@ impl Spans {
     pub const NONE: Spans = Spans { a: None, b: None };
 
     /// Takes the time of the next packet of a side.
-    pub fn note(&mut self, side: Side, time: u64) {
+    pub fn note(&mut self, side: Side, time: u64)
+        ensures { self.new ≡ spans_with side time self.old }
+    {
         match side {
-            Side::A => self.a = lengthened(self.a, time),
-            Side::B => self.b = lengthened(self.b, time),
+            Side::A => self.a = Span::lengthened(self.a, time),
+            Side::B => self.b = Span::lengthened(self.b, time),
         }
     }
 

@@ -1,13 +1,14 @@
 -- The report of the packets of captures, one by one.
 use Rattle.std.proofs.Common.{◌≡◌, ℕ, ◌^◌, ◌<◌, List, [], ◌∷◌, ◌++◌, length, Option, None, Some, refl, sym, ap, ◌∙◌, subst, arith, length-append}
+use Rattle.std.specs.Prelude.{map}
 use Rattle.std.specs.List.{flat_map}
 use Rattle.std.proofs.lemmas.Fn.{chained_keeps}
-use Rattle.std.proofs.lemmas.List.{append-nil, append_assoc, reverse-append}
+use Rattle.std.proofs.lemmas.List.{append-nil, append_assoc, map-append, reverse-append}
 use Rattle.sr_audit.specs.declared.audit.Audit.{Audit}
-use Rattle.sr_audit.specs.declared.span.Span.{Span}
 use Rattle.sr_audit.specs.declared.span.Spans.{Spans}
 use Rattle.sr_audit.specs.Audits.{Audits}
 use Rattle.sr_audit.specs.Hearing.{Hears}
+use Rattle.sr_audit.specs.Spans.{span_of, span_with}
 use Rattle.sr_capture.specs.Records.{Captured, Shows}
 use Rattle.sr_capture.specs.declared.packet.Packet.{Packet}
 use Rattle.sr_capture_script.specs.declared.choice.Choice.{Choice}
@@ -22,7 +23,8 @@ use Rattle.sr_capture_audit.specs.declared.network.Subject.{Subject}
 use Rattle.sr_capture_audit.specs.declared.network.Tap.{Tap}
 use Rattle.sr_capture_audit.specs.Counting.{Seen, all_figures, CountsOne}
 use Rattle.sr_capture_audit.specs.Kinds.{IsKind}
-use Rattle.sr_capture_audit.specs.Auditing.{tap_at, AreSeenAt, AreSeen, sent_by, sent_in, signs_by, signs_in, span_with, span_from, IsReportOf, ReportsMore, TakesKind, IsAuditOf}
+use Rattle.sr_capture_audit.specs.Auditing.{tap_at, AreSeenAt, AreSeen, sent_by, sent_in, signs_by, signs_in, IsReportOf, ReportsMore, TakesKind, IsAuditOf}
+use Rattle.sr_capture_audit.proofs.Spanned.{span_more}
 
 -- one packet more
 seen_more : (subject : Subject) (xs : List Handed) (seen : List Seen) (x : Handed) (own : List Seen) → AreSeen subject xs seen →
@@ -36,10 +38,6 @@ sent_more seen s = ap (flat_map (λ y. sent_by y.kind y.time)) (reverse-append s
 
 signs_more : (seen : List Seen) (s : Seen) → signs_in (seen ++ s ∷ []) ≡ signs_by s.kind s.time ++ signs_in seen
 signs_more seen s = ap (flat_map (λ y. signs_by y.kind y.time)) (reverse-append seen (s ∷ []))
-
-span_more : (span : Option Span) (seen : List Seen) (s : Seen) → span_from span (seen ++ s ∷ []) ≡ span_with s.time (span_from span seen)
-span_more span [] s = refl
-span_more span (y ∷ ys) s = span_more (span_with y.time span) ys s
 
 -- a packet of no capture of the audit is passed over
 pub passed_over : (place : Place) (shown : Packet) (x : Handed) (r : Report) (o : Option Tap) → IsHandedAs place shown x →
@@ -96,7 +94,7 @@ counted place shown x old new o own k octets is told some kinds are counts whole
           is = refl;
           octets_are = octets_shown place shown x old.subject.network own k octets is are kind;
         }) h.counts;
-        whole = whole ∙ ap (λ t. span_with t old.whole) (sym is.time) ∙ ap (span_with x.time) h.whole ∙ sym (span_more None h.seen s);
+        whole = whole ∙ ap (λ t. span_with t old.whole) (sym is.time) ∙ ap (span_with x.time) h.whole ∙ sym (ap span_of (map-append (λ y. y.time) h.seen (s ∷ [])) ∙ span_more (map (λ y. y.time) h.seen) s.time);
         audits = λ few.
             let less : length (sent_by k x.time ++ sent_in h.seen) < 2 ^ 64 = subst (λ l. length l < 2 ^ 64) sent few in
             let own_less : length (sent_in h.seen) < 2 ^ 64 = omega (arith, length-append (sent_by k x.time) (sent_in h.seen)) in

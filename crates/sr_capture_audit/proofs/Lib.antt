@@ -1,3 +1,4 @@
 pub mod Counted
 pub mod Audited
+pub mod Spanned
 pub mod Mirrored

@@ -1,13 +1,13 @@
 -- The packets of captures that an audit takes, and what it says of all of them.
-use Rattle.std.specs.Prelude.{◌≡◌, ℕ, ◌^◌, ◌<◌, List, [], ◌∷◌, ◌++◌, length, reverse, Option, None, Some}
+use Rattle.std.specs.Prelude.{◌≡◌, ℕ, ◌^◌, ◌<◌, List, [], ◌∷◌, ◌++◌, length, map, reverse, Option, None, Some}
 use Rattle.std.specs.List.{flat_map}
 use Rattle.sr_audit.specs.declared.audit.Audit.{Audit}
 use Rattle.sr_audit.specs.declared.side.Side.{Side}
 use Rattle.sr_audit.specs.declared.side.Side.TheVariants as side
-use Rattle.sr_audit.specs.declared.span.Span.{Span}
 use Rattle.sr_audit.specs.declared.span.Spans.{Spans}
 use Rattle.sr_audit.specs.Audits.{Sent, Audits}
 use Rattle.sr_audit.specs.Hearing.{Reported, sign_of, Hears}
+use Rattle.sr_audit.specs.Spans.{span_of}
 use Rattle.sr_capture_script.specs.declared.choice.Choice.{Choice}
 use Rattle.sr_capture_script.specs.declared.choice.Inlet.{Inlet}
 use Rattle.sr_capture_script.specs.declared.choice.Inlet.TheVariants as inlet
@@ -71,18 +71,6 @@ signs_by other time = []
 abbrev pub signs_in : List Seen → List Reported
 signs_in seen = flat_map (λ x. signs_by x.kind x.time) (reverse seen)
 
--- when the first and the last of some packets came
-abbrev pub span_with : ℕ → Option Span → Option Span
-span_with time None = Some (record { first = time; last = time })
-span_with time (Some span) = Some (record { first = span.first; last = time })
-
-abbrev pub span_from : Option Span → List Seen → Option Span
-span_from span [] = span
-span_from span (x ∷ xs) = span_from (span_with x.time span) xs
-
-abbrev pub span_of : List Seen → Option Span
-span_of seen = span_from None seen
-
 -- a report says of these packets: how many are of each kind and side, when the first and the last one came, and of each source and
 -- address what came of it
 pub record IsReportOf (subject : Subject) (spans : Spans) (xs : List Handed) (r : Report) : Type 0 where
@@ -92,7 +80,7 @@ pub record IsReportOf (subject : Subject) (spans : Spans) (xs : List Handed) (r 
   pub seen : List Seen
   pub are_seen : AreSeen subject xs seen
   pub counts : r.counts ≡ all_figures seen
-  pub whole : r.whole ≡ span_of seen
+  pub whole : r.whole ≡ span_of (map (λ s. s.time) seen)
   pub audits : length (sent_in seen) < 2 ^ 64 → Audits spans (sent_in seen) r.audit.sources.entries
   pub hears : Hears (signs_in seen) r.audit.sources.entries
 

@@ -3,3 +3,4 @@ pub mod Hints
 pub mod Kinds
 pub mod Counting
 pub mod Auditing
+pub mod Spanning

@@ -7,7 +7,7 @@ ghost use Rattle.sr_capture_script.specs.declared.choice.Inlet.TheVariants.{A as
 ghost use Rattle.sr_capture_script.specs.Merging.{feed_of};
 ghost use Rattle.sr_capture_script.specs.Passing.{EndsFor};
 ghost use Rattle.sr_capture_script.specs.SourceViews.{IsFed};
-ghost use Rattle.sr_capture_audit.specs.Auditing.{sign_with, span_with, TakesKind, IsAuditOf};
+ghost use Rattle.sr_capture_audit.specs.Auditing.{sign_with, TakesKind, IsAuditOf};
 
 use crate::counts::Counts;
 use crate::kind::{Kind, Sign, kind_of};
@@ -30,17 +30,6 @@ pub struct Report {
     whole: Option<Span>,
     counts: Counts,
     audit: Audit,
-}
-
-/// The span of some packets and one more, which came then.
-fn with_time(span: Option<Span>, time: u64) -> Option<Span>
-    ensures { result ≡ span_with time span }
-{
-    let first = match span {
-        Some(span) => span.first,
-        None => time,
-    };
-    Some(Span { first, last: time })
 }
 
 /// Has an audit take a sign of life, if there is one.
@@ -97,7 +86,7 @@ impl Pass for Report {
         };
         let kind = kind_of(self.subject.network, tap, packet);
         self.counts.note(tap, kind, packet.octets.as_slice());
-        self.whole = with_time(self.whole, place.time);
+        self.whole = Span::lengthened(self.whole, place.time);
         note_kind(&mut self.audit, kind, place.time)
     }
 }

@@ -1,3 +1,4 @@
+pub mod Counted
 pub mod Settled
 pub mod Items
 pub mod Merged

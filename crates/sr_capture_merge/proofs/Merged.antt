@@ -1,5 +1,5 @@
 -- The packets of captures, from the first one to the file.
-use Rattle.std.proofs.Common.{◌≡◌, ◌≢◌, ℕ, ◌-◌, ◌/◌, ◌<◌, ◌≤◌, Result, Ok, Err, Bool, true, false, List, [], ◌∷◌, ◌++◌, Option, None, Some, refl, sym, ap, ◌∙◌, subst, arith, inl, inr}
+use Rattle.std.proofs.Common.{◌≡◌, ◌≢◌, ℕ, ◌+◌, ◌-◌, ◌^◌, ◌/◌, ◌<◌, ◌≤◌, length, Result, Ok, Err, Bool, true, false, List, [], ◌∷◌, ◌++◌, Option, None, Some, refl, sym, ap, ◌∙◌, subst, arith, inl, inr}
 use Rattle.std.specs.Prelude.{IfSome, IfNone, OnOk, IfErr}
 use Rattle.std.specs.List.{flat_map}
 use Rattle.std.specs.Io.KnownBytes.{Appends}
@@ -30,6 +30,7 @@ use Rattle.sr_capture_script.specs.Merging.{Feed, feed_of}
 use Rattle.sr_capture_script.specs.Sources.{left_of}
 use Rattle.sr_capture_script.specs.SourceViews.{IsFed}
 use Rattle.sr_capture_script.specs.Texts.{is_wanted, time_since}
+use Rattle.sr_capture_script.proofs.Going.{length_more}
 use Rattle.sr_capture_script.proofs.Coming.{come_none, came_to, comes_first, stops_first, all_came, not_early, last_more, starts_more, none_behind}
 use Rattle.sr_pcapng.specs.Writing.{packet_block, file_head}
 use Rattle.sr_merge.specs.Merging.{Read, Pending, Merging, TakesIn}
@@ -39,9 +40,11 @@ use Rattle.sr_capture_merge.specs.Remarks.{remark_of}
 use Rattle.sr_capture_merge.specs.Settling.{Settled, AreSettled, IsVerdict}
 use Rattle.sr_capture_merge.specs.declared.plan.Spelling.{Spelling}
 use Rattle.sr_capture_merge.specs.Reading.{side_at, frame_read, packet_read, IsPacketRead, IsReadIf, is_whole, AreRead}
-use Rattle.sr_capture_merge.specs.Files.{entries_by, entries_one, merged_entries, merged_file, merged_body, HasWritten, HasEnded, IsStop, WritesOn, TakesOn, EndsOn, EndsBy}
-use Rattle.sr_capture_merge.specs.Merged.{IsMerging, HasStopped, MergesOn, MergesAll, MergesUntil, IsFileOf, IsFrontOf, whole, broken, IsMerged, IsMergedUpTo}
-use Rattle.sr_capture_merge.proofs.Settled.{written_none, written_later, written_taken, ended_from}
+use Rattle.sr_capture_merge.specs.Files.{entries_by, entries_one, merged_entries, merged_file, merged_body, Sink, sink, HasWritten, HasEnded, IsStop, WritesOn, TakesOn, EndsOn, EndsBy}
+use Rattle.sr_capture_merge.specs.Counted.{AreCountsOf}
+use Rattle.sr_capture_merge.specs.declared.counts.Counts.{Counts}
+use Rattle.sr_capture_merge.specs.Merged.{IsMerging, HasStopped, MergesOn, MergesAll, MergesUntil, IsFileOf, IsFrontOf, whole, broken, IsMerged, IsHalted, IsMergedUpTo}
+use Rattle.sr_capture_merge.proofs.Settled.{written_none, written_left, written_later, written_taken, ended_from}
 use Rattle.sr_capture_merge.proofs.Items.{read_more, item_read, item_unwanted}
 
 -- a file is its head and the pieces of its packets
@@ -77,11 +80,12 @@ file_wrote plan start xs held mid to head body =
 
 module _ {R : Type 0} (remaining : R → Option (List ℕ)) (choice : Choice) (plan : Plan) (start : ℕ) where
   -- nothing came yet
-  pub merging_none : (a b c : Option (List ℕ)) (all : Captures R) (first : Option Front) (m : Merging) (held : Option (List ℕ)) →
+  pub merging_none : (a b c : Option (List ℕ)) (all : Captures R) (first : Option Front) (m : Merging) (held : Sink) →
       IsFed remaining A a all.a [] → IsFed remaining B b all.b [] → IsFed remaining C c all.c [] → IfSome first (λ front. IsDueFirst all front) →
       IfNone first (HasNoFront all) → IfSome first (λ front. front.moment ≡ start) → m.sources ≡ [] → m.waiting ≡ [] →
+      AreCountsOf plan [] held.counts →
       IsMerging remaining choice plan start (feed_of all.a a) (feed_of all.b b) (feed_of all.c c) all first 0 m held held
-  merging_none a b c all first m held fed_a fed_b fed_c due none at sources waiting = record {
+  merging_none a b c all first m held fed_a fed_b fed_c due none at sources waiting uncounted = record {
     out = [];
     come = come_none remaining a b c all fed_a fed_b fed_c;
     ahead = record { due = due; none = none; first = λ e. at };
@@ -89,11 +93,11 @@ module _ {R : Type 0} (remaining : R → Option (List ℕ)) (choice : Choice) (p
     time = refl;
     taken = [];
     read = refl;
-    written = written_none plan start m held sources waiting;
+    written = written_none plan start m held sources waiting uncounted;
   }
 
   -- a packet that is wanted
-  pub merging_taken : (before after : Captures R) (front : Front) (now : ℕ) (old new : Merging) (mid to : Option (List ℕ)) →
+  pub merging_taken : (before after : Captures R) (front : Front) (now : ℕ) (old new : Merging) (mid to : Sink) →
       is_wanted choice (time_since start front.moment) ≡ true →
       TakesOn plan start (side_at front.inlet) front.number (front.moment - start) (file_at front.inlet before).packet old new mid to →
       Advances remaining (file_at front.inlet before) (file_at front.inlet after) → KeepsOthers front.inlet before after →
@@ -102,44 +106,48 @@ module _ {R : Type 0} (remaining : R → Option (List ℕ)) (choice : Choice) (p
       let more = comes_first remaining x y z before after front h.out h.ahead.due goes others h.come in
       let early = not_early remaining x y z before front start h.out h.ahead.due h.come in
       let le : now ≤ front.moment - start = subst (λ t. t ≤ front.moment - start) (sym h.time) early in
-      let own = takes h.taken now held le h.written in
-      record {
-        out = h.out ++ more.item ∷ [];
-        come = more.come;
-        ahead = record { due = due; none = none; first = λ e. absurd (none_behind h.out more.item e) };
-        starts = starts_more start h.out more.item h.starts (λ e. more.when ∙ h.ahead.first e);
-        time = sym (last_more start 0 h.out more.item ∙ ap (λ m. m - start) more.when);
-        taken = h.taken ++ own.0;
-        read = read_more choice plan start h.out h.taken more.item own.0 h.read
-            (item_read choice plan start front.number front.inlet front.moment (file_at front.inlet before).packet more.item own.0 wanted
-            more.at more.when more.number more.shown own.1);
-        written = own.2;
-      }
+      let own = takes h.taken now held le h.written in (
+        record {
+          out = h.out ++ more.item ∷ [];
+          come = more.come;
+          ahead = record { due = due; none = none; first = λ e. absurd (none_behind h.out more.item e) };
+          starts = starts_more start h.out more.item h.starts (λ e. more.when ∙ h.ahead.first e);
+          time = sym (last_more start 0 h.out more.item ∙ ap (λ m. m - start) more.when);
+          taken = h.taken ++ own.0;
+          read = read_more choice plan start h.out h.taken more.item own.0 h.read
+              (item_read choice plan start front.number front.inlet front.moment (file_at front.inlet before).packet more.item own.0 wanted
+              more.at more.when more.number more.shown own.1);
+          written = own.2;
+        },
+        length_more h.out more.item,
+      )
 
   -- one that is not
-  pub merging_passed : (before after : Captures R) (front : Front) (now : ℕ) (m : Merging) (to : Option (List ℕ)) →
+  pub merging_passed : (before after : Captures R) (front : Front) (now : ℕ) (m : Merging) (to : Sink) →
       is_wanted choice (time_since start front.moment) ≡ false →
       Advances remaining (file_at front.inlet before) (file_at front.inlet after) → KeepsOthers front.inlet before after →
       MergesOn remaining choice plan start before after front now (front.moment - start) m m to to
   merging_passed before after front now m to unwanted goes others x y z held h next due none =
       let more = comes_first remaining x y z before after front h.out h.ahead.due goes others h.come in
       let early = not_early remaining x y z before front start h.out h.ahead.due h.come in
-      let le : now ≤ front.moment - start = subst (λ t. t ≤ front.moment - start) (sym h.time) early in
-      record {
-        out = h.out ++ more.item ∷ [];
-        come = more.come;
-        ahead = record { due = due; none = none; first = λ e. absurd (none_behind h.out more.item e) };
-        starts = starts_more start h.out more.item h.starts (λ e. more.when ∙ h.ahead.first e);
-        time = sym (last_more start 0 h.out more.item ∙ ap (λ m. m - start) more.when);
-        taken = h.taken;
-        read = subst (λ l. AreRead choice plan start (h.out ++ more.item ∷ []) l) (append-nil h.taken)
-            (read_more choice plan start h.out h.taken more.item [] h.read
-            (item_unwanted choice plan start front.moment more.item unwanted more.when));
-        written = written_later plan start h.taken now (front.moment - start) m held to le h.written;
-      }
+      let le : now ≤ front.moment - start = subst (λ t. t ≤ front.moment - start) (sym h.time) early in (
+        record {
+          out = h.out ++ more.item ∷ [];
+          come = more.come;
+          ahead = record { due = due; none = none; first = λ e. absurd (none_behind h.out more.item e) };
+          starts = starts_more start h.out more.item h.starts (λ e. more.when ∙ h.ahead.first e);
+          time = sym (last_more start 0 h.out more.item ∙ ap (λ m. m - start) more.when);
+          taken = h.taken;
+          read = subst (λ l. AreRead choice plan start (h.out ++ more.item ∷ []) l) (append-nil h.taken)
+              (read_more choice plan start h.out h.taken more.item [] h.read
+              (item_unwanted choice plan start front.moment more.item unwanted more.when));
+          written = written_later plan start h.taken now (front.moment - start) m held to le h.written;
+        },
+        length_more h.out more.item,
+      )
 
   -- a fault while it was taken
-  pub merging_refused : (before : Captures R) (front : Front) (fault : ScriptFault) (now later : ℕ) (old new : Merging) (mid to : Option (List ℕ)) →
+  pub merging_refused : (before : Captures R) (front : Front) (fault : ScriptFault) (now later : ℕ) (old new : Merging) (mid to : Sink) →
       fault ≢ Write → IsStop fault (WritesOn plan start (front.moment - start) old new mid to) →
       MergesUntil remaining choice plan start before (Some front) fault now later old new mid to
   merging_refused before front Write now later old new mid to other stop x y z held h = absurd (other refl)
@@ -150,7 +158,7 @@ module _ {R : Type 0} (remaining : R → Option (List ℕ)) (choice : Choice) (p
       let le : now ≤ front.moment - start = subst (λ t. t ≤ front.moment - start) (sym h.time) early in
       record {
         out = h.out;
-        came = came_to remaining x y z before NoMemory h.out h.come refl refl refl;
+        came = came_to remaining x y z before NoMemory h.out h.come refl refl refl tt;
         starts = h.starts;
         taken = h.taken;
         read = h.read;
@@ -160,7 +168,7 @@ module _ {R : Type 0} (remaining : R → Option (List ℕ)) (choice : Choice) (p
       }
 
   -- a fault of its file behind it
-  pub merging_stuck_taken : (before after : Captures R) (front : Front) (fault : ScriptFault) (now : ℕ) (old new : Merging) (mid to : Option (List ℕ)) →
+  pub merging_stuck_taken : (before after : Captures R) (front : Front) (fault : ScriptFault) (now : ℕ) (old new : Merging) (mid to : Sink) →
       is_wanted choice (time_since start front.moment) ≡ true →
       TakesOn plan start (side_at front.inlet) front.number (front.moment - start) (file_at front.inlet before).packet old new mid to →
       StopsAt remaining front.inlet (file_at front.inlet before) (file_at front.inlet after) fault →
@@ -184,7 +192,7 @@ module _ {R : Type 0} (remaining : R → Option (List ℕ)) (choice : Choice) (p
       } in
       subst (λ f. HasStopped choice plan start x y z f (front.moment - start) new held to) (sym stops.1) stopped
 
-  pub merging_stuck_passed : (before after : Captures R) (front : Front) (fault : ScriptFault) (now : ℕ) (m : Merging) (to : Option (List ℕ)) →
+  pub merging_stuck_passed : (before after : Captures R) (front : Front) (fault : ScriptFault) (now : ℕ) (m : Merging) (to : Sink) →
       is_wanted choice (time_since start front.moment) ≡ false →
       StopsAt remaining front.inlet (file_at front.inlet before) (file_at front.inlet after) fault →
       MergesUntil remaining choice plan start before (Some front) fault now (front.moment - start) m m to to
@@ -208,7 +216,7 @@ module _ {R : Type 0} (remaining : R → Option (List ℕ)) (choice : Choice) (p
 
   -- the same of what a call was given and left
   pub pass_taken : (before after : Captures R) (front : Front) (now time : ℕ) (side : Side) (packet : Packet) (old made new : Merging)
-      (mid wrote to : Option (List ℕ)) → time ≡ front.moment - start → side ≡ side_at front.inlet → packet ≡ (file_at front.inlet before).packet →
+      (mid wrote to : Sink) → time ≡ front.moment - start → side ≡ side_at front.inlet → packet ≡ (file_at front.inlet before).packet →
       new ≡ made → to ≡ wrote → is_wanted choice (time / 1000000) ≡ true →
       TakesOn plan start side front.number time packet old made mid wrote →
       Advances remaining (file_at front.inlet before) (file_at front.inlet after) → KeepsOthers front.inlet before after →
@@ -223,7 +231,7 @@ module _ {R : Type 0} (remaining : R → Option (List ℕ)) (choice : Choice) (p
       (subst (λ o. MergesOn remaining choice plan start before after front now (front.moment - start) old made mid o) (sym done)
       (merging_taken before after front now old made mid wrote want three goes others)))
 
-  pub pass_passed : (before after : Captures R) (front : Front) (now time : ℕ) (old new : Merging) (mid to : Option (List ℕ)) →
+  pub pass_passed : (before after : Captures R) (front : Front) (now time : ℕ) (old new : Merging) (mid to : Sink) →
       time ≡ front.moment - start → new ≡ old → to ≡ mid → is_wanted choice (time / 1000000) ≡ false →
       Advances remaining (file_at front.inlet before) (file_at front.inlet after) → KeepsOthers front.inlet before after →
       MergesOn remaining choice plan start before after front now time old new mid to
@@ -234,14 +242,14 @@ module _ {R : Type 0} (remaining : R → Option (List ℕ)) (choice : Choice) (p
       (subst (λ o. MergesOn remaining choice plan start before after front now (front.moment - start) old old mid o) (sym done)
       (merging_passed before after front now old mid want goes others)))
 
-  pub pass_refused : (before : Captures R) (front : Front) (fault : ScriptFault) (now later time : ℕ) (old new : Merging) (mid to : Option (List ℕ)) →
+  pub pass_refused : (before : Captures R) (front : Front) (fault : ScriptFault) (now later time : ℕ) (old new : Merging) (mid to : Sink) →
       time ≡ front.moment - start → fault ≢ Write → IsStop fault (WritesOn plan start time old new mid to) →
       MergesUntil remaining choice plan start before (Some front) fault now later old new mid to
   pass_refused before front fault now later time old new mid to when other stop =
       merging_refused before front fault now later old new mid to other (subst (λ t. IsStop fault (WritesOn plan start t old new mid to)) when stop)
 
   pub pass_stuck_taken : (before after : Captures R) (front : Front) (fault : ScriptFault) (now time : ℕ) (side : Side) (packet : Packet)
-      (old made new : Merging) (mid wrote to : Option (List ℕ)) → time ≡ front.moment - start → side ≡ side_at front.inlet →
+      (old made new : Merging) (mid wrote to : Sink) → time ≡ front.moment - start → side ≡ side_at front.inlet →
       packet ≡ (file_at front.inlet before).packet → new ≡ made → to ≡ wrote → is_wanted choice (time / 1000000) ≡ true →
       TakesOn plan start side front.number time packet old made mid wrote →
       StopsAt remaining front.inlet (file_at front.inlet before) (file_at front.inlet after) fault →
@@ -256,7 +264,7 @@ module _ {R : Type 0} (remaining : R → Option (List ℕ)) (choice : Choice) (p
       (subst (λ o. MergesUntil remaining choice plan start before (Some front) fault now (front.moment - start) old made mid o) (sym done)
       (merging_stuck_taken before after front fault now old made mid wrote want three stops)))
 
-  pub pass_stuck_passed : (before after : Captures R) (front : Front) (fault : ScriptFault) (now time : ℕ) (old new : Merging) (mid to : Option (List ℕ)) →
+  pub pass_stuck_passed : (before after : Captures R) (front : Front) (fault : ScriptFault) (now time : ℕ) (old new : Merging) (mid to : Sink) →
       time ≡ front.moment - start → new ≡ old → to ≡ mid → is_wanted choice (time / 1000000) ≡ false →
       StopsAt remaining front.inlet (file_at front.inlet before) (file_at front.inlet after) fault →
       MergesUntil remaining choice plan start before (Some front) fault now time old new mid to
@@ -268,11 +276,12 @@ module _ {R : Type 0} (remaining : R → Option (List ℕ)) (choice : Choice) (p
       (merging_stuck_passed before after front fault now old mid want stops)))
 
   -- there are more packets than are counted
-  pub merging_endless : (x y z : Feed) (all : Captures R) (next : Option Front) (now : ℕ) (m : Merging) (held to : Option (List ℕ)) →
-      IsMerging remaining choice plan start x y z all next now m held to → HasStopped choice plan start x y z Endless now m held to
-  merging_endless x y z all next now m held to h = record {
+  pub merging_endless : (x y z : Feed) (all : Captures R) (next : Option Front) (now : ℕ) (m : Merging) (held to : Sink) →
+      (is : IsMerging remaining choice plan start x y z all next now m held to) → 2 ^ 64 - 1 ≤ length is.out →
+      HasStopped choice plan start x y z Endless now m held to
+  merging_endless x y z all next now m held to h many = record {
     out = h.out;
-    came = came_to remaining x y z all Endless h.out h.come refl refl refl;
+    came = came_to remaining x y z all Endless h.out h.come refl refl refl many;
     starts = h.starts;
     taken = h.taken;
     read = h.read;
@@ -282,8 +291,8 @@ module _ {R : Type 0} (remaining : R → Option (List ℕ)) (choice : Choice) (p
   }
 
 -- what waits is written, and the file is whole
-file_ended : (choice : Choice) (plan : Plan) (start : ℕ) (items : List Item) (until : ℕ → Option ℕ) (taken : List Read) (held mid to : Option (List ℕ)) →
-    StartsAt start items → AreRead choice plan start items taken → Appends held mid (file_head (names_of plan.network)) →
+file_ended : (choice : Choice) (plan : Plan) (start : ℕ) (items : List Item) (until : ℕ → Option ℕ) (taken : List Read) (held : Option (List ℕ)) (mid to : Sink) →
+    StartsAt start items → AreRead choice plan start items taken → Appends held mid.written (file_head (names_of plan.network)) →
     HasEnded plan start taken (until (last_time start 0 items)) [] mid to → IsFileOf choice plan items until held to
 file_ended choice plan start items until taken held mid to starts read head e = record {
   start = start;
@@ -292,12 +301,13 @@ file_ended choice plan start items until taken held mid to starts read head e = 
   read = read;
   settled = e.settled;
   verdicts = subst (λ l. AreSettled (IsVerdict (until (last_time start 0 items))) l [] e.settled) (sym (e.all ∙ append-nil e.gone)) e.verdicts;
-  wrote = file_wrote plan start e.settled held mid to head e.wrote;
+  wrote = file_wrote plan start e.settled held mid.written to.written head e.wrote;
+  counted = e.counted;
 }
 
 front_ended : (choice : Choice) (plan : Plan) (start : ℕ) (items : List Item) (until : Option ℕ) (taken : List Read) (left : List Pending)
-    (held mid to : Option (List ℕ)) → StartsAt start items → AreRead choice plan start items taken →
-    Appends held mid (file_head (names_of plan.network)) → HasEnded plan start taken until left mid to → IsFrontOf choice plan items held to
+    (held : Option (List ℕ)) (mid to : Sink) → StartsAt start items → AreRead choice plan start items taken →
+    Appends held mid.written (file_head (names_of plan.network)) → HasEnded plan start taken until left mid to → IsFrontOf choice plan items held to
 front_ended choice plan start items until taken left held mid to starts read head e = record {
   start = start;
   starts = starts;
@@ -309,12 +319,13 @@ front_ended choice plan start items until taken left held mid to starts read hea
   until = until;
   settled = e.settled;
   verdicts = e.verdicts;
-  wrote = file_wrote plan start e.settled held mid to head e.wrote;
+  wrote = file_wrote plan start e.settled held mid.written to.written head e.wrote;
+  counted = e.counted;
 }
 
 -- all went well
 pub merges_all : {R : Type 0} (remaining : R → Option (List ℕ)) (choice : Choice) (plan : Plan) (start : ℕ) (x y z : Feed) (all : Captures R) (now : ℕ)
-    (m : Merging) (held mid late to : Option (List ℕ)) → Appends held mid (file_head (names_of plan.network)) →
+    (m : Merging) (held : Option (List ℕ)) (mid late to : Sink) → Appends held mid.written (file_head (names_of plan.network)) →
     IsMerging remaining choice plan start x y z all None now m mid late → EndsOn plan start None m.waiting [] late to →
     IsMerged choice plan x y z held to
 merges_all remaining choice plan start x y z all now m held mid late to head h ends =
@@ -327,7 +338,7 @@ merges_all remaining choice plan start x y z all now m held mid late to head h e
 
 -- memory is refused behind the last packet
 pub halts_last : {R : Type 0} (remaining : R → Option (List ℕ)) (choice : Choice) (plan : Plan) (start : ℕ) (x y z : Feed) (all : Captures R) (now : ℕ)
-    (m : Merging) (fault : ScriptFault) (held mid late to : Option (List ℕ)) → Appends held mid (file_head (names_of plan.network)) → fault ≢ Write →
+    (m : Merging) (fault : ScriptFault) (held : Option (List ℕ)) (mid late to : Sink) → Appends held mid.written (file_head (names_of plan.network)) → fault ≢ Write →
     IsMerging remaining choice plan start x y z all None now m mid late →
     IsStop fault ((left : List Pending) × EndsOn plan start None m.waiting left late to) → IsMergedUpTo choice plan x y z fault held to
 halts_last remaining choice plan start x y z all now m Write held mid late to head other h ends = absurd (other refl)
@@ -336,14 +347,14 @@ halts_last remaining choice plan start x y z all now m Endless held mid late to 
 halts_last remaining choice plan start x y z all now m NoMemory held mid late to head other h ends = record {
   own = NoMemory;
   merged = h.out;
-  came = came_to remaining x y z all NoMemory h.out h.come refl refl refl;
+  came = came_to remaining x y z all NoMemory h.out h.come refl refl refl tt;
   file = front_ended choice plan start h.out None h.taken ends.0 held mid to h.starts h.read head
       (ends.1 h.taken mid (ended_from plan start h.taken None now m mid late tt h.written));
 }
 
 -- a fault before the end: of memory, of counting, or of a file
 front_stopped : (choice : Choice) (plan : Plan) (start : ℕ) (x y z : Feed) (own : ScriptFault) (now : ℕ) (m : Merging)
-    (held mid late : Option (List ℕ)) → Appends held mid (file_head (names_of plan.network)) →
+    (held : Option (List ℕ)) (mid late : Sink) → Appends held mid.written (file_head (names_of plan.network)) →
     (h : HasStopped choice plan start x y z own now m mid late) → IsFrontOf choice plan h.out held late
 front_stopped choice plan start x y z own now m held mid late head h =
     let le : h.by ≤ h.by = omega arith in
@@ -351,7 +362,7 @@ front_stopped choice plan start x y z own now m held mid late head h =
     (ended_from plan start h.taken (Some h.by) h.by m mid late le h.written)
 
 broken_file : (choice : Choice) (plan : Plan) (start : ℕ) (x y z : Feed) (inlet : Inlet) (own : CaptureFault) (fault : ScriptFault) (now : ℕ) (m : Merging)
-    (held mid late to : Option (List ℕ)) → Appends held mid (file_head (names_of plan.network)) → fault ≢ Write →
+    (held : Option (List ℕ)) (mid late to : Sink) → Appends held mid.written (file_head (names_of plan.network)) → fault ≢ Write →
     HasStopped choice plan start x y z (File inlet own) now m mid late → EndsBy (File inlet own) fault plan start now m.waiting late to →
     IsMergedUpTo choice plan x y z fault held to
 broken_file choice plan start x y z inlet own fault now m held mid late to head other h ends =
@@ -386,7 +397,7 @@ broken_file choice plan start x y z inlet own fault now m held mid late to head 
         }
 
 pub halts_stopped : (choice : Choice) (plan : Plan) (start : ℕ) (x y z : Feed) (own fault : ScriptFault) (now : ℕ) (m : Merging)
-    (held mid late to : Option (List ℕ)) → Appends held mid (file_head (names_of plan.network)) → fault ≢ Write →
+    (held : Option (List ℕ)) (mid late to : Sink) → Appends held mid.written (file_head (names_of plan.network)) → fault ≢ Write →
     (own ≢ Write → HasStopped choice plan start x y z own now m mid late) → EndsBy own fault plan start now m.waiting late to →
     IsMergedUpTo choice plan x y z fault held to
 halts_stopped choice plan start x y z (File inlet own) fault now m held mid late to head other h ends =
@@ -411,9 +422,20 @@ halts_stopped choice plan start x y z Endless fault now m held mid late to head 
     } in
     subst (λ f. IsMergedUpTo choice plan x y z f held to) (sym ends.0) (subst (λ o. IsMergedUpTo choice plan x y z Endless held o) (sym ends.1) done)
 
+-- the same was written and counted
+pub sink_is : (w v : Option (List ℕ)) (c d : Counts) → w ≡ v → c ≡ d → sink w c ≡ sink v d
+sink_is w v c d e f = cc
+
+-- what follows where the writing stops
+pub stops_so : (fault : ScriptFault) {P Q : Type 0} → (P → Q) → IsStop fault P → IsStop fault Q
+stops_so Write f s = tt
+stops_so NoMemory f s = f s
+stops_so (File inlet fault) f s = absurd s
+stops_so Endless f s = absurd s
+
 -- a fault of the writing hands on what it left
 pub stopped_whole : {T : Type 0} (taken : Result T ScriptFault) (x : T) (fault : ScriptFault) (plan : Plan) (start now : ℕ) (old left : List Pending)
-    (mid to : Option (List ℕ)) → taken ≡ Ok x → IsStop fault (EndsOn plan start None old left mid to) →
+    (mid to : Sink) → taken ≡ Ok x → IsStop fault (EndsOn plan start None old left mid to) →
     OnOk taken (IsStop fault ((l : List Pending) × EndsOn plan start None old l mid to))
     × IfErr taken (λ own. EndsBy own fault plan start now old mid to)
 stopped_whole taken x fault plan start now old left mid to e stop =
@@ -427,7 +449,7 @@ stopped_whole taken x fault plan start now old left mid to e stop =
     by Endless s = absurd s
 
 pub broken_stop : (own fault : ScriptFault) (inlet : Inlet) (at : CaptureFault) (plan : Plan) (start now : ℕ) (old left : List Pending)
-    (mid to : Option (List ℕ)) → own ≡ File inlet at → IsStop fault (EndsOn plan start (Some now) old left mid to) →
+    (mid to : Sink) → own ≡ File inlet at → IsStop fault (EndsOn plan start (Some now) old left mid to) →
     EndsBy own fault plan start now old mid to
 broken_stop own fault inlet at plan start now old left mid to e stop =
     subst (λ o. EndsBy o fault plan start now old mid to) (sym e) (inr (by fault stop))
@@ -440,12 +462,12 @@ broken_stop own fault inlet at plan start now old left mid to e stop =
     by Endless s = absurd s
 
 pub broken_done : (own : ScriptFault) (inlet : Inlet) (at : CaptureFault) (plan : Plan) (start now : ℕ) (old : List Pending)
-    (mid to : Option (List ℕ)) → own ≡ File inlet at → EndsOn plan start (Some now) old [] mid to → EndsBy own own plan start now old mid to
+    (mid to : Sink) → own ≡ File inlet at → EndsOn plan start (Some now) old [] mid to → EndsBy own own plan start now old mid to
 broken_done own inlet at plan start now old mid to e ends =
     subst (λ o. EndsBy o own plan start now old mid to) (sym e) (inl (e, ends))
 
 pub broken_by : {T : Type 0} (taken : Result T ScriptFault) (own fault : ScriptFault) (plan : Plan) (start now : ℕ) (old : List Pending)
-    (mid to : Option (List ℕ)) → taken ≡ Err own → EndsBy own fault plan start now old mid to →
+    (mid to : Sink) → taken ≡ Err own → EndsBy own fault plan start now old mid to →
     OnOk taken (IsStop fault ((l : List Pending) × EndsOn plan start None old l mid to))
     × IfErr taken (λ own. EndsBy own fault plan start now old mid to)
 broken_by taken own fault plan start now old mid to e ends =
@@ -453,12 +475,14 @@ broken_by taken own fault plan start now old mid to e ends =
     × IfErr r (λ own. EndsBy own fault plan start now old mid to)) (sym e) (tt, ends)
 
 -- a packet that is left out, and one that is taken
-pub left_out : (plan : Plan) (start : ℕ) (side : Side) (number time : ℕ) (packet : Packet) (m : Merging) (to : Option (List ℕ)) →
-    is_whole packet.extent packet.len ≡ false → TakesOn plan start side number time packet m m to to
-left_out plan start side number time packet m to e taken before held le h = (
+pub left_out : (plan : Plan) (start : ℕ) (side : Side) (number time : ℕ) (packet : Packet) (m : Merging) (to later : Sink) →
+    is_whole packet.extent packet.len ≡ false → later.written ≡ to.written →
+    ((xs : List Settled) → AreCountsOf plan xs to.counts → AreCountsOf plan xs later.counts) → TakesOn plan start side number time packet m m to later
+left_out plan start side number time packet m to later e same counts taken before held le h = (
   [],
   subst (λ b. IsReadIf b plan side number time packet.octets.items []) (sym e) refl,
-  subst (λ l. HasWritten plan start l time m held to) (sym (append-nil taken)) (written_later plan start taken before time m held to le h),
+  subst (λ l. HasWritten plan start l time m held later) (sym (append-nil taken))
+      (written_left plan start taken time m held to later same counts (written_later plan start taken before time m held to le h)),
 )
 
 pub long_is : (extent : Extent) (len : ℕ) → extent ≡ Whole → longest_kept < len → is_whole extent len ≡ false
@@ -484,7 +508,7 @@ packet_time spelling side number time octets (Ok p) = frame_time spelling side n
 packet_time spelling side number time octets (Err fault) = refl
 
 pub taken_on : (plan own : Plan) (start : ℕ) (side : Side) (number time : ℕ) (packet : Packet) (octets : List ℕ) (p : Read) (old mid new : Merging)
-    (from to : Option (List ℕ)) → is_whole packet.extent packet.len ≡ true → own ≡ plan → octets ≡ packet.octets.items →
+    (from to : Sink) → is_whole packet.extent packet.len ≡ true → own ≡ plan → octets ≡ packet.octets.items →
     IsPacketRead own side number time octets p → WritesOn plan start time old mid from to → TakesIn mid p new →
     TakesOn plan start side number time packet old new from to
 taken_on plan own start side number time packet octets p old mid new from to e same is reads on takes taken before held le h =
@@ -498,14 +522,15 @@ taken_on plan own start side number time packet octets p old mid new from to e s
 
 -- the whole of a call: what it was given, and what its parts did
 module _ {R T : Type 0} (remaining : R → Option (List ℕ)) (choice : Choice) (plan : Plan) (start : ℕ) (a b c : Option (List ℕ))
-    (all after : Captures R) (first : Option Front) (now : ℕ) (empty m : Merging) (held mid late to : Option (List ℕ)) (taken : Result T ScriptFault) where
+    (all after : Captures R) (first : Option Front) (now : ℕ) (empty m : Merging) (held : Option (List ℕ)) (mid late to : Sink) (taken : Result T ScriptFault) where
   pub begins : IsFed remaining A a all.a [] → IsFed remaining B b all.b [] → IsFed remaining C c all.c [] → IfSome first (λ front. IsDueFirst all front) →
       IfNone first (HasNoFront all) → IfSome first (λ front. front.moment ≡ start) → empty.sources ≡ [] → empty.waiting ≡ [] →
+      AreCountsOf plan [] mid.counts →
       IsMerging remaining choice plan start (feed_of all.a a) (feed_of all.b b) (feed_of all.c c) all first 0 empty mid mid
-  begins fed_a fed_b fed_c due none at sources waiting =
-      merging_none remaining choice plan start a b c all first empty mid fed_a fed_b fed_c due none at sources waiting
+  begins fed_a fed_b fed_c due none at sources waiting uncounted =
+      merging_none remaining choice plan start a b c all first empty mid fed_a fed_b fed_c due none at sources waiting uncounted
 
-  pub ends_well : Appends held mid (file_head (names_of plan.network)) →
+  pub ends_well : Appends held mid.written (file_head (names_of plan.network)) →
       IsMerging remaining choice plan start (feed_of all.a a) (feed_of all.b b) (feed_of all.c c) all first 0 empty mid mid →
       OnOk taken (MergesAll remaining choice plan start all after first 0 now empty m mid late) →
       OnOk taken (EndsOn plan start None m.waiting [] late to) × IfErr taken (λ own. ⊥) →
@@ -520,7 +545,7 @@ module _ {R T : Type 0} (remaining : R → Option (List ℕ)) (choice : Choice) 
           (goes (feed_of all.a a) (feed_of all.b b) (feed_of all.c c) mid h) ends.0
       by (Err e) goes ends = absurd ends.1
 
-  pub ends_badly : (fault : ScriptFault) → fault ≢ Write → Appends held mid (file_head (names_of plan.network)) →
+  pub ends_badly : (fault : ScriptFault) → fault ≢ Write → Appends held mid.written (file_head (names_of plan.network)) →
       IsMerging remaining choice plan start (feed_of all.a a) (feed_of all.b b) (feed_of all.c c) all first 0 empty mid mid →
       OnOk taken (MergesAll remaining choice plan start all after first 0 now empty m mid late) →
       IfErr taken (λ own. own ≢ Write → MergesUntil remaining choice plan start all first own 0 now empty m mid late) →
@@ -543,38 +568,52 @@ module _ {R T : Type 0} (remaining : R → Option (List ℕ)) (choice : Choice) 
 
 -- memory is refused before the first packet
 pub halts_first : {R : Type 0} (remaining : R → Option (List ℕ)) (choice : Choice) (plan : Plan) (a b c : Option (List ℕ)) (all : Captures R)
-    (fault : ScriptFault) (held mid : Option (List ℕ)) → Appends held mid (file_head (names_of plan.network)) → fault ≡ NoMemory →
-    IsFed remaining A a all.a [] → IsFed remaining B b all.b [] → IsFed remaining C c all.c [] →
+    (fault : ScriptFault) (held : Option (List ℕ)) (mid : Sink) → Appends held mid.written (file_head (names_of plan.network)) → fault ≡ NoMemory →
+    AreCountsOf plan [] mid.counts → IsFed remaining A a all.a [] → IsFed remaining B b all.b [] → IsFed remaining C c all.c [] →
     IsMergedUpTo choice plan (feed_of all.a a) (feed_of all.b b) (feed_of all.c c) fault held mid
-halts_first remaining choice plan a b c all fault held mid head is fed_a fed_b fed_c =
+halts_first remaining choice plan a b c all fault held mid head is uncounted fed_a fed_b fed_c =
     let come = come_none remaining a b c all fed_a fed_b fed_c in
     let nothing : Merging = record { sources = []; waiting = [] } in
     let le : 0 ≤ 0 = omega arith in
     let done : IsMergedUpTo choice plan (feed_of all.a a) (feed_of all.b b) (feed_of all.c c) NoMemory held mid = record {
       own = NoMemory;
       merged = [];
-      came = came_to remaining (feed_of all.a a) (feed_of all.b b) (feed_of all.c c) all NoMemory [] come refl refl refl;
+      came = came_to remaining (feed_of all.a a) (feed_of all.b b) (feed_of all.c c) all NoMemory [] come refl refl refl tt;
       file = front_ended choice plan 0 [] (Some 0) [] [] held mid mid tt refl head
-          (ended_from plan 0 [] (Some 0) 0 nothing mid mid le (written_none plan 0 nothing mid refl refl));
+          (ended_from plan 0 [] (Some 0) 0 nothing mid mid le (written_none plan 0 nothing mid refl refl uncounted));
     } in
     subst (λ f. IsMergedUpTo choice plan (feed_of all.a a) (feed_of all.b b) (feed_of all.c c) f held mid) (sym is) done
 
 -- the same under other names for a plan and a start
-pub well_as : {T : Type 0} (taken : Result T ScriptFault) (p q : Plan) (s t : ℕ) (old : List Pending) (mid to : Option (List ℕ)) → p ≡ q → s ≡ t →
+pub well_as : {T : Type 0} (taken : Result T ScriptFault) (p q : Plan) (s t : ℕ) (old : List Pending) (mid to : Sink) → p ≡ q → s ≡ t →
     OnOk taken (EndsOn p s None old [] mid to) × IfErr taken (λ own. ⊥) → OnOk taken (EndsOn q t None old [] mid to) × IfErr taken (λ own. ⊥)
 well_as taken p q s t old mid to e f h =
     subst (λ a. OnOk taken (EndsOn q a None old [] mid to) × IfErr taken (λ own. ⊥)) f
     (subst (λ a. OnOk taken (EndsOn a s None old [] mid to) × IfErr taken (λ own. ⊥)) e h)
 
-pub badly_as : {T : Type 0} (taken : Result T ScriptFault) (fault : ScriptFault) (p q : Plan) (s t now : ℕ) (old : List Pending) (mid to : Option (List ℕ)) →
+pub badly_as : {T : Type 0} (taken : Result T ScriptFault) (fault : ScriptFault) (p q : Plan) (s t now : ℕ) (old : List Pending) (mid to : Sink) →
     p ≡ q → s ≡ t → OnOk taken (IsStop fault ((l : List Pending) × EndsOn p s None old l mid to)) × IfErr taken (λ own. EndsBy own fault p s now old mid to) →
     OnOk taken (IsStop fault ((l : List Pending) × EndsOn q t None old l mid to)) × IfErr taken (λ own. EndsBy own fault q t now old mid to)
 badly_as taken fault p q s t now old mid to e f h =
     subst (λ a. OnOk taken (IsStop fault ((l : List Pending) × EndsOn q a None old l mid to)) × IfErr taken (λ own. EndsBy own fault q a now old mid to)) f
     (subst (λ a. OnOk taken (IsStop fault ((l : List Pending) × EndsOn a s None old l mid to)) × IfErr taken (λ own. EndsBy own fault a s now old mid to)) e h)
 
+-- one packet more, under other names for a plan and a start
+pub goes_within : {R : Type 0} (remaining : R → Option (List ℕ)) (choice : Choice) (p q : Plan) (s t : ℕ) (x y z : Feed) (all after : Captures R)
+    (next later : Option Front) (front : Front) (count now by : ℕ) (m n : Merging) (held mid to : Sink) → p ≡ q → s ≡ t →
+    next ≡ Some front → MergesOn remaining choice p s all after front now by m n mid to →
+    IfSome later (λ due. IsDueFirst after due) → IfNone later (HasNoFront after) →
+    (was : IsMerging remaining choice q t x y z all next now m held mid) × (length was.out ≡ count) →
+    (is : IsMerging remaining choice q t x y z after later by n held to) × (length is.out ≡ count + 1)
+goes_within remaining choice p q s t x y z all after next later front count now by m n held mid to e f g goes due none h =
+    let one = subst (λ o. (was : IsMerging remaining choice q t x y z all o now m held mid) × (length was.out ≡ count)) g h in
+    let two = subst (λ a. MergesOn remaining choice a s all after front now by m n mid to) e goes in
+    let three = subst (λ a. MergesOn remaining choice q a all after front now by m n mid to) f two in
+    let is = three x y z held one.0 later due none in
+    (is.0, is.1 ∙ ap (λ k. k + 1) one.1)
+
 pub stops_within : {R : Type 0} (remaining : R → Option (List ℕ)) (choice : Choice) (p q : Plan) (s t : ℕ) (x y z : Feed) (all : Captures R)
-    (next : Option Front) (front : Front) (fault : ScriptFault) (now later : ℕ) (m n : Merging) (held mid to : Option (List ℕ)) → p ≡ q → s ≡ t →
+    (next : Option Front) (front : Front) (fault : ScriptFault) (now later : ℕ) (m n : Merging) (held mid to : Sink) → p ≡ q → s ≡ t →
     next ≡ Some front → MergesUntil remaining choice p s all (Some front) fault now later m n mid to →
     IsMerging remaining choice q t x y z all next now m held mid → HasStopped choice q t x y z fault later n held to
 stops_within remaining choice p q s t x y z all next front fault now later m n held mid to e f g stops h =
@@ -582,3 +621,49 @@ stops_within remaining choice p q s t x y z all next front fault now later m n h
     let two = subst (λ a. MergesUntil remaining choice a s all (Some front) fault now later m n mid to) e stops in
     let three = subst (λ a. MergesUntil remaining choice q a all (Some front) fault now later m n mid to) f two in
     three x y z held one
+
+-- what else is counted may change behind the last packet
+module _ (choice : Choice) (plan : Plan) (held to : Option (List ℕ)) (c d : Counts) (same : (xs : List Settled) → AreCountsOf plan xs c → AreCountsOf plan xs d)
+  where
+    file_left : (items : List Item) (until : ℕ → Option ℕ) → IsFileOf choice plan items until held (sink to c) →
+        IsFileOf choice plan items until held (sink to d)
+    file_left items until f = record {
+      start = f.start;
+      starts = f.starts;
+      taken = f.taken;
+      read = f.read;
+      settled = f.settled;
+      verdicts = f.verdicts;
+      wrote = f.wrote;
+      counted = same f.settled f.counted;
+    }
+
+    front_left : (items : List Item) → IsFrontOf choice plan items held (sink to c) → IsFrontOf choice plan items held (sink to d)
+    front_left items f = record {
+      start = f.start;
+      starts = f.starts;
+      taken = f.taken;
+      read = f.read;
+      gone = f.gone;
+      left = f.left;
+      parts = f.parts;
+      until = f.until;
+      settled = f.settled;
+      verdicts = f.verdicts;
+      wrote = f.wrote;
+      counted = same f.settled f.counted;
+    }
+
+    halted_left : (fault own : ScriptFault) (items : List Item) → IsHalted fault own choice plan items held (sink to c) →
+        IsHalted fault own choice plan items held (sink to d)
+    halted_left (File inlet fault) own items h = (h.0, file_left items broken h.1)
+    halted_left NoMemory own items h = front_left items h
+    halted_left Endless own items h = front_left items h
+    halted_left Write own items h = tt
+
+    pub merged_left : (x y z : Feed) → IsMerged choice plan x y z held (sink to c) → IsMerged choice plan x y z held (sink to d)
+    merged_left x y z h = record { merged = h.merged; came = h.came; file = file_left h.merged whole h.file }
+
+    pub merged_up_left : (x y z : Feed) (fault : ScriptFault) → IsMergedUpTo choice plan x y z fault held (sink to c) →
+        IsMergedUpTo choice plan x y z fault held (sink to d)
+    merged_up_left x y z fault h = record { own = h.own; merged = h.merged; came = h.came; file = halted_left fault h.own h.merged h.file }

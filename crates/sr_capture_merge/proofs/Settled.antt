@@ -16,8 +16,10 @@ use Rattle.sr_merge.specs.Verdicts.{kept_of_all, verdict_until, AllBy}
 use Rattle.sr_merge.specs.VerdictLemmas.{with_all_more, taken_behind, verdict_stays, verdict_met, verdict_last, crowded, crowded_more, all_later, all_more}
 use Rattle.sr_capture_merge.specs.declared.plan.Plan.{Plan}
 use Rattle.sr_capture_merge.specs.Entries.{written_piece}
-use Rattle.sr_capture_merge.specs.Settling.{Settled, AreSettled, IsVerdict, IsKnown}
-use Rattle.sr_capture_merge.specs.Files.{merged_body, HasWritten, HasEnded}
+use Rattle.sr_capture_merge.specs.Counted.{AreCountsOf}
+use Rattle.sr_capture_merge.specs.Settling.{Settled, counted_one, AreSettled, IsVerdict, IsKnown}
+use Rattle.sr_capture_merge.specs.Files.{merged_body, Sink, HasWritten, HasEnded}
+use Rattle.sr_capture_merge.proofs.Counted.{counted_more}
 
 -- one packet more is written
 settled_more : (P : Pending → List Read → Option Verdict → Type 0) (gone : List Pending) (w : Pending) (ps : List Read) (xs : List Settled)
@@ -97,20 +99,36 @@ wrote_more plan start xs x held mid to h more =
     (Appends-trans held mid to (merged_body plan start xs) (written_piece plan start x.verdict x.packet) h more)
 
 -- nothing was taken
-pub written_none : (plan : Plan) (start : ℕ) (m : Merging) (held : Option (List ℕ)) → m.sources ≡ [] → m.waiting ≡ [] →
+pub written_none : (plan : Plan) (start : ℕ) (m : Merging) (held : Sink) → m.sources ≡ [] → m.waiting ≡ [] → AreCountsOf plan [] held.counts →
     HasWritten plan start [] 0 m held held
-written_none plan start m held sources waiting = record {
+written_none plan start m held sources waiting none = record {
   gone = [];
   settled = [];
   sources = sym sources;
   waiting = sym waiting;
   early = subst (λ l. AllBy 0 (packets_in l)) (sym waiting) tt;
   known = tt;
-  wrote = subst (Appends held held) (sym (body_nil plan start)) (Appends-nil held);
+  wrote = subst (Appends held.written held.written) (sym (body_nil plan start)) (Appends-nil held.written);
+  counted = none;
+}
+
+-- what else is counted may change
+pub written_left : (plan : Plan) (start : ℕ) (taken : List Read) (now : ℕ) (m : Merging) (held to later : Sink) → later.written ≡ to.written →
+    ((xs : List Settled) → AreCountsOf plan xs to.counts → AreCountsOf plan xs later.counts) → HasWritten plan start taken now m held to →
+    HasWritten plan start taken now m held later
+written_left plan start taken now m held to later same counts h = record {
+  gone = h.gone;
+  settled = h.settled;
+  sources = h.sources;
+  waiting = h.waiting;
+  early = h.early;
+  known = h.known;
+  wrote = subst (λ o. Appends held.written o (merged_body plan start h.settled)) (sym same) h.wrote;
+  counted = counts h.settled h.counted;
 }
 
 -- time passes
-pub written_later : (plan : Plan) (start : ℕ) (taken : List Read) (before now : ℕ) (m : Merging) (held to : Option (List ℕ)) →
+pub written_later : (plan : Plan) (start : ℕ) (taken : List Read) (before now : ℕ) (m : Merging) (held to : Sink) →
     before ≤ now → HasWritten plan start taken before m held to → HasWritten plan start taken now m held to
 written_later plan start taken before now m held to le h = record {
   gone = h.gone;
@@ -120,6 +138,7 @@ written_later plan start taken before now m held to le h = record {
   early = all_later before now (packets_in m.waiting) le h.early;
   known = settled_weaker (IsKnown before) (IsKnown now) (known_later before now le) h.gone (packets_in m.waiting) h.settled h.known;
   wrote = h.wrote;
+  counted = h.counted;
 }
 
 -- the first packet that waits is written: its verdict is known, or too many wait
@@ -129,11 +148,11 @@ known_first now w ps None is all many = inr (refl, crowded now w ps is all (many
 known_first now w ps (Some x) is all many = inl (x, is, refl)
 
 pub written_next : (plan : Plan) (start : ℕ) (taken : List Read) (now : ℕ) (old new : Merging) (w : Pending) (v : Option Verdict)
-    (held mid to : Option (List ℕ)) → HasWritten plan start taken now old held mid → next_written old.waiting ≡ Some w →
+    (held mid to : Sink) → HasWritten plan start taken now old held mid → next_written old.waiting ≡ Some w →
     new.sources ≡ old.sources → new.waiting ≡ drop 1 old.waiting → verdict_of now w ≡ v →
-    (v ≡ None → most_held ≤ length old.waiting) → Appends mid to (written_piece plan start v w.packet) →
-    HasWritten plan start taken now new held to
-written_next plan start taken now old new w v held mid to h first sources rest is many wrote = by old.waiting refl first
+    (v ≡ None → most_held ≤ length old.waiting) → Appends mid.written to.written (written_piece plan start v w.packet) →
+    to.counts ≡ counted_one plan (record { packet = w.packet; verdict = v }) mid.counts → HasWritten plan start taken now new held to
+written_next plan start taken now old new w v held mid to h first sources rest is many wrote count_is = by old.waiting refl first
   where
     by : (l : List Pending) → old.waiting ≡ l → next_written l ≡ Some w → HasWritten plan start taken now new held to
     by [] e first = cc
@@ -152,7 +171,8 @@ written_next plan start taken now old new w v held mid to h first sources rest i
           early = subst (λ l. AllBy now (packets_in l)) (sym left) early.1;
           known = subst (λ l. AreSettled (IsKnown now) (h.gone ++ w ∷ []) (packets_in l) (h.settled ++ record { packet = w.packet; verdict = v } ∷ []))
               (sym left) (settled_more (IsKnown now) h.gone w (packets_in us) h.settled (record { packet = w.packet; verdict = v }) known refl own);
-          wrote = wrote_more plan start h.settled (record { packet = w.packet; verdict = v }) held mid to h.wrote wrote;
+          wrote = wrote_more plan start h.settled (record { packet = w.packet; verdict = v }) held.written mid.written to.written h.wrote wrote;
+          counted = counted_more plan h.settled (record { packet = w.packet; verdict = v }) mid.counts to.counts h.counted count_is;
         }
 
 -- a packet is taken
@@ -160,7 +180,7 @@ all_by_one : (new : Bool) (now : ℕ) (p : Read) → p.came.time ≡ now → All
 all_by_one true now p e = (omega (arith, e), tt)
 all_by_one false now p e = tt
 
-pub written_taken : (plan : Plan) (start : ℕ) (taken : List Read) (now : ℕ) (old new : Merging) (p : Read) (held to : Option (List ℕ)) →
+pub written_taken : (plan : Plan) (start : ℕ) (taken : List Read) (now : ℕ) (old new : Merging) (p : Read) (held to : Sink) →
     HasWritten plan start taken now old held to → TakesIn old p new → p.came.time ≡ now →
     HasWritten plan start (taken ++ p ∷ []) now new held to
 written_taken plan start taken now old new p held to h takes time =
@@ -189,6 +209,7 @@ written_taken plan start taken now old new p held to h takes time =
       known = subst (λ l. AreSettled (IsKnown now) split.0 l h.settled) (sym list)
           (settled_grown (IsKnown now) (known_grown now) split.0 (packets_in old.waiting) (cond fresh (p ∷ []) []) h.settled known);
       wrote = h.wrote;
+      counted = h.counted;
     }
 
 -- no more will come
@@ -205,7 +226,7 @@ verdicts_known : (until : Option ℕ) (now : ℕ) → IfSome until (λ late. now
 verdicts_known None now le gone ps xs h = settled_weaker (IsKnown now) (IsVerdict None) (known_whole now) gone ps xs h
 verdicts_known (Some late) now le gone ps xs h = settled_weaker (IsKnown now) (IsVerdict (Some late)) (known_until now late le) gone ps xs h
 
-pub ended_from : (plan : Plan) (start : ℕ) (taken : List Read) (until : Option ℕ) (now : ℕ) (m : Merging) (held to : Option (List ℕ)) →
+pub ended_from : (plan : Plan) (start : ℕ) (taken : List Read) (until : Option ℕ) (now : ℕ) (m : Merging) (held to : Sink) →
     IfSome until (λ late. now ≤ late) → HasWritten plan start taken now m held to → HasEnded plan start taken until m.waiting held to
 ended_from plan start taken until now m held to le h = record {
   gone = h.gone;
@@ -213,13 +234,15 @@ ended_from plan start taken until now m held to le h = record {
   all = h.waiting;
   verdicts = verdicts_known until now le h.gone (packets_in m.waiting) h.settled h.known;
   wrote = h.wrote;
+  counted = h.counted;
 }
 
 -- the first packet that waits is written
 pub ended_next : (plan : Plan) (start : ℕ) (taken : List Read) (until : Option ℕ) (old new : List Pending) (w : Pending) (v : Option Verdict)
-    (held mid to : Option (List ℕ)) → HasEnded plan start taken until old held mid → next_written old ≡ Some w → new ≡ drop 1 old →
-    v ≡ verdict_until until w → Appends mid to (written_piece plan start v w.packet) → HasEnded plan start taken until new held to
-ended_next plan start taken until old new w v held mid to h first rest is wrote = by old refl first
+    (held mid to : Sink) → HasEnded plan start taken until old held mid → next_written old ≡ Some w → new ≡ drop 1 old →
+    v ≡ verdict_until until w → Appends mid.written to.written (written_piece plan start v w.packet) →
+    to.counts ≡ counted_one plan (record { packet = w.packet; verdict = v }) mid.counts → HasEnded plan start taken until new held to
+ended_next plan start taken until old new w v held mid to h first rest is wrote count_is = by old refl first
   where
     by : (l : List Pending) → old ≡ l → next_written l ≡ Some w → HasEnded plan start taken until new held to
     by [] e first = cc
@@ -233,5 +256,6 @@ ended_next plan start taken until old new w v held mid to h first rest is wrote 
           all = h.all ∙ ap (λ l. h.gone ++ l) (e ∙ front) ∙ sym (append_assoc h.gone (w ∷ []) us) ∙ ap (λ l. (h.gone ++ w ∷ []) ++ l) (sym left);
           verdicts = subst (λ l. AreSettled (IsVerdict until) (h.gone ++ w ∷ []) (packets_in l) (h.settled ++ record { packet = w.packet; verdict = v } ∷ []))
               (sym left) (settled_more (IsVerdict until) h.gone w (packets_in us) h.settled (record { packet = w.packet; verdict = v }) known refl (inl is));
-          wrote = wrote_more plan start h.settled (record { packet = w.packet; verdict = v }) held mid to h.wrote wrote;
+          wrote = wrote_more plan start h.settled (record { packet = w.packet; verdict = v }) held.written mid.written to.written h.wrote wrote;
+          counted = counted_more plan h.settled (record { packet = w.packet; verdict = v }) mid.counts to.counts h.counted count_is;
         }

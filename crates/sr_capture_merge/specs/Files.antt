@@ -10,7 +10,9 @@ use Rattle.sr_pcapng.specs.declared.lanes.Lane.{Lane}
 use Rattle.sr_pcapng.specs.declared.track.Track.{Track}
 use Rattle.sr_pcapng.specs.Steps.{AreBlocks}
 use Rattle.sr_pcapng.specs.Writing.{Written, file_of, start_at, found_at}
+use Rattle.sr_capture_merge.specs.declared.counts.Counts.{Counts}
 use Rattle.sr_capture_merge.specs.declared.plan.Plan.{Plan}
+use Rattle.sr_capture_merge.specs.Counted.{AreCountsOf}
 use Rattle.sr_capture_merge.specs.Entries.{names_of, entry_of, is_shown, written_piece}
 use Rattle.sr_capture_merge.specs.Remarks.{remark_of}
 use Rattle.sr_capture_merge.specs.Reading.{IsReadIf, is_whole}
@@ -45,24 +47,34 @@ MergedFilesAreRead = (plan : Plan) (start : ℕ) (xs : List Settled) (lane : Lan
 unfoldable pub merged_body : Plan → ℕ → List Settled → List ℕ
 merged_body plan start xs = flat_map (λ x. written_piece plan start x.verdict x.packet) xs
 
+-- what was written, and what was counted of it
+pub record Sink : Type 0 where
+  pub written : Option (List ℕ)
+  pub counts : Counts
+
+abbrev pub sink : Option (List ℕ) → Counts → Sink
+sink written counts = record { written = written; counts = counts }
+
 -- packets were taken up to this time, and those that don't wait any longer were written
-pub record HasWritten (plan : Plan) (start : ℕ) (taken : List Read) (now : ℕ) (m : Merging) (held to : Option (List ℕ)) : Type 0 where
+pub record HasWritten (plan : Plan) (start : ℕ) (taken : List Read) (now : ℕ) (m : Merging) (held to : Sink) : Type 0 where
   pub gone : List Pending
   pub settled : List Settled
   pub sources : (kept_of_all taken).sources ≡ m.sources
   pub waiting : (kept_of_all taken).waiting ≡ gone ++ m.waiting
   pub early : AllBy now (packets_in m.waiting)
   pub known : AreSettled (IsKnown now) gone (packets_in m.waiting) settled
-  pub wrote : Appends held to (merged_body plan start settled)
+  pub wrote : Appends held.written to.written (merged_body plan start settled)
+  pub counted : AreCountsOf plan settled to.counts
 
 -- no more will come: the first ones were written, and others wait
 pub record HasEnded (plan : Plan) (start : ℕ) (taken : List Read) (until : Option ℕ) (waiting : List Pending)
-    (held to : Option (List ℕ)) : Type 0 where
+    (held to : Sink) : Type 0 where
   pub gone : List Pending
   pub settled : List Settled
   pub all : (kept_of_all taken).waiting ≡ gone ++ waiting
   pub verdicts : AreSettled (IsVerdict until) gone (packets_in waiting) settled
-  pub wrote : Appends held to (merged_body plan start settled)
+  pub wrote : Appends held.written to.written (merged_body plan start settled)
+  pub counted : AreCountsOf plan settled to.counts
 
 -- a fault of the writer, or of memory, where this holds; what a writer that fails wrote is not known
 abbrev pub IsStop : ScriptFault → Type 0 → Type 0
@@ -72,24 +84,24 @@ IsStop (File inlet fault) P = ⊥
 IsStop Endless P = ⊥
 
 -- behind what was written, what is due at a time was written
-abbrev pub WritesOn : Plan → ℕ → ℕ → Merging → Merging → Option (List ℕ) → Option (List ℕ) → Type 0
-WritesOn plan start now old new mid to = (taken : List Read) (before : ℕ) (held : Option (List ℕ)) → before ≤ now →
+abbrev pub WritesOn : Plan → ℕ → ℕ → Merging → Merging → Sink → Sink → Type 0
+WritesOn plan start now old new mid to = (taken : List Read) (before : ℕ) (held : Sink) → before ≤ now →
     HasWritten plan start taken before old held mid → HasWritten plan start taken now new held to
 
 -- a packet of a capture was taken, if it is whole
-abbrev pub TakesOn : Plan → ℕ → Side → ℕ → ℕ → Packet → Merging → Merging → Option (List ℕ) → Option (List ℕ) → Type 0
-TakesOn plan start side number time packet old new mid to = (taken : List Read) (before : ℕ) (held : Option (List ℕ)) → before ≤ time →
+abbrev pub TakesOn : Plan → ℕ → Side → ℕ → ℕ → Packet → Merging → Merging → Sink → Sink → Type 0
+TakesOn plan start side number time packet old new mid to = (taken : List Read) (before : ℕ) (held : Sink) → before ≤ time →
     HasWritten plan start taken before old held mid →
     (own : List Read) × IsReadIf (is_whole packet.extent packet.len) plan side number time packet.octets.items own
     × HasWritten plan start (taken ++ own) time new held to
 
 -- some of the packets that wait were written, where no more will come
-abbrev pub EndsOn : Plan → ℕ → Option ℕ → List Pending → List Pending → Option (List ℕ) → Option (List ℕ) → Type 0
-EndsOn plan start until old new mid to = (taken : List Read) (held : Option (List ℕ)) → HasEnded plan start taken until old held mid →
+abbrev pub EndsOn : Plan → ℕ → Option ℕ → List Pending → List Pending → Sink → Sink → Type 0
+EndsOn plan start until old new mid to = (taken : List Read) (held : Sink) → HasEnded plan start taken until old held mid →
     HasEnded plan start taken until new held to
 
 -- what became of the packets that wait, where this ended going over captures and no more is known behind a time
-abbrev pub EndsBy : ScriptFault → ScriptFault → Plan → ℕ → ℕ → List Pending → Option (List ℕ) → Option (List ℕ) → Type 0
+abbrev pub EndsBy : ScriptFault → ScriptFault → Plan → ℕ → ℕ → List Pending → Sink → Sink → Type 0
 EndsBy (File inlet own) fault plan start now old mid to =
     ((fault ≡ File inlet own) × EndsOn plan start (Some now) old [] mid to)
     ⊎ IsStop fault ((left : List Pending) × EndsOn plan start (Some now) old left mid to)

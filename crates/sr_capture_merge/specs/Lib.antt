@@ -1,5 +1,6 @@
 pub mod Remarks
 pub mod Counting
+pub mod Counted
 pub mod Entries
 pub mod Settling
 pub mod Reading

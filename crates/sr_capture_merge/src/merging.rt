@@ -5,7 +5,7 @@ ghost use Rattle.sr_capture_script.specs.declared.choice.Inlet.TheVariants.{A as
 ghost use Rattle.sr_capture_script.specs.Merging.{feed_of};
 ghost use Rattle.sr_capture_script.specs.SourceViews.{IsFed};
 ghost use Rattle.sr_capture_merge.specs.Reading.{side_at};
-ghost use Rattle.sr_capture_merge.specs.Files.{IsStop, WritesOn, TakesOn, EndsOn, EndsBy};
+ghost use Rattle.sr_capture_merge.specs.Files.{sink, IsStop, WritesOn, TakesOn, EndsOn, EndsBy};
 ghost use Rattle.sr_capture_merge.specs.Merged.{MergesOn, MergesAll, MergesUntil, IsMerged, IsMergedUpTo};
 ghost use Rattle.sr_merge.specs.Merging.{Pending, pending_of};
 ghost use Rattle.sr_merge.specs.Verdicts.{verdict_until};
@@ -40,9 +40,11 @@ fn write_due<W: Write>(
     writer: &mut W,
 ) -> Result<(), ScriptFault>
     ensures goes { OnOk result (WritesOn output.old.plan output.old.start now merge.old merge.new
-        (W.contents writer.old) (W.contents writer.new)) }
+        (sink (W.contents writer.old) output.old.counts)
+        (sink (W.contents writer.new) output.new.counts)) }
     ensures stops { IfErr result (λ fault. IsStop fault (WritesOn output.old.plan
-        output.old.start now merge.old merge.new (W.contents writer.old) (W.contents writer.new))) }
+        output.old.start now merge.old merge.new (sink (W.contents writer.old) output.old.counts)
+        (sink (W.contents writer.new) output.new.counts))) }
     ensures plan { output.new.plan ≡ output.old.plan }
     ensures start { output.new.start ≡ output.old.start }
 {
@@ -79,10 +81,12 @@ fn write_rest<W: Write>(
     writer: &mut W,
 ) -> Result<(), ScriptFault>
     ensures goes { OnOk result (EndsOn output.old.plan output.old.start until merge.old.waiting []
-        (W.contents writer.old) (W.contents writer.new)) }
+        (sink (W.contents writer.old) output.old.counts)
+        (sink (W.contents writer.new) output.new.counts)) }
     ensures stops { IfErr result (λ fault. IsStop fault (EndsOn output.old.plan
-        output.old.start until merge.old.waiting merge.new.waiting (W.contents writer.old)
-        (W.contents writer.new))) }
+        output.old.start until merge.old.waiting merge.new.waiting
+        (sink (W.contents writer.old) output.old.counts)
+        (sink (W.contents writer.new) output.new.counts))) }
 {
     'waiting: while let Some(waiting) = merge.front() {
         let verdict = verdict_until(waiting, until);
@@ -103,10 +107,11 @@ fn take<W: Write>(
     writer: &mut W,
 ) -> Result<(), ScriptFault>
     ensures goes { OnOk result (TakesOn output.old.plan output.old.start side number time packet.now
-        merge.old merge.new (W.contents writer.old) (W.contents writer.new)) }
+        merge.old merge.new (sink (W.contents writer.old) output.old.counts)
+        (sink (W.contents writer.new) output.new.counts)) }
     ensures stops { IfErr result (λ fault. IsStop fault (WritesOn output.old.plan
-        output.old.start time merge.old merge.new (W.contents writer.old)
-        (W.contents writer.new))) }
+        output.old.start time merge.old merge.new (sink (W.contents writer.old) output.old.counts)
+        (sink (W.contents writer.new) output.new.counts))) }
     ensures plan { output.new.plan ≡ output.old.plan }
     ensures start { output.new.start ≡ output.old.start }
 {
@@ -148,10 +153,12 @@ fn pass<R: BufRead + Drop, W: Write>(
 ) -> Result<(), ScriptFault>
     ensures goes { OnOk result (MergesOn R.remaining choice.now output.old.plan output.old.start
         captures.old captures.new front now.old now.new merge.old merge.new
-        (W.contents writer.old) (W.contents writer.new)) }
+        (sink (W.contents writer.old) output.old.counts)
+        (sink (W.contents writer.new) output.new.counts)) }
     ensures stops { IfErr result (λ fault. fault ≢ ScriptFault.Write → MergesUntil R.remaining
         choice.now output.old.plan output.old.start captures.old (Some front) fault now.old now.new
-        merge.old merge.new (W.contents writer.old) (W.contents writer.new)) }
+        merge.old merge.new (sink (W.contents writer.old) output.old.counts)
+        (sink (W.contents writer.new) output.new.counts)) }
     ensures plan { output.new.plan ≡ output.old.plan }
     ensures start { output.new.start ≡ output.old.start }
 {
@@ -177,10 +184,12 @@ fn take_all<R: BufRead + Drop, W: Write>(
 ) -> Result<(), ScriptFault>
     ensures goes { OnOk result (MergesAll R.remaining choice.now output.old.plan output.old.start
         captures.old captures.new first now.old now.new merge.old merge.new
-        (W.contents writer.old) (W.contents writer.new)) }
+        (sink (W.contents writer.old) output.old.counts)
+        (sink (W.contents writer.new) output.new.counts)) }
     ensures stops { IfErr result (λ fault. fault ≢ ScriptFault.Write → MergesUntil R.remaining
         choice.now output.old.plan output.old.start captures.old first fault now.old now.new
-        merge.old merge.new (W.contents writer.old) (W.contents writer.new)) }
+        merge.old merge.new (sink (W.contents writer.old) output.old.counts)
+        (sink (W.contents writer.new) output.new.counts)) }
     ensures plan { output.new.plan ≡ output.old.plan }
     ensures start { output.new.start ≡ output.old.start }
 {
@@ -206,7 +215,8 @@ fn finish_broken<W: Write>(
 ) -> Result<(), ScriptFault>
     ensures never { OnOk result ⊥ }
     ensures stops { IfErr result (λ fault. EndsBy own fault output.old.plan output.old.start now
-        merge.old.waiting (W.contents writer.old) (W.contents writer.new)) }
+        merge.old.waiting (sink (W.contents writer.old) output.old.counts)
+        (sink (W.contents writer.new) output.new.counts)) }
 {
     match own {
         ScriptFault::File(_, _) => {
@@ -226,13 +236,16 @@ fn finish<W: Write>(
     writer: &mut W,
 ) -> Result<(), ScriptFault>
     ensures goes { OnOk result (OnOk taken (EndsOn output.old.plan output.old.start None
-        merge.old.waiting [] (W.contents writer.old) (W.contents writer.new))
+        merge.old.waiting [] (sink (W.contents writer.old) output.old.counts)
+        (sink (W.contents writer.new) output.new.counts))
         × IfErr taken (λ own. ⊥)) }
     ensures stops { IfErr result (λ fault. OnOk taken (IsStop fault ((left : List Pending)
         × EndsOn output.old.plan output.old.start None merge.old.waiting left
-        (W.contents writer.old) (W.contents writer.new)))
+        (sink (W.contents writer.old) output.old.counts)
+        (sink (W.contents writer.new) output.new.counts)))
         × IfErr taken (λ own. EndsBy own fault output.old.plan output.old.start now
-        merge.old.waiting (W.contents writer.old) (W.contents writer.new))) }
+        merge.old.waiting (sink (W.contents writer.old) output.old.counts)
+        (sink (W.contents writer.new) output.new.counts))) }
 {
     match taken {
         Ok(()) => write_rest(merge, output, None, writer),
@@ -240,7 +253,7 @@ fn finish<W: Write>(
     }
 }
 
-/// IsMerged captures into a file: each frame once, by its first copy, and each packet without number each time. Where a capture can't be
+/// Merges captures into a file: each frame once, by its first copy, and each packet without number each time. Where a capture can't be
 /// read on, the file has what came before.
 ///
 /// The counts are answered, and the fault that ended the merge early, if one did: that of a file, `Write`, `NoMemory` or `Endless`.
@@ -253,14 +266,14 @@ pub fn merge<R: BufRead + Drop, W: Write>(
     writer: &mut W,
 ) -> (Counts, Result<(), ScriptFault>)
     // What is written is the file of the packets of all captures, each capture's in its own order and all in order of time: of those
-    // that are taken each that is to be written, in order, with its verdict.
+    // that are taken each that is to be written, in order, with its verdict; and so the packets are counted.
     ensures merges { OnOk result.1 ((start_a start_b start_c : Option (List ℕ))
         → IsFed R.remaining AtA start_a captures.old.a []
         → IsFed R.remaining AtB start_b captures.old.b []
         → IsFed R.remaining AtC start_c captures.old.c []
         → IsMerged choice.now plan.now (feed_of captures.old.a start_a)
         (feed_of captures.old.b start_b) (feed_of captures.old.c start_c)
-        (W.contents writer.old) (W.contents writer.new)) }
+        (W.contents writer.old) (sink (W.contents writer.new) result.0)) }
 
     // Where a capture can't be read on, it is the file of the packets that come before the fault, whole; at any other fault, unless it
     // is the writer's, a front of it.
@@ -271,7 +284,7 @@ pub fn merge<R: BufRead + Drop, W: Write>(
         → IsFed R.remaining AtC start_c captures.old.c []
         → IsMergedUpTo choice.now plan.now (feed_of captures.old.a start_a)
         (feed_of captures.old.b start_b) (feed_of captures.old.c start_c) fault
-        (W.contents writer.old) (W.contents writer.new)) }
+        (W.contents writer.old) (sink (W.contents writer.new) result.0)) }
 {
     let first = captures.front();
     let mut output = match Output::begin(alloc, *plan, start_of(first), writer) {

@@ -226,9 +226,10 @@ fn count_written(counts: &mut Counts, is_written: bool)
 }
 
 impl Output {
-    ghost use Rattle.std.specs.Prelude.{◌≡◌, OnOk, IfOk, IfErr, Err};
+    ghost use Rattle.std.specs.Prelude.{◌≡◌, [], OnOk, OnErr, IfOk, IfErr, Err};
     ghost use Rattle.std.specs.Io.KnownBytes.{Appends};
     ghost use Rattle.sr_capture_merge.specs.Entries.{names_of, written_piece};
+    ghost use Rattle.sr_capture_merge.specs.Counted.{AreCountsOf};
     ghost use Rattle.sr_capture_merge.specs.Files.{IsStop};
     ghost use Rattle.sr_capture_merge.specs.Remarks.{remark_of};
     ghost use Rattle.sr_capture_merge.specs.Settling.{Settled, counted_one};
@@ -249,6 +250,7 @@ impl Output {
             (file_head (names_of plan.network))) }
         ensures plan { IfOk result (λ output. output.plan ≡ plan) }
         ensures start { IfOk result (λ output. output.start ≡ start) }
+        ensures counts { IfOk result (λ output. AreCountsOf plan [] output.counts) }
         ensures err { IfErr result (λ fault. fault ≡ ScriptFault.Write) }
     {
         write_head(writer, names_of(plan.network))?;
@@ -276,6 +278,7 @@ impl Output {
             (record { packet = packet_of waiting.now; verdict = verdict }) self.old.counts) }
         ensures stops { IfErr result (λ fault. IsStop fault
             (W.contents writer.new ≡ W.contents writer.old)) }
+        ensures uncounted { OnErr result (self.new.counts ≡ self.old.counts) }
         // Where the writer fails, there was memory for the comment.
         ensures unwritten { result ≡ Err ScriptFault.Write → self.new.comment.items
             ≡ remark_of self.old.plan.network verdict (packet_of waiting.now) }

@@ -14,7 +14,7 @@ use Rattle.sr_capture_script.specs.declared.fault.ScriptFault.{ScriptFault}
 use Rattle.sr_capture_script.specs.declared.fault.ScriptFault.TheVariants.{File}
 use Rattle.sr_capture_script.specs.declared.source.Source.{Source}
 use Rattle.sr_capture_script.specs.Items.{Item, rank, key_of, items_of, came_at, AllTo, AllToDue}
-use Rattle.sr_capture_script.specs.Merging.{Feed, feed_of, HasRecords, fault_at, Stands, HasCome}
+use Rattle.sr_capture_script.specs.Merging.{Feed, feed_of, HasRecords, fault_at, Stands, HasCome, AreEnoughFor}
 use Rattle.sr_capture_script.specs.Picking.{NotBefore, IsEarliest}
 use Rattle.sr_capture_script.specs.Sources.{left_of, IsFaulty, IsStuck, IsDue, Feeds}
 use Rattle.sr_capture_script.specs.SourceViews.{IsFed, IsSame, progress_of}
@@ -168,12 +168,14 @@ stands : (fault : Option CaptureFault) (i : Inlet) (x : Feed) (out : List Item) 
 stands fault i x out none h = subst (λ f. Stands f i x out) (sym none) h
 
 pub came_to : {R : Type 0} (remaining : R → Option (List ℕ)) (x y z : Feed) (all : Captures R) (fault : ScriptFault) (out : List Item) →
-    HaveCome remaining x y z all out → fault_at A fault ≡ None → fault_at B fault ≡ None → fault_at C fault ≡ None → CameUpTo fault x y z out
-came_to remaining x y z all fault out h none_a none_b none_c = record {
+    HaveCome remaining x y z all out → fault_at A fault ≡ None → fault_at B fault ≡ None → fault_at C fault ≡ None →
+    AreEnoughFor fault out → CameUpTo fault x y z out
+came_to remaining x y z all fault out h none_a none_b none_c enough = record {
   at_a = stands (fault_at A fault) A x out none_a (subst (λ f. HasCome A f out) h.same_a (has_come remaining A x.start all.a out h.fed_a h.to_a));
   at_b = stands (fault_at B fault) B y out none_b (subst (λ f. HasCome B f out) h.same_b (has_come remaining B y.start all.b out h.fed_b h.to_b));
   at_c = stands (fault_at C fault) C z out none_c (subst (λ f. HasCome C f out) h.same_c (has_come remaining C z.start all.c out h.fed_c h.to_c));
   order = h.order;
+  enough = enough;
 }
 
 -- files that are at their ends have given all
@@ -244,6 +246,7 @@ stops remaining x y z all A m n own left out early number stuck h =
         at_c = subst (λ (f : Feed). HasCome C f (out ++ s.item ∷ [])) h.same_c
             (has_come remaining C z.start all.c (out ++ s.item ∷ []) fed_c behind.1);
         order = order_more out s.item h.order (subst (λ k. AllTo k out) (sym key) to);
+        enough = tt;
       };
     }
 stops remaining x y z all B m n own left out early number stuck h =
@@ -267,6 +270,7 @@ stops remaining x y z all B m n own left out early number stuck h =
         at_c = subst (λ (f : Feed). HasCome C f (out ++ s.item ∷ [])) h.same_c
             (has_come remaining C z.start all.c (out ++ s.item ∷ []) fed_c behind.1);
         order = order_more out s.item h.order (subst (λ k. AllTo k out) (sym key) to);
+        enough = tt;
       };
     }
 stops remaining x y z all C m n own left out early number stuck h =
@@ -290,6 +294,7 @@ stops remaining x y z all C m n own left out early number stuck h =
             (has_come remaining B y.start all.b (out ++ s.item ∷ []) fed_b behind.1);
         at_c = subst (λ (f : Feed). IsFaulty C f.form f.delay own f.start (came_at C (out ++ s.item ∷ []))) h.same_c faulty;
         order = order_more out s.item h.order (subst (λ k. AllTo k out) (sym key) to);
+        enough = tt;
       };
     }
 

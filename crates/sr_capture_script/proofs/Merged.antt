@@ -1,5 +1,5 @@
 -- Files that have given all, and how far the others came.
-use Rattle.std.proofs.Common.{◌≡◌, ◌≢◌, ℕ, ◌-◌, ◌^◌, List, [], ◌∷◌, ◌++◌, length, Option, Some, None, Bool, sym, ap, subst, refl, ◌∙◌, inl, inr}
+use Rattle.std.proofs.Common.{◌≡◌, ◌≢◌, ◌≤◌, ℕ, ◌-◌, ◌^◌, List, [], ◌∷◌, ◌++◌, length, Option, Some, None, Bool, sym, ap, subst, refl, ◌∙◌, inl, inr}
 use Rattle.std.specs.Prelude.{unwrap_or, is_some, min}
 use Rattle.std.specs.Io.KnownBytes.{Appends}
 use Rattle.std.proofs.KnownBytes.{Appends-trans}
@@ -93,14 +93,15 @@ has_come remaining inlet start s printed fed to = come_by s.due inlet s.form s.d
 
 -- where a file has no fault, all files came so far
 pub halts_endless : {R : Type 0} (remaining : R → Option (List ℕ)) (choice : Choice) (sa sb sc : Option (List ℕ)) (a b c : Source R) (clock : Clock)
-    (held now : Option (List ℕ)) → Going remaining choice sa sb sc a b c clock held now
+    (held now : Option (List ℕ)) → (going : Going remaining choice sa sb sc a b c clock held now) → 2 ^ 64 - 1 ≤ length going.out
     → Halts choice (feed_of a sa) (feed_of b sb) (feed_of c sc) Endless held now
-halts_endless remaining choice sa sb sc a b c clock held now g = record {
+halts_endless remaining choice sa sb sc a b c clock held now g many = record {
   printed = g.out;
   at_a = has_come remaining A sa a g.out g.fed_a g.to_a;
   at_b = has_come remaining B sb b g.out g.fed_b g.to_b;
   at_c = has_come remaining C sc c g.out g.fed_c g.to_c;
   order = g.order;
+  enough = many;
   wrote = g.wrote;
 }
 
@@ -113,6 +114,7 @@ halts_no_memory remaining choice sa sb sc a b c clock held now g = record {
   at_b = has_come remaining B sb b g.out g.fed_b g.to_b;
   at_c = has_come remaining C sc c g.out g.fed_c g.to_c;
   order = g.order;
+  enough = tt;
   wrote = g.wrote;
 }
 
@@ -130,6 +132,7 @@ halts_a remaining choice sa sb sc a a' b c clock held mid now m NoMemory other g
       at_b = all.at_b;
       at_c = all.at_c;
       order = all.order;
+      enough = tt;
       wrote = subst (λ (o : Option (List ℕ)). Appends held o (lines_of choice all.printed)) (sym stop.1) all.wrote;
     }
 halts_a remaining choice sa sb sc a a' b c clock held mid now m (File B fault) other g early stop = absurd (cc (stop.0))
@@ -147,6 +150,7 @@ halts_a remaining choice sa sb sc a a' b c clock held mid now m (File A fault) o
       at_b = has_come remaining B sb b (g.out ++ s.item ∷ []) fed_b behind.0;
       at_c = has_come remaining C sc c (g.out ++ s.item ∷ []) fed_c behind.1;
       order = order_more g.out s.item g.order (subst (λ n. AllTo n g.out) (sym key) to);
+      enough = tt;
       wrote = more_lines choice clock m g.out s.item held mid now s.when g.base g.last g.wrote s.wrote;
     }
 
@@ -164,6 +168,7 @@ halts_b remaining choice sa sb sc a b b' c clock held mid now m NoMemory other g
       at_b = all.at_b;
       at_c = all.at_c;
       order = all.order;
+      enough = tt;
       wrote = subst (λ (o : Option (List ℕ)). Appends held o (lines_of choice all.printed)) (sym stop.1) all.wrote;
     }
 halts_b remaining choice sa sb sc a b b' c clock held mid now m (File A fault) other g early stop = absurd (cc (stop.0))
@@ -181,6 +186,7 @@ halts_b remaining choice sa sb sc a b b' c clock held mid now m (File B fault) o
       at_a = has_come remaining A sa a (g.out ++ s.item ∷ []) fed_a behind.0;
       at_c = has_come remaining C sc c (g.out ++ s.item ∷ []) fed_c behind.1;
       order = order_more g.out s.item g.order (subst (λ n. AllTo n g.out) (sym key) to);
+      enough = tt;
       wrote = more_lines choice clock m g.out s.item held mid now s.when g.base g.last g.wrote s.wrote;
     }
 
@@ -198,6 +204,7 @@ halts_c remaining choice sa sb sc a b c c' clock held mid now m NoMemory other g
       at_b = all.at_b;
       at_c = all.at_c;
       order = all.order;
+      enough = tt;
       wrote = subst (λ (o : Option (List ℕ)). Appends held o (lines_of choice all.printed)) (sym stop.1) all.wrote;
     }
 halts_c remaining choice sa sb sc a b c c' clock held mid now m (File A fault) other g early stop = absurd (cc (stop.0))
@@ -215,6 +222,7 @@ halts_c remaining choice sa sb sc a b c c' clock held mid now m (File C fault) o
       at_a = has_come remaining A sa a (g.out ++ s.item ∷ []) fed_a behind.0;
       at_b = has_come remaining B sb b (g.out ++ s.item ∷ []) fed_b behind.1;
       order = order_more g.out s.item g.order (subst (λ n. AllTo n g.out) (sym key) to);
+      enough = tt;
       wrote = more_lines choice clock m g.out s.item held mid now s.when g.base g.last g.wrote s.wrote;
     }
 
@@ -253,6 +261,7 @@ halts_merged choice x y z a b c last held now fault h is =
       at_b = (h.packets_b, inl (h.has_b, h.is_merge.at_b));
       at_c = (h.packets_c, inl (h.has_c, h.is_merge.at_c));
       order = h.is_merge.order;
+      enough = tt;
       wrote = h.wrote;
     } in
     subst (λ (f : ScriptFault). Halts choice x y z f held now) (sym is) own

@@ -11,7 +11,7 @@ use Rattle.std.proofs.lemmas.List.FromFn.{map-range_with_len_more}
 use Rattle.sr_capture_script.specs.declared.choice.Choice.{Choice}
 use Rattle.sr_capture_script.specs.declared.choice.Inlet.{Inlet}
 use Rattle.sr_capture_script.specs.Items.{Item}
-use Rattle.sr_capture_script.specs.Texts.{tick_line, steps_to, grid_between, ticks_to, line_of, time_since, is_wanted, piece_of, pieces_of, last_after, last_of, first_moment, lines_of, last_line}
+use Rattle.sr_capture_script.specs.Texts.{tick_line, steps_to, grid_between, ticks_to, line_of, time_since, is_wanted, piece_of, pieces_of, last_after, last_behind, first_moment, lines_of, last_line}
 
 -- the first ticks behind so many steps of a grid
 abbrev pub first_ticks : ℕ → ℕ → ℕ → ℕ → List ℕ
@@ -39,16 +39,16 @@ all_between from step last time gone n held now is all wrote =
 
 -- one item more
 pieces_more : (choice : Choice) (base : ℕ) (last : Option ℕ) (items : List Item) (item : Item)
-    → pieces_of choice base last (items ++ item ∷ []) ≡ pieces_of choice base last items ++ piece_of choice base (last_of choice base last items) item
+    → pieces_of choice base last (items ++ item ∷ []) ≡ pieces_of choice base last items ++ piece_of choice base (last_behind choice base last items) item
 pieces_more choice base last [] item = append-nil (piece_of choice base last item)
 pieces_more choice base last (x ∷ xs) item =
     let next = last_after choice base last x.moment in
     let front = piece_of choice base last x in
     ap (λ (l : List ℕ). front ++ l) (pieces_more choice base next xs item)
-    ∙ sym (append_assoc front (pieces_of choice base next xs) (piece_of choice base (last_of choice base next xs) item))
+    ∙ sym (append_assoc front (pieces_of choice base next xs) (piece_of choice base (last_behind choice base next xs) item))
 
 last_more : (choice : Choice) (base : ℕ) (last : Option ℕ) (items : List Item) (item : Item)
-    → last_of choice base last (items ++ item ∷ []) ≡ last_after choice base (last_of choice base last items) item.moment
+    → last_behind choice base last (items ++ item ∷ []) ≡ last_after choice base (last_behind choice base last items) item.moment
 last_more choice base last [] item = refl
 last_more choice base last (x ∷ xs) item = last_more choice base (last_after choice base last x.moment) xs item
 

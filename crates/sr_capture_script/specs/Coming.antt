@@ -7,7 +7,7 @@ use Rattle.sr_capture_script.specs.declared.choice.Inlet.TheVariants.{A, B, C}
 use Rattle.sr_capture_script.specs.declared.fault.ScriptFault.{ScriptFault}
 use Rattle.sr_capture_script.specs.Captures.{IsDueFirst, HasNoFront}
 use Rattle.sr_capture_script.specs.Items.{Item, items_of, came_at, IsInOrder, IsMerge, AllToDue}
-use Rattle.sr_capture_script.specs.Merging.{Feed, feed_of, HasRecords, Stands, fault_at}
+use Rattle.sr_capture_script.specs.Merging.{Feed, feed_of, HasRecords, Stands, fault_at, AreEnoughFor}
 use Rattle.sr_capture_script.specs.SourceViews.{IsFed}
 use Rattle.sr_capture_script.specs.Texts.{first_moment}
 
@@ -50,9 +50,10 @@ pub record AllCame (x y z : Feed) (merged : List Item) : Type 0 where
   pub is_merge : IsMerge (items_of A x.delay packets_a) (items_of B y.delay packets_b) (items_of C z.delay packets_c) merged
 
 -- the packets that come before a fault: of a file at fault all that stand before it, of another file all, or all up to one that is not
--- before any of them
+-- before any of them; there are enough of them for that fault
 pub record CameUpTo (fault : ScriptFault) (x y z : Feed) (out : List Item) : Type 0 where
   pub at_a : Stands (fault_at A fault) A x out
   pub at_b : Stands (fault_at B fault) B y out
   pub at_c : Stands (fault_at C fault) C z out
   pub order : IsInOrder out
+  pub enough : AreEnoughFor fault out

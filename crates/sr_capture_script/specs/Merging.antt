@@ -1,5 +1,5 @@
 -- A script of up to three files, or as much of it as comes before a fault.
-use Rattle.std.specs.Prelude.{◌≡◌, ℕ, ◌-◌, ◌^◌, min, List, [], ◌∷◌, ◌++◌, length, Option, Some, None, Bool, true, false, IfSome, ◌⊎◌}
+use Rattle.std.specs.Prelude.{◌≡◌, ◌≤◌, ℕ, ◌-◌, ◌^◌, min, List, [], ◌∷◌, ◌++◌, length, Option, Some, None, Bool, true, false, IfSome, ◌⊎◌}
 use Rattle.std.specs.Io.KnownBytes.{Appends}
 use Rattle.sr_capture.specs.declared.fault.CaptureFault.{CaptureFault}
 use Rattle.sr_capture_script.specs.declared.format.Format.{Format}
@@ -9,7 +9,7 @@ use Rattle.sr_capture_script.specs.declared.choice.Choice.{Choice}
 use Rattle.sr_capture_script.specs.declared.choice.Inlet.{Inlet}
 use Rattle.sr_capture_script.specs.declared.choice.Inlet.TheVariants.{A, B, C}
 use Rattle.sr_capture_script.specs.declared.fault.ScriptFault.{ScriptFault}
-use Rattle.sr_capture_script.specs.declared.fault.ScriptFault.TheVariants.{File}
+use Rattle.sr_capture_script.specs.declared.fault.ScriptFault.TheVariants.{File, Endless}
 use Rattle.sr_capture_script.specs.declared.flaws.FlawCounts.{FlawCounts}
 use Rattle.sr_capture_script.specs.declared.source.Source.{Source}
 use Rattle.sr_capture_script.specs.Formats.{AreTaken, HasPackets}
@@ -108,6 +108,11 @@ abbrev pub Stands : Option CaptureFault → Inlet → Feed → List Item → Typ
 Stands None inlet feed printed = HasCome inlet feed printed
 Stands (Some fault) inlet feed printed = IsFaulty inlet feed.form feed.delay fault feed.start (came_at inlet printed)
 
+-- going over packets is endless behind 2^64 - 1 of them, and not before
+abbrev pub AreEnoughFor : ScriptFault → List Item → Type 0
+AreEnoughFor Endless items = 2 ^ 64 - 1 ≤ length items
+AreEnoughFor other items = Unit {0}
+
 -- the lines of the packets that come before a fault
 pub record Halts (choice : Choice) (x y z : Feed) (fault : ScriptFault) (held now : Option (List ℕ)) : Type 0 where
   pub printed : List Item
@@ -115,4 +120,5 @@ pub record Halts (choice : Choice) (x y z : Feed) (fault : ScriptFault) (held no
   pub at_b : Stands (fault_at B fault) B y printed
   pub at_c : Stands (fault_at C fault) C z printed
   pub order : IsInOrder printed
+  pub enough : AreEnoughFor fault printed
   pub wrote : Appends held now (lines_of choice printed)

@@ -61,10 +61,10 @@ pub record TakesWanted {P : Type 0} (takes : P → Handed → P → Type 0) (cho
   pub came : AllCame x y z merged
   pub taken : FoldsTo takes old (wanted choice merged) new
 
--- a fault of going over captures: of a file, behind all of its packets that came, or of more packets than are counted
+-- a fault of going over captures: of a file, behind all of its packets that came, or behind more packets than are counted
 abbrev pub IsOfCaptures : Feed → Feed → Feed → ScriptFault → Type 0
 IsOfCaptures x y z (File inlet fault) = (out : List Item) × CameUpTo (File inlet fault) x y z out
-IsOfCaptures x y z Endless = Unit {0}
+IsOfCaptures x y z Endless = (out : List Item) × CameUpTo Endless x y z out
 IsOfCaptures x y z Write = ⊥
 IsOfCaptures x y z NoMemory = ⊥
 

@@ -134,9 +134,10 @@ pieces_of choice base last [] = []
 pieces_of choice base last (item ∷ items) = piece_of choice base last item
     ++ pieces_of choice base (last_after choice base last item.moment) items
 
-abbrev pub last_of : Choice → ℕ → Option ℕ → List Item → Option ℕ
-last_of choice base last [] = last
-last_of choice base last (item ∷ items) = last_of choice base (last_after choice base last item.moment) items
+-- the time of the last line behind items, where that before them is known
+abbrev pub last_behind : Choice → ℕ → Option ℕ → List Item → Option ℕ
+last_behind choice base last [] = last
+last_behind choice base last (item ∷ items) = last_behind choice base (last_after choice base last item.moment) items
 
 -- the moment of the first item
 abbrev pub first_moment : List Item → Option ℕ
@@ -153,7 +154,7 @@ lines_of choice items = pieces_of choice (base_of items) None items
 
 -- the time of the last line of an item
 abbrev pub last_line : Choice → List Item → Option ℕ
-last_line choice items = last_of choice (base_of items) None items
+last_line choice items = last_behind choice (base_of items) None items
 
 -- the ticks behind the last line: up to the last time that is wanted, if one is named
 abbrev pub last_ticks : Choice → Option ℕ → List ℕ

@@ -1,6 +1,6 @@
 //! The packets of three files, printed in the order of their times.
 
-ghost use Rattle.std.specs.Prelude.{◌≡◌, ◌++◌, List, ℕ, Option, OnOk, IfErr, unwrap_or, ◌≢◌, [], IfOk};
+ghost use Rattle.std.specs.Prelude.{◌≡◌, ◌+◌, ◌++◌, List, ℕ, Option, OnOk, IfErr, length, unwrap_or, ◌≢◌, [], IfOk};
 ghost use Rattle.sr_capture_script.specs.Items.{Item};
 ghost use Rattle.sr_capture_script.specs.SourceViews.{IsFed, IsSame, Serves, StopsServing};
 ghost use Rattle.sr_capture_script.specs.Texts.{last_after};
@@ -89,10 +89,10 @@ fn serve_at<R: BufRead, W: Write>(
 ) -> Result<(), ScriptFault>
     requires { IsEarliest inlet moment a.old.due b.old.due c.old.due }
     ensures goes { OnOk result ((start_a start_b start_c held : Option (List ℕ))
-        → Going R.remaining choice.now start_a start_b start_c a.old b.old c.old clock.old held
-        (W.contents writer.old)
-        → Going R.remaining choice.now start_a start_b start_c a.new b.new c.new clock.new held
-        (W.contents writer.new)) }
+        → (before : Going R.remaining choice.now start_a start_b start_c a.old b.old c.old clock.old
+        held (W.contents writer.old))
+        → (after : Going R.remaining choice.now start_a start_b start_c a.new b.new c.new clock.new
+        held (W.contents writer.new)) × (length after.out ≡ length before.out + 1)) }
     ensures halts { IfErr result (λ fault. fault ≢ ScriptFault.Write
         → (start_a start_b start_c held : Option (List ℕ))
         → Going R.remaining choice.now start_a start_b start_c a.old b.old c.old clock.old held

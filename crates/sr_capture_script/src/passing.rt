@@ -1,6 +1,6 @@
 //! Going over the packets of captures.
 
-ghost use Rattle.std.specs.Prelude.{◌≡◌, [], List, ℕ, Option, OnOk, IfErr, IfSome};
+ghost use Rattle.std.specs.Prelude.{◌≡◌, [], List, ℕ, Option, OnOk, IfErr, IfSome, IfNone};
 ghost use Rattle.sr_capture_script.specs.declared.choice.Inlet.TheVariants.{A as AtA, B as AtB, C as AtC};
 ghost use Rattle.sr_capture_script.specs.Items.{Item};
 ghost use Rattle.sr_capture_script.specs.Merging.{feed_of};
@@ -44,9 +44,10 @@ pub trait Pass {
         ensures refused { IfErr result (λ fault. refuses fault) };
 }
 
-/// The time from which times are counted: that of the first packet, if there is one.
+/// The time from which times are counted: that of the first packet, and 0 where there is none.
 pub fn start_of(first: Option<Front>) -> u64
-    ensures { IfSome first (λ front. front.moment ≡ result) }
+    ensures first { IfSome first (λ front. front.moment ≡ result) }
+    ensures none { IfNone first (result ≡ 0) }
 {
     match first {
         Some(front) => front.moment,
@@ -82,7 +83,7 @@ fn hand<P: Pass>(
 /// Gives a pass the packets that are wanted, in the order of their times. Times are counted from the earliest packet.
 ///
 /// # Errors
-/// The fault of a file, those of the pass, or `Endless`.
+/// The fault of a file, those of the pass, or `Endless` behind 2^64 - 1 packets.
 pub fn pass_over<R: BufRead + Drop, P: Pass>(
     captures: &mut Captures<R>,
     choice: &Choice,
@@ -96,7 +97,8 @@ pub fn pass_over<R: BufRead + Drop, P: Pass>(
         → TakesWanted P.takes choice.now (feed_of captures.old.a start_a)
         (feed_of captures.old.b start_b) (feed_of captures.old.c start_c) pass.old pass.new) }
 
-    // What ends it early is a fault of a file, behind all of its packets that came, or one of the pass.
+    // What ends it early is a fault of a file, behind all of its packets that came, that there are too many packets, or
+    // a fault of the pass.
     ensures ends { IfErr result (λ fault. (start_a start_b start_c : Option (List ℕ))
         → IsFed R.remaining AtA start_a captures.old.a []
         → IsFed R.remaining AtB start_b captures.old.b []

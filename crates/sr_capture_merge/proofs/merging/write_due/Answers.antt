@@ -1,8 +1,12 @@
-use Rattle.std.proofs.Common.{arith, refl, sym, subst, ◌∙◌}
+use Rattle.std.proofs.Common.{◌≡◌, arith, refl, sym, subst, ◌∙◌}
 use Rattle.std.specs.Io.KnownBytes.{Appends}
 use Rattle.std.proofs.lemmas.Grind.{common_steps}
 use Rattle.sr_merge.specs.Merging.{pending_of, packet_of}
 use Rattle.sr_capture_merge.specs.Entries.{written_piece}
+use Rattle.sr_capture_merge.specs.Files.{sink, WritesOn}
+use Rattle.sr_capture_merge.specs.Settling.{counted_one}
+use Rattle.sr_capture_script.proofs.Outcomes.{handed_on}
+use Rattle.sr_capture_merge.proofs.Merged.{sink_is, stops_so}
 use Rattle.sr_capture_merge.proofs.Settled.{written_later, written_next}
 use Rattle.sr_capture_merge.proofs.merging.write_due.Goals as goal
 use Rattle.sr_capture_merge.proofs.merging.write_due.Goals.{else-is_none-via-then-is_none+else-len-lt-MAX_WAITING, else-is_none-via-else-is_none}
@@ -10,7 +14,7 @@ use Rattle.sr_capture_merge.proofs.merging.write_due.Goals.{else-is_none-via-the
 pub waiting-init : goal.waiting-init
 waiting-init g c = record {
   on = λ taken before held le h.
-      written_later c.args.output.now.plan c.args.output.now.start taken before c.args.now c.args.merge.now held (g.W.Write.contents c.args.writer.now) le h;
+      written_later c.args.output.now.plan c.args.output.now.start taken before c.args.now c.args.merge.now held (sink (g.W.Write.contents c.args.writer.now) c.args.output.now.counts) le h;
   plan = refl;
   start = refl;
 }
@@ -24,7 +28,8 @@ waiting-preserved g c =
     record {
       on = λ taken before held le h.
           written_next c.args.output.now.plan c.args.output.now.start taken c.args.now c.waiting.merge c.drop_front.new.self
-          (pending_of c.in-Some.waiting.now) v held (g.W.Write.contents c.waiting.writer) (g.W.Write.contents c.put.new.writer)
+          (pending_of c.in-Some.waiting.now) v held (sink (g.W.Write.contents c.waiting.writer) c.waiting.output.counts)
+          (sink (g.W.Write.contents c.put.new.writer) c.put.new.self.counts)
           (i.on taken before held le h) c.in-Some.ensures.some c.drop_front.ensures.sources c.drop_front.ensures.waiting
           (sym c.verdict-verdict.ensures)
           (λ e. elim c.else-is_none.branch [
@@ -33,7 +38,14 @@ waiting-preserved g c =
           ])
           (subst (λ p. Appends (g.W.Write.contents c.waiting.writer) (g.W.Write.contents c.put.new.writer) (written_piece p c.args.output.now.start v own)) i.plan
           (subst (λ s. Appends (g.W.Write.contents c.waiting.writer) (g.W.Write.contents c.put.new.writer) (written_piece c.waiting.output.plan s v own)) i.start
-          c.in_ok-put.ensures.wrote));
+          c.in_ok-put.ensures.wrote))
+          (subst (λ p. c.put.new.self.counts ≡ counted_one p (record { packet = own; verdict = v }) c.waiting.output.counts) i.plan
+          c.in_ok-put.ensures.counts);
       plan = c.put.ensures.plan ∙ i.plan;
       start = c.put.ensures.start ∙ i.start;
     }
+
+pub returns-in_err-put-clause-stops : goal.returns-in_err-put-clause-stops
+returns-in_err-put-clause-stops g c =
+    handed_on c.from_residual.result _ _ c.from_residual.ensures.1 (stops_so _ (λ same.
+    subst (λ s. WritesOn c.args.output.now.plan c.args.output.now.start c.args.now c.args.merge.now c.waiting.merge (sink (g.W.Write.contents c.args.writer.now) c.args.output.now.counts) s) (sink_is _ _ _ _ (sym same) (sym c.in_err-put.ensures.uncounted)) c.waiting.invariant.on) c.in_err-put.ensures.stops)

@@ -1,7 +1,11 @@
-use Rattle.std.proofs.Common.{subst, ◌∙◌}
+use Rattle.std.proofs.Common.{◌≡◌, sym, subst, ◌∙◌}
 use Rattle.std.specs.Io.KnownBytes.{Appends}
 use Rattle.sr_merge.specs.Merging.{pending_of, packet_of}
 use Rattle.sr_capture_merge.specs.Entries.{written_piece}
+use Rattle.sr_capture_merge.specs.Files.{sink, EndsOn}
+use Rattle.sr_capture_merge.specs.Settling.{counted_one}
+use Rattle.sr_capture_script.proofs.Outcomes.{handed_on}
+use Rattle.sr_capture_merge.proofs.Merged.{sink_is, stops_so}
 use Rattle.sr_capture_merge.proofs.Settled.{ended_next}
 use Rattle.sr_capture_merge.proofs.merging.write_rest.Goals as goal
 
@@ -13,11 +17,19 @@ waiting-preserved g c =
     record {
       on = λ taken held h.
           ended_next c.args.output.now.plan c.args.output.now.start taken c.args.until c.waiting.merge.waiting c.drop_front.new.self.waiting
-          (pending_of c.in-Some.waiting.now) v held (g.W.Write.contents c.waiting.writer) (g.W.Write.contents c.put.new.writer)
+          (pending_of c.in-Some.waiting.now) v held (sink (g.W.Write.contents c.waiting.writer) c.waiting.output.counts)
+          (sink (g.W.Write.contents c.put.new.writer) c.put.new.self.counts)
           (i.on taken held h) c.in-Some.ensures.some c.drop_front.ensures.waiting c.verdict_until-verdict.ensures
           (subst (λ p. Appends (g.W.Write.contents c.waiting.writer) (g.W.Write.contents c.put.new.writer) (written_piece p c.args.output.now.start v own)) i.plan
           (subst (λ s. Appends (g.W.Write.contents c.waiting.writer) (g.W.Write.contents c.put.new.writer) (written_piece c.waiting.output.plan s v own)) i.start
-          c.in_ok-put.ensures.wrote));
+          c.in_ok-put.ensures.wrote))
+          (subst (λ p. c.put.new.self.counts ≡ counted_one p (record { packet = own; verdict = v }) c.waiting.output.counts) i.plan
+          c.in_ok-put.ensures.counts);
       plan = c.put.ensures.plan ∙ i.plan;
       start = c.put.ensures.start ∙ i.start;
     }
+
+pub returns-in_err-put-clause-stops : goal.returns-in_err-put-clause-stops
+returns-in_err-put-clause-stops g c =
+    handed_on c.from_residual.result _ _ c.from_residual.ensures.1 (stops_so _ (λ same.
+    subst (λ s. EndsOn c.args.output.now.plan c.args.output.now.start c.args.until c.args.merge.now.waiting c.waiting.merge.waiting (sink (g.W.Write.contents c.args.writer.now) c.args.output.now.counts) s) (sink_is _ _ _ _ (sym same) (sym c.in_err-put.ensures.uncounted)) c.waiting.invariant.on) c.in_err-put.ensures.stops)

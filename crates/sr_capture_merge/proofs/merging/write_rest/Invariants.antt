@@ -1,11 +1,11 @@
 use Rattle.std.proofs.Common.{◌≡◌, length}
-use Rattle.sr_capture_merge.specs.Files.{EndsOn}
+use Rattle.sr_capture_merge.specs.Files.{sink, EndsOn}
 use Rattle.sr_capture_merge.proofs.merging.write_rest.Given as goal
 
 abbrev pub invariant-waiting : goal.invariant-waiting
 invariant-waiting g l = record {
-  on : EndsOn l.fn.output.plan l.fn.output.start l.until l.fn.merge.waiting l.merge.waiting (g.W.Write.contents l.fn.writer)
-      (g.W.Write.contents l.writer);
+  on : EndsOn l.fn.output.plan l.fn.output.start l.until l.fn.merge.waiting l.merge.waiting
+      (sink (g.W.Write.contents l.fn.writer) l.fn.output.counts) (sink (g.W.Write.contents l.writer) l.output.counts);
   plan : l.output.plan ≡ l.fn.output.plan;
   start : l.output.start ≡ l.fn.output.start;
 }

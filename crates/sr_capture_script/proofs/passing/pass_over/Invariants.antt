@@ -6,4 +6,4 @@ use Rattle.sr_capture_script.proofs.passing.pass_over.Given as goal
 
 abbrev pub invariant-packets : goal.invariant-packets
 invariant-packets g l = (x y z : Feed) → HaveCome g.R.Read.remaining x y z l.fn.captures [] →
-    IsPassing g.R.Read.remaining g.P.Pass.takes l.choice l.start x y z l.captures l.next l.fn.pass l.pass
+    IsPassing g.R.Read.remaining g.P.Pass.takes l.choice l.start x y z l.counter l.captures l.next l.fn.pass l.pass

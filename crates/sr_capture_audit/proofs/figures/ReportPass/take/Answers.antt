@@ -11,5 +11,5 @@ pub returns-clause-taken : goal.returns-clause-taken
 returns-clause-taken c =
     on_ok_weaker c.note_kind.result (λ took x is.
     counted c.args.place c.args.packet.now x c.args.self.now _ c.tap_at.result c.in-Some.tap c.kind_of-kind.result c.as_slice.result.now is
-    c.tap_at.ensures c.in-Some.is c.kind_of-kind.ensures c.as_slice.ensures.value c.note.ensures c.with_time-self.ensures took refl refl)
+    c.tap_at.ensures c.in-Some.is c.kind_of-kind.ensures c.as_slice.ensures.value c.note.ensures c.lengthened-self.ensures took refl refl)
     c.note_kind.ensures.taken
