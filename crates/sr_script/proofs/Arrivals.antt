@@ -1,4 +1,4 @@
--- An arrival whose line ends where its digits end.
+-- A line with a time and octets, which ends where its digits end.
 use Rattle.std.proofs.Common.{◌≡◌, ℕ, suc, ◌+◌, ◌-◌, ◌*◌, ◌/◌, ◌%◌, ◌^◌, ◌<◌, ◌≤◌, true, false, List, [], ◌∷◌, ◌++◌, length, take, drop, slice_index, Ok, sym, ap, refl, subst, ◌∙◌, arith, append_assoc, lit<}
 use Rattle.std.specs.Prelude.{codes}
 use Rattle.std.specs.Fmt.{decimal}
@@ -11,8 +11,11 @@ use Rattle.sr_hex.specs.Values.{IsDigitFront}
 use Rattle.sr_forwarding.specs.declared.kind.RoleKind.{RoleKind}
 use Rattle.sr_session.specs.Octets.{spaced}
 use Rattle.sr_words.specs.Words.{IsHex}
-use Rattle.sr_script.specs.Commands.{IsInlet, letter_of}
-use Rattle.sr_script.specs.FrontArrivals.{StandsAtFront}
+use Rattle.sr_script.specs.declared.reading.Command.{Command}
+use Rattle.sr_script.specs.declared.reading.Command.TheVariants.{Arrive, Send}
+use Rattle.sr_script.specs.declared.reading.FrontLine.{FrontLine}
+use Rattle.sr_script.specs.Commands.{IsInlet, Says, letter_of}
+use Rattle.sr_script.specs.FrontArrivals.{EndsAtFront, StandsAtFront}
 use Rattle.sr_session.specs.Octets.{Lacks}
 use Rattle.sr_session.specs.OctetLemmas.{Lacks-append}
 use Rattle.sr_words.specs.WordLemmas.{decimal_unbroken}
@@ -36,53 +39,79 @@ digits_unbroken (d ∷ ds) h = (λ e. no_digit d e (h 0 0 (omega arith)), digits
         let no : is_hex_digit d ≡ false = ap is_hex_digit e in
         absurd cc
 
--- the words of the line, one behind the other, and the octets behind its digits
-pub stands : (role : RoleKind) (text rest timed behind word out : List ℕ) (port : Port) (time n : ℕ)
-    → text ≡ codes "in " ++ rest → rest ≡ letter_of port ++ 32 ∷ timed → IsInlet role port → timed ≡ word ++ 32 ∷ behind → word ≡ decimal time → time < 2 ^ 64
-    → IsDigitFront behind n → slice_index behind n ≡ 10 → 0 < n → n % 2 ≡ 0 → length text - length behind + n ≤ 8000
+-- the time and the octets, and what stands behind their digits
+pub ends : (text behind word out : List ℕ) (left time n : ℕ)
+    → text ≡ word ++ 32 ∷ behind → word ≡ decimal time → time < 2 ^ 64
+    → IsDigitFront behind n → slice_index behind n ≡ 10 → 0 < n → n % 2 ≡ 0 → length text ≤ left → left - length behind + n ≤ 8000
     → decode_of (take (2 * (n / 2)) behind) ≡ Ok (take (n / 2) out) → n / 2 ≤ length out
-    → StandsAtFront role text (record { port = port; time = time; count = n / 2; length = length text - length behind + n }) out
-stands role text rest timed behind word out port time n e1 e2 inlet e3 e4 fits front feed some even short decoded room =
+    → EndsAtFront left text (record { time = time; count = n / 2; length = left - length behind + n }) out
+ends text behind word out left time n first word_is fits front feed some even within short decoded room =
     let digits = take n behind in
     let after = drop (n + 1) behind in
-    let line = spaced (codes "in" ∷ letter_of port ∷ decimal time ∷ digits ∷ []) in
+    let timed = spaced (decimal time ∷ digits ∷ []) in
     let parted : behind ≡ digits ++ 10 ∷ after =
     sym (take-append-drop n behind) ∙ ap (λ (l : List ℕ). digits ++ l) (drop_more behind n 0 front.within ∙ ap (λ b. b ∷ after) feed) in
-    let regrouped =
-    append_assoc (letter_of port) (32 ∷ (decimal time ++ 32 ∷ digits)) (10 ∷ after)
-    ∙ ap (λ (l : List ℕ). letter_of port ++ 32 ∷ l) (append_assoc (decimal time) (32 ∷ digits) (10 ∷ after)) in
-    let whole : text ≡ line ++ 10 ∷ after =
-    e1
-    ∙ ap (λ (l : List ℕ). codes "in " ++ l)
-    (e2 ∙ ap (λ (l : List ℕ). letter_of port ++ 32 ∷ l) (e3 ∙ ap (λ (w : List ℕ). w ++ 32 ∷ behind) e4 ∙ ap (λ (l : List ℕ). decimal time ++ 32 ∷ l) parted) ∙ sym regrouped) in
-    let long : length text - length behind + n ≡ length line =
-    omega (
-      arith,
-      ap length whole,
-      length-append line (10 ∷ after),
-      ap length parted,
-      length-append digits (10 ∷ after),
-      length-take n behind,
-      front.within,
-      ap length e1,
-      length-append (codes "in ") rest,
-      ap length e2,
-      length-append (letter_of port) (32 ∷ timed),
-      ap length e3,
-      length-append word (32 ∷ behind),
-    ) in
+    let parts : text ≡ timed ++ 10 ∷ after =
+    first ∙ ap (λ (w : List ℕ). w ++ 32 ∷ behind) word_is ∙ ap (λ (l : List ℕ). decimal time ++ 32 ∷ l) parted
+    ∙ sym (append_assoc (decimal time) (32 ∷ digits) (10 ∷ after)) in
+    let digits_len : length digits ≡ n = omega (arith, length-take n behind, front.within) in
+    let long : left - length behind + n + length text ≡ left + length timed =
+    omega (arith, ap length first, length-append word (32 ∷ behind), ap length word_is, length-append (decimal time) (32 ∷ digits), digits_len, within) in
     let space = other_than_feed 32 (lit< tt) in
-    let words =
-    Lacks-append 10 (letter_of port) (32 ∷ (decimal time ++ 32 ∷ digits)) (letter_unbroken port)
-    (space, Lacks-append 10 (decimal time) (32 ∷ digits) (decimal_unbroken time fits) (space, digits_unbroken digits front.digits)) in
-    let unbroken : Lacks 10 line = (other_than_feed 105 (lit< tt), (other_than_feed 110 (lit< tt), (space, words))) in
     let pairs : 2 * (n / 2) ≡ n = omega arith in
     let hex : IsHex digits (take (n / 2) out) =
     (subst (λ m. decode_of (take m behind) ≡ Ok (take (n / 2) out)) pairs decoded, omega (arith, length-take (n / 2) out)) in
     record {
-      line = line;
-      front = placed text line after whole unbroken (omega (arith, long));
+      timed = timed;
+      after = after;
+      is_timed = (digits, refl, fits, hex);
+      unbroken = Lacks-append 10 (decimal time) (32 ∷ digits) (decimal_unbroken time fits) (space, digits_unbroken digits front.digits);
+      parts = parts;
       long = long;
+      short = short;
       count = room;
-      says = (digits, refl, inlet, fits, hex);
     }
+
+-- what stands before a time and octets makes one line with them
+joined : (text line start timed : List ℕ) (command : Command) (role : RoleKind) (f : FrontLine) (out : List ℕ) (at : EndsAtFront (length text) timed f out)
+    → text ≡ start ++ timed → line ≡ start ++ at.timed → Lacks 10 start → Says role line command (take f.count out) → StandsAtFront role text command f out
+joined text line start timed command role f out at parts line_is unbroken says =
+    let whole : text ≡ line ++ 10 ∷ at.after =
+    parts ∙ ap (λ (l : List ℕ). start ++ l) at.parts ∙ sym (append_assoc start at.timed (10 ∷ at.after)) ∙ ap (λ (l : List ℕ). l ++ 10 ∷ at.after) (sym line_is) in
+    let long : f.length ≡ length line =
+    omega (arith, at.long, ap length parts, length-append start timed, ap length line_is, length-append start at.timed) in
+    let lacks : Lacks 10 line = subst (Lacks 10) (sym line_is) (Lacks-append 10 start at.timed unbroken at.unbroken) in
+    record {
+      line = line;
+      front = placed text line at.after whole lacks (omega (arith, long, at.short));
+      long = long;
+      count = at.count;
+      says = says;
+    }
+
+-- the words of the line of a frame that arrives
+pub arrives : (role : RoleKind) (text rest timed out : List ℕ) (port : Port) (f : FrontLine)
+    → text ≡ codes "in " ++ rest → rest ≡ letter_of port ++ 32 ∷ timed → IsInlet role port → EndsAtFront (length text) timed f out
+    → StandsAtFront role text (Arrive port f.time) f out
+arrives role text rest timed out port f first second inlet at =
+    let start = codes "in " ++ (letter_of port ++ 32 ∷ []) in
+    let digits = at.is_timed.0 in
+    let line = spaced (codes "in" ∷ letter_of port ∷ decimal f.time ∷ digits ∷ []) in
+    let grouped : (l : List ℕ) → codes "in " ++ (letter_of port ++ 32 ∷ l) ≡ start ++ l =
+    λ l. ap (λ (x : List ℕ). codes "in " ++ x) (sym (append_assoc (letter_of port) (32 ∷ []) l)) in
+    let space = other_than_feed 32 (lit< tt) in
+    joined text line start timed (Arrive port f.time) role f out at
+    (first ∙ ap (λ (l : List ℕ). codes "in " ++ l) second ∙ grouped timed)
+    (grouped (spaced (decimal f.time ∷ digits ∷ [])) ∙ ap (λ (l : List ℕ). start ++ l) (sym at.is_timed.1))
+    (other_than_feed 105 (lit< tt), (other_than_feed 110 (lit< tt), (space, Lacks-append 10 (letter_of port) (32 ∷ []) (letter_unbroken port) (space, tt))))
+    (digits, refl, inlet, at.is_timed.2, at.is_timed.3)
+
+-- the words of the line of a frame of the host
+pub sends : (role : RoleKind) (text timed out : List ℕ) (f : FrontLine) → text ≡ codes "send " ++ timed → EndsAtFront (length text) timed f out
+    → StandsAtFront role text (Send f.time) f out
+sends role text timed out f first at =
+    let digits = at.is_timed.0 in
+    let unbroken : Lacks 10 (codes "send ") =
+    (other_than_feed 115 (lit< tt), (other_than_feed 101 (lit< tt), (other_than_feed 110 (lit< tt), (other_than_feed 100 (lit< tt), (other_than_feed 32 (lit< tt), tt))))) in
+    joined text (spaced (codes "send" ∷ decimal f.time ∷ digits ∷ [])) (codes "send ") timed (Send f.time) role f out at
+    first (ap (λ (l : List ℕ). codes "send " ++ l) (sym at.is_timed.1)) unbroken (digits, refl, at.is_timed.2, at.is_timed.3)

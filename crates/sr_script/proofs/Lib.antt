@@ -3,3 +3,5 @@ pub mod PrintedLines
 pub mod Arrivals
 pub mod StatusLines
 pub mod HostLines
+pub mod TrailedPieces
+pub mod TaggedPieces

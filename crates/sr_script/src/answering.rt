@@ -14,11 +14,12 @@ ghost use Rattle.sr_session.specs.Fronts.{AnswersFront, KnowsFront};
 ghost use Rattle.sr_forwarding.specs.Kinds.{carriage};
 ghost use Rattle.sr_script.specs.Stations.{at_work};
 ghost use Rattle.sr_script.specs.Texts.{name_of, refusal_line};
-ghost use Rattle.sr_script.specs.Replies.{ArrivesSo, Obeys, replay_dialogue};
+ghost use Rattle.sr_script.specs.Replies.{ArrivesSo, Obeys, StepsSo, replay_dialogue};
 ghost use Rattle.sr_script.specs.Reports.{RepliedAs};
 
+use crate::node_session::NodeSession;
 use crate::printing::append_outlets;
-use crate::reading::{Command, arrival_at, command_of};
+use crate::reading::{Command, arrival_at, command_of, sending_at};
 use crate::setups::Report;
 use crate::unprinted::drop_all_waiting;
 use itoa::Buffer;
@@ -174,6 +175,29 @@ fn obey_arrival<R: Role>(
     }
 }
 
+/// Has the node send octets of the line with this number, and appends a line where it refuses.
+// speed: D-session-inlined
+#[inline(always)]
+fn obey_sending<R: Role>(
+    alloc: Global,
+    node: &mut NodeOf<R>,
+    number: u64,
+    octets: &mut Vec<u8>,
+    time: u64,
+    text: &mut Text,
+) -> Result<(), FaultKind>
+    ensures ok { OnOk result ((told : List ℕ) × StepsSo (state_of R.meaning node.old) number
+        (event.Send octets.old.items time) told (state_of R.meaning node.new)
+        × (text.new ≡ text.old ++ told)) }
+    ensures kept { OnErr result (StillHolds text.old text.new) }
+    ensures err { IfErr result (λ kind. kind ≡ FaultKind.Memory) }
+{
+    match send(alloc, node, octets, time) {
+        Ok(_) => Ok(()),
+        Err(fault) => tell_refusal(text, number, fault),
+    }
+}
+
 /// Has the node obey a command of the line with this number, and appends a line where it refuses.
 pub(crate) fn obey<R: Role>(
     alloc: Global,
@@ -195,10 +219,7 @@ pub(crate) fn obey<R: Role>(
         Command::Arrive(port, time) => {
             obey_arrival(role, node, number, port, octets, time, text)
         }
-        Command::Send(time) => match send(alloc, node, octets, time) {
-            Ok(_) => Ok(()),
-            Err(fault) => tell_refusal(text, number, fault),
-        },
+        Command::Send(time) => obey_sending(alloc, node, number, octets, time, text),
         Command::Tick(now) => match tick(node, now) {
             Ok(_) => Ok(()),
             Err(fault) => tell_refusal(text, number, fault),
@@ -242,42 +263,77 @@ pub(crate) fn answer<R: Role>(
     }
 }
 
-/// Has the node obey the arrival at the front of a text, then takes all that waits, and appends what to print for its line. The
-/// answer is how many octets the line has, without its LF. None where no arrival can be read there: nothing is done then.
+/// Has the node of a session send the frame of the line at the front of a text, as `answer_unended` has it obey an arrival.
+// speed: D-session-inlined. Out of line, so that a frame that comes in needs no stack space for an event.
+#[inline(never)]
+fn answer_sending<R: Role>(
+    session: &mut NodeSession<R>,
+    number: u64,
+    front: &[u8],
+    text: &mut Text,
+) -> Result<Option<usize>, FaultKind>
+    ensures ok { IfOk result (λ length. AnswersFront replay_dialogue (at_work session.old.role
+        (state_of R.meaning session.old.node)) number front.now length text.old text.new
+        (at_work session.new.role (state_of R.meaning session.new.node))) }
+    ensures kept { OnErr result (StillHolds text.old text.new) }
+    ensures known { OnErr result (KnowsFront replay_dialogue (at_work session.old.role
+        (state_of R.meaning session.old.node)) front.now) }
+    ensures err { IfErr result (λ kind. kind ≡ FaultKind.Memory) }
+{
+    let arriving = session.arriving.as_mut_slice();
+    let Some(line) = sending_at(front, arriving) else {
+        return Ok(None);
+    };
+    session.octets.clear();
+    session.octets.extend_from_slice(&arriving[..line.count])?;
+    obey_sending(
+        session.alloc,
+        &mut session.node,
+        number,
+        &mut session.octets,
+        line.time,
+        text,
+    )?;
+    append_outlets(&session.role, &mut session.node, &mut session.frame, text)?;
+    Ok(Some(line.length))
+}
+
+/// Has the node of a session obey the line at the front of a text, where a frame arrives or the host sends one, then takes all that
+/// waits, and appends what to print for the line. The answer is how many octets it has, without its LF. None where no such line can
+/// be read there: nothing is done then.
 ///
 /// # Errors
 /// `Memory`.
 // speed: D-session-unended, D-session-inlined
 #[inline(always)]
 pub(crate) fn answer_unended<R: Role>(
-    role: &RoleKind,
-    node: &mut NodeOf<R>,
+    session: &mut NodeSession<R>,
     number: u64,
     front: &[u8],
-    octets: &mut [u8],
-    frame: &mut Vec<u8>,
     text: &mut Text,
 ) -> Result<Option<usize>, FaultKind>
-    ensures ok { IfOk result (λ length. AnswersFront replay_dialogue (at_work role.now
-        (state_of R.meaning node.old)) number front.now length text.old text.new (at_work role.now
-        (state_of R.meaning node.new))) }
+    ensures ok { IfOk result (λ length. AnswersFront replay_dialogue (at_work session.old.role
+        (state_of R.meaning session.old.node)) number front.now length text.old text.new
+        (at_work session.new.role (state_of R.meaning session.new.node))) }
     ensures kept { OnErr result (StillHolds text.old text.new) }
-    ensures known { OnErr result (KnowsFront replay_dialogue (at_work role.now
-        (state_of R.meaning node.old)) front.now) }
+    ensures known { OnErr result (KnowsFront replay_dialogue (at_work session.old.role
+        (state_of R.meaning session.old.node)) front.now) }
     ensures err { IfErr result (λ kind. kind ≡ FaultKind.Memory) }
 {
-    let Some(arrival) = arrival_at(*role, front, octets) else {
-        return Ok(None);
+    let arriving = session.arriving.as_mut_slice();
+    let Some((port, line)) = arrival_at(session.role, front, arriving) else {
+        return answer_sending(session, number, front, text);
     };
+    let came = &arriving[..line.count];
     obey_arrival(
-        *role,
-        node,
+        session.role,
+        &mut session.node,
         number,
-        arrival.port,
-        &octets[..arrival.count],
-        arrival.time,
+        port,
+        came,
+        line.time,
         text,
     )?;
-    append_outlets(role, node, frame, text)?;
-    Ok(Some(arrival.length))
+    append_outlets(&session.role, &mut session.node, &mut session.frame, text)?;
+    Ok(Some(line.length))
 }

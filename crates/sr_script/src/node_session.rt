@@ -16,7 +16,7 @@ pub(crate) struct NodeSession<P: Role> {
     pub(crate) node: NodeOf<P>,
     // The octets of a line, in a list that is used again.
     pub(crate) octets: Vec<u8>,
-    // The octets of a frame that arrives, at the front of a list with room for those of the longest line.
+    // The octets of a line at the front of what was read, at the front of a list with room for those of the longest line.
     pub(crate) arriving: Vec<u8>,
     // A frame that is written anew, in a list that is used again.
     pub(crate) frame: Vec<u8>,
@@ -56,15 +56,7 @@ impl<P: Role> Session for NodeSession<P> {
         front: &[u8],
         text: &mut Text,
     ) -> Result<Option<usize>, FaultKind> {
-        answer_unended(
-            &self.role,
-            &mut self.node,
-            number,
-            front,
-            &mut self.arriving,
-            &mut self.frame,
-            text,
-        )
+        answer_unended(self, number, front, text)
     }
 
     fn finish(&mut self, _text: &mut Vec<u8>) -> Result<(), FaultKind> {

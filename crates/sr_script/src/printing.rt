@@ -6,11 +6,14 @@ ghost use Rattle.sr_forwarding.specs.Encoding.{IsWritten};
 ghost use Rattle.sr_forwarding.specs.Parcels.{plain_of};
 ghost use Rattle.sr_script.specs.Commands.{letter_of};
 ghost use Rattle.sr_session.specs.Octets.{StillHolds};
-ghost use Rattle.sr_forwarding.specs.Kinds.{carriage};
-ghost use Rattle.sr_script.specs.Texts.{frame_line, IsLine};
+ghost use Rattle.sr_forwarding.specs.Framings.{Tagged, Trailed};
+ghost use Rattle.sr_script.specs.Texts.{frame_line, GoesAs};
 ghost use Rattle.sr_script.specs.Replies.{FirstLeft, Emptied, AllEmptied};
 
-use sr_forwarding::{Form, Framing, Parcel, PortFraming, Role, RoleKind, framing_at};
+use crate::pieces::{tagged, trailed};
+use sr_forwarding::{
+    Form, Framing, HsrFraming, Parcel, PortFraming, PrpFraming, Role, RoleKind, framing_at,
+};
 use sr_frame::Port;
 use sr_node::NodeOf;
 use sr_session::FaultKind;
@@ -40,30 +43,105 @@ fn append_frame(text: &mut Text, port: Port, front: &[u8], behind: &[u8]) -> Res
     text.append_hex_line(&[letter_of(port), b' '], front, behind)
 }
 
-/// Writes a parcel by the framing of a port into an empty list.
-fn write_framed(
-    role: RoleKind,
-    port: Port,
-    parcel: &Parcel,
-    frame: &mut Vec<u8>,
-) -> Result<(), FaultKind>
+/// Writes a parcel by a framing into an empty list.
+fn write_by<F: Framing>(framing: &F, parcel: &Parcel, frame: &mut Vec<u8>) -> Result<(), FaultKind>
     requires { frame.old.items ≡ [] }
     ensures ok { OnOk result
-        (IsWritten (carriage role port) parcel.now.form parcel.now frame.new.items) }
+        (IsWritten (F.meaning framing.now) parcel.now.form parcel.now frame.new.items) }
     ensures size { OnOk result (length frame.new.items ≤ 1524) }
     ensures err { IfErr result (λ kind. kind ≡ FaultKind.Memory) }
 {
-    match framing_at(role, port).write(frame, &parcel.view()) {
+    match framing.write(frame, &parcel.view()) {
         Ok(()) => Ok(()),
         Err(_) => Err(FaultKind::Memory),
     }
 }
 
+/// Appends the line for a parcel that its framing writes anew. The list `frame` is used again.
+// speed: D-script-in-place
+#[inline(never)]
+fn append_written<F: Framing>(
+    framing: &F,
+    port: Port,
+    parcel: &Parcel,
+    frame: &mut Vec<u8>,
+    text: &mut Text,
+) -> Result<(), FaultKind>
+    ensures ok { OnOk result ((octets : List ℕ)
+        × IsWritten (F.meaning framing.now) parcel.now.form parcel.now octets
+        × (text.new ≡ text.old ++ frame_line port octets)) }
+    ensures kept { OnErr result (StillHolds text.old text.new) }
+    ensures err { IfErr result (λ kind. kind ≡ FaultKind.Memory) }
+{
+    frame.clear();
+    write_by(framing, parcel, frame)?;
+    append_frame(text, port, frame, &[])?;
+    Ok(())
+}
+
+/// Appends the line for a parcel that goes out as an ordinary frame.
+// speed: D-session-inlined
+#[inline(always)]
+fn append_plain(port: Port, parcel: &Parcel, text: &mut Text) -> Result<(), FaultKind>
+    ensures ok { OnOk result (text.new ≡ text.old ++ frame_line port (plain_of parcel.now)) }
+    ensures kept { OnErr result (StillHolds text.old text.new) }
+    ensures err { IfErr result (λ kind. kind ≡ FaultKind.Memory) }
+{
+    let (front, behind) = parcel.plain_pieces();
+    append_frame(text, port, front, behind)?;
+    Ok(())
+}
+
+/// Appends the line for a parcel that goes out in a ring and was not in its form. The list `frame` is used again.
+// speed: D-script-in-place
+#[inline(never)]
+fn append_tagged(
+    framing: HsrFraming,
+    port: Port,
+    parcel: &Parcel,
+    frame: &mut Vec<u8>,
+    text: &mut Text,
+) -> Result<(), FaultKind>
+    ensures ok { OnOk result ((octets : List ℕ)
+        × IsWritten (Tagged framing.path) parcel.now.form parcel.now octets
+        × (text.new ≡ text.old ++ frame_line port octets)) }
+    ensures kept { OnErr result (StillHolds text.old text.new) }
+    ensures err { IfErr result (λ kind. kind ≡ FaultKind.Memory) }
+{
+    if let Some(pieces) = tagged(parcel, framing) {
+        append_frame(text, port, &pieces.0, pieces.1)?;
+        return Ok(());
+    }
+    append_written(&framing, port, parcel, frame, text)
+}
+
+/// Appends the line for a parcel that goes out in a LAN and was not in its form. The list `frame` is used again.
+// speed: D-script-in-place
+#[inline(never)]
+fn append_trailed(
+    framing: PrpFraming,
+    port: Port,
+    parcel: &Parcel,
+    frame: &mut Vec<u8>,
+    text: &mut Text,
+) -> Result<(), FaultKind>
+    ensures ok { OnOk result ((octets : List ℕ)
+        × IsWritten (Trailed framing.lan framing.net) parcel.now.form parcel.now octets
+        × (text.new ≡ text.old ++ frame_line port octets)) }
+    ensures kept { OnErr result (StillHolds text.old text.new) }
+    ensures err { IfErr result (λ kind. kind ≡ FaultKind.Memory) }
+{
+    if let Some(pieces) = trailed(parcel, framing) {
+        append_frame(text, port, pieces.0, &pieces.1)?;
+        return Ok(());
+    }
+    append_written(&framing, port, parcel, frame, text)
+}
+
 /// The octets of a parcel, where the framing of a port writes them as they are.
 // speed: D-script-in-place
 fn framed_in_place(role: RoleKind, port: Port, parcel: &Parcel) -> Option<&[u8]>
-    ensures written { IfSome result (λ octets.
-        IsWritten (carriage role port) parcel.now.form parcel.now octets.now) }
+    ensures written { IfSome result (λ octets. GoesAs role port parcel.now octets.now) }
     ensures size { IfSome result (λ octets. length octets.now ≤ 1524) }
 {
     match (framing_at(role, port), parcel.form()) {
@@ -74,7 +152,7 @@ fn framed_in_place(role: RoleKind, port: Port, parcel: &Parcel) -> Option<&[u8]>
     }
 }
 
-/// Appends the line for a parcel that goes out at another port than the host's. The list `frame` is used again.
+/// Appends the line for a parcel that goes out at a port. The list `frame` is used again.
 // speed: D-session-inlined
 #[inline(always)]
 fn append_framed(
@@ -84,8 +162,7 @@ fn append_framed(
     frame: &mut Vec<u8>,
     text: &mut Text,
 ) -> Result<(), FaultKind>
-    ensures ok { OnOk result ((octets : List ℕ)
-        × IsWritten (carriage role port) parcel.now.form parcel.now octets
+    ensures ok { OnOk result ((octets : List ℕ) × GoesAs role port parcel.now octets
         × (text.new ≡ text.old ++ frame_line port octets)) }
     ensures kept { OnErr result (StillHolds text.old text.new) }
     ensures err { IfErr result (λ kind. kind ≡ FaultKind.Memory) }
@@ -94,41 +171,34 @@ fn append_framed(
         append_frame(text, port, octets, &[])?;
         return Ok(());
     }
-    frame.clear();
-    write_framed(role, port, parcel, frame)?;
-    append_frame(text, port, frame, &[])?;
-    Ok(())
+    match framing_at(role, port) {
+        PortFraming::Plain(_) => append_plain(port, parcel, text),
+        PortFraming::Hsr(framing) => append_tagged(framing, port, parcel, frame, text),
+        PortFraming::Prp(framing) => append_trailed(framing, port, parcel, frame, text),
+    }
 }
 
-/// Appends the line for a parcel that goes out at a port. The list `frame` is used again.
-// speed: D-session-inlined
-#[inline(always)]
-fn append_parcel(
-    role: RoleKind,
-    port: Port,
-    parcel: &Parcel,
-    frame: &mut Vec<u8>,
-    text: &mut Text,
-) -> Result<(), FaultKind>
-    ensures ok { OnOk result ((line : List ℕ) × IsLine role port parcel.now line
+/// Takes the first parcel that waits for the host, if one waits, and appends the line for its frame.
+// speed: D-script-waits-first. Out of line, so that a port where nothing waits costs no call.
+#[inline(never)]
+fn append_handed<R: Role>(node: &mut NodeOf<R>, text: &mut Text) -> Result<(), FaultKind>
+    ensures ok { (role : RoleKind) → OnOk result ((line : List ℕ) × FirstLeft role Port.H
+        (state_of R.meaning node.old) line (state_of R.meaning node.new)
         × (text.new ≡ text.old ++ line)) }
     ensures kept { OnErr result (StillHolds text.old text.new) }
     ensures err { IfErr result (λ kind. kind ≡ FaultKind.Memory) }
 {
-    match port {
-        Port::H => {
-            let (front, behind) = parcel.plain_pieces();
-            append_frame(text, Port::H, front, behind)?;
-            Ok(())
-        }
-        Port::A | Port::B | Port::C => append_framed(role, port, parcel, frame, text),
+    if let Some(parcel) = node.front(Port::H) {
+        append_plain(Port::H, parcel, text)?;
+        node.drop_first(Port::H);
     }
+    Ok(())
 }
 
-/// Takes the first parcel that waits at a port, if one waits, and appends the line for its frame.
+/// Takes the first parcel that waits at a port, if one waits, and appends the line for its frame. The list `frame` is used again.
 // speed: D-script-waits-first. Out of line, so that a port where nothing waits costs no call.
 #[inline(never)]
-fn append_first<R: Role>(
+fn append_sent<R: Role>(
     role: &RoleKind,
     node: &mut NodeOf<R>,
     port: Port,
@@ -142,10 +212,32 @@ fn append_first<R: Role>(
     ensures err { IfErr result (λ kind. kind ≡ FaultKind.Memory) }
 {
     if let Some(parcel) = node.front(port) {
-        append_parcel(*role, port, parcel, frame, text)?;
+        append_framed(*role, port, parcel, frame, text)?;
         node.drop_first(port);
     }
     Ok(())
+}
+
+/// Takes the first parcel that waits at a port, if one waits, and appends the line for its frame.
+// speed: D-script-waits-first. The host's port is told apart where this is compiled.
+#[inline(always)]
+fn append_first<R: Role>(
+    role: &RoleKind,
+    node: &mut NodeOf<R>,
+    port: Port,
+    frame: &mut Vec<u8>,
+    text: &mut Text,
+) -> Result<(), FaultKind>
+    ensures ok { OnOk result ((line : List ℕ) × FirstLeft role.now port
+        (state_of R.meaning node.old) line (state_of R.meaning node.new)
+        × (text.new ≡ text.old ++ line)) }
+    ensures kept { OnErr result (StillHolds text.old text.new) }
+    ensures err { IfErr result (λ kind. kind ≡ FaultKind.Memory) }
+{
+    match port {
+        Port::H => append_handed(node, text),
+        Port::A | Port::B | Port::C => append_sent(role, node, port, frame, text),
+    }
 }
 
 /// Takes all that waits at a port, one after the other, and appends a line for each frame. As a rule nothing waits, so the port is

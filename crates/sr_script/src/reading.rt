@@ -1,12 +1,12 @@
 //! What a line of a script of events at a node asks for.
 
-ghost use Rattle.std.specs.Prelude.{◌≡◌, ◌↔◌, ◌<◌, ◌^◌, ℕ, List, codes, IfOk, IfErr, OnOk, IfSome, IsSomeAnd, IsTrue, ◌++◌, MatchResult, Err, ◌∷◌, []};
+ghost use Rattle.std.specs.Prelude.{◌≡◌, ◌↔◌, ◌<◌, ◌≤◌, length, ◌^◌, ℕ, List, codes, IfOk, IfErr, OnOk, IfSome, IsSomeAnd, IsTrue, ◌++◌, MatchResult, Err, ◌∷◌, []};
 ghost use Rattle.std.specs.Fmt.{decimal};
 ghost use Rattle.sr_session.specs.Lines.{IsOneOf};
 ghost use Rattle.sr_session.specs.Octets.{spaced};
 ghost use Rattle.sr_words.specs.Words.{IsComment, IsHex};
 ghost use Rattle.sr_script.specs.Commands.{Says, IsEventLine, IsInlet, letter_of, IsTimed, IsArrival, IsSending, IsTick};
-ghost use Rattle.sr_script.specs.FrontArrivals.{StandsAtFront};
+ghost use Rattle.sr_script.specs.FrontArrivals.{EndsAtFront, StandsAtFront};
 
 use sr_forwarding::RoleKind;
 use sr_frame::Port;
@@ -154,39 +154,63 @@ pub(crate) fn command_of(
     }
 }
 
-/// A frame that arrives, whose whole line is at the front of a text.
+/// What a line with a time and octets says, which is whole at the front of a text.
 #[derive(Clone, Copy)]
-pub(crate) struct FrontArrival {
-    /// Where it comes in.
-    pub(crate) port: Port,
+pub(crate) struct FrontLine {
     /// The time in milliseconds.
     pub(crate) time: u64,
-    /// How many octets it has.
+    /// How many octets it names.
     pub(crate) count: usize,
     /// How many octets the line has, without the LF that ends it.
     pub(crate) length: usize,
 }
 
-/// The arrival at the front of a text, whose line ends where its digits end, so that its LF need not be looked for. The octets that it
-/// names are then the first ones of `octets`. None: the front is to be read as any other line, since it is no arrival, has a fault, or
-/// ends too near to the end of the text.
+/// The time and the octets at the front of a text, whose line ends where their digits end, so that its LF need not be looked for. So
+/// many octets are left where the line begins. The octets that it names are then the first ones of `octets`. None: the line is to be
+/// read as any other, since it has a fault, or ends too near to the end of the text.
 // speed: D-session-unended
 #[inline(always)]
-pub(crate) fn arrival_at(role: RoleKind, text: &[u8], octets: &mut [u8]) -> Option<FrontArrival>
-    ensures { IfSome result (λ a. StandsAtFront role text.now a octets.new) }
+fn timed_at(left: usize, text: &[u8], octets: &mut [u8]) -> Option<FrontLine>
+    requires { length text.now ≤ left }
+    ensures { IfSome result (λ f. EndsAtFront left text.now f octets.new) }
 {
-    let (port, rest) = split_inlet(role, behind_in(text)?)?;
-    let (time, rest) = split_word(rest)?;
+    let (time, rest) = split_word(text)?;
     let time = number_of(time)?;
     let digits = read_front(rest, octets)?;
-    let length = text.len() - rest.len() + digits;
+    let length = left - rest.len() + digits;
     if rest[digits] != b'\n' || digits == 0 || digits % 2 != 0 || length > MAX_LINE {
         return None;
     }
-    Some(FrontArrival {
-        port,
+    Some(FrontLine {
         time,
         count: digits / 2,
         length,
     })
+}
+
+/// The line of a frame that arrives at the front of a text, and where it comes in. None: no such line is read there.
+// speed: D-session-unended
+#[inline(always)]
+pub(crate) fn arrival_at(
+    role: RoleKind,
+    text: &[u8],
+    octets: &mut [u8],
+) -> Option<(Port, FrontLine)>
+    ensures { IfSome result (λ a.
+        StandsAtFront role text.now (Command.Arrive a.0 a.1.time) a.1 octets.new) }
+{
+    let (port, rest) = split_inlet(role, behind_in(text)?)?;
+    let line = timed_at(text.len(), rest, octets)?;
+    Some((port, line))
+}
+
+/// The line of a frame of the host at the front of a text. None: no such line is read there.
+// speed: D-session-unended
+#[inline(always)]
+pub(crate) fn sending_at(text: &[u8], octets: &mut [u8]) -> Option<FrontLine>
+    ensures { (role : RoleKind) → IfSome result (λ f.
+        StandsAtFront role text.now (Command.Send f.time) f octets.new) }
+{
+    let line = timed_at(text.len(), behind_send(text)?, octets)?;
+    Some(line)
 }

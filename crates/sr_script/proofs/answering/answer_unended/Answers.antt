@@ -1,28 +1,24 @@
-use Rattle.std.proofs.Common.{◌++◌, ℕ, List, Result, Ok, Err, take, ap, refl, ◌∙◌, append_assoc}
-use Rattle.std.specs.Prelude.{OnErr}
+use Rattle.std.proofs.Common.{◌++◌, ℕ, List, take, ap, refl, ◌∙◌, append_assoc}
 use Rattle.sr_node.specs.Images.{node_state}
 use Rattle.sr_script.specs.declared.reading.Command.TheVariants.{Arrive}
+use Rattle.sr_script.proofs.Beginnings.{on_err_so}
 use Rattle.sr_script.proofs.answering.answer_unended.Goals as goal
-
-on_err : {A E : Type 0} (r : Result A E) (P : Type 0) → P → OnErr r P
-on_err (Ok x) P p = tt
-on_err (Err e) P p = p
 
 pub returns-in_err-obey_arrival-clause-known : goal.returns-in_err-obey_arrival-clause-known
 returns-in_err-obey_arrival-clause-known g c =
-    let a = c.in-Some.arrival in
+    let a = c.in-Some.line in
     let stands = c.in-Some.ensures in
-    on_err c.from_residual.result _ (stands.line, stands.front, (Arrive a.port a.time, take a.count c.arrival_at.new.octets, stands.says))
+    on_err_so c.from_residual.result (stands.line, stands.front, (Arrive c.in-Some.port a.time, take a.count c.arrival_at.new.octets, stands.says))
 
 pub returns-in_err-append_outlets-clause-known : goal.returns-in_err-append_outlets-clause-known
 returns-in_err-append_outlets-clause-known g c =
-    let a = c.in-Some.arrival in
+    let a = c.in-Some.line in
     let stands = c.in-Some.ensures in
-    on_err c.from_residual-in_err-append_outlets.result _ (stands.line, stands.front, (Arrive a.port a.time, take a.count c.arrival_at.new.octets, stands.says))
+    on_err_so c.from_residual-in_err-append_outlets.result (stands.line, stands.front, (Arrive c.in-Some.port a.time, take a.count c.arrival_at.new.octets, stands.says))
 
 pub returns-clause-ok : goal.returns-clause-ok
 returns-clause-ok g c =
-    let a = c.in-Some.arrival in
+    let a = c.in-Some.line in
     let stands = c.in-Some.ensures in
     let octets = take a.count c.arrival_at.new.octets in
     let told = c.in_ok-obey_arrival.ensures.ok in
@@ -33,7 +29,7 @@ returns-clause-ok g c =
       told.0 ++ lines.0,
       stands.front,
       stands.long,
-      (Arrive a.port a.time, octets, stands.says),
-      (refl, (Arrive a.port a.time, octets, stands.says, told.0, u, told.1, lines.0, lines.1, refl)),
+      (Arrive c.in-Some.port a.time, octets, stands.says),
+      (refl, (Arrive c.in-Some.port a.time, octets, stands.says, told.0, u, told.1, lines.0, lines.1, refl)),
       text,
     )
