@@ -1,7 +1,9 @@
 //! Two wires between a port and its neighbour's.
 
 ghost use Rattle.std.specs.Prelude.{◌≡◌, ◌++◌, ◌<◌, ◌≤◌, IfOk, OnErr};
+ghost use Rattle.sr_workers.specs.declared.feed.Given.TheVariants.{Lost};
 ghost use Rattle.sr_workers.specs.Told.{put_of, lost_after};
+ghost use Rattle.sr_lines.specs.Losing.{MayLose};
 
 use crate::Ends;
 use crate::counts::Counts;
@@ -55,6 +57,8 @@ impl Cable {
         ensures lost { IfOk result (λ g. self.new.counts.lost
             ≡ lost_after self.old.counts.lost g) }
         ensures kept { OnErr result (self.new.counts.lost ≡ self.old.counts.lost) }
+        ensures why { IfOk result (λ g. g ≡ Lost → MayLose self.old.ends.send.frames octets.now
+            self.old.counts.failures) }
         ensures asked { self.new.counts.asked ≡ self.old.counts.asked }
         ensures ended { self.new.counts.ended ≡ self.old.counts.ended }
         ensures failed { OnErr result (self.old.counts.failures < self.new.counts.failures) }

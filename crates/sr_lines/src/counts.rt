@@ -1,6 +1,6 @@
 //! What a line counts.
 
-ghost use Rattle.std.specs.Prelude.{◌≡◌, ◌+◌, ◌^◌, OnOk, OnErr, true};
+ghost use Rattle.std.specs.Prelude.{◌≡◌, ◌+◌, ◌-◌, ◌^◌, OnOk, OnErr, true};
 ghost use Rattle.sr_workers.specs.Told.{lost_after};
 
 use sr_workers::{FeedFault, Given};
@@ -30,6 +30,7 @@ impl Counts {
     /// An allocation failed: that is a failure, or nothing where there were as many as can be counted.
     pub(crate) fn fail(&mut self) -> Result<(), FeedFault>
         ensures ok { OnOk result (self.new.failures ≡ self.old.failures) }
+        ensures most { OnOk result (self.old.failures ≡ 2 ^ 64 - 1) }
         ensures err { OnErr result (self.new.failures ≡ self.old.failures + 1) }
         ensures asked { self.new.asked ≡ self.old.asked }
         ensures lost { self.new.lost ≡ self.old.lost }

@@ -113,7 +113,11 @@ impl<R: Role, L: Ledger> Kept<R, L> {
 }
 
 impl<R: Role, L: Ledger> SharedNode<R, L> {
-    /// A node under its lock, with an empty journal, and the passes of its workers. NoMemory: a growth was refused.
+    /// A node under its lock as it is, with an empty journal that opens with it, and the passes of its workers. NoMemory: a growth was
+    /// refused.
+    ///
+    /// The clauses speak of the passes alone: a lock shows nothing of what lies under it, since another thread may have it. What
+    /// is put there is what `Kept::new` gives, whose clauses say all of it.
     pub fn new(
         alloc: Global,
         node: NodeOf<R>,
@@ -136,7 +140,7 @@ impl<R: Role, L: Ledger> SharedNode<R, L> {
     }
 
     /// Takes what lies under the lock out of it: a history that one thread could have made, from the opening to the node as it
-    /// is, and as many entries as the book says.
+    /// is, and as many entries as the book says. It is what the last thread left there, which no clause can say of a lock.
     pub fn into_kept(self) -> Kept<R, L>
         ensures legal { ∥ Steps (image_state result.opening) result.journal.items
             (state_of R.meaning result.node) ∥₁ }

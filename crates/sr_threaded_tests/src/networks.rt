@@ -20,8 +20,9 @@ use std::thread::Threads;
 /// A step of a test.
 #[derive(Clone, Copy)]
 pub(super) enum Step {
-    /// A network of so many nodes and turns settles, and hands up what its first node sends at most once at each other; in one of
-    /// so many runs all others hand it up.
+    /// A network of so many nodes settles, and hands up what its first node sends at most once at each other; in one of so many runs
+    /// all others hand it up. The first run has so many turns. Each further one has twice as many as the one before, up to 40,000,
+    /// since on a busy machine the workers of a port may have made all their turns before the frame is sent.
     All(ThreadedNet, u8, u64, u32),
     /// A network of so many nodes and turns settles.
     Each(ThreadedNet, u8, u64),
@@ -43,6 +44,9 @@ pub(super) struct Meeting {
 const GROUP_FRAME: [u8; 15] = [
     0xff, 0xff, 0xff, 0xff, 0xff, 0xff, 2, 0, 0, 0, 0, 0, 0x88, 0xb5, 1,
 ];
+
+// So many turns are not doubled.
+const MANY_TURNS: u64 = 40_000;
 
 // How often a host looks whether the other was asked.
 const LOOKS: u64 = 100_000_000;
@@ -250,6 +254,16 @@ fn run<W: Threads + Wait + Sync>(
     }
 }
 
+// How many turns the next run has.
+fn more_turns(turns: u64) -> u64 {
+    if turns < MANY_TURNS {
+        turns.saturating_mul(2)
+    } else {
+        turns
+    }
+}
+
+// A run in whose making an allocation failed, or in which a host waited in vain, counts as one that did not hand it up.
 fn all_hand_up<W: Threads + Wait + Sync>(
     rt: &W,
     alloc: Global,
@@ -258,6 +272,7 @@ fn all_hand_up<W: Threads + Wait + Sync>(
     turns: u64,
     runs: u32,
 ) -> bool {
+    let mut turns = turns;
     for _ in 0..runs {
         match run(rt, alloc, net, count, turns) {
             Some(Ok(seen)) => {
@@ -268,8 +283,10 @@ fn all_hand_up<W: Threads + Wait + Sync>(
                     return true;
                 }
             }
-            _ => return false,
+            Some(Err(_)) => return false,
+            None => {}
         }
+        turns = more_turns(turns);
     }
     false
 }

@@ -20,7 +20,7 @@ use Rattle.sr_workers.specs.declared.becoming.Becoming.{Becoming}
 use Rattle.sr_workers.specs.declared.becoming.Becoming.TheVariants as becoming
 use Rattle.sr_node.specs.Answers.{IsAnswerOf, SaysTaken}
 use Rattle.sr_workers.specs.Told.{Told, Framed, Timed, told_of, put_of, lost_after}
-use Rattle.sr_workers.specs.Work.{Became, entered, unread, GivesEach, unwritten, gave, IsEventOf, IsOwn, brought_by, parcel_in, none_in}
+use Rattle.sr_workers.specs.Work.{Became, entered, unread, refused, GivesEach, unwritten, gave, IsEventOf, IsOwn, brought_by, parcel_in, none_in}
 use Rattle.sr_workers.specs.Turns.{Brings, Becomes, Out}
 
 -- what was handed out is the worker's own, and no Take
@@ -75,15 +75,15 @@ brings_one w f turn octets t e a n n' ps ps' u one is answers count log =
       nones = omega (arith, none.nones);
     }
 
-brings_no : (w : Worker) (f : FramingImage) (turn : Turn) (octets : List ℕ) (t : Told) (n : ℕ) (ps : List (Event × Answer)) (u : ℕ) → told_of turn octets ≡ t ∷ [] → Brings w f turn octets n n ps ps u (u + 1)
-brings_no w f turn octets t n ps u one =
+brings_no : (w : Worker) (f : FramingImage) (turn : Turn) (octets : List ℕ) (t : Told) (n : ℕ) (ps : List (Event × Answer)) (u : ℕ) → told_of turn octets ≡ t ∷ [] → Became w f (t ∷ []) [] (1 + 0) → Brings w f turn octets n n ps ps u (u + 1)
+brings_no w f turn octets t n ps u one became =
     record {
       pairs = [];
       unread = 1 + 0;
       log = sym (append-nil ps);
       count = omega arith;
       own = tt;
-      became = subst (λ x. Became w f x [] (1 + 0)) (sym one) (unread t [] [] 0 Became.nothing);
+      became = subst (λ x. Became w f x [] (1 + 0)) (sym one) became;
       counted = omega arith;
       taken = refl;
       nones = refl;
@@ -134,10 +134,14 @@ brings_entered w f turn octets b e a n n' ps ps' u event is answers count log =
 pub brings_refused : (w : Worker) (f : FramingImage) (turn : Turn) (octets : List ℕ) (b : Becoming) (e : Event) (n n' : ℕ) (ps ps' : List (Event × Answer)) (u : ℕ) → b ≡ becoming.Event e → Becomes w f turn octets b → n' ≡ n → ps' ≡ ps → Brings w f turn octets n n' ps ps' u (u + 1)
 brings_refused w f turn octets b e n n' ps ps' u event is count log =
     let c = comes w f turn octets e (subst (λ x. Becomes w f turn octets x) event is) in
-    subst (λ (x : ℕ × List (Event × Answer)). Brings w f turn octets n x.0 ps x.1 u (u + 1)) (λ i. (sym count i, sym log i)) (brings_no w f turn octets c.told_one n ps u c.one)
+    subst (λ (x : ℕ × List (Event × Answer)). Brings w f turn octets n x.0 ps x.1 u (u + 1)) (λ i. (sym count i, sym log i)) (brings_no w f turn octets c.told_one n ps u c.one (refused c.told_one e [] [] 0 c.event Became.nothing))
 
 unread_at : (w : Worker) (f : FramingImage) (turn : Turn) (octets : List ℕ) (n : ℕ) (ps : List (Event × Answer)) (u : ℕ) → Becomes w f turn octets becoming.Unread → Brings w f turn octets n n ps ps u (u + 1)
-unread_at w f (turn.Frame now) octets n ps u is = brings_no w f (turn.Frame now) octets (Framed octets now) n ps u refl
+unread_at who.A f (turn.Frame now) octets n ps u is = brings_no who.A f (turn.Frame now) octets (Framed octets now) n ps u refl (unread (Framed octets now) [] [] 0 is Became.nothing)
+unread_at who.B f (turn.Frame now) octets n ps u is = brings_no who.B f (turn.Frame now) octets (Framed octets now) n ps u refl (unread (Framed octets now) [] [] 0 is Became.nothing)
+unread_at who.C f (turn.Frame now) octets n ps u is = brings_no who.C f (turn.Frame now) octets (Framed octets now) n ps u refl (unread (Framed octets now) [] [] 0 is Became.nothing)
+unread_at who.Ager f (turn.Frame now) octets n ps u is = brings_no who.Ager f (turn.Frame now) octets (Framed octets now) n ps u refl (unread (Framed octets now) [] [] 0 is Became.nothing)
+unread_at who.Host f (turn.Frame now) octets n ps u is = brings_no who.Host f (turn.Frame now) octets (Framed octets now) n ps u refl (unread (Framed octets now) [] [] 0 is Became.nothing)
 unread_at w f (turn.Tick now) octets n ps u is = absurd is
 unread_at w f turn.Idle octets n ps u is = absurd is
 unread_at w f turn.End octets n ps u is = absurd is

@@ -7,7 +7,7 @@ use Rattle.sr_node.specs.declared.event.Answer.{Answer}
 use Rattle.sr_ports.specs.declared.worker.Worker.{Worker}
 use Rattle.sr_workers.specs.declared.feed.Given.{Given}
 use Rattle.sr_workers.specs.Told.{Told, put_of, lost_after}
-use Rattle.sr_workers.specs.Work.{AreOwn, Became, entered, unread, GivesEach, unwritten, gave, brought_in, brought_by, parcels_in, parcel_in, nones_in, puts, losses_after}
+use Rattle.sr_workers.specs.Work.{AreOwn, Became, entered, unread, refused, GivesEach, unwritten, gave, brought_in, brought_by, parcels_in, parcel_in, nones_in, puts, losses_after}
 
 pub brought-append : (xs ys : List (Event × Answer)) → brought_in (xs ++ ys) ≡ brought_in xs ++ brought_in ys
 brought-append [] ys = refl
@@ -39,8 +39,10 @@ Became-count w f ts es u v is b = subst (λ n. Became w f ts es n) is b
 pub Became-append : (w : Worker) (f : FramingImage) (ts ts' : List Told) (es es' : List Event) (u u' : ℕ) → Became w f ts es u → Became w f ts' es' u' → Became w f (ts ++ ts') (es ++ es') (u + u')
 Became-append w f ts ts' es es' u u' Became.nothing q = Became-count w f ts' es' u' (0 + u') (omega arith) q
 Became-append w f ts ts' es es' u u' (entered t e rest more n is p) q = entered t e (rest ++ ts') (more ++ es') (n + u') is (Became-append w f rest ts' more es' n u' p q)
-Became-append w f ts ts' es es' u u' (unread t rest more n p) q =
-    Became-count w f (t ∷ rest ++ ts') (more ++ es') (1 + (n + u')) (1 + n + u') (omega arith) (unread t (rest ++ ts') (more ++ es') (n + u') (Became-append w f rest ts' more es' n u' p q))
+Became-append w f ts ts' es es' u u' (unread t rest more n none p) q =
+    Became-count w f (t ∷ rest ++ ts') (more ++ es') (1 + (n + u')) (1 + n + u') (omega arith) (unread t (rest ++ ts') (more ++ es') (n + u') none (Became-append w f rest ts' more es' n u' p q))
+Became-append w f ts ts' es es' u u' (refused t e rest more n is p) q =
+    Became-count w f (t ∷ rest ++ ts') (more ++ es') (1 + (n + u')) (1 + n + u') (omega arith) (refused t e (rest ++ ts') (more ++ es') (n + u') is (Became-append w f rest ts' more es' n u' p q))
 
 pub Sends-append : (f : FramingImage) (ps ps' : List ParcelImage) (gs gs' : List (Given × List ℕ)) → GivesEach f ps gs → GivesEach f ps' gs' → GivesEach f (ps ++ ps') (gs ++ gs')
 Sends-append f ps ps' gs gs' GivesEach.nothing q = q

@@ -2,9 +2,12 @@
 use Rattle.std.specs.Prelude.{◌≡◌, ◌≢◌, ◌≤◌, ◌<◌, ◌⊎◌, ℕ, ◌+◌, Bool, true, List, [], ◌∷◌, ◌++◌, length, Option, Some, None}
 use Rattle.sr_frame.specs.declared.ports.Port.{Port}
 use Rattle.sr_frame.specs.declared.ports.Port.TheVariants.{H, A, B, C}
+use Rattle.sr_frame.specs.Frame.{least_len}
+use Rattle.sr_forwarding.specs.declared.fault.ReadFault.{ReadFault}
+use Rattle.sr_forwarding.specs.Limits.{longest_frame}
 use Rattle.sr_forwarding.specs.Parcels.{ParcelImage}
 use Rattle.sr_forwarding.specs.Framings.{FramingImage}
-use Rattle.sr_forwarding.specs.Decoding.{IsRead}
+use Rattle.sr_forwarding.specs.Decoding.{IsRead, IsUnread}
 use Rattle.sr_forwarding.specs.Encoding.{IsWritten, write_fault}
 use Rattle.sr_node.specs.declared.event.Event.{Event}
 use Rattle.sr_node.specs.declared.event.Event.TheVariants.{Arrive, Send, Tick, Take}
@@ -92,12 +95,28 @@ abbrev pub IsEventOf : Worker → FramingImage → Told → Event → Type 0
 IsEventOf w f (Framed octets now) e = IsFrameEvent w f octets now e
 IsEventOf w f (Timed now) e = e ≡ Tick now
 
--- what was handed out became these events, in order, with so many between them that became none
+-- no event comes of these octets: the port's framing does not read them, they have no frame's length at the host, or it is the Ager
+abbrev pub HasNoFrame : Worker → FramingImage → List ℕ → Type 0
+HasNoFrame who.A f octets = (fault : ReadFault) × IsUnread f octets fault
+HasNoFrame who.B f octets = (fault : ReadFault) × IsUnread f octets fault
+HasNoFrame who.C f octets = (fault : ReadFault) × IsUnread f octets fault
+HasNoFrame who.Ager f octets = Unit {0}
+HasNoFrame who.Host f octets = (length octets < least_len octets) ⊎ (longest_frame < length octets)
+
+-- no event comes of what a feed hands out; of a time a Tick comes always
+abbrev pub HasNoEvent : Worker → FramingImage → Told → Type 0
+HasNoEvent w f (Framed octets now) = HasNoFrame w f octets
+HasNoEvent w f (Timed now) = ⊥
+
+-- what was handed out became these events, in order, with so many between them of which none comes, or which were refused
 pub data Became (w : Worker) (f : FramingImage) : List Told → List Event → ℕ → Type 0 where
   nothing : Became w f [] [] 0
   entered : (t : Told) (e : Event) (ts : List Told) (es : List Event) (u : ℕ)
       → IsEventOf w f t e → Became w f ts es u → Became w f (t ∷ ts) (e ∷ es) u
-  unread : (t : Told) (ts : List Told) (es : List Event) (u : ℕ) → Became w f ts es u → Became w f (t ∷ ts) es (1 + u)
+  unread : (t : Told) (ts : List Told) (es : List Event) (u : ℕ)
+      → HasNoEvent w f t → Became w f ts es u → Became w f (t ∷ ts) es (1 + u)
+  refused : (t : Told) (e : Event) (ts : List Told) (es : List Event) (u : ℕ)
+      → IsEventOf w f t e → Became w f ts es u → Became w f (t ∷ ts) es (1 + u)
 
 -- of these parcels, those that the framing can write were given, in order, each as it is written, with the feed's answers
 pub data GivesEach (f : FramingImage) : List ParcelImage → List (Given × List ℕ) → Type 0 where

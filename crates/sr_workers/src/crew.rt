@@ -104,7 +104,9 @@ fn end_all<T: Drop, P: Promise<T>, W: Threads>(
     rt: &W,
     handles: Vec<PromisedHandle<T, P>>,
     why: CrewFault,
-) -> CrewFault {
+) -> CrewFault
+    ensures { result ≡ why }
+{
     for handle in handles {
         drop(handle.join(rt));
     }
