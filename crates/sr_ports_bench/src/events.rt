@@ -12,6 +12,9 @@ use std::sync::ledger::Ledger;
 /// The octets of a frame: addresses, type, 46 of payload, trailer.
 const FRAME_LEN: usize = 66;
 
+/// The last two octets of the first other node's address; those of the node are 1.
+const FIRST_OTHER: u16 = 2;
+
 /// What is taken each time.
 #[derive(Clone, Copy, Debug)]
 pub enum Work {
@@ -23,6 +26,15 @@ pub enum Work {
     Tick,
     /// A parcel is asked for where none waits.
     Take,
+}
+
+/// What is entered before a journal is closed.
+#[derive(Clone, Copy, Debug)]
+pub enum Before {
+    /// So many ticks.
+    Ticks(u32),
+    /// A frame of each of so many nodes, and that the host takes it out.
+    Nodes(u32),
 }
 
 /// The work of this name.
@@ -42,10 +54,11 @@ pub trait Subject {
     fn take(&mut self, event: &Event) -> bool;
 }
 
-/// Another node's frame to the node under this number, from LAN A.
-fn parcel_of(alloc: Global, number: u16) -> Result<Parcel, ReadFault> {
+/// The frame of another node to the node under this number, from LAN A.
+fn parcel_of(alloc: Global, source: u16, number: u16) -> Result<Parcel, ReadFault> {
     let mut octets = [0; FRAME_LEN];
-    octets[..14].copy_from_slice(&[2, 0, 0, 0, 0, 1, 2, 0, 0, 0, 0, 2, 8, 0]);
+    let [front, last] = source.to_be_bytes();
+    octets[..14].copy_from_slice(&[2, 0, 0, 0, 0, 1, 2, 0, 0, 0, front, last, 8, 0]);
     let [high, low] = number.to_be_bytes();
     octets[FRAME_LEN - 6..].copy_from_slice(&[high, low, 0xa0, 52, 0x88, 0xfb]);
     let framing = PrpFraming {
@@ -62,14 +75,19 @@ fn frame_of(alloc: Global) -> Option<Frame> {
     Frame::copy(alloc, &octets).ok()
 }
 
+/// The frame of another node comes in under this number. None where an allocation failed.
+fn arrival_of(alloc: Global, source: u16, number: u16) -> Option<Event> {
+    Some(Event::Arrive {
+        port: Port::A,
+        parcel: parcel_of(alloc, source, number).ok()?,
+        now: 0,
+    })
+}
+
 /// The first event of this work. None where an allocation failed.
 fn event_of(alloc: Global, work: Work, number: u16) -> Option<Event> {
     match work {
-        Work::Frame => Some(Event::Arrive {
-            port: Port::A,
-            parcel: parcel_of(alloc, number).ok()?,
-            now: 0,
-        }),
+        Work::Frame => arrival_of(alloc, FIRST_OTHER, number),
         Work::Send => Some(Event::Send {
             frame: frame_of(alloc)?,
             now: 0,
@@ -124,14 +142,27 @@ fn segments_of<L: Ledger>(
     Some(segments)
 }
 
-/// Has a subject enter so many ticks and then close its journal so many times. How many ticks were answered.
+/// Has a subject take a frame of each of so many nodes. How many events were answered.
+fn heard<S: Subject>(alloc: Global, subject: &mut S, nodes: u32) -> Option<u64> {
+    let mut count: u64 = 0;
+    for node in 0..nodes {
+        let event = arrival_of(alloc, FIRST_OTHER + (node % 65000) as u16, 0)?;
+        count = count.saturating_add(once(subject, Work::Frame, &event));
+    }
+    Some(count)
+}
+
+/// Has a subject enter this and then close its journal so many times. How many events were answered.
 pub fn rotated<L: Ledger>(
     alloc: Global,
     subject: &mut Entered<L>,
-    entries: u32,
+    before: Before,
     times: u32,
 ) -> Option<u64> {
-    let count = done(alloc, subject, Work::Tick, entries)?;
+    let count = match before {
+        Before::Ticks(ticks) => done(alloc, subject, Work::Tick, ticks)?,
+        Before::Nodes(nodes) => heard(alloc, subject, nodes)?,
+    };
     drop(segments_of(alloc, subject, times)?);
     Some(count)
 }

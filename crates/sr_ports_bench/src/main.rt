@@ -1,6 +1,7 @@
 //! Work to be measured from outside. `sr_ports_bench alone|copied|entered|locked frame|send|tick|take TIMES` has a node take
-//! events of one kind so many times. `sr_ports_bench rotated ENTRIES TIMES` enters so many ticks, and then closes the journal so
-//! many times. What comes before the work is the same for any number of times, so two runs tell what one time costs.
+//! events of one kind so many times. `sr_ports_bench rotated TICKS TIMES` enters so many ticks, and then closes the journal so many
+//! times; `sr_ports_bench full NODES TIMES` enters a frame of each of so many nodes before. What comes before the work is the same for
+//! any number of times, so two runs tell what one time costs.
 #![tactic(auto)]
 
 ghost use Rattle.std.specs.Prelude.{◌≡◌};
@@ -8,7 +9,7 @@ ghost use Rattle.std.specs.Prelude.{◌≡◌};
 mod events;
 mod ways;
 
-use events::{Subject, Work, done, rotated, work_of};
+use events::{Before, Subject, Work, done, rotated, work_of};
 use sr_forwarding::Danp;
 use sr_frame::Mac;
 use sr_node::NodeOf;
@@ -48,8 +49,8 @@ enum Plan {
     Entered(Work),
     /// It is entered under a lock.
     Locked(Work),
-    /// So many ticks are entered, and the journal is closed.
-    Rotated(u32),
+    /// This is entered, and the journal is closed.
+    Rotated(Before),
 }
 
 /// The plan of these words.
@@ -59,7 +60,8 @@ fn plan_of(way: &str, work: &str) -> Option<Plan> {
         "copied" => Some(Plan::Copied(work_of(work)?)),
         "entered" => Some(Plan::Entered(work_of(work)?)),
         "locked" => Some(Plan::Locked(work_of(work)?)),
-        "rotated" => Some(Plan::Rotated(work.parse().ok()?)),
+        "rotated" => Some(Plan::Rotated(Before::Ticks(work.parse().ok()?))),
+        "full" => Some(Plan::Rotated(Before::Nodes(work.parse().ok()?))),
         _ => None,
     }
 }
@@ -98,7 +100,7 @@ fn has_done<R: Wait>(
         Plan::Locked(work) => {
             enters_under_lock::<Brand, R>(rt, alloc, node, Blank::new(5), work, times)
         }
-        Plan::Rotated(entries) => rotates::<Brand>(alloc, node, Blank::new(5), entries, times),
+        Plan::Rotated(before) => rotates::<Brand>(alloc, node, Blank::new(5), before, times),
     }
 }
 
@@ -145,12 +147,12 @@ fn enters_under_lock<L: Ledger, R: Wait>(
     }
 }
 
-/// The node gets a journal of so many ticks, which is closed so many times.
+/// The node gets a journal in which this is entered, and which is closed so many times.
 fn rotates<L: Ledger>(
     alloc: Global,
     node: NodeOf<Danp>,
     blank: Blank,
-    entries: u32,
+    before: Before,
     times: u32,
 ) -> Option<u64>
     requires name { blank.name ≡ L.name }
@@ -160,7 +162,7 @@ fn rotates<L: Ledger>(
     match Kept::<Danp, L>::new(alloc, node, blank) {
         Ok((kept, passes)) => {
             let mut subject = Entered { kept, passes };
-            let count = rotated(alloc, &mut subject, entries, times);
+            let count = rotated(alloc, &mut subject, before, times);
             drop(subject);
             count
         }
