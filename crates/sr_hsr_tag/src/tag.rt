@@ -1,5 +1,8 @@
 //! What a tag says.
 
+ghost use Rattle.std.specs.Prelude.{◌≡◌, ◌<◌};
+ghost use Rattle.sr_hsr_tag.specs.Tagged.{tag_octets};
+
 use sr_sequence::Seq;
 
 /// The type of a frame with an HSR tag (IEC 62439-3, clause 5).
@@ -19,4 +22,22 @@ pub struct HsrTag {
     pub seq: Seq,
     /// The type of the frame without the tag.
     pub inner: u16,
+}
+
+impl HsrTag {
+    /// What stands behind the type of a tagged frame: path and size, number, inner type.
+    // speed: D-script-in-place
+    #[inline(always)]
+    pub fn octets(self) -> [u8; TAG_LEN]
+        requires path { self.path < 16 }
+        requires size { self.size < 4096 }
+        ensures { result ≡ tag_octets self }
+    {
+        let [word_high, word_low] = (u16::from(self.path) * 4096 + self.size).to_be_bytes();
+        let [seq_high, seq_low] = self.seq.0.to_be_bytes();
+        let [inner_high, inner_low] = self.inner.to_be_bytes();
+        [
+            word_high, word_low, seq_high, seq_low, inner_high, inner_low,
+        ]
+    }
 }

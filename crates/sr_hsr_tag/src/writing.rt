@@ -45,10 +45,7 @@ fn put_tag(out: &mut Vec<u8>, tag: HsrTag)
     ensures items { out.new.items ≡ out.old.items ++ tag_octets tag }
     ensures capacity { vec_capacity out.old ≤ vec_capacity out.new }
 {
-    let word = u16::from(tag.path) * 4096 + tag.size;
-    out.extend_from_slice(&word.to_be_bytes()).unwrap();
-    out.extend_from_slice(&tag.seq.0.to_be_bytes()).unwrap();
-    out.extend_from_slice(&tag.inner.to_be_bytes()).unwrap();
+    out.extend_from_slice(&tag.octets()).unwrap();
 }
 
 /// Appends the frame, with the tag in it, to a list that has room for both.

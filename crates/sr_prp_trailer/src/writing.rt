@@ -3,22 +3,12 @@
 ghost use Rattle.std.specs.Prelude.{◌≡◌, ◌≢◌, ◌↔◌, ◌+◌, ◌-◌, ◌<◌, ◌≤◌, ◌++◌, List, ℕ, length, vec_len, vec_capacity, IfOk, OnOk, OnErr, IsErrOf};
 ghost use Rattle.sr_frame.specs.Frame.{spelling, least_len, padded};
 ghost use Rattle.sr_frame.specs.View.{fields_of};
-ghost use Rattle.sr_prp_trailer.specs.Trailed.{IsTrailed, trailer_octets, lan_id};
+ghost use Rattle.sr_prp_trailer.specs.Trailed.{IsTrailed, trailer_octets};
 
-use crate::trailer::{LAN_A_ID, LAN_B_ID, Lan, SUFFIX, TRAILER_LEN, Trailer};
+use crate::trailer::{Lan, TRAILER_LEN, Trailer};
 use sr_frame::{Frame, FrameFault, FrameView, MAX_FRAME_LEN, MIN_PAYLOAD_LEN, append};
 use sr_sequence::Seq;
 use std::alloc::Global;
-
-/// The id of a network.
-fn id_of(lan: Lan) -> u16
-    ensures { result ≡ lan_id lan }
-{
-    match lan {
-        Lan::A => LAN_A_ID,
-        Lan::B => LAN_B_ID,
-    }
-}
 
 /// Appends a trailer to a list that has room for it.
 fn put_trailer(out: &mut Vec<u8>, trailer: Trailer)
@@ -27,10 +17,7 @@ fn put_trailer(out: &mut Vec<u8>, trailer: Trailer)
     ensures items { out.new.items ≡ out.old.items ++ trailer_octets trailer }
     ensures capacity { vec_capacity out.old ≤ vec_capacity out.new }
 {
-    let word = id_of(trailer.lan) * 4096 + trailer.size;
-    out.extend_from_slice(&trailer.seq.0.to_be_bytes()).unwrap();
-    out.extend_from_slice(&word.to_be_bytes()).unwrap();
-    out.extend_from_slice(&SUFFIX.to_be_bytes()).unwrap();
+    out.extend_from_slice(&trailer.octets()).unwrap();
 }
 
 /// Appends the frame's octets, padded to `len`, to a list that has room for them.
