@@ -1,17 +1,13 @@
 -- Digits written for whole blocks of octets.
-use Rattle.std.proofs.Common.{◌≡◌, ℕ, suc, ◌+◌, ◌-◌, ◌*◌, ◌/◌, ◌%◌, ◌<◌, ◌≤◌, eqb, eqb-true, List, [], ◌∷◌, ◌++◌, length, slice_index, refl, sym, ap, ◌∙◌, inl, inr, arith}
+use Rattle.std.proofs.Common.{◌≡◌, ℕ, suc, ◌+◌, ◌-◌, ◌*◌, ◌/◌, ◌%◌, ◌<◌, ◌≤◌, List, [], ◌∷◌, ◌++◌, length, slice_index, refl, sym, ap, ◌∙◌, inl, inr, arith}
 use Rattle.std.proofs.lemmas.Bool.{cases_lt}
 use Rattle.std.proofs.lemmas.List.{get_or_append_left, get_or-append_right, get_or-drop, length-drop}
 use lib.Seq.{get_or-take}
 use Rattle.std.proofs.Common.{length-take, take, drop}
-use Rattle.hex.specs.Hex.{encode_with, encode_lower, lower_digits}
+use Rattle.hex.specs.Hex.{encode_with, encode_lower}
 use Rattle.sr_hex.specs.Lanes.{HasLanes}
 use Rattle.sr_hex.specs.Values.{digit_of, AreWritten, AreKept}
-use Rattle.sr_hex.proofs.LaneLemmas.{every_below}
 use Rattle.sr_hex.proofs.Blocks.{Octets}
-
-digit_is : (n : ℕ) → n < 16 → digit_of n ≡ slice_index lower_digits n
-digit_is n lt = eqb-true _ _ (every_below (λ k. eqb (digit_of k) (slice_index lower_digits k)) 16 refl n lt)
 
 -- the lanes of two vectors, one behind the other
 front_lane : (g : ℕ → ℕ) (xs ys : List ℕ) → HasLanes xs g → (j k : ℕ) → k < 16 → j ≡ k → slice_index (xs ++ ys) j ≡ g k
@@ -83,16 +79,13 @@ written_whole (o ∷ os) [] fits twice h = absurd (omega arith)
 written_whole (o ∷ os) (a ∷ []) fits twice h = absurd (omega arith)
 written_whole (o ∷ os) (a ∷ b ∷ ds) fits twice h =
     let first = h 0 (omega arith) (omega arith) in
-    let small : o < 256 = fits 0 in
     let rest = written_whole os ds (λ k. fits (suc k)) (omega arith)
     (λ k low high.
     let e : 2 * suc k ≡ suc (suc (2 * k)) = omega arith in
     let e2 : 2 * suc k + 1 ≡ suc (suc (2 * k + 1)) = omega arith in
     let both = h (suc k) (omega arith) (omega arith) in
     (ap (slice_index (a ∷ b ∷ ds)) (sym e) ∙ both.0, ap (slice_index (a ∷ b ∷ ds)) (sym e2) ∙ both.1)) in
-    let a_is : a ≡ slice_index lower_digits (o / 16) = first.0 ∙ digit_is (o / 16) (omega arith) in
-    let b_is : b ≡ slice_index lower_digits (o % 16) = first.1 ∙ digit_is (o % 16) (omega arith) in
-    (λ j. a_is j ∷ b_is j ∷ rest j)
+    (λ j. first.0 j ∷ first.1 j ∷ rest j)
 
 -- a piece of octets stands at the front of a list
 pub piece_lane : (octets piece rest : List ℕ) (at k : ℕ) → piece ≡ take (at + 8 - at) (drop at octets) → at + 8 ≤ length octets → k < 8

@@ -1,14 +1,15 @@
 -- What the operations on vectors of sixteen octets hold at each lane.
-use Rattle.std.proofs.Common.{◌≡◌, ℕ, zero, suc, ◌+◌, ◌-◌, ◌%◌, ◌^◌, ◌<◌, ◌↔◌, Bool, true, false, not, ◌&&◌, cond, eqb, ltb, leb, List, [], ◌∷◌, ◌++◌, map, length, get_or, replicate, refl, sym, ap, ◌∙◌, inl, inr, arith, w8, Fits, eqb-true, eq-eqb, leb-false, leb-true, ltb-true, ltb-false}
+use Rattle.std.proofs.Common.{◌≡◌, ℕ, zero, suc, ◌+◌, ◌-◌, ◌*◌, ◌/◌, ◌%◌, ◌^◌, ◌<◌, ◌≤◌, ◌↔◌, Bool, true, false, not, ◌&&◌, cond, eqb, ltb, leb, List, [], ◌∷◌, ◌++◌, map, length, take, drop, get_or, replicate, refl, sym, ap, ◌∙◌, inl, inr, arith, w8, Fits, eqb-true, eq-eqb, leb-false, leb-true, ltb-true, ltb-false}
 use Rattle.std.specs.Prelude.{min, max}
 use Rattle.std.proofs.lemmas.Bool.{cases_lt, and_parts, not-true, not-false}
-use Rattle.std.proofs.lemmas.List.{get_or_append_left, get_or-append_right, length-map, get_or_past, get_or-map}
-use Rattle.std.proofs.lemmas.Simd.{get_or-zip2, get_or-replicate, length-zip2, tops_compared, length-sel_l, get_or-sel_l, mask_l-mod, first_set_mask_l}
+use Rattle.std.proofs.lemmas.List.{get_or_append_left, get_or-append_right, length-map, length-drop, get_or-drop, get_or_past, get_or-map}
+use Rattle.std.proofs.lemmas.Simd.{get_or-zip2, get_or-replicate, length-zip2, tops_compared, length-sel_l, get_or-sel_l, mask_l-mod, first_set_mask_l, below_from_Fits, get_or_wider, get_or_narrower, swz_l, SwzOk, SwzOk-from_below, Each1-from_get_or, length-swz_l, get_or-swz_l_below}
 use Rattle.std.proofs.lemmas.List.Sums.{prefix_len-le-length, prefix_len_passes, prefix_len_stops}
 use Rattle.std.specs.List.{range_with_len, prefix_len}
-use lib.Lanes.{zip2, sel_l, mask_l, top, Each1}
+use lib.Lanes.{zip2, sel_l, mask_l, top, Each1, number_l, digits_l}
+use Rattle.hex.specs.Hex.{lower_digits}
 use Rattle.sr_hex.specs.Lanes.{HasLanes, first_set, IsSmallFront}
-use Rattle.sr_hex.specs.Values.{AreSmall}
+use Rattle.sr_hex.specs.Values.{AreSmall, digit_of, octet_of}
 
 pub lane_fits : (v : List ℕ) (i : ℕ) → Each1 (Fits w8) v → get_or v i 0 < 256
 lane_fits [] i h = omega arith
@@ -57,17 +58,6 @@ larger_is a b = go (ltb a b) refl
     go : (t : Bool) → ltb a b ≡ t → cond t b a ≡ max a b
     go true e = omega (arith, ltb-true _ _ e)
     go false e = omega (arith, ltb-false _ _ e)
-
-pub lanes_chosen : (xs : List ℕ) (y u v : ℕ) → length xs ≡ 16
-    → HasLanes (sel_l (map (top 7) (zip2 is_below (replicate 16 y) xs)) (replicate 16 u) (replicate 16 v)) (λ i. cond (ltb y (get_or xs i 0)) u v)
-lanes_chosen xs y u v p =
-    let all = chosen (replicate 16 y) xs (replicate 16 u) (replicate 16 v) refl p refl refl in
-    record {
-      long = all.long;
-      each = λ i h.
-          all.each i h
-          ∙ (λ j. cond (ltb (get_or-replicate 16 i y 0 h j) (get_or xs i 0)) (get_or-replicate 16 i u 0 h j) (get_or-replicate 16 i v 0 h j));
-    }
 
 pub lanes_smaller : (xs ys : List ℕ) → length xs ≡ 16 → length ys ≡ 16
     → HasLanes (sel_l (map (top 7) (zip2 is_below xs ys)) xs ys) (λ i. min (get_or xs i 0) (get_or ys i 0))
@@ -164,6 +154,19 @@ sixteen f = record {
   each = λ i h. get_or-map f (range_with_len 0 16) i 0 0 h ∙ ap f (place_is i h);
 }
 
+-- ---- digits, looked up
+
+pub small_places : (v : List ℕ) → length v ≡ 16 → AreSmall v → SwzOk w8 16 16 0 v
+small_places v long small = SwzOk-from_below w8 16 1 16 0 v refl (omega arith) (Each1-from_get_or (λ j. j < 16) v 0 (λ i lt. small i (omega arith)))
+
+pub digits_looked_up : (v : List ℕ) → length v ≡ 16 → AreSmall v → HasLanes (swz_l w8 16 lower_digits 0 v) (λ i. digit_of (get_or v i 0))
+digits_looked_up v long small = record {
+  long = length-swz_l w8 16 lower_digits 0 v ∙ long;
+  each = λ i h.
+      let place : 16 * ((0 + i) / 16) + get_or v i 0 ≡ get_or v i 0 = omega arith in
+      get_or-swz_l_below w8 16 lower_digits 0 v i (omega arith) (small i h) ∙ ap digit_of place;
+}
+
 -- ---- two vectors, one behind the other
 
 pub joined : (f : ℕ → ℕ) (p : ℕ) (xs ys : List ℕ) → HasLanes xs (λ i. f (p + i)) → HasLanes ys (λ i. f (p + 16 + i))
@@ -174,6 +177,68 @@ joined f p xs ys hx hy k lt =
       | inr g ↦
           let e : p + 16 + (k - 16) ≡ p + k = omega arith in
           get_or-append_right xs ys 16 k 0 hx.long g ∙ hy.each (k - 16) (omega arith) ∙ ap f e
+    ]
+
+-- ---- two neighbouring lanes, as one of sixteen bits
+
+number_of_two : (l : List ℕ) → 2 ≤ length l → number_l 256 (take 2 l) ≡ get_or l 0 0 + 256 * get_or l 1 0
+number_of_two [] h = absurd (omega arith)
+number_of_two (x ∷ []) h = absurd (omega arith)
+number_of_two (x ∷ y ∷ l) h = omega arith
+
+pair_is : (v : List ℕ) (i : ℕ) → length v ≡ 16 → Each1 (λ x. x < 256) v → i < 8
+    → get_or (digits_l 65536 8 (number_l 256 v)) i 0 ≡ get_or v (2 * i) 0 + 256 * get_or v (2 * i + 1) 0
+pair_is v i long small lt =
+    let same : 2 * i + 0 ≡ 2 * i = omega arith in
+    get_or_wider 256 2 65536 8 v i refl small lt
+    ∙ number_of_two (drop (2 * i) v) (omega (arith, length-drop (2 * i) v))
+    ∙ (λ j. get_or-drop (2 * i) v 0 0 j + 256 * get_or-drop (2 * i) v 1 0 j)
+    ∙ ap (λ k. get_or v k 0 + 256 * get_or v (2 * i + 1) 0) same
+
+abbrev pub shifted : ℕ → ℕ → ℕ
+shifted a b = a / 2 ^ b
+
+abbrev pub multiplied : ℕ → ℕ → ℕ
+multiplied a b = a * b % 65536
+
+abbrev pub octets_in_pairs : List ℕ → List ℕ
+octets_in_pairs v = zip2 shifted (zip2 multiplied (digits_l 65536 8 (number_l 256 v)) (replicate 8 4097)) (replicate 8 8)
+
+octet_in_pair : (v : List ℕ) (i : ℕ) → length v ≡ 16 → Each1 (λ x. x < 256) v → i < 8
+    → get_or (octets_in_pairs v) i 0 ≡ (get_or v (2 * i) 0 + 256 * get_or v (2 * i + 1) 0) * 4097 % 65536 / 256
+octet_in_pair v i long small lt =
+    let pairs = digits_l 65536 8 (number_l 256 v) in
+    get_or-zip2 shifted (zip2 multiplied pairs (replicate 8 4097)) (replicate 8 8) i 0 0 0 (omega arith) (omega arith)
+    ∙ (λ j. shifted (get_or-zip2 multiplied pairs (replicate 8 4097) i 0 0 0 (omega arith) (omega arith) j) (get_or-replicate 8 i 8 0 lt j))
+    ∙ (λ j. multiplied (pair_is v i long small lt j) (get_or-replicate 8 i 4097 0 lt j) / 256)
+
+pub pairs_joined : (v : List ℕ) → length v ≡ 16 → Each1 (Fits w8) v → (i : ℕ) → i < 8
+    → get_or (digits_l 256 16 (number_l 65536 (octets_in_pairs v))) (2 * i) 0 ≡ octet_of (get_or v (2 * i) 0) (get_or v (2 * i + 1) 0)
+pairs_joined v long fits i lt =
+    let small = below_from_Fits w8 v fits in
+    let all : Each1 (λ x. x < 65536) (octets_in_pairs v) = Each1-from_get_or (λ x. x < 65536) (octets_in_pairs v) 0
+    (λ k h. omega (arith, octet_in_pair v k long small (omega arith))) in
+    let same : 2 * i + 0 ≡ 2 * i = omega arith in
+    ap (λ k. get_or (digits_l 256 16 (number_l 65536 (octets_in_pairs v))) k 0) (sym same)
+    ∙ get_or_narrower 65536 2 256 16 (octets_in_pairs v) i 0 refl all (omega arith) (omega arith)
+    ∙ omega (arith, octet_in_pair v i long small lt, lane_fits v (2 * i) fits, lane_fits v (2 * i + 1) fits)
+
+-- the octets of two vectors, of which each is at the place of its first value
+pub octets_of_both : (a b x y : List ℕ) → length a ≡ 16 → length x ≡ 16
+    → ((i : ℕ) → i < 8 → get_or x (2 * i) 0 ≡ octet_of (get_or a (2 * i) 0) (get_or a (2 * i + 1) 0))
+    → ((i : ℕ) → i < 8 → get_or y (2 * i) 0 ≡ octet_of (get_or b (2 * i) 0) (get_or b (2 * i + 1) 0))
+    → (i : ℕ) → i < 16 → get_or (x ++ y) (2 * i) 0 ≡ octet_of (get_or (a ++ b) (2 * i) 0) (get_or (a ++ b) (2 * i + 1) 0)
+octets_of_both a b x y la lx first second i lt =
+    elim (cases_lt i 8) [
+      | inl l ↦
+          get_or_append_left x y 0 (2 * i) (omega arith) ∙ first i l
+          ∙ (λ j. octet_of (sym (get_or_append_left a b 0 (2 * i) (omega arith)) j) (sym (get_or_append_left a b 0 (2 * i + 1) (omega arith)) j))
+      | inr g ↦
+          let even : 2 * i - 16 ≡ 2 * (i - 8) = omega arith in
+          let odd : 2 * i + 1 - 16 ≡ 2 * (i - 8) + 1 = omega arith in
+          get_or-append_right x y 16 (2 * i) 0 lx (omega arith) ∙ ap (λ k. get_or y k 0) even ∙ second (i - 8) (omega arith)
+          ∙ (λ j. octet_of (sym (get_or-append_right a b 16 (2 * i) 0 la (omega arith) ∙ ap (λ k. get_or b k 0) even) j)
+          (sym (get_or-append_right a b 16 (2 * i + 1) 0 la (omega arith) ∙ ap (λ k. get_or b k 0) odd) j))
     ]
 
 pub lifted : (a b : ℕ) → a < 256 → b < 256 → (min a (255 - b) + b) % 256 ≡ min (a + b) 255

@@ -1,8 +1,8 @@
 -- The values of hexadecimal digits, by their distances from `9` and from `a`, and the digits of numbers.
-use Rattle.std.specs.Prelude.{◌≡◌, ◌+◌, ◌-◌, ◌*◌, ◌/◌, ◌%◌, ◌<◌, ◌≤◌, ℕ, List, length, take, slice_index, bit_or, min, nat_lt}
-use Rattle.std.specs.Prelude.{if◌then◌else◌, false}
+use Rattle.std.specs.Prelude.{◌≡◌, ◌+◌, ◌-◌, ◌*◌, ◌/◌, ◌%◌, ◌<◌, ◌≤◌, ℕ, List, length, take, slice_index, bit_or, min}
+use Rattle.std.specs.Prelude.{false}
 use Rattle.std.specs.List.{AllPass}
-use Rattle.hex.specs.Hex.{is_hex_digit}
+use Rattle.hex.specs.Hex.{is_hex_digit, lower_digits}
 
 -- the value of a code from `0` to `9`, and 16 or more for every other code: 198 more modulo 256, which is 255 for `9`,
 -- then 6 less, but no less than 0, and 16 more modulo 256
@@ -50,7 +50,7 @@ AreSmall v = (i : ℕ) → i < 16 → slice_index v i < 16
 
 -- the digit of a number below 16, in lower case
 abbrev pub digit_of : ℕ → ℕ
-digit_of n = ((n + 48) % 256 + (if nat_lt 9 n then 39 else 0)) % 256
+digit_of n = slice_index lower_digits n
 
 -- the digits of the octets between two places are written
 abbrev pub AreWritten : List ℕ → List ℕ → ℕ → ℕ → Type 0

@@ -1,8 +1,13 @@
-use Rattle.std.proofs.Common.{◌+◌, ◌*◌, ◌++◌, get_or}
-use Rattle.sr_hex.specs.Values.{octet_of}
-use Rattle.sr_hex.proofs.LaneLemmas.{sixteen}
+use Rattle.std.proofs.Common.{◌*◌, ◌++◌, ◌∙◌, get_or}
+use Rattle.sr_hex.proofs.LaneLemmas.{sixteen, octets_of_both}
 use Rattle.sr_hex.proofs.vectors.octets_of.Goals as goal
 
 pub returns : goal.returns
 returns c =
-    sixteen (λ i. octet_of (get_or (c.args.first ++ c.args.second) (2 * i) 0) (get_or (c.args.first ++ c.args.second) (2 * i + 1) 0))
+    let all = sixteen (λ i. get_or (c.joined.result ++ c.joined-2.result) (2 * i) 0) in
+    record {
+      long = all.long;
+      each = λ i h. all.each i h
+          ∙ octets_of_both c.args.first c.args.second c.joined.result c.joined-2.result c.fits-first.0 c.joined.ensures.long c.joined.ensures.octets
+          c.joined-2.ensures.octets i h;
+    }
