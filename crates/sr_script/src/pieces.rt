@@ -4,25 +4,15 @@ ghost use Rattle.std.specs.Prelude.{◌≡◌, ◌<◌, ◌≤◌, ◌++◌, ◌
 ghost use Rattle.std.specs.Int.{w16, to_be_bytes};
 ghost use Rattle.sr_frame.specs.Frame.{HasFrameLength, least_len, padded};
 ghost use Rattle.sr_hsr_tag.specs.Tagged.{IsTagged, octets_behind_type};
-ghost use Rattle.sr_hsr_tag.specs.declared.tag.HsrTag.{HsrTag};
-ghost use Rattle.sr_prp_trailer.specs.Trailed.{IsTrailed, lan_id, trailer_octets};
+ghost use Rattle.sr_prp_trailer.specs.Trailed.{IsTrailed};
 ghost use Rattle.sr_forwarding.specs.Encoding.{IsWritten};
 ghost use Rattle.sr_forwarding.specs.Framings.{Tagged, Trailed};
 
 use sr_forwarding::{Form, HsrFraming, Parcel, PrpFraming};
 use sr_frame::{HEADER_LEN, MAX_FRAME_LEN, MIN_PAYLOAD_LEN, VLAN_ETHERTYPE, VLAN_TAG_LEN};
-use sr_hsr_tag::{HSR_ETHERTYPE, TAG_LEN};
-use sr_prp_trailer::{Lan, TRAILER_LEN};
+use sr_hsr_tag::{HSR_ETHERTYPE, HsrTag, TAG_LEN};
+use sr_prp_trailer::{Lan, TRAILER_LEN, Trailer};
 use sr_sequence::Seq;
-
-/// The LAN id of LAN A.
-const LAN_A_ID: u16 = 0xA;
-
-/// The LAN id of LAN B.
-const LAN_B_ID: u16 = 0xB;
-
-/// The last two octets of a trailer.
-const SUFFIX: u16 = 0x88FB;
 
 /// How many octets of a frame stand before its payload.
 // speed: D-script-in-place
@@ -37,30 +27,6 @@ fn header_len(octets: &[u8]) -> usize
     } else {
         HEADER_LEN
     }
-}
-
-/// The octets of a trailer.
-// speed: D-script-in-place
-#[inline(always)]
-fn trailer_of(seq: Seq, lan: Lan, size: u16) -> [u8; 6]
-    requires { size < 4096 }
-    ensures { result ≡ trailer_octets (record { seq = seq; lan = lan; size = size }) }
-{
-    let id = match lan {
-        Lan::A => LAN_A_ID,
-        Lan::B => LAN_B_ID,
-    };
-    let [seq_high, seq_low] = seq.0.to_be_bytes();
-    let [size_high, size_low] = (id * 4096 + size).to_be_bytes();
-    let [suffix_high, suffix_low] = SUFFIX.to_be_bytes();
-    [
-        seq_high,
-        seq_low,
-        size_high,
-        size_low,
-        suffix_high,
-        suffix_low,
-    ]
 }
 
 /// A frame with a trailer behind it. Its last two octets are a part of the second piece, so that this has eight octets. None where
@@ -83,23 +49,26 @@ fn with_trailer(octets: &[u8], seq: Seq, lan: Lan) -> Option<(&[u8], [u8; 8])>
     }
     let (front, last) = octets.split_last_chunk::<2>()?;
     let [before_last, last] = *last;
-    let trailer = trailer_of(seq, lan, (payload_len + TRAILER_LEN) as u16);
-    let [a, b, c, d, e, f] = trailer;
+    let trailer = Trailer {
+        seq,
+        lan,
+        size: (payload_len + TRAILER_LEN) as u16,
+    };
+    let [a, b, c, d, e, f] = trailer.octets();
     Some((front, [before_last, last, a, b, c, d, e, f]))
 }
 
 /// What stands before the type of a frame without a VLAN tag once it has a tag.
 // speed: D-script-in-place
 #[inline(always)]
-fn tagged_front(addresses: &[u8; 12], seq: Seq, path: u8, size: u16) -> [u8; 18]
-    requires path { path < 16 }
-    requires size { size < 4096 }
+fn tagged_front(addresses: &[u8; 12], tag: HsrTag) -> [u8; 18]
+    requires path { tag.path < 16 }
+    requires size { tag.size < 4096 }
     ensures { result ≡ addresses.now ++ (to_be_bytes w16 0x892F
-        ++ (to_be_bytes w16 (path * 4096 + size) ++ to_be_bytes w16 seq.0)) }
+        ++ (to_be_bytes w16 (tag.path * 4096 + tag.size) ++ to_be_bytes w16 tag.seq.0)) }
 {
-    let [size_high, size_low] = (u16::from(path) * 4096 + size).to_be_bytes();
-    let [seq_high, seq_low] = seq.0.to_be_bytes();
     let [type_high, type_low] = HSR_ETHERTYPE.to_be_bytes();
+    let [size_high, size_low, seq_high, seq_low, ..] = tag.octets();
     let mut front = [0; 18];
     front[..12].copy_from_slice(addresses);
     front[12..].copy_from_slice(&[type_high, type_low, size_high, size_low, seq_high, seq_low]);
@@ -129,8 +98,14 @@ fn with_tag(octets: &[u8], seq: Seq, path: u8) -> Option<([u8; 18], &[u8])>
         return None;
     }
     let (addresses, behind) = octets.split_first_chunk::<12>()?;
-    let front = tagged_front(addresses, seq, path, (payload_len + TAG_LEN) as u16);
-    Some((front, behind))
+    let (inner, _) = behind.split_first_chunk::<2>()?;
+    let tag = HsrTag {
+        path,
+        size: (payload_len + TAG_LEN) as u16,
+        seq,
+        inner: u16::from_be_bytes(*inner),
+    };
+    Some((tagged_front(addresses, tag), behind))
 }
 
 /// What a plain parcel goes out as in a LAN, in two pieces. None where the framing is to write it.

@@ -1,4 +1,4 @@
-//! A wire takes 256 frames, and then hands back.
+//! A wire hands a frame back where 256 wait, and only there, however many it has carried: its clauses say this of the first 256.
 
 ghost use Rattle.std.specs.Prelude.{◌≡◌};
 
@@ -68,22 +68,61 @@ fn empties<W: Wait>(rt: &W, wire: &Wire, take: &mut TakePass) -> bool
     true
 }
 
-// Whether a new wire takes 256 frames, hands the next one back, and hands them out in order, and no more. None where there is no
-// memory for a wire.
+// Whether the empty wire takes 256 frames, hands the next one back, and hands them out in order, and no more.
+fn holds_as_many<W: Wait>(
+    rt: &W,
+    alloc: Global,
+    wire: &Wire,
+    send: &mut SendPass,
+    take: &mut TakePass,
+) -> bool
+    requires send { send.old.wire ≡ wire.now }
+    requires take { take.old.wire ≡ wire.now }
+    ensures send { send.new.wire ≡ wire.now }
+    ensures take { take.new.wire ≡ wire.now }
+{
+    fills(rt, alloc, wire, send)
+        && !puts(rt, alloc, wire, send, 7)
+        && empties(rt, wire, take)
+        && !takes(rt, wire, take, 7)
+}
+
+// Whether the empty wire takes 256 frames where each is taken before the next is sent.
+fn passes_on<W: Wait>(
+    rt: &W,
+    alloc: Global,
+    wire: &Wire,
+    send: &mut SendPass,
+    take: &mut TakePass,
+) -> bool
+    requires send { send.old.wire ≡ wire.now }
+    requires take { take.old.wire ≡ wire.now }
+    ensures send { send.new.wire ≡ wire.now }
+    ensures take { take.new.wire ≡ wire.now }
+{
+    for number in 0..=LAST {
+        if !puts(rt, alloc, wire, send, number) || !takes(rt, wire, take, number) {
+            return false;
+        }
+    }
+    true
+}
+
+// Whether a wire does so from the first frame on, and still when it has carried some. None where there is no memory for a wire.
 fn holds<W: Wait>(rt: &W, alloc: Global) -> Option<bool> {
     match Wire::new(alloc) {
         Ok((wire, mut send, mut take)) => Some(
-            fills(rt, alloc, &wire, &mut send)
-                && !puts(rt, alloc, &wire, &mut send, 7)
-                && empties(rt, &wire, &mut take)
-                && !takes(rt, &wire, &mut take, 7),
+            holds_as_many(rt, alloc, &wire, &mut send, &mut take)
+                && passes_on(rt, alloc, &wire, &mut send, &mut take)
+                && holds_as_many(rt, alloc, &wire, &mut send, &mut take)
+                && passes_on(rt, alloc, &wire, &mut send, &mut take),
         ),
         Err(_) => None,
     }
 }
 
 #[test]
-fn a_wire_takes_256_frames(rt: HostRuntime) {
+fn a_wire_holds_256_frames(rt: HostRuntime) {
     let holds = match holds(&rt, rt.alloc()) {
         None => holds(&rt, rt.alloc()),
         some => some,

@@ -9,4 +9,4 @@ returns-clause-tagged c =
     let behind = c.in_ok-addresses.behind.now in
     tagged_whole octets _ addresses behind c.args.path (length octets - c.header_len.result + 6) c.args.seq (λ i. omega (arith, c.type_inv.octets i)) (omega arith) (omega arith) (omega arith)
     c.requires.path (omega arith) c.in_ok-addresses.ensures.cases.0 c.in_ok-addresses.ensures.cases.1 (omega arith)
-    (ap (λ (l : List ℕ). l ++ behind) c.tagged_front-front.ensures)
+    (ap (λ (l : List ℕ). l ++ behind) c.tagged_front.ensures)

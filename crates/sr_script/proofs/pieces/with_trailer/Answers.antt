@@ -11,10 +11,9 @@ returns-clause-trailed c =
     let last = c.in_ok-front.last.now in
     let size = length octets - c.header_len.result + 6 in
     let t : Trailer = record { seq = c.args.seq; lan = c.args.lan; size = size } in
-    let r = c.trailer_of-trailer.result in
     let spelled = ap (λ (l : List ℕ).
     front ++ slice_index_or last 0 0 ∷ slice_index_or last 1 0 ∷ slice_index_or l 0 0 ∷ slice_index_or l 1 0 ∷ slice_index_or l 2 0 ∷ slice_index_or l 3 0 ∷ slice_index_or l 4 0 ∷ slice_index_or l 5 0 ∷ [])
-    c.trailer_of-trailer.ensures in (
+    c.octets.ensures in (
       size,
       trailed_whole octets _ t c.requires (omega arith) (omega arith) (omega arith)
           (spelled ∙ in_two_pieces octets front last (trailer_octets t) (length octets - 2) c.in_ok-front.ensures.cases.0 c.in_ok-front.ensures.cases.1 (omega arith)),
