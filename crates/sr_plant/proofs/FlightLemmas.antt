@@ -98,7 +98,7 @@ pub unused : (old new : Slab Kept) (fs : List Flying) → AreCounted old fs →
 unused old new fs counted same parcel =
     (λ k. counted k ∙ sym (same k), same_copies old new fs (λ k some. parcel k (omega (arith, some, counted k, same k))))
 
-few_of : {X : Type 0} (p : X → Bool) (xs : List X) → how_many p xs ≤ length xs
+pub few_of : {X : Type 0} (p : X → Bool) (xs : List X) → how_many p xs ≤ length xs
 few_of p [] = omega arith
 few_of p (x ∷ xs) = elim (cases_Bool (p x)) [
   | inl is ↦ rw is (omega (arith, few_of p xs))

@@ -1,6 +1,7 @@
 pub mod ListLemmas
 pub mod BuildingLemmas
 pub mod FlightLemmas
+mod LinkLemmas
 pub mod HopLemmas
 mod PutLemmas
 pub mod GivenLemmas

@@ -1,5 +1,7 @@
--- The copies in flight as they are kept: each parcel once, and the copies as places among the parcels.
-use Rattle.std.specs.Prelude.{◌≡◌, ◌≢◌, ℕ, ◌<◌, ◌==◌, Bool, List, [], ◌∷◌, map, Option, None, Some, IsSome, option_to_list}
+-- The copies in flight as they are kept: each parcel once, the copies as places among the parcels, and for each link how many are on it.
+use Rattle.std.specs.Prelude.{◌≡◌, ◌≢◌, ℕ, ◌+◌, ◌<◌, ◌==◌, Bool, if◌then◌else◌, List, [], ◌∷◌, map, length}
+use Rattle.std.specs.Prelude.{slice_index_or, Option, None, Some, IsSome, option_to_list}
+use Rattle.std.specs.List.{list_any}
 use Rattle.slab.specs.Slab.{Slab, get}
 use Rattle.sr_forwarding.specs.Parcels.{ParcelImage, plain_parcel}
 use Rattle.sr_plant_laws.specs.Ledger.{Hop as Step}
@@ -44,3 +46,26 @@ copy_in kept f = record { hop = hop_of f.hop; from = f.from; outlet = f.outlet; 
 -- The copies in flight as data.
 abbrev pub copies_in : Slab Kept → List Flying → List Copy
 copies_in kept fs = map (copy_in kept) fs
+
+-- A hop goes over this link.
+abbrev pub goes_over : ℕ → Hop → Bool
+goes_over link h = list_any (λ l. l == link) (hop_of h).links
+
+-- The copy is on this link, as `is_on` says it of copies as data.
+abbrev pub is_over : ℕ → Flying → Bool
+is_over link f = goes_over link f.hop
+
+-- The count that is kept for each link is the number of copies in flight that are on it.
+abbrev pub AreOnLinks : List ℕ → List Flying → Type 0
+AreOnLinks counts fs = (link : ℕ) → link < length counts → how_many (is_over link) fs ≡ slice_index_or counts link 0
+
+-- Of two lists of counts, one for each link, the second has one more on the links that pass the test, and as many on the others.
+pub record IsOneMore (over : ℕ → Bool) (fewer more : List ℕ) : Type 0 where
+  pub len : length more ≡ length fewer
+  pub each : (link : ℕ) → link < length fewer
+      → slice_index_or more link 0 ≡ (if over link then slice_index_or fewer link 0 + 1 else slice_index_or fewer link 0)
+
+-- What clauses see of the queue of copies: the copies in their order, and for how many there is room.
+pub record QueueValue : Type 0 where
+  pub items : List Flying
+  pub capacity : ℕ

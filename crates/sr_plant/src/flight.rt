@@ -8,7 +8,9 @@ ghost use Rattle.sr_plant.specs.Carrying.{OneComesAs};
 ghost use Rattle.sr_plant.specs.Topologies.{IsJoinedAs};
 
 mod copies;
+mod counts;
 mod parcels;
+mod queue;
 
 use crate::Topology;
 use crate::arriving::Arriving;
@@ -16,23 +18,22 @@ use crate::outlet::Outlet;
 pub(crate) use copies::Flying;
 use copies::{attach, keep_off, put_copies};
 use parcels::{Kept, drop_copy, drop_unused};
+use queue::Queue;
 use slab::Slab;
 use sr_forwarding::Parcel;
 use sr_frame::NoMemory;
 use std::alloc::Global;
-use std::collections::VecDeque;
 use std::marker::Model;
 
 /// The copies in flight, in the order in which they were put out.
 #[derive(Drop)]
 pub(crate) struct Flight {
     kept: Slab<Kept>,
-    places: VecDeque<Flying>,
+    places: Queue,
 }
 
 impl Model for Flight {
-    ghost use Rattle.std.specs.Prelude.{◌-◌};
-    ghost use Rattle.std.specs.VecDeque.{deque_len, deque_capacity};
+    ghost use Rattle.std.specs.Prelude.{◌-◌, length};
     ghost use Rattle.slab.specs.Slab.{slab_len};
     ghost use Rattle.sr_plant.specs.Plants.{FlightValue};
     ghost use Rattle.sr_plant.specs.Limits.{most_members};
@@ -44,21 +45,22 @@ impl Model for Flight {
     ghost view = { λ f. record {
       copies = copies_in f.kept f.places.items;
       parcels = f.kept.capacity - slab_len f.kept;
-      places = deque_capacity f.places - deque_len f.places;
+      places = f.places.capacity - length f.places.items;
     } };
 
     ghost invariant = { λ f. AreCounted f.kept f.places.items × AreUsed f.kept };
 }
 
 impl Flight {
-    /// A flight with no copies.
-    pub(crate) fn new(alloc: Global) -> Flight
-        ensures { result.copies ≡ [] }
+    /// A flight with no copies, over so many links. `NoMemory` where the allocation fails.
+    pub(crate) fn new(alloc: Global, links: usize) -> Result<Flight, NoMemory>
+        ensures { IfOk result (λ f. f.copies ≡ []) }
     {
-        Flight {
+        let places = Queue::new(alloc, links)?;
+        Ok(Flight {
             kept: Slab::new(alloc),
-            places: VecDeque::new(alloc),
-        }
+            places,
+        })
     }
 
     /// How many copies are in flight.
@@ -111,7 +113,9 @@ impl Flight {
         requires place { place < length self.now.copies }
         ensures { IfOk result (λ a. OneComesAs topology self.now.copies place a) }
     {
-        let flying = self.places[place];
+        let Some(flying) = self.places.get(place) else {
+            return Ok(None);
+        };
         match self.kept.get(flying.key) {
             Some(entry) => Arriving::of(alloc, topology, flying, &entry.parcel),
             None => Ok(None),
@@ -138,8 +142,7 @@ impl Flight {
         ensures err { OnErr result (self.new.copies ≡ self.old.copies) }
     {
         self.places.reserve(1)?;
-        if let Some(flying) = self.places.get(place) {
-            let double = *flying;
+        if let Some(double) = self.places.get(place) {
             attach(&mut self.kept, &mut self.places, double);
         }
         Ok(())
@@ -149,6 +152,10 @@ impl Flight {
     pub(crate) fn cut(&mut self, link: usize)
         ensures { self.new.copies ≡ filter (λ c. not (is_on link c)) self.old.copies }
     {
+        // speed: D-plant-counts
+        if self.places.is_free(link) {
+            return;
+        }
         keep_off(&mut self.kept, &mut self.places, link);
     }
 }

@@ -43,8 +43,9 @@ impl Traffic {
         ensures clock { IfOk result (λ t. t.clock ≡ 0) }
     {
         let cut = Vec::from_elem(alloc, false, links)?;
+        let flight = Flight::new(alloc, links)?;
         Ok(Traffic {
-            flight: Flight::new(alloc),
+            flight,
             cut,
             clock: 0,
             alloc,

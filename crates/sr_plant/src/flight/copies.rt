@@ -1,7 +1,6 @@
 //! The queue of copies in flight: a copy of a parcel that is kept is put last, or taken out.
 
-ghost use Rattle.std.specs.Prelude.{◌≡◌, ◌≤◌, ◌<◌, ◌+◌, [], ◌∷◌, ◌++◌, map, filter, not, option_to_list, IsSome};
-ghost use Rattle.std.specs.VecDeque.{deque_len, deque_capacity};
+ghost use Rattle.std.specs.Prelude.{◌≡◌, ◌≤◌, ◌<◌, ◌+◌, [], ◌∷◌, ◌++◌, map, filter, not, drop, length, option_to_list, IsSome};
 ghost use Rattle.slab.specs.Slab.{get, slab_len};
 ghost use Rattle.sr_plant.specs.Copies.{is_on};
 ghost use Rattle.sr_plant.specs.Limits.{most_members};
@@ -10,11 +9,11 @@ ghost use Rattle.sr_plant.specs.Topologies.{IsJoinedAs};
 ghost use Rattle.sr_plant.specs.Puts.{copy_over, copies_put, those_passing, hop_to};
 
 use super::parcels::{Kept, add_copy, drop_copy};
+use super::queue::Queue;
 use crate::hop::Hop;
 use crate::outlet::Outlet;
 use slab::Slab;
 use sr_frame::Port;
-use std::collections::VecDeque;
 
 /// A copy in flight: where its parcel is kept, where it leads, and the node and the outlet that put it out.
 #[derive(Clone, Copy)]
@@ -25,19 +24,9 @@ pub(crate) struct Flying {
     pub(crate) outlet: Port,
 }
 
-// Puts a copy behind all others.
-fn put_last(places: &mut VecDeque<Flying>, flying: Flying)
-    requires { deque_len places.old < deque_capacity places.old }
-    ensures items { places.new.items ≡ places.old.items ++ flying ∷ [] }
-    ensures len { deque_len places.new ≡ deque_len places.old + 1 }
-    ensures capacity { deque_capacity places.new ≡ deque_capacity places.old }
-{
-    places.push_back_reserved(flying);
-}
-
 /// Puts one more copy of a parcel that is kept behind all others.
-pub(crate) fn attach(kept: &mut Slab<Kept>, places: &mut VecDeque<Flying>, flying: Flying)
-    requires room { deque_len places.old < deque_capacity places.old }
+pub(crate) fn attach(kept: &mut Slab<Kept>, places: &mut Queue, flying: Flying)
+    requires room { length places.old.items < places.old.capacity }
     requires counted { AreCounted kept.old places.old.items }
     requires used { AreUsedBut flying.key kept.old }
     requires there { IsSome (get kept.old flying.key) }
@@ -49,35 +38,34 @@ pub(crate) fn attach(kept: &mut Slab<Kept>, places: &mut VecDeque<Flying>, flyin
     ensures parcel { parcel_of (get kept.new flying.key) ≡ parcel_of (get kept.old flying.key) }
     ensures kept_len { slab_len kept.new ≡ slab_len kept.old }
     ensures kept_capacity { kept.new.capacity ≡ kept.old.capacity }
-    ensures len { deque_len places.new ≡ deque_len places.old + 1 }
-    ensures capacity { deque_capacity places.new ≡ deque_capacity places.old }
+    ensures len { length places.new.items ≡ length places.old.items + 1 }
+    ensures capacity { places.new.capacity ≡ places.old.capacity }
 {
+    places.put_last(flying);
     add_copy(kept, flying.key);
-    put_last(places, flying);
 }
 
-// Puts a copy that was taken out behind all others, if it is not on this link.
-fn look_at(kept: &mut Slab<Kept>, places: &mut VecDeque<Flying>, seen: Flying, link: usize)
-    requires room { deque_len places.old < deque_capacity places.old }
-    requires counted { AreCounted kept.old (seen ∷ places.old.items) }
+// Looks at the first copy: it goes out of flight where it is on this link, and else behind all others.
+fn look_at(kept: &mut Slab<Kept>, places: &mut Queue, first: Flying, link: usize)
+    requires first { places.old.items ≡ first ∷ drop 1 places.old.items }
+    requires counted { AreCounted kept.old places.old.items }
     requires used { AreUsed kept.old }
     ensures counted { AreCounted kept.new places.new.items }
     ensures used { AreUsed kept.new }
     ensures copies { copies_in kept.new places.new.items
-        ≡ copies_in kept.old places.old.items
-        ++ filter (λ c. not (is_on link c)) (copy_in kept.old seen ∷ []) }
-    ensures len { deque_len places.new ≤ deque_len places.old + 1 }
-    ensures capacity { deque_capacity places.new ≡ deque_capacity places.old }
+        ≡ copies_in kept.old (drop 1 places.old.items)
+        ++ filter (λ c. not (is_on link c)) (copy_in kept.old first ∷ []) }
 {
-    if seen.hop.is_on(link) {
-        drop_copy(kept, seen.key);
+    if first.hop.is_on(link) {
+        let _ = places.remove(0);
+        drop_copy(kept, first.key);
         return;
     }
-    put_last(places, seen);
+    places.turn();
 }
 
 /// Takes all copies on a link out of flight. The others stay, in their order.
-pub(crate) fn keep_off(kept: &mut Slab<Kept>, places: &mut VecDeque<Flying>, link: usize)
+pub(crate) fn keep_off(kept: &mut Slab<Kept>, places: &mut Queue, link: usize)
     requires counted { AreCounted kept.old places.old.items }
     requires used { AreUsed kept.old }
     ensures counted { AreCounted kept.new places.new.items }
@@ -86,17 +74,17 @@ pub(crate) fn keep_off(kept: &mut Slab<Kept>, places: &mut VecDeque<Flying>, lin
         ≡ filter (λ c. not (is_on link c)) (copies_in kept.old places.old.items) }
 {
     for _ in 0..places.len() {
-        let Some(flying) = places.pop_front() else {
+        let Some(first) = places.get(0) else {
             return;
         };
-        look_at(kept, places, flying, link);
+        look_at(kept, places, first, link);
     }
 }
 
 // Puts the copy of a parcel to one node in flight, if the outlet leads there over no link that is cut.
 fn put_copy(
     kept: &mut Slab<Kept>,
-    places: &mut VecDeque<Flying>,
+    places: &mut Queue,
     outlet: Outlet,
     key: usize,
     to: usize,
@@ -106,7 +94,7 @@ fn put_copy(
     requires node { outlet.node < outlet.nodes }
     requires joined { IsJoinedAs outlet.topology outlet.nodes }
     requires to { to < outlet.nodes }
-    requires room { deque_len places.old < deque_capacity places.old }
+    requires room { length places.old.items < places.old.capacity }
     requires counted { AreCounted kept.old places.old.items }
     requires used { AreUsedBut key kept.old }
     requires there { IsSome (get kept.old key) }
@@ -120,8 +108,8 @@ fn put_copy(
     ensures parcel { parcel_of (get kept.new key) ≡ parcel_of (get kept.old key) }
     ensures kept_len { slab_len kept.new ≡ slab_len kept.old }
     ensures kept_capacity { kept.new.capacity ≡ kept.old.capacity }
-    ensures len { deque_len places.new ≤ deque_len places.old + 1 }
-    ensures capacity { deque_capacity places.new ≡ deque_capacity places.old }
+    ensures len { length places.new.items ≤ length places.old.items + 1 }
+    ensures capacity { places.new.capacity ≡ places.old.capacity }
 {
     let Some(hop) = outlet.hop(to) else {
         return;
@@ -141,7 +129,7 @@ fn put_copy(
 /// Puts the copies of a parcel in flight: one for each node to which the outlet leads over no link that is cut.
 pub(crate) fn put_copies(
     kept: &mut Slab<Kept>,
-    places: &mut VecDeque<Flying>,
+    places: &mut Queue,
     outlet: Outlet,
     key: usize,
     cut: &[bool],
@@ -149,7 +137,7 @@ pub(crate) fn put_copies(
     requires small { outlet.nodes ≤ most_members }
     requires node { outlet.node < outlet.nodes }
     requires joined { IsJoinedAs outlet.topology outlet.nodes }
-    requires room { deque_len places.old + outlet.nodes ≤ deque_capacity places.old }
+    requires room { length places.old.items + outlet.nodes ≤ places.old.capacity }
     requires counted { AreCounted kept.old places.old.items }
     requires used { AreUsedBut key kept.old }
     requires there { IsSome (get kept.old key) }
@@ -161,8 +149,8 @@ pub(crate) fn put_copies(
         (parcel_of (get kept.old key))) }
     ensures kept_len { slab_len kept.new ≡ slab_len kept.old }
     ensures kept_capacity { kept.new.capacity ≡ kept.old.capacity }
-    ensures len { deque_len places.new ≤ deque_len places.old + outlet.nodes }
-    ensures capacity { deque_capacity places.new ≡ deque_capacity places.old }
+    ensures len { length places.new.items ≤ length places.old.items + outlet.nodes }
+    ensures capacity { places.new.capacity ≡ places.old.capacity }
 {
     for to in 0..outlet.nodes {
         put_copy(kept, places, outlet, key, to, cut);

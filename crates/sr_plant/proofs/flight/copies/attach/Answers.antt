@@ -1,4 +1,4 @@
-use Rattle.std.proofs.Common.{◌≡◌, ◌++◌, ◌∷◌, [], List, arith, sym, subst}
+use Rattle.std.proofs.Common.{◌≡◌, ◌++◌, ◌∷◌, [], List, length, length-append, arith, ap, sym, subst}
 use Rattle.sr_plant.specs.declared.flight.copies.Flying.{Flying}
 use Rattle.sr_plant.specs.Flights.{AreCounted, copies_in, copy_in}
 use Rattle.sr_plant.proofs.FlightLemmas.{attached, used_again, few_copies}
@@ -6,7 +6,9 @@ use Rattle.sr_plant.proofs.flight.copies.attach.Goals as goal
 
 pub add_copy-requires-clause-fits : goal.add_copy-requires-clause-fits
 add_copy-requires-clause-fits c =
-    few_copies c.args.kept.now c.args.places.now.items c.args.flying.key 18446744073709551615 c.requires.counted (omega (arith, c.args.places.now.small.0, c.args.places.now.ok, c.requires.room))
+    let one = ap length c.put_last.ensures.items in
+    let more = length-append c.args.places.now.items (c.args.flying ∷ []) in
+    few_copies c.args.kept.now c.args.places.now.items c.args.flying.key 18446744073709551615 c.requires.counted (omega (arith, one, more, c.put_last.ensures.few))
 
 pub returns-clause-counted : goal.returns-clause-counted
 returns-clause-counted c =

@@ -1,0 +1,115 @@
+//! The queue of the copies in flight, which knows of each link how many of them are on it.
+
+ghost use Rattle.std.specs.Prelude.{◌≡◌, ◌≤◌, ◌<◌, ◌+◌, ◌↔◌, ℕ, true, List, [], ◌∷◌, ◌++◌, length, remove, slice_index_or, IfOk, OnOk, IsSome, IfSome};
+ghost use Rattle.sr_plant_laws.specs.Lists.{how_many};
+ghost use Rattle.sr_plant.specs.declared.flight.copies.Flying.{Flying};
+ghost use Rattle.sr_plant.specs.Flights.{is_over};
+
+use super::copies::Flying;
+use super::counts::{add_hop, drop_hop};
+use sr_frame::NoMemory;
+use std::alloc::Global;
+use std::collections::VecDeque;
+use std::marker::Model;
+
+/// The copies in flight, in the order in which they were put out.
+#[derive(Drop)]
+pub(crate) struct Queue {
+    places: VecDeque<Flying>,
+    // For each link, how many of the copies are on it.
+    // speed: D-plant-counts
+    counts: Vec<usize>,
+}
+
+impl Model for Queue {
+    ghost use Rattle.std.specs.VecDeque.{deque_capacity};
+    ghost use Rattle.sr_plant.specs.Flights.{QueueValue, AreOnLinks};
+
+    ghost Value = { QueueValue };
+
+    ghost view = { λ q. record { items = q.places.items; capacity = deque_capacity q.places } };
+
+    ghost invariant = { λ q. AreOnLinks q.counts.items q.places.items };
+}
+
+impl Queue {
+    /// A queue with no copies, which counts those on so many links. `NoMemory` where the allocation fails.
+    pub(crate) fn new(alloc: Global, links: usize) -> Result<Queue, NoMemory>
+        ensures { IfOk result (λ q. q.items ≡ []) }
+    {
+        let counts = Vec::from_elem(alloc, 0, links)?;
+        Ok(Queue {
+            places: VecDeque::new(alloc),
+            counts,
+        })
+    }
+
+    /// How many copies there are.
+    pub(crate) fn len(&self) -> usize
+        ensures { result ≡ length self.now.items }
+    {
+        self.places.len()
+    }
+
+    /// Makes room for so many more copies. `NoMemory` where the allocation fails. The copies stay the same.
+    pub(crate) fn reserve(&mut self, additional: usize) -> Result<(), NoMemory>
+        ensures items { self.new.items ≡ self.old.items }
+        ensures room { OnOk result (length self.new.items + additional ≤ self.new.capacity) }
+    {
+        self.places.reserve(additional)?;
+        Ok(())
+    }
+
+    /// The copy at a place.
+    pub(crate) fn get(&self, place: usize) -> Option<Flying>
+        ensures there { IsSome result ↔ (place < length self.now.items) }
+        ensures item { IfSome result (λ f. f ≡ slice_index_or self.now.items place f) }
+    {
+        self.places.get(place).copied()
+    }
+
+    /// Whether no copy is on this link, by its count. A link that has no count is never said to be free.
+    pub(crate) fn is_free(&self, link: usize) -> bool
+        ensures { result ≡ true → how_many (is_over link) self.now.items ≡ 0 }
+    {
+        match self.counts.get(link) {
+            Some(count) => *count == 0,
+            None => false,
+        }
+    }
+
+    /// Puts a copy behind all others.
+    pub(crate) fn put_last(&mut self, flying: Flying)
+        requires { length self.old.items < self.old.capacity }
+        ensures items { self.new.items ≡ self.old.items ++ flying ∷ [] }
+        ensures capacity { self.new.capacity ≡ self.old.capacity }
+        ensures few { length self.new.items ≤ 18446744073709551615 }
+    {
+        add_hop(&mut self.counts, flying.hop);
+        self.places.push_back_reserved(flying);
+    }
+
+    /// Moves the first copy, if there is one, behind all others.
+    pub(crate) fn turn(&mut self)
+        ensures items { (first : Flying) (rest : List Flying) → self.old.items ≡ first ∷ rest
+            → self.new.items ≡ rest ++ first ∷ [] }
+        ensures capacity { self.new.capacity ≡ self.old.capacity }
+    {
+        if let Some(first) = self.places.pop_front() {
+            self.places.push_back_reserved(first);
+        }
+    }
+
+    /// Takes the copy at a place out, if there is one. The room for it stays.
+    pub(crate) fn remove(&mut self, place: usize) -> Option<Flying>
+        ensures there { IsSome result ↔ (place < length self.old.items) }
+        ensures item { IfSome result (λ f. f ≡ slice_index_or self.old.items place f) }
+        ensures items { place < length self.old.items
+            → self.new.items ≡ remove self.old.items place }
+        ensures capacity { self.new.capacity ≡ self.old.capacity }
+    {
+        let removed = self.places.remove(place)?;
+        drop_hop(&mut self.counts, removed.hop);
+        Some(removed)
+    }
+}
