@@ -1,6 +1,6 @@
 -- Hops, one after the other.
 use Rattle.std.proofs.Common.{◌≡◌, ℕ, zero, suc, ◌+◌, ◌-◌, ◌*◌, ◌<◌, ◌≤◌, ◌==◌, nat_lt, true, false, if◌then◌else◌, not, List, [], ◌∷◌, ◌++◌, map, Option, Some, None, refl, sym, ap, ◌∙◌, inl, inr, arith}
-use Rattle.std.specs.Prelude.{option_map}
+use Rattle.std.specs.Prelude.{IfSome, option_map}
 use Rattle.std.specs.Option.{option_to_list}
 use Rattle.std.proofs.lemmas.Bool.{cases_Bool}
 use Rattle.std.proofs.lemmas.Bool.Decides.{nat_tests}
@@ -19,7 +19,7 @@ use Rattle.sr_plant.specs.declared.shapes.TwoRingsShape.{TwoRingsShape}
 use Rattle.sr_plant.specs.declared.topology.Topology.{Topology}
 use Rattle.sr_plant.specs.declared.topology.Topology.TheVariants.{Ring, TwinLan, RingLan, TwoRings}
 use Rattle.sr_plant.specs.Topologies.{net_of, IsJoinedAs, lan_shape, two_shape, joins_of}
-use Rattle.sr_plant.specs.Puts.{hops_below, hop_to, ring_hop_to, twin_hop_to, ring_lan_hop_to, two_rings_hop_to, lan_hop_to, to_box_or_lan, over_to, beyond_left}
+use Rattle.sr_plant.specs.Puts.{hops_below, hop_to, ring_hop_to, twin_hop_to, ring_lan_hop_to, two_rings_hop_to, lan_hop_to, to_box_or_lan, over_to, beyond_left, LeadsOnlyTo, LeadsWithin}
 
 -- no hop
 none_below : (m : ℕ) → hops_below (λ j. None) m ≡ []
@@ -252,3 +252,46 @@ hops_all Ring n k o within joined = ring_all n n k o within (omega arith)
 hops_all TwinLan n k o within joined = twin_all n k o
 hops_all (RingLan s) n k o within joined = ring_lan_all s n k o within joined.sum joined.a_inside joined.b_inside
 hops_all (TwoRings s) n k o within joined = two_all s n k o within joined.sum joined.joins
+
+-- round a ring a hop leads to one node alone, and so it does where the ring is a part
+pub only_in_ring_lan : (s : RingLanShape) (k : ℕ) (o : Port) (r : Option ℕ) → k < s.ring → (o ≡ C → r ≡ None) →
+    IfSome r (λ m. LeadsOnlyTo (ring_hop_to s.ring k o) m) → IfSome r (λ m. LeadsOnlyTo (ring_lan_hop_to s k o) m)
+only_in_ring_lan s k o None inside none only = only
+only_in_ring_lan s k H (Some m) inside none only = λ j other. refl
+only_in_ring_lan s k A (Some m) inside none only = λ j other. (rw (less_is k s.ring inside) (only j other))
+only_in_ring_lan s k B (Some m) inside none only = λ j other. (rw (less_is k s.ring inside) (only j other))
+only_in_ring_lan s k C (Some m) inside none only = let e : Some m ≡ None = none refl in absurd (cc)
+
+pub only_in_left : (s : TwoRingsShape) (k : ℕ) (o : Port) (r : Option ℕ) → k < s.left → (o ≡ C → r ≡ None) →
+    IfSome r (λ m. LeadsOnlyTo (ring_hop_to s.left k o) m) → IfSome r (λ m. LeadsOnlyTo (two_rings_hop_to s k o) m)
+only_in_left s k o None inside none only = only
+only_in_left s k H (Some m) inside none only = λ j other. refl
+only_in_left s k A (Some m) inside none only = λ j other. (rw (less_is k s.left inside) (only j other))
+only_in_left s k B (Some m) inside none only = λ j other. (rw (less_is k s.left inside) (only j other))
+only_in_left s k C (Some m) inside none only = let e : Some m ≡ None = none refl in absurd (cc)
+
+pub only_in_right : (s : TwoRingsShape) (k : ℕ) (o : Port) (r : Option ℕ) → s.left ≤ k → (o ≡ C → r ≡ None) →
+    IfSome r (λ m. LeadsOnlyTo (beyond_left s.left (ring_hop_to s.right (k - s.left) o)) m) → IfSome r (λ m. LeadsOnlyTo (two_rings_hop_to s k o) m)
+only_in_right s k o None outside none only = only
+only_in_right s k H (Some m) outside none only = λ j other. refl
+only_in_right s k A (Some m) outside none only = λ j other. (rw (not_less k s.left outside) (only j other))
+only_in_right s k B (Some m) outside none only = λ j other. (rw (not_less k s.left outside) (only j other))
+only_in_right s k C (Some m) outside none only = let e : Some m ≡ None = none refl in absurd (cc)
+
+-- the hops to those nodes to which hops lead are all
+pub none_before : (to : ℕ → Option Hop) (first behind n : ℕ) → first ≤ n → LeadsWithin to first behind n → hops_below to first ≡ []
+none_before to first behind n within leads =
+    agree_below to (λ j. None) first (λ j below. leads j (omega (arith, below, within)) (inl below)) ∙ none_below first
+
+none_behind : (to : ℕ → Option Hop) (behind d : ℕ) → ((j : ℕ) → behind ≤ j → j < behind + d → to j ≡ None) → hops_below to behind ≡ hops_below to (behind + d)
+none_behind to behind zero none = let e : behind + zero ≡ behind = omega arith in rw e refl
+none_behind to behind (suc d) none =
+    let e : behind + suc d ≡ suc (behind + d) = omega arith in
+    let last : to (behind + d) ≡ None = none (behind + d) (omega arith) (omega arith) in
+    let before = none_behind to behind d (λ j over below. none j over (omega (arith, below))) in
+    rw (e, last) (before ∙ sym (append-nil (hops_below to (behind + d))))
+
+pub all_below : (to : ℕ → Option Hop) (first behind n : ℕ) → behind ≤ n → LeadsWithin to first behind n → hops_below to behind ≡ hops_below to n
+all_below to first behind n within leads =
+    let e : behind + (n - behind) ≡ n = omega arith in
+    rw e at (none_behind to behind (n - behind) (λ j over below. leads j (omega (arith, below, within)) (inr over)))

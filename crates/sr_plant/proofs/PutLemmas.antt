@@ -1,7 +1,7 @@
 -- The copies over the hops from an outlet.
-use Rattle.std.proofs.Common.{◌≡◌, ℕ, suc, ◌<◌, Bool, not, List, ◌++◌, map, Option, ap, ◌∙◌, refl, append_assoc}
+use Rattle.std.proofs.Common.{◌≡◌, ℕ, suc, ◌<◌, Bool, not, List, [], ◌++◌, map, Option, ap, ◌∙◌, refl, sym, append_assoc}
 use Rattle.std.specs.Option.{option_to_list}
-use Rattle.std.proofs.lemmas.List.{map-append}
+use Rattle.std.proofs.lemmas.List.{map-append, append-nil}
 use Rattle.std.proofs.lemmas.List.Elements.{filter-append}
 use Rattle.sr_frame.specs.declared.ports.Port.{Port}
 use Rattle.sr_forwarding.specs.Parcels.{ParcelImage}
@@ -29,8 +29,14 @@ put_more cut k o p to i j base so_far new next before one =
     (one ∙ (ap (λ (cs : List Copy). cs ++ those_passing cut (map (copy_over k o p) (option_to_list (to i)))) before
     ∙ append_assoc base (those_passing cut (map (copy_over k o p) (hops_below to i))) (those_passing cut (map (copy_over k o p) (option_to_list (to i))))))
 
+-- no copies so far
+pub put_none : (cut : List Bool) (k : ℕ) (o : Port) (p : ParcelImage) (to : ℕ → Option Hop) (i : ℕ) (base : List Copy) → hops_below to i ≡ [] →
+    base ≡ base ++ those_passing cut (map (copy_over k o p) (hops_below to i))
+put_none cut k o p to i base none = rw none (sym (append-nil base))
+
 -- the copies to all
-pub put_to_all : (t : Topology) (n k : ℕ) (o : Port) (cut : List Bool) (p : ParcelImage) (i : ℕ) (base new : List Copy) → k < n → IsJoinedAs t n → i ≡ n →
+pub put_to_all : (t : Topology) (n k : ℕ) (o : Port) (cut : List Bool) (p : ParcelImage) (i : ℕ) (base new : List Copy) → k < n → IsJoinedAs t n →
+    hops_below (hop_to t n k o) i ≡ hops_below (hop_to t n k o) n →
     new ≡ base ++ those_passing cut (map (copy_over k o p) (hops_below (hop_to t n k o) i)) →
     new ≡ base ++ those_passing cut (copies_put t n k o p)
 put_to_all t n k o cut p i base new within joined all so_far =

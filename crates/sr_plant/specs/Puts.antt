@@ -1,5 +1,5 @@
 -- What nodes put out, and where it leads.
-use Rattle.std.specs.Prelude.{ℕ, zero, suc, ◌+◌, ◌-◌, ◌*◌, ◌==◌, nat_lt, Bool, not, List, [], ◌∷◌}
+use Rattle.std.specs.Prelude.{◌≡◌, ◌≢◌, ◌⊎◌, ℕ, zero, suc, ◌+◌, ◌-◌, ◌*◌, ◌<◌, ◌≤◌, ◌==◌, nat_lt, Bool, not, List, [], ◌∷◌}
 use Rattle.std.specs.Prelude.{◌++◌, map, Option, None, Some, option_map, if◌then◌else◌}
 use Rattle.std.specs.List.{filter}
 use Rattle.std.specs.Option.{option_to_list}
@@ -111,3 +111,11 @@ hop_to (TwoRings s) n k o j = two_rings_hop_to s k o j
 abbrev pub hops_below : (ℕ → Option Hop) → ℕ → List Hop
 hops_below to zero = []
 hops_below to (suc m) = hops_below to m ++ option_to_list (to m)
+
+-- No hop leads to another node than m.
+abbrev pub LeadsOnlyTo : (ℕ → Option Hop) → ℕ → Type 0
+LeadsOnlyTo to m = (j : ℕ) → j ≢ m → to j ≡ None
+
+-- Of the nodes below n a hop leads at most to those from `first` on that are before `behind`.
+abbrev pub LeadsWithin : (ℕ → Option Hop) → ℕ → ℕ → ℕ → Type 0
+LeadsWithin to first behind n = (j : ℕ) → j < n → (j < first) ⊎ (behind ≤ j) → to j ≡ None

@@ -1,13 +1,13 @@
 //! The hops through coupled networks.
 
-ghost use Rattle.std.specs.Prelude.{◌≡◌, ◌≤◌, ◌<◌, ◌-◌, ◌==◌, [], ◌∷◌, Some, None, option_map, if◌then◌else◌};
+ghost use Rattle.std.specs.Prelude.{◌≡◌, ◌≤◌, ◌<◌, ◌-◌, ◌==◌, [], ◌∷◌, Some, None, IfSome, option_map, if◌then◌else◌};
 ghost use Rattle.sr_plant.specs.Limits.{most_members};
 ghost use Rattle.sr_plant.specs.Flights.{hop_of};
-ghost use Rattle.sr_plant.specs.Puts.{ring_hop_to, ring_lan_hop_to, two_rings_hop_to, lan_hop_to, over_to, beyond_left};
+ghost use Rattle.sr_plant.specs.Puts.{ring_hop_to, ring_lan_hop_to, two_rings_hop_to, lan_hop_to, over_to, beyond_left, LeadsOnlyTo};
 ghost use Rattle.sr_plant.specs.Topologies.{IsRingLan, AreTwoRings, joined_pair};
 
 use crate::hop::Hop;
-use crate::ring_hops::ring_hop;
+use crate::ring_hops::{ring_hop, ring_neighbour};
 use crate::{Join, RingLanShape, TwoRingsShape};
 use sr_frame::Port;
 
@@ -92,6 +92,19 @@ impl RingLanShape {
             return Some(box_hop(self.box_b, own, self.ring + 2 * self.lan + 1));
         }
         lan_hop(self.ring, Port::B, own, self.lan + 1, node, to)
+    }
+
+    /// The one node to which a port of a node leads, where it leads round the ring.
+    pub(crate) fn neighbour(self, nodes: usize, node: usize, port: Port) -> Option<usize>
+        requires joined { IsRingLan self nodes }
+        ensures inside { IfSome result (λ m. m < nodes) }
+        ensures only { IfSome result (λ m. LeadsOnlyTo (ring_lan_hop_to self node port) m) }
+    {
+        if node < self.ring {
+            ring_neighbour(self.ring, node, port)
+        } else {
+            None
+        }
     }
 
     /// The hop from a port of a node to another node, if it leads there.
@@ -187,6 +200,36 @@ impl TwoRingsShape {
             first: left + hop.first,
             second: None,
         })
+    }
+
+    // The one node to which a port of a node of the right ring leads round that ring.
+    fn right_neighbour(self, nodes: usize, node: usize, port: Port) -> Option<usize>
+        requires small { nodes ≤ most_members }
+        requires joined { AreTwoRings self nodes }
+        requires right { self.left ≤ node }
+        requires node { node < nodes }
+        ensures inside { IfSome result (λ m. m < nodes) }
+        ensures only { IfSome result (λ m. LeadsOnlyTo
+            (beyond_left self.left (ring_hop_to self.right (node - self.left) port)) m) }
+        ensures interlink { port ≡ Port.C → result ≡ None }
+    {
+        let neighbour = ring_neighbour(self.right, node - self.left, port)?;
+        Some(self.left + neighbour)
+    }
+
+    /// The one node to which a port of a node leads, where it leads round one of the rings.
+    pub(crate) fn neighbour(self, nodes: usize, node: usize, port: Port) -> Option<usize>
+        requires small { nodes ≤ most_members }
+        requires joined { AreTwoRings self nodes }
+        requires node { node < nodes }
+        ensures inside { IfSome result (λ m. m < nodes) }
+        ensures only { IfSome result (λ m. LeadsOnlyTo (two_rings_hop_to self node port) m) }
+    {
+        if node < self.left {
+            ring_neighbour(self.left, node, port)
+        } else {
+            self.right_neighbour(nodes, node, port)
+        }
     }
 
     /// The hop from a port of a node to another node, if it leads there.

@@ -1,14 +1,14 @@
 //! The outlets of nodes, and where they lead.
 
-ghost use Rattle.std.specs.Prelude.{◌≡◌, ◌≤◌, ◌<◌, option_map};
+ghost use Rattle.std.specs.Prelude.{◌≡◌, ◌≤◌, ◌<◌, IfSome, option_map};
 ghost use Rattle.sr_plant.specs.Limits.{most_members};
 ghost use Rattle.sr_plant.specs.Flights.{hop_of};
-ghost use Rattle.sr_plant.specs.Puts.{hop_to, twin_hop_to};
+ghost use Rattle.sr_plant.specs.Puts.{hop_to, twin_hop_to, LeadsOnlyTo, LeadsWithin};
 ghost use Rattle.sr_plant.specs.Topologies.{IsJoinedAs};
 
 use crate::Topology;
 use crate::hop::Hop;
-use crate::ring_hops::ring_hop;
+use crate::ring_hops::{ring_hop, ring_neighbour};
 use sr_frame::Port;
 
 /// An outlet of a node of a network with so many nodes.
@@ -46,6 +46,40 @@ impl Outlet {
                 second: Some(self.nodes + to),
             }),
             Port::H | Port::C => None,
+        }
+    }
+
+    // The one node to which the outlet leads, where it is a port of a ring.
+    fn neighbour(self) -> Option<usize>
+        requires small { self.nodes ≤ most_members }
+        requires node { self.node < self.nodes }
+        requires joined { IsJoinedAs self.topology self.nodes }
+        ensures inside { IfSome result (λ m. m < self.nodes) }
+        ensures only { IfSome result (λ m.
+            LeadsOnlyTo (hop_to self.topology self.nodes self.node self.port) m) }
+    {
+        match self.topology {
+            Topology::Ring => ring_neighbour(self.nodes, self.node, self.port),
+            Topology::TwinLan => None,
+            Topology::RingLan(shape) => shape.neighbour(self.nodes, self.node, self.port),
+            Topology::TwoRings(shape) => shape.neighbour(self.nodes, self.node, self.port),
+        }
+    }
+
+    /// The nodes to which the outlet may lead: those from the first number on, before the second. Round a ring that is one
+    /// node.
+    pub(crate) fn reach(self) -> (usize, usize)
+        requires small { self.nodes ≤ most_members }
+        requires node { self.node < self.nodes }
+        requires joined { IsJoinedAs self.topology self.nodes }
+        ensures order { result.0 ≤ result.1 }
+        ensures inside { result.1 ≤ self.nodes }
+        ensures leads { LeadsWithin (hop_to self.topology self.nodes self.node self.port)
+            result.0 result.1 self.nodes }
+    {
+        match self.neighbour() {
+            Some(node) => (node, node + 1),
+            None => (0, self.nodes),
         }
     }
 

@@ -4,7 +4,7 @@ ghost use Rattle.std.specs.Prelude.{◌≡◌, ◌<◌, None, IfSome, option_map
 ghost use Rattle.sr_plant_laws.specs.RingParts.{onward, backward};
 ghost use Rattle.sr_plant_laws.specs.Rings.{beyond};
 ghost use Rattle.sr_plant.specs.Flights.{hop_of};
-ghost use Rattle.sr_plant.specs.Puts.{ring_hop_to};
+ghost use Rattle.sr_plant.specs.Puts.{ring_hop_to, LeadsOnlyTo};
 
 use crate::hop::Hop;
 use sr_frame::Port;
@@ -25,6 +25,20 @@ fn previous(node: usize, nodes: usize) -> usize
     ensures inside { result < nodes }
 {
     if node == 0 { nodes - 1 } else { node - 1 }
+}
+
+/// The one node to which a port of a ring of so many nodes leads. `None` for the host's port and an interlink.
+pub(crate) fn ring_neighbour(nodes: usize, node: usize, port: Port) -> Option<usize>
+    requires { node < nodes }
+    ensures inside { IfSome result (λ m. m < nodes) }
+    ensures only { IfSome result (λ m. LeadsOnlyTo (ring_hop_to nodes node port) m) }
+    ensures interlink { port ≡ Port.C → result ≡ None }
+{
+    match port {
+        Port::A => Some(previous(node, nodes)),
+        Port::B => Some(next(node, nodes)),
+        Port::H | Port::C => None,
+    }
 }
 
 /// The hop round a ring of so many nodes, from a port of one to another, if it leads there.
