@@ -105,7 +105,7 @@ met_all m done (p ∷ ps) h =
     (met_all (with_taken m p) (done ++ p ∷ []) ps (met_taken done p m.waiting (is_new m.sources p.came.time p.came.frame) h))
 
 pub what_is_met_has_a_copy : WhatIsMetHasACopy
-what_is_met_has_a_copy ps = met_all (record { sources = []; waiting = [] }) [] ps tt
+what_is_met_has_a_copy ps = met_all (record { sources = []; waiting = []; untold = 0 }) [] ps tt
 
 -- what is met stays so, at its place
 met_push : (ws : List Pending) (x : Pending) (at : ℕ) (p : Read) → IsMetAt ws at p → IsMetAt (ws ++ x ∷ []) at p
@@ -183,5 +183,5 @@ copies_in_time_count before behind q f at w frame old place there early =
     let taken : IsMetAt (with_taken m q).waiting at w.packet =
     subst (λ b. IsMetAt (waiting_behind b q m.waiting) at w.packet) (sym old)
     (subst (λ o. IsMetAt (copy_noted q.came o m.waiting) at w.packet) (sym frame) noted) in
-    subst (λ k. IsMetAt k.waiting at w.packet) (sym (all_behind (record { sources = []; waiting = [] }) before (q ∷ behind)))
+    subst (λ k. IsMetAt k.waiting at w.packet) (sym (all_behind (record { sources = []; waiting = []; untold = 0 }) before (q ∷ behind)))
     (met_end (with_taken m q) behind at w.packet taken)

@@ -22,10 +22,10 @@ turns_write (x ∷ before) = turns_write before
 turns_run : (xs : List Numbered) → HaveWholes xs → MergeRun (turns_of xs) (kept_of_all (in_order xs))
 turns_run [] numbered = (refl, refl)
 turns_run (x ∷ before) (rest, whole) =
-    let e = with_all_more (record { sources = []; waiting = [] }) (in_order before) x.packet in (
+    let e = with_all_more (record { sources = []; waiting = []; untold = 0 }) (in_order before) x.packet in (
       kept_of_all (in_order before),
       turns_run before rest,
-      (whole, record { sources = ap (λ m. m.sources) e; waiting = ap (λ m. m.waiting) e }),
+      (whole, record { sources = ap (λ m. m.sources) e; waiting = ap (λ m. m.waiting) e; untold = ap (λ m. m.untold) e }),
     )
 
 pub each_frame_is_kept_once : EachFrameIsKeptOnce

@@ -12,6 +12,7 @@ use Rattle.std.specs.Prelude.{
   false,
   ◌&&◌,
   ◌||◌,
+  min,
   nat_eq,
   nat_lt,
   zero,
@@ -72,10 +73,12 @@ pending_of w = record { packet = packet_of w; is_met = w.is_met }
 abbrev pub unmet : Read → Pending
 unmet p = record { packet = p; is_met = false }
 
--- what a merge keeps: what the duplicate record knows, and the packets that were not written yet, in the order in which they came
+-- what a merge keeps: what the duplicate record knows, the packets that were not written yet, in the order in which they came, and how
+-- many were taken as they came, since the record was full
 pub record Merging : Type 0 where
   pub sources : Sources
   pub waiting : List Pending
+  pub untold : ℕ
 
 -- the first of the packets that wait
 abbrev pub next_written : List Pending → Option Pending
@@ -168,6 +171,15 @@ abbrev pub sources_told : Sources → ℕ → Option FrameId → Sources
 sources_told s time None = s
 sources_told s time (Some f) = left_by window (answer_for s f time) s (shown_arrival f time)
 
+-- how many packets were taken as they came behind one that the record answers so; they are counted up to 2^64 - 1
+abbrev pub untold_by : Option Lanes → ℕ → ℕ
+untold_by None untold = min (untold + 1) (2 ^ 64 - 1)
+untold_by (Some fresh) untold = untold
+
+abbrev pub untold_after : Sources → ℕ → Option FrameId → ℕ → ℕ
+untold_after s time None untold = untold
+untold_after s time (Some f) untold = untold_by (answer_for s f time) untold
+
 -- a packet that is written waits behind all others; any other is noted
 abbrev pub waiting_behind : Bool → Read → List Pending → List Pending
 waiting_behind true p ws = ws ++ unmet p ∷ []
@@ -177,6 +189,7 @@ waiting_behind false p ws = copy_noted p.came p.came.frame ws
 pub record TakesIn (old : Merging) (p : Read) (new : Merging) : Type 0 where
   pub sources : new.sources ≡ sources_told old.sources p.came.time p.came.frame
   pub waiting : new.waiting ≡ waiting_behind (is_new old.sources p.came.time p.came.frame) p old.waiting
+  pub untold : new.untold ≡ untold_after old.sources p.came.time p.came.frame old.untold
 
 -- where a packet is noted that waits at a place, when so many are gone: their sum in 64 bits
 abbrev pub noted_place : ℕ → Option ℕ → Option ℕ

@@ -6,7 +6,7 @@ use Rattle.sr_merge.specs.declared.came.FrameId.{FrameId}
 use Rattle.sr_merge.specs.declared.waiting.Verdict.{Verdict}
 use Rattle.sr_merge.specs.declared.waiting.Verdict.TheVariants as verdict
 use Rattle.sr_merge.specs.Limits.{copy_time, most_held}
-use Rattle.sr_merge.specs.Merging.{Read, Pending, Merging, sources_told, is_new, waiting_behind, verdict_of}
+use Rattle.sr_merge.specs.Merging.{Read, Pending, Merging, sources_told, is_new, untold_after, waiting_behind, verdict_of}
 use Rattle.sr_merge.specs.MergeRuns.{Numbered, HasWhole, packets_in, arrivals_read, AreInTime, firsts}
 
 -- what is kept behind a packet that is taken
@@ -14,6 +14,7 @@ abbrev pub with_taken : Merging → Read → Merging
 with_taken m p = record {
   sources = sources_told m.sources p.came.time p.came.frame;
   waiting = waiting_behind (is_new m.sources p.came.time p.came.frame) p m.waiting;
+  untold = untold_after m.sources p.came.time p.came.frame m.untold;
 }
 
 -- behind some packets, in their order, where none is written
@@ -23,7 +24,7 @@ with_all m (p ∷ ps) = with_all (with_taken m p) ps
 
 -- what is kept of some packets where none is written: those that are to be, in order, and whether a copy of each came by the other side
 abbrev pub kept_of_all : List Read → Merging
-kept_of_all ps = with_all (record { sources = []; waiting = [] }) ps
+kept_of_all ps = with_all (record { sources = []; waiting = []; untold = 0 }) ps
 
 -- by which sides a packet came, of which no more copies will come
 abbrev pub last_verdict_by : Pending → Option FrameId → Verdict

@@ -1,6 +1,6 @@
 //! The merge: packets are taken one by one in the order of their times, and wait for their verdict in that order.
 
-ghost use Rattle.std.specs.Prelude.{◌≡◌, ◌++◌, true, Some, is_some, IfOk, OnOk};
+ghost use Rattle.std.specs.Prelude.{◌≡◌, ◌<◌, ◌≤◌, ◌+◌, ◌++◌, ◌∷◌, [], true, Some, is_some, length, vec_len, vec_capacity, IfOk, OnOk, IsOk};
 ghost use Rattle.sr_slots.specs.Places.{IsFound};
 ghost use Rattle.sr_dup_table.specs.Limits.{window};
 ghost use Rattle.sr_dup_table.specs.Sources.{is_ready};
@@ -47,6 +47,7 @@ impl Model for Merge {
     ghost view = { λ m. record {
       sources = m.table.sources;
       waiting = m.queue;
+      untold = m.untold;
     } };
 
     ghost invariant = { λ m. m.table.width ≡ window };
@@ -58,6 +59,7 @@ fn make_ready(table: &mut DupTable, hint: Option<Hint>, frame: FrameId) -> Resul
     ensures width { table.new.width ≡ table.old.width }
     ensures sources { table.new.sources ≡ table.old.sources }
     ensures ready { OnOk result (is_ready table.new.held table.new.sources frame.src ≡ true) }
+    ensures known { is_some hint ≡ true → (IsOk result) × (table.new ≡ table.old) }
 {
     if hint.is_none() {
         table.reserve(frame.src)?;
@@ -85,9 +87,23 @@ fn spare_of(alloc: Global, room: usize) -> Result<Vec<Vec<u8>>, NoMemory> {
     Ok(Vec::with_capacity(alloc, room)?)
 }
 
-/// The octets of two pieces in a list, in place of what it held.
+/// Puts a list aside that may be used again, where there is room for it.
+fn put_aside(spare: &mut Vec<Vec<u8>>, octets: Vec<u8>)
+    ensures room { vec_len spare.old < vec_capacity spare.old
+        → spare.new.items ≡ spare.old.items ++ octets ∷ [] }
+    ensures full { vec_len spare.old ≡ vec_capacity spare.old
+        → spare.new.items ≡ spare.old.items }
+    ensures capacity { vec_capacity spare.new ≡ vec_capacity spare.old }
+{
+    if spare.len() < spare.capacity() {
+        spare.push_reserved(octets);
+    }
+}
+
+/// The octets of two pieces in a list, in place of what it held. A list with room for them takes no memory.
 fn joined(mut list: Vec<u8>, front: &[u8], back: &[u8]) -> Result<Vec<u8>, NoMemory>
-    ensures { IfOk result (λ list. list.items ≡ front.now ++ back.now) }
+    ensures joined { IfOk result (λ list. list.items ≡ front.now ++ back.now) }
+    ensures room { length front.now + length back.now ≤ vec_capacity list → IsOk result }
 {
     list.clear();
     list.extend_from_slice(front)?;
@@ -96,7 +112,7 @@ fn joined(mut list: Vec<u8>, front: &[u8], back: &[u8]) -> Result<Vec<u8>, NoMem
 }
 
 impl Merge {
-    ghost use Rattle.std.specs.Prelude.{◌≡◌, ◌↔◌, ◌++◌, ◌∷◌, [], length, drop, true, None, Some, IfOk, OnOk, OnErr, IfSome, is_some};
+    ghost use Rattle.std.specs.Prelude.{◌≡◌, ◌↔◌, ◌++◌, ◌∷◌, [], length, drop, true, None, Some, IfOk, OnOk, OnErr, IsOk, IfSome, is_some};
     ghost use Rattle.sr_slots.specs.Places.{IsFound};
     ghost use Rattle.sr_merge.specs.Merging.{next_written, read_of, pending_of, unmet, copy_noted, answer_for, sources_told, TakesIn};
 
@@ -107,6 +123,7 @@ impl Merge {
     pub fn new(alloc: Global, keys: Keys) -> Result<Merge, NoMemory>
         ensures sources { IfOk result (λ merge. merge.sources ≡ []) }
         ensures waiting { IfOk result (λ merge. merge.waiting ≡ []) }
+        ensures untold { IfOk result (λ merge. merge.untold ≡ 0) }
     {
         let spare = spare_of(alloc, MAX_SPARE)?;
         Ok(Merge {
@@ -126,7 +143,9 @@ impl Merge {
     }
 
     /// How many packets were taken as they came, since 1024 other sources were live.
-    pub fn untold(&self) -> u64 {
+    pub fn untold(&self) -> u64
+        ensures { result ≡ self.now.untold }
+    {
         self.untold
     }
 
@@ -143,12 +162,10 @@ impl Merge {
     pub fn drop_front(&mut self)
         ensures sources { self.new.sources ≡ self.old.sources }
         ensures waiting { self.new.waiting ≡ drop 1 self.old.waiting }
+        ensures untold { self.new.untold ≡ self.old.untold }
     {
-        if let Some(written) = self.queue.pop()
-            && self.spare.len() < self.spare.capacity()
-        {
-            let Waiting { octets, .. } = written;
-            self.spare.push_reserved(octets);
+        if let Some(Waiting { octets, .. }) = self.queue.pop() {
+            put_aside(&mut self.spare, octets);
         }
     }
 
@@ -176,6 +193,7 @@ impl Merge {
         ensures sources { self.new.sources ≡ self.old.sources }
         ensures kept { OnOk result (self.new.waiting
             ≡ self.old.waiting ++ unmet (read_of packet.entry) ∷ []) }
+        ensures untold { self.new.untold ≡ self.old.untold }
         ensures err { OnErr result (self.new ≡ self.old) }
     {
         let waiting = self.kept(packet)?;
@@ -195,6 +213,7 @@ impl Merge {
             ≡ sources_told self.old.sources packet.entry.came.time (Some frame)) }
         ensures kept { OnOk result (self.new.waiting
             ≡ self.old.waiting ++ unmet (read_of packet.entry) ∷ []) }
+        ensures untold { self.new.untold ≡ self.old.untold }
         ensures err { OnErr result (self.new ≡ self.old) }
     {
         let waiting = self.kept(packet)?;
@@ -217,6 +236,8 @@ impl Merge {
             ≡ sources_told self.old.sources packet.entry.came.time (Some frame)) }
         ensures noted { OnOk result (self.new.waiting
             ≡ copy_noted packet.entry.came (Some frame) self.old.waiting) }
+        ensures untold { self.new.untold ≡ self.old.untold }
+        ensures known { is_some hint ≡ true → IsOk result }
         ensures err { OnErr result (self.new ≡ self.old) }
     {
         make_ready(&mut self.table, hint, frame)?;

@@ -8,6 +8,7 @@ use Rattle.sr_capture.specs.declared.packet.Extent.{Extent}
 use Rattle.sr_capture.specs.declared.packet.Extent.TheVariants.{Whole, Cut}
 use Rattle.sr_capture.specs.declared.packet.Packet.{Packet}
 use Rattle.sr_capture.specs.Numbers.{half_at, word_at}
+use Rattle.sr_capture.specs.Limits.{longest_kept}
 use Rattle.sr_capture.specs.Records.{Captured, Shows}
 use Rattle.sr_pcapng.specs.declared.track.Interface.{Interface}
 use Rattle.sr_pcapng.specs.declared.track.Section.{Section}
@@ -95,13 +96,27 @@ abbrev pub OverflowsSimple : Section → List ℕ → Type 0
 OverflowsSimple section octets = (0 < section.count) × ((interface : Interface) × (of_number section.taken 0 ≡ Some interface)
     × (Holds 12 (held_of interface.snap (word_at section.order octets 8)) octets → ⊥))
 
--- why a packet is refused: its block is too short for it, its interface is not described, or none is known and none was said; or memory was
+-- a packet that is wanted and fits into its block, and that a frame can be as long as: memory is asked for it alone
+abbrev pub KeepsTimed : ℕ → Section → List ℕ → Type 0
+KeepsTimed number section octets = (32 ≤ length octets) × (number < section.count)
+    × ((interface : Interface) × (of_number section.taken number ≡ Some interface)
+    × Holds 28 (word_at section.order octets 20) octets
+    × (word_at section.order octets 20 - interface.check_len ≤ longest_kept))
+
+abbrev pub KeepsSimple : Section → List ℕ → Type 0
+KeepsSimple section octets = (16 ≤ length octets) × (0 < section.count)
+    × ((interface : Interface) × (of_number section.taken 0 ≡ Some interface)
+    × Holds 12 (held_of interface.snap (word_at section.order octets 8)) octets
+    × (held_of interface.snap (word_at section.order octets 8) - interface.check_len ≤ longest_kept))
+
+-- why a packet is refused: its block is too short for it, its interface is not described, or none is known and none was said; or memory
+-- was, for one that is kept
 abbrev pub IsWrongTimed : ℕ → Wanted → Section → List ℕ → Reason → Type 0
 IsWrongTimed number wanted section octets reason.Length = (length octets < 32) ⊎ OverflowsTimed number section octets
 IsWrongTimed number wanted section octets reason.Undescribed = (32 ≤ length octets) × (section.count ≤ number)
 IsWrongTimed number wanted section octets reason.NoEthernet = (32 ≤ length octets) × (number < section.count)
     × (wanted ≡ Only) × (section.taken ≡ None)
-IsWrongTimed number wanted section octets reason.NoMemory = Unit {0}
+IsWrongTimed number wanted section octets reason.NoMemory = KeepsTimed number section octets
 IsWrongTimed number wanted section octets other = ⊥
 
 abbrev pub IsWrongEnhanced : Wanted → Section → List ℕ → Reason → Type 0
@@ -115,7 +130,7 @@ IsWrongSimple wanted section octets reason.Length = (length octets < 16) ⊎ Ove
 IsWrongSimple wanted section octets reason.Undescribed = (16 ≤ length octets) × (section.count ≡ 0)
 IsWrongSimple wanted section octets reason.NoEthernet = (16 ≤ length octets) × (0 < section.count)
     × (wanted ≡ Only) × (section.taken ≡ None)
-IsWrongSimple wanted section octets reason.NoMemory = Unit {0}
+IsWrongSimple wanted section octets reason.NoMemory = KeepsSimple section octets
 IsWrongSimple wanted section octets other = ⊥
 
 -- a packet is shown, or there is none

@@ -1,6 +1,6 @@
 //! What the blocks of packets have in common.
 
-ghost use Rattle.std.specs.Prelude.{◌≡◌, ◌≤◌, ◌<◌, ◌+◌, ◌^◌, ◌↔◌, None, length, IfOk, IfErr, OnOk, IsTrue};
+ghost use Rattle.std.specs.Prelude.{◌≡◌, ◌≤◌, ◌<◌, ◌+◌, ◌-◌, ◌^◌, ◌↔◌, None, length, IfOk, IfErr, OnOk, IsTrue};
 ghost use Rattle.sr_capture.specs.declared.fault.Reason.TheVariants.{NoEthernet};
 ghost use Rattle.sr_capture.specs.Records.{Captured, Shows};
 ghost use Rattle.sr_pcapng.specs.declared.track.Wanted.TheVariants.{Only};
@@ -86,7 +86,8 @@ pub(crate) fn show(
     requires early { time < 2 ^ 63 }
     requires near { body.at ≤ 28 }
     requires whole { Holds body.at body.held octets.now }
-    ensures { OnOk result ((captured : Captured) → captured.time ≡ time
+    ensures kept { IfErr result (λ _. body.held - body.check_len ≤ 1524) }
+    ensures shown { OnOk result ((captured : Captured) → captured.time ≡ time
         → captured.extent ≡ extent_of body.held body.len
         → captured.octets ≡ body_at body.at body.held body.check_len octets.now
         → Shows packet.new captured) }

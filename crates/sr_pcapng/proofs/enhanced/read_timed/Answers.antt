@@ -13,4 +13,4 @@ returns-in-Ok-clause-read c =
     let ticks : c.from-high.result * 4294967296 + c.from.result ≡ word_at s.order c.args.octets.now 12 * 2 ^ 32 + word_at s.order c.args.octets.now 16 =
     omega (arith, c.from-high.ensures, c.from.ensures, c.word_at-3.ensures, c.word_at-4.ensures) in
     gives_timed c.args.wanted s c.args.octets.now c.in-Ok-Some.interface _ c.args.number _ c.time_of.result c.word_at.result c.word_at-2.result _
-    c.requires known f.0 f.1 c.in-Ok-Some.field-0-is c.word_at.ensures c.word_at-2.ensures holds ticks c.time_of.ensures.time c.in-Ok.ensures
+    c.requires known f.0 f.1 c.in-Ok-Some.field-0-is c.word_at.ensures c.word_at-2.ensures holds ticks c.time_of.ensures.time c.in-Ok.ensures.shown

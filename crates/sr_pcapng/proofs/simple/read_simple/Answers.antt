@@ -11,4 +11,4 @@ returns-in-Ok-clause-read c =
     let known : 0 < s.count = omega (arith, c.if-section-eq0.false) in
     let holds : Holds 12 c.held_of.result c.args.octets.now = search (rules, c.holds.ensures, c.if-not-holds.false) in
     gives_simple c.args.wanted s c.args.octets.now c.in-Ok-Some.interface _ c.held_of.result c.word_at-len.result _
-    long known f.0 f.1 c.in-Ok-Some.field-0-is c.held_of.ensures c.word_at-len.ensures holds c.in-Ok.ensures
+    long known f.0 f.1 c.in-Ok-Some.field-0-is c.held_of.ensures c.word_at-len.ensures holds c.in-Ok.ensures.shown
