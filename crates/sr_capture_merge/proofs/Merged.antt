@@ -573,7 +573,7 @@ pub halts_first : {R : Type 0} (remaining : R → Option (List ℕ)) (choice : C
     IsMergedUpTo choice plan (feed_of all.a a) (feed_of all.b b) (feed_of all.c c) fault held mid
 halts_first remaining choice plan a b c all fault held mid head is uncounted fed_a fed_b fed_c =
     let come = come_none remaining a b c all fed_a fed_b fed_c in
-    let nothing : Merging = record { sources = []; waiting = [] } in
+    let nothing : Merging = record { sources = []; waiting = []; untold = 0 } in
     let le : 0 ≤ 0 = omega arith in
     let done : IsMergedUpTo choice plan (feed_of all.a a) (feed_of all.b b) (feed_of all.c c) NoMemory held mid = record {
       own = NoMemory;

@@ -187,7 +187,7 @@ written_taken plan start taken now old new p held to h takes time =
     let time_of = p.came.time in
     let frame = p.came.frame in
     let fresh = is_new old.sources time_of frame in
-    let e = with_all_more (record { sources = []; waiting = [] }) taken p in
+    let e = with_all_more (record { sources = []; waiting = []; untold = 0 }) taken p in
     let split = taken_behind fresh p h.gone old.waiting in
     let list : packets_in new.waiting ≡ packets_in old.waiting ++ cond fresh (p ∷ []) [] =
     ap packets_in takes.waiting ∙ waits_list fresh p old.waiting in
