@@ -1,5 +1,5 @@
 //! The octets of a record.
-ghost use Rattle.std.specs.Prelude.{◌≡◌, ◌<◌, ◌≤◌, ◌+◌, ◌*◌, ◌/◌, ◌%◌, ◌==◌, ◌++◌, ◌⊎◌, false, min, length, slice_index_or, slice_set, OnOk};
+ghost use Rattle.std.specs.Prelude.{◌≡◌, ◌<◌, ◌≤◌, ◌+◌, ◌*◌, ◌/◌, ◌%◌, ◌==◌, ◌++◌, ◌⊎◌, false, min, length, vec_len, vec_capacity, slice_index_or, slice_set, OnOk, IsOk};
 ghost use Rattle.std.specs.Int.{bit_at};
 ghost use Rattle.sr_dup_window.specs.LaneSets.{flag, known, none, is_empty};
 ghost use Rattle.sr_dup_window.specs.Windows.{window_of};
@@ -40,11 +40,14 @@ fn lane_octet<const N: usize>(seen: &Record<N>, lane: Lane, place: u16) -> u8
         + 128 * bit(seen, lane, first + 7)
 }
 
-// Appends the octets of a lane.
+// Appends the octets of a lane. A list with room for them takes no memory.
 fn put_lane<const N: usize>(out: &mut Vec<u8>, seen: &Record<N>, lane: Lane) -> Result<(), NoMemory>
     requires { (N ≡ 16) ⊎ (N ≡ 32) }
-    ensures { OnOk result (out.new.items ≡ out.old.items
+    ensures octets { OnOk result (out.new.items ≡ out.old.items
         ++ lane_octets (64 * N) (window_of seen.now).marks lane) }
+    ensures len { OnOk result (vec_len out.new ≡ vec_len out.old + 8 * N) }
+    ensures room { vec_len out.old + 8 * N ≤ vec_capacity out.old → IsOk result }
+    ensures capacity { vec_capacity out.old ≤ vec_capacity out.new }
 {
     for place in 0..8 * N as u16 {
         out.extend_from_slice(&[lane_octet(seen, lane, place)])?;
@@ -52,11 +55,13 @@ fn put_lane<const N: usize>(out: &mut Vec<u8>, seen: &Record<N>, lane: Lane) -> 
     Ok(())
 }
 
-/// Appends the octets of a record.
+/// Appends the octets of a record. A list with room for them takes no memory.
 pub fn put_record<const N: usize>(out: &mut Vec<u8>, seen: &Record<N>) -> Result<(), NoMemory>
     requires { (N ≡ 16) ⊎ (N ≡ 32) }
-    ensures { OnOk result (out.new.items
+    ensures octets { OnOk result (out.new.items
         ≡ out.old.items ++ record_octets (64 * N) (window_of seen.now)) }
+    ensures room { vec_len out.old + 2 + 48 * N ≤ vec_capacity out.old → IsOk result }
+    ensures capacity { vec_capacity out.old ≤ vec_capacity out.new }
 {
     out.extend_from_slice(&seen.reference().0.to_be_bytes())?;
     put_lane(out, seen, Lane::H)?;

@@ -1,5 +1,5 @@
 //! Writing snapshots.
-ghost use Rattle.std.specs.Prelude.{◌≡◌, ◌*◌, ◌++◌, ◌⊎◌, IfOk, OnOk, IsPermutation};
+ghost use Rattle.std.specs.Prelude.{◌≡◌, ◌≤◌, ◌+◌, ◌*◌, ◌++◌, ◌⊎◌, vec_len, vec_capacity, IfOk, OnOk, IsOk, IsPermutation};
 ghost use Rattle.std.specs.List.{flat_map, AllByRecursion};
 ghost use Rattle.std.specs.List.Sorted.{IsStrictlySortedBy};
 ghost use Rattle.std.specs.Map.{keys_of};
@@ -14,7 +14,7 @@ use sr_dup_window::Record;
 use sr_frame::{Mac, NoMemory};
 use std::alloc::Global;
 
-// Appends the octets of a source.
+// Appends the octets of a source. A list with room for them takes no memory.
 fn put_source<const N: usize>(
     out: &mut Vec<u8>,
     src: Mac,
@@ -26,6 +26,8 @@ fn put_source<const N: usize>(
         ++ source_octets (64 * N) (src, record { seen = window_of seen.now; time = time })) }
     ensures source { OnOk result
         (IsSource (64 * N) (src, record { seen = window_of seen.now; time = time })) }
+    ensures room { vec_len out.old + 16 + 48 * N ≤ vec_capacity out.old → IsOk result }
+    ensures capacity { vec_capacity out.old ≤ vec_capacity out.new }
 {
     out.extend_from_slice(&src.0)?;
     out.extend_from_slice(&time.to_be_bytes())?;
