@@ -108,7 +108,7 @@ abbrev pub HasNoEvent : Worker → FramingImage → Told → Type 0
 HasNoEvent w f (Framed octets now) = HasNoFrame w f octets
 HasNoEvent w f (Timed now) = ⊥
 
--- what was handed out became these events, in order, with so many between them of which none comes, or which were refused
+-- what was handed out became these events, in order, with so many between them of which none comes, or which were not entered
 pub data Became (w : Worker) (f : FramingImage) : List Told → List Event → ℕ → Type 0 where
   nothing : Became w f [] [] 0
   entered : (t : Told) (e : Event) (ts : List Told) (es : List Event) (u : ℕ)
