@@ -1,6 +1,6 @@
 //! The copies in flight. Each parcel is kept once, until its last copy is gone.
 
-ghost use Rattle.std.specs.Prelude.{◌≡◌, ◌≤◌, ◌<◌, ◌+◌, [], ◌++◌, length, filter, not, remove, IfOk, OnOk, OnErr, option_to_list};
+ghost use Rattle.std.specs.Prelude.{◌≡◌, ◌≤◌, ◌<◌, ◌+◌, [], ◌++◌, length, filter, not, remove, IfOk, OnOk, OnErr, option_to_list, option_map, slice_get};
 ghost use Rattle.sr_plant.specs.Copies.{is_on, Doubles};
 ghost use Rattle.sr_plant.specs.Limits.{most_members};
 ghost use Rattle.sr_plant.specs.Puts.{all_put, those_passing};
@@ -120,6 +120,14 @@ impl Flight {
             Some(entry) => Arriving::of(alloc, topology, flying, &entry.parcel),
             None => Ok(None),
         }
+    }
+
+    /// The node to which the copy at a place leads. `None` where there is no copy.
+    pub(crate) fn receiver(&self, place: usize) -> Option<usize>
+        ensures { result ≡ option_map (λ c. c.hop.to.node) (slice_get self.now.copies place) }
+    {
+        let flying = self.places.get(place)?;
+        Some(flying.hop.node)
     }
 
     /// Takes the copy at a place out of flight. The room for it stays.

@@ -1,6 +1,6 @@
 //! A network as a value: its nodes, and what is between them.
 
-ghost use Rattle.std.specs.Prelude.{◌≡◌, ◌<◌, map, length, replicate, slice_index_or, []};
+ghost use Rattle.std.specs.Prelude.{◌≡◌, ◌<◌, map, length, replicate, slice_get, slice_set, slice_index_or, option_map, []};
 
 use crate::{Topology, Traffic};
 use sr_forwarding::{Parcel, Role};
@@ -57,12 +57,32 @@ impl<R: Role> PlantOf<R> {
         empty_all(&mut self.handed);
     }
 
+    /// Drops what a node handed up. Everything else stays.
+    pub fn drop_handed_of(&mut self, node: usize)
+        requires { node < length self.old.handed.items }
+        ensures handed { map (λ h. h.items) self.new.handed.items
+            ≡ slice_set (map (λ h. h.items) self.old.handed.items) node [] }
+        ensures topology { self.new.topology ≡ self.old.topology }
+        ensures nodes { self.new.nodes ≡ self.old.nodes }
+        ensures traffic { self.new.traffic ≡ self.old.traffic }
+    {
+        self.handed[node].clear();
+    }
+
     /// What a node handed up to its host, oldest first.
     pub fn handed(&self, node: usize) -> &[Parcel]
         requires { node < length self.now.handed.items }
         ensures { result.now ≡ slice_index_or (map (λ h. h.items) self.now.handed.items) node [] }
     {
         self.handed[node].as_slice()
+    }
+
+    /// The node to which the copy at a place leads. `None` where there is no copy.
+    pub fn receiver(&self, place: usize) -> Option<usize>
+        ensures { result
+            ≡ option_map (λ c. c.hop.to.node) (slice_get self.now.traffic.flight.copies place) }
+    {
+        self.traffic.receiver(place)
     }
 
     /// How many copies are in flight.

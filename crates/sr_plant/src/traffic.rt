@@ -1,6 +1,6 @@
 //! What is between the nodes of a plant.
 
-ghost use Rattle.std.specs.Prelude.{◌≡◌, ◌≤◌, ◌<◌, ◌*◌, ◌++◌, [], true, false, not, length, filter, remove, replicate, slice_set, option_to_list, IfOk, OnOk, OnErr};
+ghost use Rattle.std.specs.Prelude.{◌≡◌, ◌≤◌, ◌<◌, ◌*◌, ◌++◌, [], true, false, not, length, filter, remove, replicate, slice_set, slice_get, option_to_list, option_map, IfOk, OnOk, OnErr};
 ghost use Rattle.sr_plant.specs.Limits.{most_members};
 ghost use Rattle.sr_plant.specs.Copies.{is_on, Doubles};
 ghost use Rattle.sr_plant.specs.Puts.{all_put, those_passing};
@@ -144,6 +144,14 @@ impl Traffic {
         ensures { IfOk result (λ a. OneComesAs topology self.now.flight.copies place a) }
     {
         self.flight.arriving(self.alloc, topology, place)
+    }
+
+    /// The node to which the copy at a place leads. `None` where there is no copy.
+    pub(crate) fn receiver(&self, place: usize) -> Option<usize>
+        ensures { result
+            ≡ option_map (λ c. c.hop.to.node) (slice_get self.now.flight.copies place) }
+    {
+        self.flight.receiver(place)
     }
 
     /// Takes the copy at a place out of flight. The room for it stays.

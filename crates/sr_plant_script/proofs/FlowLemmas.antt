@@ -6,10 +6,11 @@ use Rattle.sr_script.specs.Texts.{refusal_line}
 use Rattle.sr_plant.specs.declared.event.PlantEvent.{PlantEvent}
 use Rattle.sr_plant.specs.declared.event.PlantEvent.TheVariants as event
 use Rattle.sr_plant.specs.declared.fault.PlantFault.{PlantFault}
+use Rattle.sr_plant.specs.declared.fault.PlantFault.TheVariants.{NoMemory}
 use Rattle.sr_plant.specs.Plants.{Plant}
-use Rattle.sr_plant.specs.Steps.{PlantStep, PlantRefuses, plant_refusal}
-use Rattle.sr_plant_script.specs.Texts.{all_up_lines, fault_name, flow_line}
-use Rattle.sr_plant_script.specs.Happenings.{taken_up, IsTaken, Happens, Carries, Flows, most_carries}
+use Rattle.sr_plant.specs.Steps.{PlantRefuses}
+use Rattle.sr_plant_script.specs.Texts.{fault_name, flow_line}
+use Rattle.sr_plant_script.specs.Happenings.{IsTaken, Happens, Carries, Flows, most_carries}
 
 -- the line of a refusal is appended to a text
 abbrev pub Tells : ℕ → PlantFault → List ℕ → List ℕ → Type 0
@@ -25,14 +26,20 @@ refused s t number e f text later refuses tells same =
 abbrev pub Carried : Plant → ℕ → Plant → List ℕ → List ℕ → Type 0
 Carried s n u before text = (ups : List ℕ) × Carries s n ups u × (text ≡ before ++ ups)
 
-pub carried_more : (s u v t : Plant) (n : ℕ) (before text later : List ℕ) → Carried s n u before text
-    → plant_refusal u (event.Carry 0) ≡ None → PlantStep u (event.Carry 0) v
-    → later ≡ text ++ all_up_lines 0 v.handed → t ≡ taken_up v → Carried s (n + 1) t before later
-carried_more s u v t n before text later h fits step told left =
-    let last = all_up_lines 0 v.handed in
-    let taken : IsTaken u (event.Carry 0) last t = record { after = v; fits = fits; step = step; told = refl; left = left } in
-    let more : Carries s (suc n) (h.0 ++ last) t = (u, h.0, last, h.1, taken, refl) in
-    (h.0 ++ last, rw add-one more, told ∙ ap (λ (l : List ℕ). l ++ last) h.2 ∙ append_assoc before h.0 last)
+pub carried_more : (s u t : Plant) (n : ℕ) (before text later : List ℕ) → Carried s n u before text
+    → ((told : List ℕ) × IsTaken u (event.Carry 0) told t × (later ≡ text ++ told)) → Carried s (n + 1) t before later
+carried_more s u t n before text later h served =
+    let more : Carries s (suc n) (h.0 ++ served.0) t = (u, h.0, served.0, h.1, served.1, refl) in
+    (h.0 ++ served.0, rw add-one more, served.2 ∙ ap (λ (l : List ℕ). l ++ served.0) h.2 ∙ append_assoc before h.0 served.0)
+
+-- an event that is refused is told; a lack of memory has no line
+pub refusal_told : (s t : Plant) (number : ℕ) (e : PlantEvent) (f : PlantFault) (text between later : List ℕ)
+    → (f ≡ NoMemory) ⊎ (PlantRefuses s e f × (t ≡ s) × (between ≡ text)) → Tells number f between later
+    → PlantRefuses s e f × (t ≡ s) × Tells number f text later
+refusal_told s t number e f text between later (inl none) tells =
+    let no : None ≡ Some tells.0 = sym (ap fault_name none) ∙ tells.1 in absurd (cc)
+refusal_told s t number e f text between later (inr refuses) tells =
+    (refuses.0, refuses.1, (tells.0, tells.1, tells.2 ∙ ap (λ (l : List ℕ). l ++ refusal_line number tells.0) refuses.2))
 
 pub flow_over : (s u : Plant) (number n : ℕ) (before text later : List ℕ) → n ≤ most_carries → Carried s n u before text
     → (u.flight ≡ []) ⊎ (n ≡ most_carries) → later ≡ text ++ flow_line n

@@ -1,5 +1,5 @@
 -- What happens to a plant at a line, and what is printed for it.
-use Rattle.std.specs.Prelude.{◌≡◌, ◌≤◌, ℕ, zero, suc, List, [], ◌++◌, length, replicate, None, Some, ◌⊎◌}
+use Rattle.std.specs.Prelude.{◌≡◌, ◌≤◌, ℕ, zero, suc, List, [], ◌++◌, length, replicate, Option, None, Some, option_map, slice_get, ◌⊎◌}
 use Rattle.sr_script.specs.Texts.{refusal_line}
 use Rattle.sr_plant.specs.declared.event.PlantEvent.{PlantEvent}
 use Rattle.sr_plant.specs.declared.event.PlantEvent.TheVariants as event
@@ -21,6 +21,20 @@ event_on Mend link = event.Mend link
 -- the plant once all that was handed up is taken
 abbrev pub taken_up : Plant → Plant
 taken_up s = record s { handed = replicate (length s.handed) [] }
+
+-- all that was handed up was taken
+abbrev pub HasNothingUp : Plant → Type 0
+HasNothingUp s = s.handed ≡ replicate (length s.handed) []
+
+-- the node whose host may be handed something at an event: the one that acts
+abbrev pub host_of : Plant → PlantEvent → Option ℕ
+host_of s (event.Send node frame) = Some node
+host_of s (event.Carry place) = option_map (λ c. c.hop.to.node) (slice_get s.flight place)
+host_of s (event.Drop place) = None
+host_of s (event.Repeat place) = None
+host_of s (event.Cut link) = None
+host_of s (event.Mend link) = None
+host_of s (event.Tick node now) = Some node
 
 -- the event is one step of the plant; what is handed up with it is printed, node by node, and taken
 pub record IsTaken (s : Plant) (e : PlantEvent) (text : List ℕ) (t : Plant) : Type 0 where

@@ -8,11 +8,11 @@ ghost use Rattle.sr_plant_script.specs.Happenings.{event_on};
 ghost use Rattle.sr_plant_script.specs.Replies.{Sends, Obeys, Replied};
 
 use crate::command::{Command, Receiver, Verb};
-use crate::network::Network;
 use crate::obeying::{flow, happen};
 use crate::reading::command_of;
 use crate::refusing::tell_refusal;
 use crate::sending::{send_refusal, sent_frame};
+use crate::served::Served;
 use sr_plant::PlantEvent;
 use sr_session::FaultKind;
 use sr_text::Text;
@@ -34,7 +34,7 @@ fn event_on(verb: Verb, place: usize) -> PlantEvent
 /// The host of a node sends the octets, or is refused.
 fn send(
     alloc: Global,
-    network: &mut Network,
+    network: &mut Served,
     number: u64,
     node: usize,
     receiver: Receiver,
@@ -57,7 +57,7 @@ fn send(
 /// Has the plant obey a command of the line with this number.
 fn obey(
     alloc: Global,
-    network: &mut Network,
+    network: &mut Served,
     number: u64,
     command: Command,
     octets: &[u8],
@@ -85,7 +85,7 @@ fn obey(
 /// `Line` where the line is not a line of a script, whatever memory there is; `Memory`.
 pub(crate) fn answer(
     alloc: Global,
-    network: &mut Network,
+    network: &mut Served,
     number: u64,
     line: &[u8],
     octets: &mut Vec<u8>,

@@ -13,6 +13,7 @@ mod reading;
 mod refusing;
 mod running;
 mod sending;
+mod served;
 mod setup;
 
 pub use command::{Command, Receiver, Verb};

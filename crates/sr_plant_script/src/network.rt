@@ -1,6 +1,6 @@
 //! The plant of a script.
 
-ghost use Rattle.std.specs.Prelude.{◌≡◌, ◌≤◌, ◌<◌, ℕ, map, length, None, IfOk, IfErr, OnOk, OnErr};
+ghost use Rattle.std.specs.Prelude.{◌≡◌, ◌≤◌, ◌<◌, ℕ, map, length, slice_set, slice_index_or, [], None, IfSome, IfOk, IfErr, OnOk, OnErr};
 ghost use Rattle.sr_node.specs.Images.{node_state};
 ghost use Rattle.sr_forwarding.specs.RoleImages.{role_of};
 ghost use Rattle.sr_plant.specs.Limits.{most_members};
@@ -8,7 +8,7 @@ ghost use Rattle.sr_plant.specs.Topologies.{IsJoinedAs};
 ghost use Rattle.sr_plant.specs.Plants.{Plant};
 ghost use Rattle.sr_plant.specs.Steps.{PlantStep, PlantRefuses, plant_refusal};
 ghost use Rattle.sr_plant_script.specs.Members.{new_nodes, routed_as, start_of};
-ghost use Rattle.sr_plant_script.specs.Happenings.{taken_up};
+ghost use Rattle.sr_plant_script.specs.Happenings.{host_of};
 
 use crate::members::{Member, MemberRouting, mac_of};
 use crate::setup::PlantSetup;
@@ -93,11 +93,28 @@ impl Network {
         self.plant.in_flight()
     }
 
-    /// What each node handed up to its host.
-    pub(crate) fn handed(&self) -> &[Vec<Parcel>]
-        ensures { map (λ l. l.items) result.now ≡ self.now.handed }
+    /// What a node handed up to its host.
+    pub(crate) fn handed_of(&self, node: usize) -> &[Parcel]
+        requires { node < length self.now.handed }
+        ensures { result.now ≡ slice_index_or self.now.handed node [] }
     {
-        self.plant.all_handed()
+        self.plant.handed(node)
+    }
+
+    /// The node whose host may be handed something at an event, if there is one.
+    pub(crate) fn host_of(&self, event: &PlantEvent) -> Option<usize>
+        ensures host { result ≡ host_of self.now event.now }
+        ensures inside { plant_refusal self.now event.now ≡ None
+            → IfSome result (λ i. i < length self.now.handed) }
+    {
+        match event {
+            PlantEvent::Send { node, .. } | PlantEvent::Tick { node, .. } => Some(*node),
+            PlantEvent::Carry(place) => self.plant.receiver(*place),
+            PlantEvent::Drop(_)
+            | PlantEvent::Repeat(_)
+            | PlantEvent::Cut(_)
+            | PlantEvent::Mend(_) => None,
+        }
     }
 
     /// An event happens whole, or is refused and changes nothing.
@@ -110,10 +127,11 @@ impl Network {
         self.plant.apply(event)
     }
 
-    /// All that was handed up is let go.
-    pub(crate) fn let_go(&mut self)
-        ensures { self.new ≡ taken_up self.old }
+    /// What a node handed up is let go.
+    pub(crate) fn let_go_of(&mut self, node: usize)
+        requires { node < length self.old.handed }
+        ensures { self.new ≡ record self.old { handed = slice_set self.old.handed node [] } }
     {
-        self.plant.drop_handed();
+        self.plant.drop_handed_of(node);
     }
 }

@@ -1,9 +1,9 @@
 //! What is printed of a plant.
 
-ghost use Rattle.std.specs.Prelude.{◌≡◌, ◌++◌, map, OnOk, IfErr};
+ghost use Rattle.std.specs.Prelude.{◌≡◌, ◌++◌, OnOk, IfErr};
 ghost use Rattle.std.specs.Fmt.{decimal};
 ghost use Rattle.sr_forwarding.specs.Parcels.{plain_of};
-ghost use Rattle.sr_plant_script.specs.Texts.{up_line, up_lines, all_up_lines, flow_line, flight_line};
+ghost use Rattle.sr_plant_script.specs.Texts.{up_line, up_lines, flow_line, flight_line};
 
 use itoa::Buffer;
 use sr_forwarding::Parcel;
@@ -30,21 +30,11 @@ fn append_up(text: &mut Text, node: usize, parcel: &Parcel) -> Result<(), AllocE
 }
 
 /// Appends the lines for what a node hands up.
-fn append_ups(text: &mut Text, node: usize, parcels: &[Parcel]) -> Result<(), AllocError>
+pub(crate) fn append_ups(text: &mut Text, node: usize, parcels: &[Parcel]) -> Result<(), AllocError>
     ensures { OnOk result (text.new ≡ text.old ++ up_lines node parcels.now) }
 {
     for parcel in parcels {
         append_up(text, node, parcel)?;
-    }
-    Ok(())
-}
-
-/// Appends the lines for what all nodes hand up, node by node.
-pub(crate) fn append_all_ups(text: &mut Text, handed: &[Vec<Parcel>]) -> Result<(), AllocError>
-    ensures { OnOk result (text.new ≡ text.old ++ all_up_lines 0 (map (λ l. l.items) handed.now)) }
-{
-    for node in 0..handed.len() {
-        append_ups(text, node, &handed[node])?;
     }
     Ok(())
 }

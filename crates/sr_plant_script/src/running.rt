@@ -5,8 +5,8 @@ ghost use Rattle.sr_plant_script.specs.Members.{start_of};
 ghost use Rattle.sr_plant_script.specs.Replies.{plant_dialogue};
 
 use crate::answering::answer;
-use crate::network::Network;
 use crate::printing::append_flight;
+use crate::served::Served;
 use crate::setup::PlantSetup;
 use sr_session::{Fault, FaultKind, NOT_BEGUN, Session, run_session};
 use sr_text::Text;
@@ -17,7 +17,7 @@ use std::io::{BufRead, Write};
 #[derive(Drop)]
 struct PlantSession {
     alloc: Global,
-    network: Network,
+    network: Served,
     // The octets of a line, in a list that is used again.
     octets: Vec<u8>,
     // What is printed for a line, in a list that is used again.
@@ -74,7 +74,7 @@ pub fn run_plant<R: BufRead, W: Write>(
     ensures { Runs plant_dialogue (start_of setup.now) (R.remaining reader.old)
         (R.remaining reader.new) (W.contents writer.old) (W.contents writer.new) result }
 {
-    let Ok(network) = Network::new(alloc, setup) else {
+    let Ok(network) = Served::new(alloc, setup) else {
         return Err(NOT_BEGUN);
     };
     let mut session = PlantSession {

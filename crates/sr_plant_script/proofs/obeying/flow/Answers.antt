@@ -1,6 +1,7 @@
 use Rattle.std.proofs.Common.{◌≡◌, ◌≤◌, length, arith}
 use Rattle.std.proofs.lemmas.Result.{on_ok_weaker}
-use Rattle.sr_plant_script.proofs.FlowLemmas.{carried_more, flow_empty, flow_full, flow_refused}
+use Rattle.sr_plant_script.proofs.FlowLemmas.{carried_more, flow_empty, flow_full, flow_refused, refusal_told}
+use Rattle.sr_plant.specs.declared.event.PlantEvent.TheVariants as event
 use Rattle.sr_plant_script.proofs.obeying.flow.Goals as goal
 
 pub returns-then-in_flight-eq0-clause-ok : goal.returns-then-in_flight-eq0-clause-ok
@@ -16,16 +17,16 @@ pub returns-in-Err-clause-ok : goal.returns-in-Err-clause-ok
 returns-in-Err-clause-ok c =
     let small : c.loop-carries.carries ≤ 100000 = omega arith in
     on_ok_weaker c.tell_refusal.result
-    (λ tells. flow_refused c.args.network.now c.loop-carries.network c.apply.new.self c.args.number c.loop-carries.carries c.in-Err.fault
-    c.args.text.now c.loop-carries.text c.tell_refusal.new.text small c.loop-carries.invariant c.in-Err.ensures.err tells
-    c.in-Err.ensures.same)
+    (λ tells. (
+    let r = refusal_told c.loop-carries.network c.serve.new.self c.args.number (event.Carry 0) c.in-Err.fault c.loop-carries.text c.serve.new.text c.tell_refusal.new.text c.in-Err.ensures.err tells in
+    flow_refused c.args.network.now c.loop-carries.network c.serve.new.self c.args.number c.loop-carries.carries c.in-Err.fault
+    c.args.text.now c.loop-carries.text c.tell_refusal.new.text small c.loop-carries.invariant r.0 r.2 r.1))
     c.tell_refusal.ensures.ok
 
 pub loop-carries-preserved : goal.loop-carries-preserved
 loop-carries-preserved c =
-    carried_more c.args.network.now c.loop-carries.network c.apply.new.self c.take_up.new.network c.loop-carries.carries c.args.text.now
-    c.loop-carries.text c.take_up.new.text c.loop-carries.invariant c.in_default.ensures.ok c.in_default.ensures.step
-    c.in_ok-take_up.ensures.told c.in_ok-take_up.ensures.left
+    carried_more c.args.network.now c.loop-carries.network c.serve.new.self c.loop-carries.carries c.args.text.now
+    c.loop-carries.text c.serve.new.text c.loop-carries.invariant c.in_default.ensures.ok
 
 pub returns-clause-ok : goal.returns-clause-ok
 returns-clause-ok c =
