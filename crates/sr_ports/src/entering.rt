@@ -19,6 +19,8 @@ const MAX_ENTRIES: usize = 1_000_000;
 ///
 /// It is refused as by `NodeOf::step`, but for `JournalFull` before `NoMemory`: where the journal has 1,000,000 entries, or all
 /// journals together 2^64 - 1.
+// speed: D-ports-nothing-taken
+#[inline(always)]
 pub fn enter<R: Role, L: Ledger>(
     kept: &mut Kept<R, L>,
     pass: &mut Pass<L>,
@@ -75,10 +77,44 @@ fn unmet<R: Role>(node: &NodeOf<R>, event: &Event, refused: NoMemory) -> EnterFa
     }
 }
 
-// The node's step with its entry, where the journal has room. The copies are made before the step. Each kind of event has an arm
-// of its own, so that nothing is asked of the answer that the kind tells, and its entry is made where it lies.
+// The node's step with its entry, where the journal has room. A take where nothing waits changes nothing at the node, so its entry
+// is all of it; any other event is stepped, out of line.
+// speed: D-ports-nothing-taken
 #[inline(always)]
 fn written<R: Role>(
+    node: &mut NodeOf<R>,
+    journal: &mut Vec<Entry>,
+    worker: Worker,
+    event: &Event,
+) -> Result<Answer, EnterFault>
+    requires { vec_len journal.old < vec_capacity journal.old }
+    ensures step { IfOk result (λ a. Step (state_of R.meaning node.old) event.now a
+        (state_of R.meaning node.new)) }
+    ensures taken { OnOk result (refusal_of (state_of R.meaning node.old) event.now ≡ None) }
+    ensures entry { IfOk result (λ a. journal.new.items
+        ≡ journal.old.items ++ entry worker event.now a ∷ []) }
+    ensures err { IfErr result (λ f. f ≡ enter_fault (refusal_of (state_of R.meaning node.old)
+        event.now) false) }
+    ensures node { OnErr result (state_of R.meaning node.new ≡ state_of R.meaning node.old) }
+    ensures journal { OnErr result (journal.new.items ≡ journal.old.items) }
+{
+    if let Event::Take { port } = event
+        && node.front(*port).is_none()
+    {
+        journal.push_reserved(Entry {
+            worker,
+            event: Event::Take { port: *port },
+            answer: Answer::Taken(None),
+        });
+        return Ok(Answer::Taken(None));
+    }
+    stepped(node, journal, worker, event)
+}
+
+// A step that the node takes, with its entry. The copies are made before the step. Each kind of event has an arm of its own, so that
+// nothing is asked of the answer that the kind tells, and its entry is made where it lies.
+#[inline(never)]
+fn stepped<R: Role>(
     node: &mut NodeOf<R>,
     journal: &mut Vec<Entry>,
     worker: Worker,
