@@ -9,7 +9,7 @@ ghost use Rattle.sr_workers.specs.Posts.{HasFrameRoom, Logged, BringsTo};
 use crate::becoming::{Becoming, event_of};
 use crate::fault::stop_of;
 use crate::{Enters, Feed, Turn, WorkerFault};
-use sr_forwarding::Framing;
+use sr_forwarding::{Framing, Parcel};
 use sr_frame::{MAX_FRAME_LEN, NoMemory};
 use sr_node::Event;
 use sr_ports::Log;
@@ -24,6 +24,8 @@ pub(crate) struct Post<E: Drop, F: Drop> {
     pub log: Log,
     /// How much its feed handed out of which no event was entered.
     pub unread: u64,
+    /// The parcel that it took out last, where its feed failed to take it.
+    pub held: Option<Parcel>,
 }
 
 /// The lists for octets that a worker keeps for all its turns.
@@ -62,6 +64,7 @@ fn enter_logged<E: Enters, F: Feed, W: Wait>(
     ensures worker { post.new.log.worker ≡ post.old.log.worker }
     ensures feed { post.new.feed ≡ post.old.feed }
     ensures unread { post.new.unread ≡ post.old.unread }
+    ensures held { post.new.held ≡ post.old.held }
     ensures ok { IfOk result (λ entered. Logged E.count entered event post.old post.new) }
     ensures fault { IfErr result (λ f. f ≢ Failed) }
     ensures count { OnErr result (E.count post.new.seat ≡ E.count post.old.seat) }
@@ -96,6 +99,7 @@ pub(crate) fn bring<E: Enters, F: Feed, G: Framing, W: Wait>(
     ensures worker { post.new.log.worker ≡ post.old.log.worker }
     ensures feed { post.new.feed ≡ post.old.feed }
     ensures unread { post.new.unread ≤ post.old.unread + 1 }
+    ensures held { post.new.held ≡ post.old.held }
     ensures ok { OnOk result (BringsTo E.whose E.count (G.meaning framing.now) turn octets.now
         post.old post.new) }
     ensures fault { IfErr result (λ f. f ≢ Failed) }

@@ -9,9 +9,9 @@ ghost use Rattle.sr_workers.specs.Work.{Finished, Stopped, ServesPort, nones_of}
 ghost use Rattle.sr_workers.specs.Worked.{Worked, worker_begun, ended};
 
 use crate::post::{Lists, Post, bring};
-use crate::taking::{Stop, drain};
+use crate::taking::drain;
 use crate::{Enters, Feed, Kit, Turn, WorkerEnd, WorkerFault};
-use sr_forwarding::{Framing, Parcel};
+use sr_forwarding::Framing;
 use sr_frame::Port;
 use sr_ports::{Log, Worker};
 use std::alloc::Global;
@@ -48,8 +48,9 @@ fn one_turn<E: Enters, F: Feed, G: Framing, W: Wait>(
     framing: &G,
     post: &mut Post<E, F>,
     lists: &mut Lists,
-) -> Result<bool, Stop>
+) -> Result<bool, WorkerFault>
     requires unread { post.old.unread + 1 < 2 ^ 64 }
+    requires held { post.old.held ≡ None }
     requires room { HasFrameRoom lists.old }
     ensures whose { E.whose post.new.seat ≡ E.whose post.old.seat }
     ensures worker { post.new.log.worker ≡ post.old.log.worker }
@@ -57,35 +58,31 @@ fn one_turn<E: Enters, F: Feed, G: Framing, W: Wait>(
     ensures tells { F.tells post.new.feed ≡ F.tells post.old.feed }
     ensures unread { post.new.unread ≤ post.old.unread + 1 }
     ensures room { OnOk result (HasFrameRoom lists.new) }
+    ensures held { OnOk result (post.new.held ≡ None) }
     ensures ok { IfOk result (λ more. MatchBool more
         (Does E.whose E.count F.tells F.handed F.asked F.given F.losses F.failed
         (G.meaning framing.now) (nones_of (E.whose post.old.seat) 1) 1 post.old post.new)
         ((F.ended post.new.feed ≡ true) × Does E.whose E.count F.tells F.handed F.asked F.given
         F.losses F.failed (G.meaning framing.now) 0 0 post.old post.new)) }
-    ensures err { IfErr result (λ stop. DoesLast E.whose E.count F.tells F.handed F.asked F.given
-        F.losses F.failed (G.meaning framing.now) stop.fault stop.held post.old post.new) }
+    ensures err { IfErr result (λ fault. DoesLast E.whose E.count F.tells F.handed F.asked F.given
+        F.losses F.failed (G.meaning framing.now) fault post.new.held post.old post.new) }
 {
     let turn = match post.feed.next(rt, &mut lists.incoming) {
         Ok(turn) => turn,
-        Err(failed) => {
-            return Err(Stop {
-                fault: failed.into(),
-                held: None,
-            });
-        }
+        Err(failed) => return Err(failed.into()),
     };
     if is_last(turn) {
         return Ok(false);
     }
     match bring(rt, alloc, framing, post, turn, &lists.incoming) {
         Ok(()) => {}
-        Err(fault) => return Err(Stop { fault, held: None }),
+        Err(fault) => return Err(fault),
     }
     match port_of(post.seat.worker()) {
         None => Ok(true),
         Some(port) => match drain(rt, framing, port, post, lists) {
             Ok(()) => Ok(true),
-            Err(stop) => Err(stop),
+            Err(fault) => Err(fault),
         },
     }
 }
@@ -97,58 +94,52 @@ fn make_turns<E: Enters, F: Feed, G: Framing, W: Wait>(
     framing: &G,
     post: &mut Post<E, F>,
     turns: u64,
-) -> Result<(), Stop>
-    requires { post.old.unread ≡ 0 }
+) -> Result<(), WorkerFault>
+    requires unread { post.old.unread ≡ 0 }
+    requires held { post.old.held ≡ None }
     ensures whose { E.whose post.new.seat ≡ E.whose post.old.seat }
     ensures worker { post.new.log.worker ≡ post.old.log.worker }
     ensures name { F.name post.new.feed ≡ F.name post.old.feed }
+    ensures held { OnOk result (post.new.held ≡ None) }
     ensures ok { OnOk result (Finished (F.tells post.old.feed) (E.whose post.old.seat)
         (G.meaning framing.now) turns
         (post_moment E.count F.handed F.asked F.given F.losses F.failed post.old)
         (post_moment E.count F.handed F.asked F.given F.losses F.failed post.new)
         (F.ended post.new.feed)) }
-    ensures err { IfErr result (λ stop. Stopped (F.tells post.old.feed) (E.whose post.old.seat)
-        (G.meaning framing.now) turns stop.fault stop.held
+    ensures err { IfErr result (λ fault. Stopped (F.tells post.old.feed) (E.whose post.old.seat)
+        (G.meaning framing.now) turns fault post.new.held
         (post_moment E.count F.handed F.asked F.given F.losses F.failed post.old)
         (post_moment E.count F.handed F.asked F.given F.losses F.failed post.new)) }
 {
     let mut lists = match Lists::new(alloc) {
         Ok(lists) => lists,
-        Err(refused) => {
-            return Err(Stop {
-                fault: refused.into(),
-                held: None,
-            });
-        }
+        Err(refused) => return Err(refused.into()),
     };
     for _turn in 0..turns {
         match one_turn(rt, alloc, framing, post, &mut lists) {
             Ok(true) => {}
             Ok(false) => return Ok(()),
-            Err(stop) => return Err(stop),
+            Err(fault) => return Err(fault),
         }
     }
     Ok(())
 }
 
 // What a worker hands back.
-fn ended_as<E: Enters, F: Feed>(
-    post: Post<E, F>,
-    fault: Option<WorkerFault>,
-    held: Option<Parcel>,
-) -> (E, WorkerEnd<F>)
+fn ended_as<E: Enters, F: Feed>(post: Post<E, F>, fault: Option<WorkerFault>) -> (E, WorkerEnd<F>)
     ensures seat { result.0 ≡ post.seat }
     ensures feed { result.1.feed ≡ post.feed }
     ensures log { result.1.log ≡ post.log }
     ensures unread { result.1.unread ≡ post.unread }
     ensures fault { result.1.fault ≡ fault }
-    ensures held { result.1.held ≡ held }
+    ensures held { result.1.held ≡ post.held }
 {
     let Post {
         seat,
         feed,
         log,
         unread,
+        held,
     } = post;
     let end = WorkerEnd {
         feed,
@@ -193,9 +184,10 @@ pub fn run_worker<E: Enters, F: Feed, G: Framing, W: Wait>(
         feed,
         log,
         unread: 0,
+        held: None,
     };
     match make_turns(rt, alloc, &framing, &mut post, turns) {
-        Ok(()) => ended_as(post, None, None),
-        Err(stop) => ended_as(post, Some(stop.fault), stop.held),
+        Ok(()) => ended_as(post, None),
+        Err(fault) => ended_as(post, Some(fault)),
     }
 }

@@ -15,13 +15,6 @@ use sr_node::{Answer, Event};
 use std::mem;
 use std::sync::Wait;
 
-/// Why a worker stops, and the parcel that it took out where its feed failed to take it.
-#[derive(Drop)]
-pub(crate) struct Stop {
-    pub fault: WorkerFault,
-    pub held: Option<Parcel>,
-}
-
 // Gives a parcel to the feed as the framing writes it. One that the framing can't write is lost.
 fn put_out<F: Feed, G: Framing, W: Wait>(
     rt: &W,
@@ -72,15 +65,17 @@ fn copy_of(parcel: &Parcel, spare: &mut Vec<u8>) -> Parcel
     copy
 }
 
-// Takes the next parcel that waits at the port, and gives it to the feed. False where none waits.
+// Takes the next parcel that waits at the port, and gives it to the feed. False where none waits. One that the feed fails to take is
+// held.
 fn take_one<E: Enters, F: Feed, G: Framing, W: Wait>(
     rt: &W,
     framing: &G,
     port: Port,
     post: &mut Post<E, F>,
     lists: &mut Lists,
-) -> Result<bool, Stop>
+) -> Result<bool, WorkerFault>
     requires serves { ServesPort (E.whose post.old.seat) port }
+    requires held { post.old.held ≡ None }
     requires room { HasFrameRoom lists.old }
     ensures whose { E.whose post.new.seat ≡ E.whose post.old.seat }
     ensures worker { post.new.log.worker ≡ post.old.log.worker }
@@ -89,46 +84,43 @@ fn take_one<E: Enters, F: Feed, G: Framing, W: Wait>(
     ensures tells { F.tells post.new.feed ≡ F.tells post.old.feed }
     ensures ended { F.ended post.new.feed ≡ F.ended post.old.feed }
     ensures room { OnOk result (HasFrameRoom lists.new) }
+    ensures held { OnOk result (post.new.held ≡ None) }
     ensures ok { IfOk result (λ some. Does E.whose E.count F.tells F.handed F.asked F.given
         F.losses F.failed (G.meaning framing.now) (if some then 0 else 1) 0 post.old post.new) }
-    ensures err { IfErr result (λ stop. DoesLast E.whose E.count F.tells F.handed F.asked F.given
-        F.losses F.failed (G.meaning framing.now) stop.fault stop.held post.old post.new) }
+    ensures err { IfErr result (λ fault. DoesLast E.whose E.count F.tells F.handed F.asked F.given
+        F.losses F.failed (G.meaning framing.now) fault post.new.held post.old post.new) }
 {
-    let event = Event::Take { port };
     if let Err(refused) = post.log.reserve() {
-        return Err(Stop {
-            fault: refused.into(),
-            held: None,
-        });
+        return Err(refused.into());
     }
-    let answer = match post.seat.enter(rt, &event) {
+    let answer = match post.seat.enter(rt, &Event::Take { port }) {
         Ok(answer) => answer,
         Err(refused) => {
             let Some(fault) = stop_of(refused) else {
                 unreachable!()
             };
-            return Err(Stop { fault, held: None });
+            return Err(fault);
         }
     };
     match answer {
         Answer::Taken(Some(parcel)) => {
             match put_out(rt, framing, &mut post.feed, &mut lists.outgoing, &parcel) {
                 Ok(()) => {
-                    post.log.push(event, Answer::Taken(Some(parcel)));
+                    post.log
+                        .push(Event::Take { port }, Answer::Taken(Some(parcel)));
                     Ok(true)
                 }
                 Err(failed) => {
                     let copy = copy_of(&parcel, &mut lists.spare);
-                    post.log.push(event, Answer::Taken(Some(parcel)));
-                    Err(Stop {
-                        fault: failed.into(),
-                        held: Some(copy),
-                    })
+                    post.log
+                        .push(Event::Take { port }, Answer::Taken(Some(parcel)));
+                    post.held = Some(copy);
+                    Err(failed.into())
                 }
             }
         }
         Answer::Taken(None) => {
-            post.log.push(event, Answer::Taken(None));
+            post.log.push(Event::Take { port }, Answer::Taken(None));
             Ok(false)
         }
         _ => unreachable!(),
@@ -142,8 +134,9 @@ pub(crate) fn drain<E: Enters, F: Feed, G: Framing, W: Wait>(
     port: Port,
     post: &mut Post<E, F>,
     lists: &mut Lists,
-) -> Result<(), Stop>
+) -> Result<(), WorkerFault>
     requires serves { ServesPort (E.whose post.old.seat) port }
+    requires held { post.old.held ≡ None }
     requires room { HasFrameRoom lists.old }
     ensures whose { E.whose post.new.seat ≡ E.whose post.old.seat }
     ensures worker { post.new.log.worker ≡ post.old.log.worker }
@@ -152,16 +145,17 @@ pub(crate) fn drain<E: Enters, F: Feed, G: Framing, W: Wait>(
     ensures tells { F.tells post.new.feed ≡ F.tells post.old.feed }
     ensures ended { F.ended post.new.feed ≡ F.ended post.old.feed }
     ensures room { OnOk result (HasFrameRoom lists.new) }
+    ensures held { OnOk result (post.new.held ≡ None) }
     ensures ok { OnOk result (Does E.whose E.count F.tells F.handed F.asked F.given
         F.losses F.failed (G.meaning framing.now) 1 0 post.old post.new) }
-    ensures err { IfErr result (λ stop. DoesLast E.whose E.count F.tells F.handed F.asked F.given
-        F.losses F.failed (G.meaning framing.now) stop.fault stop.held post.old post.new) }
+    ensures err { IfErr result (λ fault. DoesLast E.whose E.count F.tells F.handed F.asked F.given
+        F.losses F.failed (G.meaning framing.now) fault post.new.held post.old post.new) }
 {
     for _ in rt.forever() {
         match take_one(rt, framing, port, post, lists) {
             Ok(true) => {}
             Ok(false) => return Ok(()),
-            Err(stop) => return Err(stop),
+            Err(fault) => return Err(fault),
         }
     }
     unreachable!()

@@ -13,10 +13,11 @@ loop-turn-init g c = (
   refl,
   search rules,
   did_as _ _ _ _ _ 0 _ 0 _ _ _ _ _ refl refl (nones_zero _) refl (did_still _ _ _ _ _ refl refl refl (λ _. refl) (λ _. refl) (λ _. refl) refl (omega arith)),
+  c.requires.held,
 )
 
 pub returns-in-Err-clause-err : goal.returns-in-Err-clause-err
-returns-in-Err-clause-err g c = stopped_first _ _ _ _ _ _ _ _ (last_still _ _ _ _ _ _ _ refl refl refl refl (λ _. refl) (λ _. refl) (λ _. refl) refl (omega arith) (no_feed_of _ _ c.into.ensures))
+returns-in-Err-clause-err g c = stopped_first _ _ _ _ _ _ _ _ (last_still _ _ _ _ _ _ _ c.requires.held refl refl refl (λ _. refl) (λ _. refl) (λ _. refl) refl (omega arith) (no_feed_of _ _ c.into.ensures))
 
 pub returns-in-Ok-false-clause-ok : goal.returns-in-Ok-false-clause-ok
 returns-in-Ok-false-clause-ok g c =
@@ -40,4 +41,5 @@ loop-turn-preserved g c =
       search rules,
       search rules,
       did_as _ _ _ _ _ _ _ _ _ _ _ _ _ refl refl (nones_more _ c.loop-turn._turn) refl (did_more _ _ _ _ _ _ _ _ _ _ _ _ was.6 (did_as _ _ _ _ _ _ _ _ _ _ _ _ _ was.3 was.1 (ap (λ w. nones_of w 1) was.1) refl more)),
+      search rules,
     )

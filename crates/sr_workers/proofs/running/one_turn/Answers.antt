@@ -11,11 +11,11 @@ returns-then-is_last-clause-ok g c =
 
 pub returns-in-Err-clause-err : goal.returns-in-Err-clause-err
 returns-in-Err-clause-err g c =
-    last_still _ _ _ _ _ _ _ refl refl refl refl c.in-Err.ensures.unhanded c.in-Err.ensures.unasked c.next.ensures.given c.next.ensures.losses c.next.ensures.counted (λ _. c.in-Err.ensures.failed)
+    last_still _ _ _ _ _ _ _ c.requires.held refl refl refl c.in-Err.ensures.unhanded c.in-Err.ensures.unasked c.next.ensures.given c.next.ensures.losses c.next.ensures.counted (λ _. c.in-Err.ensures.failed)
 
 pub returns-in-Err-bring-clause-err : goal.returns-in-Err-bring-clause-err
 returns-in-Err-bring-clause-err g c =
-    last_lost _ _ _ _ _ c.in-Ok.turn _ _ _ refl c.in-Err-bring.ensures.count c.in-Err-bring.ensures.pairs c.in-Err-bring.ensures.uncounted (λ tell. ap g.F.Feed.handed c.bring.ensures.feed ∙ c.in-Ok.ensures.handed tell) (λ tell. ap g.F.Feed.asked c.bring.ensures.feed ∙ c.in-Ok.ensures.asked tell) (λ tell. ap g.F.Feed.given c.bring.ensures.feed ∙ c.next.ensures.given tell) (ap g.F.Feed.losses c.bring.ensures.feed ∙ c.next.ensures.losses) (subst (λ feed. g.F.Feed.failed c.args.post.now.feed ≤ g.F.Feed.failed feed) (sym c.bring.ensures.feed) c.next.ensures.counted) c.in-Err-bring.ensures.fault
+    last_lost _ _ _ _ _ c.in-Ok.turn _ _ _ (c.bring.ensures.held ∙ c.requires.held) c.in-Err-bring.ensures.count c.in-Err-bring.ensures.pairs c.in-Err-bring.ensures.uncounted (λ tell. ap g.F.Feed.handed c.bring.ensures.feed ∙ c.in-Ok.ensures.handed tell) (λ tell. ap g.F.Feed.asked c.bring.ensures.feed ∙ c.in-Ok.ensures.asked tell) (λ tell. ap g.F.Feed.given c.bring.ensures.feed ∙ c.next.ensures.given tell) (ap g.F.Feed.losses c.bring.ensures.feed ∙ c.next.ensures.losses) (subst (λ feed. g.F.Feed.failed c.args.post.now.feed ≤ g.F.Feed.failed feed) (sym c.bring.ensures.feed) c.next.ensures.counted) c.in-Err-bring.ensures.fault
 
 pub drain-requires-clause-serves : goal.drain-requires-clause-serves
 drain-requires-clause-serves g c = subst (λ w. ServesPort w c.in-Some.port) c.worker.ensures c.in-Some.ensures.port

@@ -1,4 +1,4 @@
-use Rattle.std.proofs.Common.{ap, sym}
+use Rattle.std.proofs.Common.{ap, sym, ◌∙◌}
 use Rattle.sr_workers.specs.Work.{moment}
 use Rattle.sr_workers.proofs.Steps.{finished_as, stopped_as, worked_whole, worked_last}
 use Rattle.sr_workers.proofs.running.run_worker.Goals as goal
@@ -6,11 +6,11 @@ use Rattle.sr_workers.proofs.running.run_worker.Goals as goal
 pub returns-in-Ok-clause-worked : goal.returns-in-Ok-clause-worked
 returns-in-Ok-clause-worked g c =
     let e = c.ended_as.ensures in
-    worked_whole _ _ e.fault e.held (finished_as _ _ _ _ _ _ _ _ _ _ (ap (λ l. moment (g.E.Enters.count c.args.kit.pass) l (g.F.Feed.handed c.args.kit.feed) (g.F.Feed.asked c.args.kit.feed) (g.F.Feed.given c.args.kit.feed) (g.F.Feed.losses c.args.kit.feed) (g.F.Feed.failed c.args.kit.feed) 0) c.new-log.ensures.empty)
+    worked_whole _ _ e.fault (e.held ∙ c.in-Ok.ensures.held) (finished_as _ _ _ _ _ _ _ _ _ _ (ap (λ l. moment (g.E.Enters.count c.args.kit.pass) l (g.F.Feed.handed c.args.kit.feed) (g.F.Feed.asked c.args.kit.feed) (g.F.Feed.given c.args.kit.feed) (g.F.Feed.losses c.args.kit.feed) (g.F.Feed.failed c.args.kit.feed) 0) c.new-log.ensures.empty)
     (λ i. moment (g.E.Enters.count (sym e.seat i)) (sym e.log i).pairs.items (g.F.Feed.handed (sym e.feed i)) (g.F.Feed.asked (sym e.feed i)) (g.F.Feed.given (sym e.feed i)) (g.F.Feed.losses (sym e.feed i)) (g.F.Feed.failed (sym e.feed i)) (sym e.unread i)) (ap g.F.Feed.ended (sym e.feed)) c.in-Ok.ensures.ok)
 
 pub returns-clause-worked : goal.returns-clause-worked
 returns-clause-worked g c =
     let e = c.ended_as-in-Err.ensures in
-    worked_last _ _ c.in-Err.stop.fault e.fault (stopped_as _ _ _ _ _ _ _ _ _ _ _ (sym e.held) (ap (λ l. moment (g.E.Enters.count c.args.kit.pass) l (g.F.Feed.handed c.args.kit.feed) (g.F.Feed.asked c.args.kit.feed) (g.F.Feed.given c.args.kit.feed) (g.F.Feed.losses c.args.kit.feed) (g.F.Feed.failed c.args.kit.feed) 0) c.new-log.ensures.empty)
+    worked_last _ _ c.in-Err.fault e.fault (stopped_as _ _ _ _ _ _ _ _ _ _ _ (sym e.held) (ap (λ l. moment (g.E.Enters.count c.args.kit.pass) l (g.F.Feed.handed c.args.kit.feed) (g.F.Feed.asked c.args.kit.feed) (g.F.Feed.given c.args.kit.feed) (g.F.Feed.losses c.args.kit.feed) (g.F.Feed.failed c.args.kit.feed) 0) c.new-log.ensures.empty)
     (λ i. moment (g.E.Enters.count (sym e.seat i)) (sym e.log i).pairs.items (g.F.Feed.handed (sym e.feed i)) (g.F.Feed.asked (sym e.feed i)) (g.F.Feed.given (sym e.feed i)) (g.F.Feed.losses (sym e.feed i)) (g.F.Feed.failed (sym e.feed i)) (sym e.unread i)) c.in-Err.ensures.err)

@@ -4,7 +4,7 @@ use Rattle.sr_workers.proofs.Steps.{did_still, did_more, did_as, last_more, last
 use Rattle.sr_workers.proofs.taking.drain.Goals as goal
 
 pub loop-init : goal.loop-init
-loop-init g c = (refl, refl, refl, refl, refl, refl, c.requires.room, did_still _ _ _ _ _ refl refl refl (λ _. refl) (λ _. refl) (λ _. refl) refl (omega arith))
+loop-init g c = (refl, refl, refl, refl, refl, refl, c.requires.room, did_still _ _ _ _ _ refl refl refl (λ _. refl) (λ _. refl) (λ _. refl) refl (omega arith), c.requires.held)
 
 pub loop-preserved : goal.loop-preserved
 loop-preserved g c =
@@ -17,6 +17,7 @@ loop-preserved g c =
       search rules,
       search rules,
       did_more _ _ _ 0 0 0 0 _ _ _ _ _ was.7 (did_as _ _ _ _ _ _ _ _ _ _ _ _ _ was.3 was.0 (none_as _ _ c.in-Ok-true.field-0-test) refl c.in-Ok-true.ensures.ok),
+      search rules,
     )
 
 pub returns-in-Ok-false-clause-ok : goal.returns-in-Ok-false-clause-ok

@@ -1,4 +1,4 @@
-use Rattle.std.proofs.Common.{◌≡◌}
+use Rattle.std.proofs.Common.{◌≡◌, None}
 use Rattle.sr_workers.specs.Posts.{Does, HasFrameRoom}
 use Rattle.sr_workers.proofs.taking.drain.Given as goal
 
@@ -12,3 +12,4 @@ invariant-loop g l =
     × (g.F.Feed.ended l.post.feed ≡ g.F.Feed.ended l.initial.post.feed)
     × HasFrameRoom l.lists
     × Does g.E.Enters.whose g.E.Enters.count g.F.Feed.tells g.F.Feed.handed g.F.Feed.asked g.F.Feed.given g.F.Feed.losses g.F.Feed.failed (g.G.Framing.meaning l.framing) 0 0 l.initial.post l.post
+    × (l.post.held ≡ None)

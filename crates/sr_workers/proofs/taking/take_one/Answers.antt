@@ -3,10 +3,10 @@ use Rattle.sr_workers.proofs.Steps.{last_still, took_none, took_some, took_held,
 use Rattle.sr_workers.proofs.taking.take_one.Goals as goal
 
 pub returns-in-Err-clause-err : goal.returns-in-Err-clause-err
-returns-in-Err-clause-err g c = last_still _ _ _ _ _ _ _ refl refl c.reserve.ensures.same refl (λ _. refl) (λ _. refl) (λ _. refl) refl (omega arith) (no_feed_of _ _ c.into.ensures)
+returns-in-Err-clause-err g c = last_still _ _ _ _ _ _ _ c.requires.held refl c.reserve.ensures.same refl (λ _. refl) (λ _. refl) (λ _. refl) refl (omega arith) (no_feed_of _ _ c.into.ensures)
 
 pub returns-in-Err-enter-clause-err : goal.returns-in-Err-enter-clause-err
-returns-in-Err-enter-clause-err g c = last_still _ _ _ _ _ _ _ refl c.in-Err-enter.ensures.err c.reserve.ensures.same refl (λ _. refl) (λ _. refl) (λ _. refl) refl (omega arith) (no_feed _ _ c.in-Some.ensures.feed)
+returns-in-Err-enter-clause-err g c = last_still _ _ _ _ _ _ _ c.requires.held c.in-Err-enter.ensures.err c.reserve.ensures.same refl (λ _. refl) (λ _. refl) (λ _. refl) refl (omega arith) (no_feed _ _ c.in-Some.ensures.feed)
 
 pub returns-in-Ok-put_out-clause-ok : goal.returns-in-Ok-put_out-clause-ok
 returns-in-Ok-put_out-clause-ok g c =
