@@ -1,6 +1,6 @@
 //! The header of a pcap file.
 
-ghost use Rattle.std.specs.Prelude.{◌≡◌, ◌≢◌, ◌≤◌, ◌<◌, ◌+◌, ◌*◌, ◌%◌, ◌^◌, ◌↔◌, ℕ, List, length, IfOk, IfErr, IfSome, IfNone, IsTrue};
+ghost use Rattle.std.specs.Prelude.{◌≡◌, ◌≢◌, ◌≤◌, ◌<◌, ◌+◌, ◌*◌, ◌%◌, ◌^◌, ◌↔◌, ℕ, List, length, IfOk, IfErr, IfSome, IfNone, IsTrue, vec_capacity};
 ghost use Rattle.sr_capture.specs.Headers.{HasMagic, HasVersion, IsHeader, IsCompressed, IsRefused, check_len_of, place_of, IsNoHeader, LosesHeader};
 
 use crate::fault::{CaptureFault, Reason};
@@ -130,6 +130,8 @@ pub fn read_header<R: BufRead>(reader: &mut R, octets: &mut Vec<u8>) -> Result<F
         LosesHeader form (R.remaining reader.old) (R.remaining reader.new)) }
     ensures refused { IfErr result (λ fault.
         IsNoHeader fault (R.remaining reader.old) (R.remaining reader.new)) }
+    ensures room { 24 ≤ vec_capacity octets.old
+        → IfErr result (λ fault. fault.reason ≢ Reason.NoMemory) }
 {
     match keep(reader, HEADER_LEN, octets) {
         Ok(_) => {}

@@ -1,6 +1,6 @@
 //! The packets of a pcap file.
 
-ghost use Rattle.std.specs.Prelude.{◌≡◌, ◌≢◌, ◌≤◌, ◌<◌, ◌+◌, ◌-◌, ◌*◌, ◌++◌, ◌^◌, ◌⊎◌, ℕ, List, length, take, IfOk, IfErr, IfSome, MatchOption, vec_len};
+ghost use Rattle.std.specs.Prelude.{◌≡◌, ◌≢◌, ◌≤◌, ◌<◌, ◌+◌, ◌-◌, ◌*◌, ◌++◌, ◌^◌, ◌⊎◌, ℕ, List, length, take, IfOk, IfErr, IfSome, MatchOption, vec_len, vec_capacity};
 ghost use Rattle.sr_capture.specs.Taking.{Loses, LosesBelow};
 ghost use Rattle.sr_capture.specs.Headers.{IsLack};
 ghost use Rattle.sr_capture.specs.Records.{nanoseconds_of, IsHead, TakesBody, TakesPacket, WasAtEnd, IsNoRecord};
@@ -58,6 +58,10 @@ fn take_head<R: BufRead>(
         × IsHead form front head)) }
     ensures fault { IfErr result (λ fault.
         IsNoRecord form fault (R.remaining reader.old) (R.remaining reader.new)) }
+    ensures few { vec_len octets.new ≤ 16 }
+    ensures room { 16 ≤ vec_capacity octets.old
+        → IfErr result (λ fault. fault.reason ≢ Reason.NoMemory) }
+    ensures capacity { vec_capacity octets.old ≤ vec_capacity octets.new }
 {
     match keep(reader, HEAD_LEN, octets) {
         Ok(true) => Ok(Some(head_of(form, octets))),
@@ -80,6 +84,7 @@ fn take_head<R: BufRead>(
 /// How many octets are kept of so many: all, or none where no frame is as long.
 fn kept_of(wanted: u32) -> usize
     ensures few { result ≤ wanted }
+    ensures frame { result ≤ 1524 }
     ensures all { wanted ≤ 1524 → result ≡ wanted }
 {
     let wanted = wanted as usize;
@@ -102,6 +107,10 @@ fn take_body<R: BufRead>(
     ensures fault { IfErr result (λ fault.
         IsLack fault.reason × ((octets : List ℕ) × (length octets ≡ fault.at)
         × LosesBelow held octets (R.remaining reader.old) (R.remaining reader.new))) }
+    ensures few { vec_len kept.new ≤ 1524 }
+    ensures room { 1524 ≤ vec_capacity kept.old
+        → IfErr result (λ fault. fault.reason ≡ Reason.Read) }
+    ensures capacity { vec_capacity kept.old ≤ vec_capacity kept.new }
 {
     let near = kept_of(wanted);
     match keep(reader, near, kept) {
@@ -125,7 +134,7 @@ fn take_body<R: BufRead>(
     }
 }
 
-/// Takes the next packet. False where nothing is left.
+/// Takes the next packet. False where nothing is left. A packet whose list has room for 1524 octets takes no memory.
 ///
 /// # Errors
 /// `Unfinished` where the input ends within a packet, at 0; `Read` where the reader fails and `NoMemory`, at the octet that
@@ -139,6 +148,10 @@ pub fn next_packet<R: BufRead>(
         TakesPacket more form packet.new (R.remaining reader.old) (R.remaining reader.new)) }
     ensures fault { IfErr result (λ fault.
         IsNoRecord form fault (R.remaining reader.old) (R.remaining reader.new)) }
+    ensures few { vec_len packet.new.octets ≤ 1524 }
+    ensures room { 1524 ≤ vec_capacity packet.old.octets
+        → IfErr result (λ fault. fault.reason ≢ Reason.NoMemory) }
+    ensures capacity { vec_capacity packet.old.octets ≤ vec_capacity packet.new.octets }
 {
     let Some(head) = take_head(reader, form, &mut packet.octets)? else {
         return Ok(false);

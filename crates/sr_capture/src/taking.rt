@@ -1,12 +1,13 @@
 //! Octets taken from a reader.
 
-ghost use Rattle.std.specs.Prelude.{◌≡◌, ◌≢◌, ◌≤◌, ◌<◌, ◌+◌, [], ◌++◌, ◌^◌, ℕ, List, length, IfOk, IfErr, IfSome, IfNone, vec_len, ◌⊎◌};
+ghost use Rattle.std.specs.Prelude.{◌≡◌, ◌≢◌, ◌≤◌, ◌<◌, ◌+◌, [], ◌++◌, ◌^◌, ℕ, List, length, IfOk, IfErr, IfSome, IfNone, vec_len, vec_capacity, ◌⊎◌};
 ghost use Rattle.sr_capture.specs.Taking.{Loses, LosesBelow, HasSome, SkipsSome, Skips, TakesAll, Fills, FillsBelow};
 
 use crate::fault::Reason;
 use std::io::BufRead;
 
-/// Appends what the reader has at hand, at most so many octets. False where nothing is left.
+/// Appends what the reader has at hand, at most so many octets. False where nothing is left. A list with room for so many takes no
+/// memory.
 fn keep_some<R: BufRead>(reader: &mut R, room: usize, kept: &mut Vec<u8>) -> Result<bool, Reason>
     requires { 0 < room }
     ensures kept { IfOk result (λ more. (bs : List ℕ) × (kept.new.items ≡ kept.old.items ++ bs)
@@ -16,6 +17,9 @@ fn keep_some<R: BufRead>(reader: &mut R, room: usize, kept: &mut Vec<u8>) -> Res
     ensures few { vec_len kept.new ≤ vec_len kept.old + room }
     ensures err { IfErr result (λ _. (kept.new.items ≡ kept.old.items)
         × Loses [] (R.remaining reader.old) (R.remaining reader.new)) }
+    ensures room { vec_len kept.old + room ≤ vec_capacity kept.old
+        → IfErr result (λ reason. reason ≡ Reason.Read) }
+    ensures capacity { vec_capacity kept.old ≤ vec_capacity kept.new }
 {
     let Ok(available) = reader.fill_buf() else {
         return Err(Reason::Read);
@@ -30,7 +34,8 @@ fn keep_some<R: BufRead>(reader: &mut R, room: usize, kept: &mut Vec<u8>) -> Res
     Ok(true)
 }
 
-/// Takes octets behind those that `kept` holds, till it has so many. False where the input ends before.
+/// Takes octets behind those that `kept` holds, till it has so many. False where the input ends before. A list with room for so many
+/// takes no memory.
 ///
 /// # Errors
 /// `Read` where the reader fails, `NoMemory`. What was taken till then is in `kept`.
@@ -42,6 +47,8 @@ pub fn fill<R: BufRead>(reader: &mut R, count: usize, kept: &mut Vec<u8>) -> Res
     ensures few { vec_len kept.new ≤ count }
     ensures err { IfErr result (λ _. FillsBelow count kept.old.items kept.new.items
         (R.remaining reader.old) (R.remaining reader.new)) }
+    ensures room { count ≤ vec_capacity kept.old → IfErr result (λ reason. reason ≡ Reason.Read) }
+    ensures capacity { vec_capacity kept.old ≤ vec_capacity kept.new }
 {
     while kept.len() < count {
         if !keep_some(reader, count - kept.len(), kept)? {
@@ -51,7 +58,8 @@ pub fn fill<R: BufRead>(reader: &mut R, count: usize, kept: &mut Vec<u8>) -> Res
     Ok(true)
 }
 
-/// Takes so many octets into `kept`, in place of what it held. False where the input ends before.
+/// Takes so many octets into `kept`, in place of what it held. False where the input ends before. A list with room for so many takes
+/// no memory.
 ///
 /// # Errors
 /// `Read` where the reader fails, `NoMemory`. What was taken till then is in `kept`.
@@ -62,6 +70,8 @@ pub fn keep<R: BufRead>(reader: &mut R, count: usize, kept: &mut Vec<u8>) -> Res
     ensures few { vec_len kept.new ≤ count }
     ensures err { IfErr result (λ _.
         LosesBelow count kept.new.items (R.remaining reader.old) (R.remaining reader.new)) }
+    ensures room { count ≤ vec_capacity kept.old → IfErr result (λ reason. reason ≡ Reason.Read) }
+    ensures capacity { vec_capacity kept.old ≤ vec_capacity kept.new }
 {
     kept.clear();
     fill(reader, count, kept)

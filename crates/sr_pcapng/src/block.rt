@@ -1,6 +1,6 @@
 //! The blocks of a file.
 
-ghost use Rattle.std.specs.Prelude.{◌≡◌, ◌≤◌, ℕ, List, length, IfOk, IfErr, IfSome, IfNone, MatchOption};
+ghost use Rattle.std.specs.Prelude.{◌≡◌, ◌≢◌, ◌≤◌, ◌^◌, ℕ, List, length, vec_capacity, IfOk, IfErr, IfSome, IfNone, MatchOption};
 ghost use Rattle.sr_capture.specs.Taking.{Loses};
 ghost use Rattle.sr_capture.specs.Records.{WasAtEnd};
 ghost use Rattle.sr_pcapng.specs.Blocks.{kind_of, numbered, HasOrder, IsSize, IsWrongSize, BeginsBlock, BeginsNone, IsBlock, IsNoBlock};
@@ -118,6 +118,9 @@ fn take_front<R: BufRead>(
         × BeginsBlock own block.new.items front.0 front.1 × (length block.new.items ≡ 12))) }
     ensures fault { IfErr result (λ fault.
         IsNoBlock own fault (R.remaining reader.old) (R.remaining reader.new)) }
+    ensures room { 2 ^ 24 ≤ vec_capacity block.old
+        → IfErr result (λ fault. fault.reason ≢ Reason.NoMemory) }
+    ensures capacity { vec_capacity block.old ≤ vec_capacity block.new }
 {
     match keep(reader, FRONT_LEN, block) {
         Ok(true) => {}
@@ -144,7 +147,7 @@ fn take_front<R: BufRead>(
 }
 
 /// Takes the next block into `block`, and tells its order of octets, where that of its section is `own`. None where nothing
-/// is left.
+/// is left. A list with room for 16 MiB takes no memory.
 ///
 /// # Errors
 /// `Unfinished` where the input ends within the block, `Unknown` where the order can not be told, `Length` and `Long` for
@@ -161,6 +164,9 @@ pub(crate) fn take_block<R: BufRead>(
         × IsBlock own block.new.items order)) }
     ensures fault { IfErr result (λ fault.
         IsNoBlock own fault (R.remaining reader.old) (R.remaining reader.new)) }
+    ensures room { 2 ^ 24 ≤ vec_capacity block.old
+        → IfErr result (λ fault. fault.reason ≢ Reason.NoMemory) }
+    ensures capacity { vec_capacity block.old ≤ vec_capacity block.new }
 {
     let Some((order, size)) = take_front(reader, own, block)? else {
         return Ok(None);

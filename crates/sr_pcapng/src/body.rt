@@ -1,6 +1,6 @@
 //! What the blocks of packets have in common.
 
-ghost use Rattle.std.specs.Prelude.{◌≡◌, ◌≤◌, ◌<◌, ◌+◌, ◌-◌, ◌^◌, ◌↔◌, None, length, IfOk, IfErr, OnOk, IsTrue};
+ghost use Rattle.std.specs.Prelude.{◌≡◌, ◌≤◌, ◌<◌, ◌+◌, ◌-◌, ◌^◌, ◌↔◌, None, length, vec_len, vec_capacity, IfOk, IfErr, OnOk, IsOk, IsTrue};
 ghost use Rattle.sr_capture.specs.declared.fault.Reason.TheVariants.{NoEthernet};
 ghost use Rattle.sr_capture.specs.Records.{Captured, Shows};
 ghost use Rattle.sr_pcapng.specs.declared.track.Wanted.TheVariants.{Only};
@@ -87,6 +87,9 @@ pub(crate) fn show(
     requires near { body.at ≤ 28 }
     requires whole { Holds body.at body.held octets.now }
     ensures kept { IfErr result (λ _. body.held - body.check_len ≤ 1524) }
+    ensures few { vec_len packet.new.octets ≤ 1524 }
+    ensures room { 1524 ≤ vec_capacity packet.old.octets → IsOk result }
+    ensures capacity { vec_capacity packet.old.octets ≤ vec_capacity packet.new.octets }
     ensures shown { OnOk result ((captured : Captured) → captured.time ≡ time
         → captured.extent ≡ extent_of body.held body.len
         → captured.octets ≡ body_at body.at body.held body.check_len octets.now
