@@ -1,6 +1,6 @@
 //! What a worker takes out of its node.
 
-ghost use Rattle.std.specs.Prelude.{◌≡◌, ◌≢◌, ◌≤◌, ◌<◌, ◌+◌, true, None, Some, IfOk, OnOk, IfErr, OnErr, vec_capacity, if◌then◌else◌};
+ghost use Rattle.std.specs.Prelude.{◌≡◌, ◌≢◌, ◌≤◌, ◌<◌, ◌+◌, ◌++◌, ◌∷◌, [], true, None, Some, IfOk, OnOk, IfErr, OnErr, vec_len, vec_capacity, if◌then◌else◌};
 ghost use Rattle.sr_forwarding.specs.Encoding.{write_fault};
 ghost use Rattle.sr_workers.specs.Posts.{Does, DoesLast, HasFrameRoom};
 ghost use Rattle.sr_workers.specs.Turns.{Out};
@@ -12,6 +12,7 @@ use crate::{Enters, Feed, FeedFault, WorkerFault};
 use sr_forwarding::{Framing, Parcel, want_of_memory_is_no_fault_of_a_parcel};
 use sr_frame::{MAX_FRAME_LEN, Port};
 use sr_node::{Answer, Event};
+use sr_ports::Log;
 use std::mem;
 use std::sync::Wait;
 
@@ -63,6 +64,18 @@ fn copy_of(parcel: &Parcel, spare: &mut Vec<u8>) -> Parcel
         unreachable!()
     };
     copy
+}
+
+// Writes down that nothing waited at the port.
+// speed: D-ports-nothing-taken
+#[inline(always)]
+fn log_nothing(log: &mut Log, port: Port)
+    requires { vec_len log.old.pairs < vec_capacity log.old.pairs }
+    ensures worker { log.new.worker ≡ log.old.worker }
+    ensures pairs { log.new.pairs.items
+        ≡ log.old.pairs.items ++ (Event.Take port, Answer.Taken None) ∷ [] }
+{
+    log.push(Event::Take { port }, Answer::Taken(None));
 }
 
 // Takes the next parcel that waits at the port, and gives it to the feed. False where none waits. One that the feed fails to take is
@@ -120,7 +133,7 @@ fn take_one<E: Enters, F: Feed, G: Framing, W: Wait>(
             }
         }
         Answer::Taken(None) => {
-            post.log.push(Event::Take { port }, Answer::Taken(None));
+            log_nothing(&mut post.log, port);
             Ok(false)
         }
         _ => unreachable!(),
