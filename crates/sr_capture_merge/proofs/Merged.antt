@@ -34,6 +34,7 @@ use Rattle.sr_capture_script.proofs.Going.{length_more}
 use Rattle.sr_capture_script.proofs.Coming.{come_none, came_to, comes_first, stops_first, all_came, not_early, last_more, starts_more, none_behind}
 use Rattle.sr_pcapng.specs.Writing.{packet_block, file_head}
 use Rattle.sr_merge.specs.Merging.{Read, Pending, Merging, TakesIn}
+use Rattle.sr_merge.specs.Verdicts.{kept_of_all}
 use Rattle.sr_capture_merge.specs.declared.plan.Plan.{Plan}
 use Rattle.sr_capture_merge.specs.Entries.{names_of, entry_of, entry_block, piece_by, is_shown, written_piece}
 use Rattle.sr_capture_merge.specs.Remarks.{remark_of}
@@ -43,7 +44,8 @@ use Rattle.sr_capture_merge.specs.Reading.{side_at, frame_read, packet_read, IsP
 use Rattle.sr_capture_merge.specs.Files.{entries_by, entries_one, merged_entries, merged_file, merged_body, Sink, sink, HasWritten, HasEnded, IsStop, WritesOn, TakesOn, EndsOn, EndsBy}
 use Rattle.sr_capture_merge.specs.Counted.{AreCountsOf}
 use Rattle.sr_capture_merge.specs.declared.counts.Counts.{Counts}
-use Rattle.sr_capture_merge.specs.Merged.{IsMerging, HasStopped, MergesOn, MergesAll, MergesUntil, IsFileOf, IsFrontOf, whole, broken, IsMerged, IsHalted, IsMergedUpTo}
+use Rattle.sr_capture_merge.specs.Merged.{IsMerging, HasStopped, MergesOn, MergesAll, MergesUntil, IsFileOf, IsFrontOf, whole, broken, IsMerged, IsMergedUpTo}
+use Rattle.sr_capture_merge.proofs.Counted.{untold_left}
 use Rattle.sr_capture_merge.proofs.Settled.{written_none, written_left, written_later, written_taken, ended_from}
 use Rattle.sr_capture_merge.proofs.Items.{read_more, item_read, item_unwanted}
 
@@ -82,10 +84,10 @@ module _ {R : Type 0} (remaining : R → Option (List ℕ)) (choice : Choice) (p
   -- nothing came yet
   pub merging_none : (a b c : Option (List ℕ)) (all : Captures R) (first : Option Front) (m : Merging) (held : Sink) →
       IsFed remaining A a all.a [] → IsFed remaining B b all.b [] → IsFed remaining C c all.c [] → IfSome first (λ front. IsDueFirst all front) →
-      IfNone first (HasNoFront all) → IfSome first (λ front. front.moment ≡ start) → m.sources ≡ [] → m.waiting ≡ [] →
+      IfNone first (HasNoFront all) → IfSome first (λ front. front.moment ≡ start) → m.sources ≡ [] → m.waiting ≡ [] → m.untold ≡ 0 →
       AreCountsOf plan [] held.counts →
       IsMerging remaining choice plan start (feed_of all.a a) (feed_of all.b b) (feed_of all.c c) all first 0 m held held
-  merging_none a b c all first m held fed_a fed_b fed_c due none at sources waiting uncounted = record {
+  merging_none a b c all first m held fed_a fed_b fed_c due none at sources waiting untold uncounted = record {
     out = [];
     come = come_none remaining a b c all fed_a fed_b fed_c;
     ahead = record { due = due; none = none; first = λ e. at };
@@ -93,7 +95,7 @@ module _ {R : Type 0} (remaining : R → Option (List ℕ)) (choice : Choice) (p
     time = refl;
     taken = [];
     read = refl;
-    written = written_none plan start m held sources waiting uncounted;
+    written = written_none plan start m held sources waiting untold uncounted;
   }
 
   -- a packet that is wanted
@@ -290,11 +292,16 @@ module _ {R : Type 0} (remaining : R → Option (List ℕ)) (choice : Choice) (p
     written = h.written;
   }
 
+-- it is counted that so many packets were taken as they came
+abbrev pub told : ℕ → Sink → Sink
+told untold to = sink to.written (record to.counts { untold = untold })
+
 -- what waits is written, and the file is whole
-file_ended : (choice : Choice) (plan : Plan) (start : ℕ) (items : List Item) (until : ℕ → Option ℕ) (taken : List Read) (held : Option (List ℕ)) (mid to : Sink) →
-    StartsAt start items → AreRead choice plan start items taken → Appends held mid.written (file_head (names_of plan.network)) →
-    HasEnded plan start taken (until (last_time start 0 items)) [] mid to → IsFileOf choice plan items until held to
-file_ended choice plan start items until taken held mid to starts read head e = record {
+file_ended : (choice : Choice) (plan : Plan) (start : ℕ) (items : List Item) (until : ℕ → Option ℕ) (taken : List Read) (untold : ℕ)
+    (held : Option (List ℕ)) (mid to : Sink) → StartsAt start items → AreRead choice plan start items taken →
+    Appends held mid.written (file_head (names_of plan.network)) → untold ≡ (kept_of_all taken).untold →
+    HasEnded plan start taken (until (last_time start 0 items)) [] mid to → IsFileOf choice plan items until held (told untold to)
+file_ended choice plan start items until taken untold held mid to starts read head is e = record {
   start = start;
   starts = starts;
   taken = taken;
@@ -302,13 +309,15 @@ file_ended choice plan start items until taken held mid to starts read head e = 
   settled = e.settled;
   verdicts = subst (λ l. AreSettled (IsVerdict (until (last_time start 0 items))) l [] e.settled) (sym (e.all ∙ append-nil e.gone)) e.verdicts;
   wrote = file_wrote plan start e.settled held mid.written to.written head e.wrote;
-  counted = e.counted;
+  counted = untold_left plan to.counts untold e.settled e.counted;
+  untold = is;
 }
 
 front_ended : (choice : Choice) (plan : Plan) (start : ℕ) (items : List Item) (until : Option ℕ) (taken : List Read) (left : List Pending)
-    (held : Option (List ℕ)) (mid to : Sink) → StartsAt start items → AreRead choice plan start items taken →
-    Appends held mid.written (file_head (names_of plan.network)) → HasEnded plan start taken until left mid to → IsFrontOf choice plan items held to
-front_ended choice plan start items until taken left held mid to starts read head e = record {
+    (untold : ℕ) (held : Option (List ℕ)) (mid to : Sink) → StartsAt start items → AreRead choice plan start items taken →
+    Appends held mid.written (file_head (names_of plan.network)) → untold ≡ (kept_of_all taken).untold →
+    HasEnded plan start taken until left mid to → IsFrontOf choice plan items held (told untold to)
+front_ended choice plan start items until taken left untold held mid to starts read head is e = record {
   start = start;
   starts = starts;
   taken = taken;
@@ -320,70 +329,71 @@ front_ended choice plan start items until taken left held mid to starts read hea
   settled = e.settled;
   verdicts = e.verdicts;
   wrote = file_wrote plan start e.settled held mid.written to.written head e.wrote;
-  counted = e.counted;
+  counted = untold_left plan to.counts untold e.settled e.counted;
+  untold = is;
 }
 
 -- all went well
 pub merges_all : {R : Type 0} (remaining : R → Option (List ℕ)) (choice : Choice) (plan : Plan) (start : ℕ) (x y z : Feed) (all : Captures R) (now : ℕ)
-    (m : Merging) (held : Option (List ℕ)) (mid late to : Sink) → Appends held mid.written (file_head (names_of plan.network)) →
-    IsMerging remaining choice plan start x y z all None now m mid late → EndsOn plan start None m.waiting [] late to →
-    IsMerged choice plan x y z held to
-merges_all remaining choice plan start x y z all now m held mid late to head h ends =
+    (m : Merging) (untold : ℕ) (held : Option (List ℕ)) (mid late to : Sink) → Appends held mid.written (file_head (names_of plan.network)) →
+    untold ≡ m.untold → IsMerging remaining choice plan start x y z all None now m mid late → EndsOn plan start None m.waiting [] late to →
+    IsMerged choice plan x y z held (told untold to)
+merges_all remaining choice plan start x y z all now m untold held mid late to head is h ends =
     record {
       merged = h.out;
       came = all_came remaining x y z all h.out h.come h.ahead.none;
-      file = file_ended choice plan start h.out whole h.taken held mid to h.starts h.read head
+      file = file_ended choice plan start h.out whole h.taken untold held mid to h.starts h.read head (is ∙ sym h.written.untold)
           (ends h.taken mid (ended_from plan start h.taken None now m mid late tt h.written));
     }
 
 -- memory is refused behind the last packet
 pub halts_last : {R : Type 0} (remaining : R → Option (List ℕ)) (choice : Choice) (plan : Plan) (start : ℕ) (x y z : Feed) (all : Captures R) (now : ℕ)
-    (m : Merging) (fault : ScriptFault) (held : Option (List ℕ)) (mid late to : Sink) → Appends held mid.written (file_head (names_of plan.network)) → fault ≢ Write →
-    IsMerging remaining choice plan start x y z all None now m mid late →
-    IsStop fault ((left : List Pending) × EndsOn plan start None m.waiting left late to) → IsMergedUpTo choice plan x y z fault held to
-halts_last remaining choice plan start x y z all now m Write held mid late to head other h ends = absurd (other refl)
-halts_last remaining choice plan start x y z all now m (File inlet fault) held mid late to head other h ends = absurd ends
-halts_last remaining choice plan start x y z all now m Endless held mid late to head other h ends = absurd ends
-halts_last remaining choice plan start x y z all now m NoMemory held mid late to head other h ends = record {
+    (m : Merging) (untold : ℕ) (fault : ScriptFault) (held : Option (List ℕ)) (mid late to : Sink) → Appends held mid.written (file_head (names_of plan.network)) →
+    fault ≢ Write → untold ≡ m.untold → IsMerging remaining choice plan start x y z all None now m mid late →
+    IsStop fault ((left : List Pending) × EndsOn plan start None m.waiting left late to) → IsMergedUpTo choice plan x y z fault held (told untold to)
+halts_last remaining choice plan start x y z all now m untold Write held mid late to head other is h ends = absurd (other refl)
+halts_last remaining choice plan start x y z all now m untold (File inlet fault) held mid late to head other is h ends = absurd ends
+halts_last remaining choice plan start x y z all now m untold Endless held mid late to head other is h ends = absurd ends
+halts_last remaining choice plan start x y z all now m untold NoMemory held mid late to head other is h ends = record {
   own = NoMemory;
   merged = h.out;
   came = came_to remaining x y z all NoMemory h.out h.come refl refl refl tt;
-  file = front_ended choice plan start h.out None h.taken ends.0 held mid to h.starts h.read head
+  file = front_ended choice plan start h.out None h.taken ends.0 untold held mid to h.starts h.read head (is ∙ sym h.written.untold)
       (ends.1 h.taken mid (ended_from plan start h.taken None now m mid late tt h.written));
 }
 
 -- a fault before the end: of memory, of counting, or of a file
-front_stopped : (choice : Choice) (plan : Plan) (start : ℕ) (x y z : Feed) (own : ScriptFault) (now : ℕ) (m : Merging)
-    (held : Option (List ℕ)) (mid late : Sink) → Appends held mid.written (file_head (names_of plan.network)) →
-    (h : HasStopped choice plan start x y z own now m mid late) → IsFrontOf choice plan h.out held late
-front_stopped choice plan start x y z own now m held mid late head h =
+front_stopped : (choice : Choice) (plan : Plan) (start : ℕ) (x y z : Feed) (own : ScriptFault) (now : ℕ) (m : Merging) (untold : ℕ)
+    (held : Option (List ℕ)) (mid late : Sink) → Appends held mid.written (file_head (names_of plan.network)) → untold ≡ m.untold →
+    (h : HasStopped choice plan start x y z own now m mid late) → IsFrontOf choice plan h.out held (told untold late)
+front_stopped choice plan start x y z own now m untold held mid late head is h =
     let le : h.by ≤ h.by = omega arith in
-    front_ended choice plan start h.out (Some h.by) h.taken m.waiting held mid late h.starts h.read head
+    front_ended choice plan start h.out (Some h.by) h.taken m.waiting untold held mid late h.starts h.read head (is ∙ sym h.written.untold)
     (ended_from plan start h.taken (Some h.by) h.by m mid late le h.written)
 
 broken_file : (choice : Choice) (plan : Plan) (start : ℕ) (x y z : Feed) (inlet : Inlet) (own : CaptureFault) (fault : ScriptFault) (now : ℕ) (m : Merging)
-    (held : Option (List ℕ)) (mid late to : Sink) → Appends held mid.written (file_head (names_of plan.network)) → fault ≢ Write →
-    HasStopped choice plan start x y z (File inlet own) now m mid late → EndsBy (File inlet own) fault plan start now m.waiting late to →
-    IsMergedUpTo choice plan x y z fault held to
-broken_file choice plan start x y z inlet own fault now m held mid late to head other h ends =
+    (untold : ℕ) (held : Option (List ℕ)) (mid late to : Sink) → Appends held mid.written (file_head (names_of plan.network)) → fault ≢ Write →
+    untold ≡ m.untold → HasStopped choice plan start x y z (File inlet own) now m mid late →
+    EndsBy (File inlet own) fault plan start now m.waiting late to → IsMergedUpTo choice plan x y z fault held (told untold to)
+broken_file choice plan start x y z inlet own fault now m untold held mid late to head other same h ends =
     let le : h.by ≤ now = subst (λ t. h.by ≤ t) h.time.1 (omega arith) in
     let from = ended_from plan start h.taken (Some now) h.by m mid late le h.written in
     elim ends [
       | inl (is, ended) ↦
           let e : HasEnded plan start h.taken (broken (last_time start 0 h.out)) [] mid to =
           subst (λ t. HasEnded plan start h.taken (Some t) [] mid to) h.time.0 (ended h.taken mid from) in
-          let done : IsMergedUpTo choice plan x y z (File inlet own) held to = record {
+          let done : IsMergedUpTo choice plan x y z (File inlet own) held (told untold to) = record {
             own = File inlet own;
             merged = h.out;
             came = h.came;
-            file = (refl, file_ended choice plan start h.out broken h.taken held mid to h.starts h.read head e);
+            file = (refl, file_ended choice plan start h.out broken h.taken untold held mid to h.starts h.read head (same ∙ sym h.written.untold) e);
           } in
-          subst (λ f. IsMergedUpTo choice plan x y z f held to) (sym is) done
+          subst (λ f. IsMergedUpTo choice plan x y z f held (told untold to)) (sym is) done
       | inr stop ↦ by fault other stop
     ]
   where
     by : (f : ScriptFault) → f ≢ Write → IsStop f ((left : List Pending) × EndsOn plan start (Some now) m.waiting left late to) →
-        IsMergedUpTo choice plan x y z f held to
+        IsMergedUpTo choice plan x y z f held (told untold to)
     by Write other stop = absurd (other refl)
     by (File i f) other stop = absurd stop
     by Endless other stop = absurd stop
@@ -392,35 +402,37 @@ broken_file choice plan start x y z inlet own fault now m held mid late to head 
           own = File inlet own;
           merged = h.out;
           came = h.came;
-          file = front_ended choice plan start h.out (Some now) h.taken stop.0 held mid to h.starts h.read head
+          file = front_ended choice plan start h.out (Some now) h.taken stop.0 untold held mid to h.starts h.read head (same ∙ sym h.written.untold)
               (stop.1 h.taken mid (ended_from plan start h.taken (Some now) h.by m mid late le h.written));
         }
 
-pub halts_stopped : (choice : Choice) (plan : Plan) (start : ℕ) (x y z : Feed) (own fault : ScriptFault) (now : ℕ) (m : Merging)
+pub halts_stopped : (choice : Choice) (plan : Plan) (start : ℕ) (x y z : Feed) (own fault : ScriptFault) (now : ℕ) (m : Merging) (untold : ℕ)
     (held : Option (List ℕ)) (mid late to : Sink) → Appends held mid.written (file_head (names_of plan.network)) → fault ≢ Write →
-    (own ≢ Write → HasStopped choice plan start x y z own now m mid late) → EndsBy own fault plan start now m.waiting late to →
-    IsMergedUpTo choice plan x y z fault held to
-halts_stopped choice plan start x y z (File inlet own) fault now m held mid late to head other h ends =
-    broken_file choice plan start x y z inlet own fault now m held mid late to head other (h (λ e. cc)) ends
-halts_stopped choice plan start x y z Write fault now m held mid late to head other h ends = absurd (other ends.0)
-halts_stopped choice plan start x y z NoMemory fault now m held mid late to head other h ends =
+    untold ≡ m.untold → (own ≢ Write → HasStopped choice plan start x y z own now m mid late) →
+    EndsBy own fault plan start now m.waiting late to → IsMergedUpTo choice plan x y z fault held (told untold to)
+halts_stopped choice plan start x y z (File inlet own) fault now m untold held mid late to head other is h ends =
+    broken_file choice plan start x y z inlet own fault now m untold held mid late to head other is (h (λ e. cc)) ends
+halts_stopped choice plan start x y z Write fault now m untold held mid late to head other is h ends = absurd (other ends.0)
+halts_stopped choice plan start x y z NoMemory fault now m untold held mid late to head other is h ends =
     let s = h (λ e. cc) in
-    let done : IsMergedUpTo choice plan x y z NoMemory held late = record {
+    let done : IsMergedUpTo choice plan x y z NoMemory held (told untold late) = record {
       own = NoMemory;
       merged = s.out;
       came = s.came;
-      file = front_stopped choice plan start x y z NoMemory now m held mid late head s;
+      file = front_stopped choice plan start x y z NoMemory now m untold held mid late head is s;
     } in
-    subst (λ f. IsMergedUpTo choice plan x y z f held to) (sym ends.0) (subst (λ o. IsMergedUpTo choice plan x y z NoMemory held o) (sym ends.1) done)
-halts_stopped choice plan start x y z Endless fault now m held mid late to head other h ends =
+    subst (λ f. IsMergedUpTo choice plan x y z f held (told untold to)) (sym ends.0)
+    (subst (λ o. IsMergedUpTo choice plan x y z NoMemory held (told untold o)) (sym ends.1) done)
+halts_stopped choice plan start x y z Endless fault now m untold held mid late to head other is h ends =
     let s = h (λ e. cc) in
-    let done : IsMergedUpTo choice plan x y z Endless held late = record {
+    let done : IsMergedUpTo choice plan x y z Endless held (told untold late) = record {
       own = Endless;
       merged = s.out;
       came = s.came;
-      file = front_stopped choice plan start x y z Endless now m held mid late head s;
+      file = front_stopped choice plan start x y z Endless now m untold held mid late head is s;
     } in
-    subst (λ f. IsMergedUpTo choice plan x y z f held to) (sym ends.0) (subst (λ o. IsMergedUpTo choice plan x y z Endless held o) (sym ends.1) done)
+    subst (λ f. IsMergedUpTo choice plan x y z f held (told untold to)) (sym ends.0)
+    (subst (λ o. IsMergedUpTo choice plan x y z Endless held (told untold o)) (sym ends.1) done)
 
 -- the same was written and counted
 pub sink_is : (w v : Option (List ℕ)) (c d : Counts) → w ≡ v → c ≡ d → sink w c ≡ sink v d
@@ -522,56 +534,57 @@ taken_on plan own start side number time packet octets p old mid new from to e s
 
 -- the whole of a call: what it was given, and what its parts did
 module _ {R T : Type 0} (remaining : R → Option (List ℕ)) (choice : Choice) (plan : Plan) (start : ℕ) (a b c : Option (List ℕ))
-    (all after : Captures R) (first : Option Front) (now : ℕ) (empty m : Merging) (held : Option (List ℕ)) (mid late to : Sink) (taken : Result T ScriptFault) where
+    (all after : Captures R) (first : Option Front) (now : ℕ) (empty m : Merging) (untold : ℕ) (held : Option (List ℕ)) (mid late to : Sink)
+    (taken : Result T ScriptFault) where
   pub begins : IsFed remaining A a all.a [] → IsFed remaining B b all.b [] → IsFed remaining C c all.c [] → IfSome first (λ front. IsDueFirst all front) →
       IfNone first (HasNoFront all) → IfSome first (λ front. front.moment ≡ start) → empty.sources ≡ [] → empty.waiting ≡ [] →
-      AreCountsOf plan [] mid.counts →
+      empty.untold ≡ 0 → AreCountsOf plan [] mid.counts →
       IsMerging remaining choice plan start (feed_of all.a a) (feed_of all.b b) (feed_of all.c c) all first 0 empty mid mid
-  begins fed_a fed_b fed_c due none at sources waiting uncounted =
-      merging_none remaining choice plan start a b c all first empty mid fed_a fed_b fed_c due none at sources waiting uncounted
+  begins fed_a fed_b fed_c due none at sources waiting none_told uncounted =
+      merging_none remaining choice plan start a b c all first empty mid fed_a fed_b fed_c due none at sources waiting none_told uncounted
 
-  pub ends_well : Appends held mid.written (file_head (names_of plan.network)) →
+  pub ends_well : Appends held mid.written (file_head (names_of plan.network)) → untold ≡ m.untold →
       IsMerging remaining choice plan start (feed_of all.a a) (feed_of all.b b) (feed_of all.c c) all first 0 empty mid mid →
       OnOk taken (MergesAll remaining choice plan start all after first 0 now empty m mid late) →
       OnOk taken (EndsOn plan start None m.waiting [] late to) × IfErr taken (λ own. ⊥) →
-      IsMerged choice plan (feed_of all.a a) (feed_of all.b b) (feed_of all.c c) held to
-  ends_well head h goes ends = by taken goes ends
+      IsMerged choice plan (feed_of all.a a) (feed_of all.b b) (feed_of all.c c) held (told untold to)
+  ends_well head is h goes ends = by taken goes ends
     where
       by : (r : Result T ScriptFault) → OnOk r (MergesAll remaining choice plan start all after first 0 now empty m mid late) →
           OnOk r (EndsOn plan start None m.waiting [] late to) × IfErr r (λ own. ⊥) →
-          IsMerged choice plan (feed_of all.a a) (feed_of all.b b) (feed_of all.c c) held to
+          IsMerged choice plan (feed_of all.a a) (feed_of all.b b) (feed_of all.c c) held (told untold to)
       by (Ok x) goes ends =
-          merges_all remaining choice plan start (feed_of all.a a) (feed_of all.b b) (feed_of all.c c) after now m held mid late to head
+          merges_all remaining choice plan start (feed_of all.a a) (feed_of all.b b) (feed_of all.c c) after now m untold held mid late to head is
           (goes (feed_of all.a a) (feed_of all.b b) (feed_of all.c c) mid h) ends.0
       by (Err e) goes ends = absurd ends.1
 
-  pub ends_badly : (fault : ScriptFault) → fault ≢ Write → Appends held mid.written (file_head (names_of plan.network)) →
+  pub ends_badly : (fault : ScriptFault) → fault ≢ Write → Appends held mid.written (file_head (names_of plan.network)) → untold ≡ m.untold →
       IsMerging remaining choice plan start (feed_of all.a a) (feed_of all.b b) (feed_of all.c c) all first 0 empty mid mid →
       OnOk taken (MergesAll remaining choice plan start all after first 0 now empty m mid late) →
       IfErr taken (λ own. own ≢ Write → MergesUntil remaining choice plan start all first own 0 now empty m mid late) →
       OnOk taken (IsStop fault ((left : List Pending) × EndsOn plan start None m.waiting left late to))
       × IfErr taken (λ own. EndsBy own fault plan start now m.waiting late to) →
-      IsMergedUpTo choice plan (feed_of all.a a) (feed_of all.b b) (feed_of all.c c) fault held to
-  ends_badly fault other head h goes stops ends = by taken goes stops ends
+      IsMergedUpTo choice plan (feed_of all.a a) (feed_of all.b b) (feed_of all.c c) fault held (told untold to)
+  ends_badly fault other head is h goes stops ends = by taken goes stops ends
     where
       by : (r : Result T ScriptFault) → OnOk r (MergesAll remaining choice plan start all after first 0 now empty m mid late) →
           IfErr r (λ own. own ≢ Write → MergesUntil remaining choice plan start all first own 0 now empty m mid late) →
           OnOk r (IsStop fault ((left : List Pending) × EndsOn plan start None m.waiting left late to))
           × IfErr r (λ own. EndsBy own fault plan start now m.waiting late to) →
-          IsMergedUpTo choice plan (feed_of all.a a) (feed_of all.b b) (feed_of all.c c) fault held to
+          IsMergedUpTo choice plan (feed_of all.a a) (feed_of all.b b) (feed_of all.c c) fault held (told untold to)
       by (Ok x) goes stops ends =
-          halts_last remaining choice plan start (feed_of all.a a) (feed_of all.b b) (feed_of all.c c) after now m fault held mid late to head other
+          halts_last remaining choice plan start (feed_of all.a a) (feed_of all.b b) (feed_of all.c c) after now m untold fault held mid late to head other is
           (goes (feed_of all.a a) (feed_of all.b b) (feed_of all.c c) mid h) ends.0
       by (Err own) goes stops ends =
-          halts_stopped choice plan start (feed_of all.a a) (feed_of all.b b) (feed_of all.c c) own fault now m held mid late to head other
+          halts_stopped choice plan start (feed_of all.a a) (feed_of all.b b) (feed_of all.c c) own fault now m untold held mid late to head other is
           (λ ne. stops ne (feed_of all.a a) (feed_of all.b b) (feed_of all.c c) mid h) ends.1
 
 -- memory is refused before the first packet
 pub halts_first : {R : Type 0} (remaining : R → Option (List ℕ)) (choice : Choice) (plan : Plan) (a b c : Option (List ℕ)) (all : Captures R)
     (fault : ScriptFault) (held : Option (List ℕ)) (mid : Sink) → Appends held mid.written (file_head (names_of plan.network)) → fault ≡ NoMemory →
-    AreCountsOf plan [] mid.counts → IsFed remaining A a all.a [] → IsFed remaining B b all.b [] → IsFed remaining C c all.c [] →
-    IsMergedUpTo choice plan (feed_of all.a a) (feed_of all.b b) (feed_of all.c c) fault held mid
-halts_first remaining choice plan a b c all fault held mid head is uncounted fed_a fed_b fed_c =
+    AreCountsOf plan [] mid.counts → mid.counts.untold ≡ 0 → IsFed remaining A a all.a [] → IsFed remaining B b all.b [] →
+    IsFed remaining C c all.c [] → IsMergedUpTo choice plan (feed_of all.a a) (feed_of all.b b) (feed_of all.c c) fault held mid
+halts_first remaining choice plan a b c all fault held mid head is uncounted none_told fed_a fed_b fed_c =
     let come = come_none remaining a b c all fed_a fed_b fed_c in
     let nothing : Merging = record { sources = []; waiting = []; untold = 0 } in
     let le : 0 ≤ 0 = omega arith in
@@ -579,8 +592,8 @@ halts_first remaining choice plan a b c all fault held mid head is uncounted fed
       own = NoMemory;
       merged = [];
       came = came_to remaining (feed_of all.a a) (feed_of all.b b) (feed_of all.c c) all NoMemory [] come refl refl refl tt;
-      file = front_ended choice plan 0 [] (Some 0) [] [] held mid mid tt refl head
-          (ended_from plan 0 [] (Some 0) 0 nothing mid mid le (written_none plan 0 nothing mid refl refl uncounted));
+      file = front_ended choice plan 0 [] (Some 0) [] [] mid.counts.untold held mid mid tt refl head none_told
+          (ended_from plan 0 [] (Some 0) 0 nothing mid mid le (written_none plan 0 nothing mid refl refl refl uncounted));
     } in
     subst (λ f. IsMergedUpTo choice plan (feed_of all.a a) (feed_of all.b b) (feed_of all.c c) f held mid) (sym is) done
 
@@ -621,49 +634,3 @@ stops_within remaining choice p q s t x y z all next front fault now later m n h
     let two = subst (λ a. MergesUntil remaining choice a s all (Some front) fault now later m n mid to) e stops in
     let three = subst (λ a. MergesUntil remaining choice q a all (Some front) fault now later m n mid to) f two in
     three x y z held one
-
--- what else is counted may change behind the last packet
-module _ (choice : Choice) (plan : Plan) (held to : Option (List ℕ)) (c d : Counts) (same : (xs : List Settled) → AreCountsOf plan xs c → AreCountsOf plan xs d)
-  where
-    file_left : (items : List Item) (until : ℕ → Option ℕ) → IsFileOf choice plan items until held (sink to c) →
-        IsFileOf choice plan items until held (sink to d)
-    file_left items until f = record {
-      start = f.start;
-      starts = f.starts;
-      taken = f.taken;
-      read = f.read;
-      settled = f.settled;
-      verdicts = f.verdicts;
-      wrote = f.wrote;
-      counted = same f.settled f.counted;
-    }
-
-    front_left : (items : List Item) → IsFrontOf choice plan items held (sink to c) → IsFrontOf choice plan items held (sink to d)
-    front_left items f = record {
-      start = f.start;
-      starts = f.starts;
-      taken = f.taken;
-      read = f.read;
-      gone = f.gone;
-      left = f.left;
-      parts = f.parts;
-      until = f.until;
-      settled = f.settled;
-      verdicts = f.verdicts;
-      wrote = f.wrote;
-      counted = same f.settled f.counted;
-    }
-
-    halted_left : (fault own : ScriptFault) (items : List Item) → IsHalted fault own choice plan items held (sink to c) →
-        IsHalted fault own choice plan items held (sink to d)
-    halted_left (File inlet fault) own items h = (h.0, file_left items broken h.1)
-    halted_left NoMemory own items h = front_left items h
-    halted_left Endless own items h = front_left items h
-    halted_left Write own items h = tt
-
-    pub merged_left : (x y z : Feed) → IsMerged choice plan x y z held (sink to c) → IsMerged choice plan x y z held (sink to d)
-    merged_left x y z h = record { merged = h.merged; came = h.came; file = file_left h.merged whole h.file }
-
-    pub merged_up_left : (x y z : Feed) (fault : ScriptFault) → IsMergedUpTo choice plan x y z fault held (sink to c) →
-        IsMergedUpTo choice plan x y z fault held (sink to d)
-    merged_up_left x y z fault h = record { own = h.own; merged = h.merged; came = h.came; file = halted_left fault h.own h.merged h.file }

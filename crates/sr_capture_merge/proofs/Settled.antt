@@ -9,7 +9,7 @@ use Rattle.std.proofs.lemmas.List.Concat.{flat_map-append}
 use Rattle.std.proofs.lemmas.Option.{same_Some}
 use Rattle.sr_merge.specs.declared.waiting.Verdict.{Verdict}
 use Rattle.sr_merge.specs.Limits.{most_held}
-use Rattle.sr_merge.specs.Merging.{Read, Pending, Merging, met, meet, verdict_of, is_new, waiting_behind, sources_told, next_written, TakesIn}
+use Rattle.sr_merge.specs.Merging.{Read, Pending, Merging, met, meet, verdict_of, is_new, waiting_behind, sources_told, untold_after, next_written, TakesIn}
 use Rattle.sr_merge.specs.MergeRuns.{packets_in}
 use Rattle.sr_merge.specs.WaitingLemmas.{packets_meet, waits_list}
 use Rattle.sr_merge.specs.Verdicts.{kept_of_all, verdict_until, AllBy}
@@ -99,12 +99,13 @@ wrote_more plan start xs x held mid to h more =
     (Appends-trans held mid to (merged_body plan start xs) (written_piece plan start x.verdict x.packet) h more)
 
 -- nothing was taken
-pub written_none : (plan : Plan) (start : ℕ) (m : Merging) (held : Sink) → m.sources ≡ [] → m.waiting ≡ [] → AreCountsOf plan [] held.counts →
-    HasWritten plan start [] 0 m held held
-written_none plan start m held sources waiting none = record {
+pub written_none : (plan : Plan) (start : ℕ) (m : Merging) (held : Sink) → m.sources ≡ [] → m.waiting ≡ [] → m.untold ≡ 0 →
+    AreCountsOf plan [] held.counts → HasWritten plan start [] 0 m held held
+written_none plan start m held sources waiting untold none = record {
   gone = [];
   settled = [];
   sources = sym sources;
+  untold = sym untold;
   waiting = sym waiting;
   early = subst (λ l. AllBy 0 (packets_in l)) (sym waiting) tt;
   known = tt;
@@ -120,6 +121,7 @@ written_left plan start taken now m held to later same counts h = record {
   gone = h.gone;
   settled = h.settled;
   sources = h.sources;
+  untold = h.untold;
   waiting = h.waiting;
   early = h.early;
   known = h.known;
@@ -134,6 +136,7 @@ written_later plan start taken before now m held to le h = record {
   gone = h.gone;
   settled = h.settled;
   sources = h.sources;
+  untold = h.untold;
   waiting = h.waiting;
   early = all_later before now (packets_in m.waiting) le h.early;
   known = settled_weaker (IsKnown before) (IsKnown now) (known_later before now le) h.gone (packets_in m.waiting) h.settled h.known;
@@ -149,10 +152,10 @@ known_first now w ps (Some x) is all many = inl (x, is, refl)
 
 pub written_next : (plan : Plan) (start : ℕ) (taken : List Read) (now : ℕ) (old new : Merging) (w : Pending) (v : Option Verdict)
     (held mid to : Sink) → HasWritten plan start taken now old held mid → next_written old.waiting ≡ Some w →
-    new.sources ≡ old.sources → new.waiting ≡ drop 1 old.waiting → verdict_of now w ≡ v →
+    new.sources ≡ old.sources → new.untold ≡ old.untold → new.waiting ≡ drop 1 old.waiting → verdict_of now w ≡ v →
     (v ≡ None → most_held ≤ length old.waiting) → Appends mid.written to.written (written_piece plan start v w.packet) →
     to.counts ≡ counted_one plan (record { packet = w.packet; verdict = v }) mid.counts → HasWritten plan start taken now new held to
-written_next plan start taken now old new w v held mid to h first sources rest is many wrote count_is = by old.waiting refl first
+written_next plan start taken now old new w v held mid to h first sources untold rest is many wrote count_is = by old.waiting refl first
   where
     by : (l : List Pending) → old.waiting ≡ l → next_written l ≡ Some w → HasWritten plan start taken now new held to
     by [] e first = cc
@@ -167,6 +170,7 @@ written_next plan start taken now old new w v held mid to h first sources rest i
           gone = h.gone ++ w ∷ [];
           settled = h.settled ++ record { packet = w.packet; verdict = v } ∷ [];
           sources = h.sources ∙ sym sources;
+          untold = h.untold ∙ sym untold;
           waiting = h.waiting ∙ ap (λ l. h.gone ++ l) (e ∙ front) ∙ sym (append_assoc h.gone (w ∷ []) us) ∙ ap (λ l. (h.gone ++ w ∷ []) ++ l) (sym left);
           early = subst (λ l. AllBy now (packets_in l)) (sym left) early.1;
           known = subst (λ l. AreSettled (IsKnown now) (h.gone ++ w ∷ []) (packets_in l) (h.settled ++ record { packet = w.packet; verdict = v } ∷ []))
@@ -200,6 +204,10 @@ written_taken plan start taken now old new p held to h takes time =
       gone = split.0;
       settled = h.settled;
       sources = ap (λ m. m.sources) e ∙ ap (λ s. sources_told s time_of frame) h.sources ∙ sym takes.sources;
+      untold = ap (λ m. m.untold) e
+          ∙ ap (λ s. untold_after s time_of frame (kept_of_all taken).untold) h.sources
+          ∙ ap (untold_after old.sources time_of frame) h.untold
+          ∙ sym takes.untold;
       waiting = ap (λ m. m.waiting) e
           ∙ ap (λ s. waiting_behind (is_new s time_of frame) p (kept_of_all taken).waiting) h.sources
           ∙ ap (waiting_behind fresh p) h.waiting

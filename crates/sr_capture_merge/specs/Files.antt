@@ -60,6 +60,7 @@ pub record HasWritten (plan : Plan) (start : ℕ) (taken : List Read) (now : ℕ
   pub gone : List Pending
   pub settled : List Settled
   pub sources : (kept_of_all taken).sources ≡ m.sources
+  pub untold : (kept_of_all taken).untold ≡ m.untold
   pub waiting : (kept_of_all taken).waiting ≡ gone ++ m.waiting
   pub early : AllBy now (packets_in m.waiting)
   pub known : AreSettled (IsKnown now) gone (packets_in m.waiting) settled

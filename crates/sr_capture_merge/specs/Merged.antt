@@ -69,7 +69,8 @@ abbrev pub MergesUntil : {R : Type 0} → (R → Option (List ℕ)) → Choice �
 MergesUntil remaining choice plan start before next fault now later old new mid to = (x y z : Feed) (held : Sink) →
     IsMerging remaining choice plan start x y z before next now old held mid → HasStopped choice plan start x y z fault later new held to
 
--- the file of some packets: each that is to be written is there with its verdict, and counted
+-- the file of some packets: each that is to be written is there with its verdict, and counted; and it is counted how many were taken as
+-- they came, since the record was full
 pub record IsFileOf (choice : Choice) (plan : Plan) (items : List Item) (until : ℕ → Option ℕ) (held : Option (List ℕ)) (to : Sink) :
     Type 0 where
   pub start : ℕ
@@ -80,8 +81,10 @@ pub record IsFileOf (choice : Choice) (plan : Plan) (items : List Item) (until :
   pub verdicts : AreSettled (IsVerdict (until (last_time start 0 items))) (kept_of_all taken).waiting [] settled
   pub wrote : Appends held to.written (merged_file plan start settled)
   pub counted : AreCountsOf plan settled to.counts
+  pub untold : to.counts.untold ≡ (kept_of_all taken).untold
 
--- the file of some packets up to one of those that are to be written
+-- the file of some packets up to one of those that are to be written; of all that were taken, whether written yet or not, it is counted how
+-- many were taken as they came, since the record was full
 pub record IsFrontOf (choice : Choice) (plan : Plan) (items : List Item) (held : Option (List ℕ)) (to : Sink) : Type 0 where
   pub start : ℕ
   pub starts : StartsAt start items
@@ -95,6 +98,7 @@ pub record IsFrontOf (choice : Choice) (plan : Plan) (items : List Item) (held :
   pub verdicts : AreSettled (IsVerdict until) gone (packets_in left) settled
   pub wrote : Appends held to.written (merged_file plan start settled)
   pub counted : AreCountsOf plan settled to.counts
+  pub untold : to.counts.untold ≡ (kept_of_all taken).untold
 
 -- captures that are at their ends, and those that can't be read on behind a packet of some time
 abbrev pub whole : ℕ → Option ℕ

@@ -87,6 +87,7 @@ fn write_rest<W: Write>(
         output.old.start until merge.old.waiting merge.new.waiting
         (sink (W.contents writer.old) output.old.counts)
         (sink (W.contents writer.new) output.new.counts))) }
+    ensures untold { merge.new.untold ≡ merge.old.untold }
 {
     'waiting: while let Some(waiting) = merge.front() {
         let verdict = verdict_until(waiting, until);
@@ -136,6 +137,7 @@ fn take<W: Write>(
 fn begin(alloc: Global, keys: Keys) -> Result<Merge, ScriptFault>
     ensures sources { IfOk result (λ merge. merge.sources ≡ []) }
     ensures waiting { IfOk result (λ merge. merge.waiting ≡ []) }
+    ensures untold { IfOk result (λ merge. merge.untold ≡ 0) }
     ensures err { IfErr result (λ fault. fault ≡ ScriptFault.NoMemory) }
 {
     Ok(Merge::new(alloc, keys)?)
@@ -217,6 +219,7 @@ fn finish_broken<W: Write>(
     ensures stops { IfErr result (λ fault. EndsBy own fault output.old.plan output.old.start now
         merge.old.waiting (sink (W.contents writer.old) output.old.counts)
         (sink (W.contents writer.new) output.new.counts)) }
+    ensures untold { merge.new.untold ≡ merge.old.untold }
 {
     match own {
         ScriptFault::File(_, _) => {
@@ -246,6 +249,7 @@ fn finish<W: Write>(
         × IfErr taken (λ own. EndsBy own fault output.old.plan output.old.start now
         merge.old.waiting (sink (W.contents writer.old) output.old.counts)
         (sink (W.contents writer.new) output.new.counts))) }
+    ensures untold { merge.new.untold ≡ merge.old.untold }
 {
     match taken {
         Ok(()) => write_rest(merge, output, None, writer),
@@ -266,7 +270,8 @@ pub fn merge<R: BufRead + Drop, W: Write>(
     writer: &mut W,
 ) -> (Counts, Result<(), ScriptFault>)
     // What is written is the file of the packets of all captures, each capture's in its own order and all in order of time: of those
-    // that are taken each that is to be written, in order, with its verdict; and so the packets are counted.
+    // that are taken each that is to be written, in order, with its verdict; and so the packets are counted, and how many were taken as
+    // they came.
     ensures merges { OnOk result.1 ((start_a start_b start_c : Option (List ℕ))
         → IsFed R.remaining AtA start_a captures.old.a []
         → IsFed R.remaining AtB start_b captures.old.b []

@@ -30,7 +30,8 @@ waiting-preserved g c =
           written_next c.args.output.now.plan c.args.output.now.start taken c.args.now c.waiting.merge c.drop_front.new.self
           (pending_of c.in-Some.waiting.now) v held (sink (g.W.Write.contents c.waiting.writer) c.waiting.output.counts)
           (sink (g.W.Write.contents c.put.new.writer) c.put.new.self.counts)
-          (i.on taken before held le h) c.in-Some.ensures.some c.drop_front.ensures.sources c.drop_front.ensures.waiting
+          (i.on taken before held le h) c.in-Some.ensures.some c.drop_front.ensures.sources c.drop_front.ensures.untold
+          c.drop_front.ensures.waiting
           (sym c.verdict-verdict.ensures)
           (λ e. elim c.else-is_none.branch [
             | else-is_none-via-then-is_none+else-len-lt-MAX_WAITING w ↦ let n = w.len.ensures in omega (arith, n)

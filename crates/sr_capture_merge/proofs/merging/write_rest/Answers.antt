@@ -27,6 +27,7 @@ waiting-preserved g c =
           c.in_ok-put.ensures.counts);
       plan = c.put.ensures.plan ∙ i.plan;
       start = c.put.ensures.start ∙ i.start;
+      untold = c.drop_front.ensures.untold ∙ i.untold;
     }
 
 pub returns-in_err-put-clause-stops : goal.returns-in_err-put-clause-stops

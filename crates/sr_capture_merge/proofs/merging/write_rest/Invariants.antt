@@ -8,6 +8,7 @@ invariant-waiting g l = record {
       (sink (g.W.Write.contents l.fn.writer) l.fn.output.counts) (sink (g.W.Write.contents l.writer) l.output.counts);
   plan : l.output.plan ≡ l.fn.output.plan;
   start : l.output.start ≡ l.fn.output.start;
+  untold : l.merge.untold ≡ l.fn.merge.untold;
 }
 
 abbrev pub decreases-waiting : goal.decreases-waiting
