@@ -1,5 +1,7 @@
 //! Scripts whose nodes run on threads: what is printed of each node.
 
+ghost use Rattle.std.specs.Prelude.{◌<◌};
+
 use sr_dup_table::Width;
 use sr_node::{Mode, Settings};
 use sr_session::{Fault, FaultKind};
@@ -14,12 +16,19 @@ use std::thread::Threads;
 enum Step {
     /// Of this script three nodes print, behind this, how each settled, and no frame that comes up twice or where it was sent.
     Settles(ThreadedNet, Settings, &'static [u8], &'static [u8]),
+    /// Of two frames that node 0 sends to all, three nodes print both at each of the others, in order, in one of many runs.
+    Arrive(ThreadedNet),
     /// This script is none, and nothing is printed.
     IsNone(&'static [u8]),
 }
 
 // How many turns each worker makes.
 const TURNS: u64 = 10_000;
+
+// How many, where frames are to arrive, and in how many runs at most: how long a thread runs before the next one is up to the system.
+const MANY_TURNS: u64 = 40_000;
+
+const RUNS: u32 = 200;
 
 const PLAIN: Settings = Settings::PLAIN;
 
@@ -39,6 +48,15 @@ const SETTLED: [&[u8]; 3] = [
 const UPS: [&[u8]; 2] = [
     b"up 1 ffffffffffff02000000000088b501000000000000000000000000000000000000000000000000000000000000000000000000000000000000000000\n",
     b"up 2 ffffffffffff02000000000088b501000000000000000000000000000000000000000000000000000000000000000000000000000000000000000000\n",
+];
+
+// What node 0 sends where frames are to arrive.
+const TWO_FRAMES: &[u8] = b"send 0 all 01\nsend 0 all 02\n";
+
+// The line of the second of them at nodes 1 and 2.
+const NEXT_UPS: [&[u8]; 2] = [
+    b"up 1 ffffffffffff02000000000088b502000000000000000000000000000000000000000000000000000000000000000000000000000000000000000000\n",
+    b"up 2 ffffffffffff02000000000088b502000000000000000000000000000000000000000000000000000000000000000000000000000000000000000000\n",
 ];
 
 // What stands behind the front of a text, if it begins with that.
@@ -62,13 +80,31 @@ fn is_settled(text: &[u8]) -> bool {
     behind(behind_any(rest, UPS[1]), SETTLED[2]) == Some(&[])
 }
 
-// What a script on three nodes prints, or what ended it.
+// What stands behind both frames at one of the others, and how it settled.
+fn behind_both(text: &[u8], other: usize) -> Option<&[u8]>
+    requires { other < 2 }
+{
+    let rest = behind(text, UPS[other])?;
+    let rest = behind(rest, NEXT_UPS[other])?;
+    behind(rest, SETTLED[other + 1])
+}
+
+// Whether three nodes settled, and each of the others was handed both frames, in order.
+fn have_arrived(text: &[u8]) -> Option<bool> {
+    let rest = behind(text, SETTLED[0])?;
+    let rest = behind_both(rest, 0)?;
+    let rest = behind_both(rest, 1)?;
+    Some(rest.is_empty())
+}
+
+// What a script on three nodes prints in so many turns, or what ended it.
 fn printed<W: Threads + Wait + Sync>(
     rt: &W,
     alloc: Global,
     net: ThreadedNet,
     settings: Settings,
     script: &[u8],
+    turns: u64,
     writer: &mut Vec<u8>,
 ) -> Result<(), ThreadedFault> {
     let setup = ThreadedSetup {
@@ -77,18 +113,39 @@ fn printed<W: Threads + Wait + Sync>(
         settings,
     };
     let mut reader = script;
-    run_threaded(rt, alloc, &setup, TURNS, &mut reader, writer)
+    run_threaded(rt, alloc, &setup, turns, &mut reader, writer)
+}
+
+// Whether both frames arrive in one of the runs.
+fn arrive<W: Threads + Wait + Sync>(rt: &W, alloc: Global, net: ThreadedNet) -> bool {
+    for _ in 0..RUNS {
+        let mut writer = Vec::new(alloc);
+        let ran = printed(rt, alloc, net, PLAIN, TWO_FRAMES, MANY_TURNS, &mut writer);
+        if ran.is_ok() && have_arrived(&writer) == Some(true) {
+            return true;
+        }
+    }
+    false
 }
 
 fn holds<W: Threads + Wait + Sync>(rt: &W, alloc: Global, step: Step) -> bool {
     let mut writer = Vec::new(alloc);
     match step {
         Step::Settles(net, settings, script, front) => {
-            let ran = printed(rt, alloc, net, settings, script, &mut writer);
+            let ran = printed(rt, alloc, net, settings, script, TURNS, &mut writer);
             ran.is_ok() && behind(&writer, front).is_some_and(is_settled)
         }
+        Step::Arrive(net) => arrive(rt, alloc, net),
         Step::IsNone(script) => {
-            let ran = printed(rt, alloc, ThreadedNet::Ring, PLAIN, script, &mut writer);
+            let ran = printed(
+                rt,
+                alloc,
+                ThreadedNet::Ring,
+                PLAIN,
+                script,
+                TURNS,
+                &mut writer,
+            );
             let fault = Fault {
                 line: 1,
                 kind: FaultKind::Line,
@@ -125,8 +182,20 @@ const STEPS: &[Step] = &[
     Step::IsNone(b"send 0 all\n"),
 ];
 
+// Two frames, one behind the other.
+const ARRIVALS: &[Step] = &[
+    Step::Arrive(ThreadedNet::Ring),
+    Step::Arrive(ThreadedNet::TwinLan),
+];
+
 #[test]
 fn each_node_prints_how_it_settled(rt: HostRuntime) {
     let wrong = first_wrong(&rt, rt.alloc(), STEPS);
+    assert_eq!(&rt; wrong, None);
+}
+
+#[test]
+fn what_a_host_sends_is_printed_where_it_arrives(rt: HostRuntime) {
+    let wrong = first_wrong(&rt, rt.alloc(), ARRIVALS);
     assert_eq!(&rt; wrong, None);
 }
