@@ -1,5 +1,7 @@
 //! Files that are written: their octets, from the format, and a writer that fails.
 
+ghost use Rattle.std.specs.Prelude.{◌≡◌, IfSome, vec_len};
+
 use super::blocks::LITTLE;
 use super::failing::Narrow;
 use super::steps::{Step, expect_steps};
@@ -144,4 +146,38 @@ const WRITTEN: &[Step] = &[
 #[test]
 fn files_are_written(rt: HostRuntime) {
     expect_steps(&rt, WRITTEN);
+}
+
+/// So many octets. It is a function of its own, so that no proof works out a list of thousands.
+fn list_of(alloc: Global, count: usize) -> Option<Vec<u8>>
+    ensures { IfSome result (λ octets. vec_len octets ≡ count) }
+{
+    let mut octets = Vec::new(alloc);
+    octets.resize(count, 7).ok()?;
+    Some(octets)
+}
+
+/// How many octets the block of a packet has that is as long as can be, with as long a comment. None for want of memory, or where
+/// it is not written.
+fn longest_block(alloc: Global) -> Option<usize> {
+    let octets = list_of(alloc, MAX_WRITTEN)?;
+    let mut block = Vec::new(alloc);
+    let entry = Entry {
+        lane: Lane::B,
+        time: 0,
+        len: 65535,
+        octets: &octets,
+        comment: &octets,
+    };
+    write_packet(&mut block, &entry).ok()?;
+    Some(block.len())
+}
+
+#[test]
+fn the_longest_packet_and_comment_are_written(rt: HostRuntime) {
+    let len = match longest_block(rt.alloc()) {
+        None => longest_block(rt.alloc()),
+        some => some,
+    };
+    assert_eq!(&rt; len, Some(131_112));
 }
