@@ -8,3 +8,4 @@ pub mod Shown
 pub mod Equality
 pub mod EqualityLemmas
 pub mod Hearings
+pub mod FullLemmas

@@ -56,11 +56,19 @@ impl LatePorts {
         self.map.as_slice() == other.map.as_slice()
     }
 
-    /// The port of a node that was found late.
-    pub fn port(&self, mac: Mac) -> Option<Port>
-        ensures { result ≡ lookup (mac_eq mac) self.now.ports }
+    /// The port of a node that was found late, and the index at which the next node may stand. One that is late now at this
+    /// port is looked for first at an index: where the same ports are late in the same order, no address is looked up.
+    // speed: D-nodes-late-order
+    pub fn port_near(&self, index: usize, mac: Mac, late: Port) -> (Option<Port>, usize)
+        ensures { result.0 ≡ lookup (mac_eq mac) self.now.ports }
     {
-        self.map.get(&mac).copied()
+        if self.is_at(index, mac, late) {
+            return (Some(late), index.saturating_add(1));
+        }
+        match self.map.get_full(&mac) {
+            Some((found, _mac, port)) => (Some(*port), found.saturating_add(1)),
+            None => (None, index),
+        }
     }
 
     /// How many there are.

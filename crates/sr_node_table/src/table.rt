@@ -251,6 +251,7 @@ impl NodeTable {
     pub fn is_full_for(&mut self, mac: Mac, now: u64) -> bool
         ensures full { (result ≡ true)
             ↔ (length (live_others mac now self.old.table.entries) ≡ most_nodes) }
+        ensures few { length self.old.table.entries ≤ most_nodes }
         ensures same { self.new ≡ self.old }
     {
         // The length says that there are no more than 1024.

@@ -56,15 +56,21 @@ fn was_late(before: Option<Port>, port: Port) -> bool
     before == Some(port)
 }
 
-// Which port of a node was found late before, where one is late now. For any other node it is not looked up.
-fn late_before(before: &LatePorts, late: Option<Port>, mac: Mac) -> Option<Port>
-    ensures { result
+// Which port of a node was found late before, where one is late now, and the index at which to look for the next. For any other
+// node it is not looked up.
+fn late_before(
+    before: &LatePorts,
+    index: usize,
+    late: Option<Port>,
+    mac: Mac,
+) -> (Option<Port>, usize)
+    ensures { result.0
         ≡ (if is_some late then lookup (mac_eq mac) before.now.ports else None) }
 {
-    if late.is_none() {
-        return None;
+    match late {
+        Some(port) => before.port_near(index, mac, port),
+        None => (None, index),
     }
-    before.port(mac)
 }
 
 // The alarm of a node that is forgotten.
@@ -166,10 +172,12 @@ pub fn watch(
     // The length says that no two addresses are equal.
     let _nodes = nodes.len();
     let _room = alarms.capacity();
+    let mut index = 0;
     for (mac, entry) in nodes.iter() {
         let late = late_port(entry, now);
-        let before = late_before(before, late, mac);
-        raise(alarms, alarm_of(before, late, mac, entry, now));
+        let (port, next) = late_before(before, index, late, mac);
+        index = next;
+        raise(alarms, alarm_of(port, late, mac, entry, now));
         find(found, mac, late);
     }
 }

@@ -12,7 +12,7 @@ loop-mac-preserved c =
     let o = lookup (mac_eq mac) c.args.before.now.ports in
     let alarm =
     c.alarm_of.ensures
-    ∙ (λ j. alarm_of (c.late_before-before.ensures j) c.late_port-late.result mac e c.args.now)
+    ∙ (λ j. alarm_of (c.late_before-port.ensures j) c.late_port-late.result mac e c.args.now)
     ∙ asked_where_late o c.late_port-late.result mac e c.args.now
     ∙ (λ j. alarm_of o (c.late_port-late.ensures j) mac e c.args.now) in
     record {

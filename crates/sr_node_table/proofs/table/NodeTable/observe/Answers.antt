@@ -2,7 +2,7 @@ use Rattle.std.proofs.Common.{◌≡◌, ◌≤◌, ◌∙◌, refl, sym, ap, su
 use Rattle.std.specs.Map.{lookup}
 use Rattle.sr_frame.specs.Addresses.{mac_eq}
 use Rattle.sr_frame.specs.declared.learn_outcome.LearnOutcome.TheVariants.{New, Full}
-use Rattle.sr_node_table.specs.Nodes.{hearing_of, Entry, Entries, is_live, live_others, answer_of}
+use Rattle.sr_node_table.specs.Nodes.{hearing_of, Entry, Entries, is_live, answer_of}
 use Rattle.sr_aged_slots.specs.FullLemmas.{kept_again, new_is_kept, full_where}
 use Rattle.sr_node_table.specs.Limits.{forget_time, most_nodes}
 use Rattle.sr_node_table.specs.Observing.{ObservesNode}
