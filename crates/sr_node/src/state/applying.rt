@@ -5,7 +5,7 @@ ghost use Rattle.std.specs.Option.{ForSome};
 ghost use Rattle.sr_dup_table.specs.Sources.{live_at};
 ghost use Rattle.sr_frame.specs.declared.fields.Mac.{Mac as Address};
 ghost use Rattle.sr_node_table.specs.Watching.{after_prune};
-ghost use Rattle.sr_node.specs.Hearing.{is_network, HasRoomFor, KeepsRoom, IsReadyFor, nodes_heard, nodes_told};
+ghost use Rattle.sr_node.specs.Hearing.{is_network, HasRoomFor, IsReadyToo, IsReadyFor, nodes_heard, nodes_told};
 ghost use Rattle.sr_node.specs.Lanes.{sources_after};
 ghost use Rattle.sr_node.specs.Outboxes.{box_at, boxes_left, first_of};
 ghost use Rattle.sr_node.specs.Copies.{Room, put_copies};
@@ -75,9 +75,9 @@ impl Core {
               passing.now.arrival.moment;
         } }
         ensures table { self.new.table ≡ self.old.table }
-        ensures ready { (mac : Address) → KeepsRoom self.old.nodes
+        ensures ready { (mac : Address) → IsReadyToo self.old.nodes
             passing.now.arrival.header.now.src passing.now.observations.number mac
-            → IsReadyFor self.new.nodes mac passing.now.arrival.moment }
+            passing.now.arrival.moment → IsReadyFor self.new.nodes mac passing.now.arrival.moment }
     {
         let arrival = &passing.arrival;
         let hint = passing.observations.source;

@@ -1,9 +1,9 @@
 //! What a node keeps grows before an event is taken. Nothing of it shows, and where a growth is refused the rest is given up.
 
-ghost use Rattle.std.specs.Prelude.{◌≡◌, OnOk, OnErr, IsOk, None};
+ghost use Rattle.std.specs.Prelude.{◌≡◌, OnOk, OnErr, IsOk, None, true};
 ghost use Rattle.sr_slots.specs.Places.{IsFound};
 ghost use Rattle.sr_node.specs.Copies.{Room, no_copies, copies_for};
-ghost use Rattle.sr_node.specs.Hearing.{HasRoomFor, HasRoomToo};
+ghost use Rattle.sr_node.specs.Hearing.{HasRoomFor, HasRoomToo, IsFullFor};
 ghost use Rattle.sr_node.specs.Images.{shown, IsReady, IsIdle};
 ghost use Rattle.sr_node.specs.Outboxes.{first_full};
 ghost use Rattle.sr_node.specs.Plans.{HoldsNodes, LetsPass};
@@ -12,7 +12,8 @@ use crate::Core;
 use crate::copies::{Copies, copies_for};
 use crate::passing::Passing;
 use sr_forwarding::{Outlets, ParcelView};
-use sr_frame::NoMemory;
+use sr_frame::{Mac, NoMemory};
+use sr_slots::Hint;
 
 impl Core {
     /// A copy for each of these outlets, where there is room. Nothing that shows changes. NoMemory: a growth was refused.
@@ -82,7 +83,15 @@ impl Core {
         self.nodes.reserve(src, None)
     }
 
-    // Holds a place for the node of which a frame speaks, beside that for its source.
+    // Whether a node was not found, and a full table has no room for it.
+    fn has_no_room(&mut self, found: Option<Hint>, mac: Mac, moment: u64) -> bool
+        ensures full { result ≡ true → IsFullFor self.old.nodes mac moment }
+        ensures same { self.new ≡ self.old }
+    {
+        found.is_none() && self.nodes.is_full_for(mac, moment)
+    }
+
+    // Holds a place for the node of which a frame speaks, beside that for its source, where a full table would not refuse it.
     // speed: D-node-inlined
     #[inline(always)]
     fn reserve_announced(&mut self, passing: &Passing<'_>) -> Result<(), NoMemory>
@@ -96,7 +105,7 @@ impl Core {
             passing.now.observations.number passing.now.arrival.moment) }
         ensures announced { OnOk result (HasRoomToo self.new.nodes
             passing.now.arrival.header.now.src passing.now.observations.number
-            passing.now.observations.announced) }
+            passing.now.observations.announced passing.now.arrival.moment) }
         ensures free { passing.now.observations.announced ≡ None
             → (IsOk result) × (self.new ≡ self.old) }
     {
@@ -104,6 +113,9 @@ impl Core {
         let Some(said) = observations.announced else {
             return Ok(());
         };
+        if self.has_no_room(observations.node, said.mac, passing.arrival.moment) {
+            return Ok(());
+        }
         // A new node may push a forgotten one out of a full table: then an entry alone would not do.
         let hint = if observations.takes_no_place() {
             observations.node
