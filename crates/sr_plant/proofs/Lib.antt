@@ -10,4 +10,3 @@ pub mod OrderLemmas
 pub mod LandLemmas
 pub mod CarryLemmas
 pub mod CoupledLemmas
-mod EmptyLemmas

@@ -152,3 +152,7 @@ none_on kept (f ∷ fs) link none =
           let n : how_many (is_over link) fs ≡ 0 = rw not at none in
           rw not (ap (λ (cs : List Copy). copy_in kept f ∷ cs) (none_on kept fs link n))
     ]
+
+pub counted_turn : (counts : List ℕ) (fs : List Flying) → AreOnLinks counts fs → AreOnLinks counts (drop 1 fs ++ take 1 fs)
+counted_turn counts [] counted = counted
+counted_turn counts (f ∷ fs) counted = counted_turned counts fs f counted

@@ -65,7 +65,7 @@ pub record IsOneMore (over : ℕ → Bool) (fewer more : List ℕ) : Type 0 wher
   pub each : (link : ℕ) → link < length fewer
       → slice_index_or more link 0 ≡ (if over link then slice_index_or fewer link 0 + 1 else slice_index_or fewer link 0)
 
--- What clauses see of the queue of copies: the copies in their order, and for how many there is room.
+-- What clauses see of the queue of copies: the copies in their order, and for how many more there is room.
 pub record QueueValue : Type 0 where
   pub items : List Flying
-  pub capacity : ℕ
+  pub room : ℕ

@@ -33,7 +33,7 @@ pub(crate) struct Flight {
 }
 
 impl Model for Flight {
-    ghost use Rattle.std.specs.Prelude.{◌-◌, length};
+    ghost use Rattle.std.specs.Prelude.{◌-◌};
     ghost use Rattle.slab.specs.Slab.{slab_len};
     ghost use Rattle.sr_plant.specs.Plants.{FlightValue};
     ghost use Rattle.sr_plant.specs.Limits.{most_members};
@@ -45,7 +45,7 @@ impl Model for Flight {
     ghost view = { λ f. record {
       copies = copies_in f.kept f.places.items;
       parcels = f.kept.capacity - slab_len f.kept;
-      places = f.places.capacity - length f.places.items;
+      places = f.places.room;
     } };
 
     ghost invariant = { λ f. AreCounted f.kept f.places.items × AreUsed f.kept };

@@ -1,6 +1,6 @@
 //! A network as a value: its nodes, and what is between them.
 
-ghost use Rattle.std.specs.Prelude.{◌≡◌, ◌<◌, map, length, replicate, slice_get, slice_set, slice_index_or, option_map, []};
+ghost use Rattle.std.specs.Prelude.{◌≡◌, ◌<◌, map, length, slice_get, slice_set, slice_index_or, option_map, []};
 
 use crate::{Topology, Traffic};
 use sr_forwarding::{Parcel, Role};
@@ -22,15 +22,6 @@ pub struct PlantOf<R: Drop> {
 /// A plant of nodes over any role.
 pub type Plant = PlantOf<Box<dyn Role + Send>>;
 
-// Empties each list.
-fn empty_all(lists: &mut Vec<Vec<Parcel>>)
-    ensures { map (λ l. l.items) lists.new.items ≡ replicate (length lists.old.items) [] }
-{
-    for list in lists.iter_mut() {
-        list.clear();
-    }
-}
-
 impl<R: Role> PlantOf<R> {
     /// How many nodes it has.
     pub fn node_count(&self) -> usize
@@ -44,17 +35,6 @@ impl<R: Role> PlantOf<R> {
         ensures { result.now ≡ self.now.handed.items }
     {
         self.handed.as_slice()
-    }
-
-    /// Drops all that was handed up. Everything else stays.
-    pub fn drop_handed(&mut self)
-        ensures handed { map (λ h. h.items) self.new.handed.items
-            ≡ replicate (length self.old.handed.items) [] }
-        ensures topology { self.new.topology ≡ self.old.topology }
-        ensures nodes { self.new.nodes ≡ self.old.nodes }
-        ensures traffic { self.new.traffic ≡ self.old.traffic }
-    {
-        empty_all(&mut self.handed);
     }
 
     /// Drops what a node handed up. Everything else stays.

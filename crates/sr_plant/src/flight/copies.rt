@@ -26,7 +26,7 @@ pub(crate) struct Flying {
 
 /// Puts one more copy of a parcel that is kept behind all others.
 pub(crate) fn attach(kept: &mut Slab<Kept>, places: &mut Queue, flying: Flying)
-    requires room { length places.old.items < places.old.capacity }
+    requires room { 0 < places.old.room }
     requires counted { AreCounted kept.old places.old.items }
     requires used { AreUsedBut flying.key kept.old }
     requires there { IsSome (get kept.old flying.key) }
@@ -38,8 +38,7 @@ pub(crate) fn attach(kept: &mut Slab<Kept>, places: &mut Queue, flying: Flying)
     ensures parcel { parcel_of (get kept.new flying.key) ≡ parcel_of (get kept.old flying.key) }
     ensures kept_len { slab_len kept.new ≡ slab_len kept.old }
     ensures kept_capacity { kept.new.capacity ≡ kept.old.capacity }
-    ensures len { length places.new.items ≡ length places.old.items + 1 }
-    ensures capacity { places.new.capacity ≡ places.old.capacity }
+    ensures room { places.old.room ≤ places.new.room + 1 }
 {
     places.put_last(flying);
     add_copy(kept, flying.key);
@@ -57,7 +56,7 @@ fn look_at(kept: &mut Slab<Kept>, places: &mut Queue, first: Flying, link: usize
         ++ filter (λ c. not (is_on link c)) (copy_in kept.old first ∷ []) }
 {
     if first.hop.is_on(link) {
-        let _ = places.remove(0);
+        let _ = places.pop_front();
         drop_copy(kept, first.key);
         return;
     }
@@ -94,7 +93,7 @@ fn put_copy(
     requires node { outlet.node < outlet.nodes }
     requires joined { IsJoinedAs outlet.topology outlet.nodes }
     requires to { to < outlet.nodes }
-    requires room { length places.old.items < places.old.capacity }
+    requires room { 0 < places.old.room }
     requires counted { AreCounted kept.old places.old.items }
     requires used { AreUsedBut key kept.old }
     requires there { IsSome (get kept.old key) }
@@ -108,8 +107,7 @@ fn put_copy(
     ensures parcel { parcel_of (get kept.new key) ≡ parcel_of (get kept.old key) }
     ensures kept_len { slab_len kept.new ≡ slab_len kept.old }
     ensures kept_capacity { kept.new.capacity ≡ kept.old.capacity }
-    ensures len { length places.new.items ≤ length places.old.items + 1 }
-    ensures capacity { places.new.capacity ≡ places.old.capacity }
+    ensures room { places.old.room ≤ places.new.room + 1 }
 {
     let Some(hop) = outlet.hop(to) else {
         return;
@@ -137,7 +135,7 @@ pub(crate) fn put_copies(
     requires small { outlet.nodes ≤ most_members }
     requires node { outlet.node < outlet.nodes }
     requires joined { IsJoinedAs outlet.topology outlet.nodes }
-    requires room { length places.old.items + outlet.nodes ≤ places.old.capacity }
+    requires room { outlet.nodes ≤ places.old.room }
     requires counted { AreCounted kept.old places.old.items }
     requires used { AreUsedBut key kept.old }
     requires there { IsSome (get kept.old key) }
@@ -149,8 +147,7 @@ pub(crate) fn put_copies(
         (parcel_of (get kept.old key))) }
     ensures kept_len { slab_len kept.new ≡ slab_len kept.old }
     ensures kept_capacity { kept.new.capacity ≡ kept.old.capacity }
-    ensures len { length places.new.items ≤ length places.old.items + outlet.nodes }
-    ensures capacity { places.new.capacity ≡ places.old.capacity }
+    ensures room { places.old.room ≤ places.new.room + outlet.nodes }
 {
     // speed: D-plant-neighbours
     let (first, behind) = outlet.reach();

@@ -8,26 +8,26 @@ ghost use Rattle.sr_plant.specs.Flights.{is_over};
 use super::copies::Flying;
 use super::counts::{add_hop, drop_hop};
 use sr_frame::NoMemory;
+use sr_unrolled_list::UnrolledList;
 use std::alloc::Global;
-use std::collections::VecDeque;
 use std::marker::Model;
 
 /// The copies in flight, in the order in which they were put out.
 #[derive(Drop)]
 pub(crate) struct Queue {
-    places: VecDeque<Flying>,
+    // speed: D-plant-pieces
+    places: UnrolledList<Flying>,
     // For each link, how many of the copies are on it.
     // speed: D-plant-counts
     counts: Vec<usize>,
 }
 
 impl Model for Queue {
-    ghost use Rattle.std.specs.VecDeque.{deque_capacity};
     ghost use Rattle.sr_plant.specs.Flights.{QueueValue, AreOnLinks};
 
     ghost Value = { QueueValue };
 
-    ghost view = { λ q. record { items = q.places.items; capacity = deque_capacity q.places } };
+    ghost view = { λ q. record { items = q.places.items; room = q.places.room } };
 
     ghost invariant = { λ q. AreOnLinks q.counts.items q.places.items };
 }
@@ -38,10 +38,8 @@ impl Queue {
         ensures { IfOk result (λ q. q.items ≡ []) }
     {
         let counts = Vec::from_elem(alloc, 0, links)?;
-        Ok(Queue {
-            places: VecDeque::new(alloc),
-            counts,
-        })
+        let places = UnrolledList::new(alloc)?;
+        Ok(Queue { places, counts })
     }
 
     /// How many copies there are.
@@ -54,7 +52,7 @@ impl Queue {
     /// Makes room for so many more copies. `NoMemory` where the allocation fails. The copies stay the same.
     pub(crate) fn reserve(&mut self, additional: usize) -> Result<(), NoMemory>
         ensures items { self.new.items ≡ self.old.items }
-        ensures room { OnOk result (length self.new.items + additional ≤ self.new.capacity) }
+        ensures room { OnOk result (additional ≤ self.new.room) }
     {
         self.places.reserve(additional)?;
         Ok(())
@@ -80,24 +78,31 @@ impl Queue {
 
     /// Puts a copy behind all others.
     pub(crate) fn put_last(&mut self, flying: Flying)
-        requires { length self.old.items < self.old.capacity }
+        requires { 0 < self.old.room }
         ensures items { self.new.items ≡ self.old.items ++ flying ∷ [] }
-        ensures capacity { self.new.capacity ≡ self.old.capacity }
+        ensures room { self.old.room ≤ self.new.room + 1 }
         ensures few { length self.new.items ≤ 18446744073709551615 }
     {
-        add_hop(&mut self.counts, flying.hop);
         self.places.push_back_reserved(flying);
+        add_hop(&mut self.counts, flying.hop);
     }
 
     /// Moves the first copy, if there is one, behind all others.
     pub(crate) fn turn(&mut self)
         ensures items { (first : Flying) (rest : List Flying) → self.old.items ≡ first ∷ rest
             → self.new.items ≡ rest ++ first ∷ [] }
-        ensures capacity { self.new.capacity ≡ self.old.capacity }
     {
-        if let Some(first) = self.places.pop_front() {
-            self.places.push_back_reserved(first);
-        }
+        self.places.turn();
+    }
+
+    /// Takes the first copy out, if there is one.
+    pub(crate) fn pop_front(&mut self) -> Option<Flying>
+        ensures items { (first : Flying) (rest : List Flying) → self.old.items ≡ first ∷ rest
+            → self.new.items ≡ rest }
+    {
+        let removed = self.places.pop_front()?;
+        drop_hop(&mut self.counts, removed.hop);
+        Some(removed)
     }
 
     /// Takes the copy at a place out, if there is one. The room for it stays.
@@ -106,7 +111,7 @@ impl Queue {
         ensures item { IfSome result (λ f. f ≡ slice_index_or self.old.items place f) }
         ensures items { place < length self.old.items
             → self.new.items ≡ remove self.old.items place }
-        ensures capacity { self.new.capacity ≡ self.old.capacity }
+        ensures room { self.old.room ≤ self.new.room }
     {
         let removed = self.places.remove(place)?;
         drop_hop(&mut self.counts, removed.hop);

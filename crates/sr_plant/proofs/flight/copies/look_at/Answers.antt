@@ -12,8 +12,7 @@ pub returns-then-is_on-clause-copies : goal.returns-then-is_on-clause-copies
 returns-then-is_on-clause-copies c =
     let e = c.drop_copy.ensures in
     let whole = subst (λ (fs : List Flying). AreCounted c.args.kept.now fs) c.requires.first c.requires.counted in
-    let long = ap length c.requires.first in
-    let gone = c.remove.ensures.items (omega (arith, long)) in
+    let gone = c.pop_front.ensures.items c.args.first (drop 1 c.args.places.now.items) c.requires.first in
     ap (copies_in c.drop_copy.new.kept) gone
     ∙ (looked_lost c.args.kept.now c.drop_copy.new.kept (drop 1 c.args.places.now.items) c.args.first c.args.link whole e.fewer e.parcel e.others (sym c.is_on.ensures ∙ c.if-is_on.true)).1
 
@@ -21,8 +20,7 @@ pub returns-then-is_on-clause-counted : goal.returns-then-is_on-clause-counted
 returns-then-is_on-clause-counted c =
     let e = c.drop_copy.ensures in
     let whole = subst (λ (fs : List Flying). AreCounted c.args.kept.now fs) c.requires.first c.requires.counted in
-    let long = ap length c.requires.first in
-    let gone = c.remove.ensures.items (omega (arith, long)) in
+    let gone = c.pop_front.ensures.items c.args.first (drop 1 c.args.places.now.items) c.requires.first in
     subst (λ (fs : List Flying). AreCounted c.drop_copy.new.kept fs) (sym gone)
     (looked_lost c.args.kept.now c.drop_copy.new.kept (drop 1 c.args.places.now.items) c.args.first c.args.link whole e.fewer e.parcel e.others (sym c.is_on.ensures ∙ c.if-is_on.true)).0
 

@@ -22,8 +22,7 @@ loop-to-init c =
       parcel = refl;
       kept_len = refl;
       kept_capacity = refl;
-      len = omega arith;
-      capacity = refl;
+      room = omega arith;
     }
 
 pub loop-to-preserved : goal.loop-to-preserved
@@ -42,8 +41,7 @@ loop-to-preserved c =
       parcel = e.parcel ∙ l.parcel;
       kept_len = e.kept_len ∙ l.kept_len;
       kept_capacity = e.kept_capacity ∙ l.kept_capacity;
-      len = omega arith;
-      capacity = e.capacity ∙ l.capacity;
+      room = omega arith;
     }
 
 pub returns-clause-copies : goal.returns-clause-copies

@@ -1,4 +1,4 @@
-use Rattle.std.proofs.Common.{◌≡◌, ◌≤◌, ◌+◌, ◌++◌, map, length, IsSome}
+use Rattle.std.proofs.Common.{◌≡◌, ◌≤◌, ◌+◌, ◌++◌, map, IsSome}
 use Rattle.slab.specs.Slab.{get, slab_len}
 use Rattle.sr_plant.specs.Flights.{AreCounted, AreUsedBut, copies_in, parcel_of}
 use Rattle.sr_plant.specs.Puts.{copy_over, those_passing, hop_to, hops_below}
@@ -16,6 +16,5 @@ invariant-loop-to l = record {
   parcel : parcel_of (get l.kept l.key) ≡ parcel_of (get l.fn.kept l.key);
   kept_len : slab_len l.kept ≡ slab_len l.fn.kept;
   kept_capacity : l.kept.capacity ≡ l.fn.kept.capacity;
-  len : length l.places.items ≤ length l.fn.places.items + l.to;
-  capacity : l.places.capacity ≡ l.fn.places.capacity;
+  room : l.fn.places.room ≤ l.places.room + l.to;
 }

@@ -6,9 +6,9 @@ use Rattle.sr_plant.proofs.flight.queue.Queue.remove.Goals as goal
 
 pub drop_hop-requires : goal.drop_hop-requires
 drop_hop-requires c link within over =
-    some_on c.self.inside.counts.items c.self.inside.places.items c.args.place c.in_ok-removed.removed link (search (rules, arith)) c.in_ok-removed.ensures.value c.self.invariant within over
+    some_on c.self.inside.counts.items c.self.inside.places.items c.args.place c.in_ok-removed.removed link (search (rules, arith)) c.in_ok-removed.ensures.item c.self.invariant within over
 
 pub invariant_of-self-2 : goal.invariant_of-self-2
 invariant_of-self-2 c =
     subst (λ (fs : List Flying). AreOnLinks c.drop_hop.new.counts.items fs) (sym c.in_ok-removed.ensures.items)
-    (counted_less c.self.inside.counts.items c.drop_hop.new.counts.items c.self.inside.places.items c.args.place c.in_ok-removed.removed (search (rules, arith)) c.in_ok-removed.ensures.value c.self.invariant c.drop_hop.ensures)
+    (counted_less c.self.inside.counts.items c.drop_hop.new.counts.items c.self.inside.places.items c.args.place c.in_ok-removed.removed (search (rules, arith)) c.in_ok-removed.ensures.item c.self.invariant c.drop_hop.ensures)
