@@ -1,9 +1,18 @@
--- Why an event is not entered.
-use Rattle.std.specs.Prelude.{ℕ, ◌+◌, ◌^◌, Bool, true, false, not, nat_lt, nat_eq, ◌||◌, Option, None, Some}
+-- What entering an event comes to, and why it is refused.
+use Rattle.std.specs.Prelude.{◌≡◌, ℕ, ◌+◌, ◌^◌, Bool, true, false, not, nat_lt, nat_eq, ◌||◌, Option, None, Some}
+use Rattle.std.specs.Prelude.{List, [], ◌∷◌, ◌++◌, IfOk, IfErr, OnErr}
+use Rattle.std.specs.declared.result.Result.{Result}
+use Rattle.sr_node.specs.declared.event.Event.{Event}
+use Rattle.sr_node.specs.declared.event.Answer.{Answer}
+use Rattle.sr_node.specs.Images.{State}
+use Rattle.sr_node.specs.Steps.{refusal_of}
 use Rattle.sr_node.specs.declared.fault.StepFault.{StepFault}
 use Rattle.sr_node.specs.declared.fault.StepFault.TheVariants.{NoMemory}
 use Rattle.sr_ports.specs.declared.fault.EnterFault.{EnterFault}
 use Rattle.sr_ports.specs.declared.fault.EnterFault.TheVariants.{Step, JournalFull}
+use Rattle.sr_ports.specs.declared.entry.Entry.{Entry}
+use Rattle.sr_ports.specs.declared.worker.Worker.{Worker}
+use Rattle.sr_ports.specs.Histories.{EnteredAs, entry}
 use Rattle.sr_ports.specs.Limits.{most_entries}
 
 -- a journal takes no more entries: it has as many as it may have, or all journals together have as many as the book can say
@@ -15,3 +24,12 @@ abbrev pub enter_fault : Option StepFault → Bool → EnterFault
 enter_fault (Some f) full = Step f
 enter_fault None true = JournalFull
 enter_fault None false = Step NoMemory
+
+-- where the journal has room, the node takes the event, and its entry is the last; or both stay as they are
+pub record IsEntered (s : State) (journal : List Entry) (worker : Worker) (event : Event) (result : Result Answer EnterFault)
+    (t : State) (written : List Entry) : Type 0 where
+  pub entered : IfOk result (λ a. EnteredAs s event a t)
+  pub entry : IfOk result (λ a. written ≡ journal ++ entry worker event a ∷ [])
+  pub err : IfErr result (λ f. f ≡ enter_fault (refusal_of s event) false)
+  pub node : OnErr result (t ≡ s)
+  pub journal_stays : OnErr result (written ≡ journal)

@@ -4,11 +4,11 @@ ghost use Rattle.std.specs.Prelude.{◌≡◌, ◌+◌, ◌++◌, ◌∷◌, [],
 ghost use Rattle.sr_node.specs.States.{state_of};
 ghost use Rattle.sr_node.specs.Steps.{Step, refusal_of};
 ghost use Rattle.sr_ports.specs.Histories.{entry};
-ghost use Rattle.sr_ports.specs.Entering.{is_journal_full, enter_fault};
+ghost use Rattle.sr_ports.specs.Entering.{is_journal_full, enter_fault, IsEntered};
 
 use crate::{EnterFault, Entry, Kept, Pass, Worker};
-use sr_forwarding::Role;
-use sr_frame::NoMemory;
+use sr_forwarding::{Parcel, Role};
+use sr_frame::{Frame, NoMemory, Port};
 use sr_node::{Answer, Event, NodeOf};
 use std::sync::ledger::Ledger;
 
@@ -88,15 +88,8 @@ fn written<R: Role>(
     event: &Event,
 ) -> Result<Answer, EnterFault>
     requires { vec_len journal.old < vec_capacity journal.old }
-    ensures step { IfOk result (λ a. Step (state_of R.meaning node.old) event.now a
-        (state_of R.meaning node.new)) }
-    ensures taken { OnOk result (refusal_of (state_of R.meaning node.old) event.now ≡ None) }
-    ensures entry { IfOk result (λ a. journal.new.items
-        ≡ journal.old.items ++ entry worker event.now a ∷ []) }
-    ensures err { IfErr result (λ f. f ≡ enter_fault (refusal_of (state_of R.meaning node.old)
-        event.now) false) }
-    ensures node { OnErr result (state_of R.meaning node.new ≡ state_of R.meaning node.old) }
-    ensures journal { OnErr result (journal.new.items ≡ journal.old.items) }
+    ensures { IsEntered (state_of R.meaning node.old) journal.old.items worker event.now result
+        (state_of R.meaning node.new) journal.new.items }
 {
     if let Event::Take { port } = event
         && node.front(*port).is_none()
@@ -111,8 +104,8 @@ fn written<R: Role>(
     stepped(node, journal, worker, event)
 }
 
-// A step that the node takes, with its entry. The copies are made before the step. Each kind of event has an arm of its own, so that
-// nothing is asked of the answer that the kind tells, and its entry is made where it lies.
+// A step that the node takes, with its entry. Each kind of event has a function of its own, so that nothing is asked of the answer
+// that the kind tells, and its entry is made where it lies.
 #[inline(never)]
 fn stepped<R: Role>(
     node: &mut NodeOf<R>,
@@ -121,96 +114,149 @@ fn stepped<R: Role>(
     event: &Event,
 ) -> Result<Answer, EnterFault>
     requires { vec_len journal.old < vec_capacity journal.old }
-    ensures step { IfOk result (λ a. Step (state_of R.meaning node.old) event.now a
-        (state_of R.meaning node.new)) }
-    ensures taken { OnOk result (refusal_of (state_of R.meaning node.old) event.now ≡ None) }
-    ensures entry { IfOk result (λ a. journal.new.items
-        ≡ journal.old.items ++ entry worker event.now a ∷ []) }
-    ensures err { IfErr result (λ f. f ≡ enter_fault (refusal_of (state_of R.meaning node.old)
-        event.now) false) }
-    ensures node { OnErr result (state_of R.meaning node.new ≡ state_of R.meaning node.old) }
-    ensures journal { OnErr result (journal.new.items ≡ journal.old.items) }
+    ensures { IsEntered (state_of R.meaning node.old) journal.old.items worker event.now result
+        (state_of R.meaning node.new) journal.new.items }
 {
     match event {
         Event::Arrive { port, parcel, now } => {
-            let twin = match parcel.try_clone(*journal.allocator()) {
-                Ok(twin) => twin,
-                Err(refused) => return Err(unmet(node, event, refused)),
-            };
-            let answer = node.step(event)?;
-            let again = match &answer {
-                Answer::Own => Answer::Own,
-                Answer::Passed(ports) => Answer::Passed(ports.copy()),
-                _ => unreachable!(),
-            };
-            journal.push_reserved(Entry {
-                worker,
-                event: Event::Arrive {
-                    port: *port,
-                    parcel: twin,
-                    now: *now,
-                },
-                answer: again,
-            });
-            Ok(answer)
+            arrived(node, journal, worker, event, *port, parcel, *now)
         }
-        Event::Send { frame, now } => {
-            let twin = match frame.try_clone(*journal.allocator()) {
-                Ok(twin) => twin,
-                Err(refused) => return Err(unmet(node, event, refused)),
-            };
-            let Answer::Sent(number) = node.step(event)? else {
-                unreachable!()
-            };
-            journal.push_reserved(Entry {
-                worker,
-                event: Event::Send {
-                    frame: twin,
-                    now: *now,
-                },
-                answer: Answer::Sent(number),
-            });
-            Ok(Answer::Sent(number))
-        }
-        Event::Tick { now } => {
-            let Answer::Ticked {
-                sources,
-                nodes,
-                proxies,
-                life,
-            } = node.step(event)?
-            else {
-                unreachable!()
-            };
-            journal.push_reserved(Entry {
-                worker,
-                event: Event::Tick { now: *now },
-                answer: Answer::Ticked {
-                    sources,
-                    nodes,
-                    proxies,
-                    life,
-                },
-            });
-            Ok(Answer::Ticked {
-                sources,
-                nodes,
-                proxies,
-                life,
-            })
-        }
-        Event::Take { port } => {
-            let copy = match node.front(*port) {
-                Some(parcel) => Some(parcel.try_clone(*journal.allocator())?),
-                None => None,
-            };
-            let taken = node.take(*port);
-            journal.push_reserved(Entry {
-                worker,
-                event: Event::Take { port: *port },
-                answer: Answer::Taken(copy),
-            });
-            Ok(Answer::Taken(taken))
-        }
+        Event::Send { frame, now } => sent(node, journal, worker, event, frame, *now),
+        Event::Tick { now } => ticked(node, journal, worker, event, *now),
+        Event::Take { port } => took(node, journal, worker, *port),
     }
+}
+
+// A frame comes in. Its copy for the journal is made before the step.
+#[inline(always)]
+fn arrived<R: Role>(
+    node: &mut NodeOf<R>,
+    journal: &mut Vec<Entry>,
+    worker: Worker,
+    event: &Event,
+    port: Port,
+    parcel: &Parcel,
+    now: u64,
+) -> Result<Answer, EnterFault>
+    requires room { vec_len journal.old < vec_capacity journal.old }
+    requires event { event.now ≡ Event.Arrive port parcel.now now }
+    ensures { IsEntered (state_of R.meaning node.old) journal.old.items worker event.now result
+        (state_of R.meaning node.new) journal.new.items }
+{
+    let twin = match parcel.try_clone(*journal.allocator()) {
+        Ok(twin) => twin,
+        Err(refused) => return Err(unmet(node, event, refused)),
+    };
+    let answer = node.step(event)?;
+    let again = match &answer {
+        Answer::Own => Answer::Own,
+        Answer::Passed(ports) => Answer::Passed(ports.copy()),
+        _ => unreachable!(),
+    };
+    journal.push_reserved(Entry {
+        worker,
+        event: Event::Arrive {
+            port,
+            parcel: twin,
+            now,
+        },
+        answer: again,
+    });
+    Ok(answer)
+}
+
+// The host sends a frame. Its copy for the journal is made before the step.
+#[inline(always)]
+fn sent<R: Role>(
+    node: &mut NodeOf<R>,
+    journal: &mut Vec<Entry>,
+    worker: Worker,
+    event: &Event,
+    frame: &Frame,
+    now: u64,
+) -> Result<Answer, EnterFault>
+    requires room { vec_len journal.old < vec_capacity journal.old }
+    requires event { event.now ≡ Event.Send frame.now now }
+    ensures { IsEntered (state_of R.meaning node.old) journal.old.items worker event.now result
+        (state_of R.meaning node.new) journal.new.items }
+{
+    let twin = match frame.try_clone(*journal.allocator()) {
+        Ok(twin) => twin,
+        Err(refused) => return Err(unmet(node, event, refused)),
+    };
+    let Answer::Sent(number) = node.step(event)? else {
+        unreachable!()
+    };
+    journal.push_reserved(Entry {
+        worker,
+        event: Event::Send { frame: twin, now },
+        answer: Answer::Sent(number),
+    });
+    Ok(Answer::Sent(number))
+}
+
+// Time passes.
+#[inline(always)]
+fn ticked<R: Role>(
+    node: &mut NodeOf<R>,
+    journal: &mut Vec<Entry>,
+    worker: Worker,
+    event: &Event,
+    now: u64,
+) -> Result<Answer, EnterFault>
+    requires room { vec_len journal.old < vec_capacity journal.old }
+    requires event { event.now ≡ Event.Tick now }
+    ensures { IsEntered (state_of R.meaning node.old) journal.old.items worker event.now result
+        (state_of R.meaning node.new) journal.new.items }
+{
+    let Answer::Ticked {
+        sources,
+        nodes,
+        proxies,
+        life,
+    } = node.step(event)?
+    else {
+        unreachable!()
+    };
+    journal.push_reserved(Entry {
+        worker,
+        event: Event::Tick { now },
+        answer: Answer::Ticked {
+            sources,
+            nodes,
+            proxies,
+            life,
+        },
+    });
+    Ok(Answer::Ticked {
+        sources,
+        nodes,
+        proxies,
+        life,
+    })
+}
+
+// The first parcel that waits at a port is taken. Its copy for the journal is made before that.
+#[inline(always)]
+fn took<R: Role>(
+    node: &mut NodeOf<R>,
+    journal: &mut Vec<Entry>,
+    worker: Worker,
+    port: Port,
+) -> Result<Answer, EnterFault>
+    requires { vec_len journal.old < vec_capacity journal.old }
+    ensures { IsEntered (state_of R.meaning node.old) journal.old.items worker (Event.Take port)
+        result (state_of R.meaning node.new) journal.new.items }
+{
+    let copy = match node.front(port) {
+        Some(parcel) => Some(parcel.try_clone(*journal.allocator())?),
+        None => None,
+    };
+    let taken = node.take(port);
+    journal.push_reserved(Entry {
+        worker,
+        event: Event::Take { port },
+        answer: Answer::Taken(copy),
+    });
+    Ok(Answer::Taken(taken))
 }

@@ -2,15 +2,14 @@
 
 ghost use Rattle.std.specs.Prelude.{◌≡◌, ◌↔◌, IsTrue, IfSome, IfNone};
 ghost use Rattle.sr_node.specs.NodeImages.{image_state, items_of};
-ghost use Rattle.sr_ports.specs.Parts.{part, entries_in, logs_of, Agrees};
 ghost use Rattle.sr_ports.specs.Settling.{Follows, AreWhole, IsTorn, IsSettlementOfAll};
 
-use crate::settling::{behind_part, next_log};
-use crate::{Log, Segment, Settlement, Worker};
+use crate::rests::Rests;
+use crate::{Log, Segment, Settlement};
 use sr_dup_table::equal_where_the_sources_are;
 use sr_forwarding::Parcel;
 use sr_frame::Mac;
-use sr_node::{Answer, Event, NodeImage};
+use sr_node::NodeImage;
 use sr_node_table::equal_where_the_tables_are;
 
 /// `Torn` exactly where a segment does not follow the one before, and names the first; else as `settle` of the entries of all
@@ -21,49 +20,13 @@ pub fn settle_all(segments: &[Segment], logs: &[Log]) -> Settlement
     if let Some(at) = torn(segments) {
         return Settlement::Torn(at);
     }
-    if !agrees(Worker::A, segments, logs) {
-        return Settlement::Disagrees(Worker::A);
-    }
-    if !agrees(Worker::B, segments, logs) {
-        return Settlement::Disagrees(Worker::B);
-    }
-    if !agrees(Worker::C, segments, logs) {
-        return Settlement::Disagrees(Worker::C);
-    }
-    if !agrees(Worker::Ager, segments, logs) {
-        return Settlement::Disagrees(Worker::Ager);
-    }
-    if !agrees(Worker::Host, segments, logs) {
-        return Settlement::Disagrees(Worker::Host);
-    }
-    Settlement::Settled
-}
-
-fn agrees(worker: Worker, segments: &[Segment], logs: &[Log]) -> bool
-    ensures { IsTrue result ↔ (Agrees worker (entries_in segments.now) logs.now) }
-{
-    let (found, rest) = next_log(worker, logs);
-    let Some(log) = found else {
-        return is_part(worker, segments, &[]);
-    };
-    let (second, _) = next_log(worker, rest);
-    second.is_none() && is_part(worker, segments, log.pairs.as_slice())
-}
-
-// Whether these pairs are the worker's part of the entries of all segments.
-fn is_part(worker: Worker, segments: &[Segment], pairs: &[(Event, Answer)]) -> bool
-    ensures { IsTrue result ↔ (part worker (entries_in segments.now) ≡ pairs.now) }
-{
+    let mut rests = Rests::of(logs);
     let mut segments_left = segments;
-    let mut left = pairs;
     while let Some((segment, behind)) = segments_left.split_first() {
         segments_left = behind;
-        let Some(rest) = behind_part(worker, segment.entries.as_slice(), left) else {
-            return false;
-        };
-        left = rest;
+        rests.walk(segment.entries.as_slice());
     }
-    left.is_empty()
+    rests.settlement()
 }
 
 // The first segment that does not follow the one before.
