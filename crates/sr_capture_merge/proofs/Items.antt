@@ -13,8 +13,12 @@ use Rattle.sr_capture_script.specs.declared.choice.Choice.{Choice}
 use Rattle.sr_capture_script.specs.declared.choice.Inlet.{Inlet}
 use Rattle.sr_capture_script.specs.Items.{Item}
 use Rattle.sr_capture_script.specs.Texts.{is_wanted, time_since}
+use Rattle.sr_capture_merge.specs.declared.counts.Counts.{Counts}
 use Rattle.sr_capture_merge.specs.declared.plan.Plan.{Plan}
-use Rattle.sr_capture_merge.specs.Reading.{IsReadIf, is_whole, side_at, IsItemRead, AreRead}
+use Rattle.sr_capture_merge.specs.Counted.{AreLeftOut}
+use Rattle.sr_capture_merge.specs.Counting.{CountsLeftOut}
+use Rattle.sr_capture_merge.specs.Reading.{IsReadIf, is_whole, was_cut, is_long, side_at, IsItemRead, AreRead}
+use Rattle.sr_capture_merge.proofs.Counted.{left_out_more}
 use Rattle.sr_merge.specs.Merging.{Read}
 
 -- one packet more is read
@@ -64,3 +68,22 @@ item_unwanted choice plan start moment item unwanted when =
     let want : is_wanted choice (time_since start item.moment) ≡ false = ap (λ t. is_wanted choice (time_since start t)) when ∙ unwanted in
     subst (λ b. IsReadIf (b && is_whole item.packet.extent (length item.packet.octets)) plan (side_at item.inlet) (min item.number (2 ^ 64 - 1))
     (item.moment - start) item.packet.octets []) (sym want) refl
+
+-- a packet that is left out is counted as the item that it shows, if it is wanted
+pub left_out_shown : (choice : Choice) (start : ℕ) (items : List Item) (moment : ℕ) (packet : Packet) (item : Item) (c new : Counts) →
+    is_wanted choice (time_since start moment) ≡ true → item.moment ≡ moment → Shows packet item.packet → AreLeftOut choice start items c →
+    CountsLeftOut (was_cut packet.extent) (is_long packet.extent packet.len) c new → AreLeftOut choice start (items ++ item ∷ []) new
+left_out_shown choice start items moment packet item c new wanted when shows h on =
+    let want : is_wanted choice (time_since start item.moment) ≡ true = ap (λ t. is_wanted choice (time_since start t)) when ∙ wanted in
+    left_out_more choice start items item (was_cut packet.extent) (is_long packet.extent packet.len) c new h
+    (ap (λ b. b && was_cut item.packet.extent) want ∙ ap was_cut (sym shows.extent))
+    (ap (λ b. b && is_long item.packet.extent (length item.packet.octets)) want
+    ∙ ap (λ e. is_long e (length item.packet.octets)) (sym shows.extent) ∙ ap (is_long packet.extent) (sym shows.len)) on
+
+pub left_out_unwanted : (choice : Choice) (start : ℕ) (items : List Item) (moment : ℕ) (item : Item) (c : Counts) →
+    is_wanted choice (time_since start moment) ≡ false → item.moment ≡ moment → AreLeftOut choice start items c →
+    AreLeftOut choice start (items ++ item ∷ []) c
+left_out_unwanted choice start items moment item c unwanted when h =
+    let want : is_wanted choice (time_since start item.moment) ≡ false = ap (λ t. is_wanted choice (time_since start t)) when ∙ unwanted in
+    left_out_more choice start items item false false c c h (ap (λ b. b && was_cut item.packet.extent) want)
+    (ap (λ b. b && is_long item.packet.extent (length item.packet.octets)) want) (record { cut = refl; long = refl })

@@ -13,7 +13,7 @@ use Rattle.sr_forwarding.specs.Parcels.{ParcelImage}
 use Rattle.sr_audit.specs.declared.side.Side.{Side}
 use Rattle.sr_capture.specs.Limits.{longest_kept}
 use Rattle.sr_capture.specs.declared.packet.Extent.{Extent}
-use Rattle.sr_capture.specs.declared.packet.Extent.TheVariants.{Whole}
+use Rattle.sr_capture.specs.declared.packet.Extent.TheVariants.{Whole, Cut}
 use Rattle.sr_capture.specs.declared.packet.Packet.{Packet}
 use Rattle.sr_capture.specs.declared.fault.CaptureFault.{CaptureFault}
 use Rattle.sr_capture_script.specs.Captures.{file_at, IsDueFirst, HasNoFront, Advances, StopsAt, KeepsOthers}
@@ -40,14 +40,15 @@ use Rattle.sr_capture_merge.specs.Entries.{names_of, entry_of, entry_block, piec
 use Rattle.sr_capture_merge.specs.Remarks.{remark_of}
 use Rattle.sr_capture_merge.specs.Settling.{Settled, AreSettled, IsVerdict}
 use Rattle.sr_capture_merge.specs.declared.plan.Spelling.{Spelling}
-use Rattle.sr_capture_merge.specs.Reading.{side_at, frame_read, packet_read, IsPacketRead, IsReadIf, is_whole, AreRead}
+use Rattle.sr_capture_merge.specs.Reading.{side_at, frame_read, packet_read, IsPacketRead, IsReadIf, is_whole, was_cut, is_long, AreRead}
 use Rattle.sr_capture_merge.specs.Files.{entries_by, entries_one, merged_entries, merged_file, merged_body, Sink, sink, HasWritten, HasEnded, IsStop, WritesOn, TakesOn, EndsOn, EndsBy}
-use Rattle.sr_capture_merge.specs.Counted.{AreCountsOf}
+use Rattle.sr_capture_merge.specs.Counted.{AreCountsOf, AreLeftOut}
+use Rattle.sr_capture_merge.specs.Counting.{CountsLeftOut, more}
 use Rattle.sr_capture_merge.specs.declared.counts.Counts.{Counts}
 use Rattle.sr_capture_merge.specs.Merged.{IsMerging, HasStopped, MergesOn, MergesAll, MergesUntil, IsFileOf, IsFrontOf, whole, broken, IsMerged, IsMergedUpTo}
-use Rattle.sr_capture_merge.proofs.Counted.{untold_left}
+use Rattle.sr_capture_merge.proofs.Counted.{untold_left, left_out_kept}
 use Rattle.sr_capture_merge.proofs.Settled.{written_none, written_left, written_later, written_taken, ended_from}
-use Rattle.sr_capture_merge.proofs.Items.{read_more, item_read, item_unwanted}
+use Rattle.sr_capture_merge.proofs.Items.{read_more, item_read, item_unwanted, left_out_shown, left_out_unwanted}
 
 -- a file is its head and the pieces of its packets
 piece_is : (start early : ℕ) (comment : List ℕ) (p : Read) (shown : Bool) →
@@ -85,9 +86,9 @@ module _ {R : Type 0} (remaining : R → Option (List ℕ)) (choice : Choice) (p
   pub merging_none : (a b c : Option (List ℕ)) (all : Captures R) (first : Option Front) (m : Merging) (held : Sink) →
       IsFed remaining A a all.a [] → IsFed remaining B b all.b [] → IsFed remaining C c all.c [] → IfSome first (λ front. IsDueFirst all front) →
       IfNone first (HasNoFront all) → IfSome first (λ front. front.moment ≡ start) → m.sources ≡ [] → m.waiting ≡ [] → m.untold ≡ 0 →
-      AreCountsOf plan [] held.counts →
+      AreCountsOf plan [] held.counts → held.counts.cut ≡ 0 → held.counts.long ≡ 0 →
       IsMerging remaining choice plan start (feed_of all.a a) (feed_of all.b b) (feed_of all.c c) all first 0 m held held
-  merging_none a b c all first m held fed_a fed_b fed_c due none at sources waiting untold uncounted = record {
+  merging_none a b c all first m held fed_a fed_b fed_c due none at sources waiting untold uncounted cut long = record {
     out = [];
     come = come_none remaining a b c all fed_a fed_b fed_c;
     ahead = record { due = due; none = none; first = λ e. at };
@@ -96,6 +97,7 @@ module _ {R : Type 0} (remaining : R → Option (List ℕ)) (choice : Choice) (p
     taken = [];
     read = refl;
     written = written_none plan start m held sources waiting untold uncounted;
+    left_out = record { cut = cut; long = long };
   }
 
   -- a packet that is wanted
@@ -108,7 +110,7 @@ module _ {R : Type 0} (remaining : R → Option (List ℕ)) (choice : Choice) (p
       let more = comes_first remaining x y z before after front h.out h.ahead.due goes others h.come in
       let early = not_early remaining x y z before front start h.out h.ahead.due h.come in
       let le : now ≤ front.moment - start = subst (λ t. t ≤ front.moment - start) (sym h.time) early in
-      let own = takes h.taken now held le h.written in (
+      let own = takes.on h.taken now held le h.written in (
         record {
           out = h.out ++ more.item ∷ [];
           come = more.come;
@@ -120,6 +122,8 @@ module _ {R : Type 0} (remaining : R → Option (List ℕ)) (choice : Choice) (p
               (item_read choice plan start front.number front.inlet front.moment (file_at front.inlet before).packet more.item own.0 wanted
               more.at more.when more.number more.shown own.1);
           written = own.2;
+          left_out = left_out_shown choice start h.out front.moment (file_at front.inlet before).packet more.item mid.counts to.counts wanted
+              more.when more.shown h.left_out takes.left_out;
         },
         length_more h.out more.item,
       )
@@ -144,6 +148,7 @@ module _ {R : Type 0} (remaining : R → Option (List ℕ)) (choice : Choice) (p
               (read_more choice plan start h.out h.taken more.item [] h.read
               (item_unwanted choice plan start front.moment more.item unwanted more.when));
           written = written_later plan start h.taken now (front.moment - start) m held to le h.written;
+          left_out = left_out_unwanted choice start h.out front.moment more.item to.counts unwanted more.when h.left_out;
         },
         length_more h.out more.item,
       )
@@ -166,7 +171,8 @@ module _ {R : Type 0} (remaining : R → Option (List ℕ)) (choice : Choice) (p
         read = h.read;
         by = front.moment - start;
         time = tt;
-        written = stop h.taken now held le h.written;
+        written = stop.on h.taken now held le h.written;
+        left_out = left_out_kept choice start h.out mid.counts to.counts h.left_out stop.left_out;
       }
 
   -- a fault of its file behind it
@@ -179,7 +185,7 @@ module _ {R : Type 0} (remaining : R → Option (List ℕ)) (choice : Choice) (p
       let last = stops_first remaining x y z before front stops.0 (left_of remaining (file_at front.inlet after).reader) h.out h.ahead.due stops.2 h.come in
       let early = not_early remaining x y z before front start h.out h.ahead.due h.come in
       let le : now ≤ front.moment - start = subst (λ t. t ≤ front.moment - start) (sym h.time) early in
-      let own = takes h.taken now held le h.written in
+      let own = takes.on h.taken now held le h.written in
       let stopped : HasStopped choice plan start x y z (File front.inlet stops.0) (front.moment - start) new held to = record {
         out = h.out ++ last.item ∷ [];
         came = last.came;
@@ -191,6 +197,8 @@ module _ {R : Type 0} (remaining : R → Option (List ℕ)) (choice : Choice) (p
         by = front.moment - start;
         time = (sym (last_more start 0 h.out last.item ∙ ap (λ m. m - start) last.when), refl);
         written = own.2;
+        left_out = left_out_shown choice start h.out front.moment (file_at front.inlet before).packet last.item mid.counts to.counts wanted
+            last.when last.shows h.left_out takes.left_out;
       } in
       subst (λ f. HasStopped choice plan start x y z f (front.moment - start) new held to) (sym stops.1) stopped
 
@@ -213,6 +221,7 @@ module _ {R : Type 0} (remaining : R → Option (List ℕ)) (choice : Choice) (p
         by = front.moment - start;
         time = (sym (last_more start 0 h.out last.item ∙ ap (λ m. m - start) last.when), refl);
         written = written_later plan start h.taken now (front.moment - start) m held to le h.written;
+        left_out = left_out_unwanted choice start h.out front.moment last.item to.counts unwanted last.when h.left_out;
       } in
       subst (λ f. HasStopped choice plan start x y z f (front.moment - start) m held to) (sym stops.1) stopped
 
@@ -290,6 +299,7 @@ module _ {R : Type 0} (remaining : R → Option (List ℕ)) (choice : Choice) (p
     by = now;
     time = tt;
     written = h.written;
+    left_out = h.left_out;
   }
 
 -- it is counted that so many packets were taken as they came
@@ -300,8 +310,9 @@ told untold to = sink to.written (record to.counts { untold = untold })
 file_ended : (choice : Choice) (plan : Plan) (start : ℕ) (items : List Item) (until : ℕ → Option ℕ) (taken : List Read) (untold : ℕ)
     (held : Option (List ℕ)) (mid to : Sink) → StartsAt start items → AreRead choice plan start items taken →
     Appends held mid.written (file_head (names_of plan.network)) → untold ≡ (kept_of_all taken).untold →
-    HasEnded plan start taken (until (last_time start 0 items)) [] mid to → IsFileOf choice plan items until held (told untold to)
-file_ended choice plan start items until taken untold held mid to starts read head is e = record {
+    HasEnded plan start taken (until (last_time start 0 items)) [] mid to → AreLeftOut choice start items to.counts →
+    IsFileOf choice plan items until held (told untold to)
+file_ended choice plan start items until taken untold held mid to starts read head is e left = record {
   start = start;
   starts = starts;
   taken = taken;
@@ -311,13 +322,14 @@ file_ended choice plan start items until taken untold held mid to starts read he
   wrote = file_wrote plan start e.settled held mid.written to.written head e.wrote;
   counted = untold_left plan to.counts untold e.settled e.counted;
   untold = is;
+  left_out = record { cut = left.cut; long = left.long };
 }
 
 front_ended : (choice : Choice) (plan : Plan) (start : ℕ) (items : List Item) (until : Option ℕ) (taken : List Read) (left : List Pending)
     (untold : ℕ) (held : Option (List ℕ)) (mid to : Sink) → StartsAt start items → AreRead choice plan start items taken →
     Appends held mid.written (file_head (names_of plan.network)) → untold ≡ (kept_of_all taken).untold →
-    HasEnded plan start taken until left mid to → IsFrontOf choice plan items held (told untold to)
-front_ended choice plan start items until taken left untold held mid to starts read head is e = record {
+    HasEnded plan start taken until left mid to → AreLeftOut choice start items to.counts → IsFrontOf choice plan items held (told untold to)
+front_ended choice plan start items until taken left untold held mid to starts read head is e counted = record {
   start = start;
   starts = starts;
   taken = taken;
@@ -331,6 +343,7 @@ front_ended choice plan start items until taken left untold held mid to starts r
   wrote = file_wrote plan start e.settled held mid.written to.written head e.wrote;
   counted = untold_left plan to.counts untold e.settled e.counted;
   untold = is;
+  left_out = record { cut = counted.cut; long = counted.long };
 }
 
 -- all went well
@@ -343,7 +356,8 @@ merges_all remaining choice plan start x y z all now m untold held mid late to h
       merged = h.out;
       came = all_came remaining x y z all h.out h.come h.ahead.none;
       file = file_ended choice plan start h.out whole h.taken untold held mid to h.starts h.read head (is ∙ sym h.written.untold)
-          (ends h.taken mid (ended_from plan start h.taken None now m mid late tt h.written));
+          (ends.on h.taken mid (ended_from plan start h.taken None now m mid late tt h.written))
+          (left_out_kept choice start h.out late.counts to.counts h.left_out ends.left_out);
     }
 
 -- memory is refused behind the last packet
@@ -359,7 +373,8 @@ halts_last remaining choice plan start x y z all now m untold NoMemory held mid 
   merged = h.out;
   came = came_to remaining x y z all NoMemory h.out h.come refl refl refl tt;
   file = front_ended choice plan start h.out None h.taken ends.0 untold held mid to h.starts h.read head (is ∙ sym h.written.untold)
-      (ends.1 h.taken mid (ended_from plan start h.taken None now m mid late tt h.written));
+      (ends.1.on h.taken mid (ended_from plan start h.taken None now m mid late tt h.written))
+      (left_out_kept choice start h.out late.counts to.counts h.left_out ends.1.left_out);
 }
 
 -- a fault before the end: of memory, of counting, or of a file
@@ -369,7 +384,7 @@ front_stopped : (choice : Choice) (plan : Plan) (start : ℕ) (x y z : Feed) (ow
 front_stopped choice plan start x y z own now m untold held mid late head is h =
     let le : h.by ≤ h.by = omega arith in
     front_ended choice plan start h.out (Some h.by) h.taken m.waiting untold held mid late h.starts h.read head (is ∙ sym h.written.untold)
-    (ended_from plan start h.taken (Some h.by) h.by m mid late le h.written)
+    (ended_from plan start h.taken (Some h.by) h.by m mid late le h.written) h.left_out
 
 broken_file : (choice : Choice) (plan : Plan) (start : ℕ) (x y z : Feed) (inlet : Inlet) (own : CaptureFault) (fault : ScriptFault) (now : ℕ) (m : Merging)
     (untold : ℕ) (held : Option (List ℕ)) (mid late to : Sink) → Appends held mid.written (file_head (names_of plan.network)) → fault ≢ Write →
@@ -381,12 +396,16 @@ broken_file choice plan start x y z inlet own fault now m untold held mid late t
     elim ends [
       | inl (is, ended) ↦
           let e : HasEnded plan start h.taken (broken (last_time start 0 h.out)) [] mid to =
-          subst (λ t. HasEnded plan start h.taken (Some t) [] mid to) h.time.0 (ended h.taken mid from) in
+          subst (λ t. HasEnded plan start h.taken (Some t) [] mid to) h.time.0 (ended.on h.taken mid from) in
           let done : IsMergedUpTo choice plan x y z (File inlet own) held (told untold to) = record {
             own = File inlet own;
             merged = h.out;
             came = h.came;
-            file = (refl, file_ended choice plan start h.out broken h.taken untold held mid to h.starts h.read head (same ∙ sym h.written.untold) e);
+            file = (
+              refl,
+              file_ended choice plan start h.out broken h.taken untold held mid to h.starts h.read head (same ∙ sym h.written.untold) e
+                  (left_out_kept choice start h.out late.counts to.counts h.left_out ended.left_out),
+            );
           } in
           subst (λ f. IsMergedUpTo choice plan x y z f held (told untold to)) (sym is) done
       | inr stop ↦ by fault other stop
@@ -403,7 +422,8 @@ broken_file choice plan start x y z inlet own fault now m untold held mid late t
           merged = h.out;
           came = h.came;
           file = front_ended choice plan start h.out (Some now) h.taken stop.0 untold held mid to h.starts h.read head (same ∙ sym h.written.untold)
-              (stop.1 h.taken mid (ended_from plan start h.taken (Some now) h.by m mid late le h.written));
+              (stop.1.on h.taken mid (ended_from plan start h.taken (Some now) h.by m mid late le h.written))
+              (left_out_kept choice start h.out late.counts to.counts h.left_out stop.1.left_out);
         }
 
 pub halts_stopped : (choice : Choice) (plan : Plan) (start : ℕ) (x y z : Feed) (own fault : ScriptFault) (now : ℕ) (m : Merging) (untold : ℕ)
@@ -489,13 +509,43 @@ broken_by taken own fault plan start now old mid to e ends =
 -- a packet that is left out, and one that is taken
 pub left_out : (plan : Plan) (start : ℕ) (side : Side) (number time : ℕ) (packet : Packet) (m : Merging) (to later : Sink) →
     is_whole packet.extent packet.len ≡ false → later.written ≡ to.written →
-    ((xs : List Settled) → AreCountsOf plan xs to.counts → AreCountsOf plan xs later.counts) → TakesOn plan start side number time packet m m to later
-left_out plan start side number time packet m to later e same counts taken before held le h = (
-  [],
-  subst (λ b. IsReadIf b plan side number time packet.octets.items []) (sym e) refl,
-  subst (λ l. HasWritten plan start l time m held later) (sym (append-nil taken))
-      (written_left plan start taken time m held to later same counts (written_later plan start taken before time m held to le h)),
-)
+    ((xs : List Settled) → AreCountsOf plan xs to.counts → AreCountsOf plan xs later.counts) →
+    CountsLeftOut (was_cut packet.extent) (is_long packet.extent packet.len) to.counts later.counts →
+    TakesOn plan start side number time packet m m to later
+left_out plan start side number time packet m to later e same counts left = record {
+  left_out = left;
+  on = λ taken before held le h. (
+    [],
+    subst (λ b. IsReadIf b plan side number time packet.octets.items []) (sym e) refl,
+    subst (λ l. HasWritten plan start l time m held later) (sym (append-nil taken))
+        (written_left plan start taken time m held to later same counts (written_later plan start taken before time m held to le h)),
+  );
+}
+
+-- what is left out is counted as cut, or as too long
+pub cut_counted : (extent : Extent) (len : ℕ) (c : Counts) (n : ℕ) → extent ≡ Cut → n ≡ more c.cut →
+    CountsLeftOut (was_cut extent) (is_long extent len) c (record c { cut = n })
+cut_counted extent len c n e is =
+    subst (λ x. CountsLeftOut (was_cut x) (is_long x len) c (record c { cut = n })) (sym e) (record { cut = is; long = refl })
+
+long_so : (len : ℕ) → longest_kept < len → is_long Whole len ≡ true
+long_so len h = grind (arith, nat_tests)
+
+short_so : (len : ℕ) → len ≤ longest_kept → is_long Whole len ≡ false
+short_so len h = grind (arith, nat_tests)
+
+pub long_counted : (extent : Extent) (len : ℕ) (c : Counts) (n : ℕ) → extent ≡ Whole → longest_kept < len → n ≡ more c.long →
+    CountsLeftOut (was_cut extent) (is_long extent len) c (record c { long = n })
+long_counted extent len c n e h is =
+    subst (λ x. CountsLeftOut (was_cut x) (is_long x len) c (record c { long = n })) (sym e)
+    (subst (λ b. CountsLeftOut false b c (record c { long = n })) (sym (long_so len h)) (record { cut = refl; long = is }))
+
+whole_counted : (extent : Extent) (len : ℕ) (c new : Counts) → is_whole extent len ≡ true → CountsLeftOut false false c new →
+    CountsLeftOut (was_cut extent) (is_long extent len) c new
+whole_counted Cut len c new e h = cc
+whole_counted Whole len c new e h =
+    let fits : is_long Whole len ≡ false = short_so len (grind (arith, nat_tests, e)) in
+    subst (λ b. CountsLeftOut false b c new) (sym fits) h
 
 pub long_is : (extent : Extent) (len : ℕ) → extent ≡ Whole → longest_kept < len → is_whole extent len ≡ false
 long_is extent len e h = ap (λ x. is_whole x len) e ∙ too_long len h
@@ -523,14 +573,18 @@ pub taken_on : (plan own : Plan) (start : ℕ) (side : Side) (number time : ℕ)
     (from to : Sink) → is_whole packet.extent packet.len ≡ true → own ≡ plan → octets ≡ packet.octets.items →
     IsPacketRead own side number time octets p → WritesOn plan start time old mid from to → TakesIn mid p new →
     TakesOn plan start side number time packet old new from to
-taken_on plan own start side number time packet octets p old mid new from to e same is reads on takes taken before held le h =
+taken_on plan own start side number time packet octets p old mid new from to e same is reads writes takes =
     let read : IsPacketRead plan side number time packet.octets.items p =
     subst (λ l. IsPacketRead plan side number time l p) is (subst (λ q. IsPacketRead q side number time octets p) same reads) in
-    let when : p.came.time ≡ time = ap (λ r. r.came.time) read.2 ∙ packet_time plan.spelling side number time packet.octets.items read.0 in (
-      p ∷ [],
-      subst (λ b. IsReadIf b plan side number time packet.octets.items (p ∷ [])) (sym e) (p, refl, read),
-      written_taken plan start taken time mid new p held to (on taken before held le h) takes when,
-    )
+    let when : p.came.time ≡ time = ap (λ r. r.came.time) read.2 ∙ packet_time plan.spelling side number time packet.octets.items read.0 in
+    record {
+      left_out = whole_counted packet.extent packet.len from.counts to.counts e writes.left_out;
+      on = λ taken before held le h. (
+        p ∷ [],
+        subst (λ b. IsReadIf b plan side number time packet.octets.items (p ∷ [])) (sym e) (p, refl, read),
+        written_taken plan start taken time mid new p held to (writes.on taken before held le h) takes when,
+      );
+    }
 
 -- the whole of a call: what it was given, and what its parts did
 module _ {R T : Type 0} (remaining : R → Option (List ℕ)) (choice : Choice) (plan : Plan) (start : ℕ) (a b c : Option (List ℕ))
@@ -538,10 +592,11 @@ module _ {R T : Type 0} (remaining : R → Option (List ℕ)) (choice : Choice) 
     (taken : Result T ScriptFault) where
   pub begins : IsFed remaining A a all.a [] → IsFed remaining B b all.b [] → IsFed remaining C c all.c [] → IfSome first (λ front. IsDueFirst all front) →
       IfNone first (HasNoFront all) → IfSome first (λ front. front.moment ≡ start) → empty.sources ≡ [] → empty.waiting ≡ [] →
-      empty.untold ≡ 0 → AreCountsOf plan [] mid.counts →
+      empty.untold ≡ 0 → AreCountsOf plan [] mid.counts → mid.counts.cut ≡ 0 → mid.counts.long ≡ 0 →
       IsMerging remaining choice plan start (feed_of all.a a) (feed_of all.b b) (feed_of all.c c) all first 0 empty mid mid
-  begins fed_a fed_b fed_c due none at sources waiting none_told uncounted =
+  begins fed_a fed_b fed_c due none at sources waiting none_told uncounted none_cut none_long =
       merging_none remaining choice plan start a b c all first empty mid fed_a fed_b fed_c due none at sources waiting none_told uncounted
+      none_cut none_long
 
   pub ends_well : Appends held mid.written (file_head (names_of plan.network)) → untold ≡ m.untold →
       IsMerging remaining choice plan start (feed_of all.a a) (feed_of all.b b) (feed_of all.c c) all first 0 empty mid mid →
@@ -582,9 +637,9 @@ module _ {R T : Type 0} (remaining : R → Option (List ℕ)) (choice : Choice) 
 -- memory is refused before the first packet
 pub halts_first : {R : Type 0} (remaining : R → Option (List ℕ)) (choice : Choice) (plan : Plan) (a b c : Option (List ℕ)) (all : Captures R)
     (fault : ScriptFault) (held : Option (List ℕ)) (mid : Sink) → Appends held mid.written (file_head (names_of plan.network)) → fault ≡ NoMemory →
-    AreCountsOf plan [] mid.counts → mid.counts.untold ≡ 0 → IsFed remaining A a all.a [] → IsFed remaining B b all.b [] →
+    AreCountsOf plan [] mid.counts → mid.counts.untold ≡ 0 → mid.counts.cut ≡ 0 → mid.counts.long ≡ 0 → IsFed remaining A a all.a [] → IsFed remaining B b all.b [] →
     IsFed remaining C c all.c [] → IsMergedUpTo choice plan (feed_of all.a a) (feed_of all.b b) (feed_of all.c c) fault held mid
-halts_first remaining choice plan a b c all fault held mid head is uncounted none_told fed_a fed_b fed_c =
+halts_first remaining choice plan a b c all fault held mid head is uncounted none_told none_cut none_long fed_a fed_b fed_c =
     let come = come_none remaining a b c all fed_a fed_b fed_c in
     let nothing : Merging = record { sources = []; waiting = []; untold = 0 } in
     let le : 0 ≤ 0 = omega arith in
@@ -593,7 +648,8 @@ halts_first remaining choice plan a b c all fault held mid head is uncounted non
       merged = [];
       came = came_to remaining (feed_of all.a a) (feed_of all.b b) (feed_of all.c c) all NoMemory [] come refl refl refl tt;
       file = front_ended choice plan 0 [] (Some 0) [] [] mid.counts.untold held mid mid tt refl head none_told
-          (ended_from plan 0 [] (Some 0) 0 nothing mid mid le (written_none plan 0 nothing mid refl refl refl uncounted));
+          (ended_from plan 0 [] (Some 0) 0 nothing mid mid le (written_none plan 0 nothing mid refl refl refl uncounted))
+          (record { cut = none_cut; long = none_long });
     } in
     subst (λ f. IsMergedUpTo choice plan (feed_of all.a a) (feed_of all.b b) (feed_of all.c c) f held mid) (sym is) done
 

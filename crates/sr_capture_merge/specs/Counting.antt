@@ -1,5 +1,5 @@
 -- What is counted of the packets that are merged.
-use Rattle.std.specs.Prelude.{ℕ, ◌+◌, ◌-◌, ◌^◌, min, Bool, true, false, Option, None, Some}
+use Rattle.std.specs.Prelude.{◌≡◌, ℕ, ◌+◌, ◌-◌, ◌^◌, min, Bool, true, false, Option, None, Some, if◌then◌else◌}
 use Rattle.sr_audit.specs.declared.side.Side.{Side}
 use Rattle.sr_audit.specs.declared.side.Side.TheVariants.{A, B}
 use Rattle.sr_capture_merge.specs.declared.counts.Counts.{Counts}
@@ -31,3 +31,8 @@ with_packet p verdict c = counted_by p.came.side p.is_astray verdict (record c {
 abbrev pub counted_written : Bool → Counts → Counts
 counted_written true c = record c { written = more c.written }
 counted_written false c = c
+
+-- one packet more is counted as cut, and one more as too long, where these say so
+pub record CountsLeftOut (was_cut is_long : Bool) (old new : Counts) : Type 0 where
+  pub cut : new.cut ≡ (if was_cut then more old.cut else old.cut)
+  pub long : new.long ≡ (if is_long then more old.long else old.long)

@@ -1,5 +1,5 @@
 -- The file that is written of packets and their verdicts.
-use Rattle.std.specs.Prelude.{◌≡◌, ℕ, ◌≤◌, Bool, ◌⊎◌, List, [], ◌∷◌, ◌++◌, Option, Some, if◌then◌else◌}
+use Rattle.std.specs.Prelude.{◌≡◌, ℕ, ◌≤◌, Bool, false, ◌⊎◌, List, [], ◌∷◌, ◌++◌, Option, Some, if◌then◌else◌}
 use Rattle.std.specs.List.{flat_map}
 use Rattle.std.specs.Io.KnownBytes.{Appends}
 use Rattle.sr_audit.specs.declared.side.Side.{Side}
@@ -13,9 +13,10 @@ use Rattle.sr_pcapng.specs.Writing.{Written, file_of, start_at, found_at}
 use Rattle.sr_capture_merge.specs.declared.counts.Counts.{Counts}
 use Rattle.sr_capture_merge.specs.declared.plan.Plan.{Plan}
 use Rattle.sr_capture_merge.specs.Counted.{AreCountsOf}
+use Rattle.sr_capture_merge.specs.Counting.{CountsLeftOut}
 use Rattle.sr_capture_merge.specs.Entries.{names_of, entry_of, is_shown, written_piece}
 use Rattle.sr_capture_merge.specs.Remarks.{remark_of}
-use Rattle.sr_capture_merge.specs.Reading.{IsReadIf, is_whole}
+use Rattle.sr_capture_merge.specs.Reading.{IsReadIf, is_whole, was_cut, is_long}
 use Rattle.sr_capture_merge.specs.Settling.{Settled, AreSettled, IsVerdict, IsKnown}
 use Rattle.sr_merge.specs.Merging.{Read, Pending, Merging}
 use Rattle.sr_merge.specs.MergeRuns.{packets_in}
@@ -84,22 +85,24 @@ IsStop NoMemory P = P
 IsStop (File inlet fault) P = ⊥
 IsStop Endless P = ⊥
 
--- behind what was written, what is due at a time was written
-abbrev pub WritesOn : Plan → ℕ → ℕ → Merging → Merging → Sink → Sink → Type 0
-WritesOn plan start now old new mid to = (taken : List Read) (before : ℕ) (held : Sink) → before ≤ now →
-    HasWritten plan start taken before old held mid → HasWritten plan start taken now new held to
+-- behind what was written, what is due at a time was written; no packet was left out
+pub record WritesOn (plan : Plan) (start now : ℕ) (old new : Merging) (mid to : Sink) : Type 0 where
+  pub left_out : CountsLeftOut false false mid.counts to.counts
+  pub on : (taken : List Read) (before : ℕ) (held : Sink) → before ≤ now → HasWritten plan start taken before old held mid →
+      HasWritten plan start taken now new held to
 
--- a packet of a capture was taken, if it is whole
-abbrev pub TakesOn : Plan → ℕ → Side → ℕ → ℕ → Packet → Merging → Merging → Sink → Sink → Type 0
-TakesOn plan start side number time packet old new mid to = (taken : List Read) (before : ℕ) (held : Sink) → before ≤ time →
-    HasWritten plan start taken before old held mid →
-    (own : List Read) × IsReadIf (is_whole packet.extent packet.len) plan side number time packet.octets.items own
-    × HasWritten plan start (taken ++ own) time new held to
+-- a packet of a capture was taken, if it is whole; else it was left out
+pub record TakesOn (plan : Plan) (start : ℕ) (side : Side) (number time : ℕ) (packet : Packet) (old new : Merging) (mid to : Sink) :
+    Type 0 where
+  pub left_out : CountsLeftOut (was_cut packet.extent) (is_long packet.extent packet.len) mid.counts to.counts
+  pub on : (taken : List Read) (before : ℕ) (held : Sink) → before ≤ time → HasWritten plan start taken before old held mid →
+      (own : List Read) × IsReadIf (is_whole packet.extent packet.len) plan side number time packet.octets.items own
+      × HasWritten plan start (taken ++ own) time new held to
 
--- some of the packets that wait were written, where no more will come
-abbrev pub EndsOn : Plan → ℕ → Option ℕ → List Pending → List Pending → Sink → Sink → Type 0
-EndsOn plan start until old new mid to = (taken : List Read) (held : Sink) → HasEnded plan start taken until old held mid →
-    HasEnded plan start taken until new held to
+-- some of the packets that wait were written, where no more will come; no packet was left out
+pub record EndsOn (plan : Plan) (start : ℕ) (until : Option ℕ) (old new : List Pending) (mid to : Sink) : Type 0 where
+  pub left_out : CountsLeftOut false false mid.counts to.counts
+  pub on : (taken : List Read) (held : Sink) → HasEnded plan start taken until old held mid → HasEnded plan start taken until new held to
 
 -- what became of the packets that wait, where this ended going over captures and no more is known behind a time
 abbrev pub EndsBy : ScriptFault → ScriptFault → Plan → ℕ → ℕ → List Pending → Sink → Sink → Type 0

@@ -11,7 +11,7 @@ use Rattle.sr_capture_script.specs.Coming.{HaveCome, StartsAt, last_time, IsNext
 use Rattle.sr_capture_script.specs.Items.{Item}
 use Rattle.sr_capture_script.specs.Merging.{Feed}
 use Rattle.sr_capture_merge.specs.declared.plan.Plan.{Plan}
-use Rattle.sr_capture_merge.specs.Counted.{AreCountsOf}
+use Rattle.sr_capture_merge.specs.Counted.{AreCountsOf, AreLeftOut}
 use Rattle.sr_capture_merge.specs.Files.{merged_file, Sink, HasWritten}
 use Rattle.sr_capture_merge.specs.Reading.{AreRead}
 use Rattle.sr_capture_merge.specs.Settling.{Settled, AreSettled, IsVerdict}
@@ -30,6 +30,7 @@ pub record IsMerging {R : Type 0} (remaining : R → Option (List ℕ)) (choice 
   pub taken : List Read
   pub read : AreRead choice plan start out taken
   pub written : HasWritten plan start taken now m held to
+  pub left_out : AreLeftOut choice start out to.counts
 
 -- the time of a fault of a file is that of the last packet before it
 abbrev pub IsStopTime : ScriptFault → ℕ → List Item → ℕ → ℕ → Type 0
@@ -47,6 +48,7 @@ pub record HasStopped (choice : Choice) (plan : Plan) (start : ℕ) (x y z : Fee
   pub by : ℕ
   pub time : IsStopTime fault start out now by
   pub written : HasWritten plan start taken by m held to
+  pub left_out : AreLeftOut choice start out to.counts
 
 -- one packet more, whichever is next then
 abbrev pub MergesOn : {R : Type 0} → (R → Option (List ℕ)) → Choice → Plan → ℕ → Captures R → Captures R → Front → ℕ → ℕ → Merging →
@@ -70,7 +72,7 @@ MergesUntil remaining choice plan start before next fault now later old new mid 
     IsMerging remaining choice plan start x y z before next now old held mid → HasStopped choice plan start x y z fault later new held to
 
 -- the file of some packets: each that is to be written is there with its verdict, and counted; and it is counted how many were taken as
--- they came, since the record was full
+-- they came, since the record was full, and how many were left out
 pub record IsFileOf (choice : Choice) (plan : Plan) (items : List Item) (until : ℕ → Option ℕ) (held : Option (List ℕ)) (to : Sink) :
     Type 0 where
   pub start : ℕ
@@ -82,9 +84,10 @@ pub record IsFileOf (choice : Choice) (plan : Plan) (items : List Item) (until :
   pub wrote : Appends held to.written (merged_file plan start settled)
   pub counted : AreCountsOf plan settled to.counts
   pub untold : to.counts.untold ≡ (kept_of_all taken).untold
+  pub left_out : AreLeftOut choice start items to.counts
 
 -- the file of some packets up to one of those that are to be written; of all that were taken, whether written yet or not, it is counted how
--- many were taken as they came, since the record was full
+-- many were taken as they came, since the record was full; and of all packets, how many were left out
 pub record IsFrontOf (choice : Choice) (plan : Plan) (items : List Item) (held : Option (List ℕ)) (to : Sink) : Type 0 where
   pub start : ℕ
   pub starts : StartsAt start items
@@ -99,6 +102,7 @@ pub record IsFrontOf (choice : Choice) (plan : Plan) (items : List Item) (held :
   pub wrote : Appends held to.written (merged_file plan start settled)
   pub counted : AreCountsOf plan settled to.counts
   pub untold : to.counts.untold ≡ (kept_of_all taken).untold
+  pub left_out : AreLeftOut choice start items to.counts
 
 -- captures that are at their ends, and those that can't be read on behind a packet of some time
 abbrev pub whole : ℕ → Option ℕ

@@ -98,6 +98,15 @@ abbrev pub is_whole : Extent → ℕ → Bool
 is_whole Cut len = false
 is_whole Whole len = not (nat_lt longest_kept len)
 
+-- what is not whole: whether the recorder cut a packet, or did not and it is longer than a frame
+abbrev pub was_cut : Extent → Bool
+was_cut Cut = true
+was_cut Whole = false
+
+abbrev pub is_long : Extent → ℕ → Bool
+is_long Cut len = false
+is_long Whole len = nat_lt longest_kept len
+
 -- the side of an inlet
 abbrev pub side_at : Inlet → Side
 side_at inlet.A = side.A

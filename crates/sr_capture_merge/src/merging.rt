@@ -271,7 +271,7 @@ pub fn merge<R: BufRead + Drop, W: Write>(
 ) -> (Counts, Result<(), ScriptFault>)
     // What is written is the file of the packets of all captures, each capture's in its own order and all in order of time: of those
     // that are taken each that is to be written, in order, with its verdict; and so the packets are counted, and how many were taken as
-    // they came.
+    // they came, and how many of those that are wanted were left out, cut or too long.
     ensures merges { OnOk result.1 ((start_a start_b start_c : Option (List ℕ))
         → IsFed R.remaining AtA start_a captures.old.a []
         → IsFed R.remaining AtB start_b captures.old.b []

@@ -251,6 +251,8 @@ impl Output {
         ensures plan { IfOk result (λ output. output.plan ≡ plan) }
         ensures start { IfOk result (λ output. output.start ≡ start) }
         ensures counts { IfOk result (λ output. AreCountsOf plan [] output.counts) }
+        ensures cut { IfOk result (λ output. output.counts.cut ≡ 0) }
+        ensures long { IfOk result (λ output. output.counts.long ≡ 0) }
         ensures err { IfErr result (λ fault. fault ≡ ScriptFault.Write) }
     {
         write_head(writer, names_of(plan.network))?;

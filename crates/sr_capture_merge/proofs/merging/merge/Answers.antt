@@ -15,7 +15,7 @@ use Rattle.sr_capture_merge.proofs.merging.merge.Goals as goal
 pub returns-in-Err-begin-clause-halts : goal.returns-in-Err-begin-clause-halts
 returns-in-Err-begin-clause-halts g c other sa sb sc fa fb fc =
     halts_first g.R.Read.remaining c.args.choice.now c.args.plan.now sa sb sc c.args.captures.now c.in-Err-begin.fault (g.W.Write.contents c.args.writer.now)
-    (sink (g.W.Write.contents c.begin.new.writer) _) c.in-Ok.ensures.head c.in-Err-begin.ensures.err (uncounted c.args.plan.now) refl fa fb fc
+    (sink (g.W.Write.contents c.begin.new.writer) _) c.in-Ok.ensures.head c.in-Err-begin.ensures.err (uncounted c.args.plan.now) refl refl refl fa fb fc
 
 pub returns-clause-merges : goal.returns-clause-merges
 returns-clause-merges g c =
@@ -38,7 +38,7 @@ returns-clause-merges g c =
     c.in-Ok-begin.merge c.take_all-taken.new.merge untold held mid late to c.take_all-taken.result fa fb fc c.front-first.ensures.some c.front-first.ensures.none
     (subst (λ s. IfSome c.front-first.result (λ front. front.moment ≡ s)) (sym c.in-Ok.ensures.start) c.start_of.ensures.first)
     c.in-Ok-begin.ensures.sources c.in-Ok-begin.ensures.waiting c.in-Ok-begin.ensures.untold
-    (subst (λ p. AreCountsOf p [] c.in-Ok.output.counts) (sym c.in-Ok.ensures.plan) c.in-Ok.ensures.counts))
+    (subst (λ p. AreCountsOf p [] c.in-Ok.output.counts) (sym c.in-Ok.ensures.plan) c.in-Ok.ensures.counts) c.in-Ok.ensures.cut c.in-Ok.ensures.long)
     c.take_all-taken.ensures.goes
     (well_as c.take_all-taken.result out.plan plan out.start start c.take_all-taken.new.merge.waiting late to c.take_all-taken.ensures.plan
     c.take_all-taken.ensures.start ends))) c.finish-outcome.ensures.goes
@@ -64,7 +64,7 @@ returns-clause-halts g c =
     c.in-Ok-begin.merge c.take_all-taken.new.merge untold held mid late to c.take_all-taken.result fa fb fc c.front-first.ensures.some c.front-first.ensures.none
     (subst (λ s. IfSome c.front-first.result (λ front. front.moment ≡ s)) (sym c.in-Ok.ensures.start) c.start_of.ensures.first)
     c.in-Ok-begin.ensures.sources c.in-Ok-begin.ensures.waiting c.in-Ok-begin.ensures.untold
-    (subst (λ p. AreCountsOf p [] c.in-Ok.output.counts) (sym c.in-Ok.ensures.plan) c.in-Ok.ensures.counts))
+    (subst (λ p. AreCountsOf p [] c.in-Ok.output.counts) (sym c.in-Ok.ensures.plan) c.in-Ok.ensures.counts) c.in-Ok.ensures.cut c.in-Ok.ensures.long)
     c.take_all-taken.ensures.goes c.take_all-taken.ensures.stops
     (badly_as c.take_all-taken.result fault out.plan plan out.start start c.take_all-taken.new.now c.take_all-taken.new.merge.waiting late to
     c.take_all-taken.ensures.plan c.take_all-taken.ensures.start ends))) c.finish-outcome.ensures.stops

@@ -1,7 +1,7 @@
 use Rattle.std.proofs.Common.{arith, ap, refl}
 use Rattle.sr_merge.specs.Merging.{read_of}
 use Rattle.sr_capture_merge.specs.Reading.{is_whole}
-use Rattle.sr_capture_merge.proofs.Merged.{left_out, long_is, whole_is, taken_on}
+use Rattle.sr_capture_merge.proofs.Merged.{left_out, cut_counted, long_counted, long_is, whole_is, taken_on}
 use Rattle.sr_capture_merge.proofs.Counted.{cut_left, long_left}
 use Rattle.sr_capture_merge.specs.Files.{sink}
 use Rattle.sr_capture_merge.proofs.merging.take.Goals as goal
@@ -10,11 +10,13 @@ pub returns-in-Cut-clause-goes : goal.returns-in-Cut-clause-goes
 returns-in-Cut-clause-goes g c =
     left_out c.args.output.now.plan c.args.output.now.start c.args.side c.args.number c.args.time c.args.packet.now c.args.merge.now
     (sink (g.W.Write.contents c.args.writer.now) c.args.output.now.counts) _ (ap (λ x. is_whole x c.args.packet.now.len) c.in-Cut.is) refl (cut_left c.args.output.now.plan c.args.output.now.counts _)
+    (cut_counted c.args.packet.now.extent c.args.packet.now.len c.args.output.now.counts _ c.in-Cut.is c.more.ensures)
 
 pub returns-in-Whole-clause-goes : goal.returns-in-Whole-clause-goes
 returns-in-Whole-clause-goes g c =
     left_out c.args.output.now.plan c.args.output.now.start c.args.side c.args.number c.args.time c.args.packet.now c.args.merge.now
     (sink (g.W.Write.contents c.args.writer.now) c.args.output.now.counts) _ (long_is c.args.packet.now.extent c.args.packet.now.len c.in-Whole.is (omega arith)) refl (long_left c.args.output.now.plan c.args.output.now.counts _)
+    (long_counted c.args.packet.now.extent c.args.packet.now.len c.args.output.now.counts _ c.in-Whole.is (omega arith) c.more-in-Whole.ensures)
 
 pub returns-clause-goes : goal.returns-clause-goes
 returns-clause-goes g c =

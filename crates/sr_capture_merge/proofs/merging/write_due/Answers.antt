@@ -6,6 +6,7 @@ use Rattle.sr_capture_merge.specs.Entries.{written_piece}
 use Rattle.sr_capture_merge.specs.Files.{sink, WritesOn}
 use Rattle.sr_capture_merge.specs.Settling.{counted_one}
 use Rattle.sr_capture_script.proofs.Outcomes.{handed_on}
+use Rattle.sr_capture_merge.proofs.Counted.{none_left_more}
 use Rattle.sr_capture_merge.proofs.Merged.{sink_is, stops_so}
 use Rattle.sr_capture_merge.proofs.Settled.{written_later, written_next}
 use Rattle.sr_capture_merge.proofs.merging.write_due.Goals as goal
@@ -13,8 +14,11 @@ use Rattle.sr_capture_merge.proofs.merging.write_due.Goals.{else-is_none-via-the
 
 pub waiting-init : goal.waiting-init
 waiting-init g c = record {
-  on = λ taken before held le h.
-      written_later c.args.output.now.plan c.args.output.now.start taken before c.args.now c.args.merge.now held (sink (g.W.Write.contents c.args.writer.now) c.args.output.now.counts) le h;
+  on = record {
+    left_out = record { cut = refl; long = refl };
+    on = λ taken before held le h.
+        written_later c.args.output.now.plan c.args.output.now.start taken before c.args.now c.args.merge.now held (sink (g.W.Write.contents c.args.writer.now) c.args.output.now.counts) le h;
+  };
   plan = refl;
   start = refl;
 }
@@ -25,23 +29,28 @@ waiting-preserved g c =
     let own = packet_of c.in-Some.waiting.now in
     let v = c.verdict-verdict.result in
     let none = c.is_none.ensures in
+    let counted = subst (λ p. c.put.new.self.counts ≡ counted_one p (record { packet = own; verdict = v }) c.waiting.output.counts) i.plan
+    c.in_ok-put.ensures.counts in
     record {
-      on = λ taken before held le h.
-          written_next c.args.output.now.plan c.args.output.now.start taken c.args.now c.waiting.merge c.drop_front.new.self
-          (pending_of c.in-Some.waiting.now) v held (sink (g.W.Write.contents c.waiting.writer) c.waiting.output.counts)
-          (sink (g.W.Write.contents c.put.new.writer) c.put.new.self.counts)
-          (i.on taken before held le h) c.in-Some.ensures.some c.drop_front.ensures.sources c.drop_front.ensures.untold
-          c.drop_front.ensures.waiting
-          (sym c.verdict-verdict.ensures)
-          (λ e. elim c.else-is_none.branch [
-            | else-is_none-via-then-is_none+else-len-lt-MAX_WAITING w ↦ let n = w.len.ensures in omega (arith, n)
-            | else-is_none-via-else-is_none w ↦ let f = w.if-is_none.false in absurd (grind (arith, common_steps, none, e, f))
-          ])
-          (subst (λ p. Appends (g.W.Write.contents c.waiting.writer) (g.W.Write.contents c.put.new.writer) (written_piece p c.args.output.now.start v own)) i.plan
-          (subst (λ s. Appends (g.W.Write.contents c.waiting.writer) (g.W.Write.contents c.put.new.writer) (written_piece c.waiting.output.plan s v own)) i.start
-          c.in_ok-put.ensures.wrote))
-          (subst (λ p. c.put.new.self.counts ≡ counted_one p (record { packet = own; verdict = v }) c.waiting.output.counts) i.plan
-          c.in_ok-put.ensures.counts);
+      on = record {
+        left_out = none_left_more c.args.output.now.plan (record { packet = own; verdict = v }) c.args.output.now.counts c.waiting.output.counts
+            c.put.new.self.counts i.on.left_out counted;
+        on = λ taken before held le h.
+            written_next c.args.output.now.plan c.args.output.now.start taken c.args.now c.waiting.merge c.drop_front.new.self
+            (pending_of c.in-Some.waiting.now) v held (sink (g.W.Write.contents c.waiting.writer) c.waiting.output.counts)
+            (sink (g.W.Write.contents c.put.new.writer) c.put.new.self.counts)
+            (i.on.on taken before held le h) c.in-Some.ensures.some c.drop_front.ensures.sources c.drop_front.ensures.untold
+            c.drop_front.ensures.waiting
+            (sym c.verdict-verdict.ensures)
+            (λ e. elim c.else-is_none.branch [
+              | else-is_none-via-then-is_none+else-len-lt-MAX_WAITING w ↦ let n = w.len.ensures in omega (arith, n)
+              | else-is_none-via-else-is_none w ↦ let f = w.if-is_none.false in absurd (grind (arith, common_steps, none, e, f))
+            ])
+            (subst (λ p. Appends (g.W.Write.contents c.waiting.writer) (g.W.Write.contents c.put.new.writer) (written_piece p c.args.output.now.start v own)) i.plan
+            (subst (λ s. Appends (g.W.Write.contents c.waiting.writer) (g.W.Write.contents c.put.new.writer) (written_piece c.waiting.output.plan s v own)) i.start
+            c.in_ok-put.ensures.wrote))
+            counted;
+      };
       plan = c.put.ensures.plan ∙ i.plan;
       start = c.put.ensures.start ∙ i.start;
     }

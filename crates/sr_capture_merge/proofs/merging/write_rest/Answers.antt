@@ -5,6 +5,7 @@ use Rattle.sr_capture_merge.specs.Entries.{written_piece}
 use Rattle.sr_capture_merge.specs.Files.{sink, EndsOn}
 use Rattle.sr_capture_merge.specs.Settling.{counted_one}
 use Rattle.sr_capture_script.proofs.Outcomes.{handed_on}
+use Rattle.sr_capture_merge.proofs.Counted.{none_left_more}
 use Rattle.sr_capture_merge.proofs.Merged.{sink_is, stops_so}
 use Rattle.sr_capture_merge.proofs.Settled.{ended_next}
 use Rattle.sr_capture_merge.proofs.merging.write_rest.Goals as goal
@@ -14,17 +15,22 @@ waiting-preserved g c =
     let i = c.waiting.invariant in
     let own = packet_of c.in-Some.waiting.now in
     let v = c.verdict_until-verdict.result in
+    let counted = subst (λ p. c.put.new.self.counts ≡ counted_one p (record { packet = own; verdict = v }) c.waiting.output.counts) i.plan
+    c.in_ok-put.ensures.counts in
     record {
-      on = λ taken held h.
-          ended_next c.args.output.now.plan c.args.output.now.start taken c.args.until c.waiting.merge.waiting c.drop_front.new.self.waiting
-          (pending_of c.in-Some.waiting.now) v held (sink (g.W.Write.contents c.waiting.writer) c.waiting.output.counts)
-          (sink (g.W.Write.contents c.put.new.writer) c.put.new.self.counts)
-          (i.on taken held h) c.in-Some.ensures.some c.drop_front.ensures.waiting c.verdict_until-verdict.ensures
-          (subst (λ p. Appends (g.W.Write.contents c.waiting.writer) (g.W.Write.contents c.put.new.writer) (written_piece p c.args.output.now.start v own)) i.plan
-          (subst (λ s. Appends (g.W.Write.contents c.waiting.writer) (g.W.Write.contents c.put.new.writer) (written_piece c.waiting.output.plan s v own)) i.start
-          c.in_ok-put.ensures.wrote))
-          (subst (λ p. c.put.new.self.counts ≡ counted_one p (record { packet = own; verdict = v }) c.waiting.output.counts) i.plan
-          c.in_ok-put.ensures.counts);
+      on = record {
+        left_out = none_left_more c.args.output.now.plan (record { packet = own; verdict = v }) c.args.output.now.counts c.waiting.output.counts
+            c.put.new.self.counts i.on.left_out counted;
+        on = λ taken held h.
+            ended_next c.args.output.now.plan c.args.output.now.start taken c.args.until c.waiting.merge.waiting c.drop_front.new.self.waiting
+            (pending_of c.in-Some.waiting.now) v held (sink (g.W.Write.contents c.waiting.writer) c.waiting.output.counts)
+            (sink (g.W.Write.contents c.put.new.writer) c.put.new.self.counts)
+            (i.on.on taken held h) c.in-Some.ensures.some c.drop_front.ensures.waiting c.verdict_until-verdict.ensures
+            (subst (λ p. Appends (g.W.Write.contents c.waiting.writer) (g.W.Write.contents c.put.new.writer) (written_piece p c.args.output.now.start v own)) i.plan
+            (subst (λ s. Appends (g.W.Write.contents c.waiting.writer) (g.W.Write.contents c.put.new.writer) (written_piece c.waiting.output.plan s v own)) i.start
+            c.in_ok-put.ensures.wrote))
+            counted;
+      };
       plan = c.put.ensures.plan ∙ i.plan;
       start = c.put.ensures.start ∙ i.start;
       untold = c.drop_front.ensures.untold ∙ i.untold;
