@@ -1,12 +1,50 @@
 -- One node more is reported.
-use Rattle.std.proofs.Common.{◌≡◌, ◌+◌, ◌++◌, ℕ, List, [], refl, sym, subst}
+use Rattle.std.proofs.Common.{◌≡◌, ◌+◌, ◌<◌, ◌≤◌, ◌++◌, ℕ, List, [], ◌∷◌, length, get_or, take, drop, None, refl, sym, ap, ◌∙◌, subst, append-nil, append_assoc}
+use Rattle.std.specs.Prelude.{All, slice_get}
+use Rattle.std.proofs.lemmas.List.{drop_all, drop_more}
+use Rattle.std.proofs.lemmas.List.Elements.{All-more}
 use Rattle.sr_ports.specs.declared.settling.Settlement.{Settlement}
-use Rattle.sr_threaded_script.specs.Reports.{IsReport, none, more, node_lines}
+use Rattle.sr_threaded.specs.Judged.{settlement_of}
+use Rattle.sr_threaded.specs.declared.judging.Judgement.{Judgement}
+use Rattle.sr_threaded.specs.declared.kit.NodeEnd.{NodeEnd}
+use Rattle.sr_workers.specs.declared.fault.WorkerFault.{WorkerFault}
+use Rattle.sr_workers.specs.declared.feed.Feed.{Ghosts}
+use Rattle.sr_threaded_script.specs.declared.host.Host.{Host}
+use Rattle.sr_threaded_script.specs.Reports.{end_lines, faults_of, given_to, node_lines, report_from}
 
-pub one_more : (n : ℕ) (text later : List ℕ) (given : List (List ℕ)) (s : Settlement) (lost : ℕ) → IsReport n text
-    → later ≡ text ++ node_lines n given s lost → IsReport (n + 1) later
-one_more n text later given s lost so_far told =
-    subst (λ t. IsReport (n + 1) t) (sym told) (more n text (node_lines n given s lost) so_far (given, s, lost, refl))
+-- what was told and what is left to tell is all
+pub one_more : {feed : Ghosts Host} (ends : List (NodeEnd Host feed)) (judged : List Judgement) (n : ℕ) (e : NodeEnd Host feed)
+    (j : Judgement) (text later all : List ℕ) (given : List (List ℕ)) (s : Settlement)
+    → n < length ends → n < length judged → e ≡ get_or ends n e → j ≡ get_or judged n j
+    → text ++ report_from n (drop n ends) (drop n judged) ≡ all
+    → given ≡ given_to e → s ≡ settlement_of e.settlement j → later ≡ text ++ node_lines n given s e.lost
+    → later ++ report_from (n + 1) (drop (n + 1) ends) (drop (n + 1) judged) ≡ all
+one_more ends judged n e j text later all given s in_ends in_judged e_is j_is so_far own settled told =
+    let es = drop (n + 1) ends in
+    let js = drop (n + 1) judged in
+    let at_e : drop n ends ≡ e ∷ es = drop_more ends n e in_ends ∙ ap (λ x. x ∷ es) (sym e_is) in
+    let at_j : drop n judged ≡ j ∷ js = drop_more judged n j in_judged ∙ ap (λ x. x ∷ js) (sym j_is) in
+    let next : report_from n (drop n ends) (drop n judged) ≡ end_lines n e j ++ report_from (n + 1) es js =
+    ap (λ xs. report_from n xs (drop n judged)) at_e ∙ ap (λ ys. report_from n (e ∷ es) ys) at_j in
+    let lines : later ≡ text ++ end_lines n e j =
+    told ∙ ap (λ (g : List (List ℕ)). text ++ node_lines n g s e.lost) own
+    ∙ ap (λ (t : Settlement). text ++ node_lines n (given_to e) t e.lost) settled in
+    ap (λ t. t ++ report_from (n + 1) es js) lines ∙ append_assoc text (end_lines n e j) (report_from (n + 1) es js)
+    ∙ ap (λ r. text ++ r) (sym next) ∙ so_far
 
-pub no_node : (text : List ℕ) → text ≡ [] → IsReport 0 text
-no_node text is = subst (λ t. IsReport 0 t) (sym is) none
+-- behind the last one all is told
+pub all_told : {feed : Ghosts Host} (ends : List (NodeEnd Host feed)) (judged : List Judgement) (n : ℕ) (text all : List ℕ)
+    → length ends ≤ n → text ++ report_from n (drop n ends) (drop n judged) ≡ all → text ≡ all
+all_told ends judged n text all behind so_far =
+    sym (append-nil text) ∙ ap (λ xs. text ++ report_from n xs (drop n judged)) (sym (drop_all n ends behind)) ∙ so_far
+
+no_first : (xs : List WorkerFault) → slice_get xs 0 ≡ None → xs ≡ []
+no_first [] none = refl
+no_first (x ∷ xs) none = absurd cc
+
+-- one node more has no fault
+pub one_whole : {feed : Ghosts Host} (ends : List (NodeEnd Host feed)) (n : ℕ) (e : NodeEnd Host feed)
+    → n < length ends → e ≡ get_or ends n e → All (λ x. faults_of x ≡ []) (take n ends) → slice_get (faults_of e) 0 ≡ None
+    → All (λ x. faults_of x ≡ []) (take (n + 1) ends)
+one_whole ends n e in_ends e_is so_far none =
+    All-more (λ x. faults_of x ≡ []) ends n e in_ends so_far (subst (λ x. faults_of x ≡ []) e_is (no_first (faults_of e) none))

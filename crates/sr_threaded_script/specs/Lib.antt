@@ -1,5 +1,9 @@
 pub mod Hosts
 pub mod Members
+pub mod Faults
+pub mod Sent
+pub mod Beginnings
 pub mod Reports
 pub mod Lines
+pub mod Networks
 pub mod Runs

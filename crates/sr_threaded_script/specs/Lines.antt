@@ -19,21 +19,23 @@ Asks line (Some parts) octets = Says line (Send parts.0 parts.1) octets
 abbrev pub IsThreadedLine : List ℕ → Type 0
 IsThreadedLine line = (asked : Option (ℕ × Receiver)) × (octets : List ℕ) × Asks line asked octets
 
--- how many nodes there are, and what their hosts are to send, in order: the number of the node, and the octets of the frame
+-- how many nodes there are, what their hosts are to send, in order: the number of the node, and the octets of the frame; and the number
+-- of the last line
 pub record Sendings : Type 0 where
   pub nodes : ℕ
   pub sent : List (ℕ × List ℕ)
+  pub last : ℕ
 
 -- a sending of the line with this number is taken, or refused, which is printed
 abbrev pub IsSendingTaken : Sendings → ℕ → ℕ → Receiver → List ℕ → Option PlantFault → List ℕ → Sendings → Type 0
 IsSendingTaken s number node receiver octets None text t =
-    (text ≡ []) × (t ≡ record s { sent = s.sent ++ (node, sent_octets node receiver octets) ∷ [] })
+    (text ≡ []) × (t ≡ record s { sent = s.sent ++ (node, sent_octets node receiver octets) ∷ []; last = number })
 IsSendingTaken s number node receiver octets (Some fault) text t =
-    (name : List ℕ) × (fault_name fault ≡ Some name) × (text ≡ refusal_line number name) × (t ≡ s)
+    (name : List ℕ) × (fault_name fault ≡ Some name) × (text ≡ refusal_line number name) × (t ≡ record s { last = number })
 
 -- what a line asks for is done
 abbrev pub IsDone : Sendings → ℕ → Option (ℕ × Receiver) → List ℕ → List ℕ → Sendings → Type 0
-IsDone s number None octets text t = (text ≡ []) × (t ≡ s)
+IsDone s number None octets text t = (text ≡ []) × (t ≡ record s { last = number })
 IsDone s number (Some parts) octets text t =
     IsSendingTaken s number parts.0 parts.1 octets (send_refusal s.nodes parts.0 parts.1 (length octets)) text t
 

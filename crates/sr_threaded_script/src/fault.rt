@@ -1,5 +1,8 @@
 //! Why a threaded run ends early.
 
+ghost use Rattle.std.specs.Prelude.{◌≡◌};
+ghost use Rattle.sr_threaded_script.specs.Faults.{IsBehindLines, fault_on_line, fault_line};
+
 use sr_frame::NoMemory;
 use sr_session::{Fault, FaultKind};
 use sr_threaded::NetworkFault;
@@ -18,6 +21,10 @@ pub(crate) enum RunFault {
 }
 
 impl From<NetworkFault> for RunFault {
+    ghost use Rattle.sr_threaded_script.specs.Faults.{run_fault};
+
+    ghost from_gives = { λ fault made. made ≡ run_fault fault };
+
     fn from(fault: NetworkFault) -> RunFault {
         match fault {
             NetworkFault::NoThread => RunFault::NoThread,
@@ -27,24 +34,40 @@ impl From<NetworkFault> for RunFault {
 }
 
 impl From<WorkerFault> for RunFault {
+    ghost use Rattle.sr_threaded_script.specs.declared.fault.RunFault.TheVariants.{NoMemory as OutOfMemory};
+
+    ghost from_gives = { λ _ made. made ≡ OutOfMemory };
+
     fn from(_fault: WorkerFault) -> RunFault {
         RunFault::NoMemory
     }
 }
 
 impl From<AllocError> for RunFault {
+    ghost use Rattle.sr_threaded_script.specs.declared.fault.RunFault.TheVariants.{NoMemory as OutOfMemory};
+
+    ghost from_gives = { λ _ made. made ≡ OutOfMemory };
+
     fn from(_refused: AllocError) -> RunFault {
         RunFault::NoMemory
     }
 }
 
 impl From<NoMemory> for RunFault {
+    ghost use Rattle.sr_threaded_script.specs.declared.fault.RunFault.TheVariants.{NoMemory as OutOfMemory};
+
+    ghost from_gives = { λ _ made. made ≡ OutOfMemory };
+
     fn from(_refused: NoMemory) -> RunFault {
         RunFault::NoMemory
     }
 }
 
 impl From<RunFault> for FaultKind {
+    ghost use Rattle.sr_session.specs.declared.fault.FaultKind.TheVariants.{Memory};
+
+    ghost from_gives = { λ _ kind. kind ≡ Memory };
+
     fn from(_fault: RunFault) -> FaultKind {
         FaultKind::Memory
     }
@@ -60,10 +83,14 @@ pub enum ThreadedFault {
 }
 
 /// What a fault of a network is, at this line.
-pub(crate) fn fault_at(fault: RunFault, line: u64) -> ThreadedFault {
+pub(crate) fn fault_on_line(fault: RunFault, line: u64) -> ThreadedFault
+    ensures is { result ≡ fault_on_line fault line }
+    ensures kind { IsBehindLines result }
+    ensures line { fault_line result ≡ line }
+{
     match fault {
         RunFault::NoThread => ThreadedFault::NoThread(line),
-        lack => ThreadedFault::Script(Fault {
+        lack @ RunFault::NoMemory => ThreadedFault::Script(Fault {
             line,
             kind: lack.into(),
         }),

@@ -1,6 +1,6 @@
 //! The host of a node of a threaded network.
 
-ghost use Rattle.std.specs.Prelude.{◌≡◌, ◌+◌, [], OnOk, OnErr};
+ghost use Rattle.std.specs.Prelude.{◌≡◌, ◌+◌, ◌-◌, ◌^◌, ◌≤◌, max, true, OnOk, OnErr};
 ghost use Rattle.sr_workers.specs.Told.{lost_after};
 
 use sr_frame::{Frame, FrameFault};
@@ -8,29 +8,31 @@ use sr_workers::{Feed, FeedFault, Given, Turn};
 use std::alloc::Global;
 use std::sync::Wait;
 
-/// A host that sends its frames in order, each at time 0, is idle ever after, and keeps what it is given.
+/// A host that sends its frames in order, one a turn and each at time 0, is idle ever after, and keeps what it is given.
 #[derive(Debug, Drop)]
 pub struct Host {
     frames: Vec<Frame>,
-    next: usize,
+    // In how many turns it was asked.
+    asked: usize,
     given: Vec<Frame>,
     lost: u64,
     ended: bool,
     failures: u64,
     alloc: Global,
+    // It ends only behind as many turns or failures as can be counted.
+    ghost lasting: { ended ≡ true → 2 ^ 64 ≤ max asked failures + 1 },
 }
 
 impl Host {
-    ghost use Rattle.sr_threaded_script.specs.Hosts.{will_send, host_given};
+    ghost use Rattle.sr_threaded_script.specs.Hosts.{host_sends, host_asked, host_given, host_image, new_host};
 
     /// A host that is to send these.
     pub fn new(alloc: Global, frames: Vec<Frame>) -> Host
-        ensures left { will_send result ≡ frames.items }
-        ensures given { host_given result ≡ [] }
+        ensures { host_image result ≡ new_host frames.items }
     {
         Host {
             frames,
-            next: 0,
+            asked: 0,
             given: Vec::new(alloc),
             lost: 0,
             ended: false,
@@ -48,8 +50,12 @@ impl Host {
 
     // An allocation failed: that counts as a failure, unless there were as many failures as can be counted.
     fn fail(&mut self) -> Result<(), FeedFault>
+        ensures same { (host_sends self.new ≡ host_sends self.old)
+            × (host_asked self.new ≡ host_asked self.old)
+            × (host_given self.new ≡ host_given self.old) }
         ensures lost { self.new.lost ≡ self.old.lost }
         ensures ok { OnOk result (self.new.failures ≡ self.old.failures) }
+        ensures most { OnOk result (self.old.failures ≡ 2 ^ 64 - 1) }
         ensures err { OnErr result (self.new.failures ≡ self.old.failures + 1) }
         ensures ended { self.new.ended ≡ self.old.ended }
     {
@@ -63,6 +69,9 @@ impl Host {
     // A frame is lost, and counted.
     fn lose(&mut self) -> Given
         ensures given { result ≡ Given.Lost }
+        ensures same { (host_sends self.new ≡ host_sends self.old)
+            × (host_asked self.new ≡ host_asked self.old)
+            × (host_given self.new ≡ host_given self.old) }
         ensures lost { self.new.lost ≡ lost_after self.old.lost result }
         ensures failures { self.new.failures ≡ self.old.failures }
         ensures ended { self.new.ended ≡ self.old.ended }
@@ -73,19 +82,20 @@ impl Host {
 }
 
 impl Feed for Host {
-    ghost use Rattle.std.specs.Prelude.{[], false};
+    ghost use Rattle.std.specs.Prelude.{List, ℕ};
+    ghost use Rattle.sr_threaded_script.specs.Hosts.{host_sends, host_asked, host_handed, host_given};
 
-    ghost Name = { Unit {0} };
+    ghost Name = { List (List ℕ) };
 
-    ghost name = { λ _. tt };
+    ghost name = { host_sends };
 
-    ghost tells = { λ _. false };
+    ghost tells = { λ _. true };
 
-    ghost handed = { λ _. [] };
+    ghost handed = { host_handed };
 
-    ghost given = { λ _. [] };
+    ghost given = { host_given };
 
-    ghost asked = { λ _. 0 };
+    ghost asked = { host_asked };
 
     ghost losses = { λ h. h.lost };
 
@@ -93,20 +103,27 @@ impl Feed for Host {
 
     ghost failed = { λ h. h.failures };
 
+    #[tactic(auto, using(crate::proofs::Handing::handed_more, crate::proofs::Handing::handed_all))]
     fn next<W: Wait>(&mut self, _rt: &W, into: &mut Vec<u8>) -> Result<Turn, FeedFault> {
-        if self.next >= self.frames.len() {
+        // Nobody comes there: it would take 2^64 turns.
+        if self.asked == usize::MAX {
+            self.ended = true;
+            return Ok(Turn::End);
+        }
+        if self.asked >= self.frames.len() {
+            self.asked += 1;
             return Ok(Turn::Idle);
         }
         into.clear();
         if into
-            .extend_from_slice(self.frames[self.next].octets())
+            .extend_from_slice(self.frames[self.asked].octets())
             .is_err()
         {
             self.fail()?;
             self.ended = true;
             return Ok(Turn::End);
         }
-        self.next += 1;
+        self.asked += 1;
         Ok(Turn::Frame(0))
     }
 

@@ -1,10 +1,13 @@
 //! The network of a script, from its first node to what is printed of its last.
 
-ghost use Rattle.std.specs.Prelude.{◌≡◌, ◌≤◌, ◌<◌, ◌++◌, [], ℕ, List, length, vec_len, IfOk, OnOk};
+ghost use Rattle.std.specs.Prelude.{◌≡◌, ◌<◌, ◌++◌, ◌∷◌, [], length, map, slice_get, vec_len, IfOk, OnOk};
 ghost use Rattle.sr_plant.specs.Limits.{most_nodes};
 ghost use Rattle.sr_plant_script.specs.Members.{routed_as};
+ghost use Rattle.sr_threaded_script.specs.Beginnings.{beginning_of, starting_node, starting_nodes};
 ghost use Rattle.sr_threaded_script.specs.Members.{member_kind};
-ghost use Rattle.sr_threaded_script.specs.Reports.{IsReport, IsNodeReport};
+ghost use Rattle.sr_threaded_script.specs.Networks.{AreJudged, IsReport, RanIn};
+ghost use Rattle.sr_threaded_script.specs.Reports.{AllWhole, faults_of, given_on_line, given_to, report_of};
+ghost use Rattle.sr_threaded_script.specs.Sent.{own_frames};
 
 use crate::fault::RunFault;
 use crate::host::Host;
@@ -17,8 +20,8 @@ use sr_node::NodeOf;
 use sr_plant_script::{Member, MemberRouting, mac_of};
 use sr_text::Text;
 use sr_threaded::{Judgement, NetworkFault, NodeEnd, NodeKit, run_ring, run_twin, settlement_of};
-use sr_workers::WorkerFault;
-use std::alloc::{AllocError, Global};
+use sr_workers::{Feed, WorkerFault};
+use std::alloc::Global;
 use std::sync::Wait;
 use std::thread::Threads;
 
@@ -33,6 +36,7 @@ fn routing_of(net: ThreadedNet) -> MemberRouting
 }
 
 // The node of this number, and its host, which is to send these frames.
+#[tactic(auto, using(crate::proofs::Begun::begins))]
 fn kit_of(
     alloc: Global,
     setup: &ThreadedSetup,
@@ -40,6 +44,7 @@ fn kit_of(
     frames: Vec<Frame>,
 ) -> Result<NodeKit<Member, PortFraming, Host>, NoMemory>
     requires { number < most_nodes }
+    ensures { IfOk result (λ k. beginning_of k ≡ starting_node setup.now number frames.items) }
 {
     let routing = routing_of(setup.net);
     let kind = routing.kind();
@@ -57,18 +62,33 @@ fn kit_of(
     }
 }
 
-// The frames that the host of a node is to send, in order.
-fn frames_of(
+// Takes what is to be sent, where it is by the host of this node.
+#[tactic(auto, using(crate::proofs::Chosen::passed, crate::proofs::Chosen::taken))]
+fn take_own(
     alloc: Global,
-    sent: &[(usize, Frame)],
+    frames: &mut Vec<Frame>,
+    one: &(usize, Frame),
     number: usize,
-) -> Result<Vec<Frame>, NoMemory> {
+) -> Result<(), NoMemory>
+    ensures { OnOk result (frames.new.items
+        ≡ frames.old.items ++ own_frames number (one.now ∷ [])) }
+{
+    if one.0 != number {
+        return Ok(());
+    }
+    let copy = one.1.try_clone(alloc)?;
+    frames.reserve(1)?;
+    frames.push_reserved(copy);
+    Ok(())
+}
+
+// The frames that the host of a node is to send, in order.
+fn own_frames(alloc: Global, sent: &[(usize, Frame)], number: usize) -> Result<Vec<Frame>, NoMemory>
+    ensures { IfOk result (λ v. v.items ≡ own_frames number sent.now) }
+{
     let mut frames = Vec::new(alloc);
-    for (node, frame) in sent {
-        if *node == number {
-            let copy = frame.try_clone(alloc)?;
-            frames.push(copy).map_err(AllocError::from)?;
-        }
+    for one in sent {
+        take_own(alloc, &mut frames, one, number)?;
     }
     Ok(frames)
 }
@@ -79,11 +99,13 @@ fn kits_of(
     setup: &ThreadedSetup,
     sent: &[(usize, Frame)],
 ) -> Result<Vec<NodeKit<Member, PortFraming, Host>>, NoMemory>
-    ensures { IfOk result (λ kits. vec_len kits ≡ setup.now.nodes) }
+    ensures count { IfOk result (λ kits. vec_len kits ≡ setup.now.nodes) }
+    ensures new { IfOk result (λ kits. map beginning_of kits.items
+        ≡ starting_nodes setup.now sent.now setup.now.nodes) }
 {
     let mut kits = Vec::new(alloc);
     for number in 0..setup.nodes {
-        let frames = frames_of(alloc, sent, number)?;
+        let frames = own_frames(alloc, sent, number)?;
         let kit = kit_of(alloc, setup, number, frames)?;
         kits.reserve(1)?;
         kits.push_reserved(kit);
@@ -91,22 +113,36 @@ fn kits_of(
     Ok(kits)
 }
 
+// What the host at a line was given, and nothing at wires.
+fn given_on_line(line: &Line<Host>) -> &[Frame]
+    ensures { result.now ≡ given_on_line line.now }
+{
+    match line {
+        Line::Host(host) => host.given(),
+        Line::Ring(_) | Line::Lan(_) => &[],
+    }
+}
+
 // What the host of a node was given.
-fn given_to(end: &NodeEnd<Host>) -> &[Frame] {
+fn given_to(end: &NodeEnd<Host>) -> &[Frame]
+    ensures { result.now ≡ given_to end.now }
+{
     match end.ends.last() {
-        Some(last) => match &last.line {
-            Line::Host(host) => host.given(),
-            _ => &[],
-        },
+        Some(last) => given_on_line(&last.line),
         None => &[],
     }
 }
 
-// What ended a worker of a node early, if anything did.
-fn fault_in(end: &NodeEnd<Host>) -> Option<WorkerFault> {
-    for one in end.ends.as_slice() {
-        if one.fault.is_some() {
-            return one.fault;
+// What ended a worker of a node early, if anything did: the first fault in the order of the workers.
+#[tactic(auto, using(crate::proofs::Faults::first, crate::proofs::Faults::passed))]
+fn fault_in(end: &NodeEnd<Host>) -> Option<WorkerFault>
+    ensures { result ≡ slice_get (faults_of end.now) 0 }
+{
+    let mut rest = end.ends.as_slice();
+    while let Some((one, behind)) = rest.split_first() {
+        rest = behind;
+        if let Some(fault) = one.fault {
+            return Some(fault);
         }
     }
     None
@@ -120,7 +156,8 @@ fn append_ends(
 ) -> Result<(), RunFault>
     requires start { text.old ≡ [] }
     requires len { length judged.now ≡ length ends.now }
-    ensures { OnOk result (IsReport (length ends.now) text.new) }
+    ensures printed { OnOk result (text.new ≡ report_of ends.now judged.now) }
+    ensures whole { OnOk result (AllWhole ends.now) }
 {
     for node in 0..ends.len() {
         let end = &ends[node];
@@ -143,6 +180,9 @@ fn run_kits<W: Threads + Wait + Sync>(
 ) -> Result<(Vec<NodeEnd<Host>>, Vec<Judgement>), NetworkFault>
     ensures ends { IfOk result (λ r. vec_len r.0 ≡ vec_len kits) }
     ensures judged { IfOk result (λ r. vec_len r.1 ≡ vec_len r.0) }
+    ensures ran { IfOk result (λ r. RanIn ⟦<Host as Feed>⟧ net turns kits.items r.0.items) }
+    ensures judged_each { IfOk result (λ r.
+        AreJudged ⟦<Host as Feed>⟧ net (vec_len r.0) r.0.items r.1.items) }
 {
     match net {
         ThreadedNet::Ring => run_ring(rt, alloc, kits, turns),
@@ -160,7 +200,7 @@ pub(crate) fn run_network<W: Threads + Wait + Sync>(
     text: &mut Text,
 ) -> Result<(), RunFault>
     requires { text.old ≡ [] }
-    ensures { OnOk result (IsReport setup.now.nodes text.new) }
+    ensures { OnOk result (IsReport ⟦<Host as Feed>⟧ setup.now sent.now turns text.new) }
 {
     let kits = match kits_of(alloc, setup, sent) {
         Ok(kits) => kits,

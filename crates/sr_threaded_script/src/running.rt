@@ -1,16 +1,19 @@
 //! A script whose nodes run on threads.
 
-ghost use Rattle.std.specs.Prelude.{◌≡◌, true, OnOk, OnErr, ℕ, List};
+ghost use Rattle.std.specs.Prelude.{◌≡◌, ◌+◌, ◌-◌, ◌^◌, min, true, IfErr, OnOk, OnErr, ℕ, List};
 ghost use Rattle.std.specs.Io.KnownBytes.{Appends};
-ghost use Rattle.sr_threaded_script.specs.Reports.{IsReport};
-ghost use Rattle.sr_threaded_script.specs.Runs.{no_sendings_of, RunsThreaded, WritesFront};
+ghost use Rattle.sr_threaded_script.specs.Faults.{IsBehindLines, fault_line};
+ghost use Rattle.sr_threaded_script.specs.Networks.{IsReport};
+ghost use Rattle.sr_threaded_script.specs.Runs.{RunsThreaded, WritesFront};
 
-use crate::fault::{ThreadedFault, fault_at};
+use crate::fault::{ThreadedFault, fault_on_line};
+use crate::host::Host;
 use crate::network::run_network;
 use crate::session::SendSession;
 use crate::setup::ThreadedSetup;
 use sr_session::{Fault, FaultKind, run_session, write_out};
 use sr_text::Text;
+use sr_workers::Feed;
 use std::alloc::Global;
 use std::io::{BufRead, Write};
 use std::sync::Wait;
@@ -35,10 +38,14 @@ fn report<O: Write, W: Threads + Wait + Sync>(
     session: &SendSession,
     writer: &mut O,
 ) -> Result<(), ThreadedFault>
-    ensures done { OnOk result ((text : List ℕ) × IsReport setup.now.nodes text
+    ensures done { OnOk result ((text : List ℕ)
+        × IsReport ⟦<Host as Feed>⟧ setup.now session.now.sent.items turns text
         × Appends (O.contents writer.old) (O.contents writer.new) text) }
     ensures failed { OnErr result ((text : List ℕ)
         × WritesFront text (O.contents writer.old) (O.contents writer.new)) }
+    ensures kind { IfErr result IsBehindLines }
+    ensures line { IfErr result (λ fault.
+        fault_line fault ≡ min (session.now.last + 1) (2 ^ 64 - 1)) }
 {
     let line = session.last.saturating_add(1);
     let mut text = Text::new(alloc);
@@ -53,7 +60,7 @@ fn report<O: Write, W: Threads + Wait + Sync>(
                 }))
             }
         }
-        Err(fault) => Err(fault_at(fault, line)),
+        Err(fault) => Err(fault_on_line(fault, line)),
     }
 }
 
@@ -76,8 +83,8 @@ pub fn run_threaded<R: BufRead, O: Write, W: Threads + Wait + Sync>(
     reader: &mut R,
     writer: &mut O,
 ) -> Result<(), ThreadedFault>
-    // What is written is what comes of the lines, and then a report of each node.
-    ensures { RunsThreaded (no_sendings_of setup.now) (R.remaining reader.old)
+    // What is written is what comes of the lines, and then what is printed of the network of the setup, run for so many turns.
+    ensures { RunsThreaded ⟦<Host as Feed>⟧ setup.now turns (R.remaining reader.old)
         (R.remaining reader.new) (O.contents writer.old) (O.contents writer.new) result }
 {
     let mut session = SendSession::new(alloc, setup);
