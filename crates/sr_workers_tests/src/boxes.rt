@@ -1,7 +1,9 @@
 //! Workers over a role and framings in boxes.
 
 use super::gate::Carriage;
-use super::runs::{Gear, Gears, OWN, Shown, ran};
+use super::gear::{Gear, Gears};
+use super::marks::Shown;
+use super::runs::{OWN, ran};
 use sr_forwarding::{Danp, Framing, Role};
 use sr_node::Node;
 use std::alloc::Global;

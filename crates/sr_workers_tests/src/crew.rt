@@ -1,11 +1,11 @@
 //! Three workers at a node: what comes of them whatever the order in which they enter, and where their feeds stop.
 
 use super::hand::Halt::{Ends, Fails, Refuses};
-use super::runs::Outcome::{Holds, Stops, Whole};
-use super::runs::Step::{
+use super::runs::expect_steps;
+use super::steps::Outcome::{Holds, Stops, Whole};
+use super::steps::Step::{
     self, Flood, Free, FreeInBoxes, Gate, GateInBoxes, Halts, Turns, WriteGate, WriteGateInBoxes,
 };
-use super::runs::expect_steps;
 use sr_ports::Worker::{A, B, Host};
 
 // The framing of one port waits as it reads until the host was given the other's frame. So the other worker ran meanwhile, and

@@ -7,8 +7,16 @@ mod boxes;
 mod crew;
 pub mod gate;
 #[cfg(test)]
+mod gear;
+#[cfg(test)]
 mod hand;
+#[cfg(test)]
+mod judging;
+#[cfg(test)]
+mod marks;
 #[cfg(test)]
 mod runs;
 #[cfg(test)]
 mod scripts;
+#[cfg(test)]
+mod steps;
