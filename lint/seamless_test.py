@@ -1,10 +1,12 @@
 #!/usr/bin/env python3
 """./seamless builds each crate once, whoever calls it and however often, and a build that was broken off is in nobody's way."""
+import fcntl
 import os
 import shutil
 import signal
 import subprocess
 import tempfile
+import time
 import unittest
 from pathlib import Path
 
@@ -47,6 +49,17 @@ class Seamless(unittest.TestCase):
     def built(self):
         return (self.top / "built").read_text().split()
 
+    def await_unlocked(self):
+        """Waits until nobody holds the lock: the processes of a build that was broken off take a moment to end."""
+        latest = time.monotonic() + 30
+        with open(self.top / "seamless") as script:
+            while True:
+                try:
+                    return fcntl.flock(script, fcntl.LOCK_EX | fcntl.LOCK_NB)
+                except BlockingIOError:
+                    self.assertLess(time.monotonic(), latest)
+                    time.sleep(0.01)
+
     def test_two_at_once(self):
         calls = [self.call("first"), self.call("second")]
         ended = [call.communicate(timeout=30) for call in calls]
@@ -61,10 +74,13 @@ class Seamless(unittest.TestCase):
 
     def test_broken_off(self):
         call = self.call()
-        while not (self.top / "built").exists():
+        # The file is there a moment before its line is.
+        while not (self.top / "built").exists() or not self.built():
             self.assertIsNone(call.poll())
+            time.sleep(0.01)
         os.killpg(call.pid, signal.SIGTERM)
         call.communicate(timeout=30)
+        self.await_unlocked()
         out, err = self.call("then").communicate(timeout=30)
         self.assertEqual(out, "then\n")
         self.assertNotIn("waiting for it", err)
