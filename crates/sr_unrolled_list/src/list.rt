@@ -92,6 +92,17 @@ impl<T> UnrolledList<T> {
         self.last.get(place - before)
     }
 
+    /// The first item.
+    pub fn front(&self) -> Option<&T>
+        ensures there { IsSome result ↔ (0 < length self.now.items) }
+        ensures item { IfSome result (λ x. x.now ≡ slice_index_or self.now.items 0 x.now) }
+    {
+        if let Some(item) = self.pieces.front() {
+            return Some(item);
+        }
+        self.last.front()
+    }
+
     /// Makes room for so many more items. `AllocError` where an allocation fails. The items stay the same.
     pub fn reserve(&mut self, additional: usize) -> Result<(), AllocError>
         ensures items { self.new.items ≡ self.old.items }

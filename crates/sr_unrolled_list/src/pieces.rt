@@ -84,6 +84,14 @@ impl<T> Pieces<T> {
         self.used.get(spot.piece)?.get(spot.place)
     }
 
+    /// The first item.
+    pub(crate) fn front(&self) -> Option<&T>
+        ensures there { IsSome result ↔ (0 < length self.now.items) }
+        ensures item { IfSome result (λ x. x.now ≡ slice_index_or self.now.items 0 x.now) }
+    {
+        self.used.front()?.front()
+    }
+
     /// Takes the item at a place out, if there is one.
     pub(crate) fn remove(&mut self, place: usize) -> Option<T>
         ensures there { IsSome result ↔ (place < length self.old.items) }

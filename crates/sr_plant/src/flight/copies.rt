@@ -73,7 +73,7 @@ pub(crate) fn keep_off(kept: &mut Slab<Kept>, places: &mut Queue, link: usize)
         ≡ filter (λ c. not (is_on link c)) (copies_in kept.old places.old.items) }
 {
     for _ in 0..places.len() {
-        let Some(first) = places.get(0) else {
+        let Some(first) = places.front() else {
             return;
         };
         look_at(kept, places, first, link);

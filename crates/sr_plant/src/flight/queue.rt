@@ -66,6 +66,14 @@ impl Queue {
         self.places.get(place).copied()
     }
 
+    /// The first copy.
+    pub(crate) fn front(&self) -> Option<Flying>
+        ensures there { IsSome result ↔ (0 < length self.now.items) }
+        ensures item { IfSome result (λ f. f ≡ slice_index_or self.now.items 0 f) }
+    {
+        self.places.front().copied()
+    }
+
     /// Whether no copy is on this link, by its count. A link that has no count is never said to be free.
     pub(crate) fn is_free(&self, link: usize) -> bool
         ensures { result ≡ true → how_many (is_over link) self.now.items ≡ 0 }
