@@ -48,7 +48,7 @@ impl Session for PlantSession {
         Ok(())
     }
 
-    fn finish(&mut self, text: &mut Vec<u8>) -> Result<(), FaultKind> {
+    fn finish(&self, text: &mut Vec<u8>) -> Result<(), FaultKind> {
         append_flight(text, self.network.in_flight())
     }
 }

@@ -59,7 +59,7 @@ impl<P: Role> Session for NodeSession<P> {
         answer_unended(self, number, front, text)
     }
 
-    fn finish(&mut self, _text: &mut Vec<u8>) -> Result<(), FaultKind> {
+    fn finish(&self, _text: &mut Vec<u8>) -> Result<(), FaultKind> {
         Ok(())
     }
 }

@@ -41,7 +41,7 @@ impl<P: Role> Session for StatusSession<P> {
         )
     }
 
-    fn finish(&mut self, text: &mut Vec<u8>) -> Result<(), FaultKind> {
+    fn finish(&self, text: &mut Vec<u8>) -> Result<(), FaultKind> {
         tell_status(&self.0.node, text)
     }
 }

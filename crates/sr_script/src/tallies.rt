@@ -54,7 +54,7 @@ impl<P: Role> Session for TallySession<P> {
         )
     }
 
-    fn finish(&mut self, text: &mut Vec<u8>) -> Result<(), FaultKind> {
+    fn finish(&self, text: &mut Vec<u8>) -> Result<(), FaultKind> {
         tell_status(&self.at_work.node, text)?;
         append_counts(text, self.at_work.role, &self.at_work.node, &self.counts)
     }

@@ -26,10 +26,14 @@ Replies d s number [] text t = (text ≡ []) × (t ≡ s)
 Replies d s number (line ∷ lines) text t = (first : List ℕ) × (u : _) × (rest : List ℕ) × HasPlace number line
     × d.Replied s number line first u × Replies d u (number + 1) lines rest t × (text ≡ first ++ rest)
 
--- all lines are answered, then the end is printed, and what is held grew by that
-abbrev pub IsAnswered : {S : Type 0} → Dialogue S → S → List (List ℕ) → Option (List ℕ) → Option (List ℕ) → Type 0
-IsAnswered d start lines held now = (text : List ℕ) × (t : _) × (last : List ℕ) × Replies d start 1 lines text t × d.Ends t last
+-- all lines are answered, which came to t, then the end is printed, and what is held grew by that
+abbrev pub IsAnsweredTo : {S : Type 0} → Dialogue S → S → List (List ℕ) → Option (List ℕ) → Option (List ℕ) → S → Type 0
+IsAnsweredTo d start lines held now t = (text last : List ℕ) × Replies d start 1 lines text t × d.Ends t last
     × Appends held now (text ++ last)
+
+-- the same, whatever they came to
+abbrev pub IsAnswered : {S : Type 0} → Dialogue S → S → List (List ℕ) → Option (List ℕ) → Option (List ℕ) → Type 0
+IsAnswered {S} d start lines held now = (t : S) × IsAnsweredTo d start lines held now t
 
 -- the lines, of which the first has this number, are answered, which came to t, and what is held grew by the answers
 abbrev pub AreAnswered : {S : Type 0} → Dialogue S → S → ℕ → List (List ℕ) → Option (List ℕ) → Option (List ℕ) → S → Type 0

@@ -3,7 +3,7 @@
 ghost use Rattle.std.specs.Prelude.{◌≡◌, ◌⊎◌, ◌≤◌, ◌<◌, ◌++◌, ◌∷◌, [], ℕ, List, IfOk, IfErr, OnOk, OnErr, Err, IfSome, length, vec_capacity};
 ghost use Rattle.std.specs.Io.KnownBytes.{Appends};
 ghost use Rattle.sr_session.specs.Lines.{lines_of, IsOneOf};
-ghost use Rattle.sr_session.specs.Runs.{IsAnswered, EndsAt, EndsFrom, HeldSince, HasFault, Runs};
+ghost use Rattle.sr_session.specs.Runs.{IsAnsweredTo, EndsAt, EndsFrom, HeldSince, HasFault, Runs};
 ghost use Rattle.sr_session.specs.Fronts.{IsFrontLine, ObeysFront};
 ghost use Rattle.sr_session.specs.Turns.{AddsAnswer, IsFront, AreObeyed, Turned, AllAnswered};
 
@@ -284,15 +284,15 @@ fn obey_lines<S: Session, R: BufRead, W: Write>(
 
 /// Writes what the session says at the end.
 fn end<S: Session, W: Write>(
-    session: &mut S,
+    session: &S,
     text: &mut Vec<u8>,
     writer: &mut W,
 ) -> Result<(), FaultKind>
-    ensures ended { OnOk result ((last : List ℕ) × S.dialogue.Ends (S.state session.old) last
+    ensures ended { OnOk result ((last : List ℕ) × S.dialogue.Ends (S.state session.now) last
         × Appends (W.contents writer.old) (W.contents writer.new) last) }
     ensures failed { IfErr result (λ kind. IsOneOf kind (FaultKind.Write ∷ FaultKind.Memory ∷ [])) }
     ensures kept { IfErr result (λ kind. (number : ℕ)
-        → HeldSince S.dialogue (S.state session.old) number kind [] (W.contents writer.old)
+        → HeldSince S.dialogue (S.state session.now) number kind [] (W.contents writer.old)
         (W.contents writer.new)) }
 {
     text.clear();
@@ -319,8 +319,8 @@ fn obey_script<S: Session, R: BufRead, W: Write>(
     requires text { waiting.old.text ≡ [] }
     requires marks { waiting.old.marks.items ≡ [] }
     ensures done { OnOk result (IfSome (R.remaining reader.old) (λ input.
-        IsAnswered S.dialogue (S.state session.old) (lines_of input) (W.contents writer.old)
-        (W.contents writer.new))) }
+        IsAnsweredTo S.dialogue (S.state session.old) (lines_of input) (W.contents writer.old)
+        (W.contents writer.new) (S.state session.new))) }
     ensures ended { IfErr result (λ fault. IfSome (R.remaining reader.old) (λ input.
         EndsAt S.dialogue (S.state session.old) (lines_of input) fault (R.remaining reader.new)
         (W.contents writer.old) (W.contents writer.new))) }
@@ -346,8 +346,12 @@ pub fn run_session<S: Session, R: BufRead, W: Write>(
     reader: &mut R,
     writer: &mut W,
 ) -> Result<(), Fault>
-    ensures { Runs S.dialogue (S.state session.old) (R.remaining reader.old)
+    ensures runs { Runs S.dialogue (S.state session.old) (R.remaining reader.old)
         (R.remaining reader.new) (W.contents writer.old) (W.contents writer.new) result }
+    // At the end the session is where the lines led it.
+    ensures reached { OnOk result (IfSome (R.remaining reader.old) (λ input.
+        IsAnsweredTo S.dialogue (S.state session.old) (lines_of input) (W.contents writer.old)
+        (W.contents writer.new) (S.state session.new))) }
 {
     let Ok(mut line) = line_list(alloc) else {
         return Err(NOT_BEGUN);

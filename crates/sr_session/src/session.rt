@@ -58,8 +58,8 @@ pub trait Session: Drop {
     }
 
     /// What is to be printed at the end of the script.
-    fn finish(&mut self, text: &mut Vec<u8>) -> Result<(), FaultKind>
+    fn finish(&self, text: &mut Vec<u8>) -> Result<(), FaultKind>
         requires { text.old.items ≡ [] }
-        ensures ok { OnOk result (dialogue.Ends (state self.old) text.new.items) }
+        ensures ok { OnOk result (dialogue.Ends (state self.now) text.new.items) }
         ensures err { IfErr result (λ kind. kind ≡ FaultKind.Memory) };
 }

@@ -3,6 +3,7 @@ pub mod Begun
 pub mod Chosen
 pub mod Faults
 pub mod Handing
+pub mod Numbered
 pub mod Printed
 pub mod Reported
 pub mod Taken

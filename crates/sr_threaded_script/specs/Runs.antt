@@ -1,13 +1,13 @@
 -- How a threaded run begins, and how it ends.
-use Rattle.std.specs.Prelude.{◌≡◌, ◌⊎◌, ℕ, List, [], ◌++◌, Option, IfSome, Result, Ok, Err}
+use Rattle.std.specs.Prelude.{◌≡◌, ◌⊎◌, ◌+◌, ℕ, List, [], ◌++◌, length, Option, IfSome, Result, Ok, Err}
 use Rattle.std.specs.Io.KnownBytes.{Appends}
 use Rattle.sr_session.specs.Lines.{lines_of}
-use Rattle.sr_session.specs.Runs.{IsAnswered, Runs}
+use Rattle.sr_session.specs.Runs.{IsAnswered, IsAnsweredTo, Runs}
 use Rattle.sr_threaded_script.specs.declared.setup.ThreadedSetup.{ThreadedSetup}
 use Rattle.sr_threaded_script.specs.declared.fault.ThreadedFault.{ThreadedFault}
 use Rattle.sr_threaded_script.specs.declared.fault.ThreadedFault.TheVariants.{Script, NoThread}
 use Rattle.sr_threaded_script.specs.declared.session.SendSession.{SendSession}
-use Rattle.sr_threaded_script.specs.Faults.{IsBehindLines}
+use Rattle.sr_threaded_script.specs.Faults.{IsBehindLines, fault_line}
 use Rattle.sr_threaded_script.specs.Lines.{Sendings, threaded_dialogue}
 use Rattle.sr_workers.specs.declared.feed.Feed.{Ghosts}
 use Rattle.sr_threaded_script.specs.declared.host.Host.{Host}
@@ -21,25 +21,23 @@ sendings_of s = record { nodes = s.setup.nodes; sent = s.sent.items; last = s.la
 abbrev pub no_sendings_of : ThreadedSetup → Sendings
 no_sendings_of setup = record { nodes = setup.nodes; sent = []; last = 0 }
 
--- the text is what is printed of the network of a setup, whatever its hosts are to send
-abbrev pub IsNetworkReport : Ghosts Host → ThreadedSetup → ℕ → List ℕ → Type 0
-IsNetworkReport feed setup turns text = (sent : List (ℕ × List ℕ)) × IsReport feed setup sent turns text
-
 -- what is held grew by a front of the text
 abbrev pub WritesFront : List ℕ → Option (List ℕ) → Option (List ℕ) → Type 0
 WritesFront text held now = (front rest : List ℕ) × (text ≡ front ++ rest) × Appends held now front
 
--- all lines are answered, and then the network that ran is reported
+-- all lines are answered, and then the network is reported that ran, whose hosts are to send what the lines say
 abbrev pub RunsWhole : Ghosts Host → ThreadedSetup → ℕ → List ℕ → Option (List ℕ) → Option (List ℕ) → Type 0
 RunsWhole feed setup turns input held now =
-    (mid : Option (List ℕ)) × (report : List ℕ) × IsAnswered threaded_dialogue (no_sendings_of setup) (lines_of input) held mid
-    × IsNetworkReport feed setup turns report × Appends mid now report
+    (mid : Option (List ℕ)) × (told : Sendings) × (report : List ℕ)
+    × IsAnsweredTo threaded_dialogue (no_sendings_of setup) (lines_of input) held mid told
+    × IsReport feed setup told.sent turns report × Appends mid now report
 
--- all lines are answered, and then no more than a front of a text is written; the fault is one of the network, or of the writer
+-- all lines are answered, and then no more than a front of a text is written; the fault is one of the network, or of the writer, and its
+-- line is the one behind the last
 abbrev pub StopsBehind : Sendings → ThreadedFault → List ℕ → Option (List ℕ) → Option (List ℕ) → Type 0
 StopsBehind start fault input held now =
     (mid : Option (List ℕ)) × (text : List ℕ) × IsAnswered threaded_dialogue start (lines_of input) held mid × WritesFront text mid now
-    × IsBehindLines fault
+    × IsBehindLines fault × (fault_line fault ≡ length (lines_of input) + 1)
 
 -- a fault of the script, as of any script
 abbrev pub StopsWithin : Sendings → ThreadedFault → Option (List ℕ) → Option (List ℕ) → Option (List ℕ) → Option (List ℕ) → Type 0

@@ -75,7 +75,7 @@ impl Session for SendSession {
         }
     }
 
-    fn finish(&mut self, _text: &mut Vec<u8>) -> Result<(), FaultKind> {
+    fn finish(&self, _text: &mut Vec<u8>) -> Result<(), FaultKind> {
         Ok(())
     }
 }
