@@ -39,7 +39,7 @@ AddsAnswer d s number line text marks later more t = (first : List ℕ) × d.Kno
 -- the last.
 abbrev pub IsCut : List ℕ → List Mark → Fault → Option (List ℕ) → Option (List ℕ) → Type 0
 IsCut text marks fault held now = (taken place : ℕ) × Appends held now (take taken text) × (place ≤ taken) × (taken ≤ place + 1)
-    × (place < length text) × (fault.line ≡ line_of marks place) × (fault.kind ≡ kind.Write)
+    × (place < length text) × (fault.line ≡ line_of marks place) × (fault.kind ≡ kind.Write) × (taken < length text → place ≡ taken)
 
 -- where the octets that a reader has left are known, it lost these lines
 abbrev pub TakesLines : List (List ℕ) → Option (List ℕ) → Option (List ℕ) → Type 0

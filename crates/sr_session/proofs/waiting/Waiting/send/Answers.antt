@@ -30,6 +30,7 @@ returns-then-taken-len-clause-cut g c =
         omega (arith, long, some, bound, c.min-place.ensures, w.if-taken-len.true),
         named,
         refl,
+        λ less. omega (arith, less, long, bound, c.min-place.ensures),
       )
       | then-taken-len-via-else-taken-len+then-is_err w ↦ (
         taken,
@@ -40,6 +41,7 @@ returns-then-taken-len-clause-cut g c =
         omega (arith, long, some, bound, c.min-place.ensures, w.if-taken-len.false),
         named,
         refl,
+        λ less. omega (arith, less, long, bound, c.min-place.ensures),
       )
     ]
 
