@@ -2,166 +2,23 @@
 
 ghost use Rattle.std.specs.Prelude.{◌≡◌};
 
+mod coming;
+mod steps;
+
 use super::runs::OWN;
+use coming::{Came, came_of};
 use sr_forwarding::{Danp, Framing, PlainFraming, PrpFraming, Role};
 use sr_frame::Frame;
-use sr_node::{Answer, Event, NodeOf};
+use sr_node::{Event, NodeOf};
 use sr_ports::{Log, Pass, Passes, Settlement, SharedNode, Worker, enter, settle};
 use sr_prp_trailer::Lan;
-use sr_workers::{Feed, Kit, Line, Script, Seat, WorkerEnd, WorkerFault, run_worker};
+use sr_workers::{Kit, Line, Script, Seat, run_worker};
 use std::alloc::Global;
 use std::marker::Brand;
 use std::process::Abort;
 use std::sync::Wait;
 use std::sync::ledger::{Blank, Ledger};
-
-// What a script hands out.
-#[derive(Clone, Copy)]
-enum Say {
-    Frame(u64),
-    Tick(u64),
-    Idle,
-}
-
-// Who works.
-#[derive(Clone, Copy, PartialEq, Eq)]
-enum Who {
-    A,
-    Ager,
-    Host,
-}
-
-// A worker with a script, for so many turns. Before it begins the host has sent so many frames.
-#[derive(Clone, Copy)]
-struct Step {
-    who: Who,
-    sends: u64,
-    script: &'static [Say],
-    turns: u64,
-    wanted: Counts,
-}
-
-// What comes of it: frames and times that were unread, ticks, frames that were sent, takes, and the ends of the frames that the feed
-// was given.
-#[derive(Clone, Copy, PartialEq, Eq)]
-struct Counts {
-    unread: u64,
-    ticks: usize,
-    sent: usize,
-    takes: usize,
-    first: Option<[u8; 6]>,
-    second: Option<[u8; 6]>,
-}
-
-// What comes of a worker.
-#[derive(Clone, Copy)]
-enum Came {
-    // An allocation failed.
-    Short,
-    // Something does not hold that holds of each worker.
-    Wrong,
-    Whole(Counts),
-}
-
-const MIXED: &[Say] = &[
-    Say::Frame(0),
-    Say::Tick(10),
-    Say::Idle,
-    Say::Frame(20),
-    Say::Tick(30),
-];
-
-// The trailers of the first two frames that the node sends, at LAN A.
-const FIRST: Option<[u8; 6]> = Some([0xfb, 0xff, 0xa0, 52, 0x88, 0xfb]);
-
-const SECOND: Option<[u8; 6]> = Some([0xfc, 0x00, 0xa0, 52, 0x88, 0xfb]);
-
-const STEPS: &[Step] = &[
-    Step {
-        who: Who::Ager,
-        sends: 0,
-        script: MIXED,
-        turns: 9,
-        wanted: Counts {
-            unread: 2,
-            ticks: 2,
-            sent: 0,
-            takes: 0,
-            first: None,
-            second: None,
-        },
-    },
-    Step {
-        who: Who::Host,
-        sends: 0,
-        script: MIXED,
-        turns: 9,
-        wanted: Counts {
-            unread: 0,
-            ticks: 2,
-            sent: 2,
-            takes: 5,
-            first: None,
-            second: None,
-        },
-    },
-    Step {
-        who: Who::Host,
-        sends: 0,
-        script: MIXED,
-        turns: 1,
-        wanted: Counts {
-            unread: 0,
-            ticks: 0,
-            sent: 1,
-            takes: 1,
-            first: None,
-            second: None,
-        },
-    },
-    Step {
-        who: Who::A,
-        sends: 1,
-        script: &[Say::Idle],
-        turns: 1,
-        wanted: Counts {
-            unread: 0,
-            ticks: 0,
-            sent: 0,
-            takes: 2,
-            first: FIRST,
-            second: None,
-        },
-    },
-    Step {
-        who: Who::A,
-        sends: 2,
-        script: &[Say::Idle, Say::Idle],
-        turns: 9,
-        wanted: Counts {
-            unread: 0,
-            ticks: 0,
-            sent: 0,
-            takes: 4,
-            first: FIRST,
-            second: SECOND,
-        },
-    },
-    Step {
-        who: Who::A,
-        sends: 2,
-        script: &[],
-        turns: 9,
-        wanted: Counts {
-            unread: 0,
-            ticks: 0,
-            sent: 0,
-            takes: 0,
-            first: None,
-            second: None,
-        },
-    },
-];
+use steps::{Counts, STEPS, Say, Step, Who};
 
 // The host's frame.
 const OCTETS: [u8; 60] = [
@@ -185,82 +42,6 @@ fn lines_of(alloc: Global, script: &[Say]) -> Option<Vec<Line>> {
         lines.push(line).ok()?;
     }
     Some(lines)
-}
-
-// The last six octets of a frame that is the host's with six behind it. None of another frame.
-fn end_of(frame: &[u8]) -> Option<[u8; 6]> {
-    if frame.len() != 66 || !frame.starts_with(&OCTETS) {
-        return None;
-    }
-    let mut end = [0; 6];
-    end.copy_from_slice(&frame[60..]);
-    Some(end)
-}
-
-// The ends of the first two frames that a feed was given. None where there are more.
-fn ends_of(given: &[Frame]) -> Option<(Option<[u8; 6]>, Option<[u8; 6]>)> {
-    match given {
-        [] => Some((None, None)),
-        [first] => Some((end_of(first.octets()), None)),
-        [first, second] => Some((end_of(first.octets()), end_of(second.octets()))),
-        _ => None,
-    }
-}
-
-fn counts_of(end: &WorkerEnd<Script>) -> Option<Counts> {
-    let (first, second) = ends_of(end.feed.given())?;
-    let mut counts = Counts {
-        unread: end.unread,
-        ticks: 0,
-        sent: 0,
-        takes: 0,
-        first,
-        second,
-    };
-    for (_, answer) in &end.log.pairs {
-        match answer {
-            Answer::Ticked { .. } => counts.ticks = counts.ticks.saturating_add(1),
-            Answer::Sent(_) => counts.sent = counts.sent.saturating_add(1),
-            Answer::Taken(_) => counts.takes = counts.takes.saturating_add(1),
-            _ => {}
-        }
-    }
-    Some(counts)
-}
-
-// How many parcels a worker took out.
-fn parcels_in(log: &Log) -> usize {
-    let mut parcels = 0usize;
-    for (_, answer) in &log.pairs {
-        if matches!(answer, Answer::Taken(Some(_))) {
-            parcels = parcels.saturating_add(1);
-        }
-    }
-    parcels
-}
-
-// What holds of each worker: its fault is its feed's just where that failed, it holds a parcel there alone, and gave its feed all
-// others.
-fn is_sound(end: &WorkerEnd<Script>) -> bool {
-    let has_failed = end.feed.failures() > 0;
-    let held = match end.held {
-        Some(_) => 1usize,
-        None => 0usize,
-    };
-    has_failed == (end.fault == Some(WorkerFault::FeedFault))
-        && (has_failed || held == 0)
-        && parcels_in(&end.log) == end.feed.given().len().saturating_add(held)
-}
-
-fn came_of(end: &WorkerEnd<Script>) -> Came {
-    if !is_sound(end) {
-        return Came::Wrong;
-    }
-    match (end.fault, counts_of(end)) {
-        (None, Some(counts)) => Came::Whole(counts),
-        (Some(WorkerFault::JournalFull), _) | (_, None) => Came::Wrong,
-        _ => Came::Short,
-    }
 }
 
 // The host's frame as an event. None for want of memory, here and below.
@@ -340,13 +121,17 @@ fn ended<R: Role, L: Ledger, G: Framing, W: Wait>(
         feed,
         framing,
     } = kit;
-    let kit = Kit {
-        pass: Seat { shared, pass },
-        feed,
-        framing,
-    };
+    let kit = kit_of(Seat { shared, pass }, feed, framing);
     let (_, end) = run_worker(rt, alloc, kit, turns);
     (came_of(&end), end.log)
+}
+
+fn kit_of<P: Drop, G: Framing>(pass: P, feed: Script, framing: G) -> Kit<P, Script, G> {
+    Kit {
+        pass,
+        feed,
+        framing,
+    }
 }
 
 // The worker of the step begins at a node at which the host has sent.
@@ -374,51 +159,15 @@ fn begun<R: Role, L: Ledger, W: Wait>(
                 lan: Lan::A,
                 net: 0,
             };
-            let pass = a;
-            worked(
-                rt,
-                alloc,
-                shared,
-                Kit {
-                    pass,
-                    feed,
-                    framing,
-                },
-                step.turns,
-                log,
-            )
+            worked(rt, alloc, shared, kit_of(a, feed, framing), step.turns, log)
         }
         Who::Ager => {
-            let pass = ager;
-            let framing = PlainFraming;
-            worked(
-                rt,
-                alloc,
-                shared,
-                Kit {
-                    pass,
-                    feed,
-                    framing,
-                },
-                step.turns,
-                log,
-            )
+            let kit = kit_of(ager, feed, PlainFraming);
+            worked(rt, alloc, shared, kit, step.turns, log)
         }
         Who::Host => {
-            let pass = host;
-            let framing = PlainFraming;
-            worked(
-                rt,
-                alloc,
-                shared,
-                Kit {
-                    pass,
-                    feed,
-                    framing,
-                },
-                step.turns,
-                log,
-            )
+            let kit = kit_of(host, feed, PlainFraming);
+            worked(rt, alloc, shared, kit, step.turns, log)
         }
     }
 }
