@@ -28,7 +28,7 @@ use Rattle.std.proofs.Common.{
   inr,
   length-append,
 }
-use Rattle.std.specs.Prelude.{◌^◌, IfNone}
+use Rattle.std.specs.Prelude.{◌^◌, ◌-◌, IfSome, IfNone, OnErr, Result, Ok, Err, min, not, count_by}
 use Rattle.std.specs.Map.{lookup, set_value}
 use Rattle.std.proofs.lemmas.Bool.{cases_Bool}
 use Rattle.std.proofs.lemmas.Map.{length-set_value}
@@ -41,7 +41,8 @@ use Rattle.sr_audit.specs.declared.source.Source.{Source}
 use Rattle.sr_audit.specs.declared.span.Spans.{Spans}
 use Rattle.sr_audit.specs.Limits.{most_audited}
 use Rattle.sr_audit.specs.Taken.{HasTaken}
-use Rattle.sr_audit.specs.Audits.{Sent, of, IsEntryFor, Audits}
+use Rattle.sr_audit.specs.Audits.{Sent, of, IsEntryFor, Audits, left_out_of, IsLeftOut}
+use Rattle.sr_audit.proofs.FrameLemmas.{count-cons}
 
 -- no source has more arrivals than there are
 length-of : (m : Mac) (xs : List Sent) → length (of m xs) ≤ length xs
@@ -143,3 +144,84 @@ nothing_there (Some x) lacks = absurd cc
 pub without_answer : {X : Type 0} {P : Type 0} (o : Option X) → is_some o ≡ false → IfNone o P → P
 without_answer None lacks holds = holds
 without_answer (Some x) lacks holds = absurd cc
+
+-- a write at an address changes nothing of which addresses have an entry
+known_set : (entries : List (Mac × Source)) (src m : Mac) (was is : Source) → lookup (mac_eq src) entries ≡ Some was →
+    is_some (lookup (mac_eq m) (set_value (mac_eq src) entries is)) ≡ is_some (lookup (mac_eq m) entries)
+known_set entries src m was is found = ap is_some (lookup-set src m is entries (ap is_some found)) ∙ by (mac_eq src m) refl
+  where
+    by : (t : Bool) → mac_eq src m ≡ t → is_some (cond t (Some is) (lookup (mac_eq m) entries)) ≡ is_some (lookup (mac_eq m) entries)
+    by true same = sym (ap (λ k. is_some (lookup (mac_eq k) entries)) (sym (mac_same src m same)) ∙ ap is_some found)
+    by false other = refl
+
+pub left_set : (entries : List (Mac × Source)) (src : Mac) (was is : Source) → lookup (mac_eq src) entries ≡ Some was → (xs : List Sent) →
+    left_out_of (set_value (mac_eq src) entries is) xs ≡ left_out_of entries xs
+left_set entries src was is found xs = λ i. count_by (λ x. not (known_set entries src x.0 was is found i)) xs
+
+pub own_set : (entries : List (Mac × Source)) (src : Mac) (was is : Source) → lookup (mac_eq src) entries ≡ Some was →
+    is_some (lookup (mac_eq src) (set_value (mac_eq src) entries is)) ≡ true
+own_set entries src was is found = known_set entries src src was is found ∙ ap is_some found
+
+-- an entry for a source of which nothing came
+left_push : (entries : List (Mac × Source)) (src : Mac) (s : Source) (xs : List Sent) → lookup (mac_eq src) entries ≡ None → of src xs ≡ [] →
+    left_out_of (entries ++ (src, s) ∷ []) xs ≡ left_out_of entries xs
+left_push entries src s [] absent nothing = refl
+left_push entries src s (x ∷ xs) absent nothing = by (mac_eq src x.0) refl nothing (left_push entries src s xs absent)
+  where
+    p : Sent → Bool
+    p y = not (is_some (lookup (mac_eq y.0) (entries ++ (src, s) ∷ [])))
+
+    q : Sent → Bool
+    q y = not (is_some (lookup (mac_eq y.0) entries))
+
+    by : (t : Bool) → mac_eq src x.0 ≡ t → cond t (x.1 ∷ of src xs) (of src xs) ≡ [] →
+        (of src xs ≡ [] → left_out_of (entries ++ (src, s) ∷ []) xs ≡ left_out_of entries xs) →
+        left_out_of (entries ++ (src, s) ∷ []) (x ∷ xs) ≡ left_out_of entries (x ∷ xs)
+    by true own nothing rest = absurd cc
+    by false other nothing rest =
+        let same : p x ≡ q x =
+        ap (λ o. not (is_some o)) (lookup-push src x.0 s entries absent ∙ ap (λ b. cond b (Some s) (lookup (mac_eq x.0) entries)) other) in
+        count-cons p x xs ∙ ap (λ b. cond b 1 0 + count_by p xs) same ∙ ap (λ n. cond (q x) 1 0 + n) (rest nothing)
+        ∙ sym (count-cons q x xs)
+
+pub left_made : (spans : Spans) (xs : List Sent) (entries : List (Mac × Source)) (src : Mac) (s : Source) → Audits spans xs entries →
+    lookup (mac_eq src) entries ≡ None → length entries < most_audited → left_out_of (entries ++ (src, s) ∷ []) xs ≡ left_out_of entries xs
+left_made spans xs entries src s audits absent few =
+    left_push entries src s xs absent (none (subst (IsEntryFor spans (length entries) (of src xs)) absent (audits.each src)))
+  where
+    none : IsEntryFor spans (length entries) (of src xs) None → of src xs ≡ []
+    none (inl nothing) = nothing
+    none (inr full) = absurd (omega (arith, few, full))
+
+-- the count of what is left out, where nothing came, an arrival of a source with an entry, or one of another
+pub left_kept : (old new : List (Mac × Source)) (xs : List Sent) (count : ℕ) → left_out_of new xs ≡ left_out_of old xs →
+    IsLeftOut old xs count → IsLeftOut new xs count
+left_kept old new xs count same is = is ∙ ap (λ n. min n (2 ^ 64 - 1)) (sym same)
+
+pub left_known : (old new : List (Mac × Source)) (xs : List Sent) (src : Mac) (x : Arrival) (count : ℕ) →
+    left_out_of new xs ≡ left_out_of old xs → is_some (lookup (mac_eq src) new) ≡ true → IsLeftOut old xs count →
+    IsLeftOut new ((src, x) ∷ xs) count
+left_known old new xs src x count same known is =
+    let none : left_out_of new ((src, x) ∷ xs) ≡ 0 + left_out_of new xs =
+    count-cons (λ y. not (is_some (lookup (mac_eq y.0) new))) (src, x) xs
+    ∙ ap (λ b. cond (not b) 1 0 + left_out_of new xs) known in
+    omega (arith, is, none, same)
+
+pub left_more : (old new : List (Mac × Source)) (xs : List Sent) (src : Mac) (x : Arrival) (count : ℕ) →
+    left_out_of new xs ≡ left_out_of old xs → is_some (lookup (mac_eq src) new) ≡ false → IsLeftOut old xs count →
+    IsLeftOut new ((src, x) ∷ xs) (min (count + 1) (2 ^ 64 - 1))
+left_more old new xs src x count same unknown is =
+    let one : left_out_of new ((src, x) ∷ xs) ≡ 1 + left_out_of old xs =
+    count-cons (λ y. not (is_some (lookup (mac_eq y.0) new))) (src, x) xs
+    ∙ ap (λ b. cond (not b) 1 0 + left_out_of new xs) unknown ∙ ap (λ n. 1 + n) same in
+    omega (arith, is, one)
+
+-- what holds where there is an answer
+pub with_answer : {X : Type 0} {P : Type 0} (o : Option X) → is_some o ≡ true → IfSome o (λ x. P) → P
+with_answer None there holds = absurd cc
+with_answer (Some x) there holds = holds
+
+-- what holds holds where there is an error
+pub on_any_error : {X E : Type 0} {P : Type 0} (r : Result X E) → P → OnErr r P
+on_any_error (Ok x) holds = tt
+on_any_error (Err e) holds = holds

@@ -6,6 +6,7 @@ pub mod EdgeLemmas
 pub mod ExtentLemmas
 pub mod FitLemmas
 pub mod HearLemmas
+pub mod ListingLemmas
 pub mod LawLemmas
 pub mod RowLemmas
 pub mod SkewLemmas

@@ -8,6 +8,7 @@ pub mod Hearing
 pub mod Lanes
 pub mod Laws
 pub mod Limits
+pub mod Listings
 pub mod Looks
 pub mod Reaching
 pub mod Rows

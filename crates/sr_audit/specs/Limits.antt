@@ -26,3 +26,7 @@ exact_arrivals = 2 ^ 53
 -- project)
 abbrev pub least_sided : ℕ
 least_sided = 3
+
+-- of how many sources single frames are listed at once (choice of this project)
+abbrev pub listed_at_once : ℕ
+listed_at_once = 512

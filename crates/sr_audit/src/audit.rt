@@ -29,7 +29,7 @@ impl Audit {
     ghost use Rattle.sr_audit.specs.declared.arrival.Arrival.{Arrival};
     ghost use Rattle.sr_audit.specs.declared.span.Spans.{Spans};
     ghost use Rattle.sr_audit.specs.Taken.{TakesArrival, KeepsTaken};
-    ghost use Rattle.sr_audit.specs.Audits.{Audits, Sent};
+    ghost use Rattle.sr_audit.specs.Audits.{Audits, Sent, left_out_of, IsLeftOut};
     ghost use Rattle.sr_audit.specs.Hearing.{Reported, sign_of, Hears, HearsSign};
     ghost use Rattle.sr_audit.specs.Limits.{most_audited};
 
@@ -38,7 +38,7 @@ impl Audit {
         ensures audits { Audits spans [] result.sources.entries }
         ensures hears { Hears [] result.sources.entries }
         ensures spans { result.spans ≡ spans }
-        ensures none { result.left_out ≡ 0 }
+        ensures left_out { IsLeftOut result.sources.entries [] result.left_out }
     {
         Audit {
             alloc,
@@ -60,6 +60,11 @@ impl Audit {
         ensures full { IfOk result (λ made.
             made ≡ false → most_audited ≤ length self.new.sources.entries) }
         ensures spans { self.new.spans ≡ self.old.spans }
+        ensures known { (spans : Spans) (xs : List Sent)
+            → Audits spans xs self.old.sources.entries
+            → left_out_of self.new.sources.entries xs
+            ≡ left_out_of self.old.sources.entries xs }
+        ensures left_out { self.new.left_out ≡ self.old.left_out }
     {
         if self.sources.get(src).is_some() {
             return Ok(true);
@@ -82,6 +87,11 @@ impl Audit {
             → Hears signs self.old.sources.entries → Hears signs self.new.sources.entries) }
         ensures spans { self.new.spans ≡ self.old.spans }
         ensures none { IfNone result (self.new.sources ≡ self.old.sources) }
+        ensures known { (xs : List Sent) → left_out_of self.new.sources.entries xs
+            ≡ left_out_of self.old.sources.entries xs }
+        ensures own { IfSome result (λ _.
+            is_some (lookup (mac_eq src) self.new.sources.entries) ≡ true) }
+        ensures left_out { self.new.left_out ≡ self.old.left_out }
     {
         let spans = self.spans;
         self.sources.update_at(
@@ -104,6 +114,10 @@ impl Audit {
         ensures hears { (signs : List Reported)
             → Hears signs self.old.sources.entries → Hears signs self.new.sources.entries }
         ensures spans { self.new.spans ≡ self.old.spans }
+        ensures known { (xs : List Sent) → left_out_of self.new.sources.entries xs
+            ≡ left_out_of self.old.sources.entries xs }
+        ensures own { is_some (lookup (mac_eq src) self.new.sources.entries) ≡ true }
+        ensures left_out { self.new.left_out ≡ self.old.left_out }
     {
         self.take_at(src, x).unwrap()
     }
@@ -118,6 +132,9 @@ impl Audit {
             → Hears signs self.old.sources.entries
             → Hears ((mac, sign_of kind side time) ∷ signs) self.new.sources.entries) }
         ensures spans { self.new.spans ≡ self.old.spans }
+        ensures known { (xs : List Sent) → left_out_of self.new.sources.entries xs
+            ≡ left_out_of self.old.sources.entries xs }
+        ensures left_out { self.new.left_out ≡ self.old.left_out }
     {
         self.sources.update_at(
             None,
@@ -140,6 +157,9 @@ impl Audit {
             → Hears signs self.old.sources.entries
             → Hears ((mac, sign_of kind side time) ∷ signs) self.new.sources.entries }
         ensures spans { self.new.spans ≡ self.old.spans }
+        ensures known { (xs : List Sent) → left_out_of self.new.sources.entries xs
+            ≡ left_out_of self.old.sources.entries xs }
+        ensures left_out { self.new.left_out ≡ self.old.left_out }
     {
         self.hear_at(mac, kind, side, time).unwrap()
     }
@@ -158,6 +178,14 @@ impl Audit {
         ensures hears { (signs : List Reported)
             → Hears signs self.old.sources.entries → Hears signs self.new.sources.entries }
         ensures spans { self.new.spans ≡ self.old.spans }
+        ensures left_out { OnOk result ((xs : List Sent)
+            → Audits self.old.spans xs self.old.sources.entries
+            → IsLeftOut self.old.sources.entries xs self.old.left_out
+            → IsLeftOut self.new.sources.entries ((src, x) ∷ xs) self.new.left_out) }
+        ensures left_same { OnErr result ((spans : Spans) (xs : List Sent)
+            → Audits spans xs self.old.sources.entries
+            → IsLeftOut self.old.sources.entries xs self.old.left_out
+            → IsLeftOut self.new.sources.entries xs self.new.left_out) }
     {
         if self.take_at(src, x).is_some() {
             return Ok(());
@@ -185,6 +213,10 @@ impl Audit {
         ensures same { OnErr result ((signs : List Reported)
             → Hears signs self.old.sources.entries → Hears signs self.new.sources.entries) }
         ensures spans { self.new.spans ≡ self.old.spans }
+        ensures left_out { (spans : Spans) (xs : List Sent)
+            → Audits spans xs self.old.sources.entries
+            → IsLeftOut self.old.sources.entries xs self.old.left_out
+            → IsLeftOut self.new.sources.entries xs self.new.left_out }
     {
         if self.make_entry(mac)? {
             self.hear_known(mac, kind, side, time);
@@ -207,7 +239,7 @@ impl Audit {
         self.sources.len()
     }
 
-    /// How many arrivals were of sources beyond the 1024th.
+    /// How many arrivals were of sources beyond the 1024th. The count stays at 2^64 - 1.
     pub fn left_out(&self) -> u64
         ensures { result ≡ self.now.left_out }
     {

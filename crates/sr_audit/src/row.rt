@@ -56,7 +56,7 @@ fn row_with(row: Option<Row>, came: Came, time: u64, spans: &Spans) -> Option<Ro
 }
 
 /// The number that lies so many steps above the least of the last 1024.
-fn kept_number(greatest: Seq, steps: u16) -> Seq
+pub(crate) fn kept_number(greatest: Seq, steps: u16) -> Seq
     ensures { result.0 ≡ kept_number greatest.0 steps }
 {
     Seq(

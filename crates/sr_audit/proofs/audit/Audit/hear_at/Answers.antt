@@ -1,7 +1,7 @@
 use Rattle.std.proofs.Common.{rules}
 use Rattle.sr_audit.specs.Hearing.{sign_of, HearsSign}
 use Rattle.sr_audit.specs.Taken.{KeepsTaken}
-use Rattle.sr_audit.proofs.AuditLemmas.{audits_kept}
+use Rattle.sr_audit.proofs.AuditLemmas.{audits_kept, left_set}
 use Rattle.sr_audit.proofs.HearLemmas.{hears_taken}
 use Rattle.sr_audit.proofs.audit.Audit.hear_at.Goals as goal
 
@@ -17,3 +17,8 @@ returns-clause-heard c =
     let heard : HearsSign (sign_of c.args.kind c.args.side c.args.time) h.was h.is = search rules in
     λ signs hears. rw h.written (hears_taken signs c.args.self.now.sources.entries c.args.mac (sign_of c.args.kind c.args.side c.args.time) h.was h.is
     h.found heard.hears hears)
+
+pub returns-clause-known : goal.returns-clause-known
+returns-clause-known c =
+    let h = c.in_ok-update_at.ensures.changed in
+    λ xs. rw h.written (left_set c.args.self.now.sources.entries c.args.mac h.was h.is h.found xs)

@@ -2,7 +2,7 @@ use Rattle.std.proofs.Common.{rules, ◌≡◌, ◌<◌, arith, false, length, i
 use Rattle.std.specs.Map.{lookup}
 use Rattle.sr_frame.specs.Addresses.{mac_eq}
 use Rattle.sr_audit.specs.Limits.{most_audited}
-use Rattle.sr_audit.proofs.AuditLemmas.{audits_made, made_is, nothing_there}
+use Rattle.sr_audit.proofs.AuditLemmas.{audits_made, left_made, made_is, nothing_there}
 use Rattle.sr_audit.proofs.HearLemmas.{hears_made}
 use Rattle.sr_audit.proofs.audit.Audit.make_entry.Goals as goal
 
@@ -27,3 +27,11 @@ returns-clause-made c =
     let lacks : is_some (lookup (mac_eq c.args.src) c.args.self.now.sources.entries) ≡ false = search rules in
     let absent = nothing_there (lookup (mac_eq c.args.src) c.args.self.now.sources.entries) lacks in
     rw c.in_ok-append.ensures.entries (made_is c.args.self.now.sources.entries c.args.src c.in_ok-source.source absent)
+
+pub returns-clause-known : goal.returns-clause-known
+returns-clause-known c =
+    let lacks : is_some (lookup (mac_eq c.args.src) c.args.self.now.sources.entries) ≡ false = search rules in
+    let absent = nothing_there (lookup (mac_eq c.args.src) c.args.self.now.sources.entries) lacks in
+    let few : length c.args.self.now.sources.entries < most_audited = omega arith in
+    λ spans xs audits. rw c.in_ok-append.ensures.entries (left_made spans xs c.args.self.now.sources.entries c.args.src c.in_ok-source.source
+    audits absent few)

@@ -1,6 +1,6 @@
 use Rattle.std.proofs.Common.{rules, ◌≡◌}
 use Rattle.sr_audit.specs.Taken.{TakesArrival}
-use Rattle.sr_audit.proofs.AuditLemmas.{audits_taken}
+use Rattle.sr_audit.proofs.AuditLemmas.{audits_taken, left_set, own_set}
 use Rattle.sr_audit.proofs.HearLemmas.{hears_kept}
 use Rattle.sr_audit.proofs.audit.Audit.take_at.Goals as goal
 
@@ -16,3 +16,13 @@ returns-clause-hears c =
     let h = c.in_ok-update_at.ensures.changed in
     let same : h.is.alive ≡ h.was.alive = search rules in
     λ signs hears. rw h.written (hears_kept signs c.args.self.now.sources.entries c.args.src h.was h.is h.found same hears)
+
+pub returns-clause-known : goal.returns-clause-known
+returns-clause-known c =
+    let h = c.in_ok-update_at.ensures.changed in
+    λ xs. rw h.written (left_set c.args.self.now.sources.entries c.args.src h.was h.is h.found xs)
+
+pub returns-clause-own : goal.returns-clause-own
+returns-clause-own c =
+    let h = c.in_ok-update_at.ensures.changed in
+    rw h.written (own_set c.args.self.now.sources.entries c.args.src h.was h.is h.found)

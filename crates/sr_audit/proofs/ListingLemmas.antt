@@ -1,0 +1,243 @@
+-- What waits of the numbers of a stretch, while they are settled one by one.
+use Rattle.std.proofs.Common.{◌≡◌, ℕ, suc, ◌+◌, ◌-◌, ◌%◌, ◌<◌, ◌≤◌, List, [], ◌∷◌, ◌++◌, arith, refl, sym, ap, ◌∙◌, append_assoc, subst, inl, inr, Bool, true, false, cond}
+use Rattle.std.proofs.lemmas.List.{get_or-set_other, get_or-set_same, length-set}
+use Rattle.std.proofs.lemmas.Bool.{cases_eq, cases_lt, le-leb}
+use Rattle.std.specs.Prelude.{slice_set}
+use Rattle.sr_frame.specs.declared.fields.Mac.{Mac}
+use Rattle.sr_sequence.specs.declared.Seq.{Seq}
+use Rattle.sr_audit.specs.declared.listing.Fate.{Fate}
+use Rattle.sr_audit.specs.declared.listing.Fate.TheVariants.{Settled, PassedOver, ByA, ByB}
+use Rattle.sr_audit.specs.declared.listing.Listed.{Listed}
+use Rattle.sr_audit.specs.declared.listing.Pending.{Pending}
+use Rattle.sr_audit.specs.declared.span.Spans.{Spans}
+use Rattle.std.specs.Prelude.{nat_le, nat_eq}
+use Rattle.sr_sequence.specs.Numbers.{wire}
+use Rattle.sr_sequence.specs.Places.{place_of}
+use Rattle.sr_sequence.specs.declared.Distance.{Distance}
+use Rattle.sr_sequence.specs.declared.Distance.TheVariants.{Behind, Ahead}
+use Rattle.sr_dup_window.specs.Windows.{window_of}
+use Rattle.sr_audit.specs.declared.arrival.Arrival.{Arrival}
+use Rattle.sr_audit.specs.declared.look.Step.TheVariants.{Restart, Resume, Jump, On}
+use Rattle.sr_audit.specs.declared.numbers.Numbers.{Numbers}
+use Rattle.sr_audit.specs.Following.{KeepsFigures, FollowsArrivals}
+use Rattle.sr_audit.specs.Looks.{look_at}
+use Rattle.sr_audit.specs.Stretches.{Placed, top_number, newest_time, is_far, stretches}
+use Rattle.sr_audit.proofs.FollowLemmas.{none_stands}
+use Rattle.sr_audit.specs.Limits.{kept_numbers, epoch_gap, place_in}
+use Rattle.sr_audit.specs.Listings.{fate_kept, time_kept, packet_kept, settled_as, listed_of, waiting, steps_before, steps_behind, number_left, left_behind, KeepsPlaces, PutsFate, SettlesNumber, GoesOver, IsStepWithin, ListsWaiting, ListsEnd}
+use Rattle.sr_audit.specs.Rows.{kept_number}
+
+-- numbers less than 1024 apart have places of their own
+places_apart : (greatest i k : ℕ) → k < i → i < 1024 → place_in (kept_number greatest i) ≡ place_in (kept_number greatest k) → ⊥
+places_apart greatest i k before few same = omega (arith, before, few, same)
+
+-- the numbers from one on are as they were
+pub record AreLeft (greatest steps : ℕ) (old new : Pending) : Type 0 where
+  pub times : new.times.items ≡ old.times.items
+  pub packets : new.packets.items ≡ old.packets.items
+  pub fates : (i : ℕ) → steps ≤ i → i < 1024 → fate_kept new (kept_number greatest i) ≡ fate_kept old (kept_number greatest i)
+
+pub all_left : (greatest : ℕ) (p : Pending) → AreLeft greatest 0 p p
+all_left greatest p = record { times = refl; packets = refl; fates = λ i from few. refl }
+
+pub settled_next : (greatest k seq : ℕ) (old mid new : Pending) → AreLeft greatest k old mid → seq ≡ kept_number greatest k →
+    SettlesNumber seq mid new → AreLeft greatest (suc k) old new
+settled_next greatest k seq old mid new left is settled = let settles = subst (λ n. SettlesNumber n mid new) is settled in record {
+  times = settles.times ∙ left.times;
+  packets = settles.packets ∙ left.packets;
+  fates = λ i from few.
+      let later : k < i = omega (arith, from) in
+      rw settles.fates (get_or-set_other mid.fates.items (place_in (kept_number greatest k)) (place_in (kept_number greatest i)) Settled Settled
+      (places_apart greatest i k later few) ∙ left.fates i (omega (arith, from)) few);
+}
+
+-- what is listed of a number, where the same is kept of it
+settled_same : (spans : Spans) (p q : Pending) (src : Mac) (seq : Seq) (fate : Fate) → p.times.items ≡ q.times.items →
+    p.packets.items ≡ q.packets.items → settled_as spans p src seq fate ≡ settled_as spans q src seq fate
+settled_same spans p q src seq Settled times packets = refl
+settled_same spans p q src seq PassedOver times packets = rw times refl
+settled_same spans p q src seq ByA times packets = rw (times, packets) refl
+settled_same spans p q src seq ByB times packets = rw (times, packets) refl
+
+-- what was listed, with one number more
+pub listed_next : (spans : Spans) (src : Mac) (greatest k : ℕ) (seq : Seq) (old mid : Pending) (before now next : List Listed) → k < 1024 →
+    AreLeft greatest k old mid → seq.0 ≡ kept_number greatest k → now ≡ before ++ waiting spans old src greatest k →
+    next ≡ now ++ listed_of spans mid src seq → next ≡ before ++ waiting spans old src greatest (suc k)
+listed_next spans src greatest k seq old mid before now next few left number is more =
+    more
+    ∙ ap (λ n. now ++ listed_of spans mid src (record { 0 = n })) number
+    ∙ ap (λ l. l ++ listed_of spans mid src (record { 0 = kept_number greatest k })) is
+    ∙ ap (λ f. (before ++ waiting spans old src greatest k) ++ settled_as spans mid src (record { 0 = kept_number greatest k }) f)
+    (left.fates k (omega arith) few)
+    ∙ ap (λ l. (before ++ waiting spans old src greatest k) ++ l)
+    (settled_same spans mid old src (record { 0 = kept_number greatest k }) (fate_kept old (kept_number greatest k)) left.times left.packets)
+    ∙ append_assoc before (waiting spans old src greatest k) (listed_of spans old src (record { 0 = kept_number greatest k }))
+
+-- a number has the place of the one 1024 before it
+place_before : (n : ℕ) → place_in (steps_before n 1024) ≡ place_in n
+place_before n = omega arith
+
+-- numbers on the way ahead have places of their own
+way_apart : (seq steps i k : ℕ) → k < i → i < steps → steps < 1024 →
+    place_in (steps_before seq (steps - i - 1)) ≡ place_in (steps_before seq (steps - k - 1)) → ⊥
+way_apart seq steps i k before within few same = omega (arith, before, within, few, same)
+
+-- the numbers that a stretch will leave behind, from one on, are as they were
+pub record AreAhead (seq steps k : ℕ) (old new : Pending) : Type 0 where
+  pub fates : (i : ℕ) → k ≤ i → i < steps → fate_kept new (number_left seq steps i) ≡ fate_kept old (number_left seq steps i)
+  pub times : (i : ℕ) → k ≤ i → i < steps → time_kept new (number_left seq steps i) ≡ time_kept old (number_left seq steps i)
+  pub packets : (i : ℕ) → k ≤ i → i < steps → packet_kept new (number_left seq steps i) ≡ packet_kept old (number_left seq steps i)
+
+pub all_ahead : (seq steps : ℕ) (p : Pending) → AreAhead seq steps 0 p p
+all_ahead seq steps p = record { fates = λ i from few. refl; times = λ i from few. refl; packets = λ i from few. refl }
+
+pub gone_next : (spans : Spans) (src : Mac) (seq steps k n time : ℕ) (old mid new : Pending) (before after : List Listed) → steps < 1024 →
+    AreAhead seq steps k old mid → n ≡ steps_before seq (steps - k - 1) → GoesOver spans src n time mid new before after →
+    AreAhead seq steps (suc k) old new
+gone_next spans src seq steps k n time old mid new before after few ahead is gone =
+    let goes = subst (λ m. GoesOver spans src m time mid new before after) is gone in record {
+      fates = λ i from within.
+          let apart = later i from within in
+          let other = later_left i from within in
+          rw (goes.passed.fates, goes.settled.fates)
+          (get_or-set_other (slice_set mid.fates.items (place_in (number_left seq steps k)) Settled) (place_in (steps_before seq (steps - k - 1)))
+          (place_in (number_left seq steps i)) PassedOver Settled apart
+          ∙ get_or-set_other mid.fates.items (place_in (number_left seq steps k)) (place_in (number_left seq steps i)) Settled Settled other
+          ∙ ahead.fates i (omega (arith, from)) within);
+      times = λ i from within.
+          rw (goes.passed.times, goes.settled.times)
+          (get_or-set_other mid.times.items (place_in (steps_before seq (steps - k - 1))) (place_in (number_left seq steps i)) time 0 (later i from within)
+          ∙ ahead.times i (omega (arith, from)) within);
+      packets = λ i from within.
+          rw (goes.passed.packets, goes.settled.packets)
+          (get_or-set_other mid.packets.items (place_in (steps_before seq (steps - k - 1))) (place_in (number_left seq steps i)) 0 0 (later i from within)
+          ∙ ahead.packets i (omega (arith, from)) within);
+    }
+  where
+    later : (i : ℕ) → suc k ≤ i → i < steps → place_in (number_left seq steps i) ≡ place_in (steps_before seq (steps - k - 1)) → ⊥
+    later i from within same =
+        way_apart seq steps i k (omega (arith, from)) within few (sym (place_before (steps_before seq (steps - i - 1))) ∙ same)
+
+    later_left : (i : ℕ) → suc k ≤ i → i < steps → place_in (number_left seq steps i) ≡ place_in (number_left seq steps k) → ⊥
+    later_left i from within same = later i from within (same ∙ place_before (steps_before seq (steps - k - 1)))
+
+-- what is listed of a number, where the same is kept of it at its place
+settled_alike : (spans : Spans) (p q : Pending) (src : Mac) (seq : Seq) (fate : Fate) → time_kept p seq.0 ≡ time_kept q seq.0 →
+    packet_kept p seq.0 ≡ packet_kept q seq.0 → settled_as spans p src seq fate ≡ settled_as spans q src seq fate
+settled_alike spans p q src seq Settled times packets = refl
+settled_alike spans p q src seq PassedOver times packets = rw times refl
+settled_alike spans p q src seq ByA times packets = rw (times, packets) refl
+settled_alike spans p q src seq ByB times packets = rw (times, packets) refl
+
+pub gone_listed : (spans : Spans) (src : Mac) (seq steps k n time : ℕ) (old mid new : Pending) (before now next : List Listed) → k < steps →
+    AreAhead seq steps k old mid → n ≡ steps_before seq (steps - k - 1) → now ≡ before ++ left_behind spans old src seq steps k →
+    GoesOver spans src n time mid new now next → next ≡ before ++ left_behind spans old src seq steps (suc k)
+gone_listed spans src seq steps k n time old mid new before now next within ahead number is goes =
+    (subst (λ m. GoesOver spans src m time mid new now next) number goes).listed
+    ∙ ap (λ l. l ++ listed_of spans mid src (record { 0 = number_left seq steps k })) is
+    ∙ ap (λ f. (before ++ left_behind spans old src seq steps k) ++ settled_as spans mid src (record { 0 = number_left seq steps k }) f)
+    (ahead.fates k (omega arith) within)
+    ∙ ap (λ l. (before ++ left_behind spans old src seq steps k) ++ l)
+    (settled_alike spans mid old src (record { 0 = number_left seq steps k }) (fate_kept old (number_left seq steps k))
+    (ahead.times k (omega arith) within) (ahead.packets k (omega arith) within))
+    ∙ append_assoc before (left_behind spans old src seq steps k) (listed_of spans old src (record { 0 = number_left seq steps k }))
+
+-- numbers on the way back have places of their own
+back_apart : (seq i k : ℕ) → k < i → i < 1024 → place_in (steps_behind seq i) ≡ place_in (steps_behind seq k) → ⊥
+back_apart seq i k before few same = omega (arith, before, few, same)
+
+-- those from one on are passed over
+pub record ArePassed (seq time reach steps step : ℕ) (new : Pending) : Type 0 where
+  pub fates : (i : ℕ) → steps ≤ i + step → i + reach < steps → fate_kept new (steps_behind seq i) ≡ PassedOver
+  pub times : (i : ℕ) → steps ≤ i + step → i + reach < steps → time_kept new (steps_behind seq i) ≡ time
+
+pub none_passed : (seq time reach steps : ℕ) (p : Pending) → ArePassed seq time reach steps reach p
+none_passed seq time reach steps p = record {
+  fates = λ i from within. absurd (omega (arith, from, within));
+  times = λ i from within. absurd (omega (arith, from, within));
+}
+
+pub room_kept : (seq time packet : ℕ) (fate : Fate) (old new : Pending) → KeepsPlaces old → PutsFate seq fate time packet old new → KeepsPlaces new
+room_kept seq time packet fate old new room puts = record {
+  fates = rw puts.fates (length-set old.fates.items (place_in seq) fate ∙ room.fates);
+  times = rw puts.times (length-set old.times.items (place_in seq) time ∙ room.times);
+}
+
+pub passed_next : (seq time reach steps step : ℕ) (mid new : Pending) → step < steps → steps < 1024 → KeepsPlaces mid →
+    ArePassed seq time reach steps step mid → PutsFate (steps_behind seq (steps - step - 1)) PassedOver time 0 mid new →
+    ArePassed seq time reach steps (suc step) new
+passed_next seq time reach steps step mid new within few room passed puts = record {
+  fates = λ i from less.
+      elim (cases_eq i (steps - step - 1)) [
+        | inl same ↦ rw (puts.fates, same) (get_or-set_same mid.fates.items (place_in (steps_behind seq (steps - step - 1))) PassedOver Settled
+            (omega (arith, room.fates)))
+        | inr other ↦ rw puts.fates (get_or-set_other mid.fates.items (place_in (steps_behind seq (steps - step - 1)))
+            (place_in (steps_behind seq i)) PassedOver Settled (back_apart seq i (steps - step - 1) (omega (arith, from, other)) (omega (arith, less, few)))
+            ∙ passed.fates i (omega (arith, from, other)) less)
+      ];
+  times = λ i from less.
+      elim (cases_eq i (steps - step - 1)) [
+        | inl same ↦ rw (puts.times, same) (get_or-set_same mid.times.items (place_in (steps_behind seq (steps - step - 1))) time 0
+            (omega (arith, room.times)))
+        | inr other ↦ rw puts.times (get_or-set_other mid.times.items (place_in (steps_behind seq (steps - step - 1)))
+            (place_in (steps_behind seq i)) time 0 (back_apart seq i (steps - step - 1) (omega (arith, from, other)) (omega (arith, less, few)))
+            ∙ passed.times i (omega (arith, from, other)) less)
+      ];
+}
+
+-- one number more
+more : (k : ℕ) → suc k ≡ k + 1
+more k = omega arith
+
+pub left_more : (spans : Spans) (src : Mac) (greatest k : ℕ) (seq : Seq) (old mid new : Pending) (before now next : List Listed) → k < 1024 →
+    AreLeft greatest k old mid → seq.0 ≡ kept_number greatest k → now ≡ before ++ waiting spans old src greatest k →
+    next ≡ now ++ listed_of spans mid src seq → SettlesNumber seq.0 mid new →
+    (next ≡ before ++ waiting spans old src greatest (k + 1)) × AreLeft greatest (k + 1) old new
+left_more spans src greatest k seq old mid new before now next few left number is listed settles =
+    subst (λ m. (next ≡ before ++ waiting spans old src greatest m) × AreLeft greatest m old new) (more k) (
+      listed_next spans src greatest k seq old mid before now next few left number is listed,
+      settled_next greatest k seq.0 old mid new left number settles,
+    )
+
+pub gone_more : (spans : Spans) (src : Mac) (seq steps k n time : ℕ) (old mid new : Pending) (before now next : List Listed) → k < steps →
+    steps < 1024 → AreAhead seq steps k old mid → n ≡ steps_before seq (steps - k - 1) → now ≡ before ++ left_behind spans old src seq steps k →
+    GoesOver spans src n time mid new now next →
+    (next ≡ before ++ left_behind spans old src seq steps (k + 1)) × AreAhead seq steps (k + 1) old new
+gone_more spans src seq steps k n time old mid new before now next within few ahead number is goes =
+    subst (λ m. (next ≡ before ++ left_behind spans old src seq steps m) × AreAhead seq steps m old new) (more k) (
+      gone_listed spans src seq steps k n time old mid new before now next within ahead number is goes,
+      gone_next spans src seq steps k n time old mid new now next few ahead number goes,
+    )
+
+-- the greatest number of a source is that of its last stretch
+pub lists_end : (spans : Spans) (p : Pending) (src : Mac) (greatest : ℕ) (xs : List Arrival) (n : Numbers) (before after : List Listed) →
+    FollowsArrivals xs n → greatest ≡ (window_of n.seen).reference → ListsWaiting spans p src greatest before after →
+    ListsEnd spans p src (stretches xs) before after
+lists_end spans p src greatest xs n before after follows is waits = by (stretches xs) follows
+  where
+    by : (ss : List (List Placed)) → KeepsFigures ss n → ListsEnd spans p src ss before after
+    by [] keeps = absurd (none_stands n keeps.seen)
+    by (s ∷ rest) keeps = subst (λ g. ListsWaiting spans p src g before after) (is ∙ keeps.seen.reference) waits
+
+-- what goes on with a stretch lies less than 1024 ahead
+pub look_within : (ss : List (List Placed)) (x : Arrival) → IsStepWithin (look_at ss x).step
+look_within [] x = tt
+look_within (s ∷ before) x = by (nat_le epoch_gap (x.time - newest_time s)) (nat_eq x.seq.0 ((wire (top_number s) + 1) % 65536))
+    (place_of (wire (top_number s)) x.seq.0 kept_numbers)
+  where
+    on : (d : Distance) (b : Bool) → is_far d ≡ b → IsStepWithin (cond b Jump (On d))
+    on d true far = tt
+    on (Behind k) false near = tt
+    on (Ahead k) false near = near_is k near
+      where
+        near_is : (k : ℕ) → nat_le kept_numbers k ≡ false → k < kept_numbers
+        near_is k below =
+            elim (cases_lt k kept_numbers) [
+              | inl within ↦ within
+              | inr far ↦ let bad : true ≡ false = sym (le-leb kept_numbers k far) ∙ below in absurd cc
+            ]
+
+    by : (silent next : Bool) (d : Distance) → IsStepWithin (cond silent (cond next Resume Restart) (cond (is_far d) Jump (On d)))
+    by true true d = tt
+    by true false d = tt
+    by false next d = on d (is_far d) refl

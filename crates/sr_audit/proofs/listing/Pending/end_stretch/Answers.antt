@@ -1,0 +1,19 @@
+use Rattle.std.proofs.Common.{◌<◌, ◌∙◌, arith}
+use Rattle.sr_audit.proofs.ListingLemmas.{left_more}
+use Rattle.sr_audit.proofs.listing.Pending.end_stretch.Goals as goal
+
+pub loop-steps-preserved : goal.loop-steps-preserved
+loop-steps-preserved c =
+    let i = c.loop-steps.invariant in
+    let few : c.loop-steps.steps < 1024 = omega arith in
+    let m = left_more c.args.spans.now c.args.src c.args.greatest.0 c.loop-steps.steps c.kept_number.result c.args.self.now c.loop-steps.self
+    c.settle.new.self c.args.list.now.items c.loop-steps.list.items c.settle.new.list.items few i.2 c.kept_number.ensures i.1
+    c.in_ok-settle.ensures.listed c.settle.ensures.settled in
+    (c.settle.ensures.settled.numbers ∙ i.0, m.0, m.1)
+
+pub returns-clause-listed : goal.returns-clause-listed
+returns-clause-listed c = record {
+  count = c.loop-steps.steps;
+  all = omega arith;
+  listed = c.loop-steps.invariant.1;
+}
