@@ -39,6 +39,7 @@ impl Audit {
         ensures hears { Hears [] result.sources.entries }
         ensures spans { result.spans ≡ spans }
         ensures left_out { IsLeftOut result.sources.entries [] result.left_out }
+        ensures few { length result.sources.entries ≤ most_audited }
     {
         Audit {
             alloc,
@@ -65,6 +66,8 @@ impl Audit {
             → left_out_of self.new.sources.entries xs
             ≡ left_out_of self.old.sources.entries xs }
         ensures left_out { self.new.left_out ≡ self.old.left_out }
+        ensures few { length self.old.sources.entries ≤ most_audited
+            → length self.new.sources.entries ≤ most_audited }
     {
         if self.sources.get(src).is_some() {
             return Ok(true);
@@ -92,6 +95,7 @@ impl Audit {
         ensures own { IfSome result (λ _.
             is_some (lookup (mac_eq src) self.new.sources.entries) ≡ true) }
         ensures left_out { self.new.left_out ≡ self.old.left_out }
+        ensures len { length self.new.sources.entries ≡ length self.old.sources.entries }
     {
         let spans = self.spans;
         self.sources.update_at(
@@ -118,6 +122,7 @@ impl Audit {
             ≡ left_out_of self.old.sources.entries xs }
         ensures own { is_some (lookup (mac_eq src) self.new.sources.entries) ≡ true }
         ensures left_out { self.new.left_out ≡ self.old.left_out }
+        ensures len { length self.new.sources.entries ≡ length self.old.sources.entries }
     {
         self.take_at(src, x).unwrap()
     }
@@ -135,6 +140,7 @@ impl Audit {
         ensures known { (xs : List Sent) → left_out_of self.new.sources.entries xs
             ≡ left_out_of self.old.sources.entries xs }
         ensures left_out { self.new.left_out ≡ self.old.left_out }
+        ensures len { length self.new.sources.entries ≡ length self.old.sources.entries }
     {
         self.sources.update_at(
             None,
@@ -160,6 +166,7 @@ impl Audit {
         ensures known { (xs : List Sent) → left_out_of self.new.sources.entries xs
             ≡ left_out_of self.old.sources.entries xs }
         ensures left_out { self.new.left_out ≡ self.old.left_out }
+        ensures len { length self.new.sources.entries ≡ length self.old.sources.entries }
     {
         self.hear_at(mac, kind, side, time).unwrap()
     }
@@ -186,6 +193,8 @@ impl Audit {
             → Audits spans xs self.old.sources.entries
             → IsLeftOut self.old.sources.entries xs self.old.left_out
             → IsLeftOut self.new.sources.entries xs self.new.left_out) }
+        ensures few { length self.old.sources.entries ≤ most_audited
+            → length self.new.sources.entries ≤ most_audited }
     {
         if self.take_at(src, x).is_some() {
             return Ok(());
@@ -217,6 +226,8 @@ impl Audit {
             → Audits spans xs self.old.sources.entries
             → IsLeftOut self.old.sources.entries xs self.old.left_out
             → IsLeftOut self.new.sources.entries xs self.new.left_out }
+        ensures few { length self.old.sources.entries ≤ most_audited
+            → length self.new.sources.entries ≤ most_audited }
     {
         if self.make_entry(mac)? {
             self.hear_known(mac, kind, side, time);

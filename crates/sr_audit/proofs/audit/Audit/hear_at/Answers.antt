@@ -3,6 +3,8 @@ use Rattle.sr_audit.specs.Hearing.{sign_of, HearsSign}
 use Rattle.sr_audit.specs.Taken.{KeepsTaken}
 use Rattle.sr_audit.proofs.AuditLemmas.{audits_kept, left_set}
 use Rattle.sr_audit.proofs.HearLemmas.{hears_taken}
+use Rattle.std.proofs.lemmas.Map.{length-set_value}
+use Rattle.sr_frame.specs.Addresses.{mac_eq}
 use Rattle.sr_audit.proofs.audit.Audit.hear_at.Goals as goal
 
 pub returns-clause-audits : goal.returns-clause-audits
@@ -22,3 +24,8 @@ pub returns-clause-known : goal.returns-clause-known
 returns-clause-known c =
     let h = c.in_ok-update_at.ensures.changed in
     λ xs. rw h.written (left_set c.args.self.now.sources.entries c.args.mac h.was h.is h.found xs)
+
+pub returns-clause-len : goal.returns-clause-len
+returns-clause-len c =
+    let h = c.in_ok-update_at.ensures.changed in
+    rw h.written (length-set_value (mac_eq c.args.mac) c.args.self.now.sources.entries h.is)

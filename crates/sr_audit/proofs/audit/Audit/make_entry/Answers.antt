@@ -1,4 +1,4 @@
-use Rattle.std.proofs.Common.{rules, ◌≡◌, ◌<◌, arith, false, length, is_some}
+use Rattle.std.proofs.Common.{rules, ◌≡◌, ◌<◌, [], ◌∷◌, arith, false, length, length-append, is_some}
 use Rattle.std.specs.Map.{lookup}
 use Rattle.sr_frame.specs.Addresses.{mac_eq}
 use Rattle.sr_audit.specs.Limits.{most_audited}
@@ -35,3 +35,9 @@ returns-clause-known c =
     let few : length c.args.self.now.sources.entries < most_audited = omega arith in
     λ spans xs audits. rw c.in_ok-append.ensures.entries (left_made spans xs c.args.self.now.sources.entries c.args.src c.in_ok-source.source
     audits absent few)
+
+pub returns-clause-few : goal.returns-clause-few
+returns-clause-few c =
+    let few : length c.args.self.now.sources.entries < most_audited = omega arith in
+    λ before. rw c.in_ok-append.ensures.entries
+    (omega (arith, few, length-append c.args.self.now.sources.entries ((c.args.src, c.in_ok-source.source) ∷ [])))

@@ -2,6 +2,8 @@ use Rattle.std.proofs.Common.{rules, ◌≡◌}
 use Rattle.sr_audit.specs.Taken.{TakesArrival}
 use Rattle.sr_audit.proofs.AuditLemmas.{audits_taken, left_set, own_set}
 use Rattle.sr_audit.proofs.HearLemmas.{hears_kept}
+use Rattle.std.proofs.lemmas.Map.{length-set_value}
+use Rattle.sr_frame.specs.Addresses.{mac_eq}
 use Rattle.sr_audit.proofs.audit.Audit.take_at.Goals as goal
 
 pub returns-clause-taken : goal.returns-clause-taken
@@ -26,3 +28,8 @@ pub returns-clause-own : goal.returns-clause-own
 returns-clause-own c =
     let h = c.in_ok-update_at.ensures.changed in
     rw h.written (own_set c.args.self.now.sources.entries c.args.src h.was h.is h.found)
+
+pub returns-clause-len : goal.returns-clause-len
+returns-clause-len c =
+    let h = c.in_ok-update_at.ensures.changed in
+    rw h.written (length-set_value (mac_eq c.args.src) c.args.self.now.sources.entries h.is)
