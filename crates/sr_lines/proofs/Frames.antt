@@ -1,6 +1,6 @@
 -- One frame more from a wire.
 use Rattle.std.proofs.Common.{◌≡◌, ℕ, List, [], ◌∷◌, ◌++◌, refl, ap, sym, ◌∙◌}
-use Rattle.sr_workers.specs.Told.{Told, Framed}
+use Rattle.sr_workers.specs.Told.{Framed}
 use Rattle.sr_lines.specs.Handed.{frames_of}
 
 push : (xs : List (List ℕ)) (x : List ℕ) → frames_of (xs ++ x ∷ []) ≡ frames_of xs ++ Framed x 0 ∷ []

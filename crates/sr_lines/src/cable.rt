@@ -111,14 +111,12 @@ impl Feed for Cable {
 
     fn next<W: Wait>(&mut self, rt: &W, into: &mut Vec<u8>) -> Result<Turn, FeedFault> {
         // Nobody comes there: it would take 2^64 turns.
-        if self.counts.asked == u64::MAX {
-            self.counts.end();
+        if !self.counts.goes_on() {
             return Ok(Turn::End);
         }
         into.clear();
         if into.reserve(MAX_FRAME_LEN).is_err() {
-            self.counts.fail()?;
-            self.counts.end();
+            self.counts.fail_or_end()?;
             return Ok(Turn::End);
         }
         self.counts.asked += 1;

@@ -1,11 +1,11 @@
 //! What a line counts.
 
-ghost use Rattle.std.specs.Prelude.{◌≡◌, ◌+◌, ◌-◌, ◌^◌, OnOk, OnErr, true};
+ghost use Rattle.std.specs.Prelude.{◌≡◌, ◌≢◌, ◌+◌, ◌-◌, ◌^◌, ◌<◌, OnOk, OnErr, MatchBool, true};
 ghost use Rattle.sr_workers.specs.Told.{lost_after};
 
 use sr_workers::{FeedFault, Given};
 
-/// What a line counts.
+/// What a line counts. It ends only where it has answered as many turns, or failed as often, as can be counted.
 #[derive(Clone, Copy, Debug, Drop)]
 pub(crate) struct Counts {
     /// How often it failed.
@@ -16,6 +16,7 @@ pub(crate) struct Counts {
     pub(crate) lost: u64,
     /// It has answered `End`.
     pub(crate) ended: bool,
+    ghost ends: { ended ≡ true → asked ≢ 2 ^ 64 - 1 → failures ≡ 2 ^ 64 - 1 },
 }
 
 impl Counts {
@@ -56,13 +57,32 @@ impl Counts {
         }
     }
 
-    /// It ends.
-    pub(crate) fn end(&mut self)
-        ensures ended { self.new.ended ≡ true }
+    /// Whether it answers another turn. It ends where it has answered as many as can be counted.
+    pub(crate) fn goes_on(&mut self) -> bool
+        ensures more { MatchBool result ((self.old.asked < 2 ^ 64 - 1)
+            × (self.new.ended ≡ self.old.ended)) (self.new.ended ≡ true) }
         ensures failures { self.new.failures ≡ self.old.failures }
         ensures asked { self.new.asked ≡ self.old.asked }
         ensures lost { self.new.lost ≡ self.old.lost }
     {
+        if self.asked < u64::MAX {
+            return true;
+        }
         self.ended = true;
+        false
+    }
+
+    /// An allocation failed for a turn: that is a failure, or the end where there were as many as can be counted.
+    pub(crate) fn fail_or_end(&mut self) -> Result<(), FeedFault>
+        ensures ok { OnOk result (self.new.failures ≡ self.old.failures) }
+        ensures err { OnErr result (self.new.failures ≡ self.old.failures + 1) }
+        ensures ended { OnOk result (self.new.ended ≡ true) }
+        ensures goes_on { OnErr result (self.new.ended ≡ self.old.ended) }
+        ensures asked { self.new.asked ≡ self.old.asked }
+        ensures lost { self.new.lost ≡ self.old.lost }
+    {
+        self.fail()?;
+        self.ended = true;
+        Ok(())
     }
 }

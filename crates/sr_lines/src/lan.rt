@@ -1,7 +1,9 @@
 //! The wires between a port and those of all other nodes of a LAN.
 
-ghost use Rattle.std.specs.Prelude.{◌≡◌, ◌+◌, ◌<◌, ◌≤◌, OnOk, OnErr, IfOk};
-ghost use Rattle.sr_workers.specs.Told.{lost_after};
+ghost use Rattle.std.specs.Prelude.{◌≡◌, ◌+◌, ◌<◌, ◌≤◌, OnOk, OnErr, IfOk, MatchBool, MatchOption, true, false, [], length, get_or};
+ghost use Rattle.sr_workers.specs.Told.{lost_after, told_of, IsLastTurn};
+ghost use Rattle.sr_wires.specs.Wired.{WasFull};
+ghost use Rattle.sr_lines.specs.Losing.{MayLose};
 
 use crate::Ends;
 use crate::counts::Counts;
@@ -23,6 +25,7 @@ pub struct Lan {
 impl Lan {
     ghost use Rattle.sr_lines.specs.Handed.{lost_in, failed_in};
     ghost use Rattle.sr_lines.specs.Names.{wires_in};
+    ghost use Rattle.sr_lines.specs.Spreading.{sent_by_lan, taken_by_lan, grown_at, SpreadsTo, SpreadsToSome, TookOne, HandsOutOf, is_put};
 
     /// These ends, of which nothing was lost.
     pub fn new(alloc: Global, ends: Vec<Ends>) -> Lan
@@ -47,6 +50,11 @@ impl Lan {
 
     // The next frame of those that wait at one of them.
     fn take_at<W: Wait>(&mut self, rt: &W, at: usize) -> Option<Frame>
+        ensures taken { MatchOption result (taken_by_lan self.new ≡ taken_by_lan self.old)
+            (λ f. (at < length (taken_by_lan self.old))
+            × (taken_by_lan self.new ≡ grown_at at f (taken_by_lan self.old))) }
+        ensures sent { sent_by_lan self.new ≡ sent_by_lan self.old }
+        ensures turn { self.new.turn ≡ self.old.turn }
         ensures counts { self.new.counts ≡ self.old.counts }
         ensures wires { wires_in self.new ≡ wires_in self.old }
     {
@@ -58,6 +66,9 @@ impl Lan {
 
     // The next frame of those that wait, from the wire whose turn it is on.
     fn take_any<W: Wait>(&mut self, rt: &W) -> Option<Frame>
+        ensures taken { MatchOption result (taken_by_lan self.new ≡ taken_by_lan self.old)
+            (λ f. TookOne f (taken_by_lan self.old) (taken_by_lan self.new) self.new.turn) }
+        ensures sent { sent_by_lan self.new ≡ sent_by_lan self.old }
         ensures counts { self.new.counts ≡ self.old.counts }
         ensures wires { wires_in self.new ≡ wires_in self.old }
     {
@@ -77,6 +88,12 @@ impl Lan {
 
     // Sends a frame to one of them. False where its wire is full.
     fn put_at<W: Wait>(&mut self, rt: &W, at: usize, frame: Frame) -> bool
+        ensures sent { MatchBool result
+            (sent_by_lan self.new ≡ grown_at at frame (sent_by_lan self.old))
+            (sent_by_lan self.new ≡ sent_by_lan self.old) }
+        ensures full { result ≡ false → at < length (sent_by_lan self.old)
+            → WasFull (get_or (sent_by_lan self.old) at []) }
+        ensures taken { taken_by_lan self.new ≡ taken_by_lan self.old }
         ensures counts { self.new.counts ≡ self.old.counts }
         ensures wires { wires_in self.new ≡ wires_in self.old }
     {
@@ -88,6 +105,13 @@ impl Lan {
 
     // Sends a copy to one of them. False where its wire is full.
     fn give_one<W: Wait>(&mut self, rt: &W, at: usize, octets: &[u8]) -> Result<bool, FeedFault>
+        ensures sent { IfOk result (λ put. MatchBool put
+            (sent_by_lan self.new ≡ grown_at at octets.now (sent_by_lan self.old))
+            (sent_by_lan self.new ≡ sent_by_lan self.old)) }
+        ensures why { IfOk result (λ put. put ≡ false → at < length (sent_by_lan self.old)
+            → MayLose (get_or (sent_by_lan self.old) at []) octets.now self.old.counts.failures) }
+        ensures unsent { OnErr result (sent_by_lan self.new ≡ sent_by_lan self.old) }
+        ensures taken { taken_by_lan self.new ≡ taken_by_lan self.old }
         ensures wires { wires_in self.new ≡ wires_in self.old }
         ensures lost { self.new.counts.lost ≡ self.old.counts.lost }
         ensures ended { self.new.counts.ended ≡ self.old.counts.ended }
@@ -106,6 +130,11 @@ impl Lan {
 
     // Sends a copy to each of them. False where the wire of one is full.
     fn give_all<W: Wait>(&mut self, rt: &W, octets: &[u8]) -> Result<bool, FeedFault>
+        ensures sent { IfOk result (λ all. SpreadsTo octets.now self.old.counts.failures
+            (sent_by_lan self.old) (sent_by_lan self.new) all) }
+        ensures some { OnErr result (SpreadsToSome octets.now (sent_by_lan self.old)
+            (sent_by_lan self.new)) }
+        ensures taken { taken_by_lan self.new ≡ taken_by_lan self.old }
         ensures wires { wires_in self.new ≡ wires_in self.old }
         ensures lost { self.new.counts.lost ≡ self.old.counts.lost }
         ensures ended { self.new.counts.ended ≡ self.old.counts.ended }
@@ -124,6 +153,11 @@ impl Lan {
 
     // Sends a frame to all. One that is lost on one wire at least is counted.
     fn send<W: Wait>(&mut self, rt: &W, octets: &[u8]) -> Result<Given, FeedFault>
+        ensures sent { IfOk result (λ g. SpreadsTo octets.now self.old.counts.failures
+            (sent_by_lan self.old) (sent_by_lan self.new) (is_put g)) }
+        ensures some { OnErr result (SpreadsToSome octets.now (sent_by_lan self.old)
+            (sent_by_lan self.new)) }
+        ensures taken { taken_by_lan self.new ≡ taken_by_lan self.old }
         ensures wires { wires_in self.new ≡ wires_in self.old }
         ensures lost { IfOk result (λ g. self.new.counts.lost
             ≡ lost_after self.old.counts.lost g) }
@@ -139,6 +173,32 @@ impl Lan {
                 Ok(Given::Lost)
             }
             Err(fault) => Err(fault),
+        }
+    }
+
+    // What comes next.
+    fn read<W: Wait>(&mut self, rt: &W, into: &mut Vec<u8>) -> Result<Turn, FeedFault>
+        ensures handed { IfOk result (λ t. HandsOutOf (taken_by_lan self.old)
+            (taken_by_lan self.new) self.new.turn (told_of t into.new.items)) }
+        ensures unhanded { OnErr result (taken_by_lan self.new ≡ taken_by_lan self.old) }
+        ensures sent { sent_by_lan self.new ≡ sent_by_lan self.old }
+        ensures wires { wires_in self.new ≡ wires_in self.old }
+        ensures lost { self.new.counts.lost ≡ self.old.counts.lost }
+        ensures ended { IfOk result (λ t. IsLastTurn t → self.new.counts.ended ≡ true) }
+        ensures failed { OnErr result (self.old.counts.failures < self.new.counts.failures) }
+        ensures counted { self.old.counts.failures ≤ self.new.counts.failures }
+    {
+        into.clear();
+        if into.reserve(MAX_FRAME_LEN).is_err() {
+            self.counts.fail_or_end()?;
+            return Ok(Turn::End);
+        }
+        match self.take_any(rt) {
+            None => Ok(Turn::Idle),
+            Some(frame) => {
+                into.extend_from_slice(frame.octets()).unwrap();
+                Ok(Turn::Frame(0))
+            }
         }
     }
 }
@@ -167,19 +227,7 @@ impl Feed for Lan {
     ghost failed = { λ c. c.counts.failures };
 
     fn next<W: Wait>(&mut self, rt: &W, into: &mut Vec<u8>) -> Result<Turn, FeedFault> {
-        into.clear();
-        if into.reserve(MAX_FRAME_LEN).is_err() {
-            self.counts.fail()?;
-            self.counts.end();
-            return Ok(Turn::End);
-        }
-        match self.take_any(rt) {
-            None => Ok(Turn::Idle),
-            Some(frame) => {
-                into.extend_from_slice(frame.octets()).unwrap();
-                Ok(Turn::Frame(0))
-            }
-        }
+        self.read(rt, into)
     }
 
     fn give<W: Wait>(&mut self, rt: &W, octets: &[u8]) -> Result<Given, FeedFault> {

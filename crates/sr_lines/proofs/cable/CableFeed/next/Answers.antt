@@ -1,4 +1,4 @@
-use Rattle.std.proofs.Common.{rules, ap, ◌∙◌, refl}
+use Rattle.std.proofs.Common.{rules}
 use Rattle.sr_lines.proofs.Frames.{frames_more}
 use Rattle.sr_lines.proofs.cable.CableFeed.next.Goals as goal
 
