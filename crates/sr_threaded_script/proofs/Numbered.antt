@@ -1,5 +1,5 @@
 -- The number of the last line of a script.
-use Rattle.std.proofs.Common.{◌≡◌, ◌+◌, ◌-◌, ◌^◌, ◌≤◌, ℕ, List, [], ◌∷◌, length, Option, Some, None, ap, arith, ◌∙◌, lit≤}
+use Rattle.std.proofs.Common.{◌≡◌, ◌+◌, ◌-◌, ◌^◌, ◌≤◌, ℕ, List, [], ◌∷◌, length, Option, Some, None, ap, arith, subst, ◌∙◌, lit≤}
 use Rattle.std.specs.Prelude.{min}
 use Rattle.std.proofs.Math.Nat.{min-eq_left}
 use Rattle.sr_session.specs.Runs.{Replies}
@@ -39,7 +39,8 @@ counted s t number (line ∷ lines) text so_far h =
     let is = last_of_answer s h.1 number line h.0 h.4 in
     let next : AreCounted h.1 (number + 1) = record { counted = omega (arith, is); few = omega (arith, is, h.3.count) } in
     let e : number + 1 + length lines ≡ number + length (line ∷ lines) = omega arith in
-    rw e at counted h.1 t (number + 1) lines h.2 next h.5
+    let rest : AreCounted t (number + 1 + length lines) = counted h.1 t (number + 1) lines h.2 next h.5 in
+    subst (λ (n : ℕ). AreCounted t n) e rest
 
 -- behind all lines of a script, the number of the next one is one more than how many they are
 pub line_behind : (setup : ThreadedSetup) (told : Sendings) (lines : List (List ℕ)) (text : List ℕ)

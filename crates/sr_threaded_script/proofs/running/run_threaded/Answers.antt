@@ -13,6 +13,6 @@ returns-in-Ok g c =
     let mid = g.O.Write.contents c.run_session.new.writer in
     let left = g.R.Read.remaining c.args.reader.now in
     let told = sendings_of c.run_session.new.session in
-    let start = λ s. IfSome left (λ input. IsAnsweredTo threaded_dialogue s (lines_of input) held mid told) in
     runs_behind _ c.args.setup.now c.args.turns told c.report.result left _ held mid _ c.report.ensures.done c.report.ensures.failed
-    c.report.ensures.kind c.report.ensures.line (subst start c.new-session.ensures c.in-Ok.ensures.reached)
+    c.report.ensures.kind c.report.ensures.line
+    (subst (λ s. IfSome left (λ input. IsAnsweredTo threaded_dialogue s (lines_of input) held mid told)) c.new-session.ensures c.in-Ok.ensures.reached)
