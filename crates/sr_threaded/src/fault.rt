@@ -46,7 +46,9 @@ impl From<NoMemory> for NetworkFault {
 
 // The fault of workers that have no result.
 pub(crate) fn of_crew(fault: CrewFault) -> NetworkFault
-    ensures { result ≡ NetworkFault.Size → ⊥ }
+    ensures memory { fault ≡ CrewFault.NoMemory → result ≡ NetworkFault.NoMemory }
+    ensures thread { fault ≡ CrewFault.NoThread → result ≡ NetworkFault.NoThread }
+    ensures size { result ≡ NetworkFault.Size → ⊥ }
 {
     match fault {
         CrewFault::NoMemory => NetworkFault::NoMemory,

@@ -1,6 +1,8 @@
 //! One node of a threaded network.
 
 ghost use Rattle.std.specs.Prelude.{◌≡◌, ◌<◌, ◌∷◌, [], ℕ, IfOk, map, vec_len, slice_index_or};
+ghost use Rattle.sr_node.specs.NodeImages.{image_state};
+ghost use Rattle.sr_node.specs.States.{state_of};
 ghost use Rattle.sr_threaded.specs.Ran.{ArePartsOf, NodeRan, line_start, starts_at};
 
 use crate::lists::{both_of, split_all};
@@ -103,6 +105,7 @@ fn parts_of<L: Ledger, F: Feed>(done: (Pass<L>, WorkerEnd<Line<F>>)) -> (Log, Li
 
 // What a node ends with.
 fn end_of<F: Feed>(segment: Segment, logs: Vec<Log>, ends: Vec<LineEnd<F>>) -> NodeEnd<F>
+    ensures segment { result.segment ≡ segment }
     ensures logs { result.logs ≡ logs }
     ensures ends { result.ends ≡ ends }
 {
@@ -123,6 +126,7 @@ fn closed<L: Ledger, F: Feed>(
     segment: Segment,
     ends: Vec<(Pass<L>, WorkerEnd<Line<F>>)>,
 ) -> Result<NodeEnd<F>, CrewFault>
+    ensures segment { IfOk result (λ e. e.segment ≡ segment) }
     ensures logs { IfOk result (λ e. vec_len e.logs ≡ vec_len ends) }
     ensures ends { IfOk result (λ e. vec_len e.ends ≡ vec_len ends) }
     ensures each { IfOk result (λ e. (i : ℕ) (d : _) (l : _) (x : _) → i < vec_len ends
@@ -142,7 +146,11 @@ fn closed<L: Ledger, F: Feed>(
 }
 
 // The history of a node whose workers have ended.
-fn history_of<N: Role, L: Ledger>(kept: Kept<N, L>) -> Result<Segment, NoMemory> {
+fn history_of<N: Role, L: Ledger>(kept: Kept<N, L>) -> Result<Segment, NoMemory>
+    ensures opening { IfOk result (λ s. s.opening ≡ kept.opening) }
+    ensures entries { IfOk result (λ s. s.entries ≡ kept.journal) }
+    ensures closing { IfOk result (λ s. image_state s.closing ≡ state_of N.meaning kept.node) }
+{
     let mut kept = kept;
     let segment = rotate(&mut kept);
     drop(kept);

@@ -20,7 +20,7 @@ use Rattle.sr_workers.specs.declared.becoming.Becoming.{Becoming}
 use Rattle.sr_workers.specs.declared.becoming.Becoming.TheVariants as becoming
 use Rattle.sr_node.specs.Answers.{IsAnswerOf, SaysTaken}
 use Rattle.sr_workers.specs.Told.{Told, Framed, Timed, told_of, put_of, lost_after}
-use Rattle.sr_workers.specs.Work.{Became, entered, unread, refused, GivesEach, unwritten, gave, IsEventOf, IsOwn, brought_by, parcel_in, none_in}
+use Rattle.sr_workers.specs.Work.{Became, entered, unread, refused, GivesEach, unwritten, gave, IsEventOf, HasNoEvent, IsOwn, brought_by, parcel_in, none_in}
 use Rattle.sr_workers.specs.Turns.{Brings, Becomes, Out}
 
 -- what was handed out is the worker's own, and no Take
@@ -109,7 +109,7 @@ pub record Comes (w : Worker) (f : FramingImage) (turn : Turn) (octets : List �
   pub one : told_of turn octets ≡ told_one ∷ []
   pub event : IsEventOf w f told_one e
 
-comes : (w : Worker) (f : FramingImage) (turn : Turn) (octets : List ℕ) (e : Event) → Becomes w f turn octets (becoming.Event e) → Comes w f turn octets e
+pub comes : (w : Worker) (f : FramingImage) (turn : Turn) (octets : List ℕ) (e : Event) → Becomes w f turn octets (becoming.Event e) → Comes w f turn octets e
 comes who.A f (turn.Frame now) octets e is = record { told_one = Framed octets now; one = refl; event = is }
 comes who.B f (turn.Frame now) octets e is = record { told_one = Framed octets now; one = refl; event = is }
 comes who.C f (turn.Frame now) octets e is = record { told_one = Framed octets now; one = refl; event = is }
@@ -136,31 +136,39 @@ brings_refused w f turn octets b e n n' ps ps' u event is count log =
     let c = comes w f turn octets e (subst (λ x. Becomes w f turn octets x) event is) in
     subst (λ (x : ℕ × List (Event × Answer)). Brings w f turn octets n x.0 ps x.1 u (u + 1)) (λ i. (sym count i, sym log i)) (brings_no w f turn octets c.told_one n ps u c.one (refused c.told_one e [] [] 0 c.event Became.nothing))
 
-unread_at : (w : Worker) (f : FramingImage) (turn : Turn) (octets : List ℕ) (n : ℕ) (ps : List (Event × Answer)) (u : ℕ) → Becomes w f turn octets becoming.Unread → Brings w f turn octets n n ps ps u (u + 1)
-unread_at who.A f (turn.Frame now) octets n ps u is = brings_no who.A f (turn.Frame now) octets (Framed octets now) n ps u refl (unread (Framed octets now) [] [] 0 is Became.nothing)
-unread_at who.B f (turn.Frame now) octets n ps u is = brings_no who.B f (turn.Frame now) octets (Framed octets now) n ps u refl (unread (Framed octets now) [] [] 0 is Became.nothing)
-unread_at who.C f (turn.Frame now) octets n ps u is = brings_no who.C f (turn.Frame now) octets (Framed octets now) n ps u refl (unread (Framed octets now) [] [] 0 is Became.nothing)
-unread_at who.Ager f (turn.Frame now) octets n ps u is = brings_no who.Ager f (turn.Frame now) octets (Framed octets now) n ps u refl (unread (Framed octets now) [] [] 0 is Became.nothing)
-unread_at who.Host f (turn.Frame now) octets n ps u is = brings_no who.Host f (turn.Frame now) octets (Framed octets now) n ps u refl (unread (Framed octets now) [] [] 0 is Became.nothing)
-unread_at w f (turn.Tick now) octets n ps u is = absurd is
-unread_at w f turn.Idle octets n ps u is = absurd is
-unread_at w f turn.End octets n ps u is = absurd is
+-- what has no event was one thing
+pub record HasNone (w : Worker) (f : FramingImage) (turn : Turn) (octets : List ℕ) : Type 0 where
+  pub told_one : Told
+  pub one : told_of turn octets ≡ told_one ∷ []
+  pub none : HasNoEvent w f told_one
 
-nothing_at : (w : Worker) (f : FramingImage) (turn : Turn) (octets : List ℕ) (n : ℕ) (ps : List (Event × Answer)) (u : ℕ) → Becomes w f turn octets becoming.Nothing → Brings w f turn octets n n ps ps u u
-nothing_at who.A f (turn.Frame now) octets n ps u is = absurd is
-nothing_at who.B f (turn.Frame now) octets n ps u is = absurd is
-nothing_at who.C f (turn.Frame now) octets n ps u is = absurd is
-nothing_at who.Ager f (turn.Frame now) octets n ps u is = absurd is
-nothing_at who.Host f (turn.Frame now) octets n ps u is = absurd is
-nothing_at w f (turn.Tick now) octets n ps u is = absurd is
-nothing_at w f turn.Idle octets n ps u is = brings_none w f turn.Idle octets n ps u refl
-nothing_at w f turn.End octets n ps u is = brings_none w f turn.End octets n ps u refl
+pub has_none : (w : Worker) (f : FramingImage) (turn : Turn) (octets : List ℕ) → Becomes w f turn octets becoming.Unread → HasNone w f turn octets
+has_none who.A f (turn.Frame now) octets is = record { told_one = Framed octets now; one = refl; none = is }
+has_none who.B f (turn.Frame now) octets is = record { told_one = Framed octets now; one = refl; none = is }
+has_none who.C f (turn.Frame now) octets is = record { told_one = Framed octets now; one = refl; none = is }
+has_none who.Ager f (turn.Frame now) octets is = record { told_one = Framed octets now; one = refl; none = is }
+has_none who.Host f (turn.Frame now) octets is = record { told_one = Framed octets now; one = refl; none = is }
+has_none w f (turn.Tick now) octets is = absurd is
+has_none w f turn.Idle octets is = absurd is
+has_none w f turn.End octets is = absurd is
+
+-- where nothing was handed out, nothing is told
+pub none_told : (w : Worker) (f : FramingImage) (turn : Turn) (octets : List ℕ) → Becomes w f turn octets becoming.Nothing → told_of turn octets ≡ []
+none_told who.A f (turn.Frame now) octets is = absurd is
+none_told who.B f (turn.Frame now) octets is = absurd is
+none_told who.C f (turn.Frame now) octets is = absurd is
+none_told who.Ager f (turn.Frame now) octets is = absurd is
+none_told who.Host f (turn.Frame now) octets is = absurd is
+none_told w f (turn.Tick now) octets is = absurd is
+none_told w f turn.Idle octets is = refl
+none_told w f turn.End octets is = refl
 
 pub brings_unread : (w : Worker) (f : FramingImage) (turn : Turn) (octets : List ℕ) (b : Becoming) (n : ℕ) (ps : List (Event × Answer)) (u : ℕ) → b ≡ becoming.Unread → Becomes w f turn octets b → Brings w f turn octets n n ps ps u (u + 1)
-brings_unread w f turn octets b n ps u is becomes = unread_at w f turn octets n ps u (subst (λ x. Becomes w f turn octets x) is becomes)
+brings_unread w f turn octets b n ps u is becomes =
+    let h = has_none w f turn octets (subst (λ x. Becomes w f turn octets x) is becomes) in brings_no w f turn octets h.told_one n ps u h.one (unread h.told_one [] [] 0 h.none Became.nothing)
 
 pub brings_nothing : (w : Worker) (f : FramingImage) (turn : Turn) (octets : List ℕ) (b : Becoming) (n : ℕ) (ps : List (Event × Answer)) (u : ℕ) → b ≡ becoming.Nothing → Becomes w f turn octets b → Brings w f turn octets n n ps ps u u
-brings_nothing w f turn octets b n ps u is becomes = nothing_at w f turn octets n ps u (subst (λ x. Becomes w f turn octets x) is becomes)
+brings_nothing w f turn octets b n ps u is becomes = brings_none w f turn octets n ps u (none_told w f turn octets (subst (λ x. Becomes w f turn octets x) is becomes))
 
 -- a parcel was written, and given
 pub out_gave : (tells : Bool) (f : FramingImage) (p : ParcelImage) (g g' : List (List ℕ)) (n n' : ℕ) (given : Given) (q : ParcelImage) (old new octets : List ℕ) → q ≡ p → old ≡ [] → octets ≡ new → write_fault f q ≡ None → Appends f q old new → (tells ≡ true → g' ≡ g ++ put_of given octets) → n' ≡ lost_after n given → Out tells f p g g' n n'

@@ -1,4 +1,5 @@
 pub mod Bringing
+pub mod Calling
 pub mod Lists
 pub mod Rows
 pub mod Steps

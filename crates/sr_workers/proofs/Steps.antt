@@ -234,7 +234,7 @@ pub did_end : (tells : Bool) (w : Worker) (f : FramingImage) (x : Turn) (octets 
 did_end tells w f x octets s t is count pairs unread handed asked given losses failed =
     did_still tells w f s t count pairs unread (λ tell. handed tell ∙ ap (λ y. s.handed ++ told_of y octets) is ∙ append-nil s.handed) (λ tell. omega (arith, asked tell, ap turns_in is)) given losses failed
 
-told_few : (t : Turn) (octets : List ℕ) → length (told_of t octets) ≤ 1
+pub told_few : (t : Turn) (octets : List ℕ) → length (told_of t octets) ≤ 1
 told_few (turn.Frame now) octets = lit≤ tt
 told_few (turn.Tick now) octets = lit≤ tt
 told_few turn.Idle octets = lit≤ tt

@@ -1,3 +1,4 @@
+pub mod Calls
 pub mod Crews
 pub mod Ends
 pub mod Entering

@@ -1,5 +1,5 @@
 -- What a script hands out.
-use Rattle.std.specs.Prelude.{ℕ, List, [], ◌∷◌, ◌++◌, take, drop}
+use Rattle.std.specs.Prelude.{◌≡◌, ◌≤◌, ◌⊎◌, ℕ, ◌+◌, ◌^◌, List, [], ◌∷◌, ◌++◌, length, take, drop}
 use Rattle.sr_workers.specs.declared.script.Line.{Line}
 use Rattle.sr_workers.specs.declared.script.Line.TheVariants as line
 use Rattle.sr_workers.specs.declared.script.Script.{Script}
@@ -28,6 +28,10 @@ will_tell s = all_told (drop s.next s.lines.items)
 
 abbrev pub was_given : Script → List (List ℕ)
 was_given s = s.given.items
+
+-- a script has nothing left to hand out: all its lines were handed out, or it has failed as often as can be counted
+abbrev pub IsSpent : List Line → ℕ → ℕ → Type 0
+IsSpent lines next failures = (length lines ≤ next) ⊎ (failures + 1 ≡ 2 ^ 64)
 
 -- how many frames it was given and has not kept
 abbrev pub has_lost : Script → ℕ

@@ -1,7 +1,11 @@
 //! What a worker enters its events by.
 
 ghost use Rattle.std.specs.Prelude.{◌≡◌, ◌+◌, ◌≢◌, ℕ, None, IfOk, IfErr, OnErr};
+ghost use Rattle.std.specs.declared.result.Result.{Result};
+ghost use Rattle.sr_node.specs.declared.event.Event.{Event};
+ghost use Rattle.sr_node.specs.declared.event.Answer.{Answer};
 ghost use Rattle.sr_node.specs.Answers.{IsAnswerOf};
+ghost use Rattle.sr_ports.specs.declared.fault.EnterFault.{EnterFault};
 ghost use Rattle.sr_ports.specs.declared.worker.Worker.{Worker};
 ghost use Rattle.sr_workers.specs.Entering.{IsRefusalOf};
 
@@ -19,6 +23,10 @@ pub trait Enters: Drop {
     /// How many events were entered.
     ghost count: { Self → ℕ };
 
+    /// That an event led from one state to another, with this answer or refusal. Whoever enters events by any such way knows this of
+    /// none but those that it entered.
+    ghost enters: { Self → Event → Result Answer EnterFault → Self → Type 0 };
+
     /// Whose it is.
     fn worker(&self) -> Worker
         ensures { result ≡ whose self.now };
@@ -26,6 +34,7 @@ pub trait Enters: Drop {
     /// Enters an event whole, as one step of the node, or refuses it. A Take is refused for a full journal or for want of
     /// memory alone.
     fn enter<W: Wait>(&mut self, rt: &W, event: &Event) -> Result<Answer, EnterFault>
+        ensures enters { enters self.old event.now result self.new }
         ensures whose { whose self.new ≡ whose self.old }
         ensures count { IfOk result (λ a. count self.new ≡ count self.old + 1) }
         ensures answer { IfOk result (λ a. IsAnswerOf event.now a) }
@@ -43,9 +52,13 @@ pub struct Seat<'s, R: Role, L: Ledger> {
 }
 
 impl<R: Role, L: Ledger> Enters for Seat<'_, R, L> {
+    ghost use Rattle.sr_workers.specs.Entering.{EntersWith};
+
     ghost whose = { λ s. s.pass.worker };
 
     ghost count = { λ s. s.pass.count };
+
+    ghost enters = { λ s e r t. EntersWith s.pass e r t.pass };
 
     fn worker(&self) -> Worker {
         self.pass.worker()

@@ -1,6 +1,8 @@
 //! Where a worker's frames come from, and where they go.
 
-ghost use Rattle.std.specs.Prelude.{◌≡◌, ◌<◌, ◌≤◌, ◌+◌, ◌++◌, ℕ, List, Bool, true, IfOk, OnErr};
+ghost use Rattle.std.specs.Prelude.{◌≡◌, ◌<◌, ◌≤◌, ◌+◌, ◌++◌, ℕ, List, Bool, true, ⊤, IfOk, OnErr};
+ghost use Rattle.sr_workers.specs.declared.feed.Given.{Given};
+ghost use Rattle.sr_workers.specs.declared.feed.Turn.{Turn};
 ghost use Rattle.sr_workers.specs.Told.{Told, told_of, turns_in, put_of, lost_after, IsLastTurn};
 
 use crate::FeedFault;
@@ -57,8 +59,16 @@ pub trait Feed: Drop {
     /// How often it failed.
     ghost failed: { Self → ℕ };
 
+    /// What it says of a turn that it answered, and of what that handed out, from one state to another, beside what every feed says:
+    /// nothing more, unless it says otherwise.
+    ghost hands: { Self → Turn → List ℕ → Self → Type 0 } = { λ _ _ _ _. ⊤ };
+
+    /// What it says so of a frame that it was given, and of its answer.
+    ghost takes: { Self → List ℕ → Given → Self → Type 0 } = { λ _ _ _ _. ⊤ };
+
     /// What comes next.
     fn next<W: Wait>(&mut self, rt: &W, into: &mut Vec<u8>) -> Result<Turn, FeedFault>
+        ensures hands { IfOk result (λ t. hands self.old t into.new.items self.new) }
         ensures name { name self.new ≡ name self.old }
         ensures tells { tells self.new ≡ tells self.old }
         ensures handed { tells self.old ≡ true → IfOk result (λ t.
@@ -77,6 +87,7 @@ pub trait Feed: Drop {
 
     /// Takes a frame.
     fn give<W: Wait>(&mut self, rt: &W, octets: &[u8]) -> Result<Given, FeedFault>
+        ensures takes { IfOk result (λ g. takes self.old octets.now g self.new) }
         ensures name { name self.new ≡ name self.old }
         ensures tells { tells self.new ≡ tells self.old }
         ensures given { tells self.old ≡ true → IfOk result (λ g.

@@ -1,10 +1,10 @@
 //! A worker at work, and what it brings to its node.
 
-ghost use Rattle.std.specs.Prelude.{◌≡◌, ◌≢◌, ◌≤◌, ◌+◌, ◌<◌, ◌^◌, ◌∷◌, ◌++◌, [], IfOk, IfErr, OnOk, OnErr, MatchBool, vec_capacity};
+ghost use Rattle.std.specs.Prelude.{◌≡◌, ◌≢◌, ◌≤◌, ◌+◌, ◌<◌, ◌^◌, ◌∷◌, ◌++◌, [], None, Some, IfOk, IfErr, OnOk, OnErr, MatchBool, vec_capacity};
 ghost use Rattle.sr_node.specs.declared.event.Answer.{Answer};
 ghost use Rattle.sr_node.specs.Answers.{IsAnswerOf};
 ghost use Rattle.sr_workers.specs.declared.fault.WorkerFault.TheVariants.{FeedFault as Failed};
-ghost use Rattle.sr_workers.specs.Posts.{HasFrameRoom, Logged, BringsTo};
+ghost use Rattle.sr_workers.specs.Posts.{HasFrameRoom, Logged, StopsAtEvent, BringsTo, CallsFor};
 
 use crate::becoming::{Becoming, event_of};
 use crate::fault::stop_of;
@@ -65,7 +65,9 @@ fn enter_logged<E: Enters, F: Feed, W: Wait>(
     ensures feed { post.new.feed ≡ post.old.feed }
     ensures unread { post.new.unread ≡ post.old.unread }
     ensures held { post.new.held ≡ post.old.held }
-    ensures ok { IfOk result (λ entered. Logged E.count entered event post.old post.new) }
+    ensures ok { IfOk result (λ entered.
+        Logged E.enters E.count entered event post.old post.new) }
+    ensures stops { IfErr result (λ reason. StopsAtEvent E.enters reason event post.old post.new) }
     ensures fault { IfErr result (λ f. f ≢ Failed) }
     ensures count { OnErr result (E.count post.new.seat ≡ E.count post.old.seat) }
     ensures pairs { OnErr result (post.new.log.pairs.items ≡ post.old.log.pairs.items) }
@@ -102,6 +104,10 @@ pub(crate) fn bring<E: Enters, F: Feed, G: Framing, W: Wait>(
     ensures held { post.new.held ≡ post.old.held }
     ensures ok { OnOk result (BringsTo E.whose E.count (G.meaning framing.now) turn octets.now
         post.old post.new) }
+    ensures calls { OnOk result (CallsFor E.enters E.whose (G.meaning framing.now) turn octets.now
+        None post.old post.new) }
+    ensures stops { IfErr result (λ reason. CallsFor E.enters E.whose (G.meaning framing.now)
+        turn octets.now (Some reason) post.old post.new) }
     ensures fault { IfErr result (λ f. f ≢ Failed) }
     ensures count { OnErr result (E.count post.new.seat ≡ E.count post.old.seat) }
     ensures pairs { OnErr result (post.new.log.pairs.items ≡ post.old.log.pairs.items) }

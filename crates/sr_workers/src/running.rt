@@ -3,8 +3,9 @@
 ghost use Rattle.std.specs.Prelude.{◌≡◌, ◌≤◌, ◌+◌, ◌<◌, ◌^◌, [], true, false, Some, None, MatchBool, MatchOption, IfOk, OnOk, IfErr, OnErr};
 ghost use Rattle.sr_ports.specs.declared.worker.Worker.TheVariants.{Ager};
 ghost use Rattle.sr_workers.specs.declared.feed.Turn.TheVariants.{End};
+ghost use Rattle.sr_workers.specs.Calls.{Called};
 ghost use Rattle.sr_workers.specs.Told.{turns_in};
-ghost use Rattle.sr_workers.specs.Posts.{Does, DoesLast, HasFrameRoom, post_moment};
+ghost use Rattle.sr_workers.specs.Posts.{CallsOf, Does, DoesLast, HasFrameRoom, post_moment};
 ghost use Rattle.sr_workers.specs.Work.{Finished, Stopped, ServesPort, nones_of};
 ghost use Rattle.sr_workers.specs.Worked.{Worked, worker_begun, ended};
 
@@ -64,6 +65,10 @@ fn one_turn<E: Enters, F: Feed, G: Framing, W: Wait>(
         (G.meaning framing.now) (nones_of (E.whose post.old.seat) 1) 1 post.old post.new)
         ((F.ended post.new.feed ≡ true) × Does E.whose E.count F.tells F.handed F.asked F.given
         F.losses F.failed (G.meaning framing.now) 0 0 post.old post.new)) }
+    ensures calls { OnOk result (CallsOf E.enters E.whose F.tells F.handed (G.meaning framing.now)
+        None post.old post.new) }
+    ensures stops { IfErr result (λ reason. CallsOf E.enters E.whose F.tells F.handed
+        (G.meaning framing.now) (Some reason) post.old post.new) }
     ensures err { IfErr result (λ fault. DoesLast E.whose E.count F.tells F.handed F.asked F.given
         F.losses F.failed (G.meaning framing.now) fault post.new.held post.old post.new) }
 {
@@ -106,6 +111,10 @@ fn make_turns<E: Enters, F: Feed, G: Framing, W: Wait>(
         (post_moment E.count F.handed F.asked F.given F.losses F.failed post.old)
         (post_moment E.count F.handed F.asked F.given F.losses F.failed post.new)
         (F.ended post.new.feed)) }
+    ensures calls { OnOk result (CallsOf E.enters E.whose F.tells F.handed (G.meaning framing.now)
+        None post.old post.new) }
+    ensures stops { IfErr result (λ reason. CallsOf E.enters E.whose F.tells F.handed
+        (G.meaning framing.now) (Some reason) post.old post.new) }
     ensures err { IfErr result (λ fault. Stopped (F.tells post.old.feed) (E.whose post.old.seat)
         (G.meaning framing.now) turns fault post.new.held
         (post_moment E.count F.handed F.asked F.given F.losses F.failed post.old)
@@ -172,6 +181,9 @@ pub fn run_worker<E: Enters, F: Feed, G: Framing, W: Wait>(
         (F.tells kit.feed) (F.handed kit.feed) (F.asked kit.feed) (F.given kit.feed)
         (F.losses kit.feed) (F.failed kit.feed))
         (ended F.handed F.asked F.given F.losses F.failed F.ended (E.count result.0) result.1) }
+    ensures called { Called E.enters (F.tells kit.feed) (E.whose kit.pass) (G.meaning kit.framing)
+        result.1.fault kit.pass result.0 (F.handed kit.feed) (F.handed result.1.feed)
+        [] result.1.log.pairs.items 0 result.1.unread }
 {
     let Kit {
         pass: seat,

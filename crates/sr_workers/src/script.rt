@@ -1,9 +1,10 @@
 //! A feed over memory: what it hands out lies in a list, and what it is given is kept.
 
-ghost use Rattle.std.specs.Prelude.{◌≡◌, ◌+◌, [], IfOk, OnOk, OnErr};
+ghost use Rattle.std.specs.Prelude.{◌≡◌, ◌+◌, ◌^◌, [], true, IfOk, OnOk, OnErr};
+ghost use Rattle.sr_frame.specs.Frame.{HasFrameLength};
 ghost use Rattle.sr_workers.specs.declared.feed.Given.TheVariants.{Lost};
 ghost use Rattle.sr_workers.specs.Told.{told_of, lost_after, IsLastTurn};
-ghost use Rattle.sr_workers.specs.Scripts.{told_by};
+ghost use Rattle.sr_workers.specs.Scripts.{told_by, IsSpent};
 
 use crate::{Feed, FeedFault, Given, Turn};
 use sr_frame::{Frame, FrameFault, NoMemory};
@@ -61,11 +62,25 @@ impl Script {
         &self.given
     }
 
+    // Nothing is left to hand out.
+    fn end(&mut self) -> Turn
+        requires { IsSpent self.old.lines.items self.old.next self.old.failures }
+        ensures end { result ≡ Turn.End }
+        ensures ended { self.new.ended ≡ true }
+        ensures same { (self.new.lines ≡ self.old.lines) × (self.new.next ≡ self.old.next)
+            × (self.new.given ≡ self.old.given) × (self.new.lost ≡ self.old.lost)
+            × (self.new.failures ≡ self.old.failures) }
+    {
+        self.ended = true;
+        Turn::End
+    }
+
     // A growth was refused: that is a failure, or the end where there were as many as can be counted.
     fn fail(&mut self) -> Result<(), FeedFault>
         ensures same { (self.new.lines ≡ self.old.lines) × (self.new.next ≡ self.old.next)
             × (self.new.given ≡ self.old.given) × (self.new.lost ≡ self.old.lost) }
         ensures ok { OnOk result (self.new.failures ≡ self.old.failures) }
+        ensures full { OnOk result (self.old.failures + 1 ≡ 2 ^ 64) }
         ensures err { OnErr result (self.new.failures ≡ self.old.failures + 1) }
         ensures ended { self.new.ended ≡ self.old.ended }
     {
@@ -76,8 +91,9 @@ impl Script {
         Err(FeedFault)
     }
 
-    // Counts a frame that is lost.
-    fn lose(&mut self) -> Given
+    // Counts a frame that is lost: one that has no frame's length, or for which a growth was refused once more than can be counted.
+    fn lose(&mut self, octets: &[u8]) -> Given
+        requires { HasFrameLength octets.now → self.old.failures + 1 ≡ 2 ^ 64 }
         ensures lost { self.new.lost ≡ lost_after self.old.lost Lost }
         ensures same { (self.new.lines ≡ self.old.lines) × (self.new.next ≡ self.old.next)
             × (self.new.given ≡ self.old.given) × (self.new.failures ≡ self.old.failures)
@@ -129,13 +145,11 @@ impl Feed for Script {
 
     fn next<W: Wait>(&mut self, _rt: &W, into: &mut Vec<u8>) -> Result<Turn, FeedFault> {
         if self.next >= self.lines.len() {
-            self.ended = true;
-            return Ok(Turn::End);
+            return Ok(self.end());
         }
         let Ok(turn) = show(&self.lines[self.next], into) else {
             self.fail()?;
-            self.ended = true;
-            return Ok(Turn::End);
+            return Ok(self.end());
         };
         self.next += 1;
         Ok(turn)
@@ -144,7 +158,7 @@ impl Feed for Script {
     fn give<W: Wait>(&mut self, _rt: &W, octets: &[u8]) -> Result<Given, FeedFault> {
         if self.given.reserve(1).is_err() {
             self.fail()?;
-            return Ok(self.lose());
+            return Ok(self.lose(octets));
         }
         match Frame::copy(self.alloc, octets) {
             Ok(frame) => {
@@ -153,9 +167,9 @@ impl Feed for Script {
             }
             Err(FrameFault::NoMemory) => {
                 self.fail()?;
-                Ok(self.lose())
+                Ok(self.lose(octets))
             }
-            Err(_) => Ok(self.lose()),
+            Err(_) => Ok(self.lose(octets)),
         }
     }
 

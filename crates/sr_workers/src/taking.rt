@@ -2,7 +2,7 @@
 
 ghost use Rattle.std.specs.Prelude.{◌≡◌, ◌≢◌, ◌≤◌, ◌<◌, ◌+◌, ◌++◌, ◌∷◌, [], true, None, Some, IfOk, OnOk, IfErr, OnErr, vec_len, vec_capacity, if◌then◌else◌};
 ghost use Rattle.sr_forwarding.specs.Encoding.{write_fault};
-ghost use Rattle.sr_workers.specs.Posts.{Does, DoesLast, HasFrameRoom};
+ghost use Rattle.sr_workers.specs.Posts.{CallsOf, Does, DoesLast, HasFrameRoom};
 ghost use Rattle.sr_workers.specs.Turns.{Out};
 ghost use Rattle.sr_workers.specs.Work.{ServesPort};
 
@@ -100,6 +100,10 @@ fn take_one<E: Enters, F: Feed, G: Framing, W: Wait>(
     ensures held { OnOk result (post.new.held ≡ None) }
     ensures ok { IfOk result (λ some. Does E.whose E.count F.tells F.handed F.asked F.given
         F.losses F.failed (G.meaning framing.now) (if some then 0 else 1) 0 post.old post.new) }
+    ensures calls { OnOk result (CallsOf E.enters E.whose F.tells F.handed (G.meaning framing.now)
+        None post.old post.new) }
+    ensures stops { IfErr result (λ reason. CallsOf E.enters E.whose F.tells F.handed
+        (G.meaning framing.now) (Some reason) post.old post.new) }
     ensures err { IfErr result (λ fault. DoesLast E.whose E.count F.tells F.handed F.asked F.given
         F.losses F.failed (G.meaning framing.now) fault post.new.held post.old post.new) }
 {
@@ -161,6 +165,10 @@ pub(crate) fn drain<E: Enters, F: Feed, G: Framing, W: Wait>(
     ensures held { OnOk result (post.new.held ≡ None) }
     ensures ok { OnOk result (Does E.whose E.count F.tells F.handed F.asked F.given
         F.losses F.failed (G.meaning framing.now) 1 0 post.old post.new) }
+    ensures calls { OnOk result (CallsOf E.enters E.whose F.tells F.handed (G.meaning framing.now)
+        None post.old post.new) }
+    ensures stops { IfErr result (λ reason. CallsOf E.enters E.whose F.tells F.handed
+        (G.meaning framing.now) (Some reason) post.old post.new) }
     ensures err { IfErr result (λ fault. DoesLast E.whose E.count F.tells F.handed F.asked F.given
         F.losses F.failed (G.meaning framing.now) fault post.new.held post.old post.new) }
 {

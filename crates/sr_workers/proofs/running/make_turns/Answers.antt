@@ -2,6 +2,7 @@ use Rattle.std.proofs.Common.{rules, ap, refl, arith}
 use Rattle.sr_workers.specs.Work.{nones_of}
 use Rattle.sr_workers.proofs.Steps.{did_still, did_as, did_more, last_as, last_still, nones_zero, nones_more, finished_end, stopped_at, stopped_first, no_feed_of}
 use Rattle.sr_workers.proofs.Bringing.{match_true, match_false}
+use Rattle.sr_workers.proofs.Calling.{called_still, called_more, called_as, memory_not_full, none_is_not_full}
 use Rattle.sr_workers.proofs.running.make_turns.Goals as goal
 
 pub loop-turn-init : goal.loop-turn-init
@@ -14,6 +15,7 @@ loop-turn-init g c = (
   search rules,
   did_as _ _ _ _ _ 0 _ 0 _ _ _ _ _ refl refl (nones_zero _) refl (did_still _ _ _ _ _ refl refl refl (λ _. refl) (λ _. refl) (λ _. refl) refl (omega arith)),
   c.requires.held,
+  called_still _ _ _ _ _ _ _ _ _ _ _ _ _ none_is_not_full refl (λ _. refl) refl refl,
 )
 
 pub returns-in-Err-clause-err : goal.returns-in-Err-clause-err
@@ -42,4 +44,16 @@ loop-turn-preserved g c =
       search rules,
       did_as _ _ _ _ _ _ _ _ _ _ _ _ _ refl refl (nones_more _ c.loop-turn._turn) refl (did_more _ _ _ _ _ _ _ _ _ _ _ _ was.6 (did_as _ _ _ _ _ _ _ _ _ _ _ _ _ was.3 was.1 (ap (λ w. nones_of w 1) was.1) refl more)),
       search rules,
+      called_more _ _ _ _ _ _ _ _ _ _ _ _ _ _ _ _ _ was.8 (called_as _ _ _ _ _ _ _ _ _ _ _ _ _ _ _ was.3 was.1 c.in-Ok-true.ensures.calls),
     )
+
+pub returns-in-Err-clause-stops : goal.returns-in-Err-clause-stops
+returns-in-Err-clause-stops g c = called_still _ _ _ _ _ _ _ _ _ _ _ _ _ (memory_not_full _ c.into.ensures) refl (λ _. refl) refl refl
+
+pub returns-in-Ok-false-clause-calls : goal.returns-in-Ok-false-clause-calls
+returns-in-Ok-false-clause-calls g c =
+    let was = c.loop-turn.invariant in called_more _ _ _ _ _ _ _ _ _ _ _ _ _ _ _ _ _ was.8 (called_as _ _ _ _ _ _ _ _ _ _ _ _ _ _ _ was.3 was.1 c.in-Ok-false.ensures.calls)
+
+pub returns-in-Err-one_turn-clause-stops : goal.returns-in-Err-one_turn-clause-stops
+returns-in-Err-one_turn-clause-stops g c =
+    let was = c.loop-turn.invariant in called_more _ _ _ _ _ _ _ _ _ _ _ _ _ _ _ _ _ was.8 (called_as _ _ _ _ _ _ _ _ _ _ _ _ _ _ _ was.3 was.1 c.in-Err-one_turn.ensures.stops)

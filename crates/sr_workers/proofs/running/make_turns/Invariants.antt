@@ -1,5 +1,5 @@
 use Rattle.std.proofs.Common.{◌≡◌, ◌≤◌, [], None}
-use Rattle.sr_workers.specs.Posts.{HasFrameRoom, post_moment}
+use Rattle.sr_workers.specs.Posts.{CallsOf, HasFrameRoom, post_moment}
 use Rattle.sr_workers.specs.Work.{Did, nones_of}
 use Rattle.sr_workers.proofs.running.make_turns.Given as goal
 
@@ -16,3 +16,4 @@ invariant-loop-turn g l =
     × Did (g.F.Feed.tells l.fn.post.feed) (whose l.fn.post.seat) (g.G.Framing.meaning l.framing) (nones_of (whose l.fn.post.seat) l._turn) l._turn [] []
     (moment l.fn.post) (moment l.post)
     × (l.post.held ≡ None)
+    × CallsOf g.E.Enters.enters whose g.F.Feed.tells g.F.Feed.handed (g.G.Framing.meaning l.framing) None l.fn.post l.post
