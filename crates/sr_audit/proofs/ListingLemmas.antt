@@ -5,10 +5,10 @@ use Rattle.std.proofs.lemmas.Bool.{cases_eq, cases_lt, le-leb}
 use Rattle.std.specs.Prelude.{slice_set}
 use Rattle.sr_frame.specs.declared.fields.Mac.{Mac}
 use Rattle.sr_sequence.specs.declared.Seq.{Seq}
-use Rattle.sr_audit.specs.declared.listing.Fate.{Fate}
-use Rattle.sr_audit.specs.declared.listing.Fate.TheVariants.{Settled, PassedOver, ByA, ByB}
+use Rattle.sr_audit.specs.declared.pending.Fate.{Fate}
+use Rattle.sr_audit.specs.declared.pending.Fate.TheVariants.{Settled, PassedOver, ByA, ByB}
 use Rattle.sr_audit.specs.declared.listing.Listed.{Listed}
-use Rattle.sr_audit.specs.declared.listing.Pending.{Pending}
+use Rattle.sr_audit.specs.declared.pending.Pending.{Pending}
 use Rattle.sr_audit.specs.declared.span.Spans.{Spans}
 use Rattle.std.specs.Prelude.{nat_le, nat_eq}
 use Rattle.sr_sequence.specs.Numbers.{wire}

@@ -5,11 +5,11 @@ use Rattle.sr_frame.specs.declared.fields.Mac.{Mac}
 use Rattle.sr_sequence.specs.declared.Distance.TheVariants.{Behind, Ahead}
 use Rattle.sr_sequence.specs.declared.Seq.{Seq}
 use Rattle.sr_audit.specs.declared.listing.Copied.{Copied}
-use Rattle.sr_audit.specs.declared.listing.Fate.{Fate}
-use Rattle.sr_audit.specs.declared.listing.Fate.TheVariants.{Settled, PassedOver, ByA, ByB}
+use Rattle.sr_audit.specs.declared.pending.Fate.{Fate}
+use Rattle.sr_audit.specs.declared.pending.Fate.TheVariants.{Settled, PassedOver, ByA, ByB}
 use Rattle.sr_audit.specs.declared.listing.Listed.{Listed}
 use Rattle.sr_audit.specs.declared.listing.Listed.TheVariants.{Lost, Pair, Neither}
-use Rattle.sr_audit.specs.declared.listing.Pending.{Pending}
+use Rattle.sr_audit.specs.declared.pending.Pending.{Pending}
 use Rattle.sr_audit.specs.declared.look.Step.{Step}
 use Rattle.sr_audit.specs.declared.look.Step.TheVariants.{First, Restart, Resume, Jump, On}
 use Rattle.sr_audit.specs.declared.side.Side.{Side}

@@ -10,6 +10,7 @@ mod listing;
 mod look;
 mod moments;
 mod numbers;
+mod pending;
 mod row;
 mod side;
 mod skew;

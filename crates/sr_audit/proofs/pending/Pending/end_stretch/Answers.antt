@@ -1,6 +1,6 @@
 use Rattle.std.proofs.Common.{◌<◌, ◌∙◌, arith}
 use Rattle.sr_audit.proofs.ListingLemmas.{left_more}
-use Rattle.sr_audit.proofs.listing.Pending.end_stretch.Goals as goal
+use Rattle.sr_audit.proofs.pending.Pending.end_stretch.Goals as goal
 
 pub loop-steps-preserved : goal.loop-steps-preserved
 loop-steps-preserved c =

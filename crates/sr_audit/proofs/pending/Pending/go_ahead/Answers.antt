@@ -1,7 +1,7 @@
 use Rattle.std.proofs.Common.{◌≡◌, ◌<◌, ◌-◌, ◌∙◌, ap, arith}
 use Rattle.sr_audit.specs.Listings.{steps_before}
 use Rattle.sr_audit.proofs.ListingLemmas.{gone_more}
-use Rattle.sr_audit.proofs.listing.Pending.go_ahead.Goals as goal
+use Rattle.sr_audit.proofs.pending.Pending.go_ahead.Goals as goal
 
 pub loop-left-preserved : goal.loop-left-preserved
 loop-left-preserved c =

@@ -4,7 +4,7 @@ use Rattle.sr_audit.specs.Listings.{greatest_in, IsStepWithin, ListsDecided, Tak
 use Rattle.sr_audit.specs.Stretches.{stretches}
 use Rattle.sr_audit.specs.Taken.{IsKeptIn}
 use Rattle.sr_audit.proofs.ListingLemmas.{look_within}
-use Rattle.sr_audit.proofs.listing.Pending.note.Goals as goal
+use Rattle.sr_audit.proofs.pending.Pending.note.Goals as goal
 
 pub returns-clause-taken : goal.returns-clause-taken
 returns-clause-taken c = on_ok_weaker c.take_copy.result (λ took xs few kept listed.

@@ -2,7 +2,7 @@ use Rattle.std.proofs.Common.{subst}
 use Rattle.std.proofs.lemmas.Result.{on_ok_weaker}
 use Rattle.sr_audit.specs.Taken.{IsKeptIn}
 use Rattle.sr_audit.proofs.ListingLemmas.{lists_end}
-use Rattle.sr_audit.proofs.listing.Pending.end.Goals as goal
+use Rattle.sr_audit.proofs.pending.Pending.end.Goals as goal
 
 pub returns : goal.returns
 returns c = on_ok_weaker c.end_stretch.result (λ waits xs kept.

@@ -1,6 +1,6 @@
 use Rattle.std.proofs.Common.{◌++◌, ◌∙◌, ap, subst}
 use Rattle.sr_audit.specs.Listings.{listed_of, SettlesNumber}
-use Rattle.sr_audit.proofs.listing.Pending.go_over.Goals as goal
+use Rattle.sr_audit.proofs.pending.Pending.go_over.Goals as goal
 
 pub returns-clause-over : goal.returns-clause-over
 returns-clause-over c = record {

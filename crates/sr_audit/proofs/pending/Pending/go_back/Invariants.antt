@@ -2,7 +2,7 @@ use Rattle.std.proofs.Common.{◌≡◌, ◌<◌}
 use Rattle.sr_audit.specs.Limits.{kept_numbers}
 use Rattle.sr_audit.specs.Listings.{KeepsPlaces}
 use Rattle.sr_audit.proofs.ListingLemmas.{ArePassed}
-use Rattle.sr_audit.proofs.listing.Pending.go_back.Given as goal
+use Rattle.sr_audit.proofs.pending.Pending.go_back.Given as goal
 
 abbrev pub invariant-loop-step : goal.invariant-loop-step
 invariant-loop-step l = (l.self.numbers ≡ l.fn.self.numbers) × (l.self.reach ≡ l.fn.self.reach) × (KeepsPlaces l.fn.self → l.steps < kept_numbers →

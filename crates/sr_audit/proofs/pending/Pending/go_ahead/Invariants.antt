@@ -2,7 +2,7 @@ use Rattle.std.proofs.Common.{◌≡◌, ◌<◌, ◌++◌}
 use Rattle.sr_audit.specs.Limits.{kept_numbers}
 use Rattle.sr_audit.specs.Listings.{left_behind}
 use Rattle.sr_audit.proofs.ListingLemmas.{AreAhead}
-use Rattle.sr_audit.proofs.listing.Pending.go_ahead.Given as goal
+use Rattle.sr_audit.proofs.pending.Pending.go_ahead.Given as goal
 
 abbrev pub invariant-loop-left : goal.invariant-loop-left
 invariant-loop-left l = (l.self.numbers ≡ l.fn.self.numbers) × (l.self.reach ≡ l.fn.self.reach) × (l.steps < kept_numbers →
