@@ -8,6 +8,7 @@ pub mod FitLemmas
 pub mod HearLemmas
 pub mod ListingLemmas
 pub mod LawLemmas
+pub mod PendingLemmas
 pub mod RowLemmas
 pub mod SkewLemmas
 pub mod SourceLemmas

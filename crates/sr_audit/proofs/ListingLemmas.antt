@@ -1,5 +1,5 @@
 -- What waits of the numbers of a stretch, while they are settled one by one.
-use Rattle.std.proofs.Common.{◌≡◌, ℕ, suc, ◌+◌, ◌-◌, ◌%◌, ◌<◌, ◌≤◌, List, [], ◌∷◌, ◌++◌, arith, refl, sym, ap, ◌∙◌, append_assoc, subst, inl, inr, Bool, true, false, cond}
+use Rattle.std.proofs.Common.{◌≡◌, ℕ, suc, ◌+◌, ◌-◌, ◌%◌, ◌<◌, ◌≤◌, List, [], ◌∷◌, ◌++◌, length, arith, refl, sym, ap, ◌∙◌, append_assoc, subst, inl, inr, Bool, true, false, cond}
 use Rattle.std.proofs.lemmas.List.{get_or-set_other, get_or-set_same, length-set}
 use Rattle.std.proofs.lemmas.Bool.{cases_eq, cases_lt, le-leb}
 use Rattle.std.specs.Prelude.{slice_set}
@@ -24,7 +24,7 @@ use Rattle.sr_audit.specs.Looks.{look_at}
 use Rattle.sr_audit.specs.Stretches.{Placed, top_number, newest_time, is_far, stretches}
 use Rattle.sr_audit.proofs.FollowLemmas.{none_stands}
 use Rattle.sr_audit.specs.Limits.{kept_numbers, epoch_gap, place_in}
-use Rattle.sr_audit.specs.Listings.{fate_kept, time_kept, packet_kept, settled_as, listed_of, waiting, steps_before, steps_behind, number_left, left_behind, KeepsPlaces, PutsFate, SettlesNumber, GoesOver, IsStepWithin, ListsWaiting, ListsEnd}
+use Rattle.sr_audit.specs.Listings.{fate_kept, time_kept, packet_kept, settled_as, listed_of, waiting, steps_before, steps_behind, number_left, left_behind, KeepsPlaces, PutsFate, SettlesNumber, StaysAs, GoesOver, IsStepWithin, ListsWaiting, ListsEnd}
 use Rattle.sr_audit.specs.Rows.{kept_number}
 
 -- numbers less than 1024 apart have places of their own
@@ -161,6 +161,39 @@ pub room_kept : (seq time packet : ℕ) (fate : Fate) (old new : Pending) → Ke
 room_kept seq time packet fate old new room puts = record {
   fates = rw puts.fates (length-set old.fates.items (place_in seq) fate ∙ room.fates);
   times = rw puts.times (length-set old.times.items (place_in seq) time ∙ room.times);
+  packets = rw puts.packets (length-set old.packets.items (place_in seq) packet ∙ room.packets);
+}
+
+pub room_settled : (seq : ℕ) (old new : Pending) → KeepsPlaces old → SettlesNumber seq old new → KeepsPlaces new
+room_settled seq old new room settles = record {
+  fates = rw settles.fates (length-set old.fates.items (place_in seq) Settled ∙ room.fates);
+  times = ap length settles.times ∙ room.times;
+  packets = ap length settles.packets ∙ room.packets;
+}
+
+-- what stays through one step, or two
+pub stays : (p : Pending) → StaysAs p p
+stays p = record { numbers = refl; listed = refl; room = λ h. h }
+
+pub stays_too : (p q r : Pending) → StaysAs p q → StaysAs q r → StaysAs p r
+stays_too p q r first second = record {
+  numbers = second.numbers ∙ first.numbers;
+  listed = second.listed ∙ first.listed;
+  room = λ h. second.room (first.room h);
+}
+
+pub puts_stays : (seq time packet : ℕ) (fate : Fate) (old new : Pending) → PutsFate seq fate time packet old new → StaysAs old new
+puts_stays seq time packet fate old new puts = record {
+  numbers = puts.numbers;
+  listed = puts.listed;
+  room = λ h. room_kept seq time packet fate old new h puts;
+}
+
+pub settles_stays : (seq : ℕ) (old new : Pending) → SettlesNumber seq old new → StaysAs old new
+settles_stays seq old new settles = record {
+  numbers = settles.numbers;
+  listed = settles.listed;
+  room = λ h. room_settled seq old new h settles;
 }
 
 pub passed_next : (seq time reach steps step : ℕ) (mid new : Pending) → step < steps → steps < 1024 → KeepsPlaces mid →

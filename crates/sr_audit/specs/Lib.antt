@@ -10,6 +10,7 @@ pub mod Laws
 pub mod Limits
 pub mod Listings
 pub mod Looks
+pub mod Pendings
 pub mod Reaching
 pub mod Rows
 pub mod Shown

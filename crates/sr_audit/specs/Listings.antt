@@ -119,6 +119,13 @@ steps_behind seq steps = (seq + steps) % 65536
 pub record KeepsPlaces (p : Pending) : Type 0 where
   pub fates : length p.fates.items ≡ kept_numbers
   pub times : length p.times.items ≡ kept_numbers
+  pub packets : length p.packets.items ≡ kept_numbers
+
+-- what is kept of the numbers, and whether the source is listed, stay, and so does the room
+pub record StaysAs (old new : Pending) : Type 0 where
+  pub numbers : new.numbers ≡ old.numbers
+  pub listed : new.is_listed ≡ old.is_listed
+  pub room : KeepsPlaces old → KeepsPlaces new
 
 -- on the way back to a number so many steps behind the greatest, all that lie deeper than a stretch reached are passed over at a time
 pub record PassesOver (seq time reach steps : ℕ) (new : Pending) : Type 0 where

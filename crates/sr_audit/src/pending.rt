@@ -127,16 +127,21 @@ fn list_lost(copy: Copied, spans: &Spans, list: &mut Vec<Listed>) -> Result<(), 
 }
 
 impl Pending {
-    ghost use Rattle.std.specs.Prelude.{◌≡◌, ◌++◌, ◌∷◌, ◌+◌, ◌-◌, ◌^◌, ◌<◌, List, length, true, false, min, max, OnOk};
+    ghost use Rattle.std.specs.Prelude.{◌≡◌, ◌++◌, [], ◌∷◌, ◌+◌, ◌-◌, ◌^◌, ◌<◌, ◌⊎◌, List, length, None, true, false, min, max, OnOk};
     ghost use Rattle.sr_audit.specs.declared.arrival.Arrival.{Arrival};
     ghost use Rattle.sr_audit.specs.Looks.{look_at};
     ghost use Rattle.sr_audit.specs.Stretches.{stretches};
     ghost use Rattle.sr_audit.specs.Taken.{IsKeptIn};
     ghost use Rattle.sr_audit.specs.Limits.{kept_numbers};
-    ghost use Rattle.sr_audit.specs.Listings.{fate_kept, time_kept, copy_kept, listed_of, paired_as, left_behind, greatest_in, ListsDecided, IsStepWithin, GoesOver, KeepsPlaces, ListsArrival, ListsEnd, ListsWaiting, PassesOver, PutsFate, SettlesNumber, TakesCopy};
+    ghost use Rattle.sr_audit.specs.Listings.{fate_kept, time_kept, copy_kept, listed_of, paired_as, left_behind, greatest_in, ListsDecided, IsStepWithin, GoesOver, KeepsPlaces, ListsArrival, ListsEnd, ListsWaiting, PassesOver, PutsFate, SettlesNumber, StaysAs, TakesCopy};
+    ghost use Rattle.sr_audit.specs.Pendings.{EndsListing, NotesNext};
 
     /// A source of which nothing came.
-    pub fn new(alloc: Global, is_listed: bool) -> Pending {
+    pub fn new(alloc: Global, is_listed: bool) -> Pending
+        ensures listed { result.is_listed ≡ is_listed }
+        ensures numbers { result.numbers ≡ None }
+        ensures fates { result.fates.items ≡ [] }
+    {
         Pending {
             numbers: None,
             is_listed,
@@ -151,6 +156,9 @@ impl Pending {
     fn make_room(&mut self) -> Result<(), NoMemory>
         ensures kept { KeepsPlaces self.old → self.new ≡ self.old }
         ensures numbers { self.new.numbers ≡ self.old.numbers }
+        ensures listed { self.new.is_listed ≡ self.old.is_listed }
+        ensures room { OnOk result ((self.old.fates.items ≡ []) ⊎ KeepsPlaces self.old
+            → KeepsPlaces self.new) }
     {
         if self.fates.is_empty() {
             self.times.resize(usize::from(KEPT_NUMBERS), 0)?;
@@ -234,6 +242,7 @@ impl Pending {
         ensures listed { OnOk result (ListsWaiting spans.now self.old src greatest.0
             list.old.items list.new.items) }
         ensures numbers { self.new.numbers ≡ self.old.numbers }
+        ensures stays { StaysAs self.old self.new }
     {
         for steps in 0..KEPT_NUMBERS {
             self.settle(src, kept_number(greatest, steps), spans, list)?;
@@ -244,8 +253,11 @@ impl Pending {
 
     /// Lists all that waits, where something came.
     pub fn end(&mut self, src: Mac, spans: &Spans, list: &mut Vec<Listed>) -> Result<(), NoMemory>
-        ensures { OnOk result ((xs : List Arrival) → IsKeptIn xs self.old.numbers
+        ensures listed { OnOk result ((xs : List Arrival) → IsKeptIn xs self.old.numbers
             → ListsEnd spans.now self.old src (stretches xs) list.old.items list.new.items) }
+        ensures stays { StaysAs self.old self.new }
+        ensures ends { OnOk result (EndsListing spans.now src self.old self.new
+            list.old.items list.new.items) }
     {
         let Some(numbers) = &self.numbers else {
             return Ok(());
@@ -266,6 +278,7 @@ impl Pending {
         ensures over { OnOk result (GoesOver spans.now src seq.0 time self.old self.new
             list.old.items list.new.items) }
         ensures numbers { self.new.numbers ≡ self.old.numbers }
+        ensures stays { StaysAs self.old self.new }
     {
         self.settle(src, steps_before(seq, KEPT_NUMBERS), spans, list)?;
         self.put(seq, Fate::PassedOver, time, 0);
@@ -285,6 +298,7 @@ impl Pending {
         ensures reach { OnOk result (self.new.reach
             ≡ min (self.old.reach + steps) (kept_numbers - 1)) }
         ensures numbers { self.new.numbers ≡ self.old.numbers }
+        ensures stays { StaysAs self.old self.new }
     {
         for left in 0..steps {
             let seq = steps_before(x.arrival.seq, steps.saturating_sub(left).saturating_sub(1));
@@ -301,6 +315,7 @@ impl Pending {
             → PassesOver x.seq.0 x.time self.old.reach steps self.new }
         ensures reach { self.new.reach ≡ max self.old.reach steps }
         ensures numbers { self.new.numbers ≡ self.old.numbers }
+        ensures stays { StaysAs self.old self.new }
     {
         for step in self.reach..steps {
             let behind = steps.saturating_sub(step).saturating_sub(1);
@@ -321,6 +336,7 @@ impl Pending {
         ensures decided { IsStepWithin step → OnOk result (ListsDecided spans.now self.old x
             greatest.0 step list.old.items list.new.items) }
         ensures numbers { self.new.numbers ≡ self.old.numbers }
+        ensures stays { StaysAs self.old self.new }
     {
         match step {
             Step::First => Ok(()),
@@ -357,6 +373,7 @@ impl Pending {
         ensures taken { OnOk result (TakesCopy came x self.old self.new
             list.old.items list.new.items) }
         ensures numbers { self.new.numbers ≡ self.old.numbers }
+        ensures stays { StaysAs self.old self.new }
     {
         let Arrival { side, seq, time } = x.arrival;
         if !came.is_some() {
@@ -381,6 +398,7 @@ impl Pending {
         ensures times { self.new.times.items ≡ self.old.times.items }
         ensures packets { self.new.packets.items ≡ self.old.packets.items }
         ensures reach { self.new.reach ≡ self.old.reach }
+        ensures listed { self.new.is_listed ≡ self.old.is_listed }
     {
         match self.numbers.as_mut() {
             Some(numbers) => {
@@ -400,11 +418,16 @@ impl Pending {
             → IsKeptIn xs self.old.numbers → self.old.is_listed ≡ true
             → IsKeptIn (x.arrival ∷ xs) self.new.numbers) }
         ensures listed { OnOk result ((xs : List Arrival) → IsKeptIn xs self.old.numbers
-            → self.old.is_listed ≡ true → KeepsPlaces self.old
+            → self.old.is_listed ≡ true → (xs ≡ []) ⊎ KeepsPlaces self.old
             → ListsArrival spans.now (stretches xs) x self.old self.new
             list.old.items list.new.items) }
         ensures passed { self.old.is_listed ≡ false
             → (self.new ≡ self.old) × (list.new.items ≡ list.old.items) }
+        ensures same { self.new.is_listed ≡ self.old.is_listed }
+        ensures room { OnOk result (self.old.is_listed ≡ true
+            → (self.old.fates.items ≡ []) ⊎ KeepsPlaces self.old → KeepsPlaces self.new) }
+        ensures next { OnOk result (NotesNext spans.now x self.old self.new
+            list.old.items list.new.items) }
     {
         if !self.is_listed {
             return Ok(());

@@ -1,5 +1,5 @@
-use Rattle.std.proofs.Common.{◌<◌, ◌∙◌, arith}
-use Rattle.sr_audit.proofs.ListingLemmas.{left_more}
+use Rattle.std.proofs.Common.{◌<◌, arith}
+use Rattle.sr_audit.proofs.ListingLemmas.{left_more, stays_too, settles_stays}
 use Rattle.sr_audit.proofs.pending.Pending.end_stretch.Goals as goal
 
 pub loop-steps-preserved : goal.loop-steps-preserved
@@ -8,8 +8,12 @@ loop-steps-preserved c =
     let few : c.loop-steps.steps < 1024 = omega arith in
     let m = left_more c.args.spans.now c.args.src c.args.greatest.0 c.loop-steps.steps c.kept_number.result c.args.self.now c.loop-steps.self
     c.settle.new.self c.args.list.now.items c.loop-steps.list.items c.settle.new.list.items few i.2 c.kept_number.ensures i.1
-    c.in_ok-settle.ensures.listed c.settle.ensures.settled in
-    (c.settle.ensures.settled.numbers ∙ i.0, m.0, m.1)
+    c.in_ok-settle.ensures.listed c.settle.ensures.settled in (
+      stays_too c.args.self.now c.loop-steps.self c.settle.new.self i.0
+          (settles_stays c.kept_number.result.0 c.loop-steps.self c.settle.new.self c.settle.ensures.settled),
+      m.0,
+      m.1,
+    )
 
 pub returns-clause-listed : goal.returns-clause-listed
 returns-clause-listed c = record {
