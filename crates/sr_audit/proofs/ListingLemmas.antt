@@ -1,8 +1,8 @@
 -- What waits of the numbers of a stretch, while they are settled one by one.
 use Rattle.std.proofs.Common.{◌≡◌, ℕ, suc, ◌+◌, ◌-◌, ◌%◌, ◌<◌, ◌≤◌, List, [], ◌∷◌, ◌++◌, length, arith, refl, sym, ap, ◌∙◌, append_assoc, subst, inl, inr, Bool, true, false, cond}
-use Rattle.std.proofs.lemmas.List.{get_or-set_other, get_or-set_same, length-set}
+use Rattle.std.proofs.lemmas.List.{get_or-set_other, get_or-set_same, get_or_past, length-set}
 use Rattle.std.proofs.lemmas.Bool.{cases_eq, cases_lt, le-leb}
-use Rattle.std.specs.Prelude.{slice_set}
+use Rattle.std.specs.Prelude.{slice_set, slice_index_or}
 use Rattle.sr_frame.specs.declared.fields.Mac.{Mac}
 use Rattle.sr_sequence.specs.declared.Seq.{Seq}
 use Rattle.sr_audit.specs.declared.pending.Fate.{Fate}
@@ -24,7 +24,7 @@ use Rattle.sr_audit.specs.Looks.{look_at}
 use Rattle.sr_audit.specs.Stretches.{Placed, top_number, newest_time, is_far, stretches}
 use Rattle.sr_audit.proofs.FollowLemmas.{none_stands}
 use Rattle.sr_audit.specs.Limits.{kept_numbers, epoch_gap, place_in}
-use Rattle.sr_audit.specs.Listings.{fate_kept, time_kept, packet_kept, settled_as, listed_of, waiting, steps_before, steps_behind, number_left, left_behind, KeepsPlaces, PutsFate, SettlesNumber, StaysAs, GoesOver, IsStepWithin, ListsWaiting, ListsEnd}
+use Rattle.sr_audit.specs.Listings.{fate_kept, time_kept, packet_kept, settled_as, listed_of, waiting, steps_before, steps_behind, number_left, left_behind, KeepsPlaces, PutsFate, SettlesNumber, StaysAs, IsKeptAs, GoesOver, IsStepWithin, ListsWaiting, ListsEnd}
 use Rattle.sr_audit.specs.Rows.{kept_number}
 
 -- numbers less than 1024 apart have places of their own
@@ -146,15 +146,58 @@ gone_listed spans src seq steps k n time old mid new before now next within ahea
 back_apart : (seq i k : ℕ) → k < i → i < 1024 → place_in (steps_behind seq i) ≡ place_in (steps_behind seq k) → ⊥
 back_apart seq i k before few same = omega (arith, before, few, same)
 
+-- the same is kept of a number at another place
+pub kept_alike : (p : Pending) (seq : ℕ) → IsKeptAs p p seq
+kept_alike p seq = record { fate = refl; time = refl; packet = refl }
+
+pub kept_too : (p q r : Pending) (seq : ℕ) → IsKeptAs p q seq → IsKeptAs q r seq → IsKeptAs p r seq
+kept_too p q r seq first second =
+    record { fate = second.fate ∙ first.fate; time = second.time ∙ first.time; packet = second.packet ∙ first.packet }
+
+pub kept_items : (p q : Pending) → q.fates.items ≡ p.fates.items → q.times.items ≡ p.times.items → q.packets.items ≡ p.packets.items →
+    (seq : ℕ) → IsKeptAs p q seq
+kept_items p q fates times packets seq = record {
+  fate = ap (λ l. slice_index_or l (place_in seq) Settled) fates;
+  time = ap (λ l. slice_index_or l (place_in seq) 0) times;
+  packet = ap (λ l. slice_index_or l (place_in seq) 0) packets;
+}
+
+-- a list made as long as another keeps what it had, and has this value from there on
+pub resized_alike : {X : Type 0} (old new : List X) (d : X) (k : ℕ) →
+    (k < length old → slice_index_or new k d ≡ slice_index_or old k d) → (length old ≤ k → slice_index_or new k d ≡ d) →
+    slice_index_or new k d ≡ slice_index_or old k d
+resized_alike old new d k same past =
+    elim (cases_lt k (length old)) [
+      | inl less ↦ same less
+      | inr beyond ↦ past beyond ∙ sym (get_or_past old k d beyond)
+    ]
+
+puts_other : (n time packet seq : ℕ) (fate : Fate) (old new : Pending) → (place_in seq ≡ place_in n → ⊥) →
+    PutsFate n fate time packet old new → IsKeptAs old new seq
+puts_other n time packet seq fate old new apart puts = record {
+  fate = rw puts.fates (get_or-set_other old.fates.items (place_in n) (place_in seq) fate Settled apart);
+  time = rw puts.times (get_or-set_other old.times.items (place_in n) (place_in seq) time 0 apart);
+  packet = rw puts.packets (get_or-set_other old.packets.items (place_in n) (place_in seq) packet 0 apart);
+}
+
+settles_other : (n seq : ℕ) (old new : Pending) → (place_in seq ≡ place_in n → ⊥) → SettlesNumber n old new → IsKeptAs old new seq
+settles_other n seq old new apart settles = record {
+  fate = rw settles.fates (get_or-set_other old.fates.items (place_in n) (place_in seq) Settled Settled apart);
+  time = rw settles.times refl;
+  packet = rw settles.packets refl;
+}
+
 -- those from one on are passed over
-pub record ArePassed (seq time reach steps step : ℕ) (new : Pending) : Type 0 where
+pub record ArePassed (seq time reach steps step : ℕ) (old new : Pending) : Type 0 where
   pub fates : (i : ℕ) → steps ≤ i + step → i + reach < steps → fate_kept new (steps_behind seq i) ≡ PassedOver
   pub times : (i : ℕ) → steps ≤ i + step → i + reach < steps → time_kept new (steps_behind seq i) ≡ time
+  pub others : (i : ℕ) → steps ≤ i + reach → i < 1024 → IsKeptAs old new (steps_behind seq i)
 
-pub none_passed : (seq time reach steps : ℕ) (p : Pending) → ArePassed seq time reach steps reach p
+pub none_passed : (seq time reach steps : ℕ) (p : Pending) → ArePassed seq time reach steps reach p p
 none_passed seq time reach steps p = record {
   fates = λ i from within. absurd (omega (arith, from, within));
   times = λ i from within. absurd (omega (arith, from, within));
+  others = λ i from within. kept_alike p (steps_behind seq i);
 }
 
 pub room_kept : (seq time packet : ℕ) (fate : Fate) (old new : Pending) → KeepsPlaces old → PutsFate seq fate time packet old new → KeepsPlaces new
@@ -196,10 +239,13 @@ settles_stays seq old new settles = record {
   room = λ h. room_settled seq old new h settles;
 }
 
-pub passed_next : (seq time reach steps step : ℕ) (mid new : Pending) → step < steps → steps < 1024 → KeepsPlaces mid →
-    ArePassed seq time reach steps step mid → PutsFate (steps_behind seq (steps - step - 1)) PassedOver time 0 mid new →
-    ArePassed seq time reach steps (suc step) new
-passed_next seq time reach steps step mid new within few room passed puts = record {
+pub passed_next : (seq time reach steps step : ℕ) (old mid new : Pending) → reach ≤ step → step < steps → steps < 1024 →
+    KeepsPlaces mid → ArePassed seq time reach steps step old mid →
+    PutsFate (steps_behind seq (steps - step - 1)) PassedOver time 0 mid new → ArePassed seq time reach steps (suc step) old new
+passed_next seq time reach steps step old mid new later within few room passed puts = record {
+  others = λ i from less. kept_too old mid new (steps_behind seq i) (passed.others i from less)
+      (puts_other (steps_behind seq (steps - step - 1)) time 0 (steps_behind seq i) PassedOver mid new
+      (back_apart seq i (steps - step - 1) (omega (arith, from, later, within)) less) puts);
   fates = λ i from less.
       elim (cases_eq i (steps - step - 1)) [
         | inl same ↦ rw (puts.fates, same) (get_or-set_same mid.fates.items (place_in (steps_behind seq (steps - step - 1))) PassedOver Settled
@@ -217,6 +263,92 @@ passed_next seq time reach steps step mid new within few room passed puts = reco
             ∙ passed.times i (omega (arith, from, other)) less)
       ];
 }
+
+-- the numbers from one on are settled
+pub record AreSettled (greatest steps : ℕ) (new : Pending) : Type 0 where
+  pub fates : (i : ℕ) → i < steps → fate_kept new (kept_number greatest i) ≡ Settled
+
+pub none_settled : (greatest : ℕ) (p : Pending) → AreSettled greatest 0 p
+none_settled greatest p = record { fates = λ i none. absurd (omega (arith, none)) }
+
+pub settled_more : (greatest k n : ℕ) (mid new : Pending) → k < 1024 → KeepsPlaces mid → n ≡ kept_number greatest k →
+    AreSettled greatest k mid → SettlesNumber n mid new → AreSettled greatest (k + 1) new
+settled_more greatest k n mid new few room is are settles = let goes = subst (λ m. SettlesNumber m mid new) is settles in record {
+  fates = λ i less.
+      elim (cases_eq i k) [
+        | inl same ↦ rw (goes.fates, same) (get_or-set_same mid.fates.items (place_in (kept_number greatest k)) Settled Settled
+            (omega (arith, room.fates)))
+        | inr other ↦
+            let before : i < k = omega (arith, less, other) in
+            rw goes.fates (get_or-set_other mid.fates.items (place_in (kept_number greatest k)) (place_in (kept_number greatest i)) Settled Settled
+            (λ met. places_apart greatest k i before few (sym met)) ∙ are.fates i before)
+      ];
+}
+
+-- each number has the place of one of the last 1024
+place_met : (greatest seq : ℕ) → place_in (kept_number greatest ((seq + (1024 - (greatest + 64513) % 1024)) % 1024)) ≡ place_in seq
+place_met greatest seq = omega arith
+
+pub all_settled : (greatest : ℕ) (p : Pending) → AreSettled greatest 1024 p → (seq : ℕ) → fate_kept p seq ≡ Settled
+all_settled greatest p are seq =
+    let i = (seq + (1024 - (greatest + 64513) % 1024)) % 1024 in
+    let few : i < 1024 = omega arith in
+    sym (ap (λ m. slice_index_or p.fates.items m Settled) (place_met greatest seq)) ∙ are.fates i few
+
+-- the numbers on the way ahead, up to one, are passed over
+pub record AreOver (seq time steps k : ℕ) (old new : Pending) : Type 0 where
+  pub fates : (i : ℕ) → i < steps → steps ≤ i + k → fate_kept new (steps_before seq i) ≡ PassedOver
+  pub times : (i : ℕ) → i < steps → steps ≤ i + k → time_kept new (steps_before seq i) ≡ time
+  pub others : (i : ℕ) → steps ≤ i → i < 1024 → IsKeptAs old new (steps_before seq i)
+
+pub none_over : (seq time steps : ℕ) (p : Pending) → AreOver seq time steps 0 p p
+none_over seq time steps p = record {
+  fates = λ i less from. absurd (omega (arith, less, from));
+  times = λ i less from. absurd (omega (arith, less, from));
+  others = λ i from less. kept_alike p (steps_before seq i);
+}
+
+ahead_apart : (seq i k : ℕ) → (i ≡ k → ⊥) → i < 1024 → k < 1024 → place_in (steps_before seq i) ≡ place_in (steps_before seq k) → ⊥
+ahead_apart seq i k differ few small same = differ (omega (arith, few, small, same))
+
+pub over_more : (spans : Spans) (src : Mac) (seq time steps k n : ℕ) (old mid new : Pending) (before after : List Listed) → k < steps →
+    steps < 1024 → KeepsPlaces mid → n ≡ steps_before seq (steps - k - 1) → AreOver seq time steps k old mid →
+    GoesOver spans src n time mid new before after → AreOver seq time steps (k + 1) old new
+over_more spans src seq time steps k n old mid new before after within few room is over gone =
+    record {
+      fates = λ i less from.
+          elim (cases_eq i j) [
+            | inl same ↦ rw (goes.passed.fates, same) (get_or-set_same goes.mid.fates.items (place_in (steps_before seq j)) PassedOver Settled
+                (omega (arith, mid_room.fates)))
+            | inr other ↦ (kept i (ahead_apart seq i j other (omega (arith, less, few)) small)).fate ∙ over.fates i less (omega (arith, from, other))
+          ];
+      times = λ i less from.
+          elim (cases_eq i j) [
+            | inl same ↦ rw (goes.passed.times, same) (get_or-set_same goes.mid.times.items (place_in (steps_before seq j)) time 0
+                (omega (arith, mid_room.times)))
+            | inr other ↦ (kept i (ahead_apart seq i j other (omega (arith, less, few)) small)).time ∙ over.times i less (omega (arith, from, other))
+          ];
+      others = λ i from less. kept_too old mid new (steps_before seq i) (over.others i from less)
+          (kept i (ahead_apart seq i j (λ same. omega (arith, same, from, within)) less small));
+    }
+  where
+    j : ℕ
+    j = steps - k - 1
+
+    small : j < 1024
+    small = omega (arith, few)
+
+    goes : GoesOver spans src (steps_before seq j) time mid new before after
+    goes = subst (λ m. GoesOver spans src m time mid new before after) is gone
+
+    mid_room : KeepsPlaces goes.mid
+    mid_room = room_settled (steps_before (steps_before seq j) kept_numbers) mid goes.mid room goes.settled
+
+    kept : (i : ℕ) → (place_in (steps_before seq i) ≡ place_in (steps_before seq j) → ⊥) → IsKeptAs mid new (steps_before seq i)
+    kept i apart = kept_too mid goes.mid new (steps_before seq i)
+        (settles_other (steps_before (steps_before seq j) kept_numbers) (steps_before seq i) mid goes.mid
+        (λ same. apart (same ∙ place_before (steps_before seq j))) goes.settled)
+        (puts_other (steps_before seq j) time 0 (steps_before seq i) PassedOver goes.mid new apart goes.passed)
 
 -- one number more
 more : (k : ℕ) → suc k ≡ k + 1

@@ -37,11 +37,7 @@ ends_empty spans src p list none =
     ends_as spans src p p list list refl (λ xs kept. let nothing : xs ≡ [] = subst (IsKeptIn xs) none kept in
     subst (λ ys. ListsEnd spans p src (stretches ys) list list) (sym nothing) refl)
 
--- there is room, or there was no arrival
-room_before : (xs : List Arrival) (p : Pending) → IsRoomMade xs p → (xs ≡ []) ⊎ KeepsPlaces p
-room_before [] p places = inl refl
-room_before (x ∷ xs) p places = inr places
-
+-- room was made, or no place has anything
 room_made : (xs : List Arrival) (p : Pending) → IsRoomMade xs p → (p.fates.items ≡ []) ⊎ KeepsPlaces p
 room_made [] p places = inl places
 room_made (x ∷ xs) p places = inr places
@@ -52,30 +48,11 @@ pub room_same : (p q : Pending) → q.fates.items ≡ p.fates.items → q.times.
 room_same p q fates times packets room =
     record { fates = ap length fates ∙ room.fates; times = ap length times ∙ room.times; packets = ap length packets ∙ room.packets }
 
--- the first arrival of a source decides nothing
-pub first_listed : (spans : Spans) (xs : List Arrival) (x : Copied) (old at between new : Pending) (before decided after : List Listed) →
-    xs ≡ [] →
-    ListsDecided spans at x (greatest_in (stretches xs) x.arrival.seq.0) (look_at (stretches xs) x.arrival).step before decided →
-    TakesCopy (look_at (stretches xs) x.arrival).came x between new decided after →
-    ListsArrival spans (stretches xs) x old new before after
-first_listed spans [] x old at between new before decided after none goes taken =
-    record {
-      at = old;
-      same_fates = refl;
-      same_times = refl;
-      same_packets = refl;
-      between = between;
-      decided = decided;
-      goes = goes;
-      taken = taken;
-    }
-first_listed spans (y ∷ xs) x old at between new before decided after none goes taken = absurd cc
-
 -- the next arrival of a source that is listed
 pub notes_listed : (spans : Spans) (x : Copied) (old new : Pending) (before after : List Listed) → old.is_listed ≡ true →
     new.is_listed ≡ old.is_listed →
     ((xs : List Arrival) → length xs + 1 < 2 ^ 64 → IsKeptIn xs old.numbers → IsKeptIn (x.arrival ∷ xs) new.numbers) →
-    ((xs : List Arrival) → IsKeptIn xs old.numbers → (xs ≡ []) ⊎ KeepsPlaces old → ListsArrival spans (stretches xs) x old new before after) →
+    ((xs : List Arrival) → IsKeptIn xs old.numbers → (old.fates.items ≡ []) ⊎ KeepsPlaces old → ListsArrival spans (stretches xs) x old new before after) →
     ((old.fates.items ≡ []) ⊎ KeepsPlaces old → KeepsPlaces new) → NotesNext spans x old new before after
 notes_listed spans x old new before after is same taken listed room =
     record {
@@ -84,7 +61,7 @@ notes_listed spans x old new before after is same taken listed room =
         numbers = subst (λ b. IsKeptIn (taken_if b (x.arrival ∷ xs)) new.numbers) (sym (same ∙ is)) (taken xs few (kept xs has));
         room = subst (λ b. IsRoomMade (taken_if b (x.arrival ∷ xs)) new) (sym (same ∙ is)) (room (room_made xs old (places xs has)));
       };
-      listed = λ yes xs has. listed xs (kept xs has) (room_before xs old (places xs has));
+      listed = λ yes xs has. listed xs (kept xs has) (room_made xs old (places xs has));
       passed = λ no. let bad : true ≡ false = sym is ∙ no in absurd cc;
     }
   where

@@ -1,9 +1,10 @@
 -- Frames and copies that are listed one by one, as it is decided what became of them.
-use Rattle.std.specs.Prelude.{◌≡◌, ℕ, ◌+◌, ◌-◌, ◌%◌, ◌<◌, zero, suc, length, Bool, true, false, List, [], ◌∷◌, ◌++◌}
+use Rattle.std.specs.Prelude.{◌≡◌, ℕ, ◌+◌, ◌-◌, ◌%◌, ◌<◌, ◌≤◌, zero, suc, length, Bool, true, false, List, [], ◌∷◌, ◌++◌}
 use Rattle.std.specs.Prelude.{slice_set, slice_index_or, if◌then◌else◌}
 use Rattle.sr_frame.specs.declared.fields.Mac.{Mac}
 use Rattle.sr_sequence.specs.declared.Distance.TheVariants.{Behind, Ahead}
 use Rattle.sr_sequence.specs.declared.Seq.{Seq}
+use Rattle.sr_audit.specs.declared.arrival.Arrival.{Arrival}
 use Rattle.sr_audit.specs.declared.listing.Copied.{Copied}
 use Rattle.sr_audit.specs.declared.pending.Fate.{Fate}
 use Rattle.sr_audit.specs.declared.pending.Fate.TheVariants.{Settled, PassedOver, ByA, ByB}
@@ -127,10 +128,39 @@ pub record StaysAs (old new : Pending) : Type 0 where
   pub listed : new.is_listed ≡ old.is_listed
   pub room : KeepsPlaces old → KeepsPlaces new
 
--- on the way back to a number so many steps behind the greatest, all that lie deeper than a stretch reached are passed over at a time
-pub record PassesOver (seq time reach steps : ℕ) (new : Pending) : Type 0 where
+-- the same is kept of a number
+pub record IsKeptAs (old new : Pending) (seq : ℕ) : Type 0 where
+  pub fate : fate_kept new seq ≡ fate_kept old seq
+  pub time : time_kept new seq ≡ time_kept old seq
+  pub packet : packet_kept new seq ≡ packet_kept old seq
+
+-- on the way back to a number so many steps behind the greatest, all that lie deeper than a stretch reached are passed over at a time; the
+-- same is kept of the others of 1024
+pub record PassesOver (seq time reach steps : ℕ) (old new : Pending) : Type 0 where
   pub fates : (i : ℕ) → i + reach < steps → fate_kept new (steps_behind seq i) ≡ PassedOver
   pub times : (i : ℕ) → i + reach < steps → time_kept new (steps_behind seq i) ≡ time
+  pub others : (i : ℕ) → steps ≤ i + reach → i < kept_numbers → IsKeptAs old new (steps_behind seq i)
+
+-- on the way to a number so many steps ahead, all up to it are passed over at a time; the same is kept of the others of 1024
+pub record PassesAhead (seq time steps : ℕ) (old new : Pending) : Type 0 where
+  pub fates : (i : ℕ) → i < steps → fate_kept new (steps_before seq i) ≡ PassedOver
+  pub times : (i : ℕ) → i < steps → time_kept new (steps_before seq i) ≡ time
+  pub others : (i : ℕ) → steps ≤ i → i < kept_numbers → IsKeptAs old new (steps_before seq i)
+
+-- nothing waits
+pub record SettlesAll (new : Pending) : Type 0 where
+  pub fates : (seq : ℕ) → fate_kept new seq ≡ Settled
+  pub reach : new.reach ≡ 0
+
+-- what is kept of the numbers where an arrival goes to its number: nothing waits where it begins a stretch behind others, and else the
+-- numbers on its way are passed over
+abbrev pub MovesTo : Step → Arrival → Pending → Pending → Type 0
+MovesTo First x old new = new ≡ old
+MovesTo Restart x old new = SettlesAll new
+MovesTo Resume x old new = SettlesAll new
+MovesTo Jump x old new = SettlesAll new
+MovesTo (On (Ahead steps)) x old new = steps < kept_numbers → PassesAhead x.seq.0 x.time steps old new
+MovesTo (On (Behind steps)) x old new = steps < kept_numbers → PassesOver x.seq.0 x.time old.reach steps old new
 
 -- the number of which is decided what became of it where a stretch goes over one more, on the way to a number so many steps ahead
 abbrev pub number_left : ℕ → ℕ → ℕ → ℕ
@@ -175,10 +205,11 @@ greatest_in (s ∷ before) seq = wire (top_number s)
 pub record ListsArrival (spans : Spans) (ss : List (List Placed)) (x : Copied) (old new : Pending) (before after : List Listed) : Type 0
   where
     pub at : Pending
-    pub same_fates : at.fates.items ≡ old.fates.items
-    pub same_times : at.times.items ≡ old.times.items
-    pub same_packets : at.packets.items ≡ old.packets.items
+    pub room : KeepsPlaces at
+    pub same : (seq : ℕ) → IsKeptAs old at seq
+    pub same_reach : at.reach ≡ old.reach
     pub between : Pending
+    pub moves : MovesTo (look_at ss x.arrival).step x.arrival at between
     pub decided : List Listed
     pub goes : ListsDecided spans at x (greatest_in ss x.arrival.seq.0) (look_at ss x.arrival).step before decided
     pub taken : TakesCopy (look_at ss x.arrival).came x between new decided after

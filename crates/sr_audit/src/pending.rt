@@ -127,13 +127,13 @@ fn list_lost(copy: Copied, spans: &Spans, list: &mut Vec<Listed>) -> Result<(), 
 }
 
 impl Pending {
-    ghost use Rattle.std.specs.Prelude.{◌≡◌, ◌++◌, [], ◌∷◌, ◌+◌, ◌-◌, ◌^◌, ◌<◌, ◌⊎◌, List, length, None, true, false, min, max, OnOk};
+    ghost use Rattle.std.specs.Prelude.{◌≡◌, ◌++◌, [], ◌∷◌, ◌+◌, ◌-◌, ◌^◌, ◌<◌, ◌⊎◌, ℕ, List, length, None, true, false, min, max, OnOk};
     ghost use Rattle.sr_audit.specs.declared.arrival.Arrival.{Arrival};
     ghost use Rattle.sr_audit.specs.Looks.{look_at};
     ghost use Rattle.sr_audit.specs.Stretches.{stretches};
     ghost use Rattle.sr_audit.specs.Taken.{IsKeptIn};
     ghost use Rattle.sr_audit.specs.Limits.{kept_numbers};
-    ghost use Rattle.sr_audit.specs.Listings.{fate_kept, time_kept, copy_kept, listed_of, paired_as, left_behind, greatest_in, ListsDecided, IsStepWithin, GoesOver, KeepsPlaces, ListsArrival, ListsEnd, ListsWaiting, PassesOver, PutsFate, SettlesNumber, StaysAs, TakesCopy};
+    ghost use Rattle.sr_audit.specs.Listings.{fate_kept, time_kept, copy_kept, listed_of, paired_as, left_behind, greatest_in, ListsDecided, IsStepWithin, GoesOver, KeepsPlaces, ListsArrival, ListsEnd, ListsWaiting, PassesOver, PutsFate, SettlesNumber, StaysAs, TakesCopy, IsKeptAs, MovesTo, PassesAhead, SettlesAll};
     ghost use Rattle.sr_audit.specs.Pendings.{EndsListing, NotesNext};
 
     /// A source of which nothing came.
@@ -159,6 +159,8 @@ impl Pending {
         ensures listed { self.new.is_listed ≡ self.old.is_listed }
         ensures room { OnOk result ((self.old.fates.items ≡ []) ⊎ KeepsPlaces self.old
             → KeepsPlaces self.new) }
+        ensures same { OnOk result ((seq : ℕ) → IsKeptAs self.old self.new seq) }
+        ensures reach { self.new.reach ≡ self.old.reach }
     {
         if self.fates.is_empty() {
             self.times.resize(usize::from(KEPT_NUMBERS), 0)?;
@@ -241,6 +243,7 @@ impl Pending {
     ) -> Result<(), NoMemory>
         ensures listed { OnOk result (ListsWaiting spans.now self.old src greatest.0
             list.old.items list.new.items) }
+        ensures settled { OnOk result (KeepsPlaces self.old → SettlesAll self.new) }
         ensures numbers { self.new.numbers ≡ self.old.numbers }
         ensures stays { StaysAs self.old self.new }
     {
@@ -295,6 +298,8 @@ impl Pending {
     ) -> Result<(), NoMemory>
         ensures listed { steps < kept_numbers → OnOk result (list.new.items ≡ list.old.items
             ++ left_behind spans.now self.old x.src x.arrival.seq.0 steps steps) }
+        ensures passed { OnOk result (KeepsPlaces self.old → steps < kept_numbers
+            → PassesAhead x.arrival.seq.0 x.arrival.time steps self.old self.new) }
         ensures reach { OnOk result (self.new.reach
             ≡ min (self.old.reach + steps) (kept_numbers - 1)) }
         ensures numbers { self.new.numbers ≡ self.old.numbers }
@@ -312,7 +317,7 @@ impl Pending {
     /// not reached them.
     fn go_back(&mut self, x: Arrival, steps: u16)
         ensures passed { KeepsPlaces self.old → steps < kept_numbers
-            → PassesOver x.seq.0 x.time self.old.reach steps self.new }
+            → PassesOver x.seq.0 x.time self.old.reach steps self.old self.new }
         ensures reach { self.new.reach ≡ max self.old.reach steps }
         ensures numbers { self.new.numbers ≡ self.old.numbers }
         ensures stays { StaysAs self.old self.new }
@@ -335,6 +340,8 @@ impl Pending {
     ) -> Result<(), NoMemory>
         ensures decided { IsStepWithin step → OnOk result (ListsDecided spans.now self.old x
             greatest.0 step list.old.items list.new.items) }
+        ensures moved { OnOk result (KeepsPlaces self.old
+            → MovesTo step x.arrival self.old self.new) }
         ensures numbers { self.new.numbers ≡ self.old.numbers }
         ensures stays { StaysAs self.old self.new }
     {
@@ -418,7 +425,8 @@ impl Pending {
             → IsKeptIn xs self.old.numbers → self.old.is_listed ≡ true
             → IsKeptIn (x.arrival ∷ xs) self.new.numbers) }
         ensures listed { OnOk result ((xs : List Arrival) → IsKeptIn xs self.old.numbers
-            → self.old.is_listed ≡ true → (xs ≡ []) ⊎ KeepsPlaces self.old
+            → self.old.is_listed ≡ true
+            → (self.old.fates.items ≡ []) ⊎ KeepsPlaces self.old
             → ListsArrival spans.now (stretches xs) x self.old self.new
             list.old.items list.new.items) }
         ensures passed { self.old.is_listed ≡ false

@@ -6,4 +6,4 @@ use Rattle.sr_audit.proofs.pending.Pending.go_back.Given as goal
 
 abbrev pub invariant-loop-step : goal.invariant-loop-step
 invariant-loop-step l = StaysAs l.fn.self l.self × (l.self.reach ≡ l.fn.self.reach) × (KeepsPlaces l.fn.self → l.steps < kept_numbers →
-    KeepsPlaces l.self × ArePassed l.x.seq.0 l.x.time l.fn.self.reach l.steps l.step l.self)
+    KeepsPlaces l.self × ArePassed l.x.seq.0 l.x.time l.fn.self.reach l.steps l.step l.fn.self l.self)
