@@ -25,9 +25,9 @@ use Rattle.sr_capture_script.specs.Merging.{feed_of, Stands, Scripts, Halts, fau
 use Rattle.sr_capture_script.specs.Opening.{BeginsWith, IsFile, FileHas, TakesFront, HasNoFront, HasBegun, IsOpened, HasFault, HasFaultAtFront, FailsAtFront, IsScript, HasComeIn, HasFaultIn, StandsIn, FileStands, IsScriptTo, IsScriptUpTo}
 use Rattle.sr_capture_script.proofs.Feeding.{feeds_first, stuck_at}
 
-pub opened_none : {R : Type 0} (remaining : R → Option (List ℕ)) (inlet : Inlet) (how : Reading) (file : Option R) (form : Format) (s : Source R) → file ≡ None
-    → s.reader ≡ None → s.form ≡ form → IsUntaken form (progress_of s) → IsOpened remaining inlet how file s
-opened_none {R = R} remaining inlet how file form s absent reader same none =
+pub opened_none : {R : Type 0} (remaining : R → Option (List ℕ)) (inlet : Inlet) (how : Reading) (delay : ℕ) (file : Option R) (form : Format) (s : Source R)
+    → file ≡ None → s.reader ≡ None → s.form ≡ form → s.delay ≡ delay → IsUntaken form (progress_of s) → IsOpened remaining inlet how delay file s
+opened_none {R = R} remaining inlet how delay file form s absent reader same put_off none =
     let q = progress_of s in
     let still : GoesOn s.state s.delay None (Some []) (Some []) q q =
     ([], refl, taken_none s.state, refl, refl, refl, omega (arith, none.place, front_few form), refl) in
@@ -40,13 +40,14 @@ opened_none {R = R} remaining inlet how file form s absent reader same none =
       begun = subst (λ (f : Option R). HasBegun remaining how s.form f (Some [])) (sym absent) begun;
       fed = subst (λ (r : Option R). Feeds inlet s.form s.delay (Some []) (left_of remaining r) q []) (sym reader) own;
       there = ap (λ (o : Option R). is_some o) (reader ∙ sym absent);
+      put_off = put_off;
     }
 
-pub opened_some : {R : Type 0} (remaining : R → Option (List ℕ)) (inlet : Inlet) (how : Reading) (file : Option R) (reader after : R) (form : Format) (s t : Source R)
-    → file ≡ Some reader → TakesFront how form (remaining reader) (remaining after) → s.reader ≡ Some after → s.form ≡ form
+pub opened_some : {R : Type 0} (remaining : R → Option (List ℕ)) (inlet : Inlet) (how : Reading) (delay : ℕ) (file : Option R) (reader after : R) (form : Format) (s t : Source R)
+    → file ≡ Some reader → TakesFront how form (remaining reader) (remaining after) → s.reader ≡ Some after → s.form ≡ form → s.delay ≡ delay
     → IsUntaken form (progress_of s) → GoesOn s.state s.delay t.due (left_of remaining s.reader) (left_of remaining t.reader) (progress_of s) (progress_of t)
-    → IsSame s t → IsOpened remaining inlet how file t
-opened_some {R = R} remaining inlet how file reader after form s t there front at is none goes same =
+    → IsSame s t → IsOpened remaining inlet how delay file t
+opened_some {R = R} remaining inlet how delay file reader after form s t there front at is put_off none goes same =
     let start = remaining after in
     let now = left_of remaining t.reader in
     let own_goes = subst (λ (r : Option R). GoesOn s.state s.delay t.due (left_of remaining r) now (progress_of s) (progress_of t)) at goes in
@@ -59,6 +60,7 @@ opened_some {R = R} remaining inlet how file reader after form s t there front a
       begun = subst (λ (f : Option R). HasBegun remaining how t.form f start) (sym there) takes;
       fed = fed_both;
       there = same.file ∙ ap (λ (o : Option R). is_some o) at ∙ sym (ap (λ (o : Option R). is_some o) there);
+      put_off = same.delay ∙ put_off;
     }
 
 -- what begins a file, up to any place of its packets
@@ -210,18 +212,14 @@ file_stands remaining o inlet how form delay (Some reader) start printed b h = r
 
 -- three files that are open, each with its delay
 pub record AreOpened {R : Type 0} (remaining : R → Option (List ℕ)) (hows : Inlet → Reading) (fa fb fc : Option R) (a b c : Source R) (da db dc : ℕ) : Type 0 where
-  pub at_a : IsOpened remaining A (hows A) fa a
-  pub at_b : IsOpened remaining B (hows B) fb b
-  pub at_c : IsOpened remaining C (hows C) fc c
-  pub delay_a : a.delay ≡ da
-  pub delay_b : b.delay ≡ db
-  pub delay_c : c.delay ≡ dc
+  pub at_a : IsOpened remaining A (hows A) da fa a
+  pub at_b : IsOpened remaining B (hows B) db fb b
+  pub at_c : IsOpened remaining C (hows C) dc fc c
 
 pub are_opened : {R : Type 0} (remaining : R → Option (List ℕ)) (hows : Inlet → Reading) (fa fb fc : Option R) (a b c : Source R) (da db dc : ℕ)
-    → IsOpened remaining A (hows A) fa a → IsOpened remaining B (hows B) fb b → IsOpened remaining C (hows C) fc c → a.delay ≡ da → b.delay ≡ db → c.delay ≡ dc
+    → IsOpened remaining A (hows A) da fa a → IsOpened remaining B (hows B) db fb b → IsOpened remaining C (hows C) dc fc c
     → AreOpened remaining hows fa fb fc a b c da db dc
-are_opened remaining hows fa fb fc a b c da db dc x y z p q r =
-    record { at_a = x; at_b = y; at_c = z; delay_a = p; delay_b = q; delay_c = r }
+are_opened remaining hows fa fb fc a b c da db dc x y z = record { at_a = x; at_b = y; at_c = z }
 
 -- what is printed of the files is their script
 pub is_script : {R : Type 0} (remaining : R → Option (List ℕ)) (choice : Choice) (hows : Inlet → Reading) (fa fb fc : Option R) (a b c : Source R) (da db dc : ℕ)
@@ -246,9 +244,9 @@ is_script remaining choice hows fa fb fc a b c da db dc text o h =
       is_merge = s.is_merge;
       is = s.is;
     } in
-    let own_a = subst (λ (n : ℕ). IsScript remaining choice hows fa fb fc n b.delay c.delay text) o.delay_a own in
-    let own_b = subst (λ (n : ℕ). IsScript remaining choice hows fa fb fc da n c.delay text) o.delay_b own_a in
-    subst (λ (n : ℕ). IsScript remaining choice hows fa fb fc da db n text) o.delay_c own_b
+    let own_a = subst (λ (n : ℕ). IsScript remaining choice hows fa fb fc n b.delay c.delay text) o.at_a.put_off own in
+    let own_b = subst (λ (n : ℕ). IsScript remaining choice hows fa fb fc da n c.delay text) o.at_b.put_off own_a in
+    subst (λ (n : ℕ). IsScript remaining choice hows fa fb fc da db n text) o.at_c.put_off own_b
 
 -- what is printed before a fault
 pub is_script_to : {R : Type 0} (remaining : R → Option (List ℕ)) (choice : Choice) (hows : Inlet → Reading) (fa fb fc : Option R) (a b c : Source R) (da db dc : ℕ)
@@ -265,6 +263,6 @@ is_script_to remaining choice hows fa fb fc a b c da db dc fault held now o h =
       order = h.order;
       is = refl;
     } in
-    let own_a = subst (λ (n : ℕ). IsScriptTo remaining choice hows fa fb fc n b.delay c.delay fault text) o.delay_a own in
-    let own_b = subst (λ (n : ℕ). IsScriptTo remaining choice hows fa fb fc da n c.delay fault text) o.delay_b own_a in
-    (text, inr (subst (λ (n : ℕ). IsScriptTo remaining choice hows fa fb fc da db n fault text) o.delay_c own_b), h.wrote)
+    let own_a = subst (λ (n : ℕ). IsScriptTo remaining choice hows fa fb fc n b.delay c.delay fault text) o.at_a.put_off own in
+    let own_b = subst (λ (n : ℕ). IsScriptTo remaining choice hows fa fb fc da n c.delay fault text) o.at_b.put_off own_a in
+    (text, inr (subst (λ (n : ℕ). IsScriptTo remaining choice hows fa fb fc da db n fault text) o.at_c.put_off own_b), h.wrote)

@@ -80,13 +80,14 @@ abbrev pub HasBegun : {R : Type 0} → (R → Option (List ℕ)) → Reading →
 HasBegun remaining how form None start = start ≡ Some []
 HasBegun remaining how form (Some reader) start = TakesFront how form (remaining reader) start
 
--- a file that is open, its first packet due
-pub record IsOpened {R : Type 0} (remaining : R → Option (List ℕ)) (inlet : Inlet) (how : Reading) (file : Option R) (s : Source R) : Type 0
-  where
-    pub start : Option (List ℕ)
-    pub begun : HasBegun remaining how s.form file start
-    pub fed : IsFed remaining inlet start s []
-    pub there : is_some s.reader ≡ is_some file
+-- a file that is open, its times put off by a delay, its first packet due
+pub record IsOpened {R : Type 0} (remaining : R → Option (List ℕ)) (inlet : Inlet) (how : Reading) (delay : ℕ) (file : Option R)
+    (s : Source R) : Type 0 where
+  pub start : Option (List ℕ)
+  pub begun : HasBegun remaining how s.form file start
+  pub fed : IsFed remaining inlet start s []
+  pub there : is_some s.reader ≡ is_some file
+  pub put_off : s.delay ≡ delay
 
 -- behind these packets the octets have this fault
 pub record HasFault (how : Reading) (octets : List ℕ) (packets : List Captured) (fault : CaptureFault) : Type 0 where

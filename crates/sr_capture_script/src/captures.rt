@@ -61,12 +61,12 @@ impl<R: BufRead + Drop> Captures<R> {
         file_c: Option<R>,
         options: &Options,
     ) -> Result<Captures<R>, ScriptFault>
-        ensures a { IfOk result (λ all.
-            IsOpened R.remaining AtA (reading_of options.now AtA) file_a all.a) }
-        ensures b { IfOk result (λ all.
-            IsOpened R.remaining AtB (reading_of options.now AtB) file_b all.b) }
-        ensures c { IfOk result (λ all.
-            IsOpened R.remaining AtC (reading_of options.now AtC) file_c all.c) }
+        ensures a { IfOk result (λ all. IsOpened R.remaining AtA (reading_of options.now AtA)
+            options.now.delays.a file_a all.a) }
+        ensures b { IfOk result (λ all. IsOpened R.remaining AtB (reading_of options.now AtB)
+            options.now.delays.b file_b all.b) }
+        ensures c { IfOk result (λ all. IsOpened R.remaining AtC (reading_of options.now AtC)
+            options.now.delays.c file_c all.c) }
         ensures fault { IfErr result (λ fault. FailsToOpen R.remaining (reading_of options.now)
             file_a file_b file_c fault) }
     {

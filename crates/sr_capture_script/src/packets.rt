@@ -65,8 +65,8 @@ pub(crate) fn open<R: BufRead + Drop>(
     how: Reading,
 ) -> Result<Source<R>, ScriptFault>
     requires { delay ≤ 2 ^ 62 }
-    ensures opened { IfOk result (λ source. IsOpened R.remaining inlet how file source) }
-    ensures delay { IfOk result (λ source. source.delay ≡ delay) }
+    ensures opened { IfOk result (λ source.
+        IsOpened R.remaining inlet how delay file source) }
     ensures fault { IfErr result (λ fault. FailsAtFront R.remaining inlet how file fault) }
 {
     let mut reader = match file {

@@ -11,7 +11,7 @@ pub returns-clause-scripts : goal.returns-clause-scripts
 returns-clause-scripts g c =
     let o = c.args.options.now in
     let opened = are_opened g.R.Read.remaining (reading_of o) c.args.file_a c.args.file_b c.args.file_c c.in_ok-a.a c.in_ok-b.b c.in_ok-c.c o.delays.a o.delays.b o.delays.c
-    (subst (λ (h : Reading). IsOpened g.R.Read.remaining A h c.args.file_a c.in_ok-a.a) c.reading_of.ensures c.in_ok-a.ensures.opened) (subst (λ (h : Reading). IsOpened g.R.Read.remaining B h c.args.file_b c.in_ok-b.b) c.reading_of-2.ensures c.in_ok-b.ensures.opened) (subst (λ (h : Reading). IsOpened g.R.Read.remaining C h c.args.file_c c.in_ok-c.c) c.reading_of-3.ensures c.in_ok-c.ensures.opened) c.in_ok-a.ensures.delay c.in_ok-b.ensures.delay c.in_ok-c.ensures.delay in
+    (subst (λ (h : Reading). IsOpened g.R.Read.remaining A h o.delays.a c.args.file_a c.in_ok-a.a) c.reading_of.ensures c.in_ok-a.ensures.opened) (subst (λ (h : Reading). IsOpened g.R.Read.remaining B h o.delays.b c.args.file_b c.in_ok-b.b) c.reading_of-2.ensures c.in_ok-b.ensures.opened) (subst (λ (h : Reading). IsOpened g.R.Read.remaining C h o.delays.c c.args.file_c c.in_ok-c.c) c.reading_of-3.ensures c.in_ok-c.ensures.opened) in
     on_ok_both c.print.result _ _ _ c.print.ensures.scripts c.print.ensures.scripts (λ h again.
     let s = h opened.at_a.start opened.at_b.start opened.at_c.start opened.at_a.fed opened.at_b.fed opened.at_c.fed in
     (s.0, is_script g.R.Read.remaining o.choice (reading_of o) c.args.file_a c.args.file_b c.args.file_c c.in_ok-a.a c.in_ok-b.b c.in_ok-c.c o.delays.a o.delays.b o.delays.c s.0 opened s.1, s.2))
@@ -20,7 +20,7 @@ pub returns-clause-ended : goal.returns-clause-ended
 returns-clause-ended g c =
     let o = c.args.options.now in
     let opened = are_opened g.R.Read.remaining (reading_of o) c.args.file_a c.args.file_b c.args.file_c c.in_ok-a.a c.in_ok-b.b c.in_ok-c.c o.delays.a o.delays.b o.delays.c
-    (subst (λ (h : Reading). IsOpened g.R.Read.remaining A h c.args.file_a c.in_ok-a.a) c.reading_of.ensures c.in_ok-a.ensures.opened) (subst (λ (h : Reading). IsOpened g.R.Read.remaining B h c.args.file_b c.in_ok-b.b) c.reading_of-2.ensures c.in_ok-b.ensures.opened) (subst (λ (h : Reading). IsOpened g.R.Read.remaining C h c.args.file_c c.in_ok-c.c) c.reading_of-3.ensures c.in_ok-c.ensures.opened) c.in_ok-a.ensures.delay c.in_ok-b.ensures.delay c.in_ok-c.ensures.delay in
+    (subst (λ (h : Reading). IsOpened g.R.Read.remaining A h o.delays.a c.args.file_a c.in_ok-a.a) c.reading_of.ensures c.in_ok-a.ensures.opened) (subst (λ (h : Reading). IsOpened g.R.Read.remaining B h o.delays.b c.args.file_b c.in_ok-b.b) c.reading_of-2.ensures c.in_ok-b.ensures.opened) (subst (λ (h : Reading). IsOpened g.R.Read.remaining C h o.delays.c c.args.file_c c.in_ok-c.c) c.reading_of-3.ensures c.in_ok-c.ensures.opened) in
     if_err_map c.print.result _ _ c.print.ensures.halts (λ fault h other.
     is_script_to g.R.Read.remaining o.choice (reading_of o) c.args.file_a c.args.file_b c.args.file_c c.in_ok-a.a c.in_ok-b.b c.in_ok-c.c o.delays.a o.delays.b o.delays.c fault
     (g.W.Write.contents c.args.writer.now) (g.W.Write.contents c.print.new.writer) opened
