@@ -7,7 +7,7 @@ use Rattle.sr_capture_script.specs.declared.choice.Delays.{Delays}
 abbrev pub IsDelay : ℤ → ℤ → ℕ → Type 0
 IsDelay least shift delay = pos delay ≡ (shift -ℤ least) *ℤ pos 1000000
 
--- a shift is more than 2^62 nanoseconds above the least
+-- a shift is more than 2^62 nanoseconds above the least; none is just as far, since these are no whole number of milliseconds
 abbrev pub IsTooFar : ℤ → ℤ → Type 0
 IsTooFar least shift = pos (2 ^ 62) <ℤ ((shift -ℤ least) *ℤ pos 1000000)
 

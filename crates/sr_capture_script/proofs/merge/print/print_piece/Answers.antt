@@ -13,7 +13,7 @@ pub returns-clause-ok : goal.returns-clause-ok
 returns-clause-ok g c item at when number shown =
     whole_piece c.args.choice.now c.args.base c.args.last.now item c.args.place.inlet c.args.place.moment c.time_since-time.result _
     c.append_line.new.text.items c.as_slice.result.now (g.W.Write.contents c.args.writer.now) (g.W.Write.contents c.write_ticks.new.writer)
-    (g.W.Write.contents c.write_text.new.writer) at when c.time_since-time.ensures (search rules) c.clear.ensures.items
+    (g.W.Write.contents c.write_text.new.writer) at when c.time_since-time.ensures (search rules) (search rules)
     (c.in_ok-append_line.ensures.ok item.packet item.number shown number) c.as_slice.ensures.value c.in_ok-write_ticks.ensures.ok
     c.in_ok-write_text.ensures.ok
 
