@@ -50,6 +50,9 @@ failed_of n (Lan l) = l.counts.failures
 abbrev pub asked_by : Cable → ℕ
 asked_by c = c.counts.asked
 
+abbrev pub asked_in : ALan → ℕ
+asked_in l = l.counts.asked
+
 abbrev pub failed_by : Cable → ℕ
 failed_by c = c.counts.failures
 

@@ -1,7 +1,7 @@
 //! The wires between a port and those of all other nodes of a LAN.
 
 ghost use Rattle.std.specs.Prelude.{◌≡◌, ◌+◌, ◌<◌, ◌≤◌, OnOk, OnErr, IfOk, MatchBool, MatchOption, true, false, [], length, get_or};
-ghost use Rattle.sr_workers.specs.Told.{lost_after, told_of, IsLastTurn};
+ghost use Rattle.sr_workers.specs.Told.{lost_after, told_of, turns_in, IsLastTurn};
 ghost use Rattle.sr_wires.specs.Wired.{WasFull};
 ghost use Rattle.sr_lines.specs.Losing.{MayLose};
 
@@ -23,13 +23,14 @@ pub struct Lan {
 }
 
 impl Lan {
-    ghost use Rattle.sr_lines.specs.Handed.{lost_in, failed_in};
+    ghost use Rattle.sr_lines.specs.Handed.{asked_in, lost_in, failed_in};
     ghost use Rattle.sr_lines.specs.Names.{wires_in};
     ghost use Rattle.sr_lines.specs.Spreading.{sent_by_lan, taken_by_lan, grown_at, SpreadsTo, SpreadsToSome, TookOne, HandsOutOf, is_put};
 
-    /// These ends, of which nothing was lost.
+    /// These ends, of which nothing was asked and nothing was lost.
     pub fn new(alloc: Global, ends: Vec<Ends>) -> Lan
         ensures ends { result.ends ≡ ends }
+        ensures unasked { asked_in result ≡ 0 }
         ensures none { lost_in result ≡ 0 }
         ensures unfailed { failed_in result ≡ 0 }
     {
@@ -181,6 +182,9 @@ impl Lan {
         ensures handed { IfOk result (λ t. HandsOutOf (taken_by_lan self.old)
             (taken_by_lan self.new) self.new.turn (told_of t into.new.items)) }
         ensures unhanded { OnErr result (taken_by_lan self.new ≡ taken_by_lan self.old) }
+        ensures asked { IfOk result (λ t. self.new.counts.asked
+            ≡ self.old.counts.asked + turns_in t) }
+        ensures unasked { OnErr result (self.new.counts.asked ≡ self.old.counts.asked) }
         ensures sent { sent_by_lan self.new ≡ sent_by_lan self.old }
         ensures wires { wires_in self.new ≡ wires_in self.old }
         ensures lost { self.new.counts.lost ≡ self.old.counts.lost }
@@ -188,11 +192,16 @@ impl Lan {
         ensures failed { OnErr result (self.old.counts.failures < self.new.counts.failures) }
         ensures counted { self.old.counts.failures ≤ self.new.counts.failures }
     {
+        // Nobody comes there: it would take 2^64 turns.
+        if !self.counts.goes_on() {
+            return Ok(Turn::End);
+        }
         into.clear();
         if into.reserve(MAX_FRAME_LEN).is_err() {
             self.counts.fail_or_end()?;
             return Ok(Turn::End);
         }
+        self.counts.asked += 1;
         match self.take_any(rt) {
             None => Ok(Turn::Idle),
             Some(frame) => {
@@ -205,6 +214,7 @@ impl Lan {
 
 impl Feed for Lan {
     ghost use Rattle.std.specs.Prelude.{false, List, []};
+    ghost use Rattle.sr_lines.specs.LanTurns.{AnswersTurn, SendsToAll};
     ghost use Rattle.sr_lines.specs.Names.{wires_in};
     ghost use Rattle.sr_lines.specs.Pairs.{WirePair};
 
@@ -225,6 +235,10 @@ impl Feed for Lan {
     ghost ended = { λ c. c.counts.ended };
 
     ghost failed = { λ c. c.counts.failures };
+
+    ghost hands = { AnswersTurn };
+
+    ghost takes = { SendsToAll };
 
     fn next<W: Wait>(&mut self, rt: &W, into: &mut Vec<u8>) -> Result<Turn, FeedFault> {
         self.read(rt, into)

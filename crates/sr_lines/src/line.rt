@@ -34,6 +34,7 @@ impl<F: Feed> Line<F> {
 
 impl<F: Feed> Feed for Line<F> {
     ghost use Rattle.sr_lines.specs.Handed.{tells_of, handed_of, asked_of, given_of, losses_of, ended_of, failed_of};
+    ghost use Rattle.sr_lines.specs.LanTurns.{LineAnswers, LineTakes};
     ghost use Rattle.sr_lines.specs.Names.{LineName, line_name};
 
     ghost Name = { LineName F.Name };
@@ -53,6 +54,10 @@ impl<F: Feed> Feed for Line<F> {
     ghost ended = { ended_of F.ended };
 
     ghost failed = { failed_of F.failed };
+
+    ghost hands = { LineAnswers F.hands };
+
+    ghost takes = { LineTakes F.takes };
 
     fn next<W: Wait>(&mut self, rt: &W, into: &mut Vec<u8>) -> Result<Turn, FeedFault> {
         match self {
