@@ -62,7 +62,7 @@ not_over m n e = omega (arith, ints, e)
 up_to : (k m n : ℤ) → k ≤ℤ m → m ≤ℤ n → k ≤ℤ n
 up_to k m n g h = omega (arith, ints, g, h)
 
-came_below : (side : Side) (s : List Placed) (n : ℤ) → came side n s ≡ true → n ≤ℤ top_number s
+pub came_below : (side : Side) (s : List Placed) (n : ℤ) → came side n s ≡ true → n ≤ℤ top_number s
 came_below side [] n is = let no : false ≡ true = is in absurd cc
 came_below side (y ∷ []) n is =
     elim (cases_Bool (int_eq n y.number)) [
@@ -95,7 +95,7 @@ same_parts : (a b x y : ℕ) → (a + 65535 * b) % 65536 % 1024 ≡ (x + 65535 *
     x + b < a + y + 1024 → a + y ≡ x + b
 same_parts a b x y e h g = omega arith
 
-same_place : (top m n : ℤ) → (top -ℤ pos kept_numbers) <ℤ m → (top -ℤ pos kept_numbers) <ℤ n → m ≤ℤ top → n ≤ℤ top →
+pub same_place : (top m n : ℤ) → (top -ℤ pos kept_numbers) <ℤ m → (top -ℤ pos kept_numbers) <ℤ n → m ≤ℤ top → n ≤ℤ top →
     place_in (wire m) ≡ place_in (wire n) → m ≡ n
 same_place top m n above_m above_n below_m below_n same =
     let close_above : m <ℤ (n +ℤ pos 1024) = omega (arith, ints, above_n, below_m) in

@@ -4,6 +4,7 @@ pub mod AuditLemmas
 pub mod FollowLemmas
 pub mod EdgeLemmas
 pub mod ExtentLemmas
+pub mod FateLemmas
 pub mod FitLemmas
 pub mod HearLemmas
 pub mod ListingLemmas

@@ -172,7 +172,7 @@ resized_alike old new d k same past =
       | inr beyond ↦ past beyond ∙ sym (get_or_past old k d beyond)
     ]
 
-puts_other : (n time packet seq : ℕ) (fate : Fate) (old new : Pending) → (place_in seq ≡ place_in n → ⊥) →
+pub puts_other : (n time packet seq : ℕ) (fate : Fate) (old new : Pending) → (place_in seq ≡ place_in n → ⊥) →
     PutsFate n fate time packet old new → IsKeptAs old new seq
 puts_other n time packet seq fate old new apart puts = record {
   fate = rw puts.fates (get_or-set_other old.fates.items (place_in n) (place_in seq) fate Settled apart);
@@ -180,7 +180,7 @@ puts_other n time packet seq fate old new apart puts = record {
   packet = rw puts.packets (get_or-set_other old.packets.items (place_in n) (place_in seq) packet 0 apart);
 }
 
-settles_other : (n seq : ℕ) (old new : Pending) → (place_in seq ≡ place_in n → ⊥) → SettlesNumber n old new → IsKeptAs old new seq
+pub settles_other : (n seq : ℕ) (old new : Pending) → (place_in seq ≡ place_in n → ⊥) → SettlesNumber n old new → IsKeptAs old new seq
 settles_other n seq old new apart settles = record {
   fate = rw settles.fates (get_or-set_other old.fates.items (place_in n) (place_in seq) Settled Settled apart);
   time = rw settles.times refl;

@@ -17,12 +17,13 @@ use Rattle.sr_audit.specs.declared.listing.Copied.{Copied}
 use Rattle.sr_audit.specs.declared.listing.Listed.{Listed}
 use Rattle.sr_audit.specs.declared.pending.Pending.{Pending}
 use Rattle.sr_audit.specs.declared.span.Spans.{Spans}
+use Rattle.sr_audit.specs.Fates.{KeepsFates}
 use Rattle.sr_audit.specs.Limits.{most_audited}
-use Rattle.sr_audit.specs.Listings.{KeepsPlaces, greatest_in, ListsArrival, ListsDecided, ListsEnd, TakesCopy}
-use Rattle.sr_audit.specs.Looks.{look_at}
+use Rattle.sr_audit.specs.Listings.{KeepsPlaces, ListsArrival, ListsEnd}
 use Rattle.sr_audit.specs.Pendings.{IsRoomMade, taken_if, HasPending, NotesNext, EndsListing, arrivals_from, is_listed_at, AreListedFrom, heard_with, IsPendingFor, KeepsSources, IsWas, ListsCopy, ListsLast, ChangesAtMost, NotesAt, EndsSource}
-use Rattle.sr_audit.specs.Stretches.{stretches}
+use Rattle.sr_audit.specs.Stretches.{stretches, current}
 use Rattle.sr_audit.specs.Taken.{IsKeptIn}
+use Rattle.sr_audit.proofs.FateLemmas.{fates_follow}
 
 -- the end of a source's arrivals
 pub ends_as : (spans : Spans) (src : Mac) (old new : Pending) (before after : List Listed) → new.is_listed ≡ old.is_listed →
@@ -49,19 +50,22 @@ room_same p q fates times packets room =
     record { fates = ap length fates ∙ room.fates; times = ap length times ∙ room.times; packets = ap length packets ∙ room.packets }
 
 -- the next arrival of a source that is listed
-pub notes_listed : (spans : Spans) (x : Copied) (old new : Pending) (before after : List Listed) → old.is_listed ≡ true →
+pub notes_listed : (spans : Spans) (x : Copied) (old new : Pending) (before after : List Listed) → x.arrival.seq.0 < 65536 →
+    old.is_listed ≡ true →
     new.is_listed ≡ old.is_listed →
     ((xs : List Arrival) → length xs + 1 < 2 ^ 64 → IsKeptIn xs old.numbers → IsKeptIn (x.arrival ∷ xs) new.numbers) →
     ((xs : List Arrival) → IsKeptIn xs old.numbers → (old.fates.items ≡ []) ⊎ KeepsPlaces old → ListsArrival spans (stretches xs) x old new before after) →
     ((old.fates.items ≡ []) ⊎ KeepsPlaces old → KeepsPlaces new) → NotesNext spans x old new before after
-notes_listed spans x old new before after is same taken listed room =
+notes_listed spans x old new before after fits is same taken listed room =
     record {
       is_listed = same;
       taken = λ xs few has. record {
         numbers = subst (λ b. IsKeptIn (taken_if b (x.arrival ∷ xs)) new.numbers) (sym (same ∙ is)) (taken xs few (kept xs has));
         room = subst (λ b. IsRoomMade (taken_if b (x.arrival ∷ xs)) new) (sym (same ∙ is)) (room (room_made xs old (places xs has)));
+        fates = subst (λ b. KeepsFates (current (stretches (taken_if b (x.arrival ∷ xs)))) new) (sym (same ∙ is))
+            (fates_follow spans xs x old new before after fits (empty xs (places xs has)) (told xs has) (lists xs has));
       };
-      listed = λ yes xs has. listed xs (kept xs has) (room_made xs old (places xs has));
+      listed = λ yes xs has. lists xs has;
       passed = λ no. let bad : true ≡ false = sym is ∙ no in absurd cc;
     }
   where
@@ -70,6 +74,16 @@ notes_listed spans x old new before after is same taken listed room =
 
     places : (xs : List Arrival) → HasPending xs old → IsRoomMade xs old
     places xs has = subst (λ b. IsRoomMade (taken_if b xs) old) is has.room
+
+    told : (xs : List Arrival) → HasPending xs old → KeepsFates (current (stretches xs)) old
+    told xs has = subst (λ b. KeepsFates (current (stretches (taken_if b xs))) old) is has.fates
+
+    empty : (xs : List Arrival) → IsRoomMade xs old → xs ≡ [] → old.fates.items ≡ []
+    empty [] made none = made
+    empty (y ∷ xs) made none = absurd cc
+
+    lists : (xs : List Arrival) → HasPending xs old → ListsArrival spans (stretches xs) x old new before after
+    lists xs has = listed xs (kept xs has) (room_made xs old (places xs has))
 
 -- the next arrival of another source
 pub notes_other : (spans : Spans) (x : Copied) (p : Pending) (list : List Listed) → p.is_listed ≡ false → NotesNext spans x p p list list
@@ -81,23 +95,27 @@ notes_other spans x p list not_listed =
             (subst (λ b. IsKeptIn (taken_if b xs) p.numbers) not_listed has.numbers);
         room = subst (λ b. IsRoomMade (taken_if b (x.arrival ∷ xs)) p) (sym not_listed)
             (subst (λ b. IsRoomMade (taken_if b xs) p) not_listed has.room);
+        fates = subst (λ b. KeepsFates (current (stretches (taken_if b (x.arrival ∷ xs)))) p) (sym not_listed)
+            (subst (λ b. KeepsFates (current (stretches (taken_if b xs))) p) not_listed has.fates);
       };
       listed = λ yes. let bad : true ≡ false = sym yes ∙ not_listed in absurd cc;
       passed = λ no. refl;
     }
 
 -- what is pending of a source of which nothing came
-pub none_pending : (p : Pending) → p.numbers ≡ None → p.fates.items ≡ [] → HasPending [] p
-none_pending p none empty = by p.is_listed refl
+pub none_pending : (p : Pending) → p.numbers ≡ None → p.fates.items ≡ [] → p.reach ≡ 0 → HasPending [] p
+none_pending p none empty deep = by p.is_listed refl
   where
     by : (b : Bool) → p.is_listed ≡ b → HasPending [] p
     by true is = record {
       numbers = subst (λ b. IsKeptIn (taken_if b []) p.numbers) (sym is) (subst (IsKeptIn []) (sym none) refl);
       room = subst (λ b. IsRoomMade (taken_if b []) p) (sym is) empty;
+      fates = subst (λ b. KeepsFates (current (stretches (taken_if b []))) p) (sym is) deep;
     }
     by false is = record {
       numbers = subst (λ b. IsKeptIn (taken_if b []) p.numbers) (sym is) (subst (IsKeptIn []) (sym none) refl);
       room = subst (λ b. IsRoomMade (taken_if b []) p) (sym is) empty;
+      fates = subst (λ b. KeepsFates (current (stretches (taken_if b []))) p) (sym is) deep;
     }
 
 -- no source has more arrivals than there are
@@ -145,8 +163,8 @@ lists_none first = record { each = λ m. inl refl; are_listed = tt }
 -- a source that is new
 pub lists_made : (first : ℕ) (xs : List Copied) (sources : List (Mac × Pending)) (src : Mac) (p : Pending) →
     lookup (mac_eq src) sources ≡ None → length sources < most_audited → p.is_listed ≡ is_listed_at first (length sources) →
-    p.numbers ≡ None → p.fates.items ≡ [] → KeepsSources first xs sources → KeepsSources first xs (sources ++ (src, p) ∷ [])
-lists_made first xs sources src p absent few is none empty lists =
+    p.numbers ≡ None → p.fates.items ≡ [] → p.reach ≡ 0 → KeepsSources first xs sources → KeepsSources first xs (sources ++ (src, p) ∷ [])
+lists_made first xs sources src p absent few is none empty deep lists =
     record {
       each = λ m. rw (lookup-push src m p sources absent) (by m (mac_eq src m) refl);
       are_listed = listed_push first 0 sources src p (is ∙ ap (is_listed_at first) (omega arith)) lists.are_listed;
@@ -165,7 +183,7 @@ lists_made first xs sources src p absent few is none empty lists =
         let nothing : arrivals_from m xs ≡ [] =
         ap (λ k. arrivals_from k xs) (sym (mac_same src m same))
         ∙ nothing_came (subst (IsPendingFor (length sources) (arrivals_from src xs)) absent (lists.each src)) in
-        subst (λ ys. HasPending ys p) (sym nothing) (none_pending p none empty)
+        subst (λ ys. HasPending ys p) (sym nothing) (none_pending p none empty deep)
     by m false other =
         pending_later (length sources) (length (sources ++ (src, p) ∷ [])) (arrivals_from m xs) (lookup (mac_eq m) sources) longer (lists.each m)
 

@@ -100,7 +100,7 @@ came_over side (y ∷ z ∷ before) n is =
           (came_over side (z ∷ before) n (sym (came-other side n y (z ∷ before) other) ∙ is))
     ]
 
-not_below : (side : Side) (s : List Placed) (n : ℤ) → n <ℤ bottom_number s → came side n s ≡ false
+pub not_below : (side : Side) (s : List Placed) (n : ℤ) → n <ℤ bottom_number s → came side n s ≡ false
 not_below side s n lt =
     elim (cases_Bool (came side n s)) [
       | inl is ↦ absurd (crossed n (bottom_number s) lt (came_over side s n is))
@@ -118,7 +118,7 @@ bottom_le : (y : Placed) (s : List Placed) → bottom_number (y ∷ s) ≤ℤ to
 bottom_le y [] = same_le y.number y.number refl
 bottom_le y (z ∷ s) = lesser_greater (bottom_number (z ∷ s)) (top_number (z ∷ s)) y.number (bottom_le z s)
 
-size_is : (b t : ℤ) → b ≤ℤ t → t ≡ b +ℤ pos (size_of (t -ℤ b))
+pub size_is : (b t : ℤ) → b ≤ℤ t → t ≡ b +ℤ pos (size_of (t -ℤ b))
 size_is b t le = by (t -ℤ b) refl
   where
     by : (d : ℤ) → t -ℤ b ≡ d → t ≡ b +ℤ pos (size_of d)
@@ -196,7 +196,7 @@ sweep spans y s k = by (cases_lt len 1024)
             ∙ ap (λ n. R n (k - (1024 - len)) None) (short_at lt) ∙ ap (λ j. R b j None) rest
 
 -- the numbers that the record keeps
-wire_up : (z : ℤ) → wire z ≡ (up z + 65535 * down z) % 65536
+pub wire_up : (z : ℤ) → wire z ≡ (up z + 65535 * down z) % 65536
 wire_up (pos n) = omega arith
 wire_up (negsuc n) = omega arith
 
@@ -250,7 +250,7 @@ kept_on spans s n moments stands times (suc k) le r =
     ∙ ap (row_with spans (came A m s) (came B m s) (first_time m s)) (kept_on spans s n moments stands times k (omega (arith, le)) r)
 
 -- how far the least number of a stretch lies below its greatest
-depth_is : (y : Placed) (s : List Placed) → bottom_number (y ∷ s) ≡ top_number (y ∷ s) -ℤ pos (size_of (top_number (y ∷ s) -ℤ bottom_number (y ∷ s)))
+pub depth_is : (y : Placed) (s : List Placed) → bottom_number (y ∷ s) ≡ top_number (y ∷ s) -ℤ pos (size_of (top_number (y ∷ s) -ℤ bottom_number (y ∷ s)))
 depth_is y s = turned (top_number (y ∷ s)) (bottom_number (y ∷ s)) _ (size_is (bottom_number (y ∷ s)) (top_number (y ∷ s)) (bottom_le y s))
   where
     turned : (t b : ℤ) (d : ℕ) → t ≡ b +ℤ pos d → b ≡ t -ℤ pos d

@@ -2,6 +2,7 @@ pub mod Audits
 pub mod Counting
 pub mod Edges
 pub mod Extents
+pub mod Fates
 pub mod Faults
 pub mod Following
 pub mod Hearing

@@ -1,6 +1,6 @@
 -- Frames and copies that are listed one by one, as it is decided what became of them.
 use Rattle.std.specs.Prelude.{◌≡◌, ℕ, ◌+◌, ◌-◌, ◌%◌, ◌<◌, ◌≤◌, zero, suc, length, Bool, true, false, List, [], ◌∷◌, ◌++◌}
-use Rattle.std.specs.Prelude.{slice_set, slice_index_or, if◌then◌else◌}
+use Rattle.std.specs.Prelude.{slice_set, slice_index_or, min, max, if◌then◌else◌}
 use Rattle.sr_frame.specs.declared.fields.Mac.{Mac}
 use Rattle.sr_sequence.specs.declared.Distance.TheVariants.{Behind, Ahead}
 use Rattle.sr_sequence.specs.declared.Seq.{Seq}
@@ -136,16 +136,18 @@ pub record IsKeptAs (old new : Pending) (seq : ℕ) : Type 0 where
 
 -- on the way back to a number so many steps behind the greatest, all that lie deeper than a stretch reached are passed over at a time; the
 -- same is kept of the others of 1024
-pub record PassesOver (seq time reach steps : ℕ) (old new : Pending) : Type 0 where
-  pub fates : (i : ℕ) → i + reach < steps → fate_kept new (steps_behind seq i) ≡ PassedOver
-  pub times : (i : ℕ) → i + reach < steps → time_kept new (steps_behind seq i) ≡ time
-  pub others : (i : ℕ) → steps ≤ i + reach → i < kept_numbers → IsKeptAs old new (steps_behind seq i)
+pub record PassesOver (seq time depth steps : ℕ) (old new : Pending) : Type 0 where
+  pub fates : (i : ℕ) → i + depth < steps → fate_kept new (steps_behind seq i) ≡ PassedOver
+  pub times : (i : ℕ) → i + depth < steps → time_kept new (steps_behind seq i) ≡ time
+  pub others : (i : ℕ) → steps ≤ i + depth → i < kept_numbers → IsKeptAs old new (steps_behind seq i)
+  pub reach : new.reach ≡ max depth steps
 
 -- on the way to a number so many steps ahead, all up to it are passed over at a time; the same is kept of the others of 1024
 pub record PassesAhead (seq time steps : ℕ) (old new : Pending) : Type 0 where
   pub fates : (i : ℕ) → i < steps → fate_kept new (steps_before seq i) ≡ PassedOver
   pub times : (i : ℕ) → i < steps → time_kept new (steps_before seq i) ≡ time
   pub others : (i : ℕ) → steps ≤ i → i < kept_numbers → IsKeptAs old new (steps_before seq i)
+  pub reach : new.reach ≡ min (old.reach + steps) (kept_numbers - 1)
 
 -- nothing waits
 pub record SettlesAll (new : Pending) : Type 0 where
@@ -209,6 +211,7 @@ pub record ListsArrival (spans : Spans) (ss : List (List Placed)) (x : Copied) (
     pub same : (seq : ℕ) → IsKeptAs old at seq
     pub same_reach : at.reach ≡ old.reach
     pub between : Pending
+    pub still : KeepsPlaces between
     pub moves : MovesTo (look_at ss x.arrival).step x.arrival at between
     pub decided : List Listed
     pub goes : ListsDecided spans at x (greatest_in ss x.arrival.seq.0) (look_at ss x.arrival).step before decided

@@ -141,6 +141,7 @@ impl Pending {
         ensures listed { result.is_listed ≡ is_listed }
         ensures numbers { result.numbers ≡ None }
         ensures fates { result.fates.items ≡ [] }
+        ensures reach { result.reach ≡ 0 }
     {
         Pending {
             numbers: None,

@@ -21,7 +21,7 @@ returns-clause-lists c =
     let absent = nothing_there (lookup (mac_eq c.args.src) c.args.self.now.sources.entries) lacks in
     let few : length c.args.self.now.sources.entries < most_audited = omega arith in
     λ xs lists. rw c.in_ok-append.ensures.entries (lists_made c.args.self.now.first xs c.args.self.now.sources.entries c.args.src
-    c.new-pending.result absent few (search rules) c.new-pending.ensures.numbers c.new-pending.ensures.fates lists)
+    c.new-pending.result absent few (search rules) c.new-pending.ensures.numbers c.new-pending.ensures.fates c.new-pending.ensures.reach lists)
 
 pub returns-clause-order : goal.returns-clause-order
 returns-clause-order c =

@@ -1,4 +1,4 @@
-use Rattle.std.proofs.Common.{◌≡◌, ◌+◌, ◌<◌, ◌≤◌, ◌-◌, ◌∙◌, ap, arith}
+use Rattle.std.proofs.Common.{rules, ◌≡◌, ◌<◌, ◌≤◌, ◌-◌, ◌∙◌, ap, arith}
 use Rattle.sr_audit.specs.Listings.{steps_before}
 use Rattle.sr_audit.proofs.ListingLemmas.{gone_more, over_more, stays_too}
 use Rattle.sr_audit.proofs.pending.Pending.go_ahead.Goals as goal
@@ -30,4 +30,5 @@ returns-clause-passed c = λ places few.
       others = λ i from less.
           let k = over.others i from less in
           record { fate = k.fate; time = k.time; packet = k.packet };
+      reach = search rules;
     }

@@ -1,4 +1,4 @@
-use Rattle.std.proofs.Common.{rules, ◌≡◌, ◌+◌, ◌<◌, ◌⊎◌, List, [], ◌∷◌, length, ◌∙◌, ap, subst, sym, true}
+use Rattle.std.proofs.Common.{arith, rules, ◌≡◌, ◌+◌, ◌<◌, ◌⊎◌, List, [], ◌∷◌, length, ◌∙◌, subst, sym, true}
 use Rattle.std.specs.Prelude.{◌^◌}
 use Rattle.sr_audit.specs.declared.arrival.Arrival.{Arrival}
 use Rattle.std.proofs.lemmas.Result.{on_ok_weaker}
@@ -37,6 +37,7 @@ listed_by c took xs kept made =
           (kept_items c.make_room.new.self c.look.new.self c.look.ensures.fates c.look.ensures.times c.look.ensures.packets seq);
       same_reach = c.look.ensures.reach ∙ c.make_room.ensures.reach;
       between = c.step.new.self;
+      still = c.step.ensures.stays.room room;
       moves = subst (λ k. MovesTo k.step c.args.x.arrival c.look.new.self c.step.new.self) look (c.in_ok-step.ensures.moved room);
       decided = c.step.new.list.items;
       goes = goes;
@@ -60,7 +61,8 @@ returns-clause-room c = on_ok_weaker c.take_copy.result (λ took is made. room_b
 pub returns-clause-next : goal.returns-clause-next
 returns-clause-next c =
     let is : c.args.self.now.is_listed ≡ true = search rules in
+    let fits : c.args.x.arrival.seq.0 < 65536 = omega arith in
     on_ok_weaker c.take_copy.result (λ took. notes_listed c.args.spans.now c.args.x c.args.self.now c.take_copy.new.self
-    c.args.list.now.items c.take_copy.new.list.items is
+    c.args.list.now.items c.take_copy.new.list.items fits is
     (c.take_copy.ensures.stays.listed ∙ c.step.ensures.stays.listed ∙ c.look.ensures.listed ∙ c.make_room.ensures.listed)
     (taken_by c) (listed_by c took) (room_by c)) c.take_copy.ensures.taken
