@@ -53,7 +53,7 @@ use Rattle.sr_audit.proofs.FollowLemmas.{number_is, length-stretches}
 greater_up : (m n : ℤ) → m ≤ℤ greater m n
 greater_up m n = grind (arith, ints)
 
-greater_over : (m n : ℤ) → n ≤ℤ greater m n
+pub greater_over : (m n : ℤ) → n ≤ℤ greater m n
 greater_over m n = grind (arith, ints)
 
 not_over : (m n : ℤ) → m ≡ n → m ≤ℤ n
@@ -112,7 +112,7 @@ high : (top m : ℤ) → (top -ℤ pos kept_numbers) <ℤ m → (greater top m -
 high top m near = grind (arith, ints)
 
 -- when the first copy of the frame of one copy more came
-first_own : (y : Placed) (s : List Placed) →
+pub first_own : (y : Placed) (s : List Placed) →
     first_time y.number (y ∷ s) ≡ cond (came A y.number s || came B y.number s) (first_time y.number s) y.time
 first_own y s =
     let own : int_eq y.number y.number ≡ true = (Decides-int_eq y.number y.number).1 refl in

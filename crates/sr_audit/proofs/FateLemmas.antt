@@ -148,16 +148,16 @@ begun_low n t le other = grind (arith, ints)
 no_size : (t : ℤ) → t -ℤ t ≡ pos 0
 no_size t = omega (arith, ints)
 
-wire_own : (n : ℕ) → n < 65536 → wire (pos n) ≡ n
+pub wire_own : (n : ℕ) → n < 65536 → wire (pos n) ≡ n
 wire_own n h = omega (arith, h)
 
-le_own : (t : ℤ) → t ≤ℤ t
+pub le_own : (t : ℤ) → t ≤ℤ t
 le_own t = omega (arith, ints)
 
-near_own : (t : ℤ) → (t -ℤ pos 1024) <ℤ t
+pub near_own : (t : ℤ) → (t -ℤ pos 1024) <ℤ t
 near_own t = omega (arith, ints)
 
-begun_fates : (x : Copied) (between new : Pending) (list after : List Listed) → x.arrival.seq.0 < 65536 → KeepsPlaces between →
+pub begun_fates : (x : Copied) (between new : Pending) (list after : List Listed) → x.arrival.seq.0 < 65536 → KeepsPlaces between →
     ((seq : ℕ) → fate_kept between seq ≡ Settled) → between.reach ≡ 0 → TakesCopy by_neither x between new list after →
     KeepsFates (stretch_begun x.arrival) new
 begun_fates x between new list after fits room settled none taken =
@@ -215,7 +215,7 @@ parts_back : (um dm un dn i : ℕ) → um + dn ≡ (un + i) + dm → i < 1024 �
     (un + 65535 * dn) % 65536 ≡ ((um + 65535 * dm) % 65536 + (65536 - i)) % 65536
 parts_back um dm un dn i e few = omega (arith, e, few)
 
-wire_back : (m n : ℤ) (i seq : ℕ) → m ≡ n +ℤ pos i → i < 1024 → wire m ≡ seq → wire n ≡ steps_before seq i
+pub wire_back : (m n : ℤ) (i seq : ℕ) → m ≡ n +ℤ pos i → i < 1024 → wire m ≡ seq → wire n ≡ steps_before seq i
 wire_back m n i seq e few carried =
     wire_up n ∙ parts_back (up m) (down m) (up n) (down n) i (omega (arith, ints, e)) few
     ∙ ap (λ k. (k + (65536 - i)) % 65536) (sym (wire_up m) ∙ carried)
@@ -223,7 +223,7 @@ wire_back m n i seq e few carried =
 parts_on : (um dm un dn i : ℕ) → un + dm ≡ (um + i) + dn → (un + 65535 * dn) % 65536 ≡ ((um + 65535 * dm) % 65536 + i) % 65536
 parts_on um dm un dn i e = omega (arith, e)
 
-wire_on : (m n : ℤ) (i seq : ℕ) → n ≡ m +ℤ pos i → wire m ≡ seq → wire n ≡ steps_behind seq i
+pub wire_on : (m n : ℤ) (i seq : ℕ) → n ≡ m +ℤ pos i → wire m ≡ seq → wire n ≡ steps_behind seq i
 wire_on m n i seq e carried =
     wire_up n ∙ parts_on (up m) (down m) (up n) (down n) i (omega (arith, ints, e)) ∙ ap (λ k. (k + i) % 65536) (sym (wire_up m) ∙ carried)
 
@@ -231,7 +231,7 @@ parts_round : (um dm un dn i : ℕ) → (un + 1024) + dm ≡ (um + i) + dn →
     (un + 65535 * dn) % 65536 % 1024 ≡ ((um + 65535 * dm) % 65536 + i) % 65536 % 1024
 parts_round um dm un dn i e = omega (arith, e)
 
-place_round : (m n : ℤ) (i seq : ℕ) → (n +ℤ pos 1024) ≡ (m +ℤ pos i) → wire m ≡ seq → place_in (wire n) ≡ place_in (steps_behind seq i)
+pub place_round : (m n : ℤ) (i seq : ℕ) → (n +ℤ pos 1024) ≡ (m +ℤ pos i) → wire m ≡ seq → place_in (wire n) ≡ place_in (steps_behind seq i)
 place_round m n i seq e carried =
     ap place_in (wire_up n) ∙ parts_round (up m) (down m) (up n) (down n) i (omega (arith, ints, e))
     ∙ ap (λ k. (k + i) % 65536 % 1024) (sym (wire_up m) ∙ carried)
@@ -243,10 +243,10 @@ ahead_up t m n k i e f lt = omega (arith, ints, e, f, lt)
 ahead_down : (t m n : ℤ) (k i : ℕ) → m ≡ t +ℤ pos k → m ≡ n +ℤ pos i → k ≤ i → n ≤ℤ t
 ahead_down t m n k i e f le = omega (arith, ints, e, f, le)
 
-ahead_near : (t m n : ℤ) (k : ℕ) → m ≡ t +ℤ pos k → (m -ℤ pos 1024) <ℤ n → (t -ℤ pos 1024) <ℤ n
+pub ahead_near : (t m n : ℤ) (k : ℕ) → m ≡ t +ℤ pos k → (m -ℤ pos 1024) <ℤ n → (t -ℤ pos 1024) <ℤ n
 ahead_near t m n k e near = omega (arith, ints, e, near)
 
-within : (m n : ℤ) (i : ℕ) → m ≡ n +ℤ pos i → (m -ℤ pos 1024) <ℤ n → i < 1024
+pub within : (m n : ℤ) (i : ℕ) → m ≡ n +ℤ pos i → (m -ℤ pos 1024) <ℤ n → i < 1024
 within m n i e near = omega (arith, ints, e, near)
 
 over_low : (n b t : ℤ) (d : ℕ) → b ≡ t -ℤ pos d → t <ℤ n → int_lt n b ≡ false
@@ -259,7 +259,7 @@ sum_reach : (r d k : ℕ) → r ≡ min d 1023 → min (r + k) 1023 ≡ min (d +
 sum_reach r d k e = omega (arith, e)
 
 -- with a copy ahead of the greatest number
-ahead_fates : (z : Placed) (before : List Placed) (x : Copied) (m : ℤ) (k : ℕ) (at between new : Pending) (list after : List Listed) →
+pub ahead_fates : (z : Placed) (before : List Placed) (x : Copied) (m : ℤ) (k : ℕ) (at between new : Pending) (list after : List Listed) →
     m ≡ top_number (z ∷ before) +ℤ pos k → k < 1024 → wire m ≡ x.arrival.seq.0 → KeepsPlaces between → TellsFates (z ∷ before) at →
     PassesAhead x.arrival.seq.0 x.arrival.time k at between → TakesCopy (came_by (z ∷ before) m) x between new list after →
     KeepsFates (copy_as x.arrival m ∷ z ∷ before) new
@@ -317,10 +317,10 @@ ahead_fates z before x m k at between new list after is small carried room keeps
             ]
 
 -- where numbers lie behind the greatest
-behind_at : (t m n : ℤ) (k j : ℕ) → m ≡ t -ℤ pos k → t ≡ n +ℤ pos j → j ≤ k → n ≡ m +ℤ pos (k - j)
+pub behind_at : (t m n : ℤ) (k j : ℕ) → m ≡ t -ℤ pos k → t ≡ n +ℤ pos j → j ≤ k → n ≡ m +ℤ pos (k - j)
 behind_at t m n k j e f le = omega (arith, ints, e, f, le)
 
-behind_round : (t m n : ℤ) (k j : ℕ) → m ≡ t -ℤ pos k → t ≡ n +ℤ pos j → k < j → j < 1024 → (n +ℤ pos 1024) ≡ (m +ℤ pos (k + (1024 - j)))
+pub behind_round : (t m n : ℤ) (k j : ℕ) → m ≡ t -ℤ pos k → t ≡ n +ℤ pos j → k < j → j < 1024 → (n +ℤ pos 1024) ≡ (m +ℤ pos (k + (1024 - j)))
 behind_round t m n k j e f lt few = omega (arith, ints, e, f, lt, few)
 
 deeper : (n b t : ℤ) (d j : ℕ) → b ≡ t -ℤ pos d → t ≡ n +ℤ pos j → d < j → n <ℤ b
@@ -350,14 +350,14 @@ reach_short r d i k j e few f le lt = omega (arith, e, few, f, le, lt)
 reach_long : (r d i k j : ℕ) → r ≡ min d 1023 → i ≡ k - j → j ≤ k → k ≤ i + r → j ≤ d
 reach_long r d i k j e f le more = omega (arith, e, f, le, more)
 
-le_behind : (t m : ℤ) (k : ℕ) → m ≡ t -ℤ pos k → m ≤ℤ t
+pub le_behind : (t m : ℤ) (k : ℕ) → m ≡ t -ℤ pos k → m ≤ℤ t
 le_behind t m k e = omega (arith, ints, e)
 
-near_behind : (t m : ℤ) (k : ℕ) → m ≡ t -ℤ pos k → k < 1024 → (t -ℤ pos 1024) <ℤ m
+pub near_behind : (t m : ℤ) (k : ℕ) → m ≡ t -ℤ pos k → k < 1024 → (t -ℤ pos 1024) <ℤ m
 near_behind t m k e few = omega (arith, ints, e, few)
 
 -- with a copy of the greatest number, or of one behind it
-behind_fates : (z : Placed) (before : List Placed) (x : Copied) (m : ℤ) (k : ℕ) (at between new : Pending) (list after : List Listed) →
+pub behind_fates : (z : Placed) (before : List Placed) (x : Copied) (m : ℤ) (k : ℕ) (at between new : Pending) (list after : List Listed) →
     m ≡ top_number (z ∷ before) -ℤ pos k → k < 1024 → wire m ≡ x.arrival.seq.0 → KeepsPlaces between → TellsFates (z ∷ before) at →
     PassesOver x.arrival.seq.0 x.arrival.time at.reach k at between → TakesCopy (came_by (z ∷ before) m) x between new list after →
     KeepsFates (copy_as x.arrival m ∷ z ∷ before) new
@@ -436,110 +436,3 @@ behind_fates z before x m k at between new list after is small carried room keep
               | inl lt ↦ under n j lies lt above below
               | inr le ↦ over n j lies le above below
             ]
-
--- with one arrival more
-tells_same : (z : Placed) (before : List Placed) (old at : Pending) → ((seq : ℕ) → IsKeptAs old at seq) → at.reach ≡ old.reach →
-    TellsFates (z ∷ before) old → TellsFates (z ∷ before) at
-tells_same z before old at same reach tells = record {
-  fates = λ n above below. (same (wire n)).fate ∙ tells.fates n above below;
-  reach = reach ∙ tells.reach;
-}
-
-goes_fates : (z : Placed) (before : List Placed) (rest : List (List Placed)) (x : Copied) (at between new : Pending) (list after : List Listed) →
-    x.arrival.seq.0 < 65536 → KeepsPlaces between → TellsFates (z ∷ before) at →
-    MovesTo (look_at ((z ∷ before) ∷ rest) x.arrival).step x.arrival at between →
-    TakesCopy (look_at ((z ∷ before) ∷ rest) x.arrival).came x between new list after →
-    KeepsFates (current (with_arrival ((z ∷ before) ∷ rest) x.arrival)) new
-goes_fates z before rest x at between new list after fits room keeps moves taken =
-    elim (cases_lt (a.time - z.time) epoch_gap) [
-      | inl soon ↦ near soon (cases_lt (steps a.seq.0 (wire t)) kept_numbers) (cases_lt (steps (wire t) a.seq.0) kept_numbers) moves taken
-      | inr silent ↦ off silent (lies_from s a.seq.0) (nat_eq a.seq.0 ((wire t + 1) % 65536)) refl moves taken
-    ]
-  where
-    a : Arrival
-    a = x.arrival
-
-    s : List Placed
-    s = z ∷ before
-
-    t : ℤ
-    t = top_number s
-
-    begun : SettlesAll between → TakesCopy by_neither x between new list after → KeepsFates (stretch_begun a) new
-    begun all = begun_fates x between new list after fits room all.fates all.reach
-
-    Step : Bool → Bool → Distance → Type 0
-    Step silent next p = MovesTo (cond silent (cond next Resume Restart) (cond (is_far p) Jump (On p))) a at between
-
-    -- by the place of the number
-    By : Distance → Type 0
-    By p = MovesTo (cond (nat_le epoch_gap (a.time - z.time)) (cond (nat_eq a.seq.0 ((wire t + 1) % 65536)) Resume Restart) (cond (is_far p) Jump (On p))) a at between →
-        TakesCopy (cond (nat_lt (a.time - z.time) epoch_gap && not (is_far p)) (came_by s (number_at t p)) by_neither) x between new list after →
-        KeepsFates (current (cond (nat_lt (a.time - z.time) epoch_gap && not (is_far p)) ((copy_as a (number_at t p) ∷ s) ∷ rest) (stretch_begun a ∷ s ∷ rest))) new
-
-    off : epoch_gap ≤ a.time - z.time → (p : Distance) (next : Bool) → nat_eq a.seq.0 ((wire t + 1) % 65536) ≡ next → By p
-    off silent p true is =
-        rw (le-ltb (a.time - z.time) epoch_gap silent, le-leb epoch_gap (a.time - z.time) silent, is) (λ all taken. begun all taken)
-    off silent p false is =
-        rw (le-ltb (a.time - z.time) epoch_gap silent, le-leb epoch_gap (a.time - z.time) silent, is) (λ all taken. begun all taken)
-
-    lies : (b : Bool) → nat_lt (steps a.seq.0 (wire t)) kept_numbers ≡ b →
-        cond b (Behind (steps a.seq.0 (wire t))) (Ahead (steps (wire t) a.seq.0)) ≡ lies_from s a.seq.0
-    lies b e = ap (λ c. cond c (Behind (steps a.seq.0 (wire t))) (Ahead (steps (wire t) a.seq.0))) (sym e)
-
-    one : IsTheOne kept_numbers t a.seq.0 (number_at t (lies_from s a.seq.0))
-    one = number_is t a.seq.0 fits
-
-    near : a.time - z.time < epoch_gap → (steps a.seq.0 (wire t) < kept_numbers) ⊎ (kept_numbers ≤ steps a.seq.0 (wire t)) →
-        (steps (wire t) a.seq.0 < kept_numbers) ⊎ (kept_numbers ≤ steps (wire t) a.seq.0) → By (lies_from s a.seq.0)
-    near soon (inl less) any =
-        let place = lies true (lt-ltb (steps a.seq.0 (wire t)) kept_numbers less) in
-        subst By place
-        (rw (lt-ltb (a.time - z.time) epoch_gap soon, lt-leb epoch_gap (a.time - z.time) soon) (λ passes taken.
-        behind_fates z before x (t -ℤ pos (steps a.seq.0 (wire t))) (steps a.seq.0 (wire t)) at between new list after refl less
-        (ap (λ p. wire (number_at t p)) place ∙ one.carried) room keeps (passes less) taken))
-    near soon (inr more) (inl close) =
-        let place = lies false (le-ltb (steps a.seq.0 (wire t)) kept_numbers more) in
-        subst By place
-        (rw (lt-ltb (a.time - z.time) epoch_gap soon, lt-leb epoch_gap (a.time - z.time) soon, lt-leb kept_numbers (steps (wire t) a.seq.0) close)
-        (λ passes taken.
-        ahead_fates z before x (t +ℤ pos (steps (wire t) a.seq.0)) (steps (wire t) a.seq.0) at between new list after refl close
-        (ap (λ p. wire (number_at t p)) place ∙ one.carried) room keeps (passes close) taken))
-    near soon (inr more) (inr far) =
-        subst By (lies false (le-ltb (steps a.seq.0 (wire t)) kept_numbers more))
-        (rw (lt-ltb (a.time - z.time) epoch_gap soon, lt-leb epoch_gap (a.time - z.time) soon, le-leb kept_numbers (steps (wire t) a.seq.0) far)
-        (λ all taken. begun all taken))
-
--- what is kept of a source, with one arrival more
-pub fates_follow : (spans : Spans) (xs : List Arrival) (x : Copied) (old new : Pending) (before after : List Listed) → x.arrival.seq.0 < 65536 →
-    (xs ≡ [] → old.fates.items ≡ []) → KeepsFates (current (stretches xs)) old → ListsArrival spans (stretches xs) x old new before after →
-    KeepsFates (current (stretches (x.arrival ∷ xs))) new
-fates_follow spans xs x old new before after fits empty keeps lists = go (stretches xs) (no_empty xs) (first xs) keeps lists
-  where
-    first : (ys : List Arrival) → stretches xs ≡ [] → xs ≡ []
-    first ys e = none xs e
-      where
-        none : (zs : List Arrival) → stretches zs ≡ [] → zs ≡ []
-        none [] e = refl
-        none (y ∷ zs) e = by (stretches zs) e
-          where
-            by : (ss : List (List Placed)) → with_arrival ss y ≡ [] → (y ∷ zs) ≡ []
-            by [] e = absurd cc
-            by (s ∷ ss) e =
-                elim (cases_Bool (goes_on s y)) [
-                  | inl on ↦ let is : gone_on s y ∷ ss ≡ [] = rw on at e in absurd cc
-                  | inr off ↦ let is : stretch_begun y ∷ s ∷ ss ≡ [] = rw off at e in absurd cc
-                ]
-
-    go : (ss : List (List Placed)) → ((rest : List (List Placed)) → ss ≡ [] ∷ rest → ⊥) → (ss ≡ [] → xs ≡ []) → KeepsFates (current ss) old →
-        ListsArrival spans ss x old new before after → KeepsFates (current (with_arrival ss x.arrival)) new
-    go [] some is kept l =
-        let none = empty (is refl) in
-        let settled : (seq : ℕ) → fate_kept l.between seq ≡ Settled =
-        λ seq. ap (λ p. fate_kept p seq) l.moves ∙ (l.same seq).fate ∙ ap (λ i. slice_index_or i (place_in seq) Settled) none in
-        begun_fates x l.between new l.decided after fits (subst KeepsPlaces (sym l.moves) l.room) settled
-        (ap (λ p. p.reach) l.moves ∙ l.same_reach ∙ kept) l.taken
-    go ([] ∷ rest) some is kept l = absurd (some rest refl)
-    go ((z ∷ old_copies) ∷ rest) some is kept l =
-        goes_fates z old_copies rest x l.at l.between new l.decided after fits l.still
-        (tells_same z old_copies old l.at l.same l.same_reach kept) l.moves l.taken

@@ -45,7 +45,7 @@ came_over side (y ∷ z ∷ before) n is =
           (lesser_first (bottom_number (z ∷ before)) y.number) (came_over side (z ∷ before) n (sym (came-other side n y (z ∷ before) other) ∙ is))
     ]
 
-some_over : (s : List Placed) (n : ℤ) → (came A n s || came B n s) ≡ true → bottom_number s ≤ℤ n
+pub some_over : (s : List Placed) (n : ℤ) → (came A n s || came B n s) ≡ true → bottom_number s ≤ℤ n
 some_over s n some = by (came A n s) (came B n s) refl refl some
   where
     by : (a b : Bool) → came A n s ≡ a → came B n s ≡ b → (a || b) ≡ true → bottom_number s ≤ℤ n

@@ -5,7 +5,9 @@ pub mod FollowLemmas
 pub mod EdgeLemmas
 pub mod ExtentLemmas
 pub mod FateLemmas
+pub mod FirstLemmas
 pub mod FitLemmas
+pub mod FollowingLemmas
 pub mod HearLemmas
 pub mod ListingLemmas
 pub mod LawLemmas

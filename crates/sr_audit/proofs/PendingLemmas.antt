@@ -17,13 +17,14 @@ use Rattle.sr_audit.specs.declared.listing.Copied.{Copied}
 use Rattle.sr_audit.specs.declared.listing.Listed.{Listed}
 use Rattle.sr_audit.specs.declared.pending.Pending.{Pending}
 use Rattle.sr_audit.specs.declared.span.Spans.{Spans}
+use Rattle.sr_audit.specs.Edges.{KeepsTimes}
 use Rattle.sr_audit.specs.Fates.{KeepsFates}
 use Rattle.sr_audit.specs.Limits.{most_audited}
 use Rattle.sr_audit.specs.Listings.{KeepsPlaces, ListsArrival, ListsEnd}
 use Rattle.sr_audit.specs.Pendings.{IsRoomMade, taken_if, HasPending, NotesNext, EndsListing, arrivals_from, is_listed_at, AreListedFrom, heard_with, IsPendingFor, KeepsSources, IsWas, ListsCopy, ListsLast, ChangesAtMost, NotesAt, EndsSource}
 use Rattle.sr_audit.specs.Stretches.{stretches, current}
 use Rattle.sr_audit.specs.Taken.{IsKeptIn}
-use Rattle.sr_audit.proofs.FateLemmas.{fates_follow}
+use Rattle.sr_audit.proofs.FollowingLemmas.{KeepsAll, pending_follows}
 
 -- the end of a source's arrivals
 pub ends_as : (spans : Spans) (src : Mac) (old new : Pending) (before after : List Listed) → new.is_listed ≡ old.is_listed →
@@ -63,7 +64,9 @@ notes_listed spans x old new before after fits is same taken listed room =
         numbers = subst (λ b. IsKeptIn (taken_if b (x.arrival ∷ xs)) new.numbers) (sym (same ∙ is)) (taken xs few (kept xs has));
         room = subst (λ b. IsRoomMade (taken_if b (x.arrival ∷ xs)) new) (sym (same ∙ is)) (room (room_made xs old (places xs has)));
         fates = subst (λ b. KeepsFates (current (stretches (taken_if b (x.arrival ∷ xs)))) new) (sym (same ∙ is))
-            (fates_follow spans xs x old new before after fits (empty xs (places xs has)) (told xs has) (lists xs has));
+            (told_next xs has).0;
+        times = subst (λ b. KeepsTimes (current (stretches (taken_if b (x.arrival ∷ xs)))) new.times.items) (sym (same ∙ is))
+            (told_next xs has).1;
       };
       listed = λ yes xs has. lists xs has;
       passed = λ no. let bad : true ≡ false = sym is ∙ no in absurd cc;
@@ -78,12 +81,19 @@ notes_listed spans x old new before after fits is same taken listed room =
     told : (xs : List Arrival) → HasPending xs old → KeepsFates (current (stretches xs)) old
     told xs has = subst (λ b. KeepsFates (current (stretches (taken_if b xs))) old) is has.fates
 
+    kept_times : (xs : List Arrival) → HasPending xs old → KeepsTimes (current (stretches xs)) old.times.items
+    kept_times xs has = subst (λ b. KeepsTimes (current (stretches (taken_if b xs))) old.times.items) is has.times
+
     empty : (xs : List Arrival) → IsRoomMade xs old → xs ≡ [] → old.fates.items ≡ []
     empty [] made none = made
     empty (y ∷ xs) made none = absurd cc
 
     lists : (xs : List Arrival) → HasPending xs old → ListsArrival spans (stretches xs) x old new before after
     lists xs has = listed xs (kept xs has) (room_made xs old (places xs has))
+
+    told_next : (xs : List Arrival) → HasPending xs old → KeepsAll (current (stretches (x.arrival ∷ xs))) new
+    told_next xs has =
+        pending_follows spans xs x old new before after fits (empty xs (places xs has)) (told xs has, kept_times xs has) (lists xs has)
 
 -- the next arrival of another source
 pub notes_other : (spans : Spans) (x : Copied) (p : Pending) (list : List Listed) → p.is_listed ≡ false → NotesNext spans x p p list list
@@ -97,6 +107,8 @@ notes_other spans x p list not_listed =
             (subst (λ b. IsRoomMade (taken_if b xs) p) not_listed has.room);
         fates = subst (λ b. KeepsFates (current (stretches (taken_if b (x.arrival ∷ xs)))) p) (sym not_listed)
             (subst (λ b. KeepsFates (current (stretches (taken_if b xs))) p) not_listed has.fates);
+        times = subst (λ b. KeepsTimes (current (stretches (taken_if b (x.arrival ∷ xs)))) p.times.items) (sym not_listed)
+            (subst (λ b. KeepsTimes (current (stretches (taken_if b xs))) p.times.items) not_listed has.times);
       };
       listed = λ yes. let bad : true ≡ false = sym yes ∙ not_listed in absurd cc;
       passed = λ no. refl;
@@ -111,11 +123,15 @@ none_pending p none empty deep = by p.is_listed refl
       numbers = subst (λ b. IsKeptIn (taken_if b []) p.numbers) (sym is) (subst (IsKeptIn []) (sym none) refl);
       room = subst (λ b. IsRoomMade (taken_if b []) p) (sym is) empty;
       fates = subst (λ b. KeepsFates (current (stretches (taken_if b []))) p) (sym is) deep;
+      times = subst (λ b. KeepsTimes (current (stretches (taken_if b []))) p.times.items) (sym is)
+          (λ n some above. let no : false ≡ true = some in absurd cc);
     }
     by false is = record {
       numbers = subst (λ b. IsKeptIn (taken_if b []) p.numbers) (sym is) (subst (IsKeptIn []) (sym none) refl);
       room = subst (λ b. IsRoomMade (taken_if b []) p) (sym is) empty;
       fates = subst (λ b. KeepsFates (current (stretches (taken_if b []))) p) (sym is) deep;
+      times = subst (λ b. KeepsTimes (current (stretches (taken_if b []))) p.times.items) (sym is)
+          (λ n some above. let no : false ≡ true = some in absurd cc);
     }
 
 -- no source has more arrivals than there are

@@ -10,6 +10,7 @@ use Rattle.sr_audit.specs.declared.listing.Copied.{Copied}
 use Rattle.sr_audit.specs.declared.listing.Listed.{Listed}
 use Rattle.sr_audit.specs.declared.pending.Pending.{Pending}
 use Rattle.sr_audit.specs.declared.span.Spans.{Spans}
+use Rattle.sr_audit.specs.Edges.{KeepsTimes}
 use Rattle.sr_audit.specs.Fates.{KeepsFates}
 use Rattle.sr_audit.specs.Limits.{listed_at_once, most_audited}
 use Rattle.sr_audit.specs.Listings.{KeepsPlaces, ListsArrival, ListsEnd}
@@ -30,6 +31,7 @@ pub record HasPending (xs : List Arrival) (p : Pending) : Type 0 where
   pub numbers : IsKeptIn (taken_if p.is_listed xs) p.numbers
   pub room : IsRoomMade (taken_if p.is_listed xs) p
   pub fates : KeepsFates (current (stretches (taken_if p.is_listed xs))) p
+  pub times : KeepsTimes (current (stretches (taken_if p.is_listed xs))) p.times.items
 
 -- the source's next arrival was taken, and what it decides was listed, if the source is listed
 pub record NotesNext (spans : Spans) (x : Copied) (old new : Pending) (before after : List Listed) : Type 0 where
