@@ -1,6 +1,6 @@
 -- What is pending of each of many sources follows their arrivals.
 use Rattle.std.proofs.Common.{◌≡◌, ℕ, ◌+◌, ◌<◌, ◌≤◌, ◌⊎◌, Bool, true, false, cond, ◌||◌, List, [], ◌∷◌, ◌++◌, length, Option, None, Some, is_some, arith, refl, sym, ap, ◌∙◌, subst, inl, inr, length-append}
-use Rattle.std.specs.Prelude.{◌^◌, nat_le, IfSome, MatchBool}
+use Rattle.std.specs.Prelude.{◌^◌, nat_le, Result, Ok, Err, OnOk, IfSome, MatchBool}
 use Rattle.std.specs.List.{list_any}
 use Rattle.std.specs.Map.{lookup, set_value, keys_of}
 use Rattle.std.proofs.lemmas.Bool.{cases_Bool, lt-leb}
@@ -20,29 +20,53 @@ use Rattle.sr_audit.specs.declared.span.Spans.{Spans}
 use Rattle.sr_audit.specs.Edges.{KeepsTimes}
 use Rattle.sr_audit.specs.Fates.{KeepsFates}
 use Rattle.sr_audit.specs.Limits.{most_audited}
-use Rattle.sr_audit.specs.Listings.{KeepsPlaces, ListsArrival, ListsEnd}
-use Rattle.sr_audit.specs.Pendings.{IsRoomMade, taken_if, HasPending, NotesNext, EndsListing, arrivals_from, is_listed_at, AreListedFrom, heard_with, IsPendingFor, KeepsSources, IsWas, ListsCopy, ListsLast, ChangesAtMost, NotesAt, EndsSource}
+use Rattle.sr_audit.specs.Listings.{KeepsPlaces, ListsArrival, ListsEnd, SettlesAll}
+use Rattle.sr_audit.specs.Pendings.{IsRoomMade, taken_if, HasPending, NotesNext, EndsListing, arrivals_from, is_listed_at, AreListedFrom, heard_with, IsPendingFor, KeepsSources, IsWas, ListsCopy, ListsLast, ChangesAtMost, NotesAt, EndsSource, LeavesNothing}
 use Rattle.sr_audit.specs.Stretches.{stretches, current}
 use Rattle.sr_audit.specs.Taken.{IsKeptIn}
 use Rattle.sr_audit.proofs.FollowingLemmas.{KeepsAll, pending_follows}
 
 -- the end of a source's arrivals
+left_settled : (xs : List Arrival) (old new : Pending) → IsRoomMade xs old → (KeepsPlaces old → SettlesAll new) → (xs ≡ []) ⊎ SettlesAll new
+left_settled [] old new room settled = inl refl
+left_settled (x ∷ xs) old new room settled = inr (settled room)
+
 pub ends_as : (spans : Spans) (src : Mac) (old new : Pending) (before after : List Listed) → new.is_listed ≡ old.is_listed →
     ((xs : List Arrival) → IsKeptIn xs old.numbers → ListsEnd spans old src (stretches xs) before after) →
+    ((xs : List Arrival) → IsKeptIn xs old.numbers → IsRoomMade xs old → (xs ≡ []) ⊎ SettlesAll new) →
     EndsListing spans src old new before after
-ends_as spans src old new before after same ends =
-    record { is_listed = same; listed = λ xs has. ends (taken_if old.is_listed xs) has.numbers }
+ends_as spans src old new before after same ends settled =
+    record {
+      is_listed = same;
+      listed = λ xs has. ends (taken_if old.is_listed xs) has.numbers;
+      settled = λ xs has. subst (λ b. (taken_if b xs ≡ []) ⊎ SettlesAll new) (sym same)
+          (settled (taken_if old.is_listed xs) has.numbers has.room);
+    }
+
+pub ends_all : (spans : Spans) (src : Mac) (old new : Pending) (before after : List Listed) → new.is_listed ≡ old.is_listed →
+    ((xs : List Arrival) → IsKeptIn xs old.numbers → ListsEnd spans old src (stretches xs) before after) →
+    (KeepsPlaces old → SettlesAll new) → EndsListing spans src old new before after
+ends_all spans src old new before after same ends settled =
+    ends_as spans src old new before after same ends (λ xs kept room. left_settled xs old new room settled)
 
 -- nothing is listed at the end of a source of which nothing was taken
 pub ends_empty : (spans : Spans) (src : Mac) (p : Pending) (list : List Listed) → p.numbers ≡ None → EndsListing spans src p p list list
 ends_empty spans src p list none =
-    ends_as spans src p p list list refl (λ xs kept. let nothing : xs ≡ [] = subst (IsKeptIn xs) none kept in
-    subst (λ ys. ListsEnd spans p src (stretches ys) list list) (sym nothing) refl)
+    ends_as spans src p p list list refl (λ xs kept. subst (λ ys. ListsEnd spans p src (stretches ys) list list) (sym (nothing xs kept)) refl)
+    (λ xs kept room. inl (nothing xs kept))
+  where
+    nothing : (xs : List Arrival) → IsKeptIn xs p.numbers → xs ≡ []
+    nothing xs kept = subst (IsKeptIn xs) none kept
 
 -- room was made, or no place has anything
 room_made : (xs : List Arrival) (p : Pending) → IsRoomMade xs p → (p.fates.items ≡ []) ⊎ KeepsPlaces p
 room_made [] p places = inl places
 room_made (x ∷ xs) p places = inr places
+
+-- what follows from two facts of a result
+pub on_ok_both : {T E P Q R : Type 0} (r : Result T E) → (P → Q → R) → OnOk r P → OnOk r Q → OnOk r R
+on_ok_both (Ok x) both first second = both first second
+on_ok_both (Err e) both first second = tt
 
 -- what is kept at the places stays, and so does the room
 pub room_same : (p q : Pending) → q.fates.items ≡ p.fates.items → q.times.items ≡ p.times.items → q.packets.items ≡ p.packets.items →
@@ -331,12 +355,28 @@ lists_nothing spans xs x was None list none = refl
 lists_nothing spans xs x was (Some p) list none = absurd cc
 
 -- what was listed at the end of a source
-pub lists_last : (spans : Spans) (first : ℕ) (xs : List Copied) (src : Mac) (sources : List (Mac × Pending)) (before after : List Listed) →
-    EndsSource spans src sources before after → KeepsSources first xs sources →
+pub lists_last : (spans : Spans) (first : ℕ) (xs : List Copied) (src : Mac) (sources new : List (Mac × Pending)) (before after : List Listed) →
+    EndsSource spans src sources new before after → KeepsSources first xs sources →
     ListsLast spans src (arrivals_from src xs) (lookup (mac_eq src) sources) before after
-lists_last spans first xs src sources before after at lists =
+lists_last spans first xs src sources new before after at lists =
     subst (λ o. ListsLast spans src (arrivals_from src xs) o before after) (sym at.found)
     (at.ends.listed (arrivals_from src xs) (subst (IsPendingFor (length sources) (arrivals_from src xs)) at.found (lists.each src)))
+
+-- nothing waits of it then
+pub leaves_nothing : (spans : Spans) (first : ℕ) (xs : List Copied) (src : Mac) (sources new : List (Mac × Pending))
+    (before after : List Listed) → EndsSource spans src sources new before after → KeepsSources first xs sources →
+    IfSome (lookup (mac_eq src) new) (λ p. LeavesNothing (arrivals_from src xs) p)
+leaves_nothing spans first xs src sources new before after at lists =
+    subst (λ o. IfSome o (λ p. LeavesNothing (arrivals_from src xs) p)) (sym own)
+    (at.ends.settled (arrivals_from src xs) (subst (IsPendingFor (length sources) (arrivals_from src xs)) at.found (lists.each src)))
+  where
+    own : lookup (mac_eq src) new ≡ Some at.is
+    own = ap (lookup (mac_eq src)) at.written ∙ lookup-set src src at.is sources (ap is_some at.found)
+        ∙ ap (λ b. cond b (Some at.is) (lookup (mac_eq src) sources)) (mac_refl src)
+
+pub none_left : (o : Option Pending) (P : Pending → Type 0) → is_some o ≡ false → IfSome o P
+none_left None P none = tt
+none_left (Some p) P none = absurd cc
 
 pub last_of_none : (spans : Spans) (src : Mac) (xs : List Arrival) (o : Option Pending) (list : List Listed) → is_some o ≡ false →
     ListsLast spans src xs o list list

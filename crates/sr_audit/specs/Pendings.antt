@@ -13,7 +13,7 @@ use Rattle.sr_audit.specs.declared.span.Spans.{Spans}
 use Rattle.sr_audit.specs.Edges.{KeepsTimes}
 use Rattle.sr_audit.specs.Fates.{KeepsFates}
 use Rattle.sr_audit.specs.Limits.{listed_at_once, most_audited}
-use Rattle.sr_audit.specs.Listings.{KeepsPlaces, ListsArrival, ListsEnd}
+use Rattle.sr_audit.specs.Listings.{KeepsPlaces, SettlesAll, ListsArrival, ListsEnd}
 use Rattle.sr_audit.specs.Stretches.{stretches, current}
 use Rattle.sr_audit.specs.Taken.{IsKeptIn}
 
@@ -41,11 +41,16 @@ pub record NotesNext (spans : Spans) (x : Copied) (old new : Pending) (before af
       ListsArrival spans (stretches xs) x old new before after
   pub passed : old.is_listed ≡ false → after ≡ before
 
+-- nothing waits of a source, or no arrival of it was taken
+abbrev pub LeavesNothing : List Arrival → Pending → Type 0
+LeavesNothing xs p = (taken_if p.is_listed xs ≡ []) ⊎ SettlesAll p
+
 -- all that waits was listed, at the end of a source's arrivals
 pub record EndsListing (spans : Spans) (src : Mac) (old new : Pending) (before after : List Listed) : Type 0 where
   pub is_listed : new.is_listed ≡ old.is_listed
   pub listed : (xs : List Arrival) → HasPending xs old →
       ListsEnd spans old src (stretches (taken_if old.is_listed xs)) before after
+  pub settled : (xs : List Arrival) → HasPending xs old → LeavesNothing xs new
 
 -- the arrivals of one source among copies, newest first
 abbrev pub arrivals_from : Mac → List Copied → List Arrival
@@ -107,8 +112,9 @@ pub record NotesAt (spans : Spans) (x : Copied) (old new : List (Mac × Pending)
   pub notes : NotesNext spans x was is before after
 
 -- all that was pending of a source was listed
-pub record EndsSource (spans : Spans) (src : Mac) (old : List (Mac × Pending)) (before after : List Listed) : Type 0 where
+pub record EndsSource (spans : Spans) (src : Mac) (old new : List (Mac × Pending)) (before after : List Listed) : Type 0 where
   pub was : Pending
   pub is : Pending
   pub found : lookup (mac_eq src) old ≡ Some was
+  pub written : new ≡ set_value (mac_eq src) old is
   pub ends : EndsListing spans src was is before after

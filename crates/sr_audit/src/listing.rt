@@ -46,13 +46,13 @@ pub struct Listing {
 }
 
 impl Listing {
-    ghost use Rattle.std.specs.Prelude.{◌≡◌, ◌+◌, ◌-◌, ◌^◌, ◌<◌, ◌≤◌, List, [], ◌∷◌, length, true, false, is_some, IfOk, OnOk, OnErr};
+    ghost use Rattle.std.specs.Prelude.{◌≡◌, ◌+◌, ◌-◌, ◌^◌, ◌<◌, ◌≤◌, List, [], ◌∷◌, length, true, false, is_some, IfOk, IfSome, OnOk};
     ghost use Rattle.std.specs.Map.{lookup, keys_of};
     ghost use Rattle.sr_frame.specs.declared.fields.Mac.{Mac};
     ghost use Rattle.sr_frame.specs.Addresses.{mac_eq};
     ghost use Rattle.sr_audit.specs.declared.listing.Copied.{Copied};
     ghost use Rattle.sr_audit.specs.Limits.{most_audited};
-    ghost use Rattle.sr_audit.specs.Pendings.{NotesNext, EndsListing, arrivals_from, is_listed_at, heard_with, KeepsSources, ListsCopy, ListsLast, ChangesAtMost, NotesAt, EndsSource};
+    ghost use Rattle.sr_audit.specs.Pendings.{NotesNext, EndsListing, arrivals_from, is_listed_at, heard_with, KeepsSources, ListsCopy, ListsLast, ChangesAtMost, LeavesNothing, NotesAt, EndsSource};
 
     /// No arrival came. The spans of the captures are known, and which source is the first that is listed.
     pub fn new(alloc: Global, keys: Keys, spans: Spans, first: usize) -> Listing
@@ -188,7 +188,7 @@ impl Listing {
     fn finish_known(&mut self, src: Mac, list: &mut Vec<Listed>) -> Result<(), NoMemory>
         requires { is_some (lookup (mac_eq src) self.old.sources.entries) ≡ true }
         ensures ended { OnOk result (EndsSource self.old.spans src self.old.sources.entries
-            list.old.items list.new.items) }
+            self.new.sources.entries list.old.items list.new.items) }
         ensures others { ChangesAtMost src self.old.sources.entries self.new.sources.entries }
         ensures spans { self.new.spans ≡ self.old.spans }
         ensures first { self.new.first ≡ self.old.first }
@@ -223,6 +223,10 @@ impl Listing {
             → KeepsSources self.old.first xs self.old.sources.entries
             → ListsLast self.old.spans src (arrivals_from src xs)
             (lookup (mac_eq src) self.old.sources.entries) list.old.items list.new.items) }
+        ensures settled { OnOk result ((xs : List Copied)
+            → KeepsSources self.old.first xs self.old.sources.entries
+            → IfSome (lookup (mac_eq src) self.new.sources.entries)
+            (λ p. LeavesNothing (arrivals_from src xs) p)) }
         ensures others { ChangesAtMost src self.old.sources.entries self.new.sources.entries }
         ensures spans { self.new.spans ≡ self.old.spans }
         ensures first { self.new.first ≡ self.old.first }
