@@ -1,5 +1,5 @@
 -- When the first copies of the last numbers of a stretch came, as it is kept, with one copy more.
-use Rattle.std.proofs.Common.{◌≡◌, ℕ, ◌+◌, ◌-◌, ◌<◌, ◌≤◌, Bool, true, false, cond, ◌||◌, List, [], ◌∷◌, ℤ, pos, arith, refl, sym, ap, ◌∙◌, subst, inl, inr}
+use Rattle.std.proofs.Common.{◌≡◌, ℕ, ◌+◌, ◌-◌, ◌<◌, ◌≤◌, Bool, true, false, cond, ◌||◌, List, ◌∷◌, ℤ, pos, arith, refl, sym, ap, ◌∙◌, subst, inl, inr}
 use Rattle.std.specs.Prelude.{min, slice_index_or, ◌+ℤ◌, ◌-ℤ◌, ◌<ℤ◌, ◌≤ℤ◌}
 use Rattle.std.specs.Ordering.{int_eq}
 use Rattle.std.proofs.lemmas.Bool.{cases_Bool, cases_lt}
@@ -16,10 +16,10 @@ use Rattle.sr_audit.specs.Counting.{has_come, came_before_at}
 use Rattle.sr_audit.specs.Edges.{first_time, KeepsTimes}
 use Rattle.sr_audit.specs.Extents.{bottom_number, size_of}
 use Rattle.sr_audit.specs.Limits.{place_in}
-use Rattle.sr_audit.specs.Listings.{fate_by, time_kept, steps_before, steps_behind, KeepsPlaces, IsKeptAs, PassesAhead, PassesOver, TakesCopyIf, TakesCopy}
+use Rattle.sr_audit.specs.Listings.{fate_by, time_kept, steps_before, steps_behind, KeepsPlaces, PassesAhead, PassesOver, TakesCopyIf, TakesCopy}
 use Rattle.sr_audit.specs.Looks.{came_by}
 use Rattle.sr_audit.specs.Stretches.{Placed, copy_as, came, top_number}
-use Rattle.sr_audit.proofs.EdgeLemmas.{first_own, greater_over, same_place, some_below}
+use Rattle.sr_audit.proofs.EdgeLemmas.{first_own, same_place, some_below}
 use Rattle.sr_audit.proofs.ExtentLemmas.{greater_ahead, greater_behind}
 use Rattle.sr_audit.proofs.FateLemmas.{ahead_near, behind_at, behind_round, le_own, near_own, le_behind, near_behind, place_round, wire_back, wire_on, within}
 use Rattle.sr_audit.proofs.FitLemmas.{some_over}

@@ -1,12 +1,7 @@
 -- What is kept of the last numbers of a source, with one arrival more.
-use Rattle.std.proofs.Common.{◌≡◌, ℕ, ◌+◌, ◌-◌, ◌*◌, ◌%◌, ◌<◌, ◌≤◌, ◌⊎◌, Bool, true, false, cond, ◌||◌, ◌&&◌, not, List, [], ◌∷◌, ℤ, pos, arith, refl, sym, ap, ◌∙◌, subst, inl, inr}
-use Rattle.std.specs.Prelude.{min, max, nat_lt, nat_le, nat_eq, slice_index_or, ◌+ℤ◌, ◌-ℤ◌, ◌<ℤ◌, ◌≤ℤ◌, int_lt}
-use Rattle.std.specs.Ordering.{int_eq}
+use Rattle.std.proofs.Common.{◌≡◌, ℕ, ◌+◌, ◌-◌, ◌%◌, ◌<◌, ◌≤◌, ◌⊎◌, Bool, true, false, cond, ◌&&◌, not, List, [], ◌∷◌, ℤ, pos, refl, sym, ap, ◌∙◌, subst, inl, inr}
+use Rattle.std.specs.Prelude.{nat_lt, nat_le, nat_eq, slice_index_or, ◌+ℤ◌, ◌-ℤ◌}
 use Rattle.std.proofs.lemmas.Bool.{cases_Bool, cases_lt, lt-ltb, le-ltb, lt-leb, le-leb}
-use Rattle.std.proofs.lemmas.Bool.Decides.{Decides-int_eq}
-use Rattle.std.proofs.lemmas.Int.{ints}
-use Rattle.std.proofs.lemmas.List.{get_or-set_same}
-use borrow.Author.Differences.{up, down}
 use Rattle.sr_sequence.specs.Numbers.{wire}
 use Rattle.sr_sequence.specs.Places.{number_at, steps, IsTheOne}
 use Rattle.sr_sequence.specs.declared.Distance.{Distance}
@@ -15,26 +10,16 @@ use Rattle.sr_audit.specs.declared.arrival.Arrival.{Arrival}
 use Rattle.sr_audit.specs.declared.listing.Copied.{Copied}
 use Rattle.sr_audit.specs.declared.listing.Listed.{Listed}
 use Rattle.sr_audit.specs.declared.look.Step.TheVariants.{Restart, Resume, Jump, On}
-use Rattle.sr_audit.specs.declared.pending.Fate.{Fate}
 use Rattle.sr_audit.specs.declared.pending.Fate.TheVariants.{Settled}
 use Rattle.sr_audit.specs.declared.pending.Pending.{Pending}
-use Rattle.sr_audit.specs.declared.side.Side.{Side}
-use Rattle.sr_audit.specs.declared.side.Side.TheVariants.{A, B}
 use Rattle.sr_audit.specs.declared.span.Spans.{Spans}
-use Rattle.sr_audit.specs.declared.tally.Came.{Came}
-use Rattle.sr_audit.specs.Counting.{has_come, came_before_at}
-use Rattle.sr_audit.specs.Extents.{lesser, bottom_number, size_of}
-use Rattle.sr_audit.specs.Fates.{fate_if, fate_of, TellsFates, KeepsFates}
+use Rattle.sr_audit.specs.Fates.{TellsFates, KeepsFates}
 use Rattle.sr_audit.specs.Limits.{kept_numbers, epoch_gap, place_in}
-use Rattle.sr_audit.specs.Listings.{fate_kept, fate_by, steps_before, steps_behind, KeepsPlaces, PutsFate, SettlesNumber, IsKeptAs, PassesAhead, PassesOver, SettlesAll, MovesTo, TakesCopyIf, TakesCopy, ListsArrival}
+use Rattle.sr_audit.specs.Listings.{fate_kept, KeepsPlaces, IsKeptAs, SettlesAll, MovesTo, TakesCopy, ListsArrival}
 use Rattle.sr_audit.specs.Looks.{came_by, by_neither, look_at}
-use Rattle.sr_audit.specs.Stretches.{Placed, copy_as, same_side, came, top_number, lies_from, is_far, stretch_begun, goes_on, gone_on, current, with_arrival, stretches}
-use Rattle.sr_audit.proofs.EdgeLemmas.{came_below, same_place}
-use Rattle.sr_audit.proofs.ExtentLemmas.{greater_ahead, greater_behind, lesser_ahead, lesser_down, no_empty}
+use Rattle.sr_audit.specs.Stretches.{Placed, copy_as, top_number, lies_from, is_far, stretch_begun, goes_on, gone_on, current, with_arrival, stretches}
+use Rattle.sr_audit.proofs.ExtentLemmas.{no_empty}
 use Rattle.sr_audit.proofs.FollowLemmas.{number_is}
-use Rattle.sr_audit.proofs.FrameLemmas.{came-other, came-same}
-use Rattle.sr_audit.proofs.ListingLemmas.{puts_other, settles_other}
-use Rattle.sr_audit.proofs.RowLemmas.{not_below, depth_is, size_is, wire_up}
 use Rattle.sr_audit.specs.Edges.{KeepsTimes}
 use Rattle.sr_audit.proofs.FateLemmas.{ahead_fates, begun_fates, behind_fates, le_own, near_own, wire_own}
 use Rattle.sr_audit.proofs.FirstLemmas.{ahead_first, behind_first, with_first}
