@@ -11,6 +11,7 @@ mod look;
 mod moments;
 mod numbers;
 mod pending;
+mod places;
 mod row;
 mod side;
 mod skew;

@@ -2,7 +2,8 @@
 
 use crate::arrival::Arrival;
 use crate::audit::MAX_SOURCES;
-use crate::pending::{Pending, append};
+use crate::pending::Pending;
+use crate::places::append;
 use crate::span::Spans;
 use sr_frame::{Mac, NoMemory};
 use sr_sequence::Seq;

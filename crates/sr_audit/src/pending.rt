@@ -1,13 +1,13 @@
 //! What is pending of the numbers of a source.
 
-ghost use Rattle.std.specs.Prelude.{◌≡◌, ◌++◌, ◌∷◌, [], slice_set, slice_index_or, OnOk};
-ghost use Rattle.sr_audit.specs.Limits.{place_in};
-ghost use Rattle.sr_audit.specs.Listings.{fate_by, listed_if_lost, steps_before, steps_behind};
+ghost use Rattle.std.specs.Prelude.{◌≡◌, ◌++◌, OnOk};
+ghost use Rattle.sr_audit.specs.Listings.{fate_by, listed_if_lost};
 
 use crate::arrival::Arrival;
 use crate::listing::{Copied, Listed};
 use crate::look::{Look, Step};
 use crate::numbers::{KEPT_NUMBERS, Numbers};
+use crate::places::{append, item_at, place_of, put_at, steps_before, steps_behind};
 use crate::row::kept_number;
 use crate::side::Side;
 use crate::span::Spans;
@@ -15,7 +15,7 @@ use crate::tally::Came;
 use sr_frame::{Mac, NoMemory};
 use sr_sequence::{Distance, Seq};
 use sr_slots::Ranked;
-use std::alloc::{AllocError, Global};
+use std::alloc::Global;
 
 /// What became of a number so far.
 #[derive(Clone, Copy, Debug, PartialEq, Eq)]
@@ -38,20 +38,6 @@ fn fate_by(side: Side) -> Fate
         Side::A => Fate::ByA,
         Side::B => Fate::ByB,
     }
-}
-
-/// The number that lies so many steps before another.
-fn steps_before(seq: Seq, steps: u16) -> Seq
-    ensures { result.0 ≡ steps_before seq.0 steps }
-{
-    Seq(seq.0.wrapping_sub(steps))
-}
-
-/// The number that lies so many steps behind another.
-fn steps_behind(seq: Seq, steps: u16) -> Seq
-    ensures { result.0 ≡ steps_behind seq.0 steps }
-{
-    Seq(seq.0.wrapping_add(steps))
 }
 
 /// What is kept of a source.
@@ -77,42 +63,6 @@ impl Ranked for Pending {
     fn rank(&self) -> u64 {
         0
     }
-}
-
-/// Appends an item.
-pub(crate) fn append<T: Copy>(list: &mut Vec<T>, item: T) -> Result<(), NoMemory>
-    ensures { OnOk result (list.new.items ≡ list.old.items ++ item ∷ []) }
-{
-    match list.push(item) {
-        Ok(()) => Ok(()),
-        Err(refused) => Err(AllocError::from(refused).into()),
-    }
-}
-
-/// The item at a place of a list, or another one where it has no such place.
-fn item_at<T: Copy>(list: &[T], at: usize, other: T) -> T
-    ensures { result ≡ slice_index_or list.now at other }
-{
-    match list.get(at) {
-        Some(item) => *item,
-        None => other,
-    }
-}
-
-/// Writes an item at a place of a list, if it has that place.
-fn put_at<T: Copy>(list: &mut Vec<T>, at: usize, item: T)
-    ensures { list.new.items ≡ slice_set list.old.items at item }
-{
-    if let Some(place) = list.get_mut(at) {
-        *place = item;
-    }
-}
-
-/// The place of a number in the lists of a source.
-fn place_of(seq: Seq) -> usize
-    ensures { result ≡ place_in seq.0 }
-{
-    usize::from(seq.0 % KEPT_NUMBERS)
 }
 
 /// Lists a frame that came by one side alone, if it came while the capture of the other side ran.
