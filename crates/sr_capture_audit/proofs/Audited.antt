@@ -1,13 +1,13 @@
 -- The report of the packets of captures, one by one.
-use Rattle.std.proofs.Common.{◌≡◌, ℕ, ◌^◌, ◌<◌, List, [], ◌∷◌, ◌++◌, length, Option, None, Some, refl, sym, ap, ◌∙◌, subst, arith, length-append}
+use Rattle.std.proofs.Common.{◌≡◌, ℕ, ◌+◌, ◌^◌, ◌<◌, List, [], ◌∷◌, ◌++◌, length, Option, None, Some, refl, sym, ap, ◌∙◌, subst, arith, length-append}
 use Rattle.std.specs.Prelude.{map}
 use Rattle.std.specs.List.{flat_map}
 use Rattle.std.proofs.lemmas.Fn.{chained_keeps}
 use Rattle.std.proofs.lemmas.List.{append-nil, append_assoc, map-append, reverse-append}
 use Rattle.sr_audit.specs.declared.audit.Audit.{Audit}
 use Rattle.sr_audit.specs.declared.span.Spans.{Spans}
-use Rattle.sr_audit.specs.Audits.{Audits}
-use Rattle.sr_audit.specs.Hearing.{Hears}
+use Rattle.sr_audit.specs.Audits.{Sent, Audits, IsLeftOut}
+use Rattle.sr_audit.specs.Hearing.{Reported, Hears}
 use Rattle.sr_audit.specs.Spans.{span_of, span_with}
 use Rattle.sr_capture.specs.Records.{Captured, Shows}
 use Rattle.sr_capture.specs.declared.packet.Packet.{Packet}
@@ -18,12 +18,13 @@ use Rattle.sr_capture_script.specs.Passing.{Handed, wanted, IsHandedAs, TakesWan
 use Rattle.sr_capture_audit.specs.declared.counts.Counts.{Counts}
 use Rattle.sr_capture_audit.specs.declared.figures.Report.{Report}
 use Rattle.sr_capture_audit.specs.declared.kind.Kind.{Kind}
-use Rattle.sr_capture_audit.specs.declared.kind.Kind.TheVariants.{Plain}
+use Rattle.sr_capture_audit.specs.declared.kind.Numbered.{Numbered as NumberedFrame}
+use Rattle.sr_capture_audit.specs.declared.kind.Kind.TheVariants.{Numbered, Plain}
 use Rattle.sr_capture_audit.specs.declared.network.Subject.{Subject}
 use Rattle.sr_capture_audit.specs.declared.network.Tap.{Tap}
 use Rattle.sr_capture_audit.specs.Counting.{Seen, all_figures, CountsOne}
 use Rattle.sr_capture_audit.specs.Kinds.{IsKind}
-use Rattle.sr_capture_audit.specs.Auditing.{tap_at, AreSeenAt, AreSeen, sent_by, sent_in, signs_by, signs_in, IsReportOf, ReportsMore, TakesKind, IsAuditOf}
+use Rattle.sr_capture_audit.specs.Auditing.{tap_at, AreSeenAt, AreSeen, sent_by, sent_in, sign_with, signs_by, signs_in, IsReportOf, ReportsMore, TakesKind, IsAuditOf}
 use Rattle.sr_capture_audit.proofs.Spanned.{span_more}
 
 -- one packet more
@@ -38,6 +39,26 @@ sent_more seen s = ap (flat_map (λ y. sent_by y.kind y.time)) (reverse-append s
 
 signs_more : (seen : List Seen) (s : Seen) → signs_in (seen ++ s ∷ []) ≡ signs_by s.kind s.time ++ signs_in seen
 signs_more seen s = ap (flat_map (λ y. signs_by y.kind y.time)) (reverse-append seen (s ∷ []))
+
+-- a frame with a number is an arrival of its source, and may be a sign of life
+pub takes_numbered : (n : NumberedFrame) (time : ℕ) (old mid new : Audit) → mid.spans ≡ old.spans → new.spans ≡ mid.spans →
+    ((xs : List Sent) → length xs + 1 < 2 ^ 64 → Audits old.spans xs old.sources.entries →
+    Audits old.spans ((n.src, record { side = n.side; seq = n.seq; time = time }) ∷ xs) mid.sources.entries) →
+    ((signs : List Reported) → Hears signs old.sources.entries → Hears signs mid.sources.entries) →
+    ((xs : List Sent) → Audits old.spans xs old.sources.entries → IsLeftOut old.sources.entries xs old.left_out →
+    IsLeftOut mid.sources.entries ((n.src, record { side = n.side; seq = n.seq; time = time }) ∷ xs) mid.left_out) →
+    ((spans : Spans) (xs : List Sent) → Audits spans xs mid.sources.entries → Audits spans xs new.sources.entries) →
+    ((signs : List Reported) → Hears signs mid.sources.entries → Hears (sign_with n.sign n.side time ++ signs) new.sources.entries) →
+    ((spans : Spans) (xs : List Sent) → Audits spans xs mid.sources.entries → IsLeftOut mid.sources.entries xs mid.left_out →
+    IsLeftOut new.sources.entries xs new.left_out) →
+    TakesKind (Numbered n) time old new
+takes_numbered n time old mid new same still taken kept left keeps heard leaves = record {
+  spans = still ∙ same;
+  audits = λ xs few audits. keeps old.spans ((n.src, record { side = n.side; seq = n.seq; time = time }) ∷ xs) (taken xs (omega (arith, few)) audits);
+  hears = λ signs h. heard signs (kept signs h);
+  left_out = λ xs audits counts few. leaves old.spans ((n.src, record { side = n.side; seq = n.seq; time = time }) ∷ xs)
+      (taken xs (omega (arith, few)) audits) (left xs audits counts);
+}
 
 -- a packet of no capture of the audit is passed over
 pub passed_over : (place : Place) (shown : Packet) (x : Handed) (r : Report) (o : Option Tap) → IsHandedAs place shown x →
@@ -57,6 +78,7 @@ passed_over place shown x r o is told none = record {
         whole = h.whole;
         audits = h.audits;
         hears = h.hears;
+        left_out = h.left_out;
       };
 }
 
@@ -104,14 +126,21 @@ counted place shown x old new o own k octets is told some kinds are counts whole
             (subst (λ p. Audits p (sent_by k x.time ++ sent_in h.seen) new.audit.sources.entries) h.own_spans
             (took.audits (sent_in h.seen) less from));
         hears = subst (λ l. Hears l new.audit.sources.entries) (sym (signs_more h.seen s)) (took.hears (signs_in h.seen) h.hears);
+        left_out = λ few.
+            let less : length (sent_by k x.time ++ sent_in h.seen) < 2 ^ 64 = subst (λ l. length l < 2 ^ 64) sent few in
+            let own_less : length (sent_in h.seen) < 2 ^ 64 = omega (arith, length-append (sent_by k x.time) (sent_in h.seen)) in
+            let from : Audits old.audit.spans (sent_in h.seen) old.audit.sources.entries =
+            subst (λ p. Audits p (sent_in h.seen) old.audit.sources.entries) (sym h.own_spans) (h.audits own_less) in
+            subst (λ l. IsLeftOut new.audit.sources.entries l new.audit.left_out) (sym sent)
+            (took.left_out (sent_in h.seen) from (h.left_out own_less) less);
       };
 }
 
 -- no packet was taken
 pub begun : (subject : Subject) (spans : Spans) (counts : Counts) (audit : Audit) → counts ≡ all_figures [] → Audits spans [] audit.sources.entries →
-    Hears [] audit.sources.entries → audit.spans ≡ spans →
+    Hears [] audit.sources.entries → audit.spans ≡ spans → IsLeftOut audit.sources.entries [] audit.left_out →
     IsReportOf subject spans [] (record { subject = subject; spans = spans; whole = None; counts = counts; audit = audit })
-begun subject spans counts audit none audits hears same = record {
+begun subject spans counts audit none audits hears same left = record {
   subject_is = refl;
   spans_are = refl;
   own_spans = same;
@@ -121,6 +150,7 @@ begun subject spans counts audit none audits hears same = record {
   whole = refl;
   audits = λ few. audits;
   hears = hears;
+  left_out = λ few. left;
 }
 
 -- all packets were taken

@@ -5,7 +5,7 @@ use Rattle.sr_audit.specs.declared.audit.Audit.{Audit}
 use Rattle.sr_audit.specs.declared.side.Side.{Side}
 use Rattle.sr_audit.specs.declared.side.Side.TheVariants as side
 use Rattle.sr_audit.specs.declared.span.Spans.{Spans}
-use Rattle.sr_audit.specs.Audits.{Sent, Audits}
+use Rattle.sr_audit.specs.Audits.{Sent, Audits, IsLeftOut}
 use Rattle.sr_audit.specs.Hearing.{Reported, sign_of, Hears}
 use Rattle.sr_audit.specs.Spans.{span_of}
 use Rattle.sr_capture_script.specs.declared.choice.Choice.{Choice}
@@ -72,7 +72,7 @@ abbrev pub signs_in : List Seen → List Reported
 signs_in seen = flat_map (λ x. signs_by x.kind x.time) (reverse seen)
 
 -- a report says of these packets: how many are of each kind and side, when the first and the last one came, and of each source and
--- address what came of it
+-- address what came of it, and how many packets were of sources without an entry
 pub record IsReportOf (subject : Subject) (spans : Spans) (xs : List Handed) (r : Report) : Type 0 where
   pub subject_is : r.subject ≡ subject
   pub spans_are : r.spans ≡ spans
@@ -83,6 +83,7 @@ pub record IsReportOf (subject : Subject) (spans : Spans) (xs : List Handed) (r 
   pub whole : r.whole ≡ span_of (map (λ s. s.time) seen)
   pub audits : length (sent_in seen) < 2 ^ 64 → Audits spans (sent_in seen) r.audit.sources.entries
   pub hears : Hears (signs_in seen) r.audit.sources.entries
+  pub left_out : length (sent_in seen) < 2 ^ 64 → IsLeftOut r.audit.sources.entries (sent_in seen) r.audit.left_out
 
 -- a report of one packet more
 pub record ReportsMore (x : Handed) (old new : Report) : Type 0 where
@@ -95,6 +96,8 @@ pub record TakesKind (k : Kind) (time : ℕ) (old new : Audit) : Type 0 where
   pub audits : (xs : List Sent) → length (sent_by k time ++ xs) < 2 ^ 64 → Audits old.spans xs old.sources.entries →
       Audits old.spans (sent_by k time ++ xs) new.sources.entries
   pub hears : (signs : List Reported) → Hears signs old.sources.entries → Hears (signs_by k time ++ signs) new.sources.entries
+  pub left_out : (xs : List Sent) → Audits old.spans xs old.sources.entries → IsLeftOut old.sources.entries xs old.left_out →
+      length (sent_by k time ++ xs) < 2 ^ 64 → IsLeftOut new.sources.entries (sent_by k time ++ xs) new.left_out
 
 -- the report of three files: of all their packets that are wanted, each once, in order of time and each file's in its own order
 pub record IsAuditOf (choice : Choice) (subject : Subject) (spans : Spans) (x y z : Feed) (r : Report) : Type 0 where

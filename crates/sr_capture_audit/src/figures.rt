@@ -1,7 +1,7 @@
 //! The figures of captures, and the report of them.
 
 ghost use Rattle.std.specs.Prelude.{◌≡◌, ◌++◌, [], List, ℕ, Option, OnOk, IfOk, IfErr};
-ghost use Rattle.sr_audit.specs.Audits.{Sent, Audits};
+ghost use Rattle.sr_audit.specs.Audits.{Sent, Audits, IsLeftOut};
 ghost use Rattle.sr_audit.specs.Hearing.{Reported, Hears};
 ghost use Rattle.sr_capture_script.specs.declared.choice.Inlet.TheVariants.{A as AtA, B as AtB, C as AtC};
 ghost use Rattle.sr_capture_script.specs.Merging.{feed_of};
@@ -45,6 +45,10 @@ fn hear_sign(
         → Hears signs audit.old.sources.entries
         → Hears (sign_with sign side time ++ signs) audit.new.sources.entries) }
     ensures spans { audit.new.spans ≡ audit.old.spans }
+    ensures left_out { (spans : Spans) (xs : List Sent)
+        → Audits spans xs audit.old.sources.entries
+        → IsLeftOut audit.old.sources.entries xs audit.old.left_out
+        → IsLeftOut audit.new.sources.entries xs audit.new.left_out }
     ensures refused { IfErr result (λ fault. fault ≡ ScriptFault.NoMemory) }
 {
     let Some(sign) = sign else {
