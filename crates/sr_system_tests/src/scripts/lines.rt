@@ -343,7 +343,9 @@ const WRITERS: &[Step] = &[
     Step::Left(TWO_FRAMES, 18, 0),
     Step::Left(A_FAULT_BEHIND, 18, 18),
     // An interrupted write is made again, and goes on where it was; a writer that takes nothing has failed.
-    Step::Interrupted(Frames, TWO_FRAMES),
+    Step::Interrupted(Frames, &[These(TWO_FRAMES)]),
+    // However often: the text of a thousand lines goes out in pieces of seven octets.
+    Step::Interrupted(Frames, &[Times(1000, b"in A 0 00\n")]),
     Step::Stuck(Frames, TWO_FRAMES, Some((1, FaultKind::Write))),
 ];
 
@@ -387,7 +389,7 @@ const ENDS: &[Step] = &[
     Step::Narrow(Status, HEARD_AND_REFUSED, 19, Some((3, FaultKind::Write))),
     Step::Unflushed(Status, HEARD, Some((2, FaultKind::Write))),
     Step::Unflushed(Status, HEARD_AND_REFUSED, Some((2, FaultKind::Write))),
-    Step::Interrupted(Status, HEARD_AND_REFUSED),
+    Step::Interrupted(Status, &[These(HEARD_AND_REFUSED)]),
     Step::Stuck(Status, HEARD, Some((2, FaultKind::Write))),
 ];
 

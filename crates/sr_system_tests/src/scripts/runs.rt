@@ -213,11 +213,12 @@ pub fn is_unflushed(told: Told, alloc: Global, script: &[u8], ending: Ending) ->
 }
 
 /// Whether a run with a writer that is interrupted again and again ends well.
-pub fn is_interrupted(told: Told, alloc: Global, script: &[u8]) -> Option<bool> {
+pub fn is_interrupted(told: Told, alloc: Global, script: Text) -> Option<bool> {
+    let script = joined(alloc, script)?;
     is_written(
         told,
         alloc,
-        script,
+        &script,
         &mut Interrupted { is_next: true },
         None,
     )

@@ -41,7 +41,7 @@ pub enum Step {
     /// The writer takes all, and does not pass it on.
     Unflushed(Told, &'static [u8], Ending),
     /// The writer is interrupted again and again, and the run ends well.
-    Interrupted(Told, &'static [u8]),
+    Interrupted(Told, Text),
     /// The writer takes nothing.
     Stuck(Told, &'static [u8], Ending),
     /// A script, and the calls of its writer.
