@@ -79,7 +79,7 @@ whole_at_limit d start (Some xs) (Some ys) held now s n m e h k =
 
 -- the run ends at line n
 ends_here : {S : Type 0} (d : Dialogue S) (start : S) (xs ys : List ℕ) (rest held now later : Option (List ℕ)) (s : S) (f : Fault)
-    → Going d start (Some xs) (Some ys) held now s f.line → HeldSince d s f.line f.kind (lines_of ys) now later → HasFault d s f.line f.kind (lines_of ys) rest
+    → Going d start (Some xs) (Some ys) held now s f.line → HeldSince d s f.line f.kind (lines_of ys) rest now later → HasFault d s f.line f.kind (lines_of ys) rest
     → EndsAt d start (lines_of xs) f rest held later
 ends_here d start xs ys rest held now later s f h kept reason = record {
   before = h.0;
@@ -135,7 +135,7 @@ ends_too_many d start None mid rest held now s n f same large is h more = tt
 ends_too_many d start (Some xs) None rest held now s n f same large is h more = absurd h
 ends_too_many d start (Some xs) (Some ys) rest held now s n f same large is h more =
     ends_here d start xs ys rest held now now s f (subst (λ (m : ℕ). Going d start (Some xs) (Some ys) held now s m) same h)
-    (subst (λ (w : FaultKind). HeldSince d s f.line w (lines_of ys) now now) (sym is) (Keeps-refl now))
+    (subst (λ (w : FaultKind). HeldSince d s f.line w (lines_of ys) rest now now) (sym is) (Keeps-refl now))
     (subst (λ (w : FaultKind). HasFault d s f.line w (lines_of ys) rest) (sym is) (some_line d s ys rest more f.line large))
 
 -- the reader fails where no line more may be read
@@ -146,12 +146,12 @@ ends_unread d start (Some xs) None rest held now s n f same is h k = absurd h
 ends_unread d start (Some xs) (Some ys) None held now s n f same is h k = absurd k
 ends_unread d start (Some xs) (Some ys) (Some zs) held now s n f same is h k =
     ends_here d start xs ys (Some zs) held now now s f (subst (λ (m : ℕ). Going d start (Some xs) (Some ys) held now s m) same h)
-    (subst (λ (w : FaultKind). HeldSince d s f.line w (lines_of ys) now now) (sym is) (Keeps-refl now))
+    (subst (λ (w : FaultKind). HeldSince d s f.line w (lines_of ys) (Some zs) now now) (sym is) (Keeps-refl now))
     (subst (λ (w : FaultKind). HasFault d s f.line w (lines_of ys) (Some zs)) (sym is) ([], ap lines_of (sym k), tt, omega arith))
 
 -- the run ends behind its lines
 pub ends_behind : {S : Type 0} (d : Dialogue S) (start : S) (left rest held now later : Option (List ℕ)) (t : S) (f : Fault)
-    → IfSome left (λ input. AllAnswered d start (lines_of input) held now t f.line) → HeldSince d t f.line f.kind [] now later → HasFault d t f.line f.kind [] rest
+    → IfSome left (λ input. AllAnswered d start (lines_of input) held now t f.line) → HeldSince d t f.line f.kind [] rest now later → HasFault d t f.line f.kind [] rest
     → IfSome left (λ input. EndsAt d start (lines_of input) f rest held later)
 ends_behind d start None rest held now later t f h kept reason = tt
 ends_behind d start (Some xs) rest held now later t f h kept reason = record {

@@ -5,13 +5,13 @@ use Rattle.std.specs.Io.KnownBytes.{Appends, Keeps}
 use Rattle.std.proofs.KnownBytes.{Appends-nil, Appends-trans, Keeps-refl}
 use Rattle.std.proofs.lemmas.Bool.{cases_lt}
 use Rattle.std.proofs.lemmas.Bool.Decides.{nat_tests}
-use Rattle.std.proofs.lemmas.List.{append-nil, length-append, length-take, length-take-le, take-append-drop, drop_more, drop_all, drop-drop, drop-append-le}
+use Rattle.std.proofs.lemmas.List.{append-nil, nil_from_length, length-append, length-drop, take_all, length-take, length-take-le, take-append-drop, drop_more, drop_all, drop-drop, drop-append-le}
 use Rattle.sr_session.specs.declared.fault.Fault.{Fault}
 use Rattle.sr_session.specs.declared.fault.FaultKind.{FaultKind}
 use Rattle.sr_session.specs.declared.fault.FaultKind.TheVariants as kind
 use Rattle.sr_session.specs.declared.waiting.Mark.{Mark}
 use Rattle.sr_session.specs.Lines.{lines_of, IsOneOf, TakesLine, TakesPart, BeginsLong}
-use Rattle.sr_session.specs.Runs.{Dialogue, HasPlace, Replies, HasFault, HeldSince, EndsFrom}
+use Rattle.sr_session.specs.Runs.{Dialogue, HasPlace, Replies, HasFault, HeldSince, WritesPart, WritesLast, EndsFrom}
 use Rattle.sr_session.specs.Turns.{marked, line_of, Waits, AddsAnswer, IsCut, StopsSo, BeginsWith, TakesLines, AreObeyed}
 use Rattle.sr_session.specs.Fronts.{IsFrontLine, FrontFails}
 use Rattle.sr_session.specs.Octets.{Lacks, IsPlaceOf}
@@ -82,8 +82,8 @@ waits_replies d s k place [] text marks t h = (h.0, h.2)
 waits_replies d s k place (line ∷ lines) text marks t h =
     (h.0, h.1, h.2, h.4, h.6, waits_replies d h.1 (k + 1) (place + length h.0) lines h.2 h.3 t h.7, h.8)
 
--- The line whose text holds the octet at a place: those before it, its text, and what is behind.
-pub record Held {S : Type 0} (d : Dialogue S) (s : S) (k place : ℕ) (lines : List (List ℕ)) (text : List ℕ) (marks : List Mark) (at : ℕ) : Type 0 where
+-- The line whose text holds the octet at a place: those before it, its text, and those behind it, which are answered with the rest.
+pub record Held {S : Type 0} (d : Dialogue S) (s : S) (k place : ℕ) (lines : List (List ℕ)) (text : List ℕ) (marks : List Mark) (t : S) (at : ℕ) : Type 0 where
   pub before : List (List ℕ)
   pub line : List ℕ
   pub after : List (List ℕ)
@@ -98,14 +98,15 @@ pub record Held {S : Type 0} (d : Dialogue S) (s : S) (k place : ℕ) (lines : L
   pub has : HasPlace (k + length before) line
   pub knows : d.Knows reached line
   pub replied : d.Replied reached (k + length before) line here next
+  pub later : Replies d next (k + length before + 1) after back t
   pub low : place + length front ≤ at
   pub high : at < place + length front + length here
   pub named : line_of marks at ≡ k + length before
 
-held_later : {S : Type 0} (d : Dialogue S) (s u : S) (k place : ℕ) (line : List ℕ) (lines : List (List ℕ)) (text first rest : List ℕ) (marks others : List Mark) (at : ℕ)
+held_later : {S : Type 0} (d : Dialogue S) (s u t : S) (k place : ℕ) (line : List ℕ) (lines : List (List ℕ)) (text first rest : List ℕ) (marks others : List Mark) (at : ℕ)
     → HasPlace k line → d.Replied s k line first u → text ≡ first ++ rest → line_of marks at ≡ line_of others at
-    → Held d u (k + 1) (place + length first) lines rest others at → Held d s k place (line ∷ lines) text marks at
-held_later {S} d s u k place line lines text first rest marks others at has replied whole named h =
+    → Held d u (k + 1) (place + length first) lines rest others t at → Held d s k place (line ∷ lines) text marks t at
+held_later {S} d s u t k place line lines text first rest marks others at has replied whole named h =
     let e : k + 1 + length h.before ≡ k + length (line ∷ h.before) = omega arith in
     record {
       before = line ∷ h.before;
@@ -122,6 +123,7 @@ held_later {S} d s u k place line lines text first rest marks others at has repl
       has = subst (λ n. HasPlace n h.line) e h.has;
       knows = h.knows;
       replied = subst (λ n. d.Replied h.reached n h.line h.here h.next) e h.replied;
+      later = subst (λ n. Replies d h.next (n + 1) h.after h.back t) e h.later;
       low = omega (arith, h.low, length-append first h.front);
       high = omega (arith, h.high, length-append first h.front);
       named = named ∙ h.named ∙ e;
@@ -133,14 +135,15 @@ skipped n e at b bs others le = let no : nat_lt at e ≡ false = grind (arith, n
 named_here : (n e at : ℕ) (b : ℕ) (bs : List ℕ) (others : List Mark) → at < e → line_of (marked n e (b ∷ bs) others) at ≡ n
 named_here n e at b bs others lt = let yes : nat_lt at e ≡ true = grind (arith, nat_tests) in rw yes refl
 
-held_by : {S : Type 0} (d : Dialogue S) (s u : S) (k place : ℕ) (line : List ℕ) (lines : List (List ℕ)) (text first rest : List ℕ) (marks others : List Mark) (at : ℕ)
-    → HasPlace k line → d.Knows s line → d.Replied s k line first u
-    → (place + length first ≤ at → at < place + length first + length rest → Held d u (k + 1) (place + length first) lines rest others at)
-    → text ≡ first ++ rest → marks ≡ marked k (place + length first) first others → place ≤ at → at < place + length text → Held d s k place (line ∷ lines) text marks at
-held_by d s u k place line lines text [] rest marks others at has knows replied later whole marks_are low high =
-    held_later d s u k place line lines text [] rest marks others at has replied whole (ap (λ (l : List Mark). line_of l at) marks_are)
+held_by : {S : Type 0} (d : Dialogue S) (s u t : S) (k place : ℕ) (line : List ℕ) (lines : List (List ℕ)) (text first rest : List ℕ) (marks others : List Mark) (at : ℕ)
+    → HasPlace k line → d.Knows s line → d.Replied s k line first u → Replies d u (k + 1) lines rest t
+    → (place + length first ≤ at → at < place + length first + length rest → Held d u (k + 1) (place + length first) lines rest others t at)
+    → text ≡ first ++ rest → marks ≡ marked k (place + length first) first others → place ≤ at → at < place + length text
+    → Held d s k place (line ∷ lines) text marks t at
+held_by d s u t k place line lines text [] rest marks others at has knows replied behind later whole marks_are low high =
+    held_later d s u t k place line lines text [] rest marks others at has replied whole (ap (λ (l : List Mark). line_of l at) marks_are)
     (later (omega arith) (omega (arith, high, ap length whole)))
-held_by {S} d s u k place line lines text (b ∷ bs) rest marks others at has knows replied later whole marks_are low high =
+held_by {S} d s u t k place line lines text (b ∷ bs) rest marks others at has knows replied behind later whole marks_are low high =
     let first = b ∷ bs in
     let e : k ≡ k + 0 = omega arith in
     elim (cases_lt at (place + length first)) [
@@ -159,21 +162,22 @@ held_by {S} d s u k place line lines text (b ∷ bs) rest marks others at has kn
         has = subst (λ n. HasPlace n line) e has;
         knows = knows;
         replied = subst (λ n. d.Replied s n line first u) e replied;
+        later = subst (λ n. Replies d u (n + 1) lines rest t) e behind;
         low = omega arith;
         high = omega (arith, l);
         named = ap (λ (m : List Mark). line_of m at) marks_are ∙ named_here k (place + length first) at b bs others l ∙ e;
       }
       | inr g ↦
-          held_later d s u k place line lines text first rest marks others at has replied whole
+          held_later d s u t k place line lines text first rest marks others at has replied whole
           (ap (λ (m : List Mark). line_of m at) marks_are ∙ skipped k (place + length first) at b bs others g)
           (later g (omega (arith, high, ap length whole, length-append first rest)))
     ]
 
 pub held : {S : Type 0} (d : Dialogue S) (s : S) (k place : ℕ) (lines : List (List ℕ)) (text : List ℕ) (marks : List Mark) (t : S) (at : ℕ)
-    → Waits d s k place lines text marks t → place ≤ at → at < place + length text → Held d s k place lines text marks at
+    → Waits d s k place lines text marks t → place ≤ at → at < place + length text → Held d s k place lines text marks t at
 held d s k place [] text marks t at h low high = absurd (omega (arith, high, ap length h.0))
 held d s k place (line ∷ lines) text marks t at h low high =
-    held_by d s h.1 k place line lines text h.0 h.2 marks h.3 at h.4 h.5 h.6 (λ from to. held d h.1 (k + 1) (place + length h.0) lines h.2 h.3 t at h.7 from to)
+    held_by d s h.1 t k place line lines text h.0 h.2 marks h.3 at h.4 h.5 h.6 (waits_replies d h.1 (k + 1) (place + length h.0) lines h.2 h.3 t h.7) (λ from to. held d h.1 (k + 1) (place + length h.0) lines h.2 h.3 t at h.7 from to)
     h.8 h.9 low high
 
 take_within : (here back : List ℕ) (n : ℕ) → n ≤ length here → take n (here ++ back) ≡ take n here
@@ -206,43 +210,81 @@ grown_more None now front part whole e h = tt
 grown_more (Some xs) None front part whole e h = absurd h
 grown_more (Some xs) (Some ys) front part whole e h = h ∙ ap (λ (l : List ℕ). xs ++ l) e ∙ sym (append_assoc xs front part)
 
+-- the writer took a part of the text that holds an octet
+held_part : {S : Type 0} (d : Dialogue S) (s : S) (k : ℕ) (lines more : List (List ℕ)) (text : List ℕ) (marks : List Mark) (t : S) (old now : Option (List ℕ)) (n : ℕ) (taken : ℕ)
+    (h : Held d s k 0 lines text marks t taken) → n ≡ k + length h.before → Appends old now (take taken text)
+    → WritesPart d h.reached n (h.line ∷ (h.after ++ more)) (grown old h.front) now
+held_part {S} d s k lines more text marks t old now n taken h line_is cut =
+    let count = taken - length h.front in
+    let whole : take taken text ≡ h.front ++ take count h.here =
+    (let e : taken ≡ length h.front + count = omega (arith, h.low) in
+    ap (λ n. take n text) e ∙ ap (take (length h.front + count)) h.whole ∙ cut_front h.front h.here h.back count (omega (arith, h.low, h.high))) in (
+      take count h.here,
+      drop count h.here,
+      grown_more old now h.front (take count h.here) (take taken text) whole cut,
+      λ none. absurd (omega (arith, h.low, h.high, length-drop count h.here, ap length none)),
+      (
+        h.next,
+        subst (λ (l : List ℕ). d.Replied h.reached n h.line l h.next) (sym (take-append-drop count h.here))
+            (subst (λ n. d.Replied h.reached n h.line h.here h.next) (sym line_is) h.replied),
+      ),
+    )
+
+-- the writer took all, up to the text that holds the last octet
+held_last : {S : Type 0} (d : Dialogue S) (s : S) (k : ℕ) (lines : List (List ℕ)) (rest text : List ℕ) (marks : List Mark) (t : S) (old now : Option (List ℕ)) (n place : ℕ)
+    (h : Held d s k 0 lines text marks t place) → n ≡ k + length h.before → length text ≡ place + 1 → Appends old now text
+    → WritesLast d h.reached n (h.line ∷ (h.after ++ lines_of rest)) (Some rest) (grown old h.front) now
+held_last {S} d s k lines rest text marks t old now n place h line_is last cut =
+    let none : h.back ≡ [] =
+    nil_from_length h.back (omega (arith, h.high, last, ap length h.whole, length-append h.front (h.here ++ h.back), length-append h.here h.back)) in
+    let whole : text ≡ h.front ++ h.here =
+    h.whole ∙ ap (λ (l : List ℕ). h.front ++ (h.here ++ l)) none ∙ ap (λ (l : List ℕ). h.front ++ l) (append-nil h.here) in (
+      h.here,
+      h.next,
+      grown_more old now h.front h.here text whole cut,
+      λ empty. absurd (omega (arith, h.low, h.high, ap length empty)),
+      subst (λ n. d.Replied h.reached n h.line h.here h.next) (sym line_is) h.replied,
+      (
+        h.after,
+        t,
+        refl,
+        subst (λ n. Replies d h.next (n + 1) h.after [] t) (sym line_is) (subst (λ (l : List ℕ). Replies d h.next (k + length h.before + 1) h.after l t) none h.later),
+      ),
+    )
+
 -- The writer failed in what waits: the run ends at the line that the marks name.
-pub ends_cut : {S : Type 0} (d : Dialogue S) (s : S) (k : ℕ) (lines more : List (List ℕ)) (text : List ℕ) (marks : List Mark) (t : S) (f : Fault) (rest old now : Option (List ℕ))
-    → Waits d s k 0 lines text marks t → IsCut text marks f old now → EndsFrom d s k (lines ++ more) f rest old now
-ends_cut {S} d s k lines more text marks t f rest old now waits cut =
+pub ends_cut : {S : Type 0} (d : Dialogue S) (s : S) (k : ℕ) (lines : List (List ℕ)) (rest text : List ℕ) (marks : List Mark) (t : S) (f : Fault) (old now : Option (List ℕ))
+    → Waits d s k 0 lines text marks t → IsCut text marks f old now → EndsFrom d s k (lines ++ lines_of rest) f (Some rest) old now
+ends_cut {S} d s k lines rest text marks t f old now waits cut =
     let taken = cut.0 in
     let place = cut.1 in
     let h = held d s k 0 lines text marks t place waits (omega arith) (omega (arith, cut.5)) in
-    let count = taken - length h.front in
-    let whole : take taken text ≡ h.front ++ take count h.here =
-    (let e : taken ≡ length h.front + count = omega (arith, h.low, cut.3) in
-    ap (λ n. take n text) e ∙ ap (take (length h.front + count)) h.whole ∙ cut_front h.front h.here h.back count (omega (arith, h.low, h.high, cut.3, cut.4))) in
     let line_is : f.line ≡ k + length h.before = cut.6 ∙ h.named in
-    let left = h.line ∷ (h.after ++ more) in
+    let left = h.line ∷ (h.after ++ lines_of rest) in
+    let kept : HeldSince d h.reached f.line kind.Write left (Some rest) (grown old h.front) now =
+    elim (cases_lt taken (length text)) [
+      | inl less ↦
+          let same : place ≡ taken = cut.8 less in
+          inl (held_part d s k lines (lines_of rest) text marks t old now f.line place h line_is (subst (λ n. Appends old now (take n text)) (sym same) cut.2))
+      | inr all ↦
+          let whole : take taken text ≡ text = take_all taken text all in
+          inr (held_last d s k lines rest text marks t old now f.line place h line_is (omega (arith, all, cut.4, cut.5)) (subst (Appends old now) whole cut.2))
+    ] in
     record {
       before = h.before;
       left = left;
-      parted = ap (λ (l : List (List ℕ)). l ++ more) h.parted ∙ append_assoc h.before (h.line ∷ h.after) more;
+      parted = ap (λ (l : List (List ℕ)). l ++ lines_of rest) h.parted ∙ append_assoc h.before (h.line ∷ h.after) (lines_of rest);
       number = line_is;
       then_held = grown old h.front;
       reached = h.reached;
       answered = (h.front, h.replies, grown_by old h.front);
-      kept = subst (λ (w : FaultKind). HeldSince d h.reached f.line w left (grown old h.front) now) (sym cut.7) (
-        take count h.here,
-        drop count h.here,
-        grown_more old now h.front (take count h.here) (take taken text) whole cut.2,
-        (
-          h.next,
-          subst (λ (l : List ℕ). d.Replied h.reached f.line h.line l h.next) (sym (take-append-drop count h.here))
-              (subst (λ n. d.Replied h.reached n h.line h.here h.next) (sym line_is) h.replied),
-        ),
-      );
-      reason = subst (λ (w : FaultKind). HasFault d h.reached f.line w left rest) (sym cut.7) (subst (λ n. HasPlace n h.line) (sym line_is) h.has, h.knows);
+      kept = subst (λ (w : FaultKind). HeldSince d h.reached f.line w left (Some rest) (grown old h.front) now) (sym cut.7) kept;
+      reason = subst (λ (w : FaultKind). HasFault d h.reached f.line w left (Some rest)) (sym cut.7) (subst (λ n. HasPlace n h.line) (sym line_is) h.has, h.knows);
     }
 
 -- The run ends at the line behind those that were answered.
 pub ends_stop : {S : Type 0} (d : Dialogue S) (s : S) (k : ℕ) (lines left : List (List ℕ)) (text : List ℕ) (t : S) (f : Fault) (rest old now : Option (List ℕ))
-    → Replies d s k lines text t → Appends old now text → f.line ≡ k + length lines → HeldSince d t f.line f.kind left now now → HasFault d t f.line f.kind left rest
+    → Replies d s k lines text t → Appends old now text → f.line ≡ k + length lines → HeldSince d t f.line f.kind left rest now now → HasFault d t f.line f.kind left rest
     → EndsFrom d s k (lines ++ left) f rest old now
 ends_stop d s k lines left text t f rest old now replies appends line kept reason = record {
   before = lines;
@@ -366,14 +408,14 @@ hand_unread d s first (Some xs) (Some ys) held kept =
     ends_stop d s first [] (lines_of xs) [] s (record { line = first; kind = kind.Read }) (Some ys) held held (refl, refl) (Appends-nil held) (omega arith) (Keeps-refl held)
     ([], ap lines_of (sym kept), tt, omega arith)
 
--- the writer failed in the text of the lines
+-- the writer failed in the text of the lines that the reader lost
 pub hand_cut : {S : Type 0} (d : Dialogue S) (s : S) (first : ℕ) (lines : List (List ℕ)) (text : List ℕ) (marks : List Mark) (t : S) (f : Fault) (left rest held now : Option (List ℕ))
-    (octets : List ℕ) (used : ℕ) → Waits d s first 0 lines text marks t → IsCut text marks f held now → BeginsWith octets used lines → IfSome left (λ xs. StartsWith xs octets)
+    → Waits d s first 0 lines text marks t → IsCut text marks f held now → TakesLines lines left rest
     → IfSome left (λ input. EndsFrom d s first (lines_of input) f rest held now)
-hand_cut d s first lines text marks t f None rest held now octets used waits cut whole starts = tt
-hand_cut {S} d s first lines text marks t f (Some xs) rest held now octets used waits cut whole starts =
-    subst (λ (l : List (List ℕ)). EndsFrom d s first l f rest held now) (sym (parted_front xs octets used lines starts whole))
-    (ends_cut d s first lines (lines_of (drop used octets ++ drop (length octets) xs)) text marks t f rest held now waits cut)
+hand_cut d s first lines text marks t f None rest held now waits cut took = tt
+hand_cut d s first lines text marks t f (Some xs) None held now waits cut took = absurd took
+hand_cut {S} d s first lines text marks t f (Some xs) (Some ys) held now waits cut took =
+    subst (λ (l : List (List ℕ)). EndsFrom d s first l f (Some ys) held now) (sym took) (ends_cut d s first lines ys text marks t f held now waits cut)
 
 stop_fault : {S : Type 0} (d : Dialogue S) (u : S) (n : ℕ) (line : List ℕ) (rest : List (List ℕ)) (w : FaultKind) (reader : Option (List ℕ)) → IsOneOf w (kind.Line ∷ kind.Memory ∷ []) → HasPlace n line
     → (w ≡ kind.Line → d.Knows u line → ⊥) → (w ≡ kind.Memory → d.Knows u line) → HasFault d u n w (line ∷ rest) reader
@@ -381,10 +423,10 @@ stop_fault d u n line rest w reader (inl e) place bad memory = subst (λ (v : Fa
 stop_fault d u n line rest w reader (inr (inl e)) place bad memory = subst (λ (v : FaultKind). HasFault d u n v (line ∷ rest) reader) (sym e) (place, memory e)
 stop_fault d u n line rest w reader (inr (inr none)) place bad memory = absurd none
 
-stop_kept : {S : Type 0} (d : Dialogue S) (u : S) (n : ℕ) (w : FaultKind) (left : List (List ℕ)) (held : Option (List ℕ)) → IsOneOf w (kind.Line ∷ kind.Memory ∷ []) → HeldSince d u n w left held held
-stop_kept d u n w left held (inl e) = subst (λ (v : FaultKind). HeldSince d u n v left held held) (sym e) (Keeps-refl held)
-stop_kept d u n w left held (inr (inl e)) = subst (λ (v : FaultKind). HeldSince d u n v left held held) (sym e) (Keeps-refl held)
-stop_kept d u n w left held (inr (inr none)) = absurd none
+stop_kept : {S : Type 0} (d : Dialogue S) (u : S) (n : ℕ) (w : FaultKind) (left : List (List ℕ)) (rest held : Option (List ℕ)) → IsOneOf w (kind.Line ∷ kind.Memory ∷ []) → HeldSince d u n w left rest held held
+stop_kept d u n w left rest held (inl e) = subst (λ (v : FaultKind). HeldSince d u n v left rest held held) (sym e) (Keeps-refl held)
+stop_kept d u n w left rest held (inr (inl e)) = subst (λ (v : FaultKind). HeldSince d u n v left rest held held) (sym e) (Keeps-refl held)
+stop_kept d u n w left rest held (inr (inr none)) = absurd none
 
 -- the line behind those that were obeyed has a fault
 pub hand_stops : {S : Type 0} (d : Dialogue S) (s : S) (first : ℕ) (lines : List (List ℕ)) (text : List ℕ) (u t : S) (n : ℕ) (w : FaultKind) (left rest held now : Option (List ℕ))
@@ -398,7 +440,7 @@ hand_stops {S} d s first lines text u t n w (Some xs) rest held now octets used 
     let found = stops.3 more in
     let parted : lines_of xs ≡ lines ++ stops.1 ∷ found.0 = parted_front xs octets used lines starts whole ∙ ap (λ (l : List (List ℕ)). lines ++ l) found.1 in
     subst (λ (l : List (List ℕ)). EndsFrom d s first l f rest held now) (sym parted)
-    (ends_stop d s first lines (stops.1 ∷ found.0) text u f rest held now replies appends next (stop_kept d u n w (stops.1 ∷ found.0) now stops.0)
+    (ends_stop d s first lines (stops.1 ∷ found.0) text u f rest held now replies appends next (stop_kept d u n w (stops.1 ∷ found.0) rest now stops.0)
     (stop_fault d u n stops.1 found.0 w rest stops.0 stops.2 stops.4 stops.5))
 
 -- ---- one line that was read
@@ -420,10 +462,7 @@ one_obeyed d s t n line text marks left rest held now took waits appends =
 
 pub one_cut : {S : Type 0} (d : Dialogue S) (s t : S) (n : ℕ) (line text : List ℕ) (marks : List Mark) (f : Fault) (left rest held now : Option (List ℕ)) → TakesLine true line left rest
     → Waits d s n 0 (line ∷ []) text marks t → IsCut text marks f held now → IfSome left (λ input. EndsFrom d s n (lines_of input) f rest held now)
-one_cut d s t n line text marks f None rest held now took waits cut = tt
-one_cut d s t n line text marks f (Some xs) None held now took waits cut = absurd took
-one_cut {S} d s t n line text marks f (Some xs) (Some ys) held now took waits cut =
-    subst (λ (l : List (List ℕ)). EndsFrom d s n l f (Some ys) held now) (sym took) (ends_cut d s n (line ∷ []) (lines_of ys) text marks t f (Some ys) held now waits cut)
+one_cut d s t n line text marks f left rest held now took waits cut = hand_cut d s n (line ∷ []) text marks t f left rest held now waits cut (took_line line left rest took)
 
 pub one_stops : {S : Type 0} (d : Dialogue S) (s : S) (n : ℕ) (line : List ℕ) (w : FaultKind) (left rest held : Option (List ℕ)) → TakesLine true line left rest → n ≤ 1000000 → length line ≤ 8000
     → IsOneOf w (kind.Line ∷ kind.Memory ∷ []) → (w ≡ kind.Line → d.Knows s line → ⊥) → (w ≡ kind.Memory → d.Knows s line)
@@ -433,7 +472,7 @@ one_stops d s n line w (Some xs) None held took count short one bad memory = abs
 one_stops {S} d s n line w (Some xs) (Some ys) held took count short one bad memory =
     let f : Fault = record { line = n; kind = w } in
     subst (λ (l : List (List ℕ)). EndsFrom d s n l f (Some ys) held held) (sym took)
-    (ends_stop d s n [] (line ∷ lines_of ys) [] s f (Some ys) held held (refl, refl) (Appends-nil held) (omega arith) (stop_kept d s n w (line ∷ lines_of ys) held one)
+    (ends_stop d s n [] (line ∷ lines_of ys) [] s f (Some ys) held held (refl, refl) (Appends-nil held) (omega arith) (stop_kept d s n w (line ∷ lines_of ys) (Some ys) held one)
     (stop_fault d s n line (lines_of ys) w (Some ys) one (record { count = count; short = short }) bad memory))
 
 -- the line was not read whole

@@ -1,5 +1,5 @@
 -- What a run of a script writes, and where it ends, whatever the lines are for.
-use Rattle.std.specs.Prelude.{◌≡◌, ℕ, ◌+◌, ◌<◌, ◌≤◌, List, [], ◌∷◌, ◌++◌, length, Option, None, Some, IfSome, Result, Ok, Err, ◌⊎◌}
+use Rattle.std.specs.Prelude.{◌≡◌, ◌≢◌, ℕ, ◌+◌, ◌<◌, ◌≤◌, List, [], ◌∷◌, ◌++◌, length, Option, None, Some, IfSome, Result, Ok, Err, ◌⊎◌}
 use Rattle.std.specs.Io.KnownBytes.{Appends, Keeps}
 use Rattle.sr_session.specs.declared.fault.Fault.{Fault}
 use Rattle.sr_session.specs.declared.fault.FaultKind.{FaultKind}
@@ -62,16 +62,39 @@ abbrev pub IsNextText : {S : Type 0} → Dialogue S → S → ℕ → List (List
 IsNextText d t number [] text = d.Ends t text
 IsNextText d t number (line ∷ lines) text = (u : _) × d.Replied t number line text u
 
--- what is held stays; where a write failed it grew by the front of what was to be written next
-abbrev pub HeldSince : {S : Type 0} → Dialogue S → S → ℕ → FaultKind → List (List ℕ) → Option (List ℕ) → Option (List ℕ) → Type 0
-HeldSince d t number kind.Line left held now = Keeps held now
-HeldSince d t number kind.Long left held now = Keeps held now
-HeldSince d t number kind.Read left held now = Keeps held now
-HeldSince d t number kind.Write left held now = (part rest : List ℕ) × Appends held now part × IsNextText d t number left (part ++ rest)
-HeldSince d t number kind.Memory left held now = Keeps held now
+-- of the lines that were left the reader gave these, and it has the others left
+abbrev pub AreGiven : List (List ℕ) → List (List ℕ) → Option (List ℕ) → Type 0
+AreGiven lines left None = ⊥
+AreGiven lines left (Some rest) = left ≡ lines ++ lines_of rest
+
+-- the lines that were given, of which the first has this number, are answered without a text
+abbrev pub AreSilent : {S : Type 0} → Dialogue S → S → ℕ → List (List ℕ) → Option (List ℕ) → Type 0
+AreSilent {S} d s number left rest = (lines : List (List ℕ)) × (t : S) × AreGiven lines left rest × Replies d s number lines [] t
+
+-- what is held grew by a front of the text that is next, and not by all of it
+abbrev pub WritesPart : {S : Type 0} → Dialogue S → S → ℕ → List (List ℕ) → Option (List ℕ) → Option (List ℕ) → Type 0
+WritesPart d t number left held now =
+    (part behind : List ℕ) × Appends held now part × (behind ≢ []) × IsNextText d t number left (part ++ behind)
+
+-- What is held grew by the whole text that is next, which is not empty, and was not passed on. Of the lines that the reader gave it is the
+-- last that has a text.
+abbrev pub WritesLast : {S : Type 0} → Dialogue S → S → ℕ → List (List ℕ) → Option (List ℕ) → Option (List ℕ) → Option (List ℕ) → Type 0
+WritesLast d t number [] rest held now = (text : List ℕ) × Appends held now text × (text ≢ []) × d.Ends t text
+WritesLast d t number (line ∷ lines) rest held now = (text : List ℕ) × (u : _) × Appends held now text × (text ≢ [])
+    × d.Replied t number line text u × AreSilent d u (number + 1) lines rest
+
+-- What is held stays. Where a write failed it grew by a part of what was to be written next; or by all of it, where all that waited was
+-- taken, and the writer could not pass it on.
+abbrev pub HeldSince : {S : Type 0} → Dialogue S → S → ℕ → FaultKind → List (List ℕ) → Option (List ℕ) → Option (List ℕ) → Option (List ℕ)
+    → Type 0
+HeldSince d t number kind.Line left rest held now = Keeps held now
+HeldSince d t number kind.Long left rest held now = Keeps held now
+HeldSince d t number kind.Read left rest held now = Keeps held now
+HeldSince d t number kind.Write left rest held now = WritesPart d t number left held now ⊎ WritesLast d t number left rest held now
+HeldSince d t number kind.Memory left rest held now = Keeps held now
 
 -- A run over lines, of which the first has this number, came to the line of the fault: those before it are answered, and then nothing more
--- is written, but for a part of the text of that line where a write failed.
+-- is written, but for text of that line where a write failed.
 pub record EndsFrom {S : Type 0} (d : Dialogue S) (start : S) (first : ℕ) (lines : List (List ℕ)) (fault : Fault)
     (rest held now : Option (List ℕ)) : Type 0 where
   pub before : List (List ℕ)
@@ -81,7 +104,7 @@ pub record EndsFrom {S : Type 0} (d : Dialogue S) (start : S) (first : ℕ) (lin
   pub then_held : Option (List ℕ)
   pub reached : S
   pub answered : AreAnswered d start first before held then_held reached
-  pub kept : HeldSince d reached fault.line fault.kind left then_held now
+  pub kept : HeldSince d reached fault.line fault.kind left rest then_held now
   pub reason : HasFault d reached fault.line fault.kind left rest
 
 -- the same of a whole run, whose first line is line 1

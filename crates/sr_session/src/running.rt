@@ -1,6 +1,6 @@
 //! A run of a script: the loop over its lines. It knows no node: the session obeys the lines.
 
-ghost use Rattle.std.specs.Prelude.{◌≡◌, ◌⊎◌, ◌≤◌, ◌<◌, ◌++◌, ◌∷◌, [], ℕ, List, IfOk, IfErr, OnOk, OnErr, Err, IfSome, length, vec_capacity};
+ghost use Rattle.std.specs.Prelude.{◌≡◌, ◌⊎◌, ◌≤◌, ◌<◌, ◌++◌, ◌∷◌, [], ℕ, List, Option, IfOk, IfErr, OnOk, OnErr, Err, IfSome, length, vec_capacity};
 ghost use Rattle.std.specs.Io.KnownBytes.{Appends};
 ghost use Rattle.sr_session.specs.Lines.{lines_of, IsOneOf};
 ghost use Rattle.sr_session.specs.Runs.{IsAnsweredTo, EndsAt, EndsFrom, HeldSince, HasFault, Runs};
@@ -291,8 +291,8 @@ fn end<S: Session, W: Write>(
     ensures ended { OnOk result ((last : List ℕ) × S.dialogue.Ends (S.state session.now) last
         × Appends (W.contents writer.old) (W.contents writer.new) last) }
     ensures failed { IfErr result (λ kind. IsOneOf kind (FaultKind.Write ∷ FaultKind.Memory ∷ [])) }
-    ensures kept { IfErr result (λ kind. (number : ℕ)
-        → HeldSince S.dialogue (S.state session.now) number kind [] (W.contents writer.old)
+    ensures kept { IfErr result (λ kind. (number : ℕ) (rest : Option (List ℕ))
+        → HeldSince S.dialogue (S.state session.now) number kind [] rest (W.contents writer.old)
         (W.contents writer.new)) }
 {
     text.clear();

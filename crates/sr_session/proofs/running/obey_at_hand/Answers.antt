@@ -8,7 +8,10 @@ returns-in_default-clause-ended g c =
 pub returns-in-Err-clause-ended : goal.returns-in-Err-clause-ended
 returns-in-Err-clause-ended g c =
     let front = c.obey_front-front.ensures in
-    hand_cut g.S.Session.dialogue _ c.args.first front.lines _ _ _ c.in-Err.fault _ _ _ _ c.in-Ok.available.now _ front.waits c.in-Err.ensures.cut front.whole c.in-Ok.ensures.front
+    let filled = c.fill_buf.follows.holds-at-none in
+    let within = fill_within _ _ _ c.in-Ok.available c.in-Ok.is filled.1 in
+    let took = hand_took _ _ _ _ c.in-Ok.available.now c.obey_front-front.result.used front.lines filled.0 within c.in-Ok.ensures.front c.consume.ensures.bytes front.within front.whole in
+    hand_cut g.S.Session.dialogue _ c.args.first front.lines _ _ _ c.in-Err.fault _ _ _ _ front.waits c.in-Err.ensures.cut took
 
 pub returns-in-Some-clause-ended : goal.returns-in-Some-clause-ended
 returns-in-Some-clause-ended g c =
