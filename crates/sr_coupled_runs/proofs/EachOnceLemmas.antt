@@ -15,6 +15,7 @@ use Rattle.sr_plant_runs.proofs.FrameLemmas.{address_at}
 use Rattle.sr_plant_runs.proofs.HistoryRunLemmas.{run_told, history_of}
 use Rattle.sr_plant_runs.proofs.OnceLemmas.{each_once}
 use Rattle.sr_plant_runs.proofs.RefusalLemmas.{unrefused}
+use Rattle.sr_plant_runs.proofs.SentLemmas.{only_what_others_sent}
 use Rattle.sr_plant_runs.proofs.TableLemmas.{lanes_of}
 use Rattle.sr_plant_runs.proofs.UnbrokenLemmas.{loses_nothing, ideal_for}
 use Rattle.sr_coupled_runs.proofs.CoupledLemmas.{joined_in, ring_lan_run, ring_lan_premises, two_rings_run, two_rings_premises}
@@ -34,6 +35,7 @@ ring_lans_each_once ideal loses lossless s starts turns v goes own limits whole 
       up.0,
       up.1,
       up.2,
+      only_what_others_sent (RingLan s) starts turns v j role ps goes own at there,
       λ w frame seq sent other meant host. (let found = r.finds w frame seq sent in
           up.3 w found.0 ((all found.0).1 (ideal_for starts w.node j role frame seq found.0 (done_in r.history) found.1 other at meant host)) found.1.source found.2),
     )
@@ -53,6 +55,7 @@ two_rings_each_once ideal loses lossless s starts turns v goes own limits whole 
       up.0,
       up.1,
       up.2,
+      only_what_others_sent (TwoRings s) starts turns v j role ps goes own at there,
       λ w frame seq sent other meant host. (let found = r.finds w frame seq sent in
           up.3 w found.0 ((all found.0).1 (ideal_for starts w.node j role frame seq found.0 (done_in r.history) found.1 other at meant host)) found.1.source found.2),
     )

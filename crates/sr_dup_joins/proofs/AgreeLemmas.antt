@@ -15,14 +15,17 @@ use Rattle.sr_dup_table.specs.Limits.{most_sources}
 use Rattle.sr_dup_table.specs.Sources.{Remembered, Sources, is_live, live_at, with_room, begun_at, heard_next, after_of}
 use Rattle.sr_dup_table.specs.Joins.{joined}
 use Rattle.sr_dup_runs.specs.TableRuns.{Noting}
-use Rattle.sr_dup_joins.specs.Growths.{Growth, empty, arrived, aged, merged, Grew, arrivals_of, remembered, epoch, numbers, latest, AreInOrder, AreSteady, IsSteady}
+use Rattle.sr_dup_runs.specs.Starts.{stood}
+use Rattle.sr_dup_joins.specs.Growths.{Growth, empty, started, arrived, aged, merged, Grew, arrivals_of, remembered, epoch, numbers, latest, AreInOrder, AreSteady, IsSteady}
 use Rattle.sr_dup_joins.specs.GrowthLaws.{Tells, KeepsAll, TablesAgree}
 use Rattle.sr_dup_joins.proofs.ListLemmas.{Among, among-from, contains-from, among-left, among-right, among-either, among-remembered, number-of, same-numbers-among, no-newer}
+use Rattle.sr_dup_joins.proofs.StartLemmas.{noted-from, start_has}
 use Rattle.sr_dup_joins.proofs.GrowthLemmas.{kept, live-is}
 
 -- what is in an epoch is among the arrivals, and of the source
 pub epoch-from : (t : Growth) (src : Mac) (now : ℕ) (x : Noting) → Among (epoch src now t) x → Among (arrivals_of t) x × (mac_eq src x.arrival.src ≡ true)
 epoch-from empty src now x h = absurd h
+epoch-from (started from top start) src now x h = noted-from src now (stood top start) x h
 epoch-from (aged t at) src now x h = epoch-from t src now x h
 epoch-from (merged t u at) src now x h =
     elim (among-either (epoch src at t) (epoch src at u) x (among-remembered now (epoch src at t ++ epoch src at u) x h)) [
@@ -92,6 +95,8 @@ after-there w x old src (Some was) at keys h =
 
 arrival-of : (w : ℕ) → IsWidth w → (t : Growth) (s : Sources) (src : Mac) → Grew w t s → AreInOrder t → AreSteady w t → is_some (lookup (mac_eq src) s) ≡ true → HasArrival t src
 arrival-of w width empty s src grew order steady h = let bad : true ≡ false = sym h ∙ ap (λ z. is_some (lookup (mac_eq src) z)) grew in cc
+arrival-of w width (started from top start) s src grew order steady h =
+    start_has w width from top start grew.0 src (ap (λ z. is_some (lookup (mac_eq src) z)) (sym grew.1) ∙ h)
 arrival-of w width (arrived t x) s src grew order steady h =
     let old = grew.0 in
     let keys = (kept w width t old grew.2 order.0 steady.0).keys in

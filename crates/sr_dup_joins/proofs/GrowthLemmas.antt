@@ -21,9 +21,10 @@ use Rattle.sr_dup_table.specs.Limits.{most_sources}
 use Rattle.sr_dup_table.specs.Sources.{Remembered, Sources, is_recent, is_live, live_at, with_room, begun_at, heard_next, answer_of, after_of}
 use Rattle.sr_dup_table.specs.Joins.{joined, joined_heard, IsJoin, lacking_in}
 use Rattle.sr_dup_runs.specs.TableRuns.{Noting}
-use Rattle.sr_dup_joins.specs.Growths.{Growth, empty, arrived, aged, merged, Grew, newest, remembered, epoch, numbers, latest, IsNearAll, AreClose, AreInOrder, AreSteady}
+use Rattle.sr_dup_joins.specs.Growths.{Growth, empty, started, arrived, aged, merged, Grew, newest, remembered, epoch, numbers, latest, IsNearAll, AreClose, AreInOrder, AreSteady}
 use Rattle.sr_dup_joins.specs.GrowthLaws.{Tells, TablesStand, AnswersByTheUnion}
 use Rattle.sr_dup_joins.proofs.ListLemmas.{stands-like, one-number, more-numbers, both-numbers, newest-both}
+use Rattle.sr_dup_joins.proofs.StartLemmas.{start_tells}
 
 -- what is live later was live before
 live-before : (at now : ℕ) (h : Remembered) → at ≤ now → is_live now h ≡ true → is_live at h ≡ true
@@ -256,6 +257,9 @@ live-is now s src keys = lookup-passing (is_live now) src s keys
 pub kept : (w : ℕ) → IsWidth w → (t : Growth) (s : Sources) → Grew w t s → AreInOrder t → AreSteady w t → Kept w t s
 kept w width empty s grew order steady =
     let P : Sources → Type 0 = λ z. Kept w empty z in subst P (sym grew) (record { keys = none-twice; tells = λ src now le. refl })
+kept w width (started from top start) s grew order steady =
+    let P : Sources → Type 0 = λ z. Kept w (started from top start) z in
+    subst P (sym grew.1) (record { keys = grew.0.keys; tells = λ src now le. start_tells w width from top start grew.0 src now le })
 kept w width (arrived t x) s grew order steady =
     let P : Sources → Type 0 = λ z. Kept w (arrived t x) z in
     let old = grew.0 in

@@ -3,9 +3,9 @@
 ghost use Rattle.sr_dup_joins.specs.Examples.{TakenOverIsSteady};
 ghost use Rattle.sr_dup_joins.specs.GrowthLaws.{TablesStand, AnswersByTheUnion, TablesAgree};
 
-/// Along any steady tree of arrivals, ageings and merges, the record of a live source stands for the union of all numbers that
-/// its parts took in that source's epoch, cut to the window. Its time is that of the last of these arrivals. A source without a
-/// live record has no epoch.
+/// Along any steady tree of arrivals, ageings and merges, of tables that began empty or with what stood in a table, the record of a
+/// live source stands for the union of all numbers that its parts took in that source's epoch, cut to the window; what stood in a
+/// table counts as taken. Its time is that of the last of these arrivals. A source without a live record has no epoch.
 ///
 /// Steady means: along each branch no time goes back, each number is one of the 65536 that may follow those of its source's
 /// epoch, and of a source that both parts of a merge know, the greatest numbers are at most 32767 apart.

@@ -1,5 +1,5 @@
 -- The alarms of a node after a run are those of what happened to its table of nodes.
-use Rattle.std.proofs.Common.{◌≡◌, ap, ◌∙◌}
+use Rattle.std.proofs.Common.{ap, ◌∙◌}
 use Rattle.sr_node_table.specs.Stating.{has_at, status_at, listed_at}
 use Rattle.sr_node_table_runs.specs.TableLaws.{AlarmsAreTheLatest, ListIsOfKept, StatusIsOfKept}
 use Rattle.sr_node_runs.specs.Alarms.{AlarmsAreOfWhatCameIn}

@@ -1,21 +1,18 @@
 -- A node that is resumed with one number of one source.
-use Rattle.std.proofs.Common.{◌≡◌, ℕ, zero, suc, ◌+◌, ◌<◌, ◌≤◌, Bool, true, false, ◌||◌, ◌&&◌, not, List, [], ◌∷◌, ◌++◌, filter, Option, None, Some, option_to_list, ℤ, pos, refl, sym, ap, ◌∙◌, subst, inl, inr, arith, if◌then◌else◌}
+use Rattle.std.proofs.Common.{◌≡◌, ℕ, zero, suc, ◌+◌, ◌<◌, ◌≤◌, Bool, true, false, ◌||◌, ◌&&◌, not, List, [], ◌∷◌, ◌++◌, filter, None, Some, option_to_list, ℤ, pos, refl, sym, ap, ◌∙◌, subst, inl, inr, arith, if◌then◌else◌}
 use Rattle.std.specs.Prelude.{nat_lt, ◌-◌, ◌-ℤ◌, ◌+ℤ◌}
 use Rattle.std.specs.List.{list_any}
-use Rattle.std.specs.Map.{lookup}
 use Rattle.std.specs.Ordering.{int_eq}
 use Rattle.std.proofs.lemmas.Bool.{cases_Bool, false_from_ne_true}
 use Rattle.std.proofs.lemmas.Bool.Decides.{Decides-int_eq}
 use Rattle.std.proofs.lemmas.Int.{ints}
 use Rattle.sr_frame.specs.declared.fields.Mac.{Mac}
-use Rattle.sr_frame.specs.declared.ports.Port.{Port}
 use Rattle.sr_frame.specs.declared.ports.Port.TheVariants.{H}
 use Rattle.sr_frame.specs.Addresses.{mac_eq}
 use Rattle.sr_frame.specs.AddressLemmas.{mac_refl}
 use Rattle.sr_sequence.specs.Numbers.{wire, IsNear}
 use Rattle.sr_dup_window.specs.declared.lane_sets.Lane.TheVariants as lane
 use Rattle.sr_dup_window.specs.declared.lane_sets.Lanes.{Lanes}
-use Rattle.sr_dup_window.specs.LaneSets as lanes
 use Rattle.sr_dup_window.specs.LaneSets.{is_empty}
 use Rattle.sr_dup_window.specs.Bins.{IsWidth}
 use Rattle.sr_dup_window.specs.Windows.{no_marks}
@@ -24,23 +21,21 @@ use Rattle.sr_dup_table.specs.Limits.{forget_time}
 use Rattle.sr_dup_table.specs.JoinLaws.{IsSound}
 use Rattle.sr_dup_table.specs.Widths.{numbers_in}
 use Rattle.sr_dup_table.specs.Sources.{Remembered, Sources}
-use Rattle.sr_dup_runs.specs.TableRuns.{Arrival, Noting, epoch, copies_of, was_noted, IsNearAll, IsNext, AreSteady, arrivals_of}
+use Rattle.sr_dup_runs.specs.TableRuns.{Arrival, Noting, epoch, copies_of, was_noted, IsNearAll, AreSteady, arrivals_of}
 use Rattle.sr_dup_runs.specs.Starts.{pairs}
 use Rattle.sr_forwarding.specs.declared.role_image.RoleImage.{RoleImage}
-use Rattle.sr_forwarding.specs.Parcels.{ParcelImage}
-use Rattle.sr_forwarding.specs.Headers.{header_of}
 use Rattle.sr_forwarding.specs.Outlets.{has}
 use Rattle.sr_node.specs.declared.event.Event.TheVariants as event
 use Rattle.sr_node.specs.declared.mode.Mode.{Mode}
-use Rattle.sr_node.specs.Images.{State, time_at}
+use Rattle.sr_node.specs.Images.{time_at}
 use Rattle.sr_node.specs.Resuming as node
-use Rattle.sr_node.specs.Arriving.{is_own, going_on}
-use Rattle.sr_node_runs.specs.Origins.{Origin, resumed, first_state, stands_before, HasTops, CanBeResumedWith}
+use Rattle.sr_node.specs.Arriving.{is_own}
+use Rattle.sr_node_runs.specs.Origins.{stands_before, HasTops, CanBeResumedWith}
 use Rattle.sr_node_runs.specs.NodeRuns.{Turn, happened, swapped}
-use Rattle.sr_node_runs.specs.Brought.{Brought, arrival_brings, brings, number_if, whole_number, next_number, is_barred, stood_bars, goes_at, went_after}
+use Rattle.sr_node_runs.specs.Brought.{Brought, arrival_brings, brings, number_if, next_number, is_barred, stood_bars, goes_at, went_after}
 use Rattle.sr_node_runs.specs.SteadyNodes.{IsSteadyFrom}
 use Rattle.sr_node_runs.specs.SteadyExamples.{IsFrameOf, ComesIn}
-use Rattle.sr_node_runs.specs.ResumedExamples.{one_number, resumed_with_one, RepeatsAreHeldBack, LaterFramesGoUp}
+use Rattle.sr_node_runs.specs.ResumedExamples.{resumed_with_one, RepeatsAreHeldBack, LaterFramesGoUp}
 use Rattle.sr_node_runs.proofs.OriginLemmas.{first_width}
 use Rattle.sr_node_runs.proofs.SteadyLemmas.{not_interlink, are_all}
 

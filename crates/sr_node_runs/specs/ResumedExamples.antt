@@ -1,5 +1,5 @@
 -- A node that is resumed with one number of one source: within 400 ms that number is held back, and after that it is another frame's.
-use Rattle.std.specs.Prelude.{◌≡◌, ℕ, ◌-◌, ◌≤◌, ◌<◌, ◌+◌, ℤ, ◌+ℤ◌, pos, true, false, List, [], ◌∷◌, filter}
+use Rattle.std.specs.Prelude.{◌≡◌, ℕ, ◌-◌, ◌≤◌, ◌<◌, ◌+◌, ℤ, ◌+ℤ◌, pos, true, false, [], ◌∷◌, filter}
 use Rattle.sr_frame.specs.declared.fields.Mac.{Mac}
 use Rattle.sr_frame.specs.declared.ports.Port.TheVariants.{H}
 use Rattle.sr_frame.specs.Addresses.{mac_eq}

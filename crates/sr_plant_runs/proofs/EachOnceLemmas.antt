@@ -1,5 +1,6 @@
 -- In an unbroken network each frame is handed up exactly once.
-use Rattle.std.proofs.Common.{ℕ, ◌<◌, length, refl, sym, subst, arith}
+use Rattle.std.proofs.Common.{ℕ, ◌<◌, List, [], ◌∷◌, length, refl, sym, subst, arith}
+use Rattle.sr_node.specs.Starts.{Start}
 use Rattle.sr_frame.specs.declared.ports.Port.TheVariants.{A}
 use Rattle.sr_plant_laws.specs.LanLaws.{HasWholeCopy, LansHandUpOnce, LansHandUpTheIdeal, LansLoseNothing}
 use Rattle.sr_plant_laws.specs.Ledger.{made_in}
@@ -11,15 +12,22 @@ use Rattle.sr_plant_laws.specs.Rings.{ring, ring_part}
 use Rattle.sr_plant_laws.specs.TwinLans.{twin_lans, other_members, in_lan_a, in_lan_b}
 use Rattle.sr_plant_laws.proofs.LedgerLemmas.{put_makes}
 use Rattle.sr_plant.specs.declared.topology.Topology.TheVariants.{Ring, TwinLan}
-use Rattle.sr_plant_runs.specs.Histories.{mac_at, in_mode_x}
+use Rattle.sr_plant_runs.specs.Histories.{HaveOwnAddresses, mac_at, in_mode_x}
+use Rattle.sr_plant_runs.specs.PlantRuns.{HaveAddresses}
 use Rattle.sr_plant_runs.specs.TableWidths.{widths_of}
 use Rattle.sr_plant_runs.specs.Once.{HandsUpEachOnce}
 use Rattle.sr_plant_runs.proofs.FrameLemmas.{address_at}
 use Rattle.sr_plant_runs.proofs.HistoryRunLemmas.{run_told, ring_premises, lan_premises, history_of}
 use Rattle.sr_plant_runs.proofs.OnceLemmas.{each_once}
 use Rattle.sr_plant_runs.proofs.RefusalLemmas.{unrefused}
+use Rattle.sr_plant_runs.proofs.SentLemmas.{only_what_others_sent}
 use Rattle.sr_plant_runs.proofs.TableLemmas.{lanes_of}
 use Rattle.sr_plant_runs.proofs.UnbrokenLemmas.{loses_nothing, ideal_for, open_all, arc, member_of, hop_of}
+
+-- addresses that are no group's have six octets
+own_six : (starts : List Start) → HaveOwnAddresses starts → HaveAddresses starts
+own_six [] own = tt
+own_six (r ∷ starts) own = (own.0.0, own_six starts own.1)
 
 pub rings_each_once : RingHandsUpTheIdeal → RingHandsUpOnce → RingLosesNothing → HandsUpEachOnce Ring
 rings_each_once ideal once loses starts turns s run own limits whole none j role ps at there =
@@ -33,6 +41,7 @@ rings_each_once ideal once loses starts turns s run own limits whole none j role
       up.0,
       up.1,
       up.2,
+      only_what_others_sent Ring starts turns s j role ps run (own_six starts own) at there,
       λ w frame seq sent other meant host. (let found = r.finds w frame seq sent in
           let f = found.0 in
           let way = arc n f (law.turns r.history) (open_all (ring n) r.history r.plant f kept) w.node j other
@@ -53,6 +62,7 @@ lans_each_once ideal once loses starts turns s run own limits whole none j role 
       up.0,
       up.1,
       up.2,
+      only_what_others_sent TwinLan starts turns s j role ps run (own_six starts own) at there,
       λ w frame seq sent other meant host. (let found = r.finds w frame seq sent in
           let f = found.0 in
           let made : 0 < made_in (twin_lans n) (in_lan_a j) f (law.turns r.history) =

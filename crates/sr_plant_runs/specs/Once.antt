@@ -9,7 +9,7 @@ use Rattle.sr_plant.specs.declared.topology.Topology.{Topology}
 use Rattle.sr_plant.specs.Plants.{Plant}
 use Rattle.sr_plant_runs.specs.PlantRuns.{Turn, PlantRun}
 use Rattle.sr_plant_runs.specs.Histories.{HaveOwnAddresses, Zip}
-use Rattle.sr_plant_runs.specs.Sent.{IsSendOf, is_meant_for}
+use Rattle.sr_plant_runs.specs.Sent.{IsSendOf, IsSentByOther, is_meant_for}
 use Rattle.sr_plant_runs.specs.Traffic.{count_of, numberings, IsWithinLimits}
 use Rattle.sr_plant_runs.specs.Unbroken.{IsFrameSent, IsUnbroken}
 
@@ -44,12 +44,12 @@ HandsUpOnce t =
     (ws : List HostSend) × Zip (IsOfSend turns) ps ws × AreUnlike ws
 
 -- Where nothing is dropped or cut besides, and nothing is in flight: each frame that a host sent is handed up exactly once at each other
--- node for which it is meant, supervision apart, and nothing else is.
+-- node for which it is meant, supervision apart, and nothing else is: each parcel is what the host of another node sent to it or to a group.
 abbrev pub HandsUpEachOnce : Topology → Type 0
 HandsUpEachOnce t =
     (starts : List Start) (turns : List Turn) (s : Plant) → PlantRun t starts turns s → HaveOwnAddresses starts →
     IsWithinLimits starts turns → IsUnbroken turns → s.flight ≡ [] →
     (j : ℕ) (start : Start) (ps : List ParcelImage) → slice_get starts j ≡ Some start → slice_get s.handed j ≡ Some ps →
-    (ws : List HostSend) × Zip (IsOfSend turns) ps ws × AreUnlike ws
+    (ws : List HostSend) × Zip (IsOfSend turns) ps ws × AreUnlike ws × Each (IsSentByOther j start.role.mac turns) ps
     × ((w : HostSend) (frame : List ℕ) (seq : Seq) → WasSent w frame seq turns → w.node ≢ j → is_meant_for start.role.mac frame ≡ true →
     is_supervision frame ≡ false → One (λ v. v ≡ w) ws)
