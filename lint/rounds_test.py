@@ -1,15 +1,18 @@
 #!/usr/bin/env python3
-"""The rounds of wrong bodies, tried on a small crate: what is refused, what gets through, and what can't be tried."""
+"""The rounds of wrong bodies, tried on a small crate: what is refused, what gets through, and what can't be tried; and the ledger of
+crates whose wrong bodies were refused."""
+import contextlib
+import io
 import shutil
-import subprocess
-import sys
 import tempfile
 import unittest
 from pathlib import Path
+from unittest import mock
 
+import judge
+import ledger
 import rounds
 
-HERE = Path(__file__).resolve().parent
 SOURCE = """//! A crate to put wrong bodies into.
 #![tactic(auto)]
 
@@ -73,26 +76,42 @@ UNUSABLE = {
 }
 
 
-class Rounds(unittest.TestCase):
+class Workspace(unittest.TestCase):
+    """A small workspace in a folder of its own."""
+
     def setUp(self):
         self.top = Path(tempfile.mkdtemp())
         self.addCleanup(shutil.rmtree, self.top)
         (self.top / "lint").mkdir()
-        shutil.copy(HERE / "rounds.py", self.top / "lint" / "rounds.py")
-        (self.top / "crates.txt").write_text("# The crate.\nsmall:\n")
-        (self.top / "crates" / "small" / "src").mkdir(parents=True)
-        (self.top / "crates" / "small" / "wrong").mkdir()
+
+    def write(self, name, text):
+        path = self.top / name
+        path.parent.mkdir(parents=True, exist_ok=True)
+        path.write_text(text)
+
+    def call(self, *words, day=0):
+        """The status of a call of the rounds, and what it prints."""
+        said = io.StringIO()
+        with contextlib.redirect_stdout(said):
+            status = rounds.main(words, self.top, day)
+        return status, said.getvalue()
+
+
+class Rounds(Workspace):
+    def setUp(self):
+        super().setUp()
+        self.write("crates.txt", "# The crate.\nsmall:\n")
+        (self.top / "crates" / "small" / "wrong").mkdir(parents=True)
 
     def tried(self, edits, source=SOURCE):
         """What is said of each of these wrong bodies, the status, and the last line."""
-        (self.top / "crates" / "small" / "src" / "lib.rt").write_text(source)
+        self.write("crates/small/src/lib.rt", source)
         for name, (old, new) in edits.items():
-            text = f"file: src/lib.rt\nold: {old}\nnew: {new}\n"
-            (self.top / "crates" / "small" / "wrong" / f"{name}.edit").write_text(text)
-        ran = subprocess.run([sys.executable, "-B", self.top / "lint" / "rounds.py"], capture_output=True, text=True)
-        lines = ran.stdout.strip().split("\n")
-        said = {line.split(": ")[0].split("/")[1]: line.split(": ")[1] for line in lines if line.startswith("wrong ")}
-        return said, ran.returncode, lines[-1], ran.stdout
+            self.write(f"crates/small/wrong/{name}.edit", f"file: src/lib.rt\nold: {old}\nnew: {new}\n")
+        status, said = self.call()
+        lines = said.strip().split("\n")
+        verdicts = {line.split(": ")[0].split("/")[1]: line.split(": ")[1] for line in lines if line.startswith("wrong ")}
+        return verdicts, status, lines[-1], said
 
     def test_rounds(self):
         said, status, last, whole = self.tried({**WRONG, **HARMLESS, **UNUSABLE})
@@ -107,33 +126,177 @@ class Rounds(unittest.TestCase):
         self.assertEqual((status, last), (1, "1 passed, 1 failed"))
 
     def test_each_in_its_own_place(self):
-        one = rounds.Edit("one", "src/lib.rt", "clear()", "sum()")
-        other = rounds.Edit("other", "src/lib.rt", "len()", "clear(); len()")
-        self.assertEqual(rounds.edited("a.clear() a.len()", [other, one]), "a.sum() a.clear(); len()")
+        one = judge.Edit("one", "src/lib.rt", "clear()", "sum()")
+        other = judge.Edit("other", "src/lib.rt", "len()", "clear(); len()")
+        self.assertEqual(judge.edited("a.clear() a.len()", [other, one]), "a.sum() a.clear(); len()")
 
     def test_goals_of_a_closure(self):
-        function = rounds.Function("table::Slots::update", "src/table.rt", 3, 9)
+        function = judge.Function("table::Slots::update", "src/table.rt", 3, 9)
         for folder in ("table/Slots/update", "table/fn/Slots/update/update"):
             said = f"./proofs/{folder}/Answers.antt:5:15: error: `returns`: `search`: no proof"
-            self.assertEqual(rounds.open_goal(said, function), "`returns`")
+            self.assertEqual(judge.open_goal(said, function), "`returns`")
         for said in ("./proofs/table/Slots/other/Answers.antt:5:15: error: `returns`: no proof", "note: src/table.rt:10:1: it is not proved (`returns`)"):
-            self.assertIsNone(rounds.open_goal(said, function))
+            self.assertIsNone(judge.open_goal(said, function))
 
     def test_a_goal_of_a_function_without_answers(self):
-        function = rounds.Function("state::Core::with_keys", "src/state.rt", 10, 20)
+        function = judge.Function("state::Core::with_keys", "src/state.rt", 10, 20)
         said = "fn sr_one::state::Core::with_keys: no proof: expected answers in ./proofs/Answers.antt; `search` did not prove `returns-clause-shown`"
-        self.assertEqual(rounds.verdict_on(said, "sr_one", function), (rounds.REFUSED, "`returns-clause-shown` of state::Core::with_keys"))
+        self.assertEqual(judge.verdict_on(said, "sr_one", function), (judge.REFUSED, "`returns-clause-shown` of state::Core::with_keys"))
         said = "fn sr_one::state::Core::with_keys: no proof: expected answers in ./proofs/Answers.antt"
-        self.assertEqual(rounds.verdict_on(said, "sr_one", function)[0], rounds.UNKNOWN)
+        self.assertEqual(judge.verdict_on(said, "sr_one", function)[0], judge.UNKNOWN)
 
     def test_a_crate_that_is_not_proved(self):
         broken = SOURCE.replace("    n + n", "    n + 1 + n")
         said, status, _, whole = self.tried({"steps_twice": WRONG["steps_twice"]}, broken)
         self.assertEqual((said, status), ({"steps_twice": "NOT TRIED"}, 1), whole)
 
+    def test_a_library_that_is_not_built(self):
+        self.write("crates.txt", "low:\nsmall: low\n")
+        self.write("crates/low/src/lib.rt", "//! Nothing.\n")
+        said, status, _, whole = self.tried({"steps_twice": WRONG["steps_twice"]})
+        self.assertEqual((said, status), ({"steps_twice": "NOT TRIED"}, 1), whole)
+        self.assertIn("low is not built as it stands: run rt check in crates/small first", whole)
+
+    def test_once_as_a_whole_line(self):
+        text = "    let a = self.n;\n    self.n\n    self.n = 2;\n"
+        old, new = judge.old_and_new("\n" + text, "self.n", "self.n + 1")
+        self.assertEqual((old, new), ("\n    self.n\n", "\n    self.n + 1\n"))
+        for text in ("    self.n\n", "    self.n\n  self.n\n", "  a(self.n)\n  b(self.n)\n"):
+            self.assertEqual(judge.old_and_new(text, "self.n", "0"), ("self.n", "0"), text)
+
     def test_nothing_to_try(self):
         _, status, last, _ = self.tried({})
         self.assertEqual((status, last), (1, "0 passed, 0 failed"))
+
+
+class Refusals(Workspace):
+    """What is tried anew: the prover is left out, and each wrong body refused but those that are named `harmless`."""
+
+    # Two crates that the first stands below, and one beside; each with a wrong body but the lowest.
+    CRATES = {"low": [], "middle": ["low"], "high": ["middle", "std"], "beside": []}
+
+    def setUp(self):
+        super().setUp()
+        self.write("crates.txt", "".join(f"{name}: {' '.join(below)}\n" for name, below in self.CRATES.items()))
+        for name in self.CRATES:
+            self.write(f"crates/{name}/src/lib.rt", "fn one() {}\n")
+            self.write(f"crates/{name}/specs/Words.antt", "one = 1\n")
+            self.write(f"crates/{name}/proofs/one/Answers.antt", "search\n")
+            if name != "low":
+                self.write(f"crates/{name}/wrong/answers_two.edit", "file: src/lib.rt\nold: one\nnew: two\n")
+        self.tried = []
+        for patch in (mock.patch.object(rounds, "try_crate", self.try_crate), mock.patch.object(ledger, "kit_line", lambda: self.kit)):
+            patch.start()
+            self.addCleanup(patch.stop)
+        self.kit = "kit 1"
+
+    def try_crate(self, root, name):
+        self.tried.append(name)
+        bodies = [path.stem for path in (root / "crates" / name / "wrong").iterdir()]
+        missed = bodies.count("harmless")
+        return [f"rounds: {name}"], len(bodies) - missed, missed
+
+    def due(self, *words, day=None):
+        """The crates that are tried on a day, by default on one that is nobody's."""
+        free = next(it for it in range(ledger.DAYS) if not any(ledger.is_of_the_day(name, it) for name in self.CRATES))
+        self.tried.clear()
+        status, said = self.call("--due", *words, day=free if day is None else day)
+        return sorted(self.tried), status, said
+
+    def written(self):
+        return [line.split(": ")[0] for line in (self.top / "lint" / "refused.txt").read_text().split("\n") if line and not line.startswith("#")]
+
+    def test_what_was_refused_is_not_tried_anew(self):
+        self.assertEqual(self.due()[:2], (["beside", "high", "middle"], 0))
+        self.assertFalse((self.top / "lint" / "refused.txt").exists())
+        self.assertEqual(self.due("--write")[0], ["beside", "high", "middle"])
+        self.assertEqual(self.written(), ["beside", "high", "middle"])
+        tried, status, said = self.due()
+        self.assertEqual((tried, status), ([], 0))
+        self.assertIn("3 wrong bodies of 3 crates were refused as they stand", said)
+        self.assertTrue(said.endswith("0 passed, 0 failed\n"))
+
+    def test_all_and_by_name(self):
+        self.due("--write")
+        self.tried.clear()
+        self.assertEqual(self.call()[0], 0)
+        self.assertEqual(sorted(self.tried), ["beside", "high", "middle"])
+        self.tried.clear()
+        self.assertEqual(self.call("middle")[0], 0)
+        self.assertEqual(self.tried, ["middle"])
+        self.assertEqual(self.due("middle", "beside")[:2], ([], 0))
+        self.write("crates/middle/wrong/answers_two.edit", "changed\n")
+        self.write("crates/high/wrong/answers_two.edit", "changed\n")
+        self.assertEqual(self.due("middle", "beside")[:2], (["middle"], 0))
+        self.assertEqual(self.call("nowhere")[0], 2)
+
+    def test_what_changes_is_tried(self):
+        changes = {
+            "crates/high/wrong/answers_two.edit": ["high"],
+            "crates/high/wrong/answers_three.edit": ["high"],
+            "crates/low/specs/Words.antt": ["high", "middle"],
+            "crates/low/src/lib.rt": ["high", "middle"],
+            "crates/middle/proofs/two/Answers.antt": ["high", "middle"],
+            # What is built, and documents, are nothing that a refusal hangs on.
+            "crates/middle/out/rlib/stamp": [],
+            "crates/middle/README.md": [],
+        }
+        for path, wanted in changes.items():
+            self.due("--write")
+            self.write(path, "changed\n")
+            self.assertEqual(self.due()[0], wanted, path)
+
+    def test_a_line_of_the_workspace(self):
+        self.due("--write")
+        lines = (self.top / "crates.txt").read_text()
+        self.write("crates.txt", "# Another comment.\n" + lines)
+        self.assertEqual(self.due()[0], [])
+        self.write("crates.txt", lines.replace("beside: ", "beside: low"))
+        self.assertEqual(self.due()[0], ["beside"])
+
+    def test_another_kit_or_judge(self):
+        self.due("--write")
+        self.kit = "kit 2"
+        self.assertEqual(self.due()[0], ["beside", "high", "middle"])
+        self.kit = "kit 1"
+        other = self.top / "judge.py"
+        other.write_text("another judge\n")
+        with mock.patch.object(ledger, "JUDGE", other):
+            self.assertEqual(self.due()[0], ["beside", "high", "middle"])
+
+    def test_another_place(self):
+        self.due("--write")
+        other = self.top / "elsewhere"
+        shutil.copytree(self.top, other, ignore=lambda at, names: [it for it in names if it == "elsewhere"])
+        self.assertTrue(all(ledger.Ledger(other).has(it) for it in ("beside", "high", "middle")))
+
+    def test_one_that_fails_is_never_written(self):
+        self.write("crates/middle/wrong/harmless.edit", "file: src/lib.rt\nold: one\nnew: uno\n")
+        self.assertEqual(self.due("--write")[1], 1)
+        self.assertEqual(self.written(), ["beside", "high"])
+        self.assertEqual(self.due("--write")[:2], (["middle"], 1))
+        # Nor does one stay that was there, as on its day of five.
+        (self.top / "crates/middle/wrong/harmless.edit").unlink()
+        self.due("--write")
+        self.assertEqual(self.written(), ["beside", "high", "middle"])
+        with mock.patch.object(rounds, "try_crate", lambda root, name: ([], 0, 1)):
+            self.assertEqual(self.call("--write", "middle")[0], 1)
+        self.assertEqual(self.written(), ["beside", "high"])
+
+    def test_one_that_changes_while_it_is_tried(self):
+        def try_and_change(root, name):
+            self.write("crates/beside/src/lib.rt", "fn other() {}\n")
+            return self.try_crate(root, name)
+
+        with mock.patch.object(rounds, "try_crate", try_and_change):
+            self.assertEqual(self.call("--write", "beside")[0], 0)
+        self.assertEqual(self.written(), [])
+
+    def test_each_crate_has_a_day_of_five(self):
+        self.due("--write")
+        by_day = [self.due(day=day)[0] for day in range(20000, 20000 + ledger.DAYS)]
+        self.assertEqual(sorted(it for names in by_day for it in names), ["beside", "high", "middle"])
+        self.assertEqual(by_day, [self.due(day=day)[0] for day in range(20005, 20005 + ledger.DAYS)])
 
 
 if __name__ == "__main__":

@@ -1,0 +1,69 @@
+"""The crates of the repository, as crates.txt has them, and what the machine has for a run."""
+import os
+import re
+from pathlib import Path
+
+PARTS = ("src", "specs", "proofs")
+QUOTA = Path("/sys/fs/cgroup/cpu.max")
+
+
+def crates_below(root, text=None):
+    """What each crate stands on, as crates.txt has it, or this text of it: crates of the repository and libraries of the kit."""
+    text = (root / "crates.txt").read_text() if text is None else text
+    lines = [line.split("#")[0] for line in text.split("\n")]
+    return {line.split(":")[0].split()[0]: line.split(":")[1].split() for line in lines if ":" in line}
+
+
+def closure(below, names):
+    """These crates and the repository's crates below them, the lowest first."""
+    found = {}
+
+    def add(name):
+        if name not in found:
+            for lower in below[name]:
+                if lower in below:
+                    add(lower)
+            found[name] = None
+
+    for name in names:
+        add(name)
+    return list(found)
+
+
+def and_above(below, names):
+    """These crates and those above them, in the order of crates.txt."""
+    return [it for it in below if not set(closure(below, [it])).isdisjoint(names)]
+
+
+def files_of(root, name, parts=PARTS):
+    """The files of a crate in these folders of it, in order."""
+    folder = root / "crates" / name
+    return sorted((it for part in parts for it in (folder / part).rglob("*") if it.is_file()), key=lambda it: it.relative_to(folder).as_posix())
+
+
+def is_library_old(root, below, name):
+    """Whether the library of a crate is not there, or was put there before something that it is made of: the folder that it is counts,
+    since its files may be second names of older ones."""
+    library = root / "crates" / name / "out" / "rlib" / f"{name}.rlib"
+    if not (library / "format").is_file():
+        return True
+    made = library.stat().st_mtime_ns
+    parts = (root / "crates" / lower / part for lower in closure(below, [name]) for part in PARTS)
+    return any(it.stat().st_mtime_ns > made for part in parts if part.is_dir() for it in (part, *part.rglob("*")))
+
+
+def lines_of(root, name):
+    """How many lines of source, definitions and proofs a crate has."""
+    return sum(path.read_bytes().count(b"\n") for path in files_of(root, name))
+
+
+def processors():
+    """How many processors there are to use: those that this process may run on, or fewer by the quota of its group."""
+    quota = re.match(r"(\d+) (\d+)", QUOTA.read_text()) if QUOTA.is_file() else None
+    allowed = len(os.sched_getaffinity(0))
+    return max(1, min(allowed, int(quota[1]) // int(quota[2]))) if quota else allowed
+
+
+def free_memory():
+    """The memory that is free, in octets."""
+    return 1024 * int(re.search(r"MemAvailable: +(\d+)", Path("/proc/meminfo").read_text())[1])
