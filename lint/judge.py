@@ -187,7 +187,7 @@ def question(root, name, only):
     ours = closure(below, [name])[:-1]
     old = [it for it in ours if is_library_old(root, below, it)]
     if old:
-        raise Unusable(f"{' '.join(old)} is not built as it stands: run rt check in crates/{name} first")
+        raise Unusable(f"{' '.join(old)} is not built as it stands: flock seamless python3 -B lint/build.py --below {name}")
     library = {it: root / "crates" / it / "out" / "rlib" / f"{it}.rlib" for it in ours}
     library |= {it: at / "rlibs" / f"{it}.rlib" for it in ("std", *below[name]) if it not in below}
     root_file = next(it for it in ("src/lib.rt", "src/main.rt") if (root / "crates" / name / it).is_file())

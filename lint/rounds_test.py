@@ -155,7 +155,7 @@ class Rounds(Workspace):
         self.write("crates/low/src/lib.rt", "//! Nothing.\n")
         said, status, _, whole = self.tried({"steps_twice": WRONG["steps_twice"]})
         self.assertEqual((said, status), ({"steps_twice": "NOT TRIED"}, 1), whole)
-        self.assertIn("low is not built as it stands: run rt check in crates/small first", whole)
+        self.assertIn("low is not built as it stands: flock seamless python3 -B lint/build.py --below small", whole)
 
     def test_once_as_a_whole_line(self):
         text = "    let a = self.n;\n    self.n\n    self.n = 2;\n"
