@@ -12,8 +12,8 @@ use Rattle.sr_dup_runs.specs.TableRuns as run
 use Rattle.sr_dup_runs.specs.Starts.{stood, IsStart}
 use Rattle.sr_dup_runs.specs.EpochLemmas.{noted_epoch}
 
--- How a table came about: with nothing; with what stood in a table at a time, whose 16 bits of each greatest number stand for a whole one; by
--- one more arrival, by ageing at a time, or of two that were merged at a time.
+-- How a table came about: with nothing; with what stood in a table at a time, where `top` says for which whole number the 16 bits of each
+-- greatest one stand; by one more arrival, by ageing at a time, or of two that were merged at a time.
 pub data Growth : Type 0 where
   empty : Growth
   started : (from : ℕ) (top : Mac → ℤ) (start : Sources) → Growth

@@ -44,7 +44,8 @@ HandsUpOnce t =
     (ws : List HostSend) × Zip (IsOfSend turns) ps ws × AreUnlike ws
 
 -- Where nothing is dropped or cut besides, and nothing is in flight: each frame that a host sent is handed up exactly once at each other
--- node for which it is meant, supervision apart, and nothing else is: each parcel is what the host of another node sent to it or to a group.
+-- node for which it is meant, supervision apart, and nothing else is: each parcel is what the host of another node sent to this one or to
+-- a group.
 abbrev pub HandsUpEachOnce : Topology → Type 0
 HandsUpEachOnce t =
     (starts : List Start) (turns : List Turn) (s : Plant) → PlantRun t starts turns s → HaveOwnAddresses starts →
