@@ -154,6 +154,31 @@ def floods(costs, failed):
     same("sources that come and go", *[costs.run(node("danp"), it) for it in come], failed, allowed=5000)
 
 
+def periodic(sources, lines):
+    """So many lines: each source is heard once in 410 ms, a little more seldom than it is forgotten, with a tick each 10 ms."""
+    made, last, frame = [], 0, 0
+    while len(made) < lines:
+        time = frame * 410 // sources
+        if time // 10 > last:
+            last = time // 10
+            made.append(f"tick {time}\n")
+        number = frame // sources % 65536
+        made.append(f"in A {time} {OWN}{0x020000000100 + frame % sources:012x}0800{0:092d}{number:04x}a03488fb\n")
+        frame += 1
+    return "".join(made).encode()
+
+
+def sources_that_return(costs, failed):
+    """Sources that come back: one costs the same among many as among few, and where all fall silent none takes an allocation."""
+    few, many = (costs.run(node("danp"), periodic(sources, 200_000)).seconds for sources in (100, 1000))
+    if many > 2 * max(few, 0.02):
+        failed.append(f"{few:.2f} s with 100 sources, {many:.2f} s with 1000")
+    once, again = (b"".join(f"tick {1000 * at}\n".encode() + "".join(
+        trailed(0x020000000100 + source, at, 1000 * at) for source in range(400)).encode() for at in range(end)) for end in (4, 8))
+    # Each life check is written into a list of its own.
+    same("sources that were all silent", costs.run(node("danp"), once), costs.run(node("danp"), again), failed, allowed=20)
+
+
 def networks(costs, failed):
     """Frames that have gone round a network leave nothing; a copy in flight takes little more than its octets."""
     ring = ["ring", "--nodes", "3"]
@@ -219,7 +244,7 @@ def most_of_tests(costs, failed):
             failed.append(f"{crate}::{test} holds {octets} octets, and {most} are enough")
 
 
-ROWS = (known_sources, one_more_source, forwarded, host, floods, networks, captures, not_gone_over, together, most_of_tests)
+ROWS = (known_sources, one_more_source, forwarded, host, floods, sources_that_return, networks, captures, not_gone_over, together, most_of_tests)
 
 
 def main(program, tests=None):

@@ -16,12 +16,11 @@ use sr_slots::{Hint, Iter, Keys, Slots};
 use std::alloc::Global;
 use std::marker::Model;
 
-/// Where a table is aged, empty places go once those before a value are this part of `MOST` (choice of this project).
-const PART_AT_AGE: usize = 32;
+/// No more empty places stand before a value than this part of `MOST` (choice of this project).
+const PART_OF_MOST: usize = 8;
 
-/// Before a newcomer, empty places go once those before a value are this part of `MOST`, or once there are more places than `MOST` by
-/// it (choice of this project).
-const PART_BEFORE_NEWCOMER: usize = 8;
+/// Nor more than half as many as there are values, and this many (choice of this project).
+const FEW_GAPS: usize = 16;
 
 /// At most `MOST` values by address, in the order of first hearing, each with the time when its address was last heard, in
 /// milliseconds. A value whose address was silent for `SPAN` is forgotten: it stands in the table until `age`, or until a
@@ -47,16 +46,22 @@ impl<V: Drop, const SPAN: u64, const MOST: usize> Model for AgedSlots<V, SPAN, M
     ghost invariant = { λ t. IsBounded SPAN MOST t.slots.entries t.oldest t.is_exact };
 }
 
-// Takes the forgotten values out, and answers the oldest time of those that are left. Held places stay. The empty ones go where
-// `least` or more stand before a value, since an address that comes back to such a place moves all up to the last value.
-fn forget<V: Drop>(slots: &mut Slots<Aged<V>>, span: u64, least: usize, now: u64) -> u64
+// How many empty places may stand before a value where there are so many values. A sweep goes over all places: so it comes only once it
+// takes out its part of them, and what comes and goes costs no more in a large table than in a small one.
+fn gaps_left(values: usize, most: usize) -> usize {
+    (values / 2 + FEW_GAPS).min(most / PART_OF_MOST)
+}
+
+// Takes the forgotten values out, and answers the oldest time of those that are left. Held places stay. The empty ones go where too many
+// stand before a value.
+fn forget<V: Drop>(slots: &mut Slots<Aged<V>>, span: u64, most: usize, now: u64) -> u64
     requires { 0 < span }
     ensures entries { slots.new.entries ≡ live_at span now slots.old.entries }
     ensures held { slots.new.held ≡ slots.old.held }
     ensures oldest { result ≡ oldest_of slots.new.entries }
 {
     let oldest = slots.sift(now.saturating_sub(span - 1));
-    slots.sweep(least, usize::MAX);
+    slots.sweep(gaps_left(slots.len(), most), usize::MAX);
     oldest
 }
 
@@ -65,8 +70,9 @@ impl<V: Drop, const SPAN: u64, const MOST: usize> AgedSlots<V, SPAN, MOST> {
     fn sweep(&mut self)
         ensures { self.new ≡ self.old }
     {
-        let least = MOST / PART_BEFORE_NEWCOMER;
-        self.slots.sweep(least, MOST.saturating_add(least));
+        let least = gaps_left(self.slots.len(), MOST);
+        let most = MOST.saturating_add(MOST / PART_OF_MOST);
+        self.slots.sweep(least, most);
     }
 
     /// A table of no value under fixed keys, which takes no memory yet. `SPAN` is above 0.
@@ -124,7 +130,7 @@ impl<V: Drop, const SPAN: u64, const MOST: usize> AgedSlots<V, SPAN, MOST> {
         self.slots.reserve(more)
     }
 
-    /// Holds a place for an address, so that `append` of it takes no memory. Nothing else sees the place.
+    /// Holds a place for an address, so that `append` of it needs no memory. Nothing else sees the place.
     /// NoMemory: memory ran out, and nothing changes.
     pub fn hold(&mut self, key: Mac) -> Result<(), NoMemory>
         ensures entries { self.new.entries ≡ self.old.entries }
@@ -231,7 +237,7 @@ impl<V: Drop, const SPAN: u64, const MOST: usize> AgedSlots<V, SPAN, MOST> {
     }
 
     /// Adds a value for an address that has none, in a table with room for one more. It goes last. The forgotten values of a
-    /// table of `MOST` go first. Where a place is held for the address, it uses that, and takes no memory.
+    /// table of `MOST` go first. Where a place is held for the address, it uses that, and needs no memory.
     /// NoMemory: memory ran out, and nothing changes.
     pub fn append(&mut self, key: Mac, value: V, now: u64) -> Result<(), NoMemory>
         requires absent { value_at self.old key ≡ None }
@@ -247,7 +253,7 @@ impl<V: Drop, const SPAN: u64, const MOST: usize> AgedSlots<V, SPAN, MOST> {
         let is_crowded = self.slots.len() >= MOST;
         self.slots.append(key, Aged { value, time: now })?;
         if is_crowded {
-            self.oldest = forget(&mut self.slots, SPAN, MOST / PART_BEFORE_NEWCOMER, now);
+            self.oldest = forget(&mut self.slots, SPAN, MOST, now);
             self.is_exact = true;
         } else {
             self.oldest = self.oldest.min(now);
@@ -304,7 +310,7 @@ impl<V: Drop, const SPAN: u64, const MOST: usize> AgedSlots<V, SPAN, MOST> {
             return 0;
         }
         let before = self.slots.len();
-        self.oldest = forget(&mut self.slots, SPAN, MOST / PART_AT_AGE, now);
+        self.oldest = forget(&mut self.slots, SPAN, MOST, now);
         self.is_exact = true;
         before - self.slots.len()
     }

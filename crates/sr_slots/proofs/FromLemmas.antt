@@ -1,5 +1,5 @@
 -- What the places from an index on show, through the map's calls.
-use Rattle.std.proofs.Common.{◌≡◌, ℕ, zero, suc, ◌-◌, Bool, true, false, cond, List, [], ◌∷◌, ◌++◌, length, Option, None, Some, is_some, refl, sym, ap, ◌∙◌, append-nil, arith}
+use Rattle.std.proofs.Common.{◌≡◌, ℕ, zero, suc, ◌-◌, Bool, true, false, cond, List, [], ◌∷◌, ◌++◌, length, drop, Option, None, Some, is_some, refl, sym, ap, ◌∙◌, append-nil, arith}
 use Rattle.std.specs.List.{slice_get}
 use Rattle.std.specs.Map.{lookup, set_value}
 use Rattle.std.specs.Prelude.{option_to_list, IfSome}
@@ -10,7 +10,7 @@ use Rattle.sr_frame.specs.declared.fields.Mac.{Mac}
 use Rattle.sr_frame.specs.Addresses.{mac_eq}
 use Rattle.indexmap.specs.IndexMap.{insert_entry}
 use Rattle.sr_slots.specs.declared.places.Slot.{Slot}
-use Rattle.sr_slots.specs.Places.{entries_of, entries_from, slot_of, IsLast}
+use Rattle.sr_slots.specs.Places.{entry_at, entries_of, entries_from, slot_of, IsLast}
 use Rattle.sr_slots.proofs.PlaceLemmas.{value_in, entries-append, entries-set, entries-set_same, insert-there, insert-absent, item_at}
 
 module _ {V : Type 0} where
@@ -32,6 +32,22 @@ module _ {V : Type 0} where
   from_last zero es e h = entries-append es (e ∷ []) ∙ ap (λ l. entries_of es ++ l) h ∙ append-nil (entries_of es)
   from_last (suc n) [] e h = ap entries_of (drop_all n [] (omega arith))
   from_last (suc n) (x ∷ es) e h = from_last n es e h
+
+  -- what shows nothing shows nothing from an index on
+  none_from_on : (n : ℕ) (es : List (Mac × Slot V)) → entries_of es ≡ [] → entries_of (drop n es) ≡ []
+  none_from_on zero es h = h
+  none_from_on (suc n) [] h = ap entries_of (drop_all (suc n) [] (omega arith))
+  none_from_on (suc n) (e ∷ es) h = none_from_on n es (second (entry_at e.0 e.1.value) (entries_of es) h)
+    where
+      second : (xs ys : List (Mac × V)) → xs ++ ys ≡ [] → ys ≡ []
+      second [] ys h = h
+      second (x ∷ xs) ys h = cc
+
+  -- any empty places at the end
+  pub from_gap : (n : ℕ) (es gap : List (Mac × Slot V)) → entries_of gap ≡ [] → entries_from n (es ++ gap) ≡ entries_from n es
+  from_gap zero es gap h = entries-append es gap ∙ ap (λ l. entries_of es ++ l) h ∙ append-nil (entries_of es)
+  from_gap (suc n) [] gap h = none_from_on (suc n) gap h ∙ sym (ap entries_of (drop_all (suc n) [] (omega arith)))
+  from_gap (suc n) (x ∷ es) gap h = from_gap n es gap h
 
   -- holding a place
   pub from-held : (m : Mac) (s w : Slot V) (es new : List (Mac × Slot V)) (n : ℕ) → lookup (mac_eq m) es ≡ Some s → w ≡ slot_of s.value true → new ≡ set_value (mac_eq m) es w → entries_from n new ≡ entries_from n es

@@ -11,14 +11,14 @@ use Rattle.sr_frame.specs.declared.fields.Mac.{Mac}
 use Rattle.sr_frame.specs.Addresses.{mac_eq}
 use Rattle.sr_slots.specs.declared.places.Slot.{Slot}
 use Rattle.sr_slots.specs.Places.{entry_at, held_at, entries_of, held_of, slot_of, entries_from}
-use Rattle.sr_slots.specs.Effects.{GetsPlace, Settles, PutsLast}
+use Rattle.sr_slots.specs.Effects.{AddsGap, GetsPlace, Settles, PutsLast}
 use Rattle.sr_slots.specs.EntryLemmas.{one_if, head_differs}
 use Rattle.sr_slots.proofs.PlaceLemmas.{entries-append, held-append, item_at, without_item, split, place, insert-absent, added_entries, added_held, any_held, length-held_at, held_absent, found_value, absent_after_split}
 use Rattle.sr_slots.proofs.SiftLemmas.{value_there, write_there}
 use Rattle.sr_frame.specs.AddressLemmas.{mac_refl, mac_symm}
 use Rattle.std.proofs.lemmas.Bool.{cases_lt}
 use Rattle.sr_slots.proofs.IndexLemmas.{position_is}
-use Rattle.sr_slots.proofs.FromLemmas.{from_last}
+use Rattle.sr_slots.proofs.FromLemmas.{from_last, from_gap}
 
 module _ {X : Type 0} where
   -- two items in each other's place
@@ -40,6 +40,27 @@ module _ {X : Type 0} where
       → swap (front ++ b ∷ (mid ++ x ∷ back)) i j ≡ front ++ x ∷ (mid ++ b ∷ back)
   swapped [] mid back b x i j i_is j_is = swapped_by [] mid back b x b i j i_is j_is
   swapped (f ∷ front) mid back b x i j i_is j_is = swapped_by (f ∷ front) mid back b x f i j i_is j_is
+
+  exchanged_by : (front mid back : List X) (b x d : X) (j i : ℕ) → j ≡ length front → i ≡ length (front ++ b ∷ mid)
+      → set (set (front ++ b ∷ (mid ++ x ∷ back)) j (get_or (front ++ b ∷ (mid ++ x ∷ back)) i d)) i (get_or (front ++ b ∷ (mid ++ x ∷ back)) j d)
+      ≡ front ++ x ∷ (mid ++ b ∷ back)
+  exchanged_by front mid back b x d j i j_is i_is =
+      let l = front ++ b ∷ (mid ++ x ∷ back) in
+      let l_is : l ≡ (front ++ b ∷ mid) ++ x ∷ back = sym (append_assoc front (b ∷ mid) (x ∷ back)) in
+      let first : get_or l j d ≡ b = ap (λ k. get_or l k d) j_is ∙ get_or-append_seam front b (mid ++ x ∷ back) d in
+      let second : get_or l i d ≡ x = (λ k. get_or (l_is k) (i_is k) d) ∙ get_or-append_seam (front ++ b ∷ mid) x back d in
+      let one : set l j x ≡ (front ++ x ∷ mid) ++ x ∷ back =
+      (λ k. set l (j_is k) x) ∙ set-append_seam front b (mid ++ x ∷ back) x ∙ sym (append_assoc front (x ∷ mid) (x ∷ back)) in
+      let i_there : i ≡ length (front ++ x ∷ mid) = omega (arith, i_is, length-append front (b ∷ mid), length-append front (x ∷ mid)) in
+      (λ k. set (set l j (second k)) i (first k))
+      ∙ (λ k. set (one k) (i_there k) b)
+      ∙ set-append_seam (front ++ x ∷ mid) x back b
+      ∙ append_assoc front (x ∷ mid) (b ∷ back)
+
+  exchanged : (front mid back : List X) (b x : X) (j i : ℕ) → j ≡ length front → i ≡ length (front ++ b ∷ mid)
+      → swap (front ++ b ∷ (mid ++ x ∷ back)) j i ≡ front ++ x ∷ (mid ++ b ∷ back)
+  exchanged [] mid back b x j i j_is i_is = exchanged_by [] mid back b x b j i j_is i_is
+  exchanged (f ∷ front) mid back b x j i j_is i_is = exchanged_by (f ∷ front) mid back b x f j i j_is i_is
 
   -- an item moved towards the end, to behind these
   moved_on : (front mid back : List X) (x : X) (from to : ℕ) → from ≡ length front → to ≡ length (front ++ mid)
@@ -200,7 +221,73 @@ module _ {V : Type 0} where
           held = λ m. any_turned m r.first (r.item ∷ []) r.rest back ∙ ap (λ l. list_any (mac_eq m) (held_of l)) whole;
         }
 
+    -- it stands before a value, and an empty place stands behind the values
+    pub settles_forth : index < end → end < length es → (new : List (Mac × Slot V)) → new ≡ swap es index end → Settles front place back new end
+    settles_forth before within new new_is =
+        let r = cut (end - 1 - index) back (omega (arith, at, before, within, ap length is, length-append front (place ∷ back))) in
+        let es_is : es ≡ front ++ place ∷ (r.first ++ r.item ∷ r.rest) = is ∙ ap (λ l. front ++ place ∷ l) r.is in
+        let ends : length (front ++ place ∷ r.first) ≡ end = omega (arith, before, length-append front (place ∷ r.first), r.at, at) in
+        let rest_is : drop end es ≡ r.item ∷ r.rest =
+        ap (drop end) (es_is ∙ sym (append_assoc front (place ∷ r.first) (r.item ∷ r.rest))) ∙ drop_there (front ++ place ∷ r.first) (r.item ∷ r.rest) end (sym ends) in
+        let h = empty_item r.item r.rest (ap entries_of (sym rest_is) ∙ behind) in
+        let one = r.item ∷ [] in
+        let whole : front ++ (r.first ++ (one ++ r.rest)) ≡ front ++ back = ap (λ l. front ++ l) (sym r.is) in
+        let turned : entries_of ((front ++ (one ++ r.first)) ++ r.rest) ≡ entries_of (front ++ (r.first ++ (one ++ r.rest))) =
+        entries-append (front ++ (one ++ r.first)) r.rest
+        ∙ (λ k. (entries-append front (one ++ r.first) k) ++ entries_of r.rest)
+        ∙ (λ k. (entries_of front ++ entries-append one r.first k) ++ entries_of r.rest)
+        ∙ (λ k. (entries_of front ++ (h.0 k ++ entries_of r.first)) ++ entries_of r.rest)
+        ∙ append_assoc (entries_of front) (entries_of r.first) (entries_of r.rest)
+        ∙ (λ k. entries_of front ++ (entries_of r.first ++ (sym h.0 k ++ entries_of r.rest)))
+        ∙ (λ k. entries_of front ++ (entries_of r.first ++ sym (entries-append one r.rest) k))
+        ∙ (λ k. entries_of front ++ sym (entries-append r.first (one ++ r.rest)) k)
+        ∙ sym (entries-append front (r.first ++ (one ++ r.rest))) in
+        record {
+          before = front ++ (one ++ r.first);
+          behind = r.rest;
+          is = new_is ∙ ap (λ l. swap l index end) es_is ∙ exchanged front r.first r.rest place r.item index end (sym at) (sym ends)
+              ∙ sym (append_assoc front (one ++ r.first) (place ∷ r.rest));
+          at_is = omega (arith, before, length-append front (one ++ r.first), r.at, at);
+          entries = shown_alone (front ++ (one ++ r.first)) r.rest h.1 ∙ turned ∙ ap entries_of whole;
+          empty = h.1;
+          len = sym (length_turned front one r.first r.rest) ∙ ap (λ l. length (held_of l)) whole;
+          held = λ m. sym (any_turned m front one r.first r.rest) ∙ ap (λ l. list_any (mac_eq m) (held_of l)) whole;
+        }
+
+    -- it stands elsewhere than where the values end, and an empty place is there
+    pub settles_elsewhere : (index ≡ end → false ≡ true) → end < length es → (new : List (Mac × Slot V)) → new ≡ swap es index end → Settles front place back new end
+    settles_elsewhere apart within new new_is = by (cases_lt index end)
+      where
+        by : (index < end) ⊎ (end ≤ index) → Settles front place back new end
+        by (inl before) = settles_forth before within new new_is
+        by (inr behind) = by_lt (cases_lt end index)
+          where
+            by_lt : (end < index) ⊎ (index ≤ end) → Settles front place back new end
+            by_lt (inl after) = settles_back after new new_is
+            by_lt (inr before) = let bad : false ≡ true = apart (omega (arith, behind, before)) in cc
+
 module _ {V : Type 0} where
+  -- the place of an address is where it was when gaps come behind all
+  pub place_kept : (m : Mac) (es mid new : List (Mac × Slot V)) (i : ℕ) → GetsPlace m es mid i → AddsGap mid new → GetsPlace m es new i
+  place_kept m es mid new i p g = record {
+    front = p.front;
+    slot = p.slot;
+    back = p.back ++ g.gap;
+    is = g.is ∙ ap (λ l. l ++ g.gap) p.is ∙ append_assoc p.front ((m, p.slot) ∷ p.back) g.gap;
+    at = p.at;
+    entries = ap entries_of g.is ∙ sym (shown_alone mid g.gap g.entries) ∙ p.entries;
+    held = ap held_of g.is ∙ held-append mid g.gap ∙ ap (λ l. held_of mid ++ l) g.held ∙ append-nil (held_of mid) ∙ p.held;
+    from = λ n. ap (entries_from n) g.is ∙ from_gap n mid g.gap g.entries ∙ p.from n;
+    longer = omega (arith, p.longer, ap length g.is, length-append mid g.gap);
+  }
+
+  -- no gap, or one
+  pub no_gap : (es : List (Mac × Slot V)) → AddsGap es es
+  no_gap es = record { gap = []; is = sym (append-nil es); entries = refl; held = refl }
+
+  pub one_gap : (m : Mac) (es new : List (Mac × Slot V)) → lookup (mac_eq m) es ≡ None → new ≡ insert_entry mac_eq es m (slot_of None false) → AddsGap es new
+  one_gap m es new absent is = record { gap = (m, slot_of None false) ∷ []; is = is ∙ insert-absent m (slot_of None false) es absent; entries = refl; held = refl }
+
   -- the place of an address that was found at an index
   place_at : (m : Mac) (s : Slot V) (es : List (Mac × Slot V)) (i : ℕ) → slice_get es i ≡ Some (m, s) → GetsPlace m es es i
   place_at m s [] i h = cc

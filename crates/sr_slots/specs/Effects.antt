@@ -58,3 +58,10 @@ pub record GetsPlace {V : Type 0} (key : Mac) (old new : List (Mac × Slot V)) (
   pub held : held_of new ≡ held_of old
   pub from : (n : ℕ) → entries_from n new ≡ entries_from n old
   pub longer : length old ≤ length new
+
+-- places that show nothing may have come behind all
+pub record AddsGap {V : Type 0} (old new : List (Mac × Slot V)) : Type 0 where
+  pub gap : List (Mac × Slot V)
+  pub is : new ≡ old ++ gap
+  pub entries : entries_of gap ≡ []
+  pub held : held_of gap ≡ []

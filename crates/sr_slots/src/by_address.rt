@@ -25,7 +25,8 @@ pub struct Hint {
 }
 
 /// Values by address, in the order in which the addresses came. A place can be held for an address that has no value yet. What goes
-/// leaves an empty place, until the address comes back or `sweep` is called.
+/// leaves its place empty. When its address comes back that place becomes the last, and an empty one of nobody's stands where it was,
+/// until `sweep` is called.
 #[derive(Drop)]
 pub struct Slots<V: Drop + Ranked> {
     map: IndexMap<Mac, Slot<V>, Keys>,
@@ -34,6 +35,8 @@ pub struct Slots<V: Drop + Ranked> {
     held: usize,
     // No place from this index on has a value.
     end: usize,
+    // How many gaps were added for places that moved to the end.
+    drawn: u64,
 }
 
 impl<V: Drop + Ranked> Model for Slots<V> {
@@ -66,11 +69,12 @@ impl<V: Drop + Ranked> Slots<V> {
         ensures held { result.held ≡ [] }
     {
         Slots {
-            map: IndexMap::with_hasher(alloc, keys),
+            map: places::empty(alloc, keys),
             alloc,
             count: 0,
             held: 0,
             end: 0,
+            drawn: 0,
         }
     }
 
@@ -152,7 +156,8 @@ impl<V: Drop + Ranked> Slots<V> {
         Some(answer)
     }
 
-    /// Adds an address that has no value. It goes last. Where a place is held for it, it uses that, and takes no memory.
+    /// Adds an address that has no value. It goes last, at one cost wherever its place was. Where a place is held for it, it uses that,
+    /// and needs no memory.
     pub fn append(&mut self, key: Mac, value: V) -> Result<(), NoMemory>
         requires { value_at self.old key ≡ None }
         ensures entries { OnOk result (self.new.entries ≡ self.old.entries ++ (key, value) ∷ []) }
@@ -161,7 +166,14 @@ impl<V: Drop + Ranked> Slots<V> {
         ensures reserved { is_held self.old key ≡ true → IsOk result }
         ensures err { OnErr result (self.new ≡ self.old) }
     {
-        let put = putting::put_last(&mut self.map, self.alloc, self.end, key, value)?;
+        let put = putting::put_last(
+            &mut self.map,
+            self.alloc,
+            self.end,
+            key,
+            value,
+            &mut self.drawn,
+        )?;
         if put.was_held {
             self.held -= 1;
         }
@@ -177,7 +189,7 @@ impl<V: Drop + Ranked> Slots<V> {
         places::reserve(&mut self.map, more)
     }
 
-    /// Holds a place for an address, so that `append` of it takes no memory.
+    /// Holds a place for an address, so that `append` of it needs no memory.
     pub fn hold(&mut self, key: Mac) -> Result<(), NoMemory>
         ensures entries { self.new.entries ≡ self.old.entries }
         ensures held { OnOk result (is_held self.new key ≡ true) }
@@ -332,14 +344,6 @@ impl<V: Drop + Ranked> Slots<V> {
             sifting::sweep(&mut self.map);
             self.end = self.map.len();
         }
-    }
-}
-
-#[cfg(test)]
-impl<V: Drop + Ranked> Slots<V> {
-    /// The map behind the table, which a test looks at for what no answer tells.
-    pub(crate) fn map(&self) -> &IndexMap<Mac, Slot<V>, Keys> {
-        &self.map
     }
 }
 

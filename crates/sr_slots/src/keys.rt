@@ -1,6 +1,6 @@
 //! The secret that places addresses in a table.
 ghost use Rattle.std.specs.Prelude.{fold, ◌≡◌, ◌*◌, ◌+◌, ◌%◌, ◌/◌, ◌^◌};
-ghost use Rattle.sr_slots.specs.Keyed.{spread};
+ghost use Rattle.sr_slots.specs.Keyed.{keys_in, spread};
 
 use std::hash::{BuildHasher, Hasher};
 use std::random::RandomSource;
@@ -17,14 +17,28 @@ pub struct Keys {
 impl Keys {
     /// Keys from the random source of the system. An error: it gave none.
     pub fn new(rt: &impl RandomSource) -> io::Result<Keys> {
-        let mut factor = [0; 16];
-        let mut addend = [0; 16];
-        rt.fill_bytes(&mut factor)?;
-        rt.fill_bytes(&mut addend)?;
-        Ok(Keys {
-            factor: u128::from_le_bytes(factor),
-            addend: u128::from_le_bytes(addend),
-        })
+        let mut octets = [0; 32];
+        rt.fill_bytes(&mut octets)?;
+        Ok(Keys::of(octets))
+    }
+
+    /// Keys from 32 octets that the caller has drawn: the first 16 are the factor and the last 16 the addend, each with its least
+    /// octet first.
+    pub const fn of(octets: [u8; 32]) -> Keys
+        ensures { result ≡ keys_in octets }
+    {
+        Keys {
+            factor: u128::from_le_bytes([
+                octets[0], octets[1], octets[2], octets[3], octets[4], octets[5], octets[6],
+                octets[7], octets[8], octets[9], octets[10], octets[11], octets[12], octets[13],
+                octets[14], octets[15],
+            ]),
+            addend: u128::from_le_bytes([
+                octets[16], octets[17], octets[18], octets[19], octets[20], octets[21], octets[22],
+                octets[23], octets[24], octets[25], octets[26], octets[27], octets[28], octets[29],
+                octets[30], octets[31],
+            ]),
+        }
     }
 
     /// Keys that anyone can know: for tests, and where nobody chooses addresses.

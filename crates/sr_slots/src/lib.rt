@@ -15,6 +15,3 @@ pub use by_address::{Hint, Slots};
 pub use entries::Iter;
 pub use keys::{KeyedHasher, Keys};
 pub use ranked::Ranked;
-
-#[cfg(test)]
-mod tests;

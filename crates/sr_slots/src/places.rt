@@ -1,6 +1,8 @@
-//! The map behind a table. A held place is an entry that may have no value.
+//! The map behind a table. A place is an entry that may have no value: that of an address that went, one that is held, or a gap, which is
+//! nobody's.
 ghost use Rattle.std.specs.Prelude.{◌≡◌, ◌+◌, ◌&&◌, [], ℕ, None, Some, true, false, not, is_some, length, slice_get, IfSome, IfNone};
 ghost use Rattle.std.specs.Map.{lookup};
+ghost use Rattle.indexmap.specs.IndexMap.{hasher_of};
 ghost use Rattle.std.specs.Fn.{FnOnceReturnsAtMut};
 ghost use Rattle.std.specs.Option.{option_copied, option_map};
 ghost use Rattle.sr_frame.specs.Addresses.{mac_eq};
@@ -12,12 +14,21 @@ use crate::keys::Keys;
 use crate::ranked::Ranked;
 use indexmap::IndexMap;
 use sr_frame::{Mac, NoMemory};
+use std::alloc::Global;
 
 /// A place: its value, if there is one, and whether it is held.
 #[derive(Drop)]
 pub struct Slot<V: Drop + Ranked> {
     pub value: Cell<V>,
     pub held: bool,
+}
+
+/// No places, under these keys.
+pub fn empty<V: Drop + Ranked>(alloc: Global, keys: Keys) -> IndexMap<Mac, Slot<V>, Keys>
+    ensures entries { result.entries ≡ [] }
+    ensures keys { hasher_of result ≡ keys }
+{
+    IndexMap::with_hasher(alloc, keys)
 }
 
 /// The value at an address.

@@ -8,7 +8,7 @@ use std::alloc::Global;
 /// How long an address is remembered here.
 const SPAN: u64 = 40;
 
-/// How many addresses can be. Where the table is aged, two empty places are enough to go; before a newcomer, eight.
+/// How many addresses can be. Eight empty places before a value are enough to go, where the table is aged and before a newcomer.
 const MOST: usize = 64;
 
 type Small = AgedSlots<u32, SPAN, MOST>;
@@ -34,13 +34,13 @@ struct Case {
 
 const CASES: [Case; 6] = [
     Case {
-        forgotten: 1,
+        forgotten: 7,
         live: 8,
         is_aged: true,
         is_swept: false,
     },
     Case {
-        forgotten: 2,
+        forgotten: 8,
         live: 8,
         is_aged: true,
         is_swept: true,
