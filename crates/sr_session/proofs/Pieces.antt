@@ -1,5 +1,5 @@
 -- A line taken piece by piece.
-use Rattle.std.proofs.Common.{◌≡◌, ℕ, ◌<◌, ◌≤◌, List, [], ◌∷◌, ◌++◌, length, Option, Some, None, Bool, true, false, not, eqb, sym, ap, refl, subst, ◌∙◌, arith, append_assoc}
+use Rattle.std.proofs.Common.{◌≡◌, ℕ, ◌<◌, ◌≤◌, List, [], ◌∷◌, ◌++◌, length, take, Option, Some, None, Bool, true, false, not, eqb, sym, ap, refl, subst, ◌∙◌, arith, append_assoc}
 use Rattle.std.specs.Io.KnownBytes.{Consumes, IsAtEnd, Keeps}
 use Rattle.std.specs.Prelude.{IfSome, OnSome}
 use Rattle.std.proofs.lemmas.Bool.{ne_eqb, eqb-true, eqb-false, not-true, not-false}
@@ -94,13 +94,14 @@ ends_at_end line more flag old mid new h t p is =
 -- octets without LF in front make the first line that much longer
 abbrev LongerBy : List ℕ → List (List ℕ) → Type 0
 LongerBy line all = (first : List ℕ) × (rest : List (List ℕ)) × (all ≡ first ∷ rest) × (length line ≤ length first)
+    × (take (length line) first ≡ line)
 
 longer : (b : ℕ) (line : List ℕ) (all : List (List ℕ)) → LongerBy line all → LongerBy (b ∷ line) (before_first_line b all)
-longer b line all h = (b ∷ h.0, h.1, ap (before_first_line b) h.2, omega (arith, h.3))
+longer b line all h = (b ∷ h.0, h.1, ap (before_first_line b) h.2, omega (arith, h.3), ap (λ (l : List ℕ). b ∷ l) h.4)
 
 longer_one : (b : ℕ) (all : List (List ℕ)) → LongerBy (b ∷ []) (before_first_line b all)
-longer_one b [] = (b ∷ [], [], refl, omega arith)
-longer_one b (first ∷ rest) = (b ∷ first, rest, refl, omega arith)
+longer_one b [] = (b ∷ [], [], refl, omega arith, refl)
+longer_one b (first ∷ rest) = (b ∷ first, rest, refl, omega arith, refl)
 
 lines_longer : (b : ℕ) (line ys : List ℕ) → Lacks 10 (b ∷ line) → LongerBy (b ∷ line) (lines_of (b ∷ line ++ ys))
 lines_longer b [] ys h =
@@ -110,11 +111,11 @@ lines_longer b (c ∷ cs) ys h =
     let no : eqb b 10 ≡ false = ne_eqb b 10 h.0 in
     rw no (longer b (c ∷ cs) (lines_of (c ∷ cs ++ ys)) (lines_longer c cs ys h.1))
 
--- more than 8000 octets were taken, and no LF
-pub BeginsLong-taken : (line : List ℕ) (old mid : Option (List ℕ)) → Lacks 10 line → 8000 < length line → Took line old mid → IfSome old BeginsLong
+-- 8001 octets were taken, and no LF
+pub BeginsLong-taken : (line : List ℕ) (old mid : Option (List ℕ)) → Lacks 10 line → length line ≡ 8001 → Took line old mid → IfSome old (BeginsLong line)
 BeginsLong-taken line None mid h long t = tt
 BeginsLong-taken line (Some xs) None h long t = absurd t
-BeginsLong-taken [] (Some xs) (Some ys) h long t = absurd (omega arith)
+BeginsLong-taken [] (Some xs) (Some ys) h long t = absurd (omega (arith, long))
 BeginsLong-taken (b ∷ line) (Some xs) (Some ys) h long t =
     let all = lines_longer b line ys h in
-    (all.0, all.1, ap lines_of t ∙ all.2, omega (arith, all.3))
+    (all.0, all.1, ap lines_of t ∙ all.2, omega (arith, long, all.3), subst (λ n. b ∷ line ≡ take n all.0) long (sym all.4))

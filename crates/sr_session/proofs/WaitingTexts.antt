@@ -357,14 +357,15 @@ begins_front octets at lines line h front =
     begins_more octets at (at + (length line + 1)) lines line h front.unbroken
     (front.parts ∙ ap (λ (l : List ℕ). line ++ 10 ∷ l) (drop-drop (length line + 1) at octets))
 
--- why the lines stop at a line
-pub front_stops : {S : Type 0} (d : Dialogue S) (u t : S) (octets : List ℕ) (n : ℕ) (w : FaultKind) → n ≤ 1000000 → FrontFails d u octets w → StopsSo d u n octets (Some w) t
-front_stops d u t octets n w count fails =
+-- why the lines stop at a line, which is kept
+pub front_stops : {S : Type 0} (d : Dialogue S) (u t : S) (octets kept : List ℕ) (n : ℕ) (w : FaultKind) → n ≤ 1000000 → FrontFails d u octets w
+    → ((front : List ℕ) → IsFrontLine octets front → kept ≡ front) → StopsSo d u n octets kept (Some w) t
+front_stops {S} d u t octets kept n w count fails is =
     let line = fails.1 in
     let at = fails.2 in
-    let behind = drop (length line + 1) octets in (
+    let behind = drop (length line + 1) octets in
+    subst (λ (l : List ℕ). StopsSo d u n octets l (Some w) t) (sym (is line at)) (
       fails.0,
-      line,
       record { count = count; short = at.short },
       λ more. (lines_of (behind ++ more), ap (λ (l : List ℕ). lines_of (l ++ more)) at.parts ∙ ap lines_of (append_assoc line (10 ∷ behind) more) ∙ lines_line line (behind ++ more) at.unbroken),
       fails.3,
@@ -376,7 +377,7 @@ front_stops d u t octets n w count fails =
 whole_of : (xs octets : List ℕ) → StartsWith xs octets → octets ++ drop (length octets) xs ≡ xs
 whole_of xs octets h = ap (λ (l : List ℕ). l ++ drop (length octets) xs) (sym h) ∙ take-append-drop (length octets) xs
 
-parted_front : (xs octets : List ℕ) (used : ℕ) (lines : List (List ℕ)) → StartsWith xs octets → BeginsWith octets used lines
+pub parted_front : (xs octets : List ℕ) (used : ℕ) (lines : List (List ℕ)) → StartsWith xs octets → BeginsWith octets used lines
     → lines_of xs ≡ lines ++ lines_of (drop used octets ++ drop (length octets) xs)
 parted_front xs octets used lines h whole = ap lines_of (sym (whole_of xs octets h)) ∙ whole (drop (length octets) xs)
 
@@ -429,19 +430,19 @@ stop_kept d u n w left rest held (inr (inl e)) = subst (λ (v : FaultKind). Held
 stop_kept d u n w left rest held (inr (inr none)) = absurd none
 
 -- the line behind those that were obeyed has a fault
-pub hand_stops : {S : Type 0} (d : Dialogue S) (s : S) (first : ℕ) (lines : List (List ℕ)) (text : List ℕ) (u t : S) (n : ℕ) (w : FaultKind) (left rest held now : Option (List ℕ))
+pub hand_stops : {S : Type 0} (d : Dialogue S) (s : S) (first : ℕ) (lines : List (List ℕ)) (text line : List ℕ) (u t : S) (n : ℕ) (w : FaultKind) (left rest held now : Option (List ℕ))
     (octets : List ℕ) (used : ℕ) → Replies d s first lines text u → n ≡ first + length lines → Appends held now text → BeginsWith octets used lines
-    → StopsSo d u n (drop used octets) (Some w) t → IfSome left (λ xs. StartsWith xs octets)
+    → StopsSo d u n (drop used octets) line (Some w) t → IfSome left (λ xs. StartsWith xs octets)
     → IfSome left (λ input. EndsFrom d s first (lines_of input) (record { line = n; kind = w }) rest held now)
-hand_stops d s first lines text u t n w None rest held now octets used replies next appends whole stops starts = tt
-hand_stops {S} d s first lines text u t n w (Some xs) rest held now octets used replies next appends whole stops starts =
+hand_stops d s first lines text line u t n w None rest held now octets used replies next appends whole stops starts = tt
+hand_stops {S} d s first lines text line u t n w (Some xs) rest held now octets used replies next appends whole stops starts =
     let f : Fault = record { line = n; kind = w } in
     let more = drop (length octets) xs in
-    let found = stops.3 more in
-    let parted : lines_of xs ≡ lines ++ stops.1 ∷ found.0 = parted_front xs octets used lines starts whole ∙ ap (λ (l : List (List ℕ)). lines ++ l) found.1 in
+    let found = stops.2 more in
+    let parted : lines_of xs ≡ lines ++ line ∷ found.0 = parted_front xs octets used lines starts whole ∙ ap (λ (l : List (List ℕ)). lines ++ l) found.1 in
     subst (λ (l : List (List ℕ)). EndsFrom d s first l f rest held now) (sym parted)
-    (ends_stop d s first lines (stops.1 ∷ found.0) text u f rest held now replies appends next (stop_kept d u n w (stops.1 ∷ found.0) rest now stops.0)
-    (stop_fault d u n stops.1 found.0 w rest stops.0 stops.2 stops.4 stops.5))
+    (ends_stop d s first lines (line ∷ found.0) text u f rest held now replies appends next (stop_kept d u n w (line ∷ found.0) rest now stops.0)
+    (stop_fault d u n line found.0 w rest stops.0 stops.1 stops.3 stops.4))
 
 -- ---- one line that was read
 
@@ -477,21 +478,21 @@ one_stops {S} d s n line w (Some xs) (Some ys) held took count short one bad mem
 
 -- the line was not read whole
 pub one_unread : {S : Type 0} (d : Dialogue S) (s : S) (n : ℕ) (w : FaultKind) (left rest held : Option (List ℕ)) → IsOneOf w (kind.Long ∷ kind.Read ∷ [])
-    → (w ≡ kind.Long → IfSome left BeginsLong) → (w ≡ kind.Read → TakesPart left rest)
+    → (front : List ℕ) → (w ≡ kind.Long → IfSome left (BeginsLong front)) → (w ≡ kind.Read → TakesPart left rest)
     → IfSome left (λ input. EndsFrom d s n (lines_of input) (record { line = n; kind = w }) rest held held)
-one_unread d s n w None rest held one long read = tt
-one_unread {S} d s n w (Some xs) rest held (inl e) long read =
+one_unread d s n w None rest held one front long read = tt
+one_unread {S} d s n w (Some xs) rest held (inl e) front long read =
     let begins = long e in
     let reason : HasFault d s n kind.Long (lines_of xs) rest = subst (λ (l : List (List ℕ)). HasFault d s n kind.Long l rest) (sym begins.2) (inr begins.3) in
     subst (λ (v : FaultKind). EndsFrom d s n (lines_of xs) (record { line = n; kind = v }) rest held held) (sym e)
     (ends_stop d s n [] (lines_of xs) [] s (record { line = n; kind = kind.Long }) rest held held (refl, refl) (Appends-nil held) (omega arith) (Keeps-refl held) reason)
-one_unread {S} d s n w (Some xs) None held (inr (inl e)) long read = absurd (read e).1
-one_unread {S} d s n w (Some xs) (Some ys) held (inr (inl e)) long read =
+one_unread {S} d s n w (Some xs) None held (inr (inl e)) front long read = absurd (read e).1
+one_unread {S} d s n w (Some xs) (Some ys) held (inr (inl e)) front long read =
     let part = read e in
     subst (λ (v : FaultKind). EndsFrom d s n (lines_of xs) (record { line = n; kind = v }) (Some ys) held held) (sym e)
     (ends_stop d s n [] (lines_of xs) [] s (record { line = n; kind = kind.Read }) (Some ys) held held (refl, refl) (Appends-nil held) (omega arith) (Keeps-refl held)
     (part.0, ap lines_of part.1, part.2, part.3))
-one_unread d s n w (Some xs) rest held (inr (inr none)) long read = absurd none
+one_unread d s n w (Some xs) rest held (inr (inr none)) front long read = absurd none
 
 pub waits_kept : {S : Type 0} (d : Dialogue S) (s t : S) (k place : ℕ) (lines : List (List ℕ)) (text later : List ℕ) (marks more : List Mark)
     → Waits d s k place lines text marks t → later ≡ text → more ≡ marks → Waits d s k place lines later more t

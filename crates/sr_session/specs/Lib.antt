@@ -4,6 +4,7 @@ pub mod OctetLemmas
 pub mod Lines
 pub mod FaultTexts
 pub mod Runs
+pub mod LeftLines
 pub mod RunLemmas
 pub mod Turns
 pub mod Fronts

@@ -18,6 +18,7 @@ use Rattle.std.specs.Prelude.{
   true,
   false,
   length,
+  take,
   ◌⊎◌,
   OnSome,
 }
@@ -38,9 +39,10 @@ abbrev pub lines_of : List ℕ → List (List ℕ)
 lines_of [] = []
 lines_of (b ∷ bs) = if b == 10 then [] ∷ lines_of bs else before_first_line b (lines_of bs)
 
--- the text's first line has too many octets
-abbrev pub BeginsLong : List ℕ → Type 0
-BeginsLong text = (line : List ℕ) × (lines : List (List ℕ)) × (lines_of text ≡ line ∷ lines) × (longest_line < length line)
+-- the text's first line has too many octets, and these are its first, one more than a line may have
+abbrev pub BeginsLong : List ℕ → List ℕ → Type 0
+BeginsLong front text = (line : List ℕ) × (lines : List (List ℕ)) × (lines_of text ≡ line ∷ lines) × (longest_line < length line)
+    × (front ≡ take (longest_line + 1) line)
 
 -- where the octets that a reader has left are known: what a read of a line took, and what it left
 abbrev pub TakesLine : Bool → List ℕ → Option (List ℕ) → Option (List ℕ) → Type 0

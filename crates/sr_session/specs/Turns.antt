@@ -51,16 +51,16 @@ TakesLines lines (Some xs) (Some ys) = lines_of xs ≡ lines ++ lines_of ys
 abbrev pub BeginsWith : List ℕ → ℕ → List (List ℕ) → Type 0
 BeginsWith octets at lines = (more : List ℕ) → lines_of (octets ++ more) ≡ lines ++ lines_of (drop at octets ++ more)
 
--- why no more lines are obeyed at the state u: the first line of the octets has this fault
-abbrev pub StopsSo : {S : Type 0} → Dialogue S → S → ℕ → List ℕ → Option FaultKind → S → Type 0
-StopsSo d u number octets None t = t ≡ u
-StopsSo d u number octets (Some w) t = IsOneOf w (kind.Line ∷ kind.Memory ∷ []) × (line : List ℕ) × HasPlace number line
+-- why no more lines are obeyed at the state u: this line, the first one of the octets, has this fault
+abbrev pub StopsSo : {S : Type 0} → Dialogue S → S → ℕ → List ℕ → List ℕ → Option FaultKind → S → Type 0
+StopsSo d u number octets line None t = t ≡ u
+StopsSo d u number octets line (Some w) t = IsOneOf w (kind.Line ∷ kind.Memory ∷ []) × HasPlace number line
     × ((more : List ℕ) → (rest : List (List ℕ)) × (lines_of (octets ++ more) ≡ line ∷ rest))
     × (w ≡ kind.Line → d.Knows u line → ⊥) × (w ≡ kind.Memory → d.Knows u line)
 
--- the front of the octets was obeyed, and its text waits
-pub record IsFront {S : Type 0} (d : Dialogue S) (s : S) (first : ℕ) (octets text : List ℕ) (marks : List Mark) (front : Front) (t : S) :
-    Type 0 where
+-- the front of the octets was obeyed, and its text waits; a line that ended it is left
+pub record IsFront {S : Type 0} (d : Dialogue S) (s : S) (first : ℕ) (octets text : List ℕ) (marks : List Mark) (line : List ℕ)
+    (front : Front) (t : S) : Type 0 where
   pub lines : List (List ℕ)
   pub reached : S
   pub whole : BeginsWith octets front.used lines
@@ -68,7 +68,7 @@ pub record IsFront {S : Type 0} (d : Dialogue S) (s : S) (first : ℕ) (octets t
   pub waits : Waits d s first 0 lines text marks reached
   pub next : front.next ≡ first + length lines
   pub count : front.next ≤ most_lines + 1
-  pub stops : StopsSo d reached front.next (drop front.used octets) front.fault t
+  pub stops : StopsSo d reached front.next (drop front.used octets) line front.fault t
 
 -- lines, of which the first has this number, were taken and answered, and n is the number behind them
 abbrev pub AreObeyed : {S : Type 0} → Dialogue S → S → ℕ → ℕ → Option (List ℕ) → Option (List ℕ) → Option (List ℕ) → Option (List ℕ) → S →

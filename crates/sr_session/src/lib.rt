@@ -9,6 +9,6 @@ mod waiting;
 
 pub use fault::{Fault, FaultKind, NOT_BEGUN};
 pub use lines::MAX_LINE;
-pub use running::run_session;
+pub use running::{run_session, run_session_leaving};
 pub use session::Session;
 pub use waiting::write_out;

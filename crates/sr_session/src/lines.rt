@@ -1,13 +1,13 @@
 //! Lines of a reader.
 
-ghost use Rattle.std.specs.Prelude.{◌≡◌, ◌≢◌, ◌≤◌, ◌<◌, ◌+◌, ◌++◌, ◌∷◌, [], length, take, IfOk, IfErr, OnErr, IfSome, MatchOption, vec_len, vec_capacity, true, false, Err};
+ghost use Rattle.std.specs.Prelude.{◌≡◌, ◌≢◌, ◌≤◌, ◌<◌, ◌+◌, ◌++◌, ◌∷◌, [], length, take, IfOk, IfErr, OnOk, OnErr, IfSome, MatchOption, vec_len, vec_capacity, true, false, Err};
 ghost use Rattle.std.specs.Io.KnownBytes.{IsAtEnd, Keeps};
 ghost use Rattle.sr_session.specs.Lines.{TakesLine, TakesPart, BeginsLong, TakesPiece, IsOneOf};
 ghost use Rattle.sr_session.specs.Octets.{IsPlaceOf};
 
 use crate::fault::FaultKind;
 use memchr::memchr;
-use std::alloc::{AllocError, Global};
+use std::alloc::AllocError;
 use std::io::BufRead;
 
 /// The most octets of a line, without the LF that ends it (choice of this project).
@@ -67,14 +67,14 @@ fn take_piece<R: BufRead>(reader: &mut R, line: &mut Vec<u8>) -> Result<Piece, F
 /// Reads a line into `line`, which has room for it, without the LF that ends it. False at the end of the input.
 ///
 /// # Errors
-/// `Long` for a line of more than 8000 octets, of which no more than 8001 are taken; `Read` where the
-/// reader fails.
+/// `Long` for a line of more than 8000 octets, of which 8001 are taken and are then in `line`; `Read` where the reader fails.
 pub(crate) fn next_line<R: BufRead>(reader: &mut R, line: &mut Vec<u8>) -> Result<bool, FaultKind>
     requires { 8001 ≤ vec_capacity line.old }
     ensures taken { IfOk result (λ more.
         TakesLine more line.new.items (R.remaining reader.old) (R.remaining reader.new)) }
     ensures short { IfOk result (λ _. length line.new.items ≤ 8000) }
-    ensures long { result ≡ Err FaultKind.Long → IfSome (R.remaining reader.old) BeginsLong }
+    ensures long { result ≡ Err FaultKind.Long
+        → IfSome (R.remaining reader.old) (BeginsLong line.new.items) }
     ensures read { result ≡ Err FaultKind.Read
         → TakesPart (R.remaining reader.old) (R.remaining reader.new) }
     ensures fault { IfErr result (λ kind. IsOneOf kind (FaultKind.Long ∷ FaultKind.Read ∷ [])) }
@@ -107,11 +107,9 @@ pub(crate) fn is_at_end<R: BufRead>(reader: &mut R) -> Result<bool, FaultKind>
     }
 }
 
-/// A list with room for the longest line. An error: the allocation failed.
-pub(crate) fn line_list(alloc: Global) -> Result<Vec<u8>, AllocError>
-    ensures { IfOk result (λ line. 8001 ≤ vec_capacity line) }
+/// Makes room for the longest line in a list. An error: the allocation failed.
+pub(crate) fn make_room(line: &mut Vec<u8>) -> Result<(), AllocError>
+    ensures { OnOk result (8001 ≤ vec_capacity line.new) }
 {
-    let mut line = Vec::new(alloc);
-    line.reserve(MAX_LINE + 1)?;
-    Ok(line)
+    line.reserve(MAX_LINE + 1)
 }

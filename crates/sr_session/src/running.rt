@@ -1,14 +1,15 @@
 //! A run of a script: the loop over its lines. It knows no node: the session obeys the lines.
 
-ghost use Rattle.std.specs.Prelude.{◌≡◌, ◌⊎◌, ◌≤◌, ◌<◌, ◌++◌, ◌∷◌, [], ℕ, List, Option, IfOk, IfErr, OnOk, OnErr, Err, IfSome, length, vec_capacity};
+ghost use Rattle.std.specs.Prelude.{◌≡◌, ◌⊎◌, ◌≤◌, ◌<◌, ◌++◌, ◌∷◌, [], ℕ, List, Option, IfOk, IfErr, OnOk, OnErr, Err, IfSome, MatchOption, length, vec_capacity};
 ghost use Rattle.std.specs.Io.KnownBytes.{Appends};
 ghost use Rattle.sr_session.specs.Lines.{lines_of, IsOneOf};
+ghost use Rattle.sr_session.specs.LeftLines.{IsLeftBy, Leaves};
 ghost use Rattle.sr_session.specs.Runs.{IsAnsweredTo, EndsAt, EndsFrom, HeldSince, HasFault, Runs};
 ghost use Rattle.sr_session.specs.Fronts.{IsFrontLine, ObeysFront};
 ghost use Rattle.sr_session.specs.Turns.{AddsAnswer, IsFront, AreObeyed, Turned, AllAnswered};
 
 use crate::fault::{Fault, FaultKind, NOT_BEGUN};
-use crate::lines::{MAX_LINE, is_at_end, line_list, next_line, place_of};
+use crate::lines::{MAX_LINE, is_at_end, make_room, next_line, place_of};
 use crate::session::Session;
 use crate::waiting::{Waiting, write_out};
 use std::alloc::Global;
@@ -34,10 +35,24 @@ struct Front {
 /// The whole line, of no more than 8000 octets, at the front of octets. None where there is none.
 fn front_line(octets: &[u8]) -> Option<&[u8]>
     ensures whole { IfSome result (λ line. IsFrontLine octets.now line.now) }
+    ensures only { (line : List ℕ) → IsFrontLine octets.now line
+        → MatchOption result ⊥ (λ found. found.now ≡ line) }
 {
     let near = &octets[..octets.len().min(MAX_LINE + 1)];
     let at = place_of(b'\n', near)?;
     Some(&near[..at])
+}
+
+/// Leaves the whole line at the front of octets in a list that has room for it.
+fn keep_line(line: &mut Vec<u8>, octets: &[u8])
+    requires room { 8001 ≤ vec_capacity line.old }
+    ensures kept { (front : List ℕ) → IsFrontLine octets.now front → line.new.items ≡ front }
+    ensures room { vec_capacity line.old ≤ vec_capacity line.new }
+{
+    line.clear();
+    if let Some(front) = front_line(octets) {
+        line.extend_from_slice(front).unwrap();
+    }
 }
 
 /// Has the session obey a line, and appends what is to be printed for it to what waits. On an error what waits is unchanged.
@@ -118,18 +133,21 @@ fn obey_whole<S: Session>(
 }
 
 /// Has the session obey the whole lines at the front of octets, until enough waits to be written. `first` is the number of
-/// the first.
+/// the first. The line that ends it is left in `line`.
 fn obey_front<S: Session>(
     session: &mut S,
     first: u64,
     octets: &[u8],
+    line: &mut Vec<u8>,
     waiting: &mut Waiting,
 ) -> Front
     requires number { first ≤ 1000001 }
+    requires room { 8001 ≤ vec_capacity line.old }
     requires text { waiting.old.text ≡ [] }
     requires marks { waiting.old.marks.items ≡ [] }
-    ensures { IsFront S.dialogue (S.state session.old) first octets.now waiting.new.text
-        waiting.new.marks.items result (S.state session.new) }
+    ensures front { IsFront S.dialogue (S.state session.old) first octets.now waiting.new.text
+        waiting.new.marks.items line.new.items result (S.state session.new) }
+    ensures room { vec_capacity line.old ≤ vec_capacity line.new }
 {
     let mut used = 0;
     let mut next = first;
@@ -141,6 +159,7 @@ fn obey_front<S: Session>(
             }
             Ok(None) => break,
             Err(kind) => {
+                keep_line(line, &octets[used..]);
                 return Front {
                     used,
                     next,
@@ -157,16 +176,18 @@ fn obey_front<S: Session>(
 }
 
 /// Has the session obey the whole lines that the reader has at hand, and writes what is to be printed for them. `first` is
-/// the number of the first; the answer is the number behind them.
+/// the number of the first; the answer is the number behind them. The line that ends it is left in `line`.
 // speed: D-session-at-hand
 fn obey_at_hand<S: Session, R: BufRead, W: Write>(
     session: &mut S,
     first: u64,
+    line: &mut Vec<u8>,
     waiting: &mut Waiting,
     reader: &mut R,
     writer: &mut W,
 ) -> Result<u64, Fault>
     requires number { first ≤ 1000001 }
+    requires room { 8001 ≤ vec_capacity line.old }
     requires text { waiting.old.text ≡ [] }
     requires marks { waiting.old.marks.items ≡ [] }
     ensures obeyed { IfOk result (λ n. AreObeyed S.dialogue (S.state session.old) first n
@@ -174,11 +195,14 @@ fn obey_at_hand<S: Session, R: BufRead, W: Write>(
         (W.contents writer.old) (W.contents writer.new) (S.state session.new)) }
     ensures count { IfOk result (λ n. n ≤ 1000001) }
     ensures ahead { IfOk result (λ n. first ≤ n) }
+    ensures room { vec_capacity line.old ≤ vec_capacity line.new }
     ensures text { OnOk result (waiting.new.text ≡ []) }
     ensures marks { OnOk result (waiting.new.marks.items ≡ []) }
     ensures ended { IfErr result (λ fault. IfSome (R.remaining reader.old) (λ input.
         EndsFrom S.dialogue (S.state session.old) first (lines_of input) fault
         (R.remaining reader.new) (W.contents writer.old) (W.contents writer.new))) }
+    ensures left { IfErr result (λ fault. IfSome (R.remaining reader.old) (λ input.
+        IsLeftBy fault.kind first (lines_of input) fault.line line.new.items)) }
 {
     let Ok(available) = reader.fill_buf() else {
         return Err(Fault {
@@ -186,7 +210,7 @@ fn obey_at_hand<S: Session, R: BufRead, W: Write>(
             kind: FaultKind::Read,
         });
     };
-    let front = obey_front(session, first, available, waiting);
+    let front = obey_front(session, first, available, line, waiting);
     reader.consume(front.used);
     if let Err(fault) = waiting.send(writer) {
         return Err(fault);
@@ -223,6 +247,8 @@ fn obey_next<S: Session, R: BufRead, W: Write>(
     ensures ended { IfErr result (λ fault. IfSome (R.remaining reader.old) (λ input.
         EndsFrom S.dialogue (S.state session.old) number (lines_of input) fault
         (R.remaining reader.new) (W.contents writer.old) (W.contents writer.new))) }
+    ensures left { IfErr result (λ fault. IfSome (R.remaining reader.old) (λ input.
+        IsLeftBy fault.kind number (lines_of input) fault.line line.new.items)) }
 {
     match next_line(reader, line) {
         Ok(true) => {}
@@ -238,7 +264,8 @@ fn obey_next<S: Session, R: BufRead, W: Write>(
     Ok(true)
 }
 
-/// Has the session obey the lines that the reader has left. The answer is the number behind them.
+/// Has the session obey the lines that the reader has left. The answer is the number behind them. The line that ends it is left in
+/// `line`.
 fn obey_lines<S: Session, R: BufRead, W: Write>(
     session: &mut S,
     line: &mut Vec<u8>,
@@ -255,8 +282,10 @@ fn obey_lines<S: Session, R: BufRead, W: Write>(
     ensures ended { IfErr result (λ fault. IfSome (R.remaining reader.old) (λ input.
         EndsAt S.dialogue (S.state session.old) (lines_of input) fault (R.remaining reader.new)
         (W.contents writer.old) (W.contents writer.new))) }
+    ensures left { IfErr result (λ fault. IfSome (R.remaining reader.old) (λ input.
+        IsLeftBy fault.kind 1 (lines_of input) fault.line line.new.items)) }
 {
-    let mut number = match obey_at_hand(session, 1, waiting, reader, writer) {
+    let mut number = match obey_at_hand(session, 1, line, waiting, reader, writer) {
         Ok(next) => next,
         Err(fault) => return Err(fault),
     };
@@ -266,19 +295,19 @@ fn obey_lines<S: Session, R: BufRead, W: Write>(
             Ok(false) => return Ok(number),
             Err(fault) => return Err(fault),
         }
-        match obey_at_hand(session, number + 1, waiting, reader, writer) {
+        match obey_at_hand(session, number + 1, line, waiting, reader, writer) {
             Ok(next) => number = next,
             Err(fault) => return Err(fault),
         }
     }
-    let line = MAX_LINES + 1;
+    let behind = MAX_LINES + 1;
     match is_at_end(reader) {
-        Ok(true) => Ok(line),
+        Ok(true) => Ok(behind),
         Ok(false) => Err(Fault {
-            line,
+            line: behind,
             kind: FaultKind::Long,
         }),
-        Err(kind) => Err(Fault { line, kind }),
+        Err(kind) => Err(Fault { line: behind, kind }),
     }
 }
 
@@ -306,7 +335,7 @@ fn end<S: Session, W: Write>(
     Ok(())
 }
 
-/// Has the session obey the script that the reader has left, with nothing waiting yet.
+/// Has the session obey the script that the reader has left, with nothing waiting yet. The line that ends it is left in `line`.
 fn obey_script<S: Session, R: BufRead, W: Write>(
     session: &mut S,
     line: &mut Vec<u8>,
@@ -324,6 +353,8 @@ fn obey_script<S: Session, R: BufRead, W: Write>(
     ensures ended { IfErr result (λ fault. IfSome (R.remaining reader.old) (λ input.
         EndsAt S.dialogue (S.state session.old) (lines_of input) fault (R.remaining reader.new)
         (W.contents writer.old) (W.contents writer.new))) }
+    ensures left { IfErr result (λ fault. IfSome (R.remaining reader.old) (λ input.
+        IsLeftBy fault.kind 1 (lines_of input) fault.line line.new.items)) }
 {
     let number = obey_lines(session, line, waiting, reader, writer)?;
     match end(session, text, writer) {
@@ -337,9 +368,10 @@ fn obey_script<S: Session, R: BufRead, W: Write>(
 /// before more is read, and before a fault.
 ///
 /// # Errors
-/// `Line` and `Long` come at the first line that is not a line of a script, whatever memory there is. `Read`, `Write` and
-/// `Memory` come where the reader, the writer or an allocation fails, and at no such line. The lines before that of the fault are
-/// answered, and nothing else is written, but for a part of the text of that line where the writer failed.
+/// `Memory` comes at line 1, whatever that line is, where the allocation for the longest line fails. Then `Line` and `Long` come at
+/// the first line that is not a line of a script, whatever memory there is. `Read`, `Write` and `Memory` come where the reader, the
+/// writer or an allocation fails, and at no such line. The lines before that of the fault are answered, and nothing else is written,
+/// but for text of that line where the writer failed: a part of it, or all where it could not be passed on.
 pub fn run_session<S: Session, R: BufRead, W: Write>(
     alloc: Global,
     session: &mut S,
@@ -353,10 +385,37 @@ pub fn run_session<S: Session, R: BufRead, W: Write>(
         IsAnsweredTo S.dialogue (S.state session.old) (lines_of input) (W.contents writer.old)
         (W.contents writer.new) (S.state session.new))) }
 {
-    let Ok(mut line) = line_list(alloc) else {
+    let mut line = Vec::new(alloc);
+    run_session_leaving(alloc, session, reader, writer, &mut line)
+}
+
+/// Has the session obey the script that the reader has left, as `run_session` does, and leaves the line that ended the run.
+///
+/// `line` is given up for memory. Where a line ends the run, it is then in `line`: whole with the fault `Line`, and its first 8001
+/// octets with `Long` of a line of more than 8000.
+///
+/// # Errors
+/// Those of `run_session`.
+pub fn run_session_leaving<S: Session, R: BufRead, W: Write>(
+    alloc: Global,
+    session: &mut S,
+    reader: &mut R,
+    writer: &mut W,
+    line: &mut Vec<u8>,
+) -> Result<(), Fault>
+    ensures runs { Runs S.dialogue (S.state session.old) (R.remaining reader.old)
+        (R.remaining reader.new) (W.contents writer.old) (W.contents writer.new) result }
+    // At the end the session is where the lines led it.
+    ensures reached { OnOk result (IfSome (R.remaining reader.old) (λ input.
+        IsAnsweredTo S.dialogue (S.state session.old) (lines_of input) (W.contents writer.old)
+        (W.contents writer.new) (S.state session.new))) }
+    // The line that ended it is left.
+    ensures left { Leaves result (R.remaining reader.old) line.new.items }
+{
+    if make_room(line).is_err() {
         return Err(NOT_BEGUN);
-    };
+    }
     let mut waiting = Waiting::new(alloc);
     let mut text = Vec::new(alloc);
-    obey_script(session, &mut line, &mut text, &mut waiting, reader, writer)
+    obey_script(session, line, &mut text, &mut waiting, reader, writer)
 }

@@ -23,7 +23,7 @@ returns-in-End-clause-taken g c =
 
 pub returns-clause-long : goal.returns-clause-long
 returns-clause-long g c _ =
-    BeginsLong-taken c.loop-reader.line.items _ _ c.loop-reader.invariant.unbroken (omega arith) c.loop-reader.invariant.took
+    BeginsLong-taken c.loop-reader.line.items _ _ c.loop-reader.invariant.unbroken (omega (arith, c.loop-reader.invariant.short)) c.loop-reader.invariant.took
 
 pub returns-clause-read : goal.returns-clause-read
 returns-clause-read g c = search rules

@@ -6,8 +6,8 @@ use Rattle.sr_session.specs.Turns.{BeginsWith}
 use Rattle.sr_session.proofs.WaitingTexts.{begins_front, waits_added, waits_kept, front_stops}
 use Rattle.sr_session.proofs.running.obey_front.Goals as goal
 
-pub returns-in-Err : goal.returns-in-Err
-returns-in-Err g c =
+pub returns-in-Err-clause-front : goal.returns-in-Err-clause-front
+returns-in-Err-clause-front g c =
     let so_far = c.loop-next.invariant.obeyed in
     let fails = c.in-Err.ensures in
     let reached = g.S.Session.state c.loop-next.session in
@@ -20,8 +20,9 @@ returns-in-Err g c =
       waits = waits_kept g.S.Session.dialogue _ _ _ 0 so_far.0 _ _ _ _ so_far.2 fails.1 fails.2;
       next = so_far.3;
       count = c.loop-next.invariant.count;
-      stops = front_stops g.S.Session.dialogue reached (g.S.Session.state c.obey_whole.new.session) _ c.loop-next.next c.in-Err.kind (omega arith)
-          (subst (λ (l : List ℕ). FrontFails g.S.Session.dialogue reached l c.in-Err.kind) rest fails.0);
+      stops = front_stops g.S.Session.dialogue reached (g.S.Session.state c.obey_whole.new.session) _ _ c.loop-next.next c.in-Err.kind (omega arith)
+          (subst (λ (l : List ℕ). FrontFails g.S.Session.dialogue reached l c.in-Err.kind) rest fails.0)
+          (λ front at. c.keep_line.ensures.kept front (subst (λ (l : List ℕ). IsFrontLine l front) (sym rest) at));
     }
 
 pub loop-next-preserved : goal.loop-next-preserved
@@ -37,6 +38,8 @@ loop-next-preserved g c =
     record {
       count = omega arith;
       within = omega (arith, front.within, added.2, length-drop used octets);
+      room = c.loop-next.invariant.room;
+      no_less = c.loop-next.invariant.no_less;
       obeyed = (
         so_far.0 ++ line ∷ [],
         subst (λ k. BeginsWith octets (used + (k + 1)) (so_far.0 ++ line ∷ [])) (sym added.2) (begins_front octets used so_far.0 line so_far.1 front),

@@ -1,5 +1,5 @@
 use Rattle.sr_session.specs.RunLemmas.{runs_begun}
-use Rattle.sr_session.proofs.running.run_session.Goals as goal
+use Rattle.sr_session.proofs.running.run_session_leaving.Goals as goal
 
 pub returns-clause-runs : goal.returns-clause-runs
 returns-clause-runs g c =
