@@ -1,6 +1,6 @@
 -- What is kept of how far the numbers of stretches reach, with one arrival more.
 use Rattle.std.proofs.Common.{◌≡◌, ℕ, ◌+◌, ◌-◌, ◌*◌, ◌<◌, ◌≤◌, Bool, true, false, cond, ◌||◌, ◌&&◌, not, ◌⊎◌, List, [], ◌∷◌, length, Option, None, Some, ℤ, pos, min, max, arith, refl, sym, ap, ◌∙◌, subst, inl, inr}
-use Rattle.std.specs.Prelude.{sum_by, nat_lt, nat_le, nat_eq, ◌%◌, ◌+ℤ◌, ◌-ℤ◌, ◌≤ℤ◌, int_lt}
+use Rattle.std.specs.Prelude.{sum_by, nat_lt, ◌+ℤ◌, ◌-ℤ◌, ◌≤ℤ◌, int_lt}
 use Rattle.std.proofs.lemmas.Bool.{cases_Bool, cases_lt, lt-ltb, le-ltb, le-leb, lt-leb}
 use Rattle.std.proofs.lemmas.Int.{ints}
 use Rattle.std.proofs.lemmas.List.Sums.{sum_by-cons}
@@ -13,7 +13,6 @@ use Rattle.sr_audit.specs.declared.arrival.Arrival.{Arrival}
 use Rattle.sr_audit.specs.declared.extent.Extent.{Extent}
 use Rattle.sr_audit.specs.declared.extent.Tops.{Tops}
 use Rattle.sr_audit.specs.declared.look.Look.{Look}
-use Rattle.sr_audit.specs.declared.look.Step.TheVariants.{Restart, Resume, Jump, On}
 use Rattle.sr_audit.specs.declared.side.Side.{Side}
 use Rattle.sr_audit.specs.declared.side.Side.TheVariants.{A, B}
 use Rattle.sr_audit.specs.Limits.{kept_numbers, epoch_gap, exact_arrivals}
@@ -28,13 +27,14 @@ use Rattle.sr_audit.specs.Stretches.{
   top_number,
   is_far,
   lies_from,
+  goes_to,
   goes_on,
   gone_on,
   stretch_begun,
   with_arrival,
   stretches,
 }
-use Rattle.sr_audit.specs.Looks.{came_by, by_neither, look_at}
+use Rattle.sr_audit.specs.Looks.{step_to, came_by, by_neither, look_at}
 use Rattle.sr_audit.specs.Extents.{lesser, bottom_number, size_of, length_of, has_greater, order, is_jump, is_restart, arrivals_with}
 use Rattle.sr_audit.specs.Reaching.{
   sunk,
@@ -490,16 +490,7 @@ goes : (ss : List (List Placed)) (x : Arrival) (e : Extent) → ((rest : List (L
 goes [] x e some few jumps restarts keeps = (reach_begun [] x e few keeps, same_kept e.jumps, same_kept e.restarts)
 goes ([] ∷ rest) x e some few jumps restarts keeps = absurd (some rest refl)
 goes ((z ∷ before) ∷ rest) x e some few jumps restarts keeps =
-    elim (cases_lt (x.time - z.time) epoch_gap) [
-      | inl soon ↦ near soon (cases_lt (steps x.seq.0 (wire t)) kept_numbers) (cases_lt (steps (wire t) x.seq.0) kept_numbers)
-      | inr silent ↦
-          elim (cases_Bool (nat_eq x.seq.0 ((wire t + 1) % 65536))) [
-            | inl next ↦ rw (le-ltb (x.time - z.time) epoch_gap silent, le-leb epoch_gap (x.time - z.time) silent, next)
-                (begun, same_kept e.jumps, same_kept e.restarts)
-            | inr other ↦ rw (le-ltb (x.time - z.time) epoch_gap silent, le-leb epoch_gap (x.time - z.time) silent, other)
-                (restarted (stretch_begun x ∷ s ∷ rest) x.side e begun, same_kept e.jumps, one_more e.restarts restarts)
-          ]
-    ]
+    place (cases_lt (steps x.seq.0 (wire t)) kept_numbers) (cases_lt (steps (wire t) x.seq.0) kept_numbers) (cases_Bool soon)
   where
     s : List Placed
     s = z ∷ before
@@ -507,47 +498,65 @@ goes ((z ∷ before) ∷ rest) x e some few jumps restarts keeps =
     t : ℤ
     t = top_number s
 
+    soon : Bool
+    soon = nat_lt (x.time - z.time) epoch_gap
+
     begun : KeepsReach (stretch_begun x ∷ s ∷ rest) (extent_begun x.side e)
     begun = reach_begun (s ∷ rest) x e few keeps
 
     -- by the place of the number
     after : Distance → Extent
-    after p = extent_by x.side (cond (nat_lt (x.time - z.time) epoch_gap && not (is_far p)) (came_by s (number_at t p)) by_neither)
-        (cond (nat_le epoch_gap (x.time - z.time)) (cond (nat_eq x.seq.0 ((wire t + 1) % 65536)) Resume Restart) (cond (is_far p) Jump (On p))) e
+    after p = extent_by x.side (cond (goes_to soon p) (came_by s (number_at t p)) by_neither) (step_to soon p) e
 
     By : Distance → Type 0
     By p =
-        KeepsReach (cond (nat_lt (x.time - z.time) epoch_gap && not (is_far p)) ((copy_as x (number_at t p) ∷ s) ∷ rest) (stretch_begun x ∷ s ∷ rest))
-        (after p)
-        × ((after p).jumps ≡ cond (nat_lt (x.time - z.time) epoch_gap && is_far p) 1 0 + e.jumps)
-        × ((after p).restarts ≡ cond (is_restart (s ∷ rest) x) 1 0 + e.restarts)
+        KeepsReach (cond (goes_to soon p) ((copy_as x (number_at t p) ∷ s) ∷ rest) (stretch_begun x ∷ s ∷ rest)) (after p)
+        × ((after p).jumps ≡ cond (soon && is_far p) 1 0 + e.jumps)
+        × ((after p).restarts ≡ cond (not soon && not (goes_to soon p)) 1 0 + e.restarts)
 
     lies : (b : Bool) → nat_lt (steps x.seq.0 (wire t)) kept_numbers ≡ b →
         cond b (Behind (steps x.seq.0 (wire t))) (Ahead (steps (wire t) x.seq.0)) ≡ lies_from s x.seq.0
     lies b e = ap (λ c. cond c (Behind (steps x.seq.0 (wire t))) (Ahead (steps (wire t) x.seq.0))) (sym e)
 
-    near : x.time - z.time < epoch_gap → (steps x.seq.0 (wire t) < kept_numbers) ⊎ (kept_numbers ≤ steps x.seq.0 (wire t)) →
-        (steps (wire t) x.seq.0 < kept_numbers) ⊎ (kept_numbers ≤ steps (wire t) x.seq.0) → By (lies_from s x.seq.0)
-    near soon (inl less) any =
+    place : (steps x.seq.0 (wire t) < kept_numbers) ⊎ (kept_numbers ≤ steps x.seq.0 (wire t)) →
+        (steps (wire t) x.seq.0 < kept_numbers) ⊎ (kept_numbers ≤ steps (wire t) x.seq.0) → (soon ≡ true) ⊎ (soon ≡ false) → By (lies_from s x.seq.0)
+    place (inl less) any (inl near) =
         subst By (lies true (lt-ltb (steps x.seq.0 (wire t)) kept_numbers less))
-        (rw (lt-ltb (x.time - z.time) epoch_gap soon, lt-leb epoch_gap (x.time - z.time) soon) (
+        (rw near (
           reach_behind z before rest x (t -ℤ pos (steps x.seq.0 (wire t))) (steps x.seq.0 (wire t)) e refl (omega (arith, less)) few keeps,
           same_kept e.jumps,
           same_kept e.restarts,
         ))
-    near soon (inr more) (inl close) =
+    place (inl less) any (inr silent) =
+        subst By (lies true (lt-ltb (steps x.seq.0 (wire t)) kept_numbers less))
+        (rw silent (restarted (stretch_begun x ∷ s ∷ rest) x.side e begun, same_kept e.jumps, one_more e.restarts restarts))
+    place (inr more) (inl close) (inl near) =
         subst By (lies false (le-ltb (steps x.seq.0 (wire t)) kept_numbers more))
-        (rw (lt-ltb (x.time - z.time) epoch_gap soon, lt-leb epoch_gap (x.time - z.time) soon, lt-leb kept_numbers (steps (wire t) x.seq.0) close) (
+        (rw (near, lt-leb kept_numbers (steps (wire t) x.seq.0) close) (
           reach_ahead z before rest x (t +ℤ pos (steps (wire t) x.seq.0)) (steps (wire t) x.seq.0) e refl (omega (arith, close)) few keeps,
           same_kept e.jumps,
           same_kept e.restarts,
         ))
-    near soon (inr more) (inr far) =
+    place (inr more) (inl close) (inr silent) =
         subst By (lies false (le-ltb (steps x.seq.0 (wire t)) kept_numbers more))
-        (rw (lt-ltb (x.time - z.time) epoch_gap soon, lt-leb epoch_gap (x.time - z.time) soon, le-leb kept_numbers (steps (wire t) x.seq.0) far) (
+        (rw (silent, lt-leb kept_numbers (steps (wire t) x.seq.0) close) (
+          reach_ahead z before rest x (t +ℤ pos (steps (wire t) x.seq.0)) (steps (wire t) x.seq.0) e refl (omega (arith, close)) few keeps,
+          same_kept e.jumps,
+          same_kept e.restarts,
+        ))
+    place (inr more) (inr far) (inl near) =
+        subst By (lies false (le-ltb (steps x.seq.0 (wire t)) kept_numbers more))
+        (rw (near, le-leb kept_numbers (steps (wire t) x.seq.0) far) (
           jumped (stretch_begun x ∷ s ∷ rest) x.side e begun,
           one_more e.jumps jumps,
           same_kept e.restarts,
+        ))
+    place (inr more) (inr far) (inr silent) =
+        subst By (lies false (le-ltb (steps x.seq.0 (wire t)) kept_numbers more))
+        (rw (silent, le-leb kept_numbers (steps (wire t) x.seq.0) far) (
+          restarted (stretch_begun x ∷ s ∷ rest) x.side e begun,
+          same_kept e.jumps,
+          one_more e.restarts restarts,
         ))
 
 -- no more arrivals pass a test than there are

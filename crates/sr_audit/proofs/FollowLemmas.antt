@@ -1,5 +1,5 @@
 -- The record of a source follows its arrivals.
-use Rattle.std.proofs.Common.{◌≡◌, ℕ, ◌+◌, ◌-◌, ◌<◌, ◌≤◌, Bool, true, false, cond, ◌||◌, ◌&&◌, not, List, [], ◌∷◌, length, ℤ, pos, arith, refl, sym, ap, ◌∙◌, subst, inl, inr}
+use Rattle.std.proofs.Common.{◌≡◌, ℕ, ◌+◌, ◌-◌, ◌<◌, ◌≤◌, Bool, true, false, cond, ◌||◌, ◌&&◌, List, [], ◌∷◌, length, ℤ, pos, arith, refl, sym, ap, ◌∙◌, subst, inl, inr}
 use Rattle.std.specs.Prelude.{sum_by, nat_lt, ◌^◌}
 use Rattle.std.specs.Ordering.{int_eq}
 use Rattle.std.proofs.lemmas.Bool.{cases_Bool, cases_lt, lt-ltb, le-ltb}
@@ -21,7 +21,7 @@ use Rattle.sr_audit.specs.declared.tally.Tally.{Tally}
 use Rattle.sr_audit.specs.Limits.{kept_numbers, epoch_gap}
 use Rattle.sr_audit.specs.Lanes.{side_lane}
 use Rattle.sr_audit.specs.Counting.{tally_with}
-use Rattle.sr_audit.specs.Stretches.{Placed, copy_as, same_side, came, top_number, lies_from, is_far, goes_on, gone_on, stretch_begun, with_arrival, stretches}
+use Rattle.sr_audit.specs.Stretches.{Placed, copy_as, same_side, came, top_number, lies_from, goes_to, goes_on, gone_on, stretch_begun, with_arrival, stretches}
 use Rattle.sr_audit.specs.Tallies.{tally_of}
 use Rattle.sr_audit.specs.Looks.{step_by, came_by, by_neither, came_before, look_at}
 use Rattle.sr_audit.specs.Following.{family_in, KeepsFigures, FollowsArrivals}
@@ -101,13 +101,13 @@ begun_follows x n t fits none seen last tally =
 
 -- the test of the record is that of the stretch
 abbrev pub goes_by : Numbers → Arrival → Bool
-goes_by n x = nat_lt (x.time - n.last) epoch_gap && not (is_far (place_of (window_of n.seen).reference x.seq.0 kept_numbers))
+goes_by n x = goes_to (nat_lt (x.time - n.last) epoch_gap) (place_of (window_of n.seen).reference x.seq.0 kept_numbers)
 
 tested : (y : Placed) (before : List Placed) (x : Arrival) (n : Numbers) → n.last ≡ y.time →
     (window_of n.seen).reference ≡ wire (top_number (y ∷ before)) → goes_on (y ∷ before) x ≡ goes_by n x
 tested y before x n last reference =
-    ap (λ t. nat_lt (x.time - t) epoch_gap && not (is_far (place_of (wire (top_number (y ∷ before))) x.seq.0 kept_numbers))) (sym last)
-    ∙ ap (λ r. nat_lt (x.time - n.last) epoch_gap && not (is_far (place_of r x.seq.0 kept_numbers))) (sym reference)
+    ap (λ t. goes_to (nat_lt (x.time - t) epoch_gap) (place_of (wire (top_number (y ∷ before))) x.seq.0 kept_numbers)) (sym last)
+    ∙ ap (λ r. goes_to (nat_lt (x.time - n.last) epoch_gap) (place_of r x.seq.0 kept_numbers)) (sym reference)
 
 -- the record has the copies that came in the stretch
 came_there : (y : Placed) (before : List Placed) (rest : List (List Placed)) (x : Arrival) (old : Numbers) →

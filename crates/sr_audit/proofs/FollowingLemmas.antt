@@ -1,6 +1,6 @@
 -- What is kept of the last numbers of a source, with one arrival more.
-use Rattle.std.proofs.Common.{◌≡◌, ℕ, ◌+◌, ◌-◌, ◌%◌, ◌<◌, ◌≤◌, ◌⊎◌, Bool, true, false, cond, ◌&&◌, not, List, [], ◌∷◌, ℤ, pos, refl, sym, ap, ◌∙◌, subst, inl, inr}
-use Rattle.std.specs.Prelude.{nat_lt, nat_le, nat_eq, slice_index_or, ◌+ℤ◌, ◌-ℤ◌}
+use Rattle.std.proofs.Common.{◌≡◌, ℕ, ◌-◌, ◌<◌, ◌≤◌, ◌⊎◌, Bool, true, false, cond, List, [], ◌∷◌, ℤ, pos, refl, sym, ap, ◌∙◌, subst, inl, inr}
+use Rattle.std.specs.Prelude.{nat_lt, slice_index_or, ◌+ℤ◌, ◌-ℤ◌}
 use Rattle.std.proofs.lemmas.Bool.{cases_Bool, cases_lt, lt-ltb, le-ltb, lt-leb, le-leb}
 use Rattle.sr_sequence.specs.Numbers.{wire}
 use Rattle.sr_sequence.specs.Places.{number_at, steps, IsTheOne}
@@ -9,15 +9,14 @@ use Rattle.sr_sequence.specs.declared.Distance.TheVariants.{Behind, Ahead}
 use Rattle.sr_audit.specs.declared.arrival.Arrival.{Arrival}
 use Rattle.sr_audit.specs.declared.listing.Copied.{Copied}
 use Rattle.sr_audit.specs.declared.listing.Listed.{Listed}
-use Rattle.sr_audit.specs.declared.look.Step.TheVariants.{Restart, Resume, Jump, On}
 use Rattle.sr_audit.specs.declared.pending.Fate.TheVariants.{Settled}
 use Rattle.sr_audit.specs.declared.pending.Pending.{Pending}
 use Rattle.sr_audit.specs.declared.span.Spans.{Spans}
 use Rattle.sr_audit.specs.Fates.{TellsFates, KeepsFates}
 use Rattle.sr_audit.specs.Limits.{kept_numbers, epoch_gap, place_in}
 use Rattle.sr_audit.specs.Listings.{fate_kept, KeepsPlaces, IsKeptAs, SettlesAll, MovesTo, TakesCopy, ListsArrival}
-use Rattle.sr_audit.specs.Looks.{came_by, by_neither, look_at}
-use Rattle.sr_audit.specs.Stretches.{Placed, copy_as, top_number, lies_from, is_far, stretch_begun, goes_on, gone_on, current, with_arrival, stretches}
+use Rattle.sr_audit.specs.Looks.{step_to, came_by, by_neither, look_at}
+use Rattle.sr_audit.specs.Stretches.{Placed, copy_as, top_number, lies_from, goes_to, stretch_begun, goes_on, gone_on, current, with_arrival, stretches}
 use Rattle.sr_audit.proofs.ExtentLemmas.{no_empty}
 use Rattle.sr_audit.proofs.FollowLemmas.{number_is}
 use Rattle.sr_audit.specs.Edges.{KeepsTimes}
@@ -55,10 +54,7 @@ goes_fates : (z : Placed) (before : List Placed) (rest : List (List Placed)) (x 
     TakesCopy (look_at ((z ∷ before) ∷ rest) x.arrival).came x between new list after →
     KeepsAll (current (with_arrival ((z ∷ before) ∷ rest) x.arrival)) new
 goes_fates z before rest x at between new list after fits room keeps times moves taken =
-    elim (cases_lt (a.time - z.time) epoch_gap) [
-      | inl soon ↦ near soon (cases_lt (steps a.seq.0 (wire t)) kept_numbers) (cases_lt (steps (wire t) a.seq.0) kept_numbers) moves taken
-      | inr silent ↦ off silent (lies_from s a.seq.0) (nat_eq a.seq.0 ((wire t + 1) % 65536)) refl moves taken
-    ]
+    place (cases_lt (steps a.seq.0 (wire t)) kept_numbers) (cases_lt (steps (wire t) a.seq.0) kept_numbers) (cases_Bool soon) moves taken
   where
     a : Arrival
     a = x.arrival
@@ -69,23 +65,17 @@ goes_fates z before rest x at between new list after fits room keeps times moves
     t : ℤ
     t = top_number s
 
+    soon : Bool
+    soon = nat_lt (a.time - z.time) epoch_gap
+
     begun : SettlesAll between → TakesCopy by_neither x between new list after → KeepsAll (stretch_begun a) new
     begun all = begun_all x between new list after fits room all.fates all.reach
 
-    Step : Bool → Bool → Distance → Type 0
-    Step silent next p = MovesTo (cond silent (cond next Resume Restart) (cond (is_far p) Jump (On p))) a at between
-
     -- by the place of the number
     By : Distance → Type 0
-    By p = MovesTo (cond (nat_le epoch_gap (a.time - z.time)) (cond (nat_eq a.seq.0 ((wire t + 1) % 65536)) Resume Restart) (cond (is_far p) Jump (On p))) a at between →
-        TakesCopy (cond (nat_lt (a.time - z.time) epoch_gap && not (is_far p)) (came_by s (number_at t p)) by_neither) x between new list after →
-        KeepsAll (current (cond (nat_lt (a.time - z.time) epoch_gap && not (is_far p)) ((copy_as a (number_at t p) ∷ s) ∷ rest) (stretch_begun a ∷ s ∷ rest))) new
-
-    off : epoch_gap ≤ a.time - z.time → (p : Distance) (next : Bool) → nat_eq a.seq.0 ((wire t + 1) % 65536) ≡ next → By p
-    off silent p true is =
-        rw (le-ltb (a.time - z.time) epoch_gap silent, le-leb epoch_gap (a.time - z.time) silent, is) (λ all taken. begun all taken)
-    off silent p false is =
-        rw (le-ltb (a.time - z.time) epoch_gap silent, le-leb epoch_gap (a.time - z.time) silent, is) (λ all taken. begun all taken)
+    By p = MovesTo (step_to soon p) a at between →
+        TakesCopy (cond (goes_to soon p) (came_by s (number_at t p)) by_neither) x between new list after →
+        KeepsAll (current (cond (goes_to soon p) ((copy_as a (number_at t p) ∷ s) ∷ rest) (stretch_begun a ∷ s ∷ rest))) new
 
     lies : (b : Bool) → nat_lt (steps a.seq.0 (wire t)) kept_numbers ≡ b →
         cond b (Behind (steps a.seq.0 (wire t))) (Ahead (steps (wire t) a.seq.0)) ≡ lies_from s a.seq.0
@@ -94,31 +84,34 @@ goes_fates z before rest x at between new list after fits room keeps times moves
     one : IsTheOne kept_numbers t a.seq.0 (number_at t (lies_from s a.seq.0))
     one = number_is t a.seq.0 fits
 
-    near : a.time - z.time < epoch_gap → (steps a.seq.0 (wire t) < kept_numbers) ⊎ (kept_numbers ≤ steps a.seq.0 (wire t)) →
-        (steps (wire t) a.seq.0 < kept_numbers) ⊎ (kept_numbers ≤ steps (wire t) a.seq.0) → By (lies_from s a.seq.0)
-    near soon (inl less) any =
-        let place = lies true (lt-ltb (steps a.seq.0 (wire t)) kept_numbers less) in
-        subst By place
-        (rw (lt-ltb (a.time - z.time) epoch_gap soon, lt-leb epoch_gap (a.time - z.time) soon) (λ passes taken.
-        let at_wire = ap (λ p. wire (number_at t p)) place ∙ one.carried in
+    place : (steps a.seq.0 (wire t) < kept_numbers) ⊎ (kept_numbers ≤ steps a.seq.0 (wire t)) →
+        (steps (wire t) a.seq.0 < kept_numbers) ⊎ (kept_numbers ≤ steps (wire t) a.seq.0) → (soon ≡ true) ⊎ (soon ≡ false) → By (lies_from s a.seq.0)
+    place (inl less) any (inl near) =
+        let behind = lies true (lt-ltb (steps a.seq.0 (wire t)) kept_numbers less) in
+        subst By behind
+        (rw near (λ passes taken.
+        let at_wire = ap (λ p. wire (number_at t p)) behind ∙ one.carried in
         let k = steps a.seq.0 (wire t) in (
           behind_fates z before x (t -ℤ pos k) k at between new list after refl less at_wire room keeps (passes less) taken,
           behind_first z before x (t -ℤ pos k) k at between new list after refl less at_wire room keeps.reach times (passes less) taken,
         )))
-    near soon (inr more) (inl close) =
-        let place = lies false (le-ltb (steps a.seq.0 (wire t)) kept_numbers more) in
-        subst By place
-        (rw (lt-ltb (a.time - z.time) epoch_gap soon, lt-leb epoch_gap (a.time - z.time) soon, lt-leb kept_numbers (steps (wire t) a.seq.0) close)
-        (λ passes taken.
-        let at_wire = ap (λ p. wire (number_at t p)) place ∙ one.carried in
+    place (inl less) any (inr silent) =
+        subst By (lies true (lt-ltb (steps a.seq.0 (wire t)) kept_numbers less)) (rw silent (λ all taken. begun all taken))
+    place (inr more) (inl close) any =
+        let ahead = lies false (le-ltb (steps a.seq.0 (wire t)) kept_numbers more) in
+        subst By ahead
+        (rw (lt-leb kept_numbers (steps (wire t) a.seq.0) close) (λ passes taken.
+        let at_wire = ap (λ p. wire (number_at t p)) ahead ∙ one.carried in
         let k = steps (wire t) a.seq.0 in (
           ahead_fates z before x (t +ℤ pos k) k at between new list after refl close at_wire room keeps (passes close) taken,
           ahead_first z before x (t +ℤ pos k) k at between new list after refl close at_wire room times (passes close) taken,
         )))
-    near soon (inr more) (inr far) =
+    place (inr more) (inr far) (inl near) =
         subst By (lies false (le-ltb (steps a.seq.0 (wire t)) kept_numbers more))
-        (rw (lt-ltb (a.time - z.time) epoch_gap soon, lt-leb epoch_gap (a.time - z.time) soon, le-leb kept_numbers (steps (wire t) a.seq.0) far)
-        (λ all taken. begun all taken))
+        (rw (near, le-leb kept_numbers (steps (wire t) a.seq.0) far) (λ all taken. begun all taken))
+    place (inr more) (inr far) (inr silent) =
+        subst By (lies false (le-ltb (steps a.seq.0 (wire t)) kept_numbers more))
+        (rw (silent, le-leb kept_numbers (steps (wire t) a.seq.0) far) (λ all taken. begun all taken))
 
 -- what is kept of a source, with one arrival more
 pub pending_follows : (spans : Spans) (xs : List Arrival) (x : Copied) (old new : Pending) (before after : List Listed) → x.arrival.seq.0 < 65536 →

@@ -10,18 +10,18 @@ use Rattle.sr_audit.specs.declared.pending.Fate.TheVariants.{Settled, PassedOver
 use Rattle.sr_audit.specs.declared.listing.Listed.{Listed}
 use Rattle.sr_audit.specs.declared.pending.Pending.{Pending}
 use Rattle.sr_audit.specs.declared.span.Spans.{Spans}
-use Rattle.std.specs.Prelude.{nat_le, nat_eq}
+use Rattle.std.specs.Prelude.{nat_le, nat_lt}
 use Rattle.sr_sequence.specs.Numbers.{wire}
 use Rattle.sr_sequence.specs.Places.{place_of}
 use Rattle.sr_sequence.specs.declared.Distance.{Distance}
 use Rattle.sr_sequence.specs.declared.Distance.TheVariants.{Behind, Ahead}
 use Rattle.sr_dup_window.specs.Windows.{window_of}
 use Rattle.sr_audit.specs.declared.arrival.Arrival.{Arrival}
-use Rattle.sr_audit.specs.declared.look.Step.TheVariants.{Restart, Resume, Jump, On}
+use Rattle.sr_audit.specs.declared.look.Step.TheVariants.{Restart, Jump, On}
 use Rattle.sr_audit.specs.declared.numbers.Numbers.{Numbers}
 use Rattle.sr_audit.specs.Following.{KeepsFigures, FollowsArrivals}
-use Rattle.sr_audit.specs.Looks.{look_at}
-use Rattle.sr_audit.specs.Stretches.{Placed, top_number, newest_time, is_far, stretches}
+use Rattle.sr_audit.specs.Looks.{step_to, look_at}
+use Rattle.sr_audit.specs.Stretches.{Placed, top_number, newest_time, stretches}
 use Rattle.sr_audit.proofs.FollowLemmas.{none_stands}
 use Rattle.sr_audit.specs.Limits.{kept_numbers, epoch_gap, place_in}
 use Rattle.sr_audit.specs.Listings.{fate_kept, time_kept, packet_kept, settled_as, listed_of, waiting, steps_before, steps_behind, number_left, left_behind, KeepsPlaces, PutsFate, SettlesNumber, StaysAs, IsKeptAs, GoesOver, IsStepWithin, ListsWaiting, ListsEnd}
@@ -387,22 +387,21 @@ lists_end spans p src greatest xs n before after follows is waits = by (stretche
 -- what goes on with a stretch lies less than 1024 ahead
 pub look_within : (ss : List (List Placed)) (x : Arrival) → IsStepWithin (look_at ss x).step
 look_within [] x = tt
-look_within (s ∷ before) x = by (nat_le epoch_gap (x.time - newest_time s)) (nat_eq x.seq.0 ((wire (top_number s) + 1) % 65536))
-    (place_of (wire (top_number s)) x.seq.0 kept_numbers)
+look_within (s ∷ before) x = by (nat_lt (x.time - newest_time s) epoch_gap) (place_of (wire (top_number s)) x.seq.0 kept_numbers)
   where
-    on : (d : Distance) (b : Bool) → is_far d ≡ b → IsStepWithin (cond b Jump (On d))
-    on d true far = tt
-    on (Behind k) false near = tt
-    on (Ahead k) false near = near_is k near
-      where
-        near_is : (k : ℕ) → nat_le kept_numbers k ≡ false → k < kept_numbers
-        near_is k below =
-            elim (cases_lt k kept_numbers) [
-              | inl within ↦ within
-              | inr far ↦ let bad : true ≡ false = sym (le-leb kept_numbers k far) ∙ below in absurd cc
-            ]
+    near_is : (k : ℕ) → nat_le kept_numbers k ≡ false → k < kept_numbers
+    near_is k below =
+        elim (cases_lt k kept_numbers) [
+          | inl within ↦ within
+          | inr far ↦ let bad : true ≡ false = sym (le-leb kept_numbers k far) ∙ below in absurd cc
+        ]
 
-    by : (silent next : Bool) (d : Distance) → IsStepWithin (cond silent (cond next Resume Restart) (cond (is_far d) Jump (On d)))
-    by true true d = tt
-    by true false d = tt
-    by false next d = on d (is_far d) refl
+    ahead : (soon : Bool) (k : ℕ) (b : Bool) → nat_le kept_numbers k ≡ b → IsStepWithin (cond b (cond soon Jump Restart) (On (Ahead k)))
+    ahead true k true far = tt
+    ahead false k true far = tt
+    ahead soon k false near = near_is k near
+
+    by : (soon : Bool) (d : Distance) → IsStepWithin (step_to soon d)
+    by true (Behind k) = tt
+    by false (Behind k) = tt
+    by soon (Ahead k) = ahead soon k (nat_le kept_numbers k) refl

@@ -1,6 +1,6 @@
 -- The row at the end of a stretch, with one arrival more.
-use Rattle.std.proofs.Common.{◌≡◌, ℕ, zero, suc, ◌+◌, ◌-◌, ◌*◌, ◌%◌, ◌<◌, ◌≤◌, Bool, true, false, cond, ◌||◌, ◌&&◌, not, ◌⊎◌, List, [], ◌∷◌, Option, None, Some, ℤ, pos, negsuc, arith, refl, sym, ap, ◌∙◌, subst, inl, inr}
-use Rattle.std.specs.Prelude.{slice_index_or, nat_lt, nat_le, nat_eq, ◌+ℤ◌, ◌-ℤ◌, ◌<ℤ◌, ◌≤ℤ◌}
+use Rattle.std.proofs.Common.{◌≡◌, ℕ, zero, suc, ◌+◌, ◌-◌, ◌*◌, ◌%◌, ◌<◌, ◌≤◌, Bool, true, false, cond, ◌||◌, ◌⊎◌, List, [], ◌∷◌, Option, None, Some, ℤ, pos, negsuc, arith, refl, sym, ap, ◌∙◌, subst, inl, inr}
+use Rattle.std.specs.Prelude.{slice_index_or, nat_lt, ◌+ℤ◌, ◌-ℤ◌, ◌<ℤ◌, ◌≤ℤ◌}
 use Rattle.std.specs.Ordering.{int_eq}
 use Rattle.std.proofs.lemmas.Bool.{cases_Bool, cases_lt, false_from_ne_true, lt-ltb, le-ltb, le-leb, lt-leb}
 use Rattle.std.proofs.lemmas.Bool.Decides.{Decides-int_eq}
@@ -14,7 +14,6 @@ use Rattle.sr_dup_window.specs.Families.{greater, StandsFor}
 use Rattle.sr_dup_window.specs.Windows.{window_of, has_of}
 use Rattle.sr_dup_window.specs.WindowLemmas.{has-by-family}
 use Rattle.sr_audit.specs.declared.arrival.Arrival.{Arrival}
-use Rattle.sr_audit.specs.declared.look.Step.TheVariants.{Restart, Resume, Jump, On}
 use Rattle.sr_audit.specs.declared.numbers.Numbers.{Numbers}
 use Rattle.sr_audit.specs.declared.row.Row.{Row}
 use Rattle.sr_audit.specs.declared.side.Side.{Side}
@@ -25,9 +24,9 @@ use Rattle.sr_audit.specs.Extents.{lesser, bottom_number, size_of, length_of}
 use Rattle.sr_audit.specs.Following.{family_in, KeepsFigures}
 use Rattle.sr_audit.specs.Lanes.{side_lane}
 use Rattle.sr_audit.specs.Limits.{kept_numbers, place_in, epoch_gap}
-use Rattle.sr_audit.specs.Looks.{step_by}
+use Rattle.sr_audit.specs.Looks.{step_to, step_by}
 use Rattle.sr_audit.specs.Rows.{row_with, row_on, row_of, kept_number, row_kept, row_by, row_passed, row_before, KeepsRow}
-use Rattle.sr_audit.specs.Stretches.{Placed, copy_as, came, top_number, is_far, lies_from, stretch_begun, current, with_arrival, stretches}
+use Rattle.sr_audit.specs.Stretches.{Placed, copy_as, came, top_number, lies_from, goes_to, stretch_begun, current, with_arrival, stretches}
 use Rattle.sr_audit.specs.Taken.{IsKeptIn}
 use Rattle.sr_audit.proofs.ExtentLemmas.{length_is, greater_ahead, greater_behind, lesser_ahead, lesser_down, lesser_up}
 use Rattle.sr_audit.proofs.FollowLemmas.{family_came, none_stands}
@@ -367,14 +366,7 @@ goes_row : (spans : Spans) (z : Placed) (before : List Placed) (rest : List (Lis
     KeepsRow spans (current (with_arrival ((z ∷ before) ∷ rest) x))
     (row_by spans (window_of n.seen) moments r (step_by (wire (top_number (z ∷ before))) z.time x))
 goes_row spans z before rest x n moments r stands times keeps =
-    elim (cases_lt (x.time - z.time) epoch_gap) [
-      | inl soon ↦ near soon (cases_lt (steps x.seq.0 (wire t)) kept_numbers) (cases_lt (steps (wire t) x.seq.0) kept_numbers)
-      | inr silent ↦
-          elim (cases_Bool (nat_eq x.seq.0 ((wire t + 1) % 65536))) [
-            | inl next ↦ rw (le-ltb (x.time - z.time) epoch_gap silent, le-leb epoch_gap (x.time - z.time) silent, next) (begun_row spans x)
-            | inr other ↦ rw (le-ltb (x.time - z.time) epoch_gap silent, le-leb epoch_gap (x.time - z.time) silent, other) (begun_row spans x)
-          ]
-    ]
+    place (cases_lt (steps x.seq.0 (wire t)) kept_numbers) (cases_lt (steps (wire t) x.seq.0) kept_numbers) (cases_Bool soon)
   where
     s : List Placed
     s = z ∷ before
@@ -382,33 +374,37 @@ goes_row spans z before rest x n moments r stands times keeps =
     t : ℤ
     t = top_number s
 
+    soon : Bool
+    soon = nat_lt (x.time - z.time) epoch_gap
+
     -- by the place of the number
     By : Distance → Type 0
-    By p = KeepsRow spans
-        (current (cond (nat_lt (x.time - z.time) epoch_gap && not (is_far p)) ((copy_as x (number_at t p) ∷ s) ∷ rest) (stretch_begun x ∷ s ∷ rest)))
-        (row_by spans (window_of n.seen) moments r
-        (cond (nat_le epoch_gap (x.time - z.time)) (cond (nat_eq x.seq.0 ((wire t + 1) % 65536)) Resume Restart) (cond (is_far p) Jump (On p))))
+    By p = KeepsRow spans (current (cond (goes_to soon p) ((copy_as x (number_at t p) ∷ s) ∷ rest) (stretch_begun x ∷ s ∷ rest)))
+        (row_by spans (window_of n.seen) moments r (step_to soon p))
 
     lies : (b : Bool) → nat_lt (steps x.seq.0 (wire t)) kept_numbers ≡ b →
         cond b (Behind (steps x.seq.0 (wire t))) (Ahead (steps (wire t) x.seq.0)) ≡ lies_from s x.seq.0
     lies b e = ap (λ c. cond c (Behind (steps x.seq.0 (wire t))) (Ahead (steps (wire t) x.seq.0))) (sym e)
 
-    near : x.time - z.time < epoch_gap → (steps x.seq.0 (wire t) < kept_numbers) ⊎ (kept_numbers ≤ steps x.seq.0 (wire t)) →
-        (steps (wire t) x.seq.0 < kept_numbers) ⊎ (kept_numbers ≤ steps (wire t) x.seq.0) → By (lies_from s x.seq.0)
-    near soon (inl less) any =
+    place : (steps x.seq.0 (wire t) < kept_numbers) ⊎ (kept_numbers ≤ steps x.seq.0 (wire t)) →
+        (steps (wire t) x.seq.0 < kept_numbers) ⊎ (kept_numbers ≤ steps (wire t) x.seq.0) → (soon ≡ true) ⊎ (soon ≡ false) → By (lies_from s x.seq.0)
+    place (inl less) any (inl near) =
         subst By (lies true (lt-ltb (steps x.seq.0 (wire t)) kept_numbers less))
-        (rw (lt-ltb (x.time - z.time) epoch_gap soon, lt-leb epoch_gap (x.time - z.time) soon)
-        (behind_row spans z before x (t -ℤ pos (steps x.seq.0 (wire t))) (steps x.seq.0 (wire t)) r refl less keeps))
-    near soon (inr more) (inl close) =
+        (rw near (behind_row spans z before x (t -ℤ pos (steps x.seq.0 (wire t))) (steps x.seq.0 (wire t)) r refl less keeps))
+    place (inl less) any (inr silent) =
+        subst By (lies true (lt-ltb (steps x.seq.0 (wire t)) kept_numbers less)) (rw silent (begun_row spans x))
+    place (inr more) (inl close) any =
         subst By (lies false (le-ltb (steps x.seq.0 (wire t)) kept_numbers more))
-        (rw (lt-ltb (x.time - z.time) epoch_gap soon, lt-leb epoch_gap (x.time - z.time) soon, lt-leb kept_numbers (steps (wire t) x.seq.0) close)
+        (rw (lt-leb kept_numbers (steps (wire t) x.seq.0) close)
         (subst (KeepsRow spans (copy_as x (t +ℤ pos (steps (wire t) x.seq.0)) ∷ s))
         (sym (kept_on spans s n moments stands.seen times (steps (wire t) x.seq.0) (omega (arith, close)) r))
         (ahead_row spans z before x (t +ℤ pos (steps (wire t) x.seq.0)) (steps (wire t) x.seq.0) r refl close keeps)))
-    near soon (inr more) (inr far) =
+    place (inr more) (inr far) (inl near) =
         subst By (lies false (le-ltb (steps x.seq.0 (wire t)) kept_numbers more))
-        (rw (lt-ltb (x.time - z.time) epoch_gap soon, lt-leb epoch_gap (x.time - z.time) soon, le-leb kept_numbers (steps (wire t) x.seq.0) far)
-        (begun_row spans x))
+        (rw (near, le-leb kept_numbers (steps (wire t) x.seq.0) far) (begun_row spans x))
+    place (inr more) (inr far) (inr silent) =
+        subst By (lies false (le-ltb (steps x.seq.0 (wire t)) kept_numbers more))
+        (rw (silent, le-leb kept_numbers (steps (wire t) x.seq.0) far) (begun_row spans x))
 
 pub row_follows : (spans : Spans) (xs : List Arrival) (x : Arrival) (o : Option Numbers) (moments : List ℕ) (r : Option Row) → IsKeptIn xs o →
     KeepsTimes (current (stretches xs)) moments → KeepsRow spans (current (stretches xs)) r →

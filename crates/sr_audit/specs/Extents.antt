@@ -3,9 +3,7 @@ use Rattle.std.specs.Prelude.{
   ℕ,
   ◌+◌,
   ◌-◌,
-  ◌%◌,
   nat_lt,
-  nat_eq,
   Bool,
   false,
   not,
@@ -22,11 +20,10 @@ use Rattle.std.specs.Prelude.{
   if◌then◌else◌,
 }
 use Rattle.std.specs.List.{list_any}
-use Rattle.sr_sequence.specs.Numbers.{wire}
 use Rattle.sr_audit.specs.declared.arrival.Arrival.{Arrival}
 use Rattle.sr_audit.specs.declared.side.Side.{Side}
 use Rattle.sr_audit.specs.Limits.{epoch_gap}
-use Rattle.sr_audit.specs.Stretches.{Placed, same_side, came, top_number, newest_time, lies_from, is_far, stretches}
+use Rattle.sr_audit.specs.Stretches.{Placed, same_side, came, top_number, newest_time, lies_from, is_far, goes_on, stretches}
 use Rattle.sr_audit.specs.Tallies.{frames}
 
 -- the lesser of two numbers
@@ -68,10 +65,10 @@ abbrev pub is_jump : List (List Placed) → Arrival → Bool
 is_jump [] x = false
 is_jump (s ∷ before) x = nat_lt (x.time - newest_time s) epoch_gap && is_far (lies_from s x.seq.0)
 
--- an arrival begins an epoch, and its number is not the one behind the greatest of the stretch before
+-- an arrival begins a stretch behind a silence of 400 ms: its number is not 1 to 1023 ahead
 abbrev pub is_restart : List (List Placed) → Arrival → Bool
 is_restart [] x = false
-is_restart (s ∷ before) x = not (nat_lt (x.time - newest_time s) epoch_gap) && not (nat_eq x.seq.0 ((wire (top_number s) + 1) % 65536))
+is_restart (s ∷ before) x = not (nat_lt (x.time - newest_time s) epoch_gap) && not (goes_on s x)
 
 -- how many arrivals pass a test of the stretches before them
 abbrev pub arrivals_with : (List (List Placed) → Arrival → Bool) → List Arrival → ℕ

@@ -9,7 +9,8 @@ kept_numbers = 1024
 abbrev pub place_in : ℕ → ℕ
 place_in seq = seq % kept_numbers
 
--- how long a source is silent whose next number begins an epoch, in nanoseconds: EntryForgetTime (IEC 62439-3 clauses 4 and 5)
+-- how long a source is silent behind which its greatest number, or one behind it, is that of another frame, in nanoseconds: EntryForgetTime
+-- (IEC 62439-3 clauses 4 and 5)
 abbrev pub epoch_gap : ℕ
 epoch_gap = 400000000
 

@@ -12,7 +12,7 @@ use Rattle.sr_audit.specs.declared.listing.Listed.{Listed}
 use Rattle.sr_audit.specs.declared.listing.Listed.TheVariants.{Lost, Pair, Neither}
 use Rattle.sr_audit.specs.declared.pending.Pending.{Pending}
 use Rattle.sr_audit.specs.declared.look.Step.{Step}
-use Rattle.sr_audit.specs.declared.look.Step.TheVariants.{First, Restart, Resume, Jump, On}
+use Rattle.sr_audit.specs.declared.look.Step.TheVariants.{First, Restart, Jump, On}
 use Rattle.sr_audit.specs.declared.side.Side.{Side}
 use Rattle.sr_audit.specs.declared.side.Side.TheVariants.{A, B}
 use Rattle.sr_audit.specs.declared.span.Spans.{Spans}
@@ -159,7 +159,6 @@ pub record SettlesAll (new : Pending) : Type 0 where
 abbrev pub MovesTo : Step → Arrival → Pending → Pending → Type 0
 MovesTo First x old new = new ≡ old
 MovesTo Restart x old new = SettlesAll new
-MovesTo Resume x old new = SettlesAll new
 MovesTo Jump x old new = SettlesAll new
 MovesTo (On (Ahead steps)) x old new = steps < kept_numbers → PassesAhead x.seq.0 x.time steps old new
 MovesTo (On (Behind steps)) x old new = steps < kept_numbers → PassesOver x.seq.0 x.time old.reach steps old new
@@ -184,7 +183,6 @@ pub record ListsWaiting (spans : Spans) (p : Pending) (src : Mac) (greatest : �
 abbrev pub ListsDecided : Spans → Pending → Copied → ℕ → Step → List Listed → List Listed → Type 0
 ListsDecided spans p x greatest First before after = after ≡ before
 ListsDecided spans p x greatest Restart before after = ListsWaiting spans p x.src greatest before after
-ListsDecided spans p x greatest Resume before after = ListsWaiting spans p x.src greatest before after
 ListsDecided spans p x greatest Jump before after = ListsWaiting spans p x.src greatest before after
 ListsDecided spans p x greatest (On (Ahead steps)) before after = after ≡ before ++ left_behind spans p x.src x.arrival.seq.0 steps steps
 ListsDecided spans p x greatest (On (Behind steps)) before after = after ≡ before
@@ -193,7 +191,6 @@ ListsDecided spans p x greatest (On (Behind steps)) before after = after ≡ bef
 abbrev pub IsStepWithin : Step → Type 0
 IsStepWithin First = Unit {0}
 IsStepWithin Restart = Unit {0}
-IsStepWithin Resume = Unit {0}
 IsStepWithin Jump = Unit {0}
 IsStepWithin (On (Ahead steps)) = steps < kept_numbers
 IsStepWithin (On (Behind steps)) = Unit {0}

@@ -1,21 +1,26 @@
 -- What an arrival is to the stretches before it.
-use Rattle.std.specs.Prelude.{ℕ, ◌+◌, ◌-◌, ◌%◌, nat_eq, nat_le, false, List, [], ◌∷◌, ℤ, if◌then◌else◌}
+use Rattle.std.specs.Prelude.{ℕ, ◌-◌, nat_lt, nat_le, Bool, false, List, [], ◌∷◌, ℤ, if◌then◌else◌}
 use Rattle.sr_sequence.specs.Numbers.{wire}
 use Rattle.sr_sequence.specs.Places.{place_of, number_at}
+use Rattle.sr_sequence.specs.declared.Distance.{Distance}
+use Rattle.sr_sequence.specs.declared.Distance.TheVariants.{Behind, Ahead}
 use Rattle.sr_audit.specs.declared.arrival.Arrival.{Arrival}
 use Rattle.sr_audit.specs.declared.side.Side.TheVariants.{A, B}
 use Rattle.sr_audit.specs.declared.tally.Came.{Came}
 use Rattle.sr_audit.specs.declared.look.Look.{Look}
 use Rattle.sr_audit.specs.declared.look.Step.{Step}
-use Rattle.sr_audit.specs.declared.look.Step.TheVariants.{First, Restart, Resume, Jump, On}
+use Rattle.sr_audit.specs.declared.look.Step.TheVariants.{First, Restart, Jump, On}
 use Rattle.sr_audit.specs.Limits.{kept_numbers, epoch_gap}
-use Rattle.sr_audit.specs.Stretches.{Placed, came, is_far, lies_from, goes_on, top_number, newest_time}
+use Rattle.sr_audit.specs.Stretches.{Placed, came, lies_from, goes_on, top_number, newest_time}
+
+-- how a number stands to a stretch, whose newest copy came less than 400 ms before or not
+abbrev pub step_to : Bool → Distance → Step
+step_to soon (Behind k) = if soon then On (Behind k) else Restart
+step_to soon (Ahead k) = if nat_le kept_numbers k then (if soon then Jump else Restart) else On (Ahead k)
 
 -- how an arrival stands to a stretch whose greatest number is carried so, and whose newest copy came then
 abbrev pub step_by : ℕ → ℕ → Arrival → Step
-step_by reference last x =
-    if nat_le epoch_gap (x.time - last) then (if nat_eq x.seq.0 ((reference + 1) % 65536) then Resume else Restart)
-    else if is_far (place_of reference x.seq.0 kept_numbers) then Jump else On (place_of reference x.seq.0 kept_numbers)
+step_by reference last x = step_to (nat_lt (x.time - last) epoch_gap) (place_of reference x.seq.0 kept_numbers)
 
 -- by which sides copies of a frame came in a stretch
 abbrev pub came_by : List Placed → ℤ → Came

@@ -29,7 +29,7 @@ use Rattle.sr_audit.specs.declared.extent.Extent.{Extent}
 use Rattle.sr_audit.specs.declared.extent.Tops.{Tops}
 use Rattle.sr_audit.specs.declared.look.Look.{Look}
 use Rattle.sr_audit.specs.declared.look.Step.{Step}
-use Rattle.sr_audit.specs.declared.look.Step.TheVariants.{First, Restart, Resume, Jump, On}
+use Rattle.sr_audit.specs.declared.look.Step.TheVariants.{First, Restart, Jump, On}
 use Rattle.sr_audit.specs.declared.side.Side.{Side}
 use Rattle.sr_audit.specs.declared.side.Side.TheVariants.{A, B}
 use Rattle.sr_audit.specs.declared.tally.Came.{Came}
@@ -125,7 +125,6 @@ extent_jumped side e = record {
 
 abbrev pub extent_by : Side → Came → Step → Extent → Extent
 extent_by side came First e = extent_begun side e
-extent_by side came Resume e = extent_begun side e
 extent_by side came Restart e = extent_restarted side e
 extent_by side came Jump e = extent_jumped side e
 extent_by side came (On (Ahead steps)) e = extent_ahead side steps e

@@ -25,7 +25,7 @@ use Rattle.sr_sequence.specs.declared.Distance.TheVariants.{Behind, Ahead}
 use Rattle.sr_dup_window.specs.Windows.{Window, window_of, has_of}
 use Rattle.sr_audit.specs.declared.arrival.Arrival.{Arrival}
 use Rattle.sr_audit.specs.declared.look.Step.{Step}
-use Rattle.sr_audit.specs.declared.look.Step.TheVariants.{First, Restart, Resume, Jump, On}
+use Rattle.sr_audit.specs.declared.look.Step.TheVariants.{First, Restart, Jump, On}
 use Rattle.sr_audit.specs.declared.numbers.Numbers.{Numbers}
 use Rattle.sr_audit.specs.declared.row.Row.{Row}
 use Rattle.sr_audit.specs.declared.side.Side.{Side}
@@ -86,7 +86,6 @@ row_kept spans w moments (suc k) r =
 abbrev pub row_by : Spans → Window → List ℕ → Option Row → Step → Option Row
 row_by spans w moments r First = None
 row_by spans w moments r Restart = None
-row_by spans w moments r Resume = None
 row_by spans w moments r Jump = None
 row_by spans w moments r (On (Ahead steps)) = row_kept spans w moments steps r
 row_by spans w moments r (On (Behind steps)) = r

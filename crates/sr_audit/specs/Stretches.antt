@@ -43,10 +43,16 @@ is_far (Ahead k) = nat_le kept_numbers k
 abbrev pub lies_from : List Placed → ℕ → Distance
 lies_from s seq = place_of (wire (top_number s)) seq kept_numbers
 
--- an arrival goes on with a stretch: less than 400 ms behind its newest copy, and no more than 1023 ahead of its greatest number
+-- a number goes on with a stretch, whose newest copy came less than 400 ms before or not: one that is 1 to 1023 ahead of the greatest does
+-- behind any silence, and the greatest itself, or one behind it, only where there was none
+abbrev pub goes_to : Bool → Distance → Bool
+goes_to soon (Behind k) = soon
+goes_to soon (Ahead k) = not (nat_le kept_numbers k)
+
+-- an arrival goes on with a stretch
 abbrev pub goes_on : List Placed → Arrival → Bool
 goes_on [] x = false
-goes_on (y ∷ before) x = nat_lt (x.time - y.time) epoch_gap && not (is_far (lies_from (y ∷ before) x.seq.0))
+goes_on (y ∷ before) x = goes_to (nat_lt (x.time - y.time) epoch_gap) (lies_from (y ∷ before) x.seq.0)
 
 abbrev pub copy_as : Arrival → ℤ → Placed
 copy_as x number = record { side = x.side; number = number; time = x.time }

@@ -114,9 +114,9 @@ pub(crate) struct Extent {
     pub lengths: u64,
     /// First copies behind a greater number of their side.
     pub order: Sides,
-    /// Stretches that begin with a number more than 1023 ahead.
+    /// Stretches that begin with a number more than 1023 ahead, of a source that was not silent.
     pub jumps: u64,
-    /// Epochs that do not begin with the number behind the last one.
+    /// Stretches that begin behind a silence.
     pub restarts: u64,
 }
 
@@ -166,7 +166,7 @@ impl Extent {
         ensures { self.new ≡ extent_with side look self.old }
     {
         match look.step {
-            Step::First | Step::Resume => self.begin(side),
+            Step::First => self.begin(side),
             Step::Restart => {
                 self.restarts = self.restarts.saturating_add(1);
                 self.begin(side);

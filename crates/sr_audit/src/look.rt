@@ -8,11 +8,9 @@ use sr_sequence::Distance;
 pub(crate) enum Step {
     /// It is the first of its source.
     First,
-    /// It begins an epoch: the source was silent for 400 ms. The greatest number so far does not stand just before it.
+    /// It begins a stretch: the source was silent for 400 ms, and the number does not lie 1 to 1023 ahead.
     Restart,
-    /// It begins an epoch with the number behind the greatest one so far.
-    Resume,
-    /// It begins a stretch: its number lies more than 1023 ahead.
+    /// It begins a stretch: its number lies more than 1023 ahead, though the source was not silent.
     Jump,
     /// It goes on with the stretch: its number lies there from the greatest one, at most 1023 ahead.
     On(Distance),

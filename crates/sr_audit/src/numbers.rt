@@ -1,17 +1,17 @@
 //! What is kept of the numbers of a source.
 
-ghost use Rattle.std.specs.Prelude.{◌≡◌, ◌+◌, ◌-◌, ◌^◌, ◌<◌, ◌&&◌, false, not, nat_lt, nat_le, List, [], ◌∷◌, length};
+ghost use Rattle.std.specs.Prelude.{◌≡◌, ◌+◌, ◌-◌, ◌^◌, ◌<◌, false, nat_lt, List, [], ◌∷◌, length};
 ghost use Rattle.sr_sequence.specs.Places.{place_of};
 ghost use Rattle.sr_dup_window.specs.LaneSets.{only};
 ghost use Rattle.sr_dup_window.specs.Windows.{window_of, window_begun, window_noted, has_of};
 ghost use Rattle.sr_audit.specs.declared.arrival.Arrival.{Arrival};
 ghost use Rattle.sr_audit.specs.declared.side.Side.TheVariants.{A, B};
 ghost use Rattle.sr_audit.specs.Limits.{kept_numbers, epoch_gap};
-ghost use Rattle.sr_audit.specs.Stretches.{stretches, is_far};
+ghost use Rattle.sr_audit.specs.Stretches.{stretches, goes_to};
 ghost use Rattle.sr_audit.specs.Tallies.{tally_of};
 ghost use Rattle.sr_audit.specs.Counting.{tally_with};
 ghost use Rattle.sr_audit.specs.Lanes.{side_lane};
-ghost use Rattle.sr_audit.specs.Looks.{step_by, look_at};
+ghost use Rattle.sr_audit.specs.Looks.{step_to, step_by, look_at};
 
 use crate::arrival::Arrival;
 use crate::look::{Look, Step};
@@ -23,8 +23,8 @@ use sr_sequence::{Distance, Seq, place};
 /// How many numbers of a source are remembered, up to the greatest one (choice of this project).
 pub(crate) const KEPT_NUMBERS: u16 = 1024;
 
-/// How long a source is silent whose next number begins an epoch: EntryForgetTime, 400 ms, in nanoseconds (IEC 62439-3
-/// clauses 4 and 5).
+/// How long a source is silent behind which its greatest number, or one behind it, is that of another frame: EntryForgetTime, 400 ms,
+/// in nanoseconds (IEC 62439-3 clauses 4 and 5).
 const EPOCH_GAP: u64 = 400_000_000;
 
 /// What is kept of the numbers of a source: which of the last 1024 of its stretch came by which side, when it was last heard, and the
@@ -36,13 +36,26 @@ pub struct Numbers {
     tally: Tally,
 }
 
-/// Whether a number lies more than 1023 ahead.
-fn is_far(distance: Distance) -> bool
-    ensures { result ≡ is_far distance }
+/// Whether a number goes on with a stretch, whose newest copy came less than 400 ms before or not.
+fn goes_to(soon: bool, distance: Distance) -> bool
+    ensures { result ≡ goes_to soon distance }
 {
     match distance {
-        Distance::Behind(_) => false,
-        Distance::Ahead(steps) => KEPT_NUMBERS <= steps,
+        Distance::Behind(_) => soon,
+        Distance::Ahead(steps) => steps < KEPT_NUMBERS,
+    }
+}
+
+/// How a number stands to a stretch, whose newest copy came less than 400 ms before or not.
+fn step_to(soon: bool, distance: Distance) -> Step
+    ensures { result ≡ step_to soon distance }
+{
+    match distance {
+        Distance::Behind(_) if !soon => Step::Restart,
+        Distance::Ahead(steps) if KEPT_NUMBERS <= steps => {
+            if soon { Step::Jump } else { Step::Restart }
+        }
+        _ => Step::On(distance),
     }
 }
 
@@ -100,38 +113,31 @@ impl Numbers {
 
     /// Whether an arrival goes on with the stretch.
     fn goes_on(&self, x: Arrival) -> bool
-        ensures { result ≡ (nat_lt (x.time - self.now.last) epoch_gap && not (is_far
-            (place_of (window_of self.now.seen).reference x.seq.0 kept_numbers))) }
+        ensures { result ≡ goes_to (nat_lt (x.time - self.now.last) epoch_gap)
+            (place_of (window_of self.now.seen).reference x.seq.0 kept_numbers) }
     {
-        let distance = place(self.seen.reference(), x.seq, KEPT_NUMBERS);
-        x.time.saturating_sub(self.last) < EPOCH_GAP && !is_far(distance)
+        goes_to(self.is_soon(x), self.distance(x))
     }
 
     /// How an arrival stands to the stretch.
     pub(crate) fn step(&self, x: Arrival) -> Step
         ensures { result ≡ step_by (window_of self.now.seen).reference self.now.last x }
     {
-        let reference = self.seen.reference();
-        if self.is_silent(x) {
-            return if x.seq == reference.next() {
-                Step::Resume
-            } else {
-                Step::Restart
-            };
-        }
-        let distance = place(reference, x.seq, KEPT_NUMBERS);
-        if is_far(distance) {
-            Step::Jump
-        } else {
-            Step::On(distance)
-        }
+        step_to(self.is_soon(x), self.distance(x))
     }
 
-    /// Whether the source was silent for 400 ms before an arrival.
-    fn is_silent(&self, x: Arrival) -> bool
-        ensures { result ≡ nat_le epoch_gap (x.time - self.now.last) }
+    /// Where the number of an arrival lies from the greatest one of the stretch.
+    fn distance(&self, x: Arrival) -> Distance
+        ensures { result ≡ place_of (window_of self.now.seen).reference x.seq.0 kept_numbers }
     {
-        EPOCH_GAP <= x.time.saturating_sub(self.last)
+        place(self.seen.reference(), x.seq, KEPT_NUMBERS)
+    }
+
+    /// Whether an arrival comes less than 400 ms behind the newest copy of the stretch.
+    fn is_soon(&self, x: Arrival) -> bool
+        ensures { result ≡ nat_lt (x.time - self.now.last) epoch_gap }
+    {
+        x.time.saturating_sub(self.last) < EPOCH_GAP
     }
 
     /// The greatest number of the stretch.

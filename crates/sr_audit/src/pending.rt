@@ -298,9 +298,7 @@ impl Pending {
     {
         match step {
             Step::First => Ok(()),
-            Step::Restart | Step::Resume | Step::Jump => {
-                self.end_stretch(x.src, greatest, spans, list)
-            }
+            Step::Restart | Step::Jump => { self.end_stretch(x.src, greatest, spans, list) }
             Step::On(Distance::Ahead(steps)) => self.go_ahead(x, steps, spans, list),
             Step::On(Distance::Behind(steps)) => {
                 self.go_back(x.arrival, steps);

@@ -31,9 +31,9 @@ pub struct Figures {
     pub neither: u64,
     /// First copies behind a greater number of their side.
     pub order: Sides,
-    /// Stretches that begin with a number more than 1023 ahead.
+    /// Stretches that begin with a number more than 1023 ahead, of a source that was not silent.
     pub jumps: u64,
-    /// Epochs that do not begin with the number behind the last one.
+    /// Stretches that begin behind a silence of 400 ms: with a number that does not lie 1 to 1023 ahead.
     pub restarts: u64,
     /// How far apart the copies of pairs came.
     pub skews: Skews,
@@ -239,7 +239,7 @@ impl Source {
                     row_over(numbers, &self.moments, spans, self.row, steps)
                 }
                 Step::On(Distance::Behind(_)) => self.row,
-                Step::First | Step::Restart | Step::Resume | Step::Jump => None,
+                Step::First | Step::Restart | Step::Jump => None,
             },
             None => None,
         };

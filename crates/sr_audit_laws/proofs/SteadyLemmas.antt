@@ -1,5 +1,5 @@
 -- An audit of a steady run counts the frames that go up.
-use Rattle.std.proofs.Common.{◌≡◌, ℕ, ◌+◌, ◌-◌, ◌*◌, ◌/◌, ◌%◌, ◌<◌, ◌≤◌, Bool, true, false, cond, ◌||◌, ◌&&◌, not, List, [], ◌∷◌, length, ℤ, pos, negsuc, arith, refl, sym, ap, ◌∙◌, subst, inl, inr}
+use Rattle.std.proofs.Common.{◌≡◌, ℕ, ◌+◌, ◌-◌, ◌*◌, ◌/◌, ◌%◌, ◌<◌, ◌≤◌, Bool, true, false, cond, ◌||◌, ◌&&◌, not, List, [], ◌∷◌, ◌++◌, length, ℤ, pos, negsuc, arith, refl, sym, ap, ◌∙◌, subst, inl, inr}
 use Rattle.std.specs.Prelude.{count_by, sum_by, nat_lt, ◌+ℤ◌, ◌-ℤ◌}
 use Rattle.std.specs.Ordering.{int_eq}
 use Rattle.std.proofs.lemmas.Bool.{cases_Bool, false_from_ne_true}
@@ -13,6 +13,8 @@ use Rattle.sr_frame.specs.AddressLemmas.{mac_same}
 use Rattle.sr_sequence.specs.Numbers.{wire, IsNear}
 use Rattle.sr_sequence.specs.NumberLemmas.{wire-lt}
 use Rattle.sr_sequence.specs.Places.{number_at, IsTheOne}
+use Rattle.sr_sequence.specs.declared.Distance.{Distance}
+use Rattle.sr_sequence.specs.declared.Distance.TheVariants.{Behind, Ahead}
 use Rattle.sr_dup_window.specs.declared.lane_sets.Lane.{Lane}
 use Rattle.sr_dup_window.specs.declared.lane_sets.Lane.TheVariants.{H, GotA, GotB}
 use Rattle.sr_dup_window.specs.LaneSets.{has}
@@ -57,6 +59,7 @@ use Rattle.sr_audit.specs.Stretches.{
   newest_time,
   is_far,
   lies_from,
+  goes_to,
   goes_on,
   gone_on,
   stretch_begun,
@@ -75,6 +78,9 @@ use Rattle.sr_audit_laws.specs.Steady.{
   IsNotedAs,
   AreNotedAs,
   AreSilentAlike,
+  newest_number,
+  GoesOnAlike,
+  AreGoneOnAlike,
   run_copy,
   run_copies,
   handed_up,
@@ -375,22 +381,44 @@ start_unseen m seq is n =
         (uz + 65535 * dz) % 65536 ≡ (un + 65535 * dn) % 65536
     rest uz dz un dn um dm seq e f = omega (arith, e, f)
 
+-- the current stretch has the newest copies of the source under a constant, and the newest of these are those of the epoch, with the greatest
+-- number of the stretch among them
 record Linked (src : Mac) (cs : List Sent) (xs : List Noting) (y : Arrival) (ys : List Arrival) (d : ℤ) : Type 0 where
   unseen : IsUnseen d
-  linked : recent src (y.time / clock_step) cs xs ≡ shifted d (current (stretches (y ∷ ys)))
+  older : List Placed
+  earlier : List Placed
+  newest : Placed
+  behind : List Placed
+  whole : run_copies src cs xs ≡ shifted d (current (stretches (y ∷ ys))) ++ older
+  linked : shifted d (current (stretches (y ∷ ys))) ≡ recent src (y.time / clock_step) cs xs ++ earlier
+  some : recent src (y.time / clock_step) cs xs ≡ newest ∷ behind
+  top : top_number (recent src (y.time / clock_step) cs xs) ≡ top_number (shifted d (current (stretches (y ∷ ys))))
 
 abbrev Links : Mac → List Sent → List Noting → List Arrival → Type 0
 Links src cs xs [] = Unit {0}
 Links src cs xs (y ∷ ys) = (d : ℤ) × Linked src cs xs y ys d
 
--- an audit's count of frames is that of all copies, and its current stretch is the epoch of the run
+-- an audit's count of frames is that of all copies, and its current stretch has the newest of them
 abbrev Counts : (Bool → Bool → Bool) → Mac → List Sent → List Noting → List Arrival → Type 0
 Counts test src cs xs ys = (sum_by (frames_with test) (stretches ys) ≡ frames_with test (run_copies src cs xs)) × Links src cs xs ys
 
 links_other : (src : Mac) (c : Sent) (cs : List Sent) (x : Noting) (xs : List Noting) (ys : List Arrival) → mac_eq src c.0 ≡ false →
     Links src cs xs ys → Links src (c ∷ cs) (x ∷ xs) ys
 links_other src c cs x xs [] other links = tt
-links_other src c cs x xs (y ∷ ys) other (d, l) = (d, record { unseen = l.unseen; linked = rw other l.linked })
+links_other src c cs x xs (y ∷ ys) other (d, l) = (
+  d,
+  record {
+    unseen = l.unseen;
+    older = l.older;
+    earlier = l.earlier;
+    newest = l.newest;
+    behind = l.behind;
+    whole = rw other l.whole;
+    linked = rw other l.linked;
+    some = rw other l.some;
+    top = rw other l.top;
+  },
+)
 
 -- the newest copy of the current stretch
 newest_is : (y : Arrival) (ys : List Arrival) → newest_time (current (stretches (y ∷ ys))) ≡ y.time
@@ -422,6 +450,11 @@ no_jump_first false n e = refl
 no_jump_rest : (b : Bool) (n : ℕ) → cond b 1 0 + n ≡ 0 → n ≡ 0
 no_jump_rest true n e = omega (arith, e)
 no_jump_rest false n e = omega (arith, e)
+
+-- a number that is no jump goes on where its source was not silent
+near_on : (p : Distance) → is_far p ≡ false → goes_to true p ≡ true
+near_on (Behind k) near = refl
+near_on (Ahead k) near = ap not near
 
 -- an arrival of the source
 own_src : (src : Mac) (c : Sent) (x : Noting) → IsNotedAs c x → mac_eq src c.0 ≡ true → x.arrival.src ≡ src
@@ -476,21 +509,52 @@ began_linked src c cs x xs ys noted own none begun = (
   x.arrival.number -ℤ pos c.1.seq.0,
   record {
     unseen = start_unseen x.arrival.number c.1.seq.0 noted.number;
-    linked = recent_own src c cs x xs noted own ∙ ap (λ l. run_copy c x ∷ l) none
-        ∙ ap (λ m. record { side = c.1.side; number = m; time = c.1.time } ∷ []) (sym (from_start x.arrival.number c.1.seq.0))
-        ∙ ap (shifted (x.arrival.number -ℤ pos c.1.seq.0)) (sym begun);
+    older = run_copies src cs xs;
+    earlier = [];
+    newest = run_copy c x;
+    behind = [];
+    whole = rw own (ap (λ l. l ++ run_copies src cs xs) one);
+    linked = sym one ∙ ap (λ l. l ++ []) (sym alone);
+    some = alone;
+    top = ap top_number (alone ∙ one);
   },
 )
+  where
+    alone : recent src (c.1.time / clock_step) (c ∷ cs) (x ∷ xs) ≡ run_copy c x ∷ []
+    alone = recent_own src c cs x xs noted own ∙ ap (λ l. run_copy c x ∷ l) none
 
--- an arrival that goes on with a stretch goes on with the epoch
-went : (test : Bool → Bool → Bool) (src : Mac) (c : Sent) (cs : List Sent) (x : Noting) (xs : List Noting) (y : Arrival) (ys : List Arrival) (z : Placed)
-    (before : List Placed) (rest : List (List Placed)) (d : ℤ) → AreNotedAs (c ∷ cs) (x ∷ xs) → mac_eq src c.0 ≡ true →
-    IsNext kept_numbers (arrivals_of xs) x.arrival → IsUnseen d → recent src x.arrival.time cs xs ≡ shifted d (z ∷ before) →
-    current (stretches (c.1 ∷ ys)) ≡ gone_on (z ∷ before) c.1 → c.1.seq.0 < 65536 →
-    sum_by (frames_with test) ((z ∷ before) ∷ rest) ≡ frames_with test (run_copies src cs xs) →
-    (sum_by (frames_with test) (gone_on (z ∷ before) c.1 ∷ rest) ≡ frames_with test (run_copy c x ∷ run_copies src cs xs))
+    one : run_copy c x ∷ [] ≡ shifted (x.arrival.number -ℤ pos c.1.seq.0) (current (stretches (c.1 ∷ ys)))
+    one = ap (λ m. record { side = c.1.side; number = m; time = c.1.time } ∷ []) (sym (from_start x.arrival.number c.1.seq.0))
+        ∙ ap (shifted (x.arrival.number -ℤ pos c.1.seq.0)) (sym begun)
+
+-- copies of two lists
+came_both : (side : Side) (n : ℤ) (s t : List Placed) → came side n (s ++ t) ≡ (came side n s || came side n t)
+came_both side n [] t = refl
+came_both side n (y ∷ s) t =
+    ap (λ b. (int_eq n y.number && same_side side y.side) || b) (came_both side n s t)
+    ∙ or_more (int_eq n y.number && same_side side y.side) (came side n s) (came side n t)
+  where
+    or_more : (a b c : Bool) → (a || (b || c)) ≡ ((a || b) || c)
+    or_more true b c = refl
+    or_more false b c = refl
+
+-- what is among the newest alone is no further among all between
+squeeze : (r e o : Bool) → ((r || e) || o) ≡ r → (r || e) ≡ ((r || e) || o)
+squeeze true e o h = refl
+squeeze false true o h = refl
+squeeze false false o h = sym h
+
+-- an arrival that goes on with a stretch is the newest copy of the run
+went : (test : Bool → Bool → Bool) (src : Mac) (c : Sent) (cs : List Sent) (x : Noting) (xs : List Noting) (ys : List Arrival) (s : List Placed)
+    (rest : List (List Placed)) (d : ℤ) (older earlier : List Placed) → AreNotedAs (c ∷ cs) (x ∷ xs) → mac_eq src c.0 ≡ true →
+    IsNext kept_numbers (arrivals_of xs) x.arrival → IsUnseen d → run_copies src cs xs ≡ shifted d s ++ older →
+    shifted d s ≡ recent src x.arrival.time cs xs ++ earlier →
+    number_at (top_number s) (lies_from s c.1.seq.0) +ℤ d ≡ x.arrival.number →
+    top_number (run_copy c x ∷ recent src x.arrival.time cs xs) ≡ top_number (run_copy c x ∷ shifted d s) →
+    current (stretches (c.1 ∷ ys)) ≡ gone_on s c.1 → sum_by (frames_with test) (s ∷ rest) ≡ frames_with test (run_copies src cs xs) →
+    (sum_by (frames_with test) (gone_on s c.1 ∷ rest) ≡ frames_with test (run_copy c x ∷ run_copies src cs xs))
     × Links src (c ∷ cs) (x ∷ xs) (c.1 ∷ ys)
-went test src c cs x xs y ys z before rest d noted own next unseen epoch_is on fits e = (
+went test src c cs x xs ys s rest d older earlier noted own next unseen whole linked number_of top on e = (
   sum_by-cons (frames_with test) (gone_on s c.1) rest
       ∙ more_alike test (copy_as c.1 n) (run_copy c x) s (run_copies src cs xs) (sum_by (frames_with test) rest) refl (came_is A) (came_is B)
       (sym (sum_by-cons (frames_with test) s rest) ∙ e),
@@ -498,11 +562,50 @@ went test src c cs x xs y ys z before rest d noted own next unseen epoch_is on f
     d,
     record {
       unseen = unseen;
-      linked = recent_own src c cs x xs noted.0 own ∙ ap (λ l. run_copy c x ∷ l) epoch_is
-          ∙ ap (λ k. record { side = c.1.side; number = k; time = c.1.time } ∷ shifted d s) (sym number_of) ∙ ap (shifted d) (sym on);
+      older = older;
+      earlier = earlier;
+      newest = run_copy c x;
+      behind = recent src x.arrival.time cs xs;
+      whole = rw own (ap (λ l. run_copy c x ∷ l) whole ∙ ap (λ l. l ++ older) grown);
+      linked = sym grown ∙ ap (λ l. run_copy c x ∷ l) linked ∙ ap (λ l. l ++ earlier) (sym own_recent);
+      some = own_recent;
+      top = ap top_number own_recent ∙ top ∙ ap top_number grown;
     },
   ),
 )
+  where
+    m : ℤ
+    m = x.arrival.number
+
+    n : ℤ
+    n = number_at (top_number s) (lies_from s c.1.seq.0)
+
+    own_recent : recent src (c.1.time / clock_step) (c ∷ cs) (x ∷ xs) ≡ run_copy c x ∷ recent src x.arrival.time cs xs
+    own_recent = recent_own src c cs x xs noted.0 own
+
+    grown : run_copy c x ∷ shifted d s ≡ shifted d (current (stretches (c.1 ∷ ys)))
+    grown = ap (λ k. record { side = c.1.side; number = k; time = c.1.time } ∷ shifted d s) (sym number_of) ∙ ap (shifted d) (sym on)
+
+    all_is : (side : Side) → came side m (run_copies src cs xs)
+        ≡ ((came side m (recent src x.arrival.time cs xs) || came side m earlier) || came side m older)
+    all_is side = ap (came side m) whole ∙ came_both side m (shifted d s) older
+        ∙ ap (λ b. b || came side m older) (ap (came side m) linked ∙ came_both side m (recent src x.arrival.time cs xs) earlier)
+
+    came_is : (side : Side) → came side n s ≡ came side m (run_copies src cs xs)
+    came_is side = sym (came_shifted side n d s) ∙ ap (λ k. came side k (shifted d s)) number_of ∙ ap (came side m) linked
+        ∙ came_both side m (recent src x.arrival.time cs xs) earlier
+        ∙ squeeze (came side m (recent src x.arrival.time cs xs)) (came side m earlier) (came side m older)
+        (sym (all_is side) ∙ came_whole src side c cs x xs noted own next)
+        ∙ sym (all_is side)
+
+-- the number that the run gives an arrival which goes on in its epoch
+number_near : (src : Mac) (c : Sent) (cs : List Sent) (x : Noting) (xs : List Noting) (z : Placed) (before : List Placed) (d : ℤ) (newest : Placed)
+    (behind : List Placed) → AreNotedAs (c ∷ cs) (x ∷ xs) → mac_eq src c.0 ≡ true → IsNext kept_numbers (arrivals_of xs) x.arrival → IsUnseen d →
+    c.1.seq.0 < 65536 → recent src x.arrival.time cs xs ≡ newest ∷ behind →
+    top_number (recent src x.arrival.time cs xs) ≡ top_number (shifted d (z ∷ before)) →
+    number_at (top_number (z ∷ before)) (lies_from (z ∷ before) c.1.seq.0) +ℤ d ≡ x.arrival.number
+number_near src c cs x xs z before d newest behind noted own next unseen fits some top =
+    forth_again m d n (one.alone (m -ℤ d) near (sym (unseen (m -ℤ d)) ∙ ap wire (back_again m d) ∙ noted.0.number))
   where
     s : List Placed
     s = z ∷ before
@@ -520,29 +623,35 @@ went test src c cs x xs y ys z before rest d noted own next unseen epoch_is on f
     own_next = subst (λ a. IsNearAll kept_numbers (epoch a x.arrival.time (arrivals_of xs)) m) (own_src src c x noted.0 own) next.0
 
     near : IsNear kept_numbers (top_number s) (m -ℤ d)
-    near = near_less (top_number s) m d (subst (λ g. IsNear kept_numbers g m) (top_shifted d z before)
-        (near_recent kept_numbers m (epoch src x.arrival.time (arrivals_of xs)) (shift d z) (shifted d before)
-        (sym (ap numbers epoch_is) ∙ same_numbers src x.arrival.time cs xs noted.1) own_next))
+    near = near_less (top_number s) m d (subst (λ g. IsNear kept_numbers g m) (ap top_number (sym some) ∙ top ∙ top_shifted d z before)
+        (near_recent kept_numbers m (epoch src x.arrival.time (arrivals_of xs)) newest behind
+        (ap numbers (sym some) ∙ same_numbers src x.arrival.time cs xs noted.1) own_next))
 
-    number_of : n +ℤ d ≡ m
-    number_of = forth_again m d n (one.alone (m -ℤ d) near (sym (unseen (m -ℤ d)) ∙ ap wire (back_again m d) ∙ noted.0.number))
+-- one that goes on behind a silence lies ahead
+up_top : (t d : ℤ) (k : ℕ) → greater (t +ℤ d) ((t +ℤ pos k) +ℤ d) ≡ (t +ℤ pos k) +ℤ d
+up_top t d k = grind (arith, ints)
 
-    came_is : (side : Side) → came side n s ≡ came side m (run_copies src cs xs)
-    came_is side = sym (came_shifted side n d s) ∙ ap (λ k. came side k (shifted d s)) number_of ∙ ap (came side m) (sym epoch_is)
-        ∙ sym (came_whole src side c cs x xs noted own next)
+over_top : (t d : ℤ) (p : Distance) → goes_to false p ≡ true → greater (t +ℤ d) (number_at t p +ℤ d) ≡ number_at t p +ℤ d
+over_top t d (Behind k) on = let no_way : false ≡ true = on in absurd cc
+over_top t d (Ahead k) on = up_top t d k
+
+-- the number that the run gives it
+number_behind : (m n z d l : ℤ) → m -ℤ l ≡ n -ℤ z → l ≡ z +ℤ d → n +ℤ d ≡ m
+number_behind m n z d l e f = omega (arith, ints, e, f)
 
 -- one arrival more of the source
 own_step : (test : Bool → Bool → Bool) (src : Mac) (c : Sent) (cs : List Sent) (x : Noting) (xs : List Noting) (ys : List Arrival) →
     AreNotedAs (c ∷ cs) (x ∷ xs) → mac_eq src c.0 ≡ true → IsNext kept_numbers (arrivals_of xs) x.arrival → of src cs ≡ ys →
-    AreSilentAlike (c.1 ∷ ys) → jumps_of (c.1 ∷ ys) ≡ 0 → c.1.seq.0 < 65536 → Counts test src cs xs ys →
+    AreSilentAlike (c.1 ∷ ys) → GoesOnAlike c.1 x.arrival.number (run_copies src cs xs) (current (stretches ys)) → jumps_of (c.1 ∷ ys) ≡ 0 →
+    c.1.seq.0 < 65536 → Counts test src cs xs ys →
     (sum_by (frames_with test) (stretches (c.1 ∷ ys)) ≡ frames_with test (run_copy c x ∷ run_copies src cs xs)) × Links src (c ∷ cs) (x ∷ xs) (c.1 ∷ ys)
-own_step test src c cs x xs [] noted own next is alike_silent still fits (e, links) =
+own_step test src c cs x xs [] noted own next is alike_silent goes still fits (e, links) =
     let none : run_copies src cs xs ≡ [] = none_whole src cs xs noted.1 is in (
       began test src c cs x xs [] noted.0 (ap (came A x.arrival.number) none) (ap (came B x.arrival.number) none) e,
       began_linked src c cs x xs [] noted.0 own (none_recent src x.arrival.time cs xs noted.1 is) refl,
     )
-own_step test src c cs x xs (y ∷ ys) noted own next is alike_silent still fits (e, (d, l)) =
-    by (stretches (y ∷ ys)) refl e l.linked (newest_is y ys) (no_jump_first (is_jump (stretches (y ∷ ys)) c.1) (jumps_of (y ∷ ys)) still)
+own_step test src c cs x xs (y ∷ ys) noted own next is alike_silent goes still fits (e, (d, l)) =
+    by (stretches (y ∷ ys)) refl e l.whole l.linked l.top goes (newest_is y ys) (no_jump_first (is_jump (stretches (y ∷ ys)) c.1) (jumps_of (y ∷ ys)) still)
   where
     now_is : recent src x.arrival.time cs xs
         ≡ cond (nat_lt (c.1.time / clock_step - y.time / clock_step) forget_time) (recent src (y.time / clock_step) cs xs) []
@@ -550,65 +659,106 @@ own_step test src c cs x xs (y ∷ ys) noted own next is alike_silent still fits
         ∙ ap (λ u. cond (nat_lt (u - y.time / clock_step) forget_time) (recent src (y.time / clock_step) cs xs) []) noted.0.time
 
     by : (ss : List (List Placed)) → stretches (y ∷ ys) ≡ ss → sum_by (frames_with test) ss ≡ frames_with test (run_copies src cs xs) →
-        recent src (y.time / clock_step) cs xs ≡ shifted d (current ss) → newest_time (current ss) ≡ y.time → is_jump ss c.1 ≡ false →
+        run_copies src cs xs ≡ shifted d (current ss) ++ l.older →
+        shifted d (current ss) ≡ recent src (y.time / clock_step) cs xs ++ l.earlier →
+        top_number (recent src (y.time / clock_step) cs xs) ≡ top_number (shifted d (current ss)) →
+        GoesOnAlike c.1 x.arrival.number (run_copies src cs xs) (current ss) →
+        newest_time (current ss) ≡ y.time → is_jump ss c.1 ≡ false →
         (sum_by (frames_with test) (with_arrival ss c.1) ≡ frames_with test (run_copy c x ∷ run_copies src cs xs))
         × Links src (c ∷ cs) (x ∷ xs) (c.1 ∷ y ∷ ys)
-    by [] same sums linked newest quiet = absurd (not_none y ys same)
-    by ([] ∷ rest) same sums linked newest quiet = absurd (no_empty (y ∷ ys) rest same)
-    by ((z ∷ before) ∷ rest) same sums linked newest quiet =
-        let s = z ∷ before in
-        let step_is : current (stretches (c.1 ∷ y ∷ ys)) ≡ current (with_arrival (s ∷ rest) c.1) = ap (λ ss. current (with_arrival ss c.1)) same in
-        let told : nat_lt (c.1.time - z.time) epoch_gap ≡ nat_lt (c.1.time / clock_step - y.time / clock_step) forget_time =
-        ap (λ u. nat_lt (c.1.time - u) epoch_gap) newest ∙ alike_silent.0 in
+    by [] same sums whole linked top goes newest quiet = absurd (not_none y ys same)
+    by ([] ∷ rest) same sums whole linked top goes newest quiet = absurd (no_empty (y ∷ ys) rest same)
+    by ((z ∷ before) ∷ rest) same sums whole linked top goes newest quiet =
         elim (cases_Bool (nat_lt (c.1.time - z.time) epoch_gap)) [
           | inl soon ↦
-              let near : is_far (lies_from s c.1.seq.0) ≡ false = ap (λ b. b && is_far (lies_from s c.1.seq.0)) (sym soon) ∙ quiet in
               let on : goes_on s c.1 ≡ true =
-              ap (λ b. b && not (is_far (lies_from s c.1.seq.0))) soon ∙ ap not near in
-              let epoch_is : recent src x.arrival.time cs xs ≡ shifted d s =
-              now_is ∙ ap (λ b. cond b (recent src (y.time / clock_step) cs xs) []) (sym told ∙ soon) ∙ linked in
-              let result = went test src c cs x xs y (y ∷ ys) z before rest d noted own next l.unseen epoch_is
-              (step_is ∙ ap (λ b. current (cond b (gone_on s c.1 ∷ rest) (stretch_begun c.1 ∷ s ∷ rest))) on) fits sums in
-              (ap (λ b. sum_by (frames_with test) (cond b (gone_on s c.1 ∷ rest) (stretch_begun c.1 ∷ s ∷ rest))) on ∙ result.0, result.1)
+              ap (λ b. goes_to b place) soon ∙ near_on place (ap (λ b. b && is_far place) (sym soon) ∙ quiet) in
+              let now : recent src x.arrival.time cs xs ≡ recent src (y.time / clock_step) cs xs =
+              now_is ∙ ap (λ b. cond b (recent src (y.time / clock_step) cs xs) []) (sym told ∙ soon) in
+              let now_top : top_number (recent src x.arrival.time cs xs) ≡ top_number (shifted d s) = ap top_number now ∙ top in
+              goes_further on l.earlier (linked ∙ ap (λ r. r ++ l.earlier) (sym now))
+              (number_near src c cs x xs z before d l.newest l.behind noted own next l.unseen fits (now ∙ l.some) now_top)
+              (more_top l.newest l.behind (now ∙ l.some) now_top)
           | inr silent ↦
-              let off : goes_on s c.1 ≡ false = ap (λ b. b && not (is_far (lies_from s c.1.seq.0))) silent in
               let none : recent src x.arrival.time cs xs ≡ [] =
-              now_is ∙ ap (λ b. cond b (recent src (y.time / clock_step) cs xs) []) (sym told ∙ silent) in (
-                ap (λ b. sum_by (frames_with test) (cond b (gone_on s c.1 ∷ rest) (stretch_begun c.1 ∷ s ∷ rest))) off
-                    ∙ began test src c cs x xs (s ∷ rest) noted.0
-                    (came_whole src A c cs x xs noted own next ∙ ap (came A x.arrival.number) none)
-                    (came_whole src B c cs x xs noted own next ∙ ap (came B x.arrival.number) none) sums,
-                began_linked src c cs x xs (y ∷ ys) noted.0 own none
-                    (step_is ∙ ap (λ b. current (cond b (gone_on s c.1 ∷ rest) (stretch_begun c.1 ∷ s ∷ rest))) off),
-              )
+              now_is ∙ ap (λ b. cond b (recent src (y.time / clock_step) cs xs) []) (sym told ∙ silent) in
+              elim (cases_Bool (goes_on s c.1)) [
+                | inl on ↦
+                    let number_of : number_at (top_number s) place +ℤ d ≡ m =
+                    number_behind m (number_at (top_number s) place) z.number d (newest_number (run_copies src cs xs)) (goes silent on)
+                    (ap newest_number whole) in
+                    let ahead : goes_to false place ≡ true = ap (λ b. goes_to b place) (sym silent) ∙ on in
+                    goes_further on (shifted d s) (ap (λ r. r ++ shifted d s) (sym none)) number_of
+                    (ap (λ r. top_number (run_copy c x ∷ r)) none ∙ sym number_of ∙ sym (over_top (top_number s) d place ahead)
+                    ∙ ap (λ g. greater g (number_at (top_number s) place +ℤ d)) (sym (top_shifted d z before))
+                    ∙ ap (greater (top_number (shifted d s))) number_of)
+                | inr off ↦ (
+                  ap (λ b. sum_by (frames_with test) (cond b (gone_on s c.1 ∷ rest) (stretch_begun c.1 ∷ s ∷ rest))) off
+                      ∙ began test src c cs x xs (s ∷ rest) noted.0
+                      (came_whole src A c cs x xs noted own next ∙ ap (came A m) none)
+                      (came_whole src B c cs x xs noted own next ∙ ap (came B m) none) sums,
+                  began_linked src c cs x xs (y ∷ ys) noted.0 own none
+                      (step_is ∙ ap (λ b. current (cond b (gone_on s c.1 ∷ rest) (stretch_begun c.1 ∷ s ∷ rest))) off),
+                )
+              ]
         ]
+      where
+        s : List Placed
+        s = z ∷ before
+
+        m : ℤ
+        m = x.arrival.number
+
+        place : Distance
+        place = lies_from s c.1.seq.0
+
+        step_is : current (stretches (c.1 ∷ y ∷ ys)) ≡ current (with_arrival (s ∷ rest) c.1)
+        step_is = ap (λ ss. current (with_arrival ss c.1)) same
+
+        told : nat_lt (c.1.time - z.time) epoch_gap ≡ nat_lt (c.1.time / clock_step - y.time / clock_step) forget_time
+        told = ap (λ u. nat_lt (c.1.time - u) epoch_gap) newest ∙ alike_silent.0
+
+        more_top : (p : Placed) (ps : List Placed) → recent src x.arrival.time cs xs ≡ p ∷ ps →
+            top_number (recent src x.arrival.time cs xs) ≡ top_number (shifted d s) →
+            top_number (run_copy c x ∷ recent src x.arrival.time cs xs) ≡ top_number (run_copy c x ∷ shifted d s)
+        more_top p ps some now_top = ap (λ r. top_number (run_copy c x ∷ r)) some ∙ ap (λ g. greater g m) (ap top_number (sym some) ∙ now_top)
+
+        goes_further : goes_on s c.1 ≡ true → (earlier : List Placed) → shifted d s ≡ recent src x.arrival.time cs xs ++ earlier →
+            number_at (top_number s) place +ℤ d ≡ m →
+            top_number (run_copy c x ∷ recent src x.arrival.time cs xs) ≡ top_number (run_copy c x ∷ shifted d s) →
+            (sum_by (frames_with test) (with_arrival (s ∷ rest) c.1) ≡ frames_with test (run_copy c x ∷ run_copies src cs xs))
+            × Links src (c ∷ cs) (x ∷ xs) (c.1 ∷ y ∷ ys)
+        goes_further on earlier linked_now number_of now_top =
+            let result = went test src c cs x xs (y ∷ ys) s rest d l.older earlier noted own next l.unseen whole linked_now number_of now_top
+            (step_is ∙ ap (λ b. current (cond b (gone_on s c.1 ∷ rest) (stretch_begun c.1 ∷ s ∷ rest))) on) sums in
+            (ap (λ b. sum_by (frames_with test) (cond b (gone_on s c.1 ∷ rest) (stretch_begun c.1 ∷ s ∷ rest))) on ∙ result.0, result.1)
 
 silent_before : (x : Arrival) (ys : List Arrival) → AreSilentAlike (x ∷ ys) → AreSilentAlike ys
 silent_before x [] alike_silent = tt
 silent_before x (y ∷ ys) alike_silent = alike_silent.1
 
 counts : (test : Bool → Bool → Bool) (src : Mac) (cs : List Sent) (xs : List Noting) → AreNotedAs cs xs → AreSteady kept_numbers (arrivals_of xs) →
-    AreSilentAlike (of src cs) → jumps_of (of src cs) ≡ 0 → Counts test src cs xs (of src cs)
-counts test src [] [] noted steady alike_silent still = (refl, tt)
-counts test src [] (x ∷ xs) noted steady alike_silent still = absurd noted
-counts test src (c ∷ cs) [] noted steady alike_silent still = absurd noted
-counts test src (c ∷ cs) (x ∷ xs) noted steady alike_silent still =
+    AreSilentAlike (of src cs) → AreGoneOnAlike src cs xs → jumps_of (of src cs) ≡ 0 → Counts test src cs xs (of src cs)
+counts test src [] [] noted steady alike_silent goes still = (refl, tt)
+counts test src [] (x ∷ xs) noted steady alike_silent goes still = absurd noted
+counts test src (c ∷ cs) [] noted steady alike_silent goes still = absurd noted
+counts test src (c ∷ cs) (x ∷ xs) noted steady alike_silent goes still =
     elim (cases_Bool (mac_eq src c.0)) [
       | inl own ↦
           let silent : AreSilentAlike (c.1 ∷ of src cs) = rw own at alike_silent in
           let quiet : jumps_of (c.1 ∷ of src cs) ≡ 0 = rw own at still in
-          let ih = counts test src cs xs noted.1 steady.0 (silent_before c.1 (of src cs) silent)
+          let ih = counts test src cs xs noted.1 steady.0 (silent_before c.1 (of src cs) silent) goes.0
           (no_jump_rest (is_jump (stretches (of src cs)) c.1) (jumps_of (of src cs)) quiet) in
-          rw own (own_step test src c cs x xs (of src cs) noted own steady.1 refl silent quiet
+          rw own (own_step test src c cs x xs (of src cs) noted own steady.1 refl silent (goes.1 own) quiet
           (subst (λ w. w < 65536) noted.0.number (wire-lt x.arrival.number)) ih)
       | inr other ↦
-          let ih = counts test src cs xs noted.1 steady.0 (rw other at alike_silent) (rw other at still) in
+          let ih = counts test src cs xs noted.1 steady.0 (rw other at alike_silent) goes.0 (rw other at still) in
           rw other (ih.0, links_other src c cs x xs (of src cs) other ih.1)
     ]
 
 -- the frames that went up are those that the audit counts
 pub counts_what_goes_up : SteadyAuditsCountWhatGoesUp
-counts_what_goes_up turns t sent spans src run steady noted alike_silent still =
+counts_what_goes_up turns t sent spans src run steady noted alike_silent goes still =
     record {
       ups = ups;
       each = λ side n. came_noted src side n sent (notings_of [] turns) noted;
@@ -631,7 +781,7 @@ counts_what_goes_up turns t sent spans src run steady noted alike_silent still =
     ups = up_frames src turns t sent run steady noted
 
     counted : (test : Bool → Bool → Bool) → sum_by (frames_with test) ss ≡ frames_with test copies
-    counted test = (counts test src sent (notings_of [] turns) noted steady.1 alike_silent still).0
+    counted test = (counts test src sent (notings_of [] turns) noted steady.1 alike_silent goes still).0
 
     of_test : (test : Bool → Bool → Bool) → sum_by (frames_with test) ss ≡ up_with test src turns
     of_test test = counted test ∙ up_counted test src turns sent noted ups

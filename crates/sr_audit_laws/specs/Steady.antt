@@ -8,6 +8,7 @@ use Rattle.std.specs.Prelude.{
   nat_lt,
   Bool,
   true,
+  false,
   ◌&&◌,
   List,
   [],
@@ -15,11 +16,14 @@ use Rattle.std.specs.Prelude.{
   length,
   count_by,
   ℤ,
+  pos,
+  ◌-ℤ◌,
   if◌then◌else◌,
 }
 use Rattle.sr_frame.specs.declared.fields.Mac.{Mac}
 use Rattle.sr_frame.specs.Addresses.{mac_eq}
 use Rattle.sr_sequence.specs.Numbers.{wire}
+use Rattle.sr_sequence.specs.Places.{number_at}
 use Rattle.sr_dup_window.specs.declared.lane_sets.Lane.TheVariants.{H, GotA, GotB}
 use Rattle.sr_dup_window.specs.LaneSets.{has}
 use Rattle.sr_dup_table.specs.Limits.{forget_time}
@@ -34,7 +38,7 @@ use Rattle.sr_audit.specs.Edges.{edges_of}
 use Rattle.sr_audit.specs.Extents.{jumps_of}
 use Rattle.sr_audit.specs.Lanes.{side_lane}
 use Rattle.sr_audit.specs.Limits.{kept_numbers, epoch_gap}
-use Rattle.sr_audit.specs.Stretches.{Placed, same_side, came, stretches}
+use Rattle.sr_audit.specs.Stretches.{Placed, same_side, came, top_number, newest_time, lies_from, goes_on, current, stretches}
 use Rattle.sr_audit.specs.Tallies.{frames, by_both, by_a_alone, by_b_alone, tally_of}
 
 -- the step of the clock of a node in nanoseconds: a millisecond
@@ -73,6 +77,24 @@ run_copies src [] xs = []
 run_copies src (c ∷ cs) [] = []
 run_copies src (c ∷ cs) (x ∷ xs) = if mac_eq src c.0 then run_copy c x ∷ run_copies src cs xs else run_copies src cs xs
 
+-- the whole number of the newest of some copies
+abbrev pub newest_number : List Placed → ℤ
+newest_number [] = pos 0
+newest_number (y ∷ before) = y.number
+
+-- an arrival that goes on with a stretch behind a silence, with this whole number in the run, lies as far from the copy before it by the
+-- run as it does in the stretch
+abbrev pub GoesOnAlike : Arrival → ℤ → List Placed → List Placed → Type 0
+GoesOnAlike x number copies s = nat_lt (x.time - newest_time s) epoch_gap ≡ false → goes_on s x ≡ true →
+    number -ℤ newest_number copies ≡ number_at (top_number s) (lies_from s x.seq.0) -ℤ newest_number s
+
+-- so does each of a source
+abbrev pub AreGoneOnAlike : Mac → List Sent → List Noting → Type 0
+AreGoneOnAlike src [] xs = Unit {0}
+AreGoneOnAlike src (c ∷ cs) [] = Unit {0}
+AreGoneOnAlike src (c ∷ cs) (x ∷ xs) = AreGoneOnAlike src cs xs
+    × (mac_eq src c.0 ≡ true → GoesOnAlike c.1 x.arrival.number (run_copies src cs xs) (current (stretches (of src cs))))
+
 -- the whole numbers of a source's frames that went up to the host
 abbrev pub handed_up : Mac → List TableTurn → List ℤ
 handed_up src [] = []
@@ -100,4 +122,5 @@ pub record CountsWhatGoesUp (spans : Spans) (sent : List Sent) (xs : List Arriva
 abbrev pub SteadyAuditsCountWhatGoesUp : Type 0
 SteadyAuditsCountWhatGoesUp = (turns : List TableTurn) (t : Sources) (sent : List Sent) (spans : Spans) (src : Mac) →
     TableRun kept_numbers [] turns t → IsSteadyRun kept_numbers 0 [] turns → AreNotedAs sent (notings_of [] turns) →
-    AreSilentAlike (of src sent) → jumps_of (of src sent) ≡ 0 → CountsWhatGoesUp spans sent (of src sent) src turns
+    AreSilentAlike (of src sent) → AreGoneOnAlike src sent (notings_of [] turns) → jumps_of (of src sent) ≡ 0 →
+    CountsWhatGoesUp spans sent (of src sent) src turns

@@ -8,7 +8,8 @@ ghost use Rattle.sr_audit_laws.specs.Steady.{SteadyAuditsCountWhatGoesUp};
 /// on the lane of that side.
 ///
 /// The table takes the arrivals that the audit counts, by a clock of whole milliseconds, and notes each for the host and at its side. A
-/// source is silent for 400 ms by both clocks, or by neither.
+/// source is silent for 400 ms by both clocks, or by neither. Where it goes on behind a silence, with a number 1 to 1023 ahead, the run
+/// numbers it on too.
 pub fn steady_audits_count_what_goes_up()
     ensures { SteadyAuditsCountWhatGoesUp }
 {}
