@@ -88,7 +88,8 @@ def planned(root):
 
 
 # Files beside the crates that have names of which documents speak.
-NAMING = ["crates.txt", "check", "seamless", "refuse", "bench/run", "lint/*.py", "lint/*.txt", "tools/*"]
+NAMING = ["crates.txt", "check", "seamless", "refuse", "bench/run", "lint/*.py", "lint/*.txt", "tools/*", "clib/check", "clib/*/*.h",
+          "bindings/*/*.py", "bindings/rust/*/*.rs"]
 
 
 def missing_names(root):
@@ -266,8 +267,11 @@ def made_lacks(root):
                 yield path, number + 1, "makes want of memory, and passes on none"
 
 
-# The node that the words of a command line name has fixed keys, until a run draws its own.
-FIXED_KEYS = {"crates/sr_cli/src/node_line.rt"}
+# The node that the words of a command line name has fixed keys, until a run draws its own. A C program asks for fixed keys by name.
+FIXED_KEYS = {
+    "crates/sr_cli/src/node_line.rt": r"\s*keys: Keys::FIXED,\s*",
+    "crates/sr_c/src/making.rt": r"\s*return Keys::FIXED;\s*",
+}
 
 
 def dropped_keys(root):
@@ -307,7 +311,7 @@ def dropped_keys(root):
                 elif drawn is False:
                     drawn = re.search(r"\bkeys\b", code) is not None
             if "Keys::FIXED" in code and (takes or function not in ("new", "with")):
-                if name not in FIXED_KEYS or not re.fullmatch(r"\s*keys: Keys::FIXED,\s*", code):
+                if not re.fullmatch(FIXED_KEYS.get(name, "$"), code):
                     yield path, number, "has fixed keys outside a `new` or a `with`"
 
 

@@ -1,0 +1,6 @@
+pub mod Calls
+pub mod Codes
+pub mod Entries
+pub mod Follows
+pub mod Handles
+pub mod Setups

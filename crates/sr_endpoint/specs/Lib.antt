@@ -1,0 +1,4 @@
+pub mod AnyRoles
+pub mod Counting
+pub mod Endpoints
+pub mod Telling
