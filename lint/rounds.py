@@ -162,8 +162,9 @@ def due(bodies, ledger, day):
     return [it for it in bodies if not ledger.has(it) or is_of_the_day(it, day)]
 
 
-def try_all(root, names, ledger):
-    """Tries the wrong bodies of these crates, and prints what comes of them. How many were refused, and how many not."""
+def try_all(root, names, ledger, known):
+    """Tries the wrong bodies of these crates, and prints what comes of them. How many were refused, and how many not. The ledger is
+    written crate by crate, of the known ones alone, where such are given."""
     weight = {it: len(list((root / "crates" / it / "wrong").glob("*"))) * len(crate_functions(root / "crates" / it)) for it in names}
     sums, passed, failed = {it: ledger.sum_of(it) for it in names}, 0, 0
     with ThreadPoolExecutor(lanes()) as pool:
@@ -174,6 +175,8 @@ def try_all(root, names, ledger):
             print("\n".join(lines), flush=True)
             passed, failed = passed + refused, failed + missed
             ledger.enter(name, sums[name] if refused and not missed else None)
+            if known:
+                ledger.write(known)
     return passed, failed
 
 
@@ -194,9 +197,7 @@ def main(words, root=Path(__file__).resolve().parent.parent, day=None):
         wanted = due(asked, ledger, time.time() // 86400 if day is None else day)
         taken = [it for it in asked if it not in wanted]
         print(f"rounds: {sum(bodies[it] for it in taken)} wrong bodies of {len(taken)} crates were refused as they stand (lint/refused.txt): not tried anew", flush=True)
-    passed, failed = try_all(root, wanted, ledger)
-    if given.write:
-        ledger.write(bodies)
+    passed, failed = try_all(root, wanted, ledger, bodies if given.write else None)
     used = resource.getrusage(resource.RUSAGE_CHILDREN)
     print(f"rounds: {used.ru_utime + used.ru_stime:.0f} CPU seconds")
     print(f"{passed} passed, {failed} failed")
