@@ -31,8 +31,8 @@ WIDTH = 4
 def lanes(processors, free):
     """How many checks `rt ci` is to run at a time, each on one processor; None where it is to choose for itself.
 
-    Left to itself it holds a crate back where its own estimate of memory, which is some two to three times what a check takes, does not
-    fit, so that processors stand idle. In exchange it gives a check that runs beside few others up to four processors. On up to four
+    Left to itself it holds a crate back where its own estimate of memory, which is twice and more what a check takes, does not fit, so
+    that processors stand idle. In exchange it gives a check that runs beside few others up to four processors. On up to four
     processors there is nearly always a check for each, and as many lanes end sooner; on more, the longest chain of proofs is the time,
     and the spare processors shorten it. Of the lanes one may be as large as the largest seen while the others are like most."""
     if processors > WIDTH:
@@ -108,7 +108,8 @@ def tell(root, tries_all):
         print(f"check: {len(to_prove)} of {len(proofs)} proofs of crates and of their tests are to be done; the others are kept on this machine")
     bodies = bodies_of(root)
     tried = list(bodies) if tries_all else due(bodies, ledger, time.time() // 86400)
-    print(f"check: {sum(bodies[it] for it in tried)} of {sum(bodies.values())} wrong bodies are to be tried in rounds, those of {len(tried)} of {len(bodies)} crates")
+    count, of = sum(bodies[it] for it in tried), sum(bodies.values())
+    print(f"check: {count} of {of} wrong bodies are to be tried in rounds, those of {len(tried)} of {len(bodies)} crates")
     parts = {
         "proofs": sum(times.of(name, "tests" if of_tests else "proof") for name, of_tests in to_prove),
         "must-fail edits": sum(times.of(it, "edits") for it in below if (root / "crates" / it / "must-fail").is_dir() and (it, False) in to_prove),

@@ -200,8 +200,8 @@ class Plan(Small):
         self.write("crates/low/must-fail/one.edit", "")
         for name in ("left", "right"):
             self.write(f"crates/{name}/wrong/one.edit", "")
-        lines = ["low proof 600", "left proof 300", "right proof 1200", "top proof 60", "top tests 240", "beside proof 600", "low edits 120", "left rounds 240", "right rounds 360"]
-        self.write("lint/times.txt", "\n".join(lines) + "\n")
+        proofs = "low proof 600\nleft proof 300\nright proof 1200\ntop proof 60\ntop tests 240\nbeside proof 600\n"
+        self.write("lint/times.txt", proofs + "low edits 120\nleft rounds 240\nright rounds 360\n")
 
     def test_from_nothing(self):
         said = self.told(set())
