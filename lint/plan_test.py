@@ -233,6 +233,7 @@ class Table(Small):
     def test_notes_and_the_table(self):
         times.Times(self.top).note({("low", "proof"): 3.6, ("gone", "proof"): 5})
         times.Times(self.top).note({("low", "rounds"): 7})
+        self.assertEqual((self.top / "out" / "times.txt").read_text(), "gone proof 5\nlow proof 4\nlow rounds 7\n")
         self.assertFalse((self.top / "lint").exists())
         times.Times(self.top).write()
         self.assertEqual((self.top / "lint" / "times.txt").read_text(), times.HEAD + "low proof 4\nlow rounds 7\n")

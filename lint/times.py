@@ -53,14 +53,14 @@ class Times:
     def write(self):
         """Writes what is known of crates that are there into the table of the repository."""
         below = crates_below(self.root)
-        write(self.given, {it: taken for it, taken in self.seconds.items() if it[0] in below})
+        write(self.given, {it: taken for it, taken in self.seconds.items() if it[0] in below}, HEAD)
 
 
-def write(file, seconds):
+def write(file, seconds, head=""):
     """Writes a table, at once."""
     file.parent.mkdir(exist_ok=True)
     with tempfile.NamedTemporaryFile("w", dir=file.parent, prefix="times-", delete=False) as made:
-        made.write(HEAD + "".join(f"{name} {part} {seconds[name, part]}\n" for name, part in sorted(seconds)))
+        made.write(head + "".join(f"{name} {part} {seconds[name, part]}\n" for name, part in sorted(seconds)))
     os.chmod(made.name, 0o644)
     os.replace(made.name, file)
 
