@@ -1,9 +1,8 @@
 //! Two wires between a port and its neighbour's.
 
 ghost use Rattle.std.specs.Prelude.{◌≡◌, ◌++◌, ◌<◌, ◌≤◌, IfOk, OnErr};
-ghost use Rattle.sr_workers.specs.declared.feed.Given.TheVariants.{Lost};
 ghost use Rattle.sr_workers.specs.Told.{put_of, lost_after};
-ghost use Rattle.sr_lines.specs.Losing.{MayLose};
+ghost use Rattle.sr_lines.specs.CableTurns.{LosesFor};
 
 use crate::Ends;
 use crate::counts::Counts;
@@ -57,8 +56,7 @@ impl Cable {
         ensures lost { IfOk result (λ g. self.new.counts.lost
             ≡ lost_after self.old.counts.lost g) }
         ensures kept { OnErr result (self.new.counts.lost ≡ self.old.counts.lost) }
-        ensures why { IfOk result (λ g. g ≡ Lost → MayLose self.old.ends.send.frames octets.now
-            self.old.counts.failures) }
+        ensures why { IfOk result (λ g. LosesFor self.old octets.now g) }
         ensures asked { self.new.counts.asked ≡ self.old.counts.asked }
         ensures ended { self.new.counts.ended ≡ self.old.counts.ended }
         ensures failed { OnErr result (self.old.counts.failures < self.new.counts.failures) }
@@ -88,6 +86,7 @@ impl Cable {
 impl Feed for Cable {
     ghost use Rattle.std.specs.Prelude.{true};
     ghost use Rattle.sr_lines.specs.Handed.{frames_of};
+    ghost use Rattle.sr_lines.specs.CableTurns.{AnswersAsItsWire, TakesForItsWire};
     ghost use Rattle.sr_lines.specs.Names.{wires_of};
     ghost use Rattle.sr_lines.specs.Pairs.{WirePair};
 
@@ -108,6 +107,10 @@ impl Feed for Cable {
     ghost ended = { λ c. c.counts.ended };
 
     ghost failed = { λ c. c.counts.failures };
+
+    ghost hands = { AnswersAsItsWire };
+
+    ghost takes = { TakesForItsWire };
 
     fn next<W: Wait>(&mut self, rt: &W, into: &mut Vec<u8>) -> Result<Turn, FeedFault> {
         // Nobody comes there: it would take 2^64 turns.

@@ -44,7 +44,8 @@ impl Ends {
         ensures put { MatchResult result
             (λ _. self.new.send.frames ≡ self.old.send.frames ++ frame ∷ [])
             (λ back. (back ≡ frame) × (self.new.send.frames ≡ self.old.send.frames)
-            × WasFull self.old.send.frames) }
+            × WasFull self.old.send.frames self.old.send.seen) }
+        ensures seen { self.new.send.seen ≡ self.old.send.seen }
         ensures same { self.new.take ≡ self.old.take }
         ensures wires { end_wires self.new ≡ end_wires self.old }
     {
@@ -54,8 +55,10 @@ impl Ends {
     /// Takes the next frame, or none where none waited.
     pub(crate) fn take_next<W: Wait>(&mut self, rt: &W) -> Option<Frame>
         ensures take { MatchOption result
-            ((self.new.take.frames ≡ self.old.take.frames) × WasEmpty self.old.take.frames)
+            ((self.new.take.frames ≡ self.old.take.frames)
+            × WasEmpty self.old.take.frames self.old.take.seen)
             (λ f. self.new.take.frames ≡ self.old.take.frames ++ f ∷ []) }
+        ensures seen { self.new.take.seen ≡ self.old.take.seen }
         ensures same { self.new.send ≡ self.old.send }
         ensures wires { end_wires self.new ≡ end_wires self.old }
     {

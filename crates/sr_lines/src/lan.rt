@@ -1,6 +1,7 @@
 //! The wires between a port and those of all other nodes of a LAN.
 
-ghost use Rattle.std.specs.Prelude.{◌≡◌, ◌+◌, ◌<◌, ◌≤◌, OnOk, OnErr, IfOk, MatchBool, MatchOption, true, false, [], length, get_or};
+ghost use Rattle.std.specs.Prelude.{◌≡◌, ◌+◌, ◌<◌, ◌≤◌, ⊤, OnOk, OnErr, IfOk, MatchBool, MatchOption, true, false, [], length, get_or};
+ghost use Rattle.sr_workers.specs.declared.feed.Turn.TheVariants.{Idle};
 ghost use Rattle.sr_workers.specs.Told.{lost_after, told_of, turns_in, IsLastTurn};
 ghost use Rattle.sr_wires.specs.Wired.{WasFull};
 ghost use Rattle.sr_lines.specs.Losing.{MayLose};
@@ -25,7 +26,7 @@ pub struct Lan {
 impl Lan {
     ghost use Rattle.sr_lines.specs.Handed.{asked_in, lost_in, failed_in};
     ghost use Rattle.sr_lines.specs.Names.{wires_in};
-    ghost use Rattle.sr_lines.specs.Spreading.{sent_by_lan, taken_by_lan, grown_at, SpreadsTo, SpreadsToSome, TookOne, HandsOutOf, is_put};
+    ghost use Rattle.sr_lines.specs.Spreading.{sent_by_lan, taken_by_lan, seen_taken_of_lan, seen_sent_to_lan, grown_at, SpreadsTo, SpreadsToSome, TookBetween, TookOne, HandsOutOf, WereEmpty, is_put};
 
     /// These ends, of which nothing was asked and nothing was lost.
     pub fn new(alloc: Global, ends: Vec<Ends>) -> Lan
@@ -51,9 +52,12 @@ impl Lan {
 
     // The next frame of those that wait at one of them.
     fn take_at<W: Wait>(&mut self, rt: &W, at: usize) -> Option<Frame>
-        ensures taken { MatchOption result (taken_by_lan self.new ≡ taken_by_lan self.old)
+        ensures taken { MatchOption result
+            ((taken_by_lan self.new ≡ taken_by_lan self.old)
+            × WereEmpty (λ i. i ≡ at) (taken_by_lan self.old) (seen_sent_to_lan self.old))
             (λ f. (at < length (taken_by_lan self.old))
             × (taken_by_lan self.new ≡ grown_at at f (taken_by_lan self.old))) }
+        ensures seen { seen_sent_to_lan self.new ≡ seen_sent_to_lan self.old }
         ensures sent { sent_by_lan self.new ≡ sent_by_lan self.old }
         ensures turn { self.new.turn ≡ self.old.turn }
         ensures counts { self.new.counts ≡ self.old.counts }
@@ -65,26 +69,45 @@ impl Lan {
         }
     }
 
-    // The next frame of those that wait, from the wire whose turn it is on.
-    fn take_any<W: Wait>(&mut self, rt: &W) -> Option<Frame>
-        ensures taken { MatchOption result (taken_by_lan self.new ≡ taken_by_lan self.old)
-            (λ f. TookOne f (taken_by_lan self.old) (taken_by_lan self.new) self.new.turn) }
+    // The next frame of those that wait at one of them from one place up to another. The turn is then the next one's.
+    fn take_between<W: Wait>(&mut self, rt: &W, from: usize, to: usize) -> Option<Frame>
+        ensures taken { MatchOption result
+            ((taken_by_lan self.new ≡ taken_by_lan self.old)
+            × WereEmpty (λ i. (from ≤ i) × (i < to)) (taken_by_lan self.old)
+            (seen_sent_to_lan self.old))
+            (λ f. TookBetween from to f (taken_by_lan self.old)
+            (seen_sent_to_lan self.old) (taken_by_lan self.new) self.new.turn) }
+        ensures seen { seen_sent_to_lan self.new ≡ seen_sent_to_lan self.old }
         ensures sent { sent_by_lan self.new ≡ sent_by_lan self.old }
         ensures counts { self.new.counts ≡ self.old.counts }
         ensures wires { wires_in self.new ≡ wires_in self.old }
     {
-        for _ in 0..self.ends.len() {
-            let at = if self.turn < self.ends.len() {
-                self.turn
-            } else {
-                0
-            };
-            self.turn = at + 1;
+        for at in from..to {
             if let Some(frame) = self.take_at(rt, at) {
+                self.turn = at + 1;
                 return Some(frame);
             }
         }
         None
+    }
+
+    // The next frame of those that wait, from the wire whose turn it is on, each once round.
+    fn take_any<W: Wait>(&mut self, rt: &W) -> Option<Frame>
+        ensures taken { MatchOption result
+            ((taken_by_lan self.new ≡ taken_by_lan self.old)
+            × WereEmpty (λ i. ⊤) (taken_by_lan self.old) (seen_sent_to_lan self.old))
+            (λ f. TookOne f self.old.turn (taken_by_lan self.old) (seen_sent_to_lan self.old)
+            (taken_by_lan self.new) self.new.turn) }
+        ensures sent { sent_by_lan self.new ≡ sent_by_lan self.old }
+        ensures counts { self.new.counts ≡ self.old.counts }
+        ensures wires { wires_in self.new ≡ wires_in self.old }
+    {
+        let first = self.turn;
+        let count = self.ends.len();
+        match self.take_between(rt, first, count) {
+            Some(frame) => Some(frame),
+            None => self.take_between(rt, 0, first),
+        }
     }
 
     // Sends a frame to one of them. False where its wire is full.
@@ -93,7 +116,9 @@ impl Lan {
             (sent_by_lan self.new ≡ grown_at at frame (sent_by_lan self.old))
             (sent_by_lan self.new ≡ sent_by_lan self.old) }
         ensures full { result ≡ false → at < length (sent_by_lan self.old)
-            → WasFull (get_or (sent_by_lan self.old) at []) }
+            → WasFull (get_or (sent_by_lan self.old) at [])
+            (get_or (seen_taken_of_lan self.old) at []) }
+        ensures seen { seen_taken_of_lan self.new ≡ seen_taken_of_lan self.old }
         ensures taken { taken_by_lan self.new ≡ taken_by_lan self.old }
         ensures counts { self.new.counts ≡ self.old.counts }
         ensures wires { wires_in self.new ≡ wires_in self.old }
@@ -110,7 +135,9 @@ impl Lan {
             (sent_by_lan self.new ≡ grown_at at octets.now (sent_by_lan self.old))
             (sent_by_lan self.new ≡ sent_by_lan self.old)) }
         ensures why { IfOk result (λ put. put ≡ false → at < length (sent_by_lan self.old)
-            → MayLose (get_or (sent_by_lan self.old) at []) octets.now self.old.counts.failures) }
+            → MayLose (get_or (sent_by_lan self.old) at [])
+            (get_or (seen_taken_of_lan self.old) at []) octets.now self.old.counts.failures) }
+        ensures seen { seen_taken_of_lan self.new ≡ seen_taken_of_lan self.old }
         ensures unsent { OnErr result (sent_by_lan self.new ≡ sent_by_lan self.old) }
         ensures taken { taken_by_lan self.new ≡ taken_by_lan self.old }
         ensures wires { wires_in self.new ≡ wires_in self.old }
@@ -132,7 +159,7 @@ impl Lan {
     // Sends a copy to each of them. False where the wire of one is full.
     fn give_all<W: Wait>(&mut self, rt: &W, octets: &[u8]) -> Result<bool, FeedFault>
         ensures sent { IfOk result (λ all. SpreadsTo octets.now self.old.counts.failures
-            (sent_by_lan self.old) (sent_by_lan self.new) all) }
+            (sent_by_lan self.old) (seen_taken_of_lan self.old) (sent_by_lan self.new) all) }
         ensures some { OnErr result (SpreadsToSome octets.now (sent_by_lan self.old)
             (sent_by_lan self.new)) }
         ensures taken { taken_by_lan self.new ≡ taken_by_lan self.old }
@@ -155,7 +182,8 @@ impl Lan {
     // Sends a frame to all. One that is lost on one wire at least is counted.
     fn send<W: Wait>(&mut self, rt: &W, octets: &[u8]) -> Result<Given, FeedFault>
         ensures sent { IfOk result (λ g. SpreadsTo octets.now self.old.counts.failures
-            (sent_by_lan self.old) (sent_by_lan self.new) (is_put g)) }
+            (sent_by_lan self.old) (seen_taken_of_lan self.old) (sent_by_lan self.new)
+            (is_put g)) }
         ensures some { OnErr result (SpreadsToSome octets.now (sent_by_lan self.old)
             (sent_by_lan self.new)) }
         ensures taken { taken_by_lan self.new ≡ taken_by_lan self.old }
@@ -179,8 +207,11 @@ impl Lan {
 
     // What comes next.
     fn read<W: Wait>(&mut self, rt: &W, into: &mut Vec<u8>) -> Result<Turn, FeedFault>
-        ensures handed { IfOk result (λ t. HandsOutOf (taken_by_lan self.old)
-            (taken_by_lan self.new) self.new.turn (told_of t into.new.items)) }
+        ensures handed { IfOk result (λ t. HandsOutOf self.old.turn (taken_by_lan self.old)
+            (seen_sent_to_lan self.old) (taken_by_lan self.new) self.new.turn
+            (told_of t into.new.items)) }
+        ensures looked { IfOk result (λ t. t ≡ Idle
+            → WereEmpty (λ i. ⊤) (taken_by_lan self.old) (seen_sent_to_lan self.old)) }
         ensures unhanded { OnErr result (taken_by_lan self.new ≡ taken_by_lan self.old) }
         ensures asked { IfOk result (λ t. self.new.counts.asked
             ≡ self.old.counts.asked + turns_in t) }

@@ -1,4 +1,5 @@
-//! A wire hands a frame back where 256 wait, and only there, however many it has carried: its clauses say this of the first 256.
+//! A wire hands a frame back where 256 wait, and only there, however many it has carried: its clauses say this by what each pass has
+//! seen of the other side, which is nothing while neither is compared.
 
 ghost use Rattle.std.specs.Prelude.{◌≡◌};
 

@@ -15,6 +15,10 @@ pub struct Rights {
     pub sent: LinkedList<Frame>,
     /// What it has taken.
     pub taken: LinkedList<Frame>,
+    /// What it has seen to be sent.
+    pub seen_sent: LinkedList<Frame>,
+    /// What it has seen to be taken.
+    pub seen_taken: LinkedList<Frame>,
 }
 
 /// What waits is what was sent and not taken.
@@ -26,7 +30,7 @@ impl Protocol<Frame, Rights> for InOrder {
 
     ghost holds = { Wired };
 
-    ghost first = { rights true true [] [] };
+    ghost first = { rights true true [] [] [] [] };
 }
 
 /// The two rights, in two passes or in one.
@@ -36,18 +40,18 @@ impl Split<Rights> for Both {
     ghost use Rattle.std.specs.Prelude.{true, false, []};
     ghost use Rattle.sr_wires.specs.Wired.{rights};
 
-    ghost left = { λ v. rights true false v.sent [] };
+    ghost left = { λ v. rights true false v.sent [] [] v.taken };
 
-    ghost right = { λ v. rights false true [] v.taken };
+    ghost right = { λ v. rights false true [] v.taken v.sent [] };
 }
 
 impl Join<Rights> for Both {
     ghost use Rattle.std.specs.Prelude.{true, false, []};
     ghost use Rattle.sr_wires.specs.Wired.{rights};
 
-    ghost both = { λ v w. rights true true v.sent w.taken };
+    ghost both = { λ v w. rights true true v.sent w.taken w.seen_sent v.seen_taken };
 
-    ghost spent = { rights false false [] [] };
+    ghost spent = { rights false false [] [] [] [] };
 }
 
 /// One more was sent, or the wire was full.
@@ -57,14 +61,15 @@ impl Outcome<Frame, Rights> for Puts {
     ghost use Rattle.std.specs.Prelude.{◌≡◌, ◌∷◌, [], ◌++◌};
     ghost use Rattle.sr_wires.specs.Wired.{rights};
 
-    ghost then = { λ v x w. w ≡ rights v.sends v.takes (v.sent ++ x ∷ []) v.taken };
+    ghost then = { λ v x w. w ≡ rights v.sends v.takes (v.sent ++ x ∷ []) v.taken
+        v.seen_sent v.seen_taken };
 }
 
 impl Lesson<Frame, Rights> for Puts {
-    ghost use Rattle.std.specs.Prelude.{List, ℕ};
-    ghost use Rattle.sr_wires.specs.Wired.{IsWire};
+    ghost use Rattle.std.specs.Prelude.{◌≡◌, ◌≤◌, ◌++◌, List, ℕ, length};
 
-    ghost fact = { λ v waiting. (taken : List (List ℕ)) × IsWire v.sent taken waiting };
+    ghost fact = { λ v waiting. (rest : List (List ℕ)) × (v.sent ≡ v.seen_taken ++ rest)
+        × (length waiting ≤ length rest) };
 }
 
 /// One more was taken, or the wire was empty.
@@ -74,14 +79,15 @@ impl Outcome<Frame, Rights> for Takes {
     ghost use Rattle.std.specs.Prelude.{◌≡◌, ◌∷◌, [], ◌++◌};
     ghost use Rattle.sr_wires.specs.Wired.{rights};
 
-    ghost then = { λ v x w. w ≡ rights v.sends v.takes v.sent (v.taken ++ x ∷ []) };
+    ghost then = { λ v x w. w ≡ rights v.sends v.takes v.sent (v.taken ++ x ∷ [])
+        v.seen_sent v.seen_taken };
 }
 
 impl Lesson<Frame, Rights> for Takes {
-    ghost use Rattle.std.specs.Prelude.{List, ℕ};
-    ghost use Rattle.sr_wires.specs.Wired.{IsWire};
+    ghost use Rattle.std.specs.Prelude.{◌++◌};
+    ghost use Rattle.sr_wires.specs.Wired.{BeginsWithFrames};
 
-    ghost fact = { λ v waiting. (sent : List (List ℕ)) × IsWire sent v.taken waiting };
+    ghost fact = { λ v waiting. BeginsWithFrames (v.taken ++ waiting) v.seen_sent };
 }
 
 /// Who has both rights knows what was sent and what was taken.

@@ -49,7 +49,7 @@ impl Model for SendPass {
 
     ghost coded = { wire_end_code };
 
-    ghost view = { λ p. wire_end p.end.table_id (known p.end).sent };
+    ghost view = { λ p. wire_end p.end.table_id (known p.end).sent (known p.end).seen_taken };
 
     ghost invariant = { λ p. (p.end.me.1 ≡ []) × ((known p.end).sends ≡ true) };
 }
@@ -69,7 +69,7 @@ impl Model for TakePass {
 
     ghost coded = { wire_end_code };
 
-    ghost view = { λ p. wire_end p.end.table_id (known p.end).taken };
+    ghost view = { λ p. wire_end p.end.table_id (known p.end).taken (known p.end).seen_sent };
 
     ghost invariant = { λ p. (p.end.me.1 ≡ []) × ((known p.end).takes ≡ true) };
 }
@@ -77,8 +77,8 @@ impl Model for TakePass {
 impl Wire {
     /// An empty wire, and its two passes. NoMemory: an allocation failed.
     pub fn new(alloc: Global) -> Result<(Wire, SendPass, TakePass), NoMemory>
-        ensures send { IfOk result (λ r. r.1 ≡ wire_end r.0 []) }
-        ensures take { IfOk result (λ r. r.2 ≡ wire_end r.0 []) }
+        ensures send { IfOk result (λ r. r.1 ≡ wire_end r.0 [] []) }
+        ensures take { IfOk result (λ r. r.2 ≡ wire_end r.0 [] []) }
     {
         let (queue, mut end) = Queue::ruled(alloc, MAX_WAITING)?;
         let taker = queue.another::<Both>(&mut end);
@@ -92,7 +92,8 @@ impl Wire {
         ensures put { MatchResult result
             (λ _. pass.new.frames ≡ pass.old.frames ++ frame ∷ [])
             (λ back. (back ≡ frame) × (pass.new.frames ≡ pass.old.frames)
-            × WasFull pass.old.frames) }
+            × WasFull pass.old.frames pass.old.seen) }
+        ensures seen { pass.new.seen ≡ pass.old.seen }
     {
         self.queue.push_as::<Puts, W>(rt, &mut pass.end, frame)
     }
@@ -102,8 +103,9 @@ impl Wire {
         requires { pass.old.wire ≡ self.now }
         ensures wire { pass.new.wire ≡ self.now }
         ensures take { MatchOption result
-            ((pass.new.frames ≡ pass.old.frames) × WasEmpty pass.old.frames)
+            ((pass.new.frames ≡ pass.old.frames) × WasEmpty pass.old.frames pass.old.seen)
             (λ f. pass.new.frames ≡ pass.old.frames ++ f ∷ []) }
+        ensures seen { pass.new.seen ≡ pass.old.seen }
     {
         self.queue.pop_as::<Takes, W>(rt, &mut pass.end)
     }
@@ -112,8 +114,8 @@ impl Wire {
     pub fn compare(&self, send: SendPass, take: TakePass) -> (SendPass, TakePass)
         requires send { send.wire ≡ self.now }
         requires take { take.wire ≡ self.now }
-        ensures send { result.0 ≡ send }
-        ensures take { result.1 ≡ take }
+        ensures send { result.0 ≡ wire_end self.now send.frames take.frames }
+        ensures take { result.1 ≡ wire_end self.now take.frames send.frames }
         ensures wire { (waiting : List (List ℕ)) × IsWire send.frames take.frames waiting }
     {
         let SendPass { mut end } = send;

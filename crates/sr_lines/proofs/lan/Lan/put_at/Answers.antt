@@ -10,6 +10,9 @@ pub returns-in-Some-clause-taken : goal.returns-in-Some-clause-taken
 returns-in-Some-clause-taken g c =
     seen_same (λ e. e.take.frames) _ _ c.in-Some.wire.now _ c.in-Some.ensures.value (ap (λ s. s.frames) c.put.ensures.same)
 
+pub returns-in-Some-clause-seen : goal.returns-in-Some-clause-seen
+returns-in-Some-clause-seen g c = seen_same (λ e. e.send.seen) _ _ c.in-Some.wire.now _ c.in-Some.ensures.value c.put.ensures.seen
+
 pub returns-in-Some-clause-sent : goal.returns-in-Some-clause-sent
 returns-in-Some-clause-sent g c =
     said _ _ _ _ _ _ c.is_ok.ensures.value c.put.ensures.put
