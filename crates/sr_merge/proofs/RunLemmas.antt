@@ -54,7 +54,7 @@ use Rattle.sr_dup_runs.specs.TableRuns.{
 }
 use Rattle.sr_dup_runs.specs.RunLemmas.{each_pair_is_new_once}
 use Rattle.sr_merge.specs.declared.came.FrameId.{FrameId}
-use Rattle.sr_merge.specs.Limits.{millisecond}
+use Rattle.sr_merge.specs.Limits.{record_step}
 use Rattle.sr_merge.specs.Merging.{Merging, shown_arrival, answer_for, is_new_by, is_new, sources_told}
 use Rattle.sr_merge.specs.MergeRuns.{Numbered, IsNumber, HasWhole, MergeTurn, took, wrote, MergeRun, reads, written_in, packets_in, arrival_as, arrivals_read, is_first, firsts, newest_arrival, AreInTime, EachFrameIsWrittenOnce, known_after, news, WhatIsNewIsWritten}
 use Rattle.sr_merge.specs.WaitingLemmas.{waits_list}
@@ -108,14 +108,14 @@ quiet_or_told s time (Some f) whole h = by (answer_for s f time) refl h
       ap is_new_by is,
     )
     by (Some fresh) is (n, e, seq) = inr (
-      record { src = f.src; number = n; time = time / millisecond },
+      record { src = f.src; number = n; time = time / record_step },
       fresh,
       ap (arrival_as time (Some f)) e,
       (
         refl,
-        ap (λ q. arrive_answer window s f.src q (only H) (time / millisecond)) (sym seq) ∙ is,
+        ap (λ q. arrive_answer window s f.src q (only H) (time / record_step)) (sym seq) ∙ is,
         ap (λ o. left_by window o s (shown_arrival f time)) is
-            ∙ ap (λ q. after_arrive window s f.src q (only H) (time / millisecond)) seq,
+            ∙ ap (λ q. after_arrive window s f.src q (only H) (time / record_step)) seq,
       ),
       ap is_new_by is,
     )

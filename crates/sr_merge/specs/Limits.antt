@@ -5,8 +5,10 @@ use Rattle.std.specs.Prelude.{ℕ}
 abbrev pub copy_time : ℕ
 copy_time = 400000000
 
-abbrev pub millisecond : ℕ
-millisecond = 1000000
+-- the step of the clock of the duplicate record, which remembers a silent source for 400 steps: 400.197 to 401.2 ms, and so no less than
+-- copies are waited for (choice of this project)
+abbrev pub record_step : ℕ
+record_step = 1003000
 
 -- the most packets that wait for a copy (choice of this project)
 abbrev pub most_held : ℕ

@@ -25,7 +25,7 @@ use Rattle.sr_dup_table.specs.Limits.{window}
 use Rattle.sr_dup_table.specs.Sources.{Sources}
 use Rattle.sr_dup_runs.specs.TableRuns.{Arrival, is_copy, AreSteady}
 use Rattle.sr_merge.specs.declared.came.FrameId.{FrameId}
-use Rattle.sr_merge.specs.Limits.{millisecond}
+use Rattle.sr_merge.specs.Limits.{record_step}
 use Rattle.sr_merge.specs.Merging.{Read, Pending, Merging, answer_for, is_new, sources_told, TakesIn}
 
 -- a packet that was taken, and the whole number of its frame: none where it has no number, or where the record was full and could not tell
@@ -73,11 +73,11 @@ written_in (wrote w ∷ before) = written_in before ++ w.packet ∷ []
 abbrev pub packets_in : List Pending → List Read
 packets_in ws = map (λ w. w.packet) ws
 
--- the numbered arrival that a packet is, if it is one; the record counts milliseconds
+-- the numbered arrival that a packet is, if it is one; the record counts the steps of its clock
 abbrev pub arrival_as : ℕ → Option FrameId → Option ℤ → List Arrival
 arrival_as time None whole = []
 arrival_as time (Some f) None = []
-arrival_as time (Some f) (Some n) = record { src = f.src; number = n; time = time / millisecond } ∷ []
+arrival_as time (Some f) (Some n) = record { src = f.src; number = n; time = time / record_step } ∷ []
 
 abbrev pub arrival_read : Numbered → List Arrival
 arrival_read x = arrival_as x.packet.came.time x.packet.came.frame x.whole

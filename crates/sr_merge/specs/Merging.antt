@@ -44,7 +44,7 @@ use Rattle.sr_merge.specs.declared.packet.Packet.{Packet}
 use Rattle.sr_merge.specs.declared.waiting.Verdict.{Verdict}
 use Rattle.sr_merge.specs.declared.waiting.Verdict.TheVariants as verdict
 use Rattle.sr_merge.specs.declared.waiting.Waiting.{Waiting}
-use Rattle.sr_merge.specs.Limits.{copy_time, millisecond}
+use Rattle.sr_merge.specs.Limits.{copy_time, record_step}
 
 -- a packet: where and when it came in, of which frame it is a copy, its number in its capture, whether its trailer names the other LAN, and
 -- the octets that are written of it
@@ -148,9 +148,9 @@ verdict_by now w (Some f) = if w.is_met
 abbrev pub verdict_of : ℕ → Pending → Option Verdict
 verdict_of now w = verdict_by now w w.packet.came.frame
 
--- what the duplicate record is shown of a copy: whether its frame was handed up, in milliseconds
+-- what the duplicate record is shown of a copy: whether its frame was handed up, in steps of the record's clock
 abbrev pub shown_arrival : FrameId → ℕ → TableArrival
-shown_arrival f time = record { src = f.src; seq = f.seq.0; lanes = only H; time = time / millisecond }
+shown_arrival f time = record { src = f.src; seq = f.seq.0; lanes = only H; time = time / record_step }
 
 -- what the record answers
 abbrev pub answer_for : Sources → FrameId → ℕ → Option Lanes

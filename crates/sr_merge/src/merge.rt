@@ -1,9 +1,10 @@
 //! The merge: packets are taken one by one in the order of their times, and wait for their verdict in that order.
 
-ghost use Rattle.std.specs.Prelude.{◌≡◌, ◌<◌, ◌≤◌, ◌+◌, ◌++◌, ◌∷◌, [], true, Some, is_some, length, vec_len, vec_capacity, IfOk, OnOk, IsOk};
+ghost use Rattle.std.specs.Prelude.{◌≡◌, ℕ, ◌<◌, ◌≤◌, ◌+◌, ◌/◌, ◌++◌, ◌∷◌, [], true, Some, is_some, length, vec_len, vec_capacity, IfOk, OnOk, IsOk};
 ghost use Rattle.sr_slots.specs.Places.{IsFound};
-ghost use Rattle.sr_dup_table.specs.Limits.{window};
+ghost use Rattle.sr_dup_table.specs.Limits.{window, forget_time};
 ghost use Rattle.sr_dup_table.specs.Sources.{is_ready};
+ghost use Rattle.sr_merge.specs.Limits.{record_step, copy_time};
 ghost use Rattle.sr_merge.specs.Merging.{answer_for, sources_told};
 
 use crate::came::FrameId;
@@ -17,8 +18,9 @@ use sr_slots::{Hint, Keys};
 use std::alloc::Global;
 use std::marker::Model;
 
-/// The nanoseconds of a millisecond.
-const MILLISECOND: u64 = 1_000_000;
+/// The step of the clock of the duplicate record, in nanoseconds. The record remembers a silent source for 400 steps: 400.197 to
+/// 401.2 ms, and so no less than copies are waited for (choice of this project).
+const RECORD_STEP: u64 = 1_003_000;
 
 /// Once so many packets wait, the first one is to be written without a verdict (choice of this project).
 pub const MAX_WAITING: usize = 262_144;
@@ -53,6 +55,17 @@ impl Model for Merge {
     ghost invariant = { λ m. m.table.width ≡ window };
 }
 
+/// The time of the duplicate record, in steps of its clock.
+fn record_time(time: u64) -> u64
+    ensures steps { result ≡ time / record_step }
+
+    // A source that came less than 400 ms before is remembered.
+    ensures remembered { (before : ℕ) → before ≤ time → time < before + copy_time
+        → result < before / record_step + forget_time }
+{
+    time / RECORD_STEP
+}
+
 /// Makes the table ready for a copy that it can take. Nothing that shows changes.
 fn make_ready(table: &mut DupTable, hint: Option<Hint>, frame: FrameId) -> Result<(), NoMemory>
     requires { IsFound hint table.old.sources frame.src }
@@ -76,7 +89,7 @@ fn note(table: &mut DupTable, hint: Option<Hint>, frame: FrameId, time: u64)
     ensures width { table.new.width ≡ window }
     ensures sources { table.new.sources ≡ sources_told table.old.sources time (Some frame) }
 {
-    let now = time / MILLISECOND;
+    let now = record_time(time);
     table
         .arrive_at(hint, frame.src, frame.seq, Lanes::H, now)
         .unwrap();
@@ -252,7 +265,7 @@ impl Merge {
         ensures taken { OnOk result (TakesIn self.old (read_of packet.entry) self.new) }
         ensures err { OnErr result (self.new ≡ self.old) }
     {
-        let now = packet.came.time / MILLISECOND;
+        let now = record_time(packet.came.time);
         let Ok(look) = self.table.look(frame.src, frame.seq, Lanes::H, now) else {
             self.keep(packet)?;
             self.untold = self.untold.saturating_add(1);
