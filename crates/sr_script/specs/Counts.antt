@@ -1,5 +1,5 @@
 -- What a run counts of the lines of its script.
-use Rattle.std.specs.Prelude.{◌≡◌, ◌⊎◌, ℕ, ◌+◌, List, [], Option, None, Some, min}
+use Rattle.std.specs.Prelude.{◌≡◌, ◌⊎◌, ℕ, ◌+◌, List, [], Some, min}
 use Rattle.sr_frame.specs.declared.ports.Port.{Port}
 use Rattle.sr_node.specs.declared.fault.StepFault.{StepFault}
 use Rattle.sr_node.specs.declared.fault.StepFault.TheVariants as fault

@@ -20,7 +20,6 @@ ghost use Rattle.sr_script.specs.Reports.{RepliedAs};
 use crate::node_session::NodeSession;
 use crate::printing::append_outlets;
 use crate::reading::{Command, arrival_at, command_of, sending_at};
-use crate::setups::Report;
 use crate::unprinted::drop_all_waiting;
 use itoa::Buffer;
 use sr_forwarding::{Outlets, PortFraming, ReadFault, Role, RoleKind, framing_at};
@@ -29,6 +28,15 @@ use sr_node::{Answer, Event, NodeOf, StepFault};
 use sr_session::FaultKind;
 use sr_text::Text;
 use std::alloc::{AllocError, Global};
+
+/// What becomes of the parcels that wait behind a line.
+#[derive(Clone, Copy)]
+pub(crate) enum Parcels {
+    /// They are printed.
+    Printed,
+    /// They are dropped.
+    Dropped,
+}
 
 /// What a refusal is called. None: an allocation failed.
 pub fn name_of(fault: StepFault) -> Option<&'static str>
@@ -227,7 +235,7 @@ pub(crate) fn obey<R: Role>(
     }
 }
 
-/// Has the node obey a line, then takes all that waits, and appends what to print for it: a refusal, and where frames are reported a
+/// Has the node obey a line, then takes all that waits, and appends what to print for it: a refusal, and where parcels are printed a
 /// line for each frame.
 ///
 /// # Errors
@@ -235,7 +243,7 @@ pub(crate) fn obey<R: Role>(
 pub(crate) fn answer<R: Role>(
     alloc: Global,
     role: RoleKind,
-    report: Report,
+    parcels: Parcels,
     node: &mut NodeOf<R>,
     number: u64,
     line: &[u8],
@@ -243,7 +251,7 @@ pub(crate) fn answer<R: Role>(
     frame: &mut Vec<u8>,
     text: &mut Text,
 ) -> Result<(), FaultKind>
-    ensures ok { OnOk result ((answer : List ℕ) × RepliedAs report role
+    ensures ok { OnOk result ((answer : List ℕ) × RepliedAs parcels role
         (state_of R.meaning node.old) number line.now answer (state_of R.meaning node.new)
         × (text.new ≡ text.old ++ answer)) }
     ensures kept { OnErr result (StillHolds text.old text.new) }
@@ -254,9 +262,9 @@ pub(crate) fn answer<R: Role>(
 {
     let command = command_of(role, line, octets)?;
     obey(alloc, role, node, number, command, octets, text)?;
-    match report {
-        Report::Frames => append_outlets(&role, node, frame, text),
-        Report::Status => {
+    match parcels {
+        Parcels::Printed => append_outlets(&role, node, frame, text),
+        Parcels::Dropped => {
             drop_all_waiting(node);
             Ok(())
         }

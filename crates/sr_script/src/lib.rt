@@ -19,6 +19,5 @@ mod unprinted;
 pub use answering::{append_refusal, name_of};
 pub use counts::Counts;
 pub use reading::Command;
-pub use runs::{run, run_status};
-pub use setups::Setup;
-pub use tallies::run_tally;
+pub use runs::{run, run_leaving, run_status, run_tally};
+pub use setups::{Report, Setup};

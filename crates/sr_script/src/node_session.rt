@@ -1,7 +1,6 @@
 //! A node at work on a script of events: what it puts out is printed.
 
-use crate::answering::{answer, answer_unended};
-use crate::setups::Report;
+use crate::answering::{Parcels, answer, answer_unended};
 use sr_forwarding::{Role, RoleKind};
 use sr_node::NodeOf;
 use sr_session::{FaultKind, Session};
@@ -40,7 +39,7 @@ impl<P: Role> Session for NodeSession<P> {
         answer(
             self.alloc,
             self.role,
-            Report::Frames,
+            Parcels::Printed,
             &mut self.node,
             number,
             line,

@@ -3,20 +3,24 @@
 ghost use Rattle.std.specs.Prelude.{◌≡◌, IfOk};
 ghost use Rattle.sr_forwarding.specs.RoleImages.{role_of};
 ghost use Rattle.sr_script.specs.Replies.{replay_dialogue};
+ghost use Rattle.sr_session.specs.LeftLines.{Leaves};
 ghost use Rattle.sr_session.specs.Runs.{Runs};
 ghost use Rattle.sr_node.specs.States.{state_of};
 ghost use Rattle.sr_script.specs.Stations.{at_work, start_of};
 ghost use Rattle.sr_script.specs.Statuses.{status_dialogue};
-ghost use Rattle.sr_script.specs.Reports.{dialogue_of};
+ghost use Rattle.sr_script.specs.Reports.{RunsAs};
+ghost use Rattle.sr_script.specs.Tallies.{tally_dialogue, tally_start};
 
+use crate::counts::Counts;
 use crate::node_session::NodeSession;
 use crate::setups::{Report, Setup};
 use crate::status::StatusSession;
+use crate::tallies::TallySession;
 use sr_forwarding::{Danh, Danp, Role, RoleKind};
 use sr_frame::NoMemory;
 use sr_node::NodeOf;
 use sr_redbox::{HsrBox, PrpBox, SanBox};
-use sr_session::{Fault, MAX_LINE, NOT_BEGUN, Session, run_session};
+use sr_session::{Fault, MAX_LINE, NOT_BEGUN, Session, run_session_leaving};
 use std::alloc::{AllocError, Global};
 use std::io::{BufRead, Write};
 
@@ -28,11 +32,7 @@ fn list_of(alloc: Global, count: usize) -> Result<Vec<u8>, AllocError> {
 }
 
 /// A new node over this role, ready for a script. An error: an allocation failed.
-pub(crate) fn session_of<P: Role>(
-    alloc: Global,
-    setup: &Setup,
-    role: P,
-) -> Result<NodeSession<P>, NoMemory>
+fn session_of<P: Role>(alloc: Global, setup: &Setup, role: P) -> Result<NodeSession<P>, NoMemory>
     requires { P.meaning role ≡ role_of setup.now.role setup.now.mac }
     ensures { IfOk result (λ s. at_work s.role (state_of P.meaning s.node) ≡ start_of setup.now) }
 {
@@ -50,16 +50,18 @@ pub(crate) fn session_of<P: Role>(
 
 /// Has a session obey the script, and drops it. It is generic in the session, so that its proof does not go through the drop code of
 /// a node.
-pub(crate) fn run_owned<S: Session + Drop, R: BufRead, W: Write>(
+fn run_owned<S: Session + Drop, R: BufRead, W: Write>(
     alloc: Global,
     mut session: S,
     reader: &mut R,
     writer: &mut W,
+    line: &mut Vec<u8>,
 ) -> Result<(), Fault>
-    ensures { Runs S.dialogue (S.state session) (R.remaining reader.old)
+    ensures runs { Runs S.dialogue (S.state session) (R.remaining reader.old)
         (R.remaining reader.new) (W.contents writer.old) (W.contents writer.new) result }
+    ensures left { Leaves result (R.remaining reader.old) line.new.items }
 {
-    run_session(alloc, &mut session, reader, writer)
+    run_session_leaving(alloc, &mut session, reader, writer, line)
 }
 
 /// Has a new node over this role obey the script.
@@ -71,51 +73,72 @@ fn run_over<P: Role, R: BufRead, W: Write>(
     report: Report,
     reader: &mut R,
     writer: &mut W,
+    line: &mut Vec<u8>,
 ) -> Result<(), Fault>
     requires { P.meaning role ≡ role_of setup.now.role setup.now.mac }
-    ensures { Runs (dialogue_of report) (start_of setup.now) (R.remaining reader.old)
-        (R.remaining reader.new) (W.contents writer.old) (W.contents writer.new) result }
+    ensures runs { RunsAs report setup.now (R.remaining reader.old) (R.remaining reader.new)
+        (W.contents writer.old) (W.contents writer.new) result }
+    ensures left { Leaves result (R.remaining reader.old) line.new.items }
 {
     match session_of(alloc, setup, role) {
         Ok(session) => match report {
-            Report::Frames => run_owned(alloc, session, reader, writer),
-            Report::Status => run_owned(alloc, StatusSession(session), reader, writer),
+            Report::Frames => run_owned(alloc, session, reader, writer, line),
+            Report::Status => run_owned(alloc, StatusSession(session), reader, writer, line),
+            Report::Tally => {
+                let counts = Counts::none();
+                let counting = TallySession {
+                    at_work: session,
+                    counts,
+                };
+                run_owned(alloc, counting, reader, writer, line)
+            }
         },
         Err(NoMemory) => Err(NOT_BEGUN),
     }
 }
 
-/// Has a new node obey the script.
-fn run_reported<R: BufRead, W: Write>(
+/// Runs the script that the reader has left on a new node, and writes what is reported of it: what `run`, `run_status` or `run_tally`
+/// writes.
+///
+/// `line` is given up for memory. Where a line ends the run, it is then in `line`: whole with the fault `Line`, and its first 8001
+/// octets with `Long` of a line of more than 8000.
+///
+/// # Errors
+/// Those of `run`.
+pub fn run_leaving<R: BufRead, W: Write>(
     alloc: Global,
     setup: &Setup,
     report: Report,
     reader: &mut R,
     writer: &mut W,
+    line: &mut Vec<u8>,
 ) -> Result<(), Fault>
-    ensures { Runs (dialogue_of report) (start_of setup.now) (R.remaining reader.old)
-        (R.remaining reader.new) (W.contents writer.old) (W.contents writer.new) result }
+    // What is written is what is reported of the answers to the lines.
+    ensures runs { RunsAs report setup.now (R.remaining reader.old) (R.remaining reader.new)
+        (W.contents writer.old) (W.contents writer.new) result }
+    // The line that ended it is left.
+    ensures left { Leaves result (R.remaining reader.old) line.new.items }
 {
     match setup.role {
         RoleKind::Danp => {
             let danp = Danp::new(setup.mac);
-            run_over(alloc, setup, danp, report, reader, writer)
+            run_over(alloc, setup, danp, report, reader, writer, line)
         }
         RoleKind::Danh => {
             let danh = Danh::new(setup.mac);
-            run_over(alloc, setup, danh, report, reader, writer)
+            run_over(alloc, setup, danh, report, reader, writer, line)
         }
         RoleKind::San => {
             let san = SanBox::with_keys(alloc, setup.mac, setup.keys);
-            run_over(alloc, setup, san, report, reader, writer)
+            run_over(alloc, setup, san, report, reader, writer, line)
         }
         RoleKind::Prp { lan, net } => {
             let prp = PrpBox::of(setup.mac, lan, net);
-            run_over(alloc, setup, prp, report, reader, writer)
+            run_over(alloc, setup, prp, report, reader, writer, line)
         }
         RoleKind::Hsr => {
             let hsr = HsrBox::new(setup.mac);
-            run_over(alloc, setup, hsr, report, reader, writer)
+            run_over(alloc, setup, hsr, report, reader, writer, line)
         }
     }
 }
@@ -127,9 +150,10 @@ fn run_reported<R: BufRead, W: Write>(
 /// lines that the reader has at hand is written together, and flushed, before more is read, and before a fault.
 ///
 /// # Errors
-/// `Line` and `Long` come at the first line that is not a line of a script, whatever memory there is. `Read`, `Write` and
-/// `Memory` come where the reader, the writer or an allocation fails, and at no such line. The lines before that of the fault are
-/// answered, and nothing else is written, but for a part of the text of that line where the writer failed.
+/// `Memory` comes at line 1, whatever that line is, where an allocation before the first line is read fails. Then `Line` and `Long`
+/// come at the first line that is not a line of a script, whatever memory there is. `Read`, `Write` and `Memory` come where the
+/// reader, the writer or an allocation fails, and at no such line. The lines before that of the fault are answered, and nothing else
+/// is written, but for text of that line where the writer failed: a part of it, or all where it could not be passed on.
 pub fn run<R: BufRead, W: Write>(
     alloc: Global,
     setup: &Setup,
@@ -140,7 +164,8 @@ pub fn run<R: BufRead, W: Write>(
     ensures { Runs replay_dialogue (start_of setup.now) (R.remaining reader.old)
         (R.remaining reader.new) (W.contents writer.old) (W.contents writer.new) result }
 {
-    run_reported(alloc, setup, Report::Frames, reader, writer)
+    let mut line = Vec::new(alloc);
+    run_leaving(alloc, setup, Report::Frames, reader, writer, &mut line)
 }
 
 /// Runs the script that the reader has left on a new node, as `run` does, and writes of what the node answers the refusals
@@ -159,5 +184,26 @@ pub fn run_status<R: BufRead, W: Write>(
     ensures { Runs status_dialogue (start_of setup.now) (R.remaining reader.old)
         (R.remaining reader.new) (W.contents writer.old) (W.contents writer.new) result }
 {
-    run_reported(alloc, setup, Report::Status, reader, writer)
+    let mut line = Vec::new(alloc);
+    run_leaving(alloc, setup, Report::Status, reader, writer, &mut line)
+}
+
+/// Runs the script that the reader has left on a new node, as `run_status` does. Behind the status it writes what was counted:
+/// a line for each port at which frames come in, with how many came, how many of them had the other LAN's id, and how many
+/// were refused; and one with how many of these the table of sources had no place for, where there were some.
+///
+/// # Errors
+/// Those of `run_status`.
+pub fn run_tally<R: BufRead, W: Write>(
+    alloc: Global,
+    setup: &Setup,
+    reader: &mut R,
+    writer: &mut W,
+) -> Result<(), Fault>
+    // What is written is the refusals among the answers to the lines, and then the status and the counts.
+    ensures { Runs tally_dialogue (tally_start setup.now) (R.remaining reader.old)
+        (R.remaining reader.new) (W.contents writer.old) (W.contents writer.new) result }
+{
+    let mut line = Vec::new(alloc);
+    run_leaving(alloc, setup, Report::Tally, reader, writer, &mut line)
 }

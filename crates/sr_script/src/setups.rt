@@ -19,10 +19,12 @@ pub struct Setup {
 }
 
 /// What is printed of the node that a script is run on.
-#[derive(Clone, Copy)]
-pub(crate) enum Report {
+#[derive(Clone, Copy, Debug, PartialEq, Eq)]
+pub enum Report {
     /// The frames that it puts out.
     Frames,
     /// What it knows of other nodes at the end.
     Status,
+    /// What it knows of other nodes at the end, and what was counted of the lines.
+    Tally,
 }

@@ -1,8 +1,7 @@
 //! A node at work on a script of events: at the end is printed what it knows of other nodes.
 
-use crate::answering::answer;
+use crate::answering::{Parcels, answer};
 use crate::node_session::NodeSession;
-use crate::setups::Report;
 use crate::status_lines::tell_status;
 use sr_forwarding::Role;
 use sr_session::{FaultKind, Session};
@@ -31,7 +30,7 @@ impl<P: Role> Session for StatusSession<P> {
         answer(
             at_work.alloc,
             at_work.role,
-            Report::Status,
+            Parcels::Dropped,
             &mut at_work.node,
             number,
             line,
