@@ -2,8 +2,6 @@
 use Rattle.std.specs.Prelude.{◌≡◌, ℕ, ◌+◌, ◌==◌, if◌then◌else◌, Option, None, Some}
 use Rattle.std.specs.declared.result.Result.{Result}
 use Rattle.std.specs.declared.result.Result.TheVariants.{Ok, Err}
-use Rattle.sr_dup_table.specs.declared.fault.DupFault.{DupFault}
-use Rattle.sr_dup_table.specs.declared.fault.DupFault.TheVariants as dup
 use Rattle.sr_frame.specs.declared.ports.Port.{Port}
 use Rattle.sr_frame.specs.declared.ports.Port.TheVariants.{H, A, B, C}
 use Rattle.sr_forwarding.specs.declared.outlets.Outlets.{Outlets}
@@ -22,10 +20,6 @@ port_number A = 1
 port_number B = 2
 port_number C = 3
 
--- the table of sources is full
-abbrev pub table_full : ℕ
-table_full = 259
-
 -- an allocation failed
 abbrev pub no_memory : ℕ
 no_memory = 261
@@ -42,29 +36,9 @@ closed = 263
 abbrev pub opened : ℕ
 opened = 264
 
--- octets are no snapshot
-abbrev pub no_snapshot : ℕ
-no_snapshot = 265
-
--- two records of a source are 32768 apart
-abbrev pub apart : ℕ
-apart = 266
-
--- the buffer is too short
-abbrev pub short : ℕ
-short = 267
-
 -- the number of a fault
 abbrev pub fault_code : StepFault → ℕ
 fault_code fault = 256 + step_number fault
-
--- the number of a fault of a snapshot
-abbrev pub snapshot_code : DupFault → ℕ
-snapshot_code dup.TableFull = table_full
-snapshot_code dup.NoMemory = no_memory
-snapshot_code (dup.Apart mac) = apart
-snapshot_code dup.OtherWidth = no_snapshot
-snapshot_code dup.BadSnapshot = no_snapshot
 
 -- the number for a frame that came in: the set of the outlets that got it, or 16 for the node's own
 abbrev pub received_code : Result (Option Outlets) StepFault → ℕ

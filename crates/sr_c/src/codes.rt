@@ -1,10 +1,9 @@
 //! What the calls answer, as numbers.
 
 ghost use Rattle.std.specs.Prelude.{◌≡◌};
-ghost use Rattle.sr_c.specs.Codes.{fault_code, port_number, port_of, received_code, snapshot_code, stepped_code};
+ghost use Rattle.sr_c.specs.Codes.{fault_code, port_number, port_of, received_code, stepped_code};
 
 use bitflags::Flags;
-use sr_dup_table::DupFault;
 use sr_forwarding::{Outlets, Port};
 use sr_node::{Answer, StepFault};
 
@@ -19,15 +18,6 @@ pub(crate) const CLOSED: u32 = 263;
 
 /// The handle is open already.
 pub(crate) const OPEN: u32 = 264;
-
-/// Octets are no snapshot.
-const NO_SNAPSHOT: u32 = 265;
-
-/// Two records of a source are 32768 apart.
-const APART: u32 = 266;
-
-/// The buffer is too short.
-pub(crate) const SHORT: u32 = 267;
 
 /// The frame that came in was the node's own.
 const OWN: u32 = 16;
@@ -67,18 +57,6 @@ fn fault_code(fault: StepFault) -> u32
         StepFault::TableFull => 259,
         StepFault::OutboxFull(_) => 260,
         StepFault::NoMemory => NO_MEMORY,
-    }
-}
-
-/// The number of a fault of a snapshot.
-pub(crate) fn snapshot_code(fault: DupFault) -> u32
-    ensures { result ≡ snapshot_code fault }
-{
-    match fault {
-        DupFault::TableFull => 259,
-        DupFault::NoMemory => NO_MEMORY,
-        DupFault::Apart(_) => APART,
-        DupFault::OtherWidth | DupFault::BadSnapshot => NO_SNAPSHOT,
     }
 }
 
