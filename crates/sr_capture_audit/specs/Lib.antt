@@ -4,3 +4,4 @@ pub mod Kinds
 pub mod Counting
 pub mod Auditing
 pub mod Spanning
+pub mod Judging

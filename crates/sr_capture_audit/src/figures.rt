@@ -10,6 +10,7 @@ ghost use Rattle.sr_capture_script.specs.SourceViews.{IsFed};
 ghost use Rattle.sr_capture_audit.specs.Auditing.{sign_with, TakesKind, IsAuditOf};
 
 use crate::counts::Counts;
+use crate::judgement::{Judgement, Reason};
 use crate::kind::{Kind, Sign, kind_of};
 use crate::lines::{print_capture, print_source, print_table_names, print_table_row};
 use crate::network::{Ports, Subject};
@@ -104,8 +105,8 @@ pub struct Summary {
     pub sources: usize,
     /// How many packets were of sources that have no lines.
     pub left_out: u64,
-    /// Whether a figure of a fault is not 0.
-    pub has_faults: bool,
+    /// What they say of the network.
+    pub judgement: Judgement,
 }
 
 impl Summary {
@@ -168,6 +169,7 @@ pub fn figures_of<R: BufRead + Drop>(
 impl Report {
     ghost use Rattle.std.specs.Prelude.{◌≡◌, length};
     ghost use Rattle.sr_capture_audit.specs.Faults.{has_faults};
+    ghost use Rattle.sr_capture_audit.specs.Judging.{has_pairs, reason_of, network_judgement};
 
     /// Prints the lines of the captures. At a mirror port they are those of each side, and of the packets without a number.
     ///
@@ -254,18 +256,63 @@ impl Report {
         false
     }
 
+    /// Whether a frame came by both sides.
+    fn has_pairs(&self) -> bool
+        ensures { result ≡ has_pairs self.now }
+    {
+        for (_, source) in self.audit.sources() {
+            if source.figures().tally.pairs > 0 {
+                return true;
+            }
+        }
+        false
+    }
+
+    /// Why nothing can be judged. None: the figures judge.
+    fn reason(&self) -> Option<Reason>
+        ensures { result ≡ reason_of self.now }
+    {
+        let counts = self.counts();
+        if counts.are_cut() {
+            Some(Reason::Cut)
+        } else if counts.a.numbered == 0 {
+            Some(Reason::Unnumbered(Side::A))
+        } else if counts.b.numbered == 0 {
+            Some(Reason::Unnumbered(Side::B))
+        } else if counts.are_swapped() {
+            Some(Reason::Swapped)
+        } else if self.has_pairs() {
+            None
+        } else {
+            Some(Reason::Unpaired)
+        }
+    }
+
+    /// What the captures say of the network. Where nothing can be judged, no figure of a fault counts.
+    fn judgement(&self) -> Judgement
+        ensures { result ≡ network_judgement self.now }
+    {
+        if let Some(reason) = self.reason() {
+            Judgement::Unjudged(reason)
+        } else if self.has_faults() {
+            Judgement::Faulty
+        } else {
+            Judgement::Sound
+        }
+    }
+
     /// What is known of the captures as a whole.
     pub fn summary(&self) -> Summary
         ensures counts { result.counts ≡ self.now.counts }
         ensures sources { result.sources ≡ length self.now.audit.sources.entries }
         ensures left_out { result.left_out ≡ self.now.audit.left_out }
-        ensures faults { result.has_faults ≡ has_faults self.now }
+        ensures judgement { result.judgement ≡ network_judgement self.now }
     {
         Summary {
             counts: self.counts(),
             sources: self.sources(),
             left_out: self.left_out(),
-            has_faults: self.has_faults(),
+            judgement: self.judgement(),
         }
     }
 }

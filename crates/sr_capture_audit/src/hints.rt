@@ -1,7 +1,7 @@
 //! What looks wrong in the captures as a whole.
 
 ghost use Rattle.std.specs.Prelude.{◌≡◌};
-ghost use Rattle.sr_capture_audit.specs.Hints.{hint_of, is_swapped, are_swapped};
+ghost use Rattle.sr_capture_audit.specs.Hints.{ring_hint, hint_of, is_swapped, are_swapped};
 
 use crate::counts::{Counts, SideCounts};
 use crate::network::Network;
@@ -14,6 +14,8 @@ pub enum Hint {
     Checked(u64, u64),
     /// So many packets have HSR tags.
     Tagged(u64),
+    /// No HSR tag stands in so many packets.
+    Untagged(u64),
     /// The recorder cut so many packets.
     Cut(u64),
 }
@@ -26,6 +28,9 @@ impl fmt::Display for Hint {
                 "no PRP trailer in {packets} packets; in {checked} one stands four octets before the end: --fcs 4?"
             ),
             Hint::Tagged(tagged) => write!(f, "HSR tags in {tagged} packets: --network hsr?"),
+            Hint::Untagged(packets) => {
+                write!(f, "no HSR tag in {packets} packets: --network prp?")
+            }
             Hint::Cut(cut) => write!(
                 f,
                 "{cut} packets were cut by the recorder: trailers stand at the end"
@@ -34,12 +39,23 @@ impl fmt::Display for Hint {
     }
 }
 
+/// What looks wrong in the capture of a port of a ring, if something does.
+fn ring_hint(counts: &SideCounts) -> Option<Hint>
+    ensures { result ≡ ring_hint counts.now }
+{
+    if counts.numbered == 0 && counts.plain > 0 {
+        Some(Hint::Untagged(counts.packets))
+    } else {
+        None
+    }
+}
+
 /// What looks wrong in the capture of a side, if something does.
 pub fn hint_of(network: Network, counts: &SideCounts) -> Option<Hint>
     ensures { result ≡ hint_of network counts.now }
 {
     if network == Network::Hsr {
-        return None;
+        return ring_hint(counts);
     }
     if counts.numbered == 0 && counts.tagged > 0 {
         return Some(Hint::Tagged(counts.tagged));

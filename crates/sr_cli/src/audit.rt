@@ -6,10 +6,11 @@ use crate::progress::Progress;
 use crate::script::{Opened, open_file, tell_ended};
 use sr_audit::{LISTED_AT_ONCE, MAX_SOURCES, Span, Spans};
 use sr_capture_audit::{
-    Counts, Format, Network, Ports, Report, SideCounts, Summary, figures_of, hint_of, print_lists,
-    print_picture, spans_of,
+    Counts, Format, Judgement, Ports, Report, SideCounts, Summary, figures_of, hint_of,
+    print_lists, print_picture, spans_of,
 };
 use sr_capture_script::{Captures, Inlet, ScriptFault};
+use sr_pcapng::Wanted;
 use sr_slots::Keys;
 use std::io::{self, BufWriter, Write};
 use std::random::RandomSource;
@@ -17,9 +18,6 @@ use std::rt::Files;
 
 /// The exit status of a fault of a file, a write or memory.
 const RUN_FAILED: u8 = 1;
-
-/// The exit status where the network has faults, and the status was to tell.
-const HAS_FAULTS: u8 = 3;
 
 /// What ended an audit early.
 #[derive(Clone, Copy)]
@@ -55,22 +53,68 @@ fn open<'a, R: AllocGlobal + Eprint + Files>(
     }
 }
 
+/// Says that no packet of a capture is wanted.
+fn tell_empty<R: Eprint>(rt: &R, task: &AuditTask<'_>, name: &str, wanted: Wanted) {
+    let choice = task.options.choice;
+    if choice.from > 0 || choice.to.is_some() {
+        let _ = eprintln!(rt; "{name}: no packets of the times that are wanted");
+    } else if let Wanted::Number(number) = wanted {
+        let _ = eprintln!(rt; "{name}: interface {number} has no packets");
+    } else {
+        let _ = eprintln!(rt; "{name}: no packets");
+    }
+}
+
 /// Says what looks wrong in a capture.
-fn tell_hint<R: Eprint>(rt: &R, name: &str, network: Network, counts: &SideCounts) {
-    if let Some(hint) = hint_of(network, counts) {
+fn tell_hint<R: Eprint>(
+    rt: &R,
+    task: &AuditTask<'_>,
+    name: &str,
+    wanted: Wanted,
+    counts: &SideCounts,
+) {
+    if let Some(hint) = hint_of(task.subject.network, counts) {
         let _ = eprintln!(rt; "{name}: {hint}");
+    } else if counts.packets == 0 {
+        tell_empty(rt, task, name, wanted);
+    } else if counts.numbered == 0 && task.options.check_len > 0 {
+        let _ = eprintln!(rt;
+            "{name}: no number in {} packets: do they have check sequences, as --fcs 4 says?",
+            counts.packets
+        );
+    }
+}
+
+/// Says that a mirror port sees the frames of one side alone.
+fn tell_one_sided<R: Eprint>(rt: &R, counts: &Counts) {
+    match (counts.a.numbered, counts.b.numbered) {
+        (0, 0) => {}
+        (_, 0) => {
+            let _ = eprintln!(rt; "mirror: no frame of B: does the port see A alone?");
+        }
+        (0, _) => {
+            let _ = eprintln!(rt; "mirror: no frame of A: does the port see B alone?");
+        }
+        _ => {}
     }
 }
 
 /// Says what looks wrong in each capture.
 fn tell_hints<R: Eprint>(rt: &R, task: &AuditTask<'_>, counts: &Counts) {
-    let network = task.subject.network;
+    let wanted = task.options.interfaces;
     match task.subject.ports {
         Ports::Two => {
-            tell_hint(rt, "A", network, &counts.a);
-            tell_hint(rt, "B", network, &counts.b);
+            if task.a.is_some() {
+                tell_hint(rt, task, "A", wanted.a, &counts.a);
+            }
+            if task.b.is_some() {
+                tell_hint(rt, task, "B", wanted.b, &counts.b);
+            }
         }
-        Ports::Mirror => tell_hint(rt, "mirror", network, &counts.of_mirror()),
+        Ports::Mirror => {
+            tell_hint(rt, task, "mirror", wanted.a, &counts.of_mirror());
+            tell_one_sided(rt, counts);
+        }
     }
 }
 
@@ -304,8 +348,20 @@ pub fn run_audit<R: AllocGlobal + Print + Eprint + Files + RandomSource>(
         return Err(tell(rt, ended, writer.get_ref().is_closed()));
     }
     tell_odd(rt, task, &spans, &summary);
-    if task.is_check && summary.has_faults {
-        return Err(HAS_FAULTS);
+    if task.is_check {
+        check(rt, summary.judgement)
+    } else {
+        Ok(())
     }
-    Ok(())
+}
+
+/// Says why nothing can be judged, where that is so. An error is the exit status of a check that does not pass.
+fn check<R: Eprint>(rt: &R, judgement: Judgement) -> Result<(), u8> {
+    if let Judgement::Unjudged(reason) = judgement {
+        let _ = eprintln!(rt; "nothing to judge: {reason}");
+    }
+    match judgement.status() {
+        0 => Ok(()),
+        status => Err(status),
+    }
 }

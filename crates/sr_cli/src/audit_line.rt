@@ -65,7 +65,7 @@ pub fn audit_command<'a>(
     let check = Arg::new(alloc, "check")
         .long("check")
         .action(ArgAction::SetTrue)
-        .help("Ends with status 3 where a figure tells of a fault of the network");
+        .help("Ends with status 3 where a figure tells of a fault, 4 where nothing can be judged");
     with_arg(command, check)
 }
 

@@ -1,0 +1,84 @@
+//! What captures say of a network as a whole.
+
+ghost use Rattle.std.specs.Prelude.{◌≡◌};
+ghost use Rattle.sr_capture_audit.specs.Judging.{has_cut_many, are_cut, check_status};
+
+use crate::counts::{Counts, SideCounts};
+use crate::network::letter_of;
+use sr_audit::Side;
+use std::fmt;
+
+/// The exit status of a check that finds no fault.
+const SOUND: u8 = 0;
+
+/// That of one that finds a fault.
+const FAULTY: u8 = 3;
+
+/// That of one that has nothing to judge.
+const UNJUDGED: u8 = 4;
+
+/// Why nothing can be judged of a network by its captures.
+#[derive(Clone, Copy, Debug, PartialEq, Eq)]
+pub enum Reason {
+    /// No frame of a side has a number.
+    Unnumbered(Side),
+    /// More than half of the numbered frames of each side have the trailer of the other LAN.
+    Swapped,
+    /// No frame came by both sides.
+    Unpaired,
+    /// The recorder cut more than one packet in ten.
+    Cut,
+}
+
+impl fmt::Display for Reason {
+    fn fmt<W: fmt::Write>(&self, f: &mut fmt::Formatter<W>) -> fmt::Result {
+        match *self {
+            Reason::Unnumbered(side) => {
+                write!(f, "no frame of {} has a number", letter_of(side))
+            }
+            Reason::Swapped => write!(f, "the captures seem to be swapped"),
+            Reason::Unpaired => write!(f, "no frame came by both A and B"),
+            Reason::Cut => write!(f, "more than one packet in ten was cut by the recorder"),
+        }
+    }
+}
+
+/// What captures say of a network as a whole.
+#[derive(Clone, Copy, Debug, PartialEq, Eq)]
+pub enum Judgement {
+    /// No figure tells of a fault.
+    Sound,
+    /// A figure tells of a fault.
+    Faulty,
+    /// Nothing can be judged.
+    Unjudged(Reason),
+}
+
+impl Judgement {
+    /// The exit status of a check: 0 of a sound network, 3 of one with faults, 4 where there is nothing to judge.
+    pub fn status(self) -> u8
+        ensures { result ≡ check_status self }
+    {
+        match self {
+            Judgement::Sound => SOUND,
+            Judgement::Faulty => FAULTY,
+            Judgement::Unjudged(_) => UNJUDGED,
+        }
+    }
+}
+
+/// Whether the recorder cut more than one packet in ten.
+fn has_cut_many(counts: &SideCounts) -> bool
+    ensures { result ≡ has_cut_many counts.now }
+{
+    counts.packets / 10 < counts.cut
+}
+
+impl Counts {
+    /// Whether a recorder cut more than one packet in ten.
+    pub(crate) fn are_cut(&self) -> bool
+        ensures { result ≡ are_cut self.now }
+    {
+        has_cut_many(&self.a) || has_cut_many(&self.b) || has_cut_many(&self.neither)
+    }
+}
