@@ -92,7 +92,7 @@ fn put_summary(digest: &mut Digest, audited: &Audited<'_>, summary: &Summary) {
     let network = audited.subject.network;
     digest.put_number(summary.sources as u64);
     digest.put_number(summary.left_out);
-    digest.put_octet(u8::from(summary.has_faults));
+    digest.put_octet(summary.judgement.status());
     digest.put_octet(u8::from(counts.are_swapped()));
     digest.put_octet(u8::from(hint_of(network, &counts.a).is_some()));
     digest.put_octet(u8::from(hint_of(network, &counts.of_mirror()).is_some()));
