@@ -6,3 +6,5 @@ pub mod ReadingLemmas
 pub mod AgainLemmas
 pub mod OwnLemmas
 pub mod WritingLemmas
+pub mod TrailedPieces
+pub mod TaggedPieces

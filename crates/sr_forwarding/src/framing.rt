@@ -114,4 +114,12 @@ impl Framing for Box<dyn Framing + Send> {
     fn write(&self, out: &mut Vec<u8>, parcel: &ParcelView<'_>) -> Result<(), ReadFault> {
         (**self).write(out, parcel)
     }
+
+    fn decode(&self, alloc: Global, octets: &[u8]) -> Result<Parcel, ReadFault> {
+        (**self).decode(alloc, octets)
+    }
+
+    fn encode(&self, alloc: Global, parcel: &Parcel) -> Result<Frame, ReadFault> {
+        (**self).encode(alloc, parcel)
+    }
 }

@@ -1,13 +1,15 @@
 //! Coupled networks: a ring with two LANs, and two rings.
 
-ghost use Rattle.std.specs.Prelude.{◌≡◌, ◌≤◌, ◌<◌, ◌++◌, ◌&&◌, nat_le, length, slice_get};
+ghost use Rattle.std.specs.Prelude.{◌≡◌, ◌≤◌, ◌<◌, ◌++◌, ◌&&◌, nat_le, map, length, slice_get, slice_index_or, []};
 ghost use Rattle.sr_plant.specs.Images.{plant_state, states_of};
 ghost use Rattle.sr_plant.specs.Building.{MakesPlant};
+ghost use Rattle.sr_plant.specs.Plants.{IsInOrder};
+ghost use Rattle.sr_plant.specs.Steps.{PlantTakes};
 ghost use Rattle.sr_plant.specs.Coupled.{is_sought, box_place, network_in, network_of, second_of, ring_lan_of, two_rings_of};
 
 use crate::building::{are_few, is_lan, is_plant_of_both};
-use crate::{Join, PlantFault, PlantOf, RingLanShape, Topology, TwoRingsShape};
-use sr_forwarding::{NetId, Role, RoleKind};
+use crate::{Join, PlantEvent, PlantFault, PlantOf, RingLanShape, Topology, TwoRingsShape};
+use sr_forwarding::{NetId, Parcel, Role, RoleKind};
 use sr_node::NodeOf;
 use sr_prp_trailer::Lan;
 use std::alloc::Global;
@@ -166,6 +168,31 @@ impl<R: Role> CoupledOf<R> {
     {
         let CoupledOf { plant } = self;
         plant
+    }
+
+    /// Takes an event whole, or refuses it and changes nothing. It refuses as `PlantOf::apply` does.
+    pub fn apply(&mut self, event: &PlantEvent) -> Result<(), PlantFault>
+        requires { IsInOrder (plant_state R.meaning self.old.plant) }
+        ensures { PlantTakes (plant_state R.meaning self.old.plant) event.now
+            result (plant_state R.meaning self.new.plant) }
+    {
+        self.plant.apply(event)
+    }
+
+    /// What a node handed up to its host, oldest first.
+    pub fn handed(&self, node: usize) -> &[Parcel]
+        requires { node < length self.now.plant.handed.items }
+        ensures { result.now
+            ≡ slice_index_or (map (λ h. h.items) self.now.plant.handed.items) node [] }
+    {
+        self.plant.handed(node)
+    }
+
+    /// How many copies are in flight.
+    pub fn in_flight(&self) -> usize
+        ensures { result ≡ length self.now.plant.traffic.flight.copies }
+    {
+        self.plant.in_flight()
     }
 
     /// A new ring with two LANs behind it. The ring has 3 to 16 nodes: two boxes of the kind `Prp`, of one network, the one

@@ -3,5 +3,3 @@ pub mod PrintedLines
 pub mod Arrivals
 pub mod StatusLines
 pub mod HostLines
-pub mod TrailedPieces
-pub mod TaggedPieces

@@ -5,7 +5,6 @@ mod answering;
 mod count_lines;
 mod counts;
 mod node_session;
-mod pieces;
 mod printing;
 mod reading;
 mod runs;

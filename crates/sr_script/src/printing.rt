@@ -10,9 +10,9 @@ ghost use Rattle.sr_forwarding.specs.Framings.{Tagged, Trailed};
 ghost use Rattle.sr_script.specs.Texts.{frame_line, GoesAs};
 ghost use Rattle.sr_script.specs.Replies.{FirstLeft, Emptied, AllEmptied};
 
-use crate::pieces::{tagged, trailed};
 use sr_forwarding::{
     Form, Framing, HsrFraming, Parcel, PortFraming, PrpFraming, Role, RoleKind, framing_at,
+    tagged_pieces, trailed_pieces,
 };
 use sr_frame::Port;
 use sr_node::NodeOf;
@@ -108,7 +108,7 @@ fn append_tagged(
     ensures kept { OnErr result (StillHolds text.old text.new) }
     ensures err { IfErr result (λ kind. kind ≡ FaultKind.Memory) }
 {
-    if let Some(pieces) = tagged(parcel, framing) {
+    if let Some(pieces) = tagged_pieces(parcel, framing) {
         append_frame(text, port, &pieces.0, pieces.1)?;
         return Ok(());
     }
@@ -131,7 +131,7 @@ fn append_trailed(
     ensures kept { OnErr result (StillHolds text.old text.new) }
     ensures err { IfErr result (λ kind. kind ≡ FaultKind.Memory) }
 {
-    if let Some(pieces) = trailed(parcel, framing) {
+    if let Some(pieces) = trailed_pieces(parcel, framing) {
         append_frame(text, port, pieces.0, &pieces.1)?;
         return Ok(());
     }

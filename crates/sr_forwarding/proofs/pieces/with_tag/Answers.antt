@@ -1,6 +1,6 @@
 use Rattle.std.proofs.Common.{◌++◌, ◌+◌, ◌-◌, List, ℕ, length, ap, arith}
-use Rattle.sr_script.proofs.TaggedPieces.{tagged_whole}
-use Rattle.sr_script.proofs.pieces.with_tag.Goals as goal
+use Rattle.sr_forwarding.proofs.TaggedPieces.{tagged_whole}
+use Rattle.sr_forwarding.proofs.pieces.with_tag.Goals as goal
 
 pub returns-clause-tagged : goal.returns-clause-tagged
 returns-clause-tagged c =

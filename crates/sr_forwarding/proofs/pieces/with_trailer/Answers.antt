@@ -1,8 +1,8 @@
 use Rattle.std.proofs.Common.{◌++◌, ◌∷◌, [], ◌+◌, ◌-◌, ℕ, List, length, slice_index_or, ap, ◌∙◌, arith}
 use Rattle.sr_prp_trailer.specs.declared.trailer.Trailer.{Trailer}
 use Rattle.sr_prp_trailer.specs.Trailed.{trailer_octets}
-use Rattle.sr_script.proofs.TrailedPieces.{trailed_whole, in_two_pieces}
-use Rattle.sr_script.proofs.pieces.with_trailer.Goals as goal
+use Rattle.sr_forwarding.proofs.TrailedPieces.{trailed_whole, in_two_pieces}
+use Rattle.sr_forwarding.proofs.pieces.with_trailer.Goals as goal
 
 pub returns-clause-trailed : goal.returns-clause-trailed
 returns-clause-trailed c =

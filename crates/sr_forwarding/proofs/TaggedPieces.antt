@@ -8,7 +8,7 @@ use Rattle.sr_sequence.specs.declared.Seq.{Seq}
 use Rattle.sr_hsr_tag.specs.declared.tag.HsrTag.{HsrTag}
 use Rattle.sr_hsr_tag.specs.Tagged.{IsTagged, tag_octets, octets_behind_type}
 use borrow.Rule.Slice.PartMut.{put_mid}
-use Rattle.sr_script.proofs.TrailedPieces.{unpadded}
+use Rattle.sr_forwarding.proofs.TrailedPieces.{unpadded}
 
 -- a part that is written behind the first
 pub behind_first : (first zeros second : List ℕ) (n k : ℕ) → length first ≡ n → length zeros ≡ k → put_mid n k (first ++ zeros) second ≡ first ++ second

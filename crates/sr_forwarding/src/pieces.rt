@@ -1,4 +1,4 @@
-//! A frame as it goes out with a trailer or a tag, in two pieces: it is printed without a copy.
+//! A frame as it goes out with a trailer or a tag, in two pieces, so that it need not be copied.
 
 ghost use Rattle.std.specs.Prelude.{◌≡◌, ◌<◌, ◌≤◌, ◌++◌, ◌+◌, ◌-◌, ◌*◌, ℕ, length, IfSome};
 ghost use Rattle.std.specs.Int.{w16, to_be_bytes};
@@ -8,7 +8,7 @@ ghost use Rattle.sr_prp_trailer.specs.Trailed.{IsTrailed};
 ghost use Rattle.sr_forwarding.specs.Encoding.{IsWritten};
 ghost use Rattle.sr_forwarding.specs.Framings.{Tagged, Trailed};
 
-use sr_forwarding::{Form, HsrFraming, Parcel, PrpFraming};
+use crate::{Form, HsrFraming, Parcel, PrpFraming};
 use sr_frame::{HEADER_LEN, MAX_FRAME_LEN, MIN_PAYLOAD_LEN, VLAN_ETHERTYPE, VLAN_TAG_LEN};
 use sr_hsr_tag::{HSR_ETHERTYPE, HsrTag, TAG_LEN};
 use sr_prp_trailer::{Lan, TRAILER_LEN, Trailer};
@@ -108,10 +108,12 @@ fn with_tag(octets: &[u8], seq: Seq, path: u8) -> Option<([u8; 18], &[u8])>
     Some((tagged_front(addresses, tag), behind))
 }
 
-/// What a plain parcel goes out as in a LAN, in two pieces. None where the framing is to write it.
+/// What a plain parcel goes out as in a LAN, in two pieces: the octets up to the last two of the frame, and these with the trailer.
+/// Does not allocate. None for a parcel that has a tag or a trailer, has no number, is padded first, or is too long: its framing
+/// writes it (`Framing::write`).
 // speed: D-script-in-place
 #[inline(always)]
-pub(crate) fn trailed(parcel: &Parcel, framing: PrpFraming) -> Option<(&[u8], [u8; 8])>
+pub fn trailed_pieces(parcel: &Parcel, framing: PrpFraming) -> Option<(&[u8], [u8; 8])>
     ensures written { IfSome result (λ pieces. IsWritten (Trailed framing.lan framing.net)
         parcel.now.form parcel.now (pieces.0.now ++ pieces.1)) }
     ensures size { IfSome result (λ pieces. length pieces.0.now + 8 ≤ 1524) }
@@ -122,10 +124,12 @@ pub(crate) fn trailed(parcel: &Parcel, framing: PrpFraming) -> Option<(&[u8], [u
     }
 }
 
-/// What a plain parcel goes out as in a ring, in two pieces. None where the framing is to write it.
+/// What a plain parcel goes out as in a ring, in two pieces: the octets up to the tag's number, and those from the frame's type on.
+/// Does not allocate. None for a parcel that has a tag or a trailer, has no number, is padded first, is too long, or has a VLAN tag:
+/// its framing writes it (`Framing::write`).
 // speed: D-script-in-place
 #[inline(always)]
-pub(crate) fn tagged(parcel: &Parcel, framing: HsrFraming) -> Option<([u8; 18], &[u8])>
+pub fn tagged_pieces(parcel: &Parcel, framing: HsrFraming) -> Option<([u8; 18], &[u8])>
     ensures written { IfSome result (λ pieces. IsWritten (Tagged framing.path) parcel.now.form
         parcel.now (pieces.0 ++ pieces.1.now)) }
     ensures size { IfSome result (λ pieces. length pieces.1.now + 18 ≤ 1524) }
