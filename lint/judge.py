@@ -55,7 +55,7 @@ class Edit:
 IMPL = re.compile(r"(?:unsafe )?impl(?:<(?P<own>(?:[^<>]|<[^<>]*>)*)>)? (?:(?P<trait>[^{]*?) for )?(?P<type>[^{]*?)(?: where\b.*)? \{$")
 TRAIT = re.compile(r"(?:pub(?:\(\w+\))? )?trait (?P<type>\w+)")
 TYPE = re.compile(r"(?:pub(?:\(\w+\))? )?(?:struct|enum) (?P<name>\w+)", re.M)
-FUNCTION = re.compile(r"(?P<indent> *)(?:pub(?:\(\w+\))? )?(?:const )?(?:unsafe )?fn (?P<name>\w+)")
+FUNCTION = re.compile(r'(?P<indent> *)(?:pub(?:\(\w+\))? )?(?:const )?(?:unsafe )?(?:extern "C" )?fn (?P<name>\w+)')
 CONSTANT = re.compile(r"\s*(?:pub(?:\(\w+\))? )?const (?P<name>\w+)")
 
 

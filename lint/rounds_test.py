@@ -53,6 +53,14 @@ pub fn same(n: u64) -> u64
 {
     {n}
 }
+
+/// The number itself, for programs in C.
+#[unsafe(no_mangle)]
+pub extern "C" fn small_same(m: u64) -> u64
+    ensures { result ≡ m }
+{
+    same(m)
+}
 """
 WRONG = {
     # Refused by the goal of its own function, one in the same round as the other that it calls.
@@ -63,6 +71,8 @@ WRONG = {
     # A constant belongs to the functions that name it.
     "steps_by_four": ("const STEP: u64 = 3;", "const STEP: u64 = 4;"),
     "answers_the_next": ("    {n}", "    {n + 1}"),
+    # A function for C is one as any.
+    "tells_c_nothing": ("    same(m)", "    same(0)"),
 }
 HARMLESS = {
     "exchanges_the_sum": ("    n + STEP", "    STEP + n"),
