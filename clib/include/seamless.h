@@ -33,7 +33,7 @@ extern "C" {
 // The most octets of a frame that goes out.
 #define SEAMLESS_MAX_FRAME 1524
 
-// The most octets of a frame that the host sends, or that comes in without a tag or a trailer.
+// The most octets of a frame that the host sends, or that comes in at the interlink without a tag or a trailer.
 #define SEAMLESS_MAX_PLAIN 1518
 
 // How many frames wait at a port at most.
@@ -56,7 +56,8 @@ enum {
     SEAMLESS_REDBOX_HSR = 4   // a RedBox between two rings
 };
 
-// The ports of a node. H is the host, C the interlink of a RedBox. A node that is no RedBox takes nothing at C, and puts nothing out there.
+// The ports of a node. H is the host, C the interlink of a RedBox. What comes in at C of a node that is no RedBox goes nowhere, and
+// nothing goes out there.
 enum { SEAMLESS_H = 0, SEAMLESS_A = 1, SEAMLESS_B = 2, SEAMLESS_C = 3 };
 
 // Why a call does nothing. No call changes the node where it answers one of these (but what is counted of a frame that is refused).
@@ -177,7 +178,7 @@ uint32_t seamless_node_at(seamless_node *node, size_t index, seamless_node_entry
 // the entry stays. It allocates nothing.
 uint32_t seamless_node_of(seamless_node *node, const uint8_t mac[6], seamless_node_entry *entry);
 
-// An alarm, the oldest first; at most 256 are kept. Answers 0, SEAMLESS_ARGUMENT where there are fewer, SEAMLESS_NO_MEMORY or
+// An alarm, the oldest first; at most 64 are kept. Answers 0, SEAMLESS_ARGUMENT where there are fewer, SEAMLESS_NO_MEMORY or
 // SEAMLESS_CLOSED: then the entry stays.
 uint32_t seamless_alarm_at(seamless_node *node, size_t index, seamless_alarm_entry *entry);
 
