@@ -1,5 +1,6 @@
 // seamless: one PRP or HSR node (IEC 62439-3:2021, clauses 4 and 5). Octets come in at its ports, and octets go out at them. The library
-// opens no interface, starts no thread and reads no clock: the caller hands it frames and times. Each call's answer is proved of it.
+// opens no interface, starts no thread and reads no clock: the caller hands it frames and times. Each call's answer is proved of it; that
+// seamless_take answers 0 only for the reasons that stand there is tested.
 //
 // What the caller owes, which no proof sees:
 //   1. A handle begins as SEAMLESS_CLOSED_NODE (or zeroed), and is changed by the calls alone. It is not used as a copy.
@@ -99,8 +100,8 @@ typedef struct seamless_node_entry {
     uint8_t has_redbox;  // 0 or 1
     uint32_t age_a;      // milliseconds since it was heard at port A; 2147483647: never
     uint32_t age_b;      // milliseconds since it was heard at port B; 2147483647: never
-    uint16_t seq_a;      // the number of its last numbered frame at port A; 0: there was none
-    uint16_t seq_b;      // the number of its last numbered frame at port B; 0: there was none
+    uint16_t seq_a;      // the number of its last numbered frame at port A; 0 too where there was none
+    uint16_t seq_b;      // the number of its last numbered frame at port B; 0 too where there was none
 } seamless_node_entry;
 
 // An alarm.
