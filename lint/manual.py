@@ -1,8 +1,8 @@
 #!/usr/bin/env python3
-"""Writes the man page, docs/seamless.1, and the completions for bash, docs/seamless.bash, of what the program's `--help` says.
+"""Writes the man page, docs/seamless.1, and the completions, docs/seamless.bash, .zsh and .fish, of what the program's `--help` says.
 
 manual.py [--check] [--program PATH]: of the program at PATH, ./seamless where none is given. With --check nothing is
-written: a line names each of the two that differs from what it would write, and it exits with 1 where one does."""
+written: a line names each of them that differs from what it would write, and it exits with 1 where one does."""
 import argparse
 import re
 import subprocess
@@ -10,8 +10,6 @@ import sys
 from pathlib import Path
 
 ROOT = Path(__file__).resolve().parent.parent
-PAGE = Path("docs/seamless.1")
-COMPLETIONS = Path("docs/seamless.bash")
 STATUSES = [
     ("0", "A good run, or the version."),
     ("1", "A fault of the script, of a capture, of a read or of a write, or an allocation that failed."),
@@ -113,24 +111,53 @@ def values(about):
     return [word.group(1) for line in about if (word := re.match(r"- (\w+):", line))]
 
 
-def completions(program):
-    """The completions: subcommands, their options, the words that an option takes, and files."""
+def taken(text):
+    """What each option of a help takes behind it: its words, `file`, `value`, or None where it takes nothing."""
+    for option, shown, about in options(text):
+        yield option, values(about) or ("file" if "FILE" in shown else "value" if "<" in shown else None), " ".join(about)
+
+
+def by_case(program, subcommand, before, place, first, offers, files):
+    """Completions as one `case` in another: by the subcommand and the word before the one that is sought, and else by the place of that
+    one, of which the first is a subcommand. Each shell has its own ways to say these, to offer words, and to offer files."""
     commands = list(subcommands(program))
-    names = " ".join(name for name, _, _ in commands)
-    lines = ["# Completions of seamless for bash. lint/manual.py writes this file.", "_seamless() {"]
-    lines += ['    local words=""', '    case "${COMP_WORDS[1]} ${COMP_WORDS[COMP_CWORD - 1]}" in']
+    lines = [f'    case "{subcommand} {before}" in']
     for name, _, text in commands:
-        for option, shown, about in options(text):
-            if values(about):
-                lines.append(f'    "{name} {option}") words="{" ".join(values(about))}" ;;')
-            elif "FILE" in shown:
-                lines.append(f'    "{name} {option}") COMPREPLY=($(compgen -f -- "$2")) && return ;;')
-            elif "<" in shown:
-                lines.append(f'    "{name} {option}") ;;')
-    lines += ["    *)", '        case "$COMP_CWORD ${COMP_WORDS[1]}" in', f'        "1 "*) words="{names} --help --version" ;;']
-    for name, _, text in commands:
-        lines.append(f'        *" {name}") words="{" ".join(option for option, _, _ in options(text))}" ;;')
-    lines += ["        esac", "        ;;", "    esac", '    COMPREPLY=($(compgen -W "$words" -- "$2"))', "}", "complete -F _seamless seamless ./seamless"]
+        for option, takes, _ in taken(text):
+            if takes:
+                offered = files if takes == "file" else "" if takes == "value" else offers(takes)
+                lines.append(f'    "{name} {option}") {offered}'.rstrip() + " ;;")
+    lines += ["    *)", f'        case "{place} {subcommand}" in']
+    lines.append(f'        "{first} "*) {offers([*(name for name, _, _ in commands), "--help", "--version"])} ;;')
+    lines += [f'        *" {name}") {offers([option for option, _, _ in taken(text)])} ;;' for name, _, text in commands]
+    return [*lines, "        esac", "        ;;", "    esac"]
+
+
+def bash(program):
+    """The completions for bash."""
+    words, files = lambda them: f'words="{" ".join(them)}"', 'COMPREPLY=($(compgen -f -- "$2")) && return'
+    lines = ["# Completions of seamless for bash. lint/manual.py writes this file.", "_seamless() {", '    local words=""']
+    lines += by_case(program, "${COMP_WORDS[1]}", "${COMP_WORDS[COMP_CWORD - 1]}", "$COMP_CWORD", 1, words, files)
+    lines += ['    COMPREPLY=($(compgen -W "$words" -- "$2"))', "}", "complete -F _seamless seamless ./seamless"]
+    return "\n".join(lines) + "\n"
+
+
+def zsh(program):
+    """The completions for zsh."""
+    lines = ["#compdef seamless", "# Completions of seamless for zsh. lint/manual.py writes this file.", "_seamless() {"]
+    lines += by_case(program, "$words[2]", "$words[CURRENT-1]", "$CURRENT", 2, lambda them: f"compadd -- {' '.join(them)}", "_files")
+    return "\n".join([*lines, "}", '_seamless "$@"']) + "\n"
+
+
+def fish(program):
+    """The completions for fish."""
+    quoted = lambda text: "'" + text.replace("\\", "\\\\").replace("'", "\\'") + "'"
+    lines = ["# Completions of seamless for fish. lint/manual.py writes this file.", "complete -c seamless -f"]
+    for name, about, text in subcommands(program):
+        lines.append(f"complete -c seamless -n __fish_use_subcommand -a {name} -d {quoted(about)}")
+        for option, takes, about in taken(text):
+            behind = " -r -F" if takes == "file" else " -x" if takes == "value" else f" -x -a {quoted(' '.join(takes))}" if takes else ""
+            lines.append(f"complete -c seamless -n '__fish_seen_subcommand_from {name}' -l {option[2:]}{behind} -d {quoted(about.split('. ')[0])}")
     return "\n".join(lines) + "\n"
 
 
@@ -140,7 +167,8 @@ def main():
     parser.add_argument("--program", default=str(ROOT / "seamless"))
     wanted = parser.parse_args()
     status = 0
-    for path, text in ((PAGE, page(wanted.program)), (COMPLETIONS, completions(wanted.program))):
+    for name, made in {"1": page, "bash": bash, "zsh": zsh, "fish": fish}.items():
+        path, text = Path(f"docs/seamless.{name}"), made(wanted.program)
         if not wanted.check:
             (ROOT / path).write_text(text)
         elif not (ROOT / path).exists() or (ROOT / path).read_text() != text:

@@ -71,7 +71,7 @@ class Manual(unittest.TestCase):
 
     def completed(self, *words):
         """What bash offers for the last of these words."""
-        script = manual.completions(str(self.program)) + (
+        script = manual.bash(str(self.program)) + (
             f"COMP_WORDS=(seamless {' '.join(words)}); COMP_CWORD={len(words)}\n"
             f"_seamless seamless '{words[-1]}' '{words[-2] if len(words) > 1 else 'seamless'}'\necho \"${{COMPREPLY[@]}}\"\n"
         )
@@ -98,6 +98,22 @@ class Manual(unittest.TestCase):
         self.assertEqual(self.completed("play", "--of", ""), ["4", "5"])
         self.assertEqual(self.completed("play", "--a", "pro"), ["program"])
         self.assertEqual(self.completed("play", "--at", ""), [])
+
+    def test_completions_for_zsh(self):
+        said = manual.zsh(str(self.program)).split("\n")
+        self.assertEqual(said[0], "#compdef seamless")
+        for line in ('"play --kind") compadd -- one two ;;', '"play --a") _files ;;', '"play --at") ;;', '"2 "*) compadd -- play --help --version ;;'):
+            self.assertIn(line, [it.strip() for it in said])
+
+    def test_completions_for_fish(self):
+        said = manual.fish(str(self.program)).split("\n")
+        for line in (
+            "complete -c seamless -n __fish_use_subcommand -a play -d 'Plays a thing'",
+            "complete -c seamless -n '__fish_seen_subcommand_from play' -l of -x -a '4 5' -d 'How many [possible values: 4, 5]'",
+            "complete -c seamless -n '__fish_seen_subcommand_from play' -l a -r -F -d 'A file'",
+            "complete -c seamless -n '__fish_seen_subcommand_from play' -l at -x -d 'A time'",
+        ):
+            self.assertIn(line, said)
 
 
 if __name__ == "__main__":
