@@ -269,7 +269,7 @@ def made_lacks(root):
 
 # The node that the words of a command line name has fixed keys, until a run draws its own. A C program asks for fixed keys by name.
 FIXED_KEYS = {
-    "crates/sr_cli/src/node_line.rt": r"\s*keys: Keys::FIXED,\s*",
+    "crates/sr_cli/src/meanings.rt": r"\s*keys: Keys::FIXED,\s*",
     "crates/sr_c/src/making.rt": r"\s*return Keys::FIXED;\s*",
 }
 
@@ -305,7 +305,7 @@ def dropped_keys(root):
                 if any(name in keyed for name in re.findall(r"\b(\w+)::(?:new|with)\(", code)):
                     yield path, number, "makes a table without the keys that it is given"
             if not found and name.startswith("crates/sr_cli/"):
-                runs = runs or re.search(r"\brun_on\(", code) is not None
+                runs = runs or re.search(r"\brun_leaving\(", code) is not None
                 if "Keys::new(" in code:
                     drawn = False
                 elif drawn is False:

@@ -144,12 +144,12 @@ class Lint(unittest.TestCase):
 
     def test_undrawn_keys(self):
         source = "crates/sr_cli/src/one.rt"
-        drawn = "fn one() {\n    let Ok(keys) = Keys::new(rt) else {\n        return;\n    };\n    run_on(SETUP);\n}\n"
+        drawn = "fn one() {\n    let Ok(keys) = Keys::new(rt) else {\n        return;\n    };\n    run_leaving(SETUP);\n}\n"
         for text, wanted in [
             (drawn.replace("SETUP", "Setup { keys, ..*setup }"), []),
             (drawn.replace("SETUP", "setup"), [f"{source}:1: drops the keys that it draws"]),
-            ("fn one() {\n    run_on(setup);\n}\n", [f"{source}:1: runs a node of the command line under fixed keys"]),
-            ("fn run_on(setup: Setup) {\n    run(setup);\n}\n", []),
+            ("fn one() {\n    run_leaving(setup);\n}\n", [f"{source}:1: runs a node of the command line under fixed keys"]),
+            ("fn run_leaving(setup: Setup) {\n    run(setup);\n}\n", []),
         ]:
             found = [it for it in self.findings({source: text}) if it.startswith(source)]
             self.assertEqual(found, wanted, text)

@@ -1,15 +1,16 @@
 //! The subcommand `audit`: opens the captures for each pass, and says what is wrong with one.
 
-use crate::audit_line::AuditTask;
+use crate::meanings::{lines_of, lists_of, network_of, subject_of};
 use crate::pipes::Pipe;
 use crate::progress::Progress;
 use crate::script::{Opened, open_file, tell_ended};
 use sr_audit::{LISTED_AT_ONCE, MAX_SOURCES, Span, Spans};
 use sr_capture_audit::{
-    Counts, Format, Judgement, Ports, Report, SideCounts, Summary, figures_of, hint_of,
-    print_lists, print_picture, spans_of,
+    Counts, Format, Judgement, Report, SideCounts, Summary, figures_of, hint_of, print_lists,
+    print_picture, spans_of,
 };
 use sr_capture_script::{Captures, Inlet, ScriptFault};
+use sr_options::{AuditTask, Ports};
 use sr_pcapng::Wanted;
 use sr_slots::Keys;
 use std::io::{self, BufWriter, Write};
@@ -73,7 +74,7 @@ fn tell_hint<R: Eprint>(
     wanted: Wanted,
     counts: &SideCounts,
 ) {
-    if let Some(hint) = hint_of(task.subject.network, counts) {
+    if let Some(hint) = hint_of(network_of(task.network), counts) {
         let _ = eprintln!(rt; "{name}: {hint}");
     } else if counts.packets == 0 {
         tell_empty(rt, task, name, wanted);
@@ -102,7 +103,7 @@ fn tell_one_sided<R: Eprint>(rt: &R, counts: &Counts) {
 /// Says what looks wrong in each capture.
 fn tell_hints<R: Eprint>(rt: &R, task: &AuditTask<'_>, counts: &Counts) {
     let wanted = task.options.interfaces;
-    match task.subject.ports {
+    match task.ports {
         Ports::Two => {
             if task.a.is_some() {
                 tell_hint(rt, task, "A", wanted.a, &counts.a);
@@ -132,7 +133,7 @@ fn tell_apart<R: Eprint>(rt: &R, late: &str, early: &str, option: &str, from: Sp
 
 /// Says what a table has no place for.
 fn tell_left_out<R: Eprint>(rt: &R, task: &AuditTask<'_>, packets: u64) {
-    if task.format == Format::Csv && packets > 0 {
+    if task.format == sr_options::Format::Csv && packets > 0 {
         let _ = eprintln!(rt; "{packets} packets of sources beyond the 1024th are in no table");
     }
 }
@@ -153,7 +154,7 @@ fn tell_odd<R: Eprint>(rt: &R, task: &AuditTask<'_>, spans: &Spans, summary: &Su
             "more than half of A and of B have the other LAN's id: are the files swapped?"
         );
     }
-    if task.subject.ports == Ports::Two {
+    if task.ports == Ports::Two {
         if let (Some(a), Some(b)) = (spans.a, spans.b) {
             tell_apart(rt, "B", "A", "--shift-b", b, a);
             tell_apart(rt, "A", "B", "--shift-a", a, b);
@@ -169,6 +170,7 @@ fn print_lists_from<R: AllocGlobal + Eprint + Files, W: Write>(
     keys: Keys,
     spans: Spans,
     first: usize,
+    format: Format,
     writer: &mut W,
 ) -> Result<(), Ended> {
     let mut captures = open(rt, task, Progress::Silent)?;
@@ -177,11 +179,11 @@ fn print_lists_from<R: AllocGlobal + Eprint + Files, W: Write>(
         keys,
         &mut captures,
         &task.options.choice,
-        task.subject,
+        subject_of(task),
         spans,
         first,
-        task.lists,
-        task.format,
+        lists_of(task),
+        format,
         writer,
     )?;
     Ok(())
@@ -194,15 +196,16 @@ fn print_all_lists<R: AllocGlobal + Eprint + Files, W: Write>(
     keys: Keys,
     spans: Spans,
     sources: usize,
+    format: Format,
     writer: &mut W,
 ) -> Result<(), Ended> {
-    if !task.lists.is_some() {
+    if !lists_of(task).is_some() {
         return Ok(());
     }
     for part in 0..MAX_SOURCES / LISTED_AT_ONCE {
         let first = part * LISTED_AT_ONCE;
         if first == 0 || first < sources {
-            print_lists_from(rt, task, keys, spans, first, writer)?;
+            print_lists_from(rt, task, keys, spans, first, format, writer)?;
         }
     }
     Ok(())
@@ -215,7 +218,7 @@ fn read_spans<R: AllocGlobal + Eprint + Files>(
     progress: Progress,
 ) -> Result<Spans, Ended> {
     let mut captures = open(rt, task, progress)?;
-    Ok(spans_of(&mut captures, &task.options.choice, task.subject)?)
+    Ok(spans_of(&mut captures, &task.options.choice, subject_of(task))?)
 }
 
 /// The figures of the captures, by a pass of their own.
@@ -231,7 +234,7 @@ fn read_figures<R: AllocGlobal + Eprint + Files>(
         keys,
         &mut captures,
         &task.options.choice,
-        task.subject,
+        subject_of(task),
         spans,
     )?)
 }
@@ -242,9 +245,10 @@ fn write_figures<W: Write>(
     report: Report,
     writer: &mut W,
 ) -> Result<(), Ended> {
-    let has_figures = task.format != Format::Csv || !task.lists.is_some();
-    if has_figures && !task.is_picture {
-        report.print(writer, task.format)?;
+    match lines_of(task) {
+        Some(Format::Csv) if lists_of(task).is_some() => {}
+        Some(format) => report.print(writer, format)?,
+        None => {}
     }
     Ok(())
 }
@@ -263,7 +267,7 @@ fn draw<R: AllocGlobal + Eprint + Files, W: Write>(
         keys,
         &mut captures,
         &task.options.choice,
-        task.subject,
+        subject_of(task),
         spans,
         writer,
     )?;
@@ -279,11 +283,11 @@ fn write_rest<R: AllocGlobal + Eprint + Files, W: Write>(
     summary: &Summary,
     writer: &mut W,
 ) -> Result<(), Ended> {
-    if task.is_picture {
+    let Some(format) = lines_of(task) else {
         return draw(rt, task, keys, spans, writer);
-    }
-    print_all_lists(rt, task, keys, spans, summary.sources, writer)?;
-    summary.print_end(writer, task.format)?;
+    };
+    print_all_lists(rt, task, keys, spans, summary.sources, format, writer)?;
+    summary.print_end(writer, format)?;
     Ok(())
 }
 

@@ -1,8 +1,8 @@
 //! What is told of captures that look wrong, though a script can be made of them.
 
-use crate::script_line::ScriptTask;
 use crate::survey::{Seen, Survey};
 use sr_capture_script::Inlet;
+use sr_options::ScriptTask;
 use sr_pcapng::Wanted;
 
 /// The letter of an inlet.

@@ -1,38 +1,28 @@
 //! The program `seamless`: runs a script of events on a redundancy node.
 #![tactic(auto)]
 
-mod address;
 mod audit;
-mod audit_line;
-mod captures_line;
-mod command_line;
-mod coupled_line;
-mod examples;
 mod flaws;
 mod forms;
 mod hints;
 mod line_flaws;
+mod meanings;
 mod merge;
-mod merge_line;
-mod node_line;
 mod pipes;
-mod plant_line;
 mod progress;
-mod refusal;
 mod running;
 mod script;
-mod script_line;
 mod survey;
 mod tails;
 mod word_flaws;
 
 use audit::run_audit;
-use command_line::{Task, Words, task_of};
 use merge::run_merge;
 use progress::Progress;
-use refusal::Refused;
 use running::{play, play_threaded, run_node};
 use script::run_script;
+use sr_options::{Refused, Task, Words, task_of};
+use sr_script::Report;
 use std::io::IsTerminal;
 use std::process::ExitCode;
 use std::random::RandomSource;
@@ -68,7 +58,26 @@ fn tell_refused<R: Print + Eprint>(rt: &R, refused: Refused) -> Result<(), u8> {
     Err(NOT_STARTED)
 }
 
-/// Reads the command line and runs the script. An error is the exit status; why is on standard error.
+/// Does what the command line asks for. An error is the exit status; why is on standard error.
+fn obey<R: AllocGlobal + Print + Eprint + Input + Files + RandomSource + Threads + Wait + Sync>(
+    rt: &R,
+    task: &Task<'_>,
+    progress: Progress,
+) -> Result<(), u8> {
+    let outcome = match task {
+        Task::Replay(task) => run_node(rt, Report::Frames, task),
+        Task::Status(task) => run_node(rt, Report::Status, task),
+        Task::Tally(task) => run_node(rt, Report::Tally, task),
+        Task::Script(task) => run_script(rt, task, progress),
+        Task::Audit(task) => return run_audit(rt, task, progress),
+        Task::Merge(task) => run_merge(rt, task, progress),
+        Task::Plant(task) => play(rt, task),
+        Task::Threads(task) => play_threaded(rt, task),
+    };
+    outcome.map_err(|()| RUN_FAILED)
+}
+
+/// Reads the command line and does what it asks for. An error is the exit status; why is on standard error.
 fn start<
     R: AllocGlobal + Print + Eprint + Input + Env + Files + RandomSource + Threads + Wait + Sync,
 >(rt: &R, progress: Progress) -> Result<(), u8> {
@@ -80,14 +89,7 @@ fn start<
     };
     let known = Words::new();
     match task_of(rt.alloc(), &known, words.as_slice()) {
-        Ok(Task::Script(task)) => run_script(rt, &task, progress).map_err(|()| RUN_FAILED),
-        Ok(Task::Audit(task)) => run_audit(rt, &task, progress),
-        Ok(Task::Merge(task)) => run_merge(rt, &task, progress).map_err(|()| RUN_FAILED),
-        Ok(Task::Run(report, setup)) => run_node(rt, report, &setup).map_err(|()| RUN_FAILED),
-        Ok(Task::Plant(setup)) => play(rt, &setup).map_err(|()| RUN_FAILED),
-        Ok(Task::Threads(setup, turns)) => {
-            play_threaded(rt, &setup, turns).map_err(|()| RUN_FAILED)
-        }
+        Ok(task) => obey(rt, &task, progress),
         Err(refused) => tell_refused(rt, refused),
     }
 }

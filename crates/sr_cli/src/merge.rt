@@ -1,12 +1,13 @@
 //! The subcommand `merge`: opens the captures and the file that is written, and says what was merged.
 
 use crate::hints::letter_of;
-use crate::merge_line::MergeTask;
+use crate::meanings::plan_of;
 use crate::pipes::Pipe;
 use crate::progress::Progress;
 use crate::script::{Opened, open_file, tell_ended};
-use sr_capture_merge::{Counts, Scope, merge};
+use sr_capture_merge::{Counts, merge};
 use sr_capture_script::{Captures, Inlet, ScriptFault};
+use sr_options::{MergeTask, Scope};
 use sr_slots::Keys;
 use std::fs::File;
 use std::io::{self, BufWriter, Write};
@@ -115,7 +116,7 @@ fn merge_into<'a, R: AllocGlobal + Eprint + Files, W: Write + Drop>(
         keys,
         &mut captures,
         &choice,
-        &task.plan,
+        &plan_of(task),
         &mut writer,
     );
     let flushed = writer.flush();
@@ -126,12 +127,12 @@ fn merge_into<'a, R: AllocGlobal + Eprint + Files, W: Write + Drop>(
     };
     match outcome {
         Ok(()) => {
-            tell_counts(rt, task.plan.scope, &counts);
+            tell_counts(rt, task.scope, &counts);
             Ok(())
         }
         Err(fault) => {
             if let ScriptFault::File(_, _) = fault {
-                tell_counts(rt, task.plan.scope, &counts);
+                tell_counts(rt, task.scope, &counts);
             }
             tell_ended(rt, fault, is_closed);
             Err(())

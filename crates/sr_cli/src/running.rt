@@ -4,17 +4,18 @@
 use crate::flaws::Flaw;
 use crate::forms::{Form, NODE_FORMS, PLANT_FORMS, REDBOX_FORMS, THREAD_FORMS};
 use crate::line_flaws::{found_in, is_capture};
-use crate::node_line::Report;
+use crate::meanings::{plant_of, setup_of, threads_of};
 use crate::pipes::{Kept, MAX_KEPT, Pipe};
 use crate::tails::tell_tail;
 use sr_forwarding::RoleKind;
-use sr_plant_script::{PlantSetup, run_plant};
-use sr_script::{Setup, run, run_status, run_tally};
+use sr_options::{NodeTask, PlantTask, ThreadsTask};
+use sr_plant_script::run_plant;
+use sr_script::{Report, Setup, run_leaving};
 use sr_session::{Fault, FaultKind, NOT_BEGUN};
 use sr_slots::Keys;
-use sr_threaded_script::{ThreadedFault, ThreadedSetup, is_threaded_line, run_threaded};
+use sr_threaded_script::{ThreadedFault, is_threaded_line, run_threaded};
 use std::alloc::{AllocError, Global};
-use std::io::{self, BufRead, BufReader, Read, Write};
+use std::io::{self, BufReader, Read, Write};
 use std::random::RandomSource;
 use std::sync::Wait;
 use std::thread::Threads;
@@ -105,21 +106,6 @@ fn forms_of(role: RoleKind) -> &'static [Form] {
     }
 }
 
-/// Runs a script on a node.
-fn run_on<R: BufRead, W: Write>(
-    alloc: Global,
-    report: Report,
-    setup: &Setup,
-    reader: &mut R,
-    writer: &mut W,
-) -> Result<(), Fault> {
-    match report {
-        Report::Frames => run(alloc, setup, reader, writer),
-        Report::Status => run_status(alloc, setup, reader, writer),
-        Report::Tally => run_tally(alloc, setup, reader, writer),
-    }
-}
-
 /// The place up to which a script was taken: the end of what was taken of it, and the next line that comes.
 #[derive(Drop)]
 struct Ends {
@@ -167,14 +153,15 @@ fn again_of<R: Read + Drop>(
     }
 }
 
-/// Says what ended a run, but where nobody reads any more what it writes. True where a line is to be explained.
-fn tell<R: Eprint>(rt: &R, fault: Fault, is_closed: bool, ends: &Ends) -> bool {
+/// Says what ended a run, but where nobody reads any more what it writes. True where a line is to be explained. These octets of
+/// the line that ended it were taken.
+fn tell<R: Eprint>(rt: &R, fault: Fault, is_closed: bool, taken: &[u8]) -> bool {
     if fault.kind == FaultKind::Write && is_closed {
         return false;
     }
     let _ = eprintln!(rt; "{fault}");
     if fault.kind == FaultKind::Long {
-        tell_long(rt, fault.line, ends.taken());
+        tell_long(rt, fault.line, taken);
     }
     fault.kind == FaultKind::Line
 }
@@ -195,12 +182,24 @@ fn tell_ended<R: Eprint>(
     tell_line(rt, number, line, forms);
 }
 
+/// Says what looks wrong at the end of a script that a node has obeyed, where memory allows.
+fn tell_end<R: Eprint, S: Read + Drop>(
+    rt: &R,
+    alloc: Global,
+    setup: &Setup,
+    script: &mut Script<S>,
+) {
+    if let Ok(ends) = ends_of(alloc, script) {
+        tell_tail(rt, setup, ends.tail.as_slice(), ends.taken());
+    }
+}
+
 /// Runs the script on standard input on a node, and writes what is reported of it to standard output. The keys of the node's
 /// tables are drawn anew. What ends it early is told.
 pub fn run_node<R: AllocGlobal + Print + Eprint + Input + RandomSource>(
     rt: &R,
     report: Report,
-    setup: &Setup,
+    task: &NodeTask,
 ) -> Result<(), ()> {
     let alloc = rt.alloc();
     let Ok(keys) = Keys::new(rt) else {
@@ -211,49 +210,46 @@ pub fn run_node<R: AllocGlobal + Print + Eprint + Input + RandomSource>(
         let _ = eprintln!(rt; "{NOT_BEGUN}");
         return Err(());
     };
-    let setup = Setup { keys, ..*setup };
+    let setup = Setup {
+        keys,
+        ..setup_of(task)
+    };
     let mut writer = Pipe::new(io::writer(rt));
-    let outcome = run_on(alloc, report, &setup, &mut script, &mut writer);
-    let ends = ends_of(alloc, &mut script);
-    let Err(fault) = outcome else {
-        if let Ok(ends) = ends {
-            tell_tail(rt, &setup, ends.tail.as_slice(), ends.taken());
+    let mut line = Vec::new(alloc);
+    match run_leaving(alloc, &setup, report, &mut script, &mut writer, &mut line) {
+        Ok(()) => {
+            tell_end(rt, alloc, &setup, &mut script);
+            Ok(())
         }
-        return Ok(());
-    };
-    let Ok(ends) = ends else {
-        let _ = eprintln!(rt; "{fault}");
-        return Err(());
-    };
-    if tell(rt, fault, writer.is_closed(), &ends) {
-        if let Ok(mut again) = again_of(alloc, script, &ends) {
-            writer.mute();
-            let taken = run_on(alloc, report, &setup, &mut again, &mut writer);
-            tell_ended(rt, fault.line, &ends, taken, forms_of(setup.role));
+        Err(fault) => {
+            if tell(rt, fault, writer.is_closed(), line.as_slice()) {
+                tell_line(rt, fault.line, line.as_slice(), forms_of(setup.role));
+            }
+            Err(())
         }
     }
-    Err(())
 }
 
 /// Runs the script on standard input on a new plant, and writes what comes of it to standard output. What ends it early is told.
-pub fn play<R: AllocGlobal + Print + Eprint + Input>(rt: &R, setup: &PlantSetup) -> Result<(), ()> {
+pub fn play<R: AllocGlobal + Print + Eprint + Input>(rt: &R, task: &PlantTask) -> Result<(), ()> {
     let alloc = rt.alloc();
+    let setup = plant_of(task);
     let Ok(mut script) = script_of(alloc, rt.reader()) else {
         let _ = eprintln!(rt; "{NOT_BEGUN}");
         return Err(());
     };
     let mut writer = Pipe::new(io::writer(rt));
-    let Err(fault) = run_plant(alloc, setup, &mut script, &mut writer) else {
+    let Err(fault) = run_plant(alloc, &setup, &mut script, &mut writer) else {
         return Ok(());
     };
     let Ok(ends) = ends_of(alloc, &mut script) else {
         let _ = eprintln!(rt; "{fault}");
         return Err(());
     };
-    if tell(rt, fault, writer.is_closed(), &ends) {
+    if tell(rt, fault, writer.is_closed(), ends.taken()) {
         if let Ok(mut again) = again_of(alloc, script, &ends) {
             writer.mute();
-            let taken = run_plant(alloc, setup, &mut again, &mut writer);
+            let taken = run_plant(alloc, &setup, &mut again, &mut writer);
             tell_ended(rt, fault.line, &ends, taken, PLANT_FORMS);
         }
     }
@@ -280,7 +276,7 @@ fn tell_threaded<R: Eprint>(
 ) {
     match fault {
         ThreadedFault::Script(fault) => {
-            if tell(rt, fault, is_closed, ends) {
+            if tell(rt, fault, is_closed, ends.taken()) {
                 tell_threaded_line(rt, alloc, fault.line, ends);
             }
         }
@@ -294,16 +290,16 @@ fn tell_threaded<R: Eprint>(
 /// standard output. What ends it early is told.
 pub fn play_threaded<R: AllocGlobal + Print + Eprint + Input + Threads + Wait + Sync>(
     rt: &R,
-    setup: &ThreadedSetup,
-    turns: u64,
+    task: &ThreadsTask,
 ) -> Result<(), ()> {
     let alloc = rt.alloc();
+    let setup = threads_of(task);
     let Ok(mut script) = script_of(alloc, rt.reader()) else {
         let _ = eprintln!(rt; "{NOT_BEGUN}");
         return Err(());
     };
     let mut writer = Pipe::new(io::writer(rt));
-    let Err(fault) = run_threaded(rt, alloc, setup, turns, &mut script, &mut writer) else {
+    let Err(fault) = run_threaded(rt, alloc, &setup, task.turns, &mut script, &mut writer) else {
         return Ok(());
     };
     let Ok(ends) = ends_of(alloc, &mut script) else {

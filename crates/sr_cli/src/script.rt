@@ -3,10 +3,10 @@
 use crate::hints::{letter_of, tell_hints};
 use crate::pipes::Pipe;
 use crate::progress::{Metered, Progress};
-use crate::script_line::ScriptTask;
 use crate::survey::Survey;
 use sr_capture::{CaptureFault, Reason};
 use sr_capture_script::{Inlet, ScriptFault, script};
+use sr_options::ScriptTask;
 use sr_pcapng::Wanted;
 use std::fs::File;
 use std::io::{self, BufReader, BufWriter, ErrorKind, Write};

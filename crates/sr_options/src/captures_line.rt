@@ -1,30 +1,31 @@
 //! The words by which `seamless audit` and `seamless merge` read captures.
 
 use crate::command_line::with_arg;
-use crate::script_line::{option, shift_of, time_of, with_option};
-use clap::builder::PossibleValue;
+use crate::fault::OptionFault;
+use crate::script_line::{check_len_of, choice_of, option, shift_a_of, shift_b_of, with_option};
+use crate::words::Words;
 use clap::{ArgMatches, Command};
-use sr_capture_audit::Network;
-use sr_capture_script::{Choice, Interfaces, Options, delays_of};
+use sr_capture_script::{Interfaces, Options, delays_of};
 use std::alloc::{AllocError, Global};
 
-/// The words of `--network`, with what they mean.
-pub fn network_words<'a>() -> [PossibleValue<'a>; 2] {
-    [
-        PossibleValue::new("prp").help("a PRP network: numbers stand in trailers"),
-        PossibleValue::new("hsr").help("an HSR ring: numbers stand in tags"),
-    ]
+/// How frames of a network have their numbers.
+#[derive(Clone, Copy, Debug, PartialEq, Eq)]
+pub enum Network {
+    /// By a trailer, in a PRP network (IEC 62439-3 clause 4).
+    Prp,
+    /// By a tag, in an HSR ring (IEC 62439-3 clause 5).
+    Hsr,
 }
 
 /// A command with the options that say how captures are read: the network, shifts, check sequences, and the part that is wanted.
-pub fn with_reading<'a>(
+pub(crate) fn with_reading<'a>(
     alloc: Global,
     command: Result<Command<'a>, AllocError>,
-    networks: &'a [PossibleValue<'a>],
+    words: &'a Words<'a>,
 ) -> Result<Command<'a>, AllocError> {
     let network = option(alloc, "network", "NETWORK", "How frames have their numbers")
         .default_value("prp")
-        .value_parser(networks);
+        .value_parser(words.networks.as_slice());
     let command = with_arg(command, network);
     let shift = "Milliseconds that are added to the times of A";
     let command = with_option(alloc, command, "shift-a", "MS", shift);
@@ -40,31 +41,24 @@ pub fn with_reading<'a>(
 }
 
 /// The network that the parser let through.
-pub fn network_of(matches: &ArgMatches<'_>) -> Network {
+pub(crate) fn network_of(matches: &ArgMatches<'_>) -> Network {
     match matches.get_str("network") {
         Some("hsr") => Network::Hsr,
         _ => Network::Prp,
     }
 }
 
-/// How the captures are read; else the name of the option that is wrong.
-pub fn options_of(
+/// How the captures are read.
+pub(crate) fn options_of(
     matches: &ArgMatches<'_>,
     interfaces: Interfaces,
-) -> Result<Options, &'static str> {
-    let shift_a = shift_of(matches, "shift-a")?;
-    let shift_b = shift_of(matches, "shift-b")?;
-    let Some(delays) = delays_of(shift_a, shift_b, 0) else {
-        return Err("shift");
-    };
-    let choice = Choice {
-        from: time_of(matches, "from")?.unwrap_or(0),
-        to: time_of(matches, "to")?,
-        tick: None,
-    };
+) -> Result<Options, OptionFault> {
+    let shift_a = shift_a_of(matches)?;
+    let shift_b = shift_b_of(matches)?;
+    let delays = delays_of(shift_a, shift_b, 0).ok_or(OptionFault::Shifts)?;
     Ok(Options {
-        choice,
-        check_len: if matches.contains_id("fcs") { 4 } else { 0 },
+        choice: choice_of(matches)?,
+        check_len: check_len_of(matches),
         delays,
         interfaces,
     })

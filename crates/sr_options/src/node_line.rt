@@ -1,14 +1,25 @@
 //! The options of a node: of `replay` and `status`.
 
 use crate::address::mac_of;
-use crate::command_line::{Words, settings_of, with_arg, with_settings};
-use crate::refusal::Refused;
+use crate::command_line::with_arg;
+use crate::node_options::{NodeOptions, node_options_of, with_node_options};
+use crate::words::Words;
 use clap::{Arg, ArgAction, ArgMatches, Command};
 use sr_forwarding::{MAX_NET, NetId, RoleKind};
+use sr_frame::Mac;
 use sr_prp_trailer::Lan;
-use sr_script::Setup;
-use sr_slots::Keys;
 use std::alloc::{AllocError, Global};
+
+/// The node that a script is run on.
+#[derive(Clone, Copy, Debug)]
+pub struct NodeTask {
+    /// Its role, with the LAN and the network at the interlink where that is a PRP network's.
+    pub role: RoleKind,
+    /// Its address.
+    pub mac: Mac,
+    /// How it works.
+    pub options: NodeOptions,
+}
 
 /// The role of a node: `--role danp|danh|san|prp|hsr`.
 fn role_option<'a>(alloc: Global, words: &'a Words<'a>) -> Arg<'a> {
@@ -16,7 +27,7 @@ fn role_option<'a>(alloc: Global, words: &'a Words<'a>) -> Arg<'a> {
         .long("role")
         .required(true)
         .value_name("ROLE")
-        .value_parser(words.roles())
+        .value_parser(words.roles.as_slice())
         .help("The role of the node")
 }
 
@@ -37,7 +48,7 @@ fn lan_option<'a>(alloc: Global, words: &'a Words<'a>) -> Arg<'a> {
         .long("lan")
         .default_value("a")
         .value_name("LAN")
-        .value_parser(words.lans())
+        .value_parser(words.lans.as_slice())
         .help("The LAN at the interlink, of role prp")
 }
 
@@ -52,7 +63,7 @@ fn net_option<'a>(alloc: Global) -> Arg<'a> {
 }
 
 /// Whether the end of a status has counts: `[--counters]`.
-pub fn counters_option<'a>(alloc: Global) -> Arg<'a> {
+pub(crate) fn counters_option<'a>(alloc: Global) -> Arg<'a> {
     Arg::new(alloc, "counters")
         .long("counters")
         .action(ArgAction::SetTrue)
@@ -60,7 +71,7 @@ pub fn counters_option<'a>(alloc: Global) -> Arg<'a> {
 }
 
 /// A subcommand that runs a script on a node.
-pub fn node_command<'a>(
+pub(crate) fn node_command<'a>(
     alloc: Global,
     words: &'a Words<'a>,
     name: &'a str,
@@ -72,7 +83,7 @@ pub fn node_command<'a>(
     let command = with_arg(command, mac_option(alloc));
     let command = with_arg(command, lan_option(alloc, words));
     let command = with_arg(command, net_option(alloc));
-    with_settings(alloc, command, words)
+    with_node_options(alloc, command, words)
 }
 
 /// The number of a network, of a word that the parser let through.
@@ -104,35 +115,12 @@ fn role_of(node: &ArgMatches<'_>) -> RoleKind {
     }
 }
 
-/// The node that a subcommand's options name, under fixed keys.
-pub fn setup_of(node: &ArgMatches<'_>) -> Result<Setup, Refused> {
-    match node.get_str("mac").and_then(mac_of) {
-        Some(mac) => Ok(Setup {
-            role: role_of(node),
-            mac,
-            settings: settings_of(node),
-            keys: Keys::FIXED,
-        }),
-        None => Err(Refused::Mac),
-    }
-}
-
-/// What is printed of a node that a script is run on.
-#[derive(Clone, Copy)]
-pub enum Report {
-    /// The frames that it hands out.
-    Frames,
-    /// What it knows of other nodes at the end.
-    Status,
-    /// What it knows of other nodes at the end, and what was counted.
-    Tally,
-}
-
-/// What the subcommand `status` reports.
-pub fn report_of(status: &ArgMatches<'_>) -> Report {
-    if status.get_flag("counters") {
-        Report::Tally
-    } else {
-        Report::Status
-    }
+/// The node that a subcommand's options name. None: the address is none.
+pub(crate) fn node_task(node: &ArgMatches<'_>) -> Option<NodeTask> {
+    let mac = node.get_str("mac").and_then(mac_of)?;
+    Some(NodeTask {
+        role: role_of(node),
+        mac,
+        options: node_options_of(node),
+    })
 }

@@ -1,25 +1,33 @@
 //! The words behind `seamless script`.
 
+ghost use Rattle.std.specs.Prelude.{◌≡◌, ◌≢◌, IfOk, Some, None};
+ghost use Rattle.sr_options.specs.Tasks.{ScriptKeepsRules};
+
 use crate::command_line::{with_arg, with_captures};
 use crate::examples;
+use crate::fault::OptionFault;
 use clap::{Arg, ArgMatches, Command};
-use sr_capture_script::{Choice, Interfaces, Options, delays_of};
+use sr_capture_script::{Choice, Delays, Interfaces, Options, delays_of};
 use sr_pcapng::Wanted;
 use std::alloc::{AllocError, Global};
 
 /// What `seamless script` is to do: a path for each inlet that has a file, and how.
-#[derive(Clone, Copy)]
+#[derive(Clone, Copy, Debug)]
 pub struct ScriptTask<'a> {
+    /// The file of inlet A.
     pub a: Option<&'a str>,
+    /// That of inlet B.
     pub b: Option<&'a str>,
+    /// That of inlet C.
     pub c: Option<&'a str>,
+    /// How the script is made.
     pub options: Options,
     /// Whether the captures of A and B are one.
     pub is_same: bool,
 }
 
 /// An option with a value.
-pub fn option<'a>(alloc: Global, name: &'a str, value: &'a str, help: &'a str) -> Arg<'a> {
+pub(crate) fn option<'a>(alloc: Global, name: &'a str, value: &'a str, help: &'a str) -> Arg<'a> {
     Arg::new(alloc, name)
         .long(name)
         .value_name(value)
@@ -28,7 +36,7 @@ pub fn option<'a>(alloc: Global, name: &'a str, value: &'a str, help: &'a str) -
 }
 
 /// A command with one such option more, if it was made.
-pub fn with_option<'a>(
+pub(crate) fn with_option<'a>(
     alloc: Global,
     command: Result<Command<'a>, AllocError>,
     name: &'a str,
@@ -39,7 +47,7 @@ pub fn with_option<'a>(
 }
 
 /// What the parser knows of the subcommand.
-pub fn script_command<'a>(alloc: Global) -> Result<Command<'a>, AllocError> {
+pub(crate) fn script_command<'a>(alloc: Global) -> Result<Command<'a>, AllocError> {
     let about = "Prints a script of the packets of up to three captures";
     let command = Ok(
         Command::new(alloc, "script")
@@ -76,9 +84,21 @@ pub fn script_command<'a>(alloc: Global) -> Result<Command<'a>, AllocError> {
 
 /// A file, and which of its interfaces is wanted.
 #[derive(Clone, Copy)]
-pub struct Capture<'a> {
+pub(crate) struct Capture<'a> {
     pub path: Option<&'a str>,
     pub wanted: Wanted,
+}
+
+impl<'a> Capture<'a> {
+    /// None is given.
+    pub(crate) fn none() -> Capture<'a>
+        ensures { result.path ≡ None }
+    {
+        Capture {
+            path: None,
+            wanted: Wanted::Only,
+        }
+    }
 }
 
 /// The file and the interface that a word names: a colon and digits at its end are an interface's number.
@@ -103,72 +123,119 @@ fn capture_named(word: &str) -> Capture<'_> {
 }
 
 /// The file of an option that may be left out.
-pub fn capture_of<'a>(matches: &ArgMatches<'a>, name: &'static str) -> Capture<'a> {
+pub(crate) fn capture_of<'a>(matches: &ArgMatches<'a>, name: &'static str) -> Capture<'a> {
     match matches.get_str(name) {
         Some(word) => capture_named(word),
-        None => Capture {
-            path: None,
-            wanted: Wanted::Only,
-        },
+        None => Capture::none(),
     }
 }
 
-/// The number of an option that may be left out; else the option is the fault.
-pub fn time_of(matches: &ArgMatches<'_>, name: &'static str) -> Result<Option<u64>, &'static str> {
+/// The number of an option that may be left out; else this fault.
+pub(crate) fn time_of(
+    matches: &ArgMatches<'_>,
+    name: &'static str,
+    fault: OptionFault,
+) -> Result<Option<u64>, OptionFault> {
     match matches.try_get_one::<u64>(name) {
         Ok(number) => Ok(number),
-        Err(_) => Err(name),
+        Err(_) => Err(fault),
     }
 }
 
-/// The shift of a file, 0 where there is none; else the option is the fault.
-pub fn shift_of(matches: &ArgMatches<'_>, name: &'static str) -> Result<i64, &'static str> {
+/// The shift of a file, 0 where there is none; else this fault.
+fn shift_of(
+    matches: &ArgMatches<'_>,
+    name: &'static str,
+    fault: OptionFault,
+) -> Result<i64, OptionFault> {
     match matches.try_get_one::<i64>(name) {
         Ok(shift) => Ok(shift.unwrap_or(0)),
-        Err(_) => Err(name),
+        Err(_) => Err(fault),
     }
+}
+
+/// The shift of the file of A.
+pub(crate) fn shift_a_of(matches: &ArgMatches<'_>) -> Result<i64, OptionFault> {
+    shift_of(matches, "shift-a", OptionFault::ShiftA)
+}
+
+/// The shift of the file of B.
+pub(crate) fn shift_b_of(matches: &ArgMatches<'_>) -> Result<i64, OptionFault> {
+    shift_of(matches, "shift-b", OptionFault::ShiftB)
 }
 
 /// The time between ticks, at least a millisecond.
-fn tick_of(matches: &ArgMatches<'_>) -> Result<Option<u64>, &'static str> {
-    match time_of(matches, "tick")? {
-        Some(0) => Err("tick"),
+fn tick_of(matches: &ArgMatches<'_>) -> Result<Option<u64>, OptionFault>
+    ensures { IfOk result (λ tick. tick ≢ Some 0) }
+{
+    match time_of(matches, "tick", OptionFault::Tick)? {
+        Some(0) => Err(OptionFault::Tick),
         tick => Ok(tick),
     }
 }
 
-/// What the subcommand is to do; else the name of the option that is wrong.
-pub fn script_task<'a>(matches: &ArgMatches<'a>) -> Result<ScriptTask<'a>, &'static str> {
+/// How far the times of the files are put off.
+fn script_delays_of(matches: &ArgMatches<'_>) -> Result<Delays, OptionFault> {
+    let shift_a = shift_a_of(matches)?;
+    let shift_b = shift_b_of(matches)?;
+    let shift_c = shift_of(matches, "shift-c", OptionFault::ShiftC)?;
+    delays_of(shift_a, shift_b, shift_c).ok_or(OptionFault::Shifts)
+}
+
+/// Which times are wanted, without ticks.
+pub(crate) fn choice_of(matches: &ArgMatches<'_>) -> Result<Choice, OptionFault> {
+    Ok(Choice {
+        from: time_of(matches, "from", OptionFault::From)?.unwrap_or(0),
+        to: time_of(matches, "to", OptionFault::To)?,
+        tick: None,
+    })
+}
+
+/// How many octets of check sequence stand behind each packet of a file that tells none.
+pub(crate) fn check_len_of(matches: &ArgMatches<'_>) -> u8 {
+    if matches.contains_id("fcs") { 4 } else { 0 }
+}
+
+/// How the script is made.
+fn script_options_of(
+    matches: &ArgMatches<'_>,
+    interfaces: Interfaces,
+) -> Result<Options, OptionFault>
+    ensures { IfOk result (λ options. options.choice.tick ≢ Some 0) }
+{
+    let delays = script_delays_of(matches)?;
+    let choice = choice_of(matches)?;
+    let tick = tick_of(matches)?;
+    Ok(Options {
+        choice: Choice { tick, ..choice },
+        check_len: check_len_of(matches),
+        delays,
+        interfaces,
+    })
+}
+
+/// Whether A and B have one capture.
+pub(crate) fn is_same(matches: &ArgMatches<'_>) -> bool {
+    matches.contains_id("a") && matches.get_str("a") == matches.get_str("b")
+}
+
+/// What the subcommand is to do.
+pub(crate) fn script_task<'a>(matches: &ArgMatches<'a>) -> Result<ScriptTask<'a>, OptionFault>
+    ensures { IfOk result (λ task. ScriptKeepsRules task) }
+{
     let a = capture_of(matches, "a");
     let b = capture_of(matches, "b");
     let c = capture_of(matches, "c");
-    let shift_a = shift_of(matches, "shift-a")?;
-    let shift_b = shift_of(matches, "shift-b")?;
-    let shift_c = shift_of(matches, "shift-c")?;
-    let Some(delays) = delays_of(shift_a, shift_b, shift_c) else {
-        return Err("shift");
+    let interfaces = Interfaces {
+        a: a.wanted,
+        b: b.wanted,
+        c: c.wanted,
     };
-    let choice = Choice {
-        from: time_of(matches, "from")?.unwrap_or(0),
-        to: time_of(matches, "to")?,
-        tick: tick_of(matches)?,
-    };
-    let is_same = a.path.is_some() && matches.get_str("a") == matches.get_str("b");
-    let check_len = if matches.contains_id("fcs") { 4 } else { 0 };
     Ok(ScriptTask {
         a: a.path,
         b: b.path,
         c: c.path,
-        options: Options {
-            choice,
-            check_len,
-            delays,
-            interfaces: Interfaces {
-                a: a.wanted,
-                b: b.wanted,
-                c: c.wanted,
-            },
-        },
-        is_same,
+        options: script_options_of(matches, interfaces)?,
+        is_same: is_same(matches),
     })
 }

@@ -1,17 +1,29 @@
 //! The words behind `seamless ring-lan` and `seamless two-rings`.
 
-ghost use Rattle.std.specs.Prelude.{◌≤◌};
-ghost use Rattle.sr_plant.specs.Limits.{fewest_with_boxes, most_nodes, most_in_lans};
+ghost use Rattle.std.specs.Prelude.{IfOk};
+ghost use Rattle.sr_options.specs.Tasks.{ShapeKeepsRules};
 
-use crate::command_line::{Words, settings_of, with_arg, with_settings};
+use crate::command_line::with_arg;
+use crate::counts::{boxed_nodes_in, lan_nodes_in, nodes_in};
 use crate::examples;
-use crate::plant_line::count_of;
+use crate::fault::OptionFault;
+use crate::node_options::{node_options_of, with_node_options};
+use crate::plant_line::{PlantTask, Shape};
+use crate::words::Words;
 use clap::{Arg, ArgMatches, Command};
-use sr_plant_script::{Joins, PlantSetup};
 use std::alloc::{AllocError, Global};
 
+/// How many links join two rings.
+#[derive(Clone, Copy, Debug, PartialEq, Eq)]
+pub enum Joins {
+    /// One, from the first node of the one ring to the first of the other.
+    One,
+    /// Two, from the first two nodes of the one to the first two of the other.
+    Two,
+}
+
 /// What the parser knows of `ring-lan`: `--ring 3..16 --lan 1..14`.
-pub fn ring_lan_command<'a>(
+pub(crate) fn ring_lan_command<'a>(
     alloc: Global,
     words: &'a Words<'a>,
 ) -> Result<Command<'a>, AllocError> {
@@ -31,11 +43,11 @@ pub fn ring_lan_command<'a>(
         .about("Runs a script on a ring and two LANs that RedBoxes join with it")
         .after_help(examples::RING_LAN)
         .arg(ring);
-    with_settings(alloc, with_arg(command, lan), words)
+    with_node_options(alloc, with_arg(command, lan), words)
 }
 
 /// What the parser knows of `two-rings`: `--left 2..16 --right 2..16 --joins 1..2`.
-pub fn two_rings_command<'a>(
+pub(crate) fn two_rings_command<'a>(
     alloc: Global,
     words: &'a Words<'a>,
 ) -> Result<Command<'a>, AllocError> {
@@ -62,48 +74,34 @@ pub fn two_rings_command<'a>(
         .after_help(examples::TWO_RINGS)
         .arg(left);
     let command = with_arg(with_arg(command, right), joins);
-    with_settings(alloc, command, words)
-}
-
-/// How many nodes a ring with the boxes of two LANs has, by a word that the parser let through.
-fn ring_count(word: &str) -> usize
-    ensures least { fewest_with_boxes ≤ result }
-    ensures most { result ≤ most_nodes }
-{
-    match word.parse::<usize>() {
-        Ok(count) => count.clamp(3, 16),
-        Err(_) => 3,
-    }
-}
-
-/// How many nodes these LANs have, by a word that the parser let through.
-fn lan_count(word: &str) -> usize
-    ensures least { 1 ≤ result }
-    ensures most { result ≤ most_in_lans }
-{
-    match word.parse::<usize>() {
-        Ok(count) => count.clamp(1, 14),
-        Err(_) => 1,
-    }
+    with_node_options(alloc, command, words)
 }
 
 /// The ring with two LANs that the subcommand asks for.
-pub fn ring_lan_of(matches: &ArgMatches<'_>) -> PlantSetup {
-    let ring = matches.get_str("ring").map_or(3, ring_count);
-    let lan = matches.get_str("lan").map_or(1, lan_count);
-    PlantSetup::ring_lan(ring, lan, settings_of(matches))
+pub(crate) fn ring_lan_of(matches: &ArgMatches<'_>) -> PlantTask
+    ensures { ShapeKeepsRules result.shape }
+{
+    PlantTask {
+        shape: Shape::RingLan(boxed_nodes_in(matches), lan_nodes_in(matches)),
+        options: node_options_of(matches),
+    }
 }
 
-/// The two rings that the subcommand asks for. None where they have more joins than a ring has nodes less one.
-pub fn two_rings_of(matches: &ArgMatches<'_>) -> Option<PlantSetup> {
-    let left = matches.get_str("left").map_or(2, count_of);
-    let right = matches.get_str("right").map_or(2, count_of);
+/// The two rings that the subcommand asks for. A fault where they have more joins than a ring has nodes less one.
+pub(crate) fn two_rings_of(matches: &ArgMatches<'_>) -> Result<PlantTask, OptionFault>
+    ensures { IfOk result (λ task. ShapeKeepsRules task.shape) }
+{
+    let left = nodes_in(matches, "left");
+    let right = nodes_in(matches, "right");
     let joins = match matches.get_str("joins") {
         Some("2") => Joins::Two,
         _ => Joins::One,
     };
-    if joins == Joins::Two && (left < 3 || right < 3) {
-        return None;
+    if joins == Joins::Two && (left.count < 3 || right.count < 3) {
+        return Err(OptionFault::Joins);
     }
-    Some(PlantSetup::two_rings(left, right, joins, settings_of(matches)))
+    Ok(PlantTask {
+        shape: Shape::TwoRings(left, right, joins),
+        options: node_options_of(matches),
+    })
 }

@@ -1,24 +1,53 @@
 //! The words behind `seamless merge`.
 
-use crate::captures_line::{network_of, options_of, with_reading};
+use crate::captures_line::{Network, network_of, options_of, with_reading};
 use crate::command_line::with_arg;
 use crate::examples;
-use crate::script_line::{capture_of, option, shift_of};
-use clap::builder::PossibleValue;
+use crate::fault::OptionFault;
+use crate::script_line::{capture_of, option, shift_a_of, shift_b_of};
+use crate::words::Words;
 use clap::{Arg, ArgAction, ArgMatches, Command};
-use sr_capture_merge::{Plan, Scope, Spelling};
 use sr_capture_script::{Interfaces, Options};
 use sr_pcapng::Wanted;
 use std::alloc::{AllocError, Global};
 
+/// How frames are written.
+#[derive(Clone, Copy, Debug, PartialEq, Eq)]
+pub enum Spelling {
+    /// Without the trailer or tag that has their number.
+    Plain,
+    /// As they came.
+    Kept,
+}
+
+/// Which packets are written.
+#[derive(Clone, Copy, Debug, PartialEq, Eq)]
+pub enum Scope {
+    /// All of them.
+    All,
+    /// Those that have a comment.
+    Lost,
+}
+
 /// What `seamless merge` is to do: a path for each side, that of the file that is written, and how.
-#[derive(Clone, Copy)]
+#[derive(Clone, Copy, Debug)]
 pub struct MergeTask<'a> {
+    /// The capture of LAN A.
     pub a: Option<&'a str>,
+    /// The capture of LAN B.
     pub b: Option<&'a str>,
+    /// The file that is written; `-` is standard output.
     pub out: &'a str,
+    /// How the captures are read.
     pub options: Options,
-    pub plan: Plan,
+    /// How frames have their numbers.
+    pub network: Network,
+    /// How they are written.
+    pub spelling: Spelling,
+    /// Which are written.
+    pub scope: Scope,
+    /// How much less than nothing the least shift is, in nanoseconds: so much the times of all packets are put off.
+    pub early: u64,
 }
 
 /// An option with a value that has to be given.
@@ -27,10 +56,9 @@ fn required<'a>(alloc: Global, name: &'a str, value: &'a str, help: &'a str) -> 
 }
 
 /// What the parser knows of the subcommand.
-pub fn merge_command<'a>(
+pub(crate) fn merge_command<'a>(
     alloc: Global,
-    networks: &'a [PossibleValue<'a>],
-    scopes: &'a [PossibleValue<'a>],
+    words: &'a Words<'a>,
 ) -> Result<Command<'a>, AllocError> {
     let about = "Writes two captures as one, in which each frame stands once";
     let command = Ok(
@@ -45,19 +73,16 @@ pub fn merge_command<'a>(
     let write = "The pcapng file that is written; - is standard output";
     let write = required(alloc, "write", "FILE", write).short('w');
     let command = with_arg(command, write);
-    let command = with_reading(alloc, command, networks);
+    let command = with_reading(alloc, command, words);
     let keep = Arg::new(alloc, "keep")
         .long("keep")
         .action(ArgAction::SetTrue)
         .help("Leaves trailers and tags in the frames");
     let command = with_arg(command, keep);
-    let only = option(alloc, "only", "WHICH", "Which packets are written").value_parser(scopes);
+    let only = option(alloc, "only", "WHICH", "Which packets are written").value_parser(
+        words.scopes.as_slice(),
+    );
     with_arg(command, only)
-}
-
-/// The words of `--only`, with what they mean.
-pub fn scope_words<'a>() -> [PossibleValue<'a>; 1] {
-    [PossibleValue::new("lost").help("those that have a comment")]
 }
 
 /// What is shifted back: how much less than nothing the least shift is, in nanoseconds.
@@ -70,28 +95,26 @@ fn early_of(shift_a: i64, shift_b: i64) -> u64 {
         .saturating_mul(1_000_000)
 }
 
-/// How the captures are merged.
-fn plan_of(matches: &ArgMatches<'_>, early: u64) -> Plan {
-    let spelling = if matches.get_flag("keep") {
+/// How frames are written, by the options that the parser let through.
+fn spelling_of(matches: &ArgMatches<'_>) -> Spelling {
+    if matches.get_flag("keep") {
         Spelling::Kept
     } else {
         Spelling::Plain
-    };
-    let scope = if matches.contains_id("only") {
-        Scope::Lost
-    } else {
-        Scope::All
-    };
-    Plan {
-        network: network_of(matches),
-        spelling,
-        scope,
-        early,
     }
 }
 
-/// What the subcommand is to do; else the name of the option that is wrong.
-pub fn merge_task<'a>(matches: &ArgMatches<'a>) -> Result<MergeTask<'a>, &'static str> {
+/// Which packets are written, by the options that the parser let through.
+fn scope_of(matches: &ArgMatches<'_>) -> Scope {
+    if matches.contains_id("only") {
+        Scope::Lost
+    } else {
+        Scope::All
+    }
+}
+
+/// What the subcommand is to do.
+pub(crate) fn merge_task<'a>(matches: &ArgMatches<'a>) -> Result<MergeTask<'a>, OptionFault> {
     let a = capture_of(matches, "a");
     let b = capture_of(matches, "b");
     let interfaces = Interfaces {
@@ -100,13 +123,15 @@ pub fn merge_task<'a>(matches: &ArgMatches<'a>) -> Result<MergeTask<'a>, &'stati
         c: Wanted::Only,
     };
     let options = options_of(matches, interfaces)?;
-    let shift_a = shift_of(matches, "shift-a")?;
-    let shift_b = shift_of(matches, "shift-b")?;
+    let early = early_of(shift_a_of(matches)?, shift_b_of(matches)?);
     Ok(MergeTask {
         a: a.path,
         b: b.path,
         out: matches.get_str("write").unwrap_or("-"),
         options,
-        plan: plan_of(matches, early_of(shift_a, shift_b)),
+        network: network_of(matches),
+        spelling: spelling_of(matches),
+        scope: scope_of(matches),
+        early,
     })
 }

@@ -1,0 +1,56 @@
+-- The rules that options keep together.
+use Rattle.std.specs.Prelude.{◌≡◌, ◌≢◌, ℕ, ◌+◌, ◌≤◌, Bool, true, false, Option, Some, None, ⊤}
+use Rattle.sr_options.specs.declared.audit_line.AuditTask.{AuditTask}
+use Rattle.sr_options.specs.declared.audit_line.Format.{Format}
+use Rattle.sr_options.specs.declared.audit_line.Format.TheVariants as format
+use Rattle.sr_options.specs.declared.audit_line.Lists.{Lists}
+use Rattle.sr_options.specs.declared.audit_line.Ports.{Ports}
+use Rattle.sr_options.specs.declared.audit_line.Ports.TheVariants as ports
+use Rattle.sr_options.specs.declared.coupled_line.Joins.{Joins}
+use Rattle.sr_options.specs.declared.coupled_line.Joins.TheVariants as joins
+use Rattle.sr_options.specs.declared.plant_line.Shape.{Shape}
+use Rattle.sr_options.specs.declared.plant_line.Shape.TheVariants as shape
+use Rattle.sr_options.specs.declared.script_line.ScriptTask.{ScriptTask}
+use Rattle.sr_options.specs.declared.task.Task.{Task}
+use Rattle.sr_options.specs.declared.task.Task.TheVariants as task
+
+-- a list that is wanted is one
+abbrev pub count_list : Bool → ℕ
+count_list true = 1
+count_list false = 0
+
+-- how many lists are wanted
+abbrev pub count_lists : Lists → ℕ
+count_lists lists = count_list lists.lost + count_list lists.wrong + count_list lists.pairs
+
+-- a table has place for one list, and a picture for none
+abbrev pub FitsFormat : Format → Lists → Type 0
+FitsFormat format.Text lists = ⊤
+FitsFormat format.Json lists = ⊤
+FitsFormat format.Csv lists = count_lists lists ≤ 1
+FitsFormat format.Svg lists = count_lists lists ≡ 0
+
+-- the capture of a mirror port stands alone
+abbrev pub StandsAlone : {A : Type 0} → Ports → Option A → Type 0
+StandsAlone ports.Two b = ⊤
+StandsAlone ports.Mirror b = b ≡ None
+
+-- what an audit keeps
+abbrev pub AuditKeepsRules : AuditTask → Type 0
+AuditKeepsRules t = FitsFormat t.format t.lists × StandsAlone t.ports t.b
+
+-- ticks are at least a millisecond apart
+abbrev pub ScriptKeepsRules : ScriptTask → Type 0
+ScriptKeepsRules t = t.options.choice.tick ≢ Some 0
+
+-- a ring has more nodes than boxes
+abbrev pub ShapeKeepsRules : Shape → Type 0
+ShapeKeepsRules (shape.TwoRings left right joins.Two) = (3 ≤ left.count) × (3 ≤ right.count)
+ShapeKeepsRules other = ⊤
+
+-- a task keeps the rules that its options keep together
+abbrev pub KeepsRules : Task → Type 0
+KeepsRules (task.Script t) = ScriptKeepsRules t
+KeepsRules (task.Audit t) = AuditKeepsRules t
+KeepsRules (task.Plant t) = ShapeKeepsRules t.shape
+KeepsRules other = ⊤

@@ -1,0 +1,234 @@
+//! The words behind `seamless audit`.
+
+ghost use Rattle.std.specs.Prelude.{◌≡◌, IfOk, OnOk, Ok};
+ghost use Rattle.sr_options.specs.Tasks.{count_lists, FitsFormat, StandsAlone, AuditKeepsRules};
+
+use crate::captures_line::{Network, network_of, options_of, with_reading};
+use crate::command_line::with_arg;
+use crate::examples;
+use crate::fault::OptionFault;
+use crate::script_line::{Capture, capture_of, is_same, option, with_option};
+use crate::words::Words;
+use clap::{Arg, ArgAction, ArgMatches, Command};
+use sr_capture_script::{Interfaces, Options};
+use sr_pcapng::Wanted;
+use std::alloc::{AllocError, Global};
+
+/// Where the captures were made.
+#[derive(Clone, Copy, Debug, PartialEq, Eq)]
+pub enum Ports {
+    /// One at each side.
+    Two,
+    /// One at a mirror port, which sees the frames of both sides.
+    Mirror,
+}
+
+/// How an audit is printed.
+#[derive(Clone, Copy, Debug, PartialEq, Eq)]
+pub enum Format {
+    /// Lines of words and numbers.
+    Text,
+    /// Those lines, each an object.
+    Json,
+    /// A table.
+    Csv,
+    /// A picture.
+    Svg,
+}
+
+/// Which lists of single frames are wanted.
+#[derive(Clone, Copy, Debug, PartialEq, Eq)]
+pub struct Lists {
+    /// Those that one side lost.
+    pub lost: bool,
+    /// Those with the id of the other LAN.
+    pub wrong: bool,
+    /// Those that came at both sides.
+    pub pairs: bool,
+}
+
+impl Lists {
+    /// None of them.
+    const NONE: Lists = Lists {
+        lost: false,
+        wrong: false,
+        pairs: false,
+    };
+
+    /// How many are wanted.
+    fn count(self) -> u8
+        ensures { result ≡ count_lists self }
+    {
+        u8::from(self.lost) + u8::from(self.wrong) + u8::from(self.pairs)
+    }
+}
+
+/// What `seamless audit` is to do: a path for each side that has a capture, or that of a mirror port for A, and how.
+#[derive(Clone, Copy, Debug)]
+pub struct AuditTask<'a> {
+    /// The capture of LAN A, or of the mirror port.
+    pub a: Option<&'a str>,
+    /// The capture of LAN B.
+    pub b: Option<&'a str>,
+    /// How they are read.
+    pub options: Options,
+    /// How frames have their numbers.
+    pub network: Network,
+    /// Where the captures were made.
+    pub ports: Ports,
+    /// Which lists are printed.
+    pub lists: Lists,
+    /// How it is printed.
+    pub format: Format,
+    /// Whether the status tells of faults of the network.
+    pub is_check: bool,
+    /// Whether the captures of A and B are one.
+    pub is_same: bool,
+}
+
+/// What the parser knows of the subcommand.
+pub(crate) fn audit_command<'a>(
+    alloc: Global,
+    words: &'a Words<'a>,
+) -> Result<Command<'a>, AllocError> {
+    let about = "Tells which frames of two captures came by both LANs, and which by one alone";
+    let command = Ok(
+        Command::new(alloc, "audit")
+            .about(about)
+            .after_help(examples::AUDIT),
+    );
+    let a = "The capture of LAN A; FILE:N is interface N of a pcapng file";
+    let command = with_option(alloc, command, "a", "FILE[:N]", a);
+    let command = with_option(alloc, command, "b", "FILE[:N]", "The capture of LAN B");
+    let mirror = "The capture of a mirror port, which sees both LANs";
+    let command = with_option(alloc, command, "mirror", "FILE[:N]", mirror);
+    let command = with_reading(alloc, command, words);
+    let list = "Lists single frames: lost, wrong, pairs, or several, joined by commas";
+    let command = with_option(alloc, command, "list", "LISTS", list);
+    let format = option(alloc, "format", "FORMAT", "How it is printed")
+        .default_value("text")
+        .value_parser(words.formats.as_slice());
+    let command = with_arg(command, format);
+    let check = Arg::new(alloc, "check")
+        .long("check")
+        .action(ArgAction::SetTrue)
+        .help("Ends with status 3 where a figure tells of a fault, 4 where nothing can be judged");
+    with_arg(command, check)
+}
+
+/// The lists with one more, by its word.
+fn with_list(lists: Lists, word: &str) -> Result<Lists, OptionFault> {
+    match word {
+        "lost" => Ok(Lists {
+            lost: true,
+            ..lists
+        }),
+        "wrong" => Ok(Lists {
+            wrong: true,
+            ..lists
+        }),
+        "pairs" => Ok(Lists {
+            pairs: true,
+            ..lists
+        }),
+        _ => Err(OptionFault::List),
+    }
+}
+
+/// The lists that are wanted.
+fn lists_of(matches: &ArgMatches<'_>) -> Result<Lists, OptionFault> {
+    let mut lists = Lists::NONE;
+    let Some(mut rest) = matches.get_str("list") else {
+        return Ok(lists);
+    };
+    for _ in 0..3 {
+        match rest.split_once(',') {
+            Some((word, behind)) => {
+                lists = with_list(lists, word)?;
+                rest = behind;
+            }
+            None => return with_list(lists, rest),
+        }
+    }
+    Err(OptionFault::List)
+}
+
+/// The format that the parser let through.
+fn format_of(matches: &ArgMatches<'_>) -> Format {
+    match matches.get_str("format") {
+        Some("json") => Format::Json,
+        Some("csv") => Format::Csv,
+        Some("svg") => Format::Svg,
+        _ => Format::Text,
+    }
+}
+
+/// Where the captures were made. They are named as they are wanted: both LANs, or a mirror port.
+fn ports_of(matches: &ArgMatches<'_>) -> Result<Ports, OptionFault> {
+    let has_lans = matches.contains_id("a") || matches.contains_id("b");
+    match (has_lans, matches.contains_id("mirror")) {
+        (true, false) => Ok(Ports::Two),
+        (false, true) => Ok(Ports::Mirror),
+        (true, true) => Err(OptionFault::Mirror),
+        (false, false) => Err(OptionFault::NoCaptures),
+    }
+}
+
+/// The capture of side A, or of the mirror port.
+fn first_capture_of<'a>(matches: &ArgMatches<'a>, ports: Ports) -> Capture<'a> {
+    match ports {
+        Ports::Two => capture_of(matches, "a"),
+        Ports::Mirror => capture_of(matches, "mirror"),
+    }
+}
+
+/// The capture of side B. A mirror port has none.
+fn second_capture_of<'a>(matches: &ArgMatches<'a>, ports: Ports) -> Capture<'a>
+    ensures { StandsAlone ports result.path }
+{
+    match ports {
+        Ports::Two => capture_of(matches, "b"),
+        Ports::Mirror => Capture::none(),
+    }
+}
+
+/// Whether this format has place for these lists, or why not.
+fn place(format: Format, lists: Lists) -> Result<(), OptionFault>
+    ensures ok { OnOk result (FitsFormat format lists) }
+    ensures err { FitsFormat format lists → result ≡ Ok tt }
+{
+    match format {
+        Format::Csv if lists.count() > 1 => Err(OptionFault::Table),
+        Format::Svg if lists.count() > 0 => Err(OptionFault::Picture),
+        _ => Ok(()),
+    }
+}
+
+/// What the subcommand is to do.
+pub(crate) fn audit_task<'a>(matches: &ArgMatches<'a>) -> Result<AuditTask<'a>, OptionFault>
+    ensures { IfOk result (λ task. AuditKeepsRules task) }
+{
+    let ports = ports_of(matches)?;
+    let a = first_capture_of(matches, ports);
+    let b = second_capture_of(matches, ports);
+    let interfaces = Interfaces {
+        a: a.wanted,
+        b: b.wanted,
+        c: Wanted::Only,
+    };
+    let options = options_of(matches, interfaces)?;
+    let format = format_of(matches);
+    let lists = lists_of(matches)?;
+    place(format, lists)?;
+    Ok(AuditTask {
+        a: a.path,
+        b: b.path,
+        options,
+        network: network_of(matches),
+        ports,
+        lists,
+        format,
+        is_check: matches.get_flag("check"),
+        is_same: is_same(matches),
+    })
+}

@@ -1,0 +1,77 @@
+//! What is wrong with the value of an option, or with options that stand together.
+
+/// What is wrong with the value of an option, or with options that stand together.
+#[derive(Clone, Copy, Debug, PartialEq, Eq)]
+pub enum OptionFault {
+    /// `--shift-a` is no whole number of milliseconds.
+    ShiftA,
+    /// `--shift-b` is none.
+    ShiftB,
+    /// `--shift-c` is none.
+    ShiftC,
+    /// The shifts are too far apart.
+    Shifts,
+    /// `--from` is no whole number of milliseconds.
+    From,
+    /// `--to` is none.
+    To,
+    /// `--tick` is none, or 0.
+    Tick,
+    /// A script of no captures.
+    NoFiles,
+    /// An audit of no captures.
+    NoCaptures,
+    /// The capture of a mirror port beside those of LANs.
+    Mirror,
+    /// A word of `--list` is the name of no list, or there are too many.
+    List,
+    /// More than one list in one table.
+    Table,
+    /// A list where a picture is drawn.
+    Picture,
+    /// More joins than a ring has nodes less one.
+    Joins,
+}
+
+impl OptionFault {
+    /// The word that standard error has for the fault.
+    pub(crate) fn word(self) -> &'static str {
+        match self {
+            OptionFault::ShiftA => "shift-a",
+            OptionFault::ShiftB => "shift-b",
+            OptionFault::ShiftC => "shift-c",
+            OptionFault::Shifts => "shift",
+            OptionFault::From => "from",
+            OptionFault::To => "to",
+            OptionFault::Tick => "tick",
+            OptionFault::NoFiles => "files",
+            OptionFault::NoCaptures => "captures",
+            OptionFault::Mirror => "mirror",
+            OptionFault::List => "list",
+            OptionFault::Table => "table",
+            OptionFault::Picture => "picture",
+            OptionFault::Joins => "joins",
+        }
+    }
+
+    /// What is wanted in place of what was given.
+    pub(crate) fn wanted(self) -> &'static str {
+        match self {
+            OptionFault::ShiftA | OptionFault::ShiftB | OptionFault::ShiftC =>
+                "a shift is a whole number of milliseconds, as 500 or -500",
+            OptionFault::Shifts => "the shifts are more than 146 years apart",
+            OptionFault::From | OptionFault::To =>
+                "--from and --to take whole milliseconds from the earliest packet on",
+            OptionFault::Tick => "--tick takes whole milliseconds, at least 1",
+            OptionFault::NoFiles => "give a capture at least: --a FILE, --b FILE or --c FILE",
+            OptionFault::NoCaptures =>
+                "give a capture at least: --a FILE or --b FILE, or --mirror FILE",
+            OptionFault::Mirror => "--mirror FILE stands alone: without --a and --b",
+            OptionFault::List => "--list takes lost, wrong and pairs, joined by commas",
+            OptionFault::Table => "--format csv prints one table: name one list",
+            OptionFault::Picture => "--format svg draws a picture: it takes no list",
+            OptionFault::Joins =>
+                "a link joins a box of each ring, and a ring has more nodes than boxes: --joins is less than --left and --right",
+        }
+    }
+}

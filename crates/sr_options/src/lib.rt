@@ -1,0 +1,34 @@
+//! The command line of the program: what its words ask for, as values.
+#![tactic(auto)]
+
+mod address;
+mod audit_line;
+mod captures_line;
+mod command_line;
+mod counts;
+mod coupled_line;
+mod examples;
+mod fault;
+mod merge_line;
+mod node_line;
+mod node_options;
+mod plant_line;
+mod refusal;
+mod script_line;
+mod task;
+mod words;
+
+pub use audit_line::{AuditTask, Format, Lists, Ports};
+pub use captures_line::Network;
+pub use command_line::task_of;
+pub use counts::{BoxedNodes, LanNodes, Nodes};
+pub use coupled_line::Joins;
+pub use fault::OptionFault;
+pub use merge_line::{MergeTask, Scope, Spelling};
+pub use node_line::NodeTask;
+pub use node_options::{Mode, NodeOptions, Window};
+pub use plant_line::{Net, PlantTask, Shape, ThreadsTask};
+pub use refusal::Refused;
+pub use script_line::ScriptTask;
+pub use task::Task;
+pub use words::Words;
