@@ -2,19 +2,12 @@
 #![tactic(auto)]
 
 mod audit;
-mod flaws;
-mod forms;
-mod hints;
-mod line_flaws;
 mod meanings;
 mod merge;
 mod pipes;
 mod progress;
 mod running;
 mod script;
-mod survey;
-mod tails;
-mod word_flaws;
 
 use audit::run_audit;
 use merge::run_merge;

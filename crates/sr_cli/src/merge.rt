@@ -1,10 +1,10 @@
 //! The subcommand `merge`: opens the captures and the file that is written, and says what was merged.
 
-use crate::hints::letter_of;
 use crate::meanings::plan_of;
 use crate::pipes::Pipe;
 use crate::progress::Progress;
 use crate::script::{Opened, open_file, tell_ended};
+use sr_advice::letter_of;
 use sr_capture_merge::{Counts, merge};
 use sr_capture_script::{Captures, Inlet, ScriptFault};
 use sr_options::{MergeTask, Scope};

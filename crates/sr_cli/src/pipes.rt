@@ -1,6 +1,7 @@
 //! What comes from standard input and goes to standard output: the end of what was read is kept, and whether nobody reads any
 //! more what is written.
 
+use sr_advice::Survey;
 use std::alloc::{AllocError, Global};
 use std::io::{self, ErrorKind, Read, Seek, SeekFrom, Write};
 
@@ -186,5 +187,44 @@ impl<W: Write> Write for Pipe<W> {
             self.note(error);
         }
         outcome
+    }
+}
+
+/// A writer of a script, of which each line is looked at.
+#[derive(Drop)]
+pub struct Surveyed<W> {
+    inner: W,
+    survey: Survey,
+}
+
+impl<W> Surveyed<W> {
+    /// A writer to which nothing was written.
+    pub fn new(inner: W) -> Surveyed<W> {
+        Surveyed {
+            inner,
+            survey: Survey::new(),
+        }
+    }
+
+    /// What it writes to.
+    pub fn get_ref(&self) -> &W {
+        &self.inner
+    }
+
+    /// What was seen of what was written.
+    pub fn survey(&self) -> &Survey {
+        &self.survey
+    }
+}
+
+impl<W: Write> Write for Surveyed<W> {
+    fn write(&mut self, buf: &[u8]) -> io::Result<usize> {
+        let taken = self.inner.write(buf)?;
+        self.survey.note(&buf[..taken]);
+        Ok(taken)
+    }
+
+    fn flush(&mut self) -> io::Result<()> {
+        self.inner.flush()
     }
 }

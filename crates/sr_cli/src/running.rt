@@ -1,12 +1,9 @@
 //! Runs of a script on standard input, on a node or on a plant. What ends one early is told on standard error: its first line is
 //! the fault, and the second says what is wrong and what to do.
 
-use crate::flaws::Flaw;
-use crate::forms::{Form, NODE_FORMS, PLANT_FORMS, REDBOX_FORMS, THREAD_FORMS};
-use crate::line_flaws::{found_in, is_capture};
 use crate::meanings::{plant_of, setup_of, threads_of};
 use crate::pipes::{Kept, MAX_KEPT, Pipe};
-use crate::tails::tell_tail;
+use sr_advice::{Flaw, ScriptKind, found_in, is_capture, tail_advice};
 use sr_forwarding::RoleKind;
 use sr_options::{NodeTask, PlantTask, ThreadsTask};
 use sr_plant_script::run_plant;
@@ -75,8 +72,8 @@ fn last_line(octets: &[u8]) -> &[u8] {
 }
 
 /// Says what is wrong with a line of a script.
-fn tell_line<R: Eprint>(rt: &R, number: u64, line: &[u8], forms: &'static [Form]) {
-    if let Some(found) = found_in(line, forms) {
+fn tell_line<R: Eprint>(rt: &R, number: u64, line: &[u8], kind: ScriptKind) {
+    if let Some(found) = found_in(line, kind) {
         let column = found.at.saturating_add(1);
         let flaw = found.flaw;
         let _ = eprintln!(rt; "line {number}, column {column}: {flaw}");
@@ -97,12 +94,12 @@ fn tell_long<R: Eprint>(rt: &R, number: u64, line: &[u8]) {
     };
 }
 
-/// The lines of a script for a node of this role.
-fn forms_of(role: RoleKind) -> &'static [Form] {
+/// What a script for a node of this role is for.
+fn kind_of(role: RoleKind) -> ScriptKind {
     if role.has_interlink() {
-        REDBOX_FORMS
+        ScriptKind::RedBox
     } else {
-        NODE_FORMS
+        ScriptKind::Node
     }
 }
 
@@ -172,14 +169,14 @@ fn tell_ended<R: Eprint>(
     number: u64,
     ends: &Ends,
     taken: Result<(), Fault>,
-    forms: &'static [Form],
+    kind: ScriptKind,
 ) {
     let line = if is_none(taken) {
         ends.taken()
     } else {
         ends.coming.as_slice()
     };
-    tell_line(rt, number, line, forms);
+    tell_line(rt, number, line, kind);
 }
 
 /// Says what looks wrong at the end of a script that a node has obeyed, where memory allows.
@@ -190,7 +187,8 @@ fn tell_end<R: Eprint, S: Read + Drop>(
     script: &mut Script<S>,
 ) {
     if let Ok(ends) = ends_of(alloc, script) {
-        tell_tail(rt, setup, ends.tail.as_slice(), ends.taken());
+        let advice = tail_advice(setup.role, setup.mac, ends.tail.as_slice(), ends.taken());
+        let _ = eprint!(rt; "{advice}");
     }
 }
 
@@ -223,7 +221,7 @@ pub fn run_node<R: AllocGlobal + Print + Eprint + Input + RandomSource>(
         }
         Err(fault) => {
             if tell(rt, fault, writer.is_closed(), line.as_slice()) {
-                tell_line(rt, fault.line, line.as_slice(), forms_of(setup.role));
+                tell_line(rt, fault.line, line.as_slice(), kind_of(setup.role));
             }
             Err(())
         }
@@ -250,7 +248,7 @@ pub fn play<R: AllocGlobal + Print + Eprint + Input>(rt: &R, task: &PlantTask) -
         if let Ok(mut again) = again_of(alloc, script, &ends) {
             writer.mute();
             let taken = run_plant(alloc, &setup, &mut again, &mut writer);
-            tell_ended(rt, fault.line, &ends, taken, PLANT_FORMS);
+            tell_ended(rt, fault.line, &ends, taken, ScriptKind::Network);
         }
     }
     Err(())
@@ -263,7 +261,7 @@ fn tell_threaded_line<R: Eprint>(rt: &R, alloc: Global, number: u64, ends: &Ends
     } else {
         ends.taken()
     };
-    tell_line(rt, number, line, THREAD_FORMS);
+    tell_line(rt, number, line, ScriptKind::Threads);
 }
 
 /// Says what ended a threaded run, but where nobody reads any more what it writes.

@@ -1,81 +1,31 @@
 //! The subcommand `script`: opens the captures, and says what is wrong with one.
 
-use crate::hints::{letter_of, tell_hints};
-use crate::pipes::Pipe;
+use crate::pipes::{Pipe, Surveyed};
 use crate::progress::{Metered, Progress};
-use crate::survey::Survey;
-use sr_capture::{CaptureFault, Reason};
+use sr_advice::{FileFault, FileReason, Unopened, letter_of};
+use sr_capture::CaptureFault;
 use sr_capture_script::{Inlet, ScriptFault, script};
 use sr_options::ScriptTask;
 use sr_pcapng::Wanted;
 use std::fs::File;
-use std::io::{self, BufReader, BufWriter, ErrorKind, Write};
+use std::io::{self, BufReader, BufWriter, Write};
 use std::rt::Files;
 
 /// The most lines that `replay` takes.
 const MAX_LINES: u64 = 1_000_000;
 
-/// The common name of a link type.
-fn link_name(link: u16) -> &'static str {
-    match link {
-        0 => "BSD loopback",
-        9 => "PPP",
-        12 | 14 | 101 => "raw IP",
-        105 => "Wi-Fi",
-        113 => "Linux cooked",
-        127 => "Wi-Fi with radiotap",
-        228 => "raw IPv4",
-        229 => "raw IPv6",
-        276 => "Linux cooked, version 2",
-        _ => "another one",
-    }
-}
-
-/// The word for the fault of a file.
-fn word_of(reason: Reason) -> &'static str {
-    match reason {
-        Reason::Read => "read",
-        Reason::NoMemory => "memory",
-        _ => "format",
-    }
-}
-
 /// Says what is wrong with a file: a line with the inlet, the word and the octet, and one that explains it.
 fn tell_file<R: Eprint>(rt: &R, inlet: Inlet, fault: CaptureFault) {
-    let letter = letter_of(inlet);
-    let CaptureFault { at, reason } = fault;
-    let word = word_of(reason);
-    let _ = eprintln!(rt; "fault {letter} {word} {at}");
-    match reason {
-        Reason::Link(link) => {
-            let name = link_name(link);
-            let _ = eprintln!(rt; "{reason}: {name}");
-        }
-        _ => {
-            let _ = eprintln!(rt; "{reason}");
-        }
-    }
+    let told = FileFault { inlet, fault };
+    let reason = FileReason(fault.reason);
+    let _ = eprintln!(rt; "{told}");
+    let _ = eprintln!(rt; "{reason}");
 }
 
-/// Why a file can't be opened.
-fn reason_of(kind: ErrorKind) -> &'static str {
-    match kind {
-        ErrorKind::NotFound => "no such file",
-        ErrorKind::PermissionDenied => "no permission to read it",
-        _ => "it can't be opened",
-    }
-}
-
-/// Says why a file can't be opened. Where its name seemed to end with the number of an interface, it may be a part of it.
-fn tell_unopened<R: Eprint>(rt: &R, letter: &str, path: &str, wanted: Wanted, kind: ErrorKind) {
-    let reason = reason_of(kind);
+/// Says why a file can't be opened.
+fn tell_unopened<R: Eprint>(rt: &R, letter: &str, unopened: Unopened<'_>) {
     let _ = eprintln!(rt; "fault {letter} open 0");
-    let _ = match wanted {
-        Wanted::Only => eprintln!(rt; "{path}: {reason}"),
-        Wanted::Number(number) => eprintln!(rt;
-            "{path}: {reason} (interface {number} of it; a file whose name ends so is named {path}:{number}:0)"
-        ),
-    };
+    let _ = eprintln!(rt; "{unopened}");
 }
 
 /// A file that is read ahead, and tells how far it was read.
@@ -96,7 +46,12 @@ pub fn open_file<'a, R: AllocGlobal + Eprint + Files>(
     let file = match File::open(rt, path) {
         Ok(file) => file,
         Err(error) => {
-            tell_unopened(rt, letter, path, wanted, error.kind());
+            let unopened = Unopened {
+                path,
+                wanted,
+                kind: error.kind(),
+            };
+            tell_unopened(rt, letter, unopened);
             return Err("open");
         }
     };
@@ -156,10 +111,8 @@ pub fn tell_ended<R: Eprint>(rt: &R, fault: ScriptFault, is_closed: bool) {
 /// come before it, so that who reads the script knows of it.
 fn tell_fault<R: Eprint, W: Write>(rt: &R, fault: ScriptFault, is_closed: bool, writer: &mut W) {
     if let ScriptFault::File(inlet, fault) = fault {
-        let letter = letter_of(inlet);
-        let word = word_of(fault.reason);
-        let at = fault.at;
-        let _ = writeln!(writer, "# fault {letter} {word} {at}");
+        let told = FileFault { inlet, fault };
+        let _ = writeln!(writer, "# {told}");
         let _ = writer.flush();
     }
     tell_ended(rt, fault, is_closed);
@@ -179,16 +132,17 @@ pub fn run_script<R: AllocGlobal + Print + Eprint + Files>(
         let _ = eprintln!(rt; "fault memory");
         return Err(());
     };
-    let mut writer = Survey::new(buffered);
+    let mut writer = Surveyed::new(buffered);
     let outcome = script(rt.alloc(), a, b, c, &task.options, &mut writer);
     let flushed = writer.flush();
     let is_closed = writer.get_ref().get_ref().is_closed();
     if !is_closed {
-        tell_lines(rt, writer.lines());
+        tell_lines(rt, writer.survey().lines());
     }
     let fault = match outcome {
         Ok(()) if flushed.is_ok() => {
-            tell_hints(rt, task, &writer);
+            let advice = writer.survey().advice(task);
+            let _ = eprint!(rt; "{advice}");
             return Ok(());
         }
         Ok(()) => ScriptFault::Write,

@@ -81,7 +81,7 @@ fn destination_in(word: &[u8]) -> Option<Found>
 }
 
 /// What is wrong with a word.
-pub fn word_in(word: &[u8], part: Part) -> Option<Found>
+pub(crate) fn word_in(word: &[u8], part: Part) -> Option<Found>
     ensures within { IfSome result (λ found. found.at ≤ length word.now) }
 {
     match part {

@@ -1,10 +1,10 @@
 //! What can be wrong with a line of a script, and how it is told.
 
-use crate::forms::Form;
+use crate::forms::{Form, ScriptKind};
 use std::fmt;
 
 /// What is wrong.
-#[derive(Clone, Copy)]
+#[derive(Clone, Copy, Debug, PartialEq, Eq)]
 pub enum Flaw {
     /// The line begins as a pcap or pcapng file does.
     Capture,
@@ -18,8 +18,8 @@ pub enum Flaw {
     Tab,
     /// A space where no word stands ahead of it or behind it.
     Space,
-    /// The first word is that of no line; so would be the first words of the lines.
-    Name(&'static [Form]),
+    /// The first word is that of no line of a script of this kind.
+    Name(ScriptKind),
     /// A word is missing of the line that is shown so.
     Missing(&'static str),
     /// There is more than the line that is shown so.
@@ -67,7 +67,7 @@ impl fmt::Display for Flaw {
             Flaw::CarriageReturn => f.write_str("the line ends with CR LF: use LF"),
             Flaw::Tab => f.write_str("a tab: between words stands one space"),
             Flaw::Space => f.write_str("a space too many: one space between words"),
-            Flaw::Name(forms) => write_names(forms, f),
+            Flaw::Name(kind) => write_names(kind.forms(), f),
             Flaw::Missing(shown) => write!(f, "a word is missing: {shown}"),
             Flaw::More(shown) => {
                 write!(
@@ -89,7 +89,7 @@ impl fmt::Display for Flaw {
 }
 
 /// What is wrong, and where.
-#[derive(Clone, Copy)]
+#[derive(Clone, Copy, Debug, PartialEq, Eq)]
 pub struct Found {
     /// How many octets stand ahead of it.
     pub at: usize,

@@ -3,10 +3,10 @@
 
 ghost use Rattle.std.specs.Prelude.{◌≤◌, length, IfSome};
 
+use crate::hints::ScriptAdvice;
 use hex::FromHex;
-use sr_capture_script::Inlet;
+use sr_options::ScriptTask;
 use sr_prp_trailer::Lan;
-use std::io::{self, Write};
 
 /// Where the type of a frame stands that has no VLAN tag, in digits.
 const TYPE_AT: usize = 24;
@@ -21,8 +21,8 @@ const TYPE_LEN: usize = 4;
 const CHECK_LEN: usize = 8;
 
 /// What is seen of the packets of a capture.
-#[derive(Clone, Copy)]
-pub struct Seen {
+#[derive(Clone, Copy, Debug)]
+pub(crate) struct Seen {
     /// How many have a line.
     pub used: u64,
     /// The first and the last time of a line, in milliseconds.
@@ -79,7 +79,7 @@ fn type_at(digits: &[u8]) -> usize
 }
 
 /// Whether a frame has an HSR tag.
-pub fn is_tagged(digits: &[u8]) -> bool {
+pub(crate) fn is_tagged(digits: &[u8]) -> bool {
     stands_at(digits, type_at(digits), b"892f")
 }
 
@@ -140,18 +140,18 @@ impl Seen {
     }
 
     /// How many have a trailer.
-    pub fn trailed(&self) -> u64 {
+    pub(crate) fn trailed(&self) -> u64 {
         self.lan_a.saturating_add(self.lan_b)
     }
 
     /// Whether more than half of the lines have this count.
-    pub fn is_most(&self, count: u64) -> bool {
+    pub(crate) fn is_most(&self, count: u64) -> bool {
         count > self.used / 2
     }
 }
 
 /// The number that decimal digits spell at the front of octets, and what stands behind the octet that ends it.
-pub fn number_in(octets: &[u8]) -> (u64, &[u8])
+pub(crate) fn number_in(octets: &[u8]) -> (u64, &[u8])
     ensures shorter { length result.1.now ≤ length octets.now }
 {
     let mut number: u64 = 0;
@@ -176,10 +176,9 @@ fn next_number(octets: &[u8]) -> (u64, &[u8]) {
     (0, &[])
 }
 
-/// A writer of a script, which looks at each line.
-#[derive(Drop)]
-pub struct Survey<W> {
-    inner: W,
+/// What is seen of a script as it is written: of each capture, and how many lines there are.
+#[derive(Clone, Copy, Debug)]
+pub struct Survey {
     a: Seen,
     b: Seen,
     c: Seen,
@@ -188,11 +187,10 @@ pub struct Survey<W> {
     is_new: bool,
 }
 
-impl<W> Survey<W> {
-    /// A writer that has seen nothing.
-    pub fn new(inner: W) -> Survey<W> {
+impl Survey {
+    /// Nothing is seen yet.
+    pub fn new() -> Survey {
         Survey {
-            inner,
             a: NOTHING,
             b: NOTHING,
             c: NOTHING,
@@ -201,29 +199,19 @@ impl<W> Survey<W> {
         }
     }
 
-    /// What it writes to.
-    pub fn get_ref(&self) -> &W {
-        &self.inner
-    }
-
-    /// What was seen of the capture of an inlet.
-    pub fn seen(&self, inlet: Inlet) -> &Seen {
-        match inlet {
-            Inlet::A => &self.a,
-            Inlet::B => &self.b,
-            Inlet::C => &self.c,
+    /// What looks wrong in the captures of which this task made a script.
+    pub fn advice<'a>(&self, task: &'a ScriptTask<'a>) -> ScriptAdvice<'a> {
+        ScriptAdvice {
+            task,
+            a: self.a,
+            b: self.b,
+            c: self.c,
         }
     }
 
     /// How many lines were written.
     pub fn lines(&self) -> u64 {
         self.lines
-    }
-
-    /// How many of them are packets.
-    pub fn used(&self) -> u64 {
-        let ring = self.a.used.saturating_add(self.b.used);
-        ring.saturating_add(self.c.used)
     }
 
     /// The capture that a line begins with the letter of.
@@ -277,7 +265,7 @@ impl<W> Survey<W> {
     }
 
     /// Notes what was written: the line of a packet, other lines, or a part of a line.
-    fn note(&mut self, text: &[u8]) {
+    pub fn note(&mut self, text: &[u8]) {
         match text.strip_prefix(b"in ") {
             Some(line) if self.is_new && text.ends_with(b"\n") => {
                 self.note_packet(line);
@@ -286,17 +274,5 @@ impl<W> Survey<W> {
             _ => self.note_others(text),
         }
         self.is_new = text.ends_with(b"\n");
-    }
-}
-
-impl<W: Write> Write for Survey<W> {
-    fn write(&mut self, buf: &[u8]) -> io::Result<usize> {
-        let taken = self.inner.write(buf)?;
-        self.note(&buf[..taken]);
-        Ok(taken)
-    }
-
-    fn flush(&mut self) -> io::Result<()> {
-        self.inner.flush()
     }
 }

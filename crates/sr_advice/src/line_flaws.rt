@@ -1,29 +1,25 @@
 //! What is wrong with a line that is none of a script, and at which of its octets. It is asked only after a fault, and decides
 //! nothing: `sr_script` and `sr_plant_script` say which lines are those of a script.
 
-ghost use Rattle.std.specs.Prelude.{◌≤◌, ◌<◌, length, IfSome};
+ghost use Rattle.std.specs.Prelude.{◌≤◌, ◌<◌, ◌↔◌, length, IfSome, IsTrue};
+ghost use Rattle.sr_advice.specs.Fronts.{BeginsAsCapture};
 
 use crate::flaws::{Flaw, Found};
-use crate::forms::Form;
+use crate::forms::{Form, ScriptKind};
 use crate::word_flaws::word_in;
 
-/// The octets with which captures begin: pcap of either order and unit of time, and pcapng behind its first octet, which is an LF.
-const CAPTURES: &[&[u8]] = &[
-    &[0xD4, 0xC3, 0xB2, 0xA1],
-    &[0xA1, 0xB2, 0xC3, 0xD4],
-    &[0x4D, 0x3C, 0xB2, 0xA1],
-    &[0xA1, 0xB2, 0x3C, 0x4D],
-    &[0x0D, 0x0D],
-];
-
-/// Whether octets begin as a capture does.
-pub fn is_capture(line: &[u8]) -> bool {
-    for capture in CAPTURES {
-        if line.starts_with(*capture) {
-            return true;
-        }
+/// Whether octets begin as a capture does: pcap of either order and unit of time, and pcapng behind its first octet, which is an LF.
+pub fn is_capture(line: &[u8]) -> bool
+    ensures { IsTrue result ↔ BeginsAsCapture line.now }
+{
+    match line {
+        [0xD4, 0xC3, 0xB2, 0xA1, ..] => true,
+        [0xA1, 0xB2, 0xC3, 0xD4, ..] => true,
+        [0x4D, 0x3C, 0xB2, 0xA1, ..] => true,
+        [0xA1, 0xB2, 0x3C, 0x4D, ..] => true,
+        [0x0D, 0x0D, ..] => true,
+        _ => false,
     }
-    false
 }
 
 /// The first octet above 127, or tab.
@@ -134,8 +130,8 @@ fn words_in(line: &[u8], first_end: usize, form: &Form) -> Option<Found>
     None
 }
 
-/// What is wrong with a line, where that is known: the first octet that no line of these forms has there.
-pub fn found_in(line: &[u8], forms: &'static [Form]) -> Option<Found>
+/// What is wrong with a line, where that is known: the first octet that no line of a script of this kind has there.
+pub fn found_in(line: &[u8], kind: ScriptKind) -> Option<Found>
     ensures within { IfSome result (λ found. found.at ≤ length line.now) }
 {
     if let Some(found) = octet_in(line) {
@@ -145,13 +141,13 @@ pub fn found_in(line: &[u8], forms: &'static [Form]) -> Option<Found>
         return Some(found);
     }
     let end = word_end(line, 0);
-    for form in forms {
+    for form in kind.forms() {
         if form.name.as_bytes() == &line[..end] {
             return words_in(line, end, form);
         }
     }
     Some(Found {
         at: 0,
-        flaw: Flaw::Name(forms),
+        flaw: Flaw::Name(kind),
     })
 }

@@ -1,8 +1,33 @@
 //! The kinds of lines of a script, by which a line that is none of one is explained.
 
+/// What a script is for.
+#[derive(Clone, Copy, Debug, PartialEq, Eq)]
+pub enum ScriptKind {
+    /// A node without an interlink.
+    Node,
+    /// A node with one.
+    RedBox,
+    /// A network.
+    Network,
+    /// A network whose nodes run on threads.
+    Threads,
+}
+
+impl ScriptKind {
+    /// The kinds of its lines.
+    pub(crate) fn forms(self) -> &'static [Form] {
+        match self {
+            ScriptKind::Node => NODE_FORMS,
+            ScriptKind::RedBox => REDBOX_FORMS,
+            ScriptKind::Network => PLANT_FORMS,
+            ScriptKind::Threads => THREAD_FORMS,
+        }
+    }
+}
+
 /// What a word of a line is.
 #[derive(Clone, Copy)]
-pub enum Part {
+pub(crate) enum Part {
     /// A port of a node without an interlink.
     Port,
     /// A port of a node with one.
@@ -19,7 +44,7 @@ pub enum Part {
 
 /// A kind of line: its first word, the others, and how it is shown.
 #[derive(Clone, Copy)]
-pub struct Form {
+pub(crate) struct Form {
     /// Its first word.
     pub name: &'static str,
     /// What stands behind it.
@@ -29,7 +54,7 @@ pub struct Form {
 }
 
 /// The lines of a script for a node without an interlink.
-pub const NODE_FORMS: &[Form] = &[
+const NODE_FORMS: &[Form] = &[
     Form {
         name: "in",
         parts: &[Part::Port, Part::Time, Part::Octets],
@@ -40,7 +65,7 @@ pub const NODE_FORMS: &[Form] = &[
 ];
 
 /// The lines of a script for a node with one.
-pub const REDBOX_FORMS: &[Form] = &[
+const REDBOX_FORMS: &[Form] = &[
     Form {
         name: "in",
         parts: &[Part::PortOrInterlink, Part::Time, Part::Octets],
@@ -69,10 +94,10 @@ const PLANT_SEND: Form = Form {
 };
 
 /// The lines of a script for a ring or for two LANs whose nodes run on threads.
-pub const THREAD_FORMS: &[Form] = &[PLANT_SEND];
+const THREAD_FORMS: &[Form] = &[PLANT_SEND];
 
 /// The lines of a script for a ring or for two LANs.
-pub const PLANT_FORMS: &[Form] = &[
+const PLANT_FORMS: &[Form] = &[
     PLANT_SEND,
     Form {
         name: "carry",
