@@ -33,6 +33,8 @@ def text_of(folder, name):
 def cases():
     """The options, the script and the answers of each good run."""
     for folder in sorted((TOP / "examples/cases").iterdir()):
+        if (folder / "rows").exists():
+            continue
         args = (folder / "args").read_text().split("\n")[:-1]
         if args[:1] == ["replay"] and "--help" not in args and not (folder / "status").exists():
             yield folder.name, args, text_of(folder, "stdin"), text_of(folder, "stdout")

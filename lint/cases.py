@@ -14,6 +14,8 @@ A case is a folder that is named for what it shows. Of its files only `args` has
     stdin-is, stdout-is   in place of `stdin` and `stdout`: the path of the file, where a document or another case has it too
     *.pcap, *.pcapng   captures that `args` names
 
+In the place of all but `args` and captures there may be `rows`: many runs in one file, each with a name (lint/case_rows.py).
+
 cases.py [--program PATH] [NAME..]: the cases of these names, all where none is given, of the program at PATH, ./seamless
 where none is given."""
 import argparse
@@ -21,10 +23,13 @@ import os
 import signal
 import subprocess
 import sys
+import tempfile
 from pathlib import Path
 
+from case_rows import Flaw, rows_of
+
 ROOT = Path(__file__).resolve().parent.parent
-FILES = {"args", "stdin", "stdin-is", "stdout", "stdout-is", "stderr", "stderr-begins", "stderr-has", "status"}
+FILES = {"args", "stdin", "stdin-is", "stdout", "stdout-is", "stderr", "stderr-begins", "stderr-has", "status", "rows"}
 CAPTURES = {".pcap", ".pcapng"}
 MOST_SECONDS = 60
 # How much of a line is shown before and behind the first octet that differs: a frame has up to 3000 digits.
@@ -52,6 +57,13 @@ def flaws(root, folder):
             yield f"`{name}` is no file"
         elif name.endswith("-is") and (name.removesuffix("-is") in names or not place(root, folder, name.removesuffix("-is")).is_file()):
             yield f"`{name}` names no file, or the file is here too"
+        elif name in FILES - {"args", "rows"} and "rows" in names:
+            yield f"`{name}` stands beside `rows`"
+    if "rows" in names:
+        try:
+            rows_of((folder / "rows").read_text())
+        except Flaw as flaw:
+            yield f"`rows`: {flaw}"
 
 
 def octets(path):
@@ -64,15 +76,14 @@ def lines(text):
     return text.decode().splitlines()
 
 
-def run(program, root, folder):
+def run(program, root, args, stdin):
     """The standard output, standard error and exit status of a run; `TimeoutExpired` where it does not end."""
-    stdin = place(root, folder, "stdin")
-    with open(stdin if stdin.exists() else os.devnull, "rb") as source, subprocess.Popen(
+    with subprocess.Popen(
         # The name by which the parser's text speaks of the program.
-        ["seamless", *lines(octets(folder / "args"))],
+        ["seamless", *args],
         executable=program,
         cwd=root,
-        stdin=source,
+        stdin=stdin,
         stdout=subprocess.PIPE,
         stderr=subprocess.PIPE,
         # A group of its own: what the program started ends with it.
@@ -98,24 +109,70 @@ def difference(name, wanted, got):
     yield f"{name}, line {number + 1}, from column {start + 1}: wanted {shown[0]}, got {shown[1]}"
 
 
-def differences(program, root, folder):
-    """In what a run differs from its case."""
-    try:
-        printed, said, status = run(program, root, folder)
-    except subprocess.TimeoutExpired:
-        yield f"does not end within {MOST_SECONDS} seconds"
-        return
-    wanted = octets(folder / "status").decode().strip() or "0"
+def run_of_folder(program, root, folder):
+    """The run of a case that is one run."""
+    stdin = place(root, folder, "stdin")
+    with open(stdin if stdin.exists() else os.devnull, "rb") as source:
+        return run(program, root, lines(octets(folder / "args")), source)
+
+
+def run_of_row(program, root, folder, row):
+    """The run of one row of a case."""
+    with tempfile.TemporaryFile() as source:
+        source.write(row.stdin)
+        source.seek(0)
+        return run(program, root, lines(octets(folder / "args")) + row.args, source)
+
+
+def differing_status(wanted, status):
+    """Whether a run ended otherwise."""
     if wanted != str(status):
         yield f"status: wanted {wanted}, got {status}"
+
+
+def missing(texts, said):
+    """Which of these texts standard error has not."""
+    for text in texts:
+        if text.encode() not in said:
+            yield f"stderr: has no {text!r}"
+
+
+def differences_of_folder(root, folder, printed, said, status):
+    """In what a run differs from the files of its case."""
+    yield from differing_status(octets(folder / "status").decode().strip() or "0", status)
     yield from difference("stdout", octets(place(root, folder, "stdout")), printed)
     begins, has = octets(folder / "stderr-begins"), octets(folder / "stderr-has")
     if (folder / "stderr").exists() or not begins + has:
         yield from difference("stderr", octets(folder / "stderr"), said)
     yield from difference("stderr", begins, said[: len(begins)])
-    for text in lines(has):
-        if text.encode() not in said:
-            yield f"stderr: has no {text!r}"
+    yield from missing(lines(has), said)
+
+
+def differences_of_row(row, printed, said, status):
+    """In what a run differs from its row."""
+    yield from differing_status(row.status, status)
+    yield from difference("stdout", row.stdout, printed)
+    if not row.stderr:
+        yield from difference("stderr", b"", said)
+    yield from missing(row.stderr, said)
+
+
+def differences(program, root, folder):
+    """In what the runs of a case differ from it. Those of a row begin with its name."""
+    late = f"does not end within {MOST_SECONDS} seconds"
+    if not (folder / "rows").exists():
+        try:
+            yield from differences_of_folder(root, folder, *run_of_folder(program, root, folder))
+        except subprocess.TimeoutExpired:
+            yield late
+        return
+    for row in rows_of((folder / "rows").read_text()):
+        try:
+            found = list(differences_of_row(row, *run_of_row(program, root, folder, row)))
+        except subprocess.TimeoutExpired:
+            found = [late]
+        for text in found:
+            yield f"row {row.name}: {text}"
 
 
 def run_cases(program, root, names):

@@ -8,6 +8,7 @@ import unittest
 from pathlib import Path
 from unittest import mock
 
+import case_rows
 import cases
 
 # Prints its input, says its arguments, each in brackets, and ends with 3.
@@ -122,6 +123,75 @@ class Cases(unittest.TestCase):
             ({"stdin-is": "program\n"}, "`stdin-is` names no file, or the file is here too"),
         ]:
             self.assert_failed([flaw], changes)
+
+    def test_rows(self):
+        program = "#!/bin/sh\nprintf '%s ' \"$@\"\ncat\ncase $* in *late) sleep 30 ;; *bad) echo fault 2 line >&2; exit 1 ;; esac\n"
+        gone = dict.fromkeys(["stdin", "stdout", "stderr", "status"])
+        rows = "row first\n< one\n> one two words one\n\nrow a fault\nargs bad\n> one two words bad \\\n! 2 line\n"
+        self.assertEqual(self.outcome({**gone, "rows": rows}, program), OK)
+        for change, found in [
+            ((" one\n\n", " two\n\n"), "row first: stdout, line 1, from column 1: wanted 'one two words two\\n', got 'one two words one\\n'"),
+            (("args bad\n> one two words bad", "> one two words"), "row a fault: status: wanted 1, got 0"),
+            (("! 2 line", "! 3 line"), "row a fault: stderr: has no '3 line'"),
+            (("! 2 line\n", ""), "row a fault: status: wanted 0, got 1"),
+        ]:
+            self.assertIn("    " + found, self.outcome({**gone, "rows": rows.replace(*change)}, program))
+        with mock.patch.object(cases, "MOST_SECONDS", 0.5):
+            self.assert_failed(["row slow: does not end within 0.5 seconds"], {**gone, "rows": "row slow\nargs late\n"}, program)
+        self.assertIn("    `stdin` stands beside `rows`", self.outcome({"rows": rows}, program))
+        self.assert_failed(["`rows`: there is no row"], {**gone, "rows": "# nothing\n"})
+
+    def test_text_of_rows(self):
+        text = r"""# A comment.
+let ZERO 00
+let TWO {ZERO}{ZERO*2}-
+
+row one
+args a {TWO} b
+args c
+< {TWO}{5c*3}
+<
+< \x80\r\0\\ \{ZERO}
+< {ZERO}\
+> {ZERO*2}\\
+each 254 256
+< {high}:{low}
+end
+
+form refused
+< {text}\
+! fault {text}
+
+refused ""
+refused "a\n"
+"""
+        one, empty, line = case_rows.rows_of(text)
+        self.assertEqual((one.name, one.args, one.status), ("one", ["a", "000000-", "b", "c"], "0"))
+        self.assertEqual(one.stdin, b"000000-5c5c5c\n\n\x80\r\0\\ {ZERO}\n0000:fe\n00:ff\n01:00\n")
+        self.assertEqual(one.stdout, b"0000\\\n")
+        self.assertEqual((empty.name, empty.stdin, empty.stderr, empty.status), ('refused ""', b"", ["fault "], "1"))
+        self.assertEqual((line.name, line.stdin), ('refused "a\\n"', b"a\n"))
+
+    def test_flaws_of_rows(self):
+        for text, flaw in [
+            ("< a\n", "`< a` stands in no row"),
+            ("row\n", "row '' has no name, or that of another one"),
+            ("row a\nrow a\n", "row 'a' has no name, or that of another one"),
+            ("row a\n? b\n", "row a: `? b` is no line of a row"),
+            ("row a\n!\n", "row a: `!` is no line of a row"),
+            ("row a\n< {b}\n", "row a: nothing is named 'b'"),
+            ("row a\n< {B*2}\n", "row a: nothing is named 'B'"),
+            ("row a\n< \\q\n", "row a: \\q is no octet"),
+            ("row a\neach 1 2\n<\n", "row a: `each` has two numbers, and an `end` below"),
+            ("row a\neach 1\nend\n", "row a: `each` has two numbers, and an `end` below"),
+            ("row a\neach 1 2\n! b\nend\n", "row a: `each` repeats lines of input and output alone"),
+            ("let a b\n", "`let a b` names nothing, or a name that is given"),
+            ("let A b\nlet A c\n", "`let A c` names nothing, or a name that is given"),
+            ("form a\n< {text}\nb \"c\"\n", "there is no row"),
+        ]:
+            with self.assertRaises(case_rows.Flaw) as found:
+                case_rows.rows_of(text)
+            self.assertEqual(str(found.exception), flaw)
 
     def test_no_such_case(self):
         found = ["check: case another ... FAILED", "    is no folder of examples/cases"]

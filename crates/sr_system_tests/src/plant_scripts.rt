@@ -1,7 +1,6 @@
-//! Tests of `sr_plant_script`, above it, so that its own functions are proved once: runs over readers and writers in memory.
+//! Tests of `sr_plant_script`, above it, so that its own functions are proved once: allocations that fail. What a script prints is
+//! told by rows in `examples/cases`.
 
-mod lans;
-mod lines;
-mod rings;
+mod refusals;
 mod runs;
 mod steps;

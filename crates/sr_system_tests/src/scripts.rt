@@ -1,13 +1,8 @@
-//! Tests of `sr_script`, above it, so that its own functions are proved once: runs over readers and writers in memory.
+//! Tests of `sr_script`, above it, so that its own functions are proved once: readers and writers that fail, and allocations
+//! that do. What a script prints is told by rows in `examples/cases`.
 
-mod boxes;
-mod edges;
 mod failing;
-mod lines;
-mod replays;
-mod ring;
+mod refusals;
 mod runs;
-mod statuses;
 mod steps;
-mod texts;
-mod windows;
+mod streams;

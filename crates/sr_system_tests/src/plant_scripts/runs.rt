@@ -1,84 +1,22 @@
 //! The runs. Each function keeps to itself what it owns, and answers whether all was as it had to be, or None for want
 //! of memory.
 
-use crate::answers::{Ending, are_answers, is_ended};
+use crate::answers::are_answers;
 use sr_node::Settings;
 use sr_plant_script::{PlantSetup, Topology, run_plant};
 use sr_session::{Fault, FaultKind};
-use std::alloc::{AllocError, Global};
-
-/// A text, in parts.
-pub type Text = &'static [&'static [u8]];
+use std::alloc::Global;
 
 /// So many nodes of a plant. None where there is no such plant.
-fn setup_of(topology: Topology, nodes: usize, settings: Settings) -> Option<PlantSetup> {
+fn setup_of(topology: Topology, nodes: usize) -> Option<PlantSetup> {
     if nodes < 2 || nodes > 16 {
         return None;
     }
     match topology {
-        Topology::Ring => Some(PlantSetup::ring(nodes, settings)),
-        Topology::TwinLan => Some(PlantSetup::twin_lan(nodes, settings)),
+        Topology::Ring => Some(PlantSetup::ring(nodes, Settings::PLAIN)),
+        Topology::TwinLan => Some(PlantSetup::twin_lan(nodes, Settings::PLAIN)),
         Topology::RingLan(_) | Topology::TwoRings(_) => None,
     }
-}
-
-/// Appends a text so many times.
-fn append(octets: &mut Vec<u8>, text: &[&[u8]], times: usize) -> Result<(), AllocError> {
-    for _ in 0..times {
-        for part in text {
-            octets.extend_from_slice(part)?;
-        }
-    }
-    Ok(())
-}
-
-/// Whether a run writes this and ends so.
-fn writes(
-    alloc: Global,
-    setup: &PlantSetup,
-    script: &[u8],
-    wanted: &[u8],
-    ending: Ending,
-) -> Option<bool> {
-    let mut written: Vec<u8> = Vec::new(alloc);
-    let mut reader = script;
-    let outcome = run_plant(alloc, setup, &mut reader, &mut written);
-    Some(is_ended(outcome, ending)? && written.as_slice() == wanted)
-}
-
-/// Whether a run of a script, whose middle comes so many times, writes this and ends so.
-pub fn is_run(
-    alloc: Global,
-    topology: Topology,
-    nodes: usize,
-    settings: Settings,
-    script: (Text, usize, Text, Text),
-    wanted: Text,
-    ending: Ending,
-) -> Option<bool> {
-    let (first, times, middle, last) = script;
-    let mut octets = Vec::new(alloc);
-    append(&mut octets, first, 1).ok()?;
-    append(&mut octets, middle, times).ok()?;
-    append(&mut octets, last, 1).ok()?;
-    let mut text = Vec::new(alloc);
-    append(&mut text, wanted, 1).ok()?;
-    writes(
-        alloc,
-        &setup_of(topology, nodes, settings)?,
-        &octets,
-        &text,
-        ending,
-    )
-}
-
-/// Whether a line is none of a script, behind one that is answered so.
-pub fn is_refused(alloc: Global, before: Text, line: &[u8], answer: &[u8]) -> Option<bool> {
-    let mut octets = Vec::new(alloc);
-    append(&mut octets, before, 1).ok()?;
-    octets.extend_from_slice(line).ok()?;
-    let setup = setup_of(Topology::Ring, 2, Settings::PLAIN)?;
-    writes(alloc, &setup, &octets, answer, Some((2, FaultKind::Line)))
 }
 
 fn runs_again(
@@ -103,7 +41,7 @@ pub fn is_taken_up(
     script: &[u8],
     answers: &[&[u8]],
 ) -> Option<bool> {
-    let setup = setup_of(topology, nodes, Settings::PLAIN)?;
+    let setup = setup_of(topology, nodes)?;
     let mut written: Vec<u8> = Vec::new(alloc);
     written.reserve(1000).ok()?;
     let mut reader = script;

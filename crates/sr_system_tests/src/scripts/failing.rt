@@ -31,23 +31,6 @@ impl Read for Sparse<'_> {
     }
 }
 
-/// Gives some LFs.
-#[derive(Drop)]
-pub struct EmptyLines {
-    pub left: usize,
-}
-
-impl Read for EmptyLines {
-    fn read(&mut self, buf: &mut [u8]) -> io::Result<usize> {
-        let count = self.left.min(buf.len());
-        for octet in buf[..count].iter_mut() {
-            *octet = b'\n';
-        }
-        self.left -= count;
-        Ok(count)
-    }
-}
-
 /// Takes so many octets, and then fails.
 #[derive(Drop)]
 pub struct Narrow {

@@ -1,14 +1,11 @@
 //! The runs. Each function keeps to itself what it owns, and answers whether all was as it had to be, or None for want
 //! of memory.
 
-use super::failing::{Broken, EmptyLines, Interrupted, Narrow, Recorder, Sparse, Stuck, Unflushed};
-use super::texts::{Text, joined};
+use super::failing::{Broken, Interrupted, Narrow, Recorder, Sparse, Stuck, Unflushed};
 use crate::answers::{Ending, are_answers, is_ended};
-use crate::settings::{MODE_X, WIDE};
-use sr_forwarding::{NetId, RoleKind};
+use sr_forwarding::RoleKind;
 use sr_frame::Mac;
 use sr_node::Settings;
-use sr_prp_trailer::Lan;
 use sr_script::{Setup, run, run_status};
 use sr_session::{Fault, FaultKind};
 use sr_slots::Keys;
@@ -20,14 +17,7 @@ use std::io::{BufRead, BufReader, ErrorKind, Read, Write};
 pub enum At {
     Danp,
     Danh,
-    /// A node of a ring in mode X.
-    DanhX,
-    /// A node of two LANs that remembers 2048 numbers of a source.
-    WideDanp,
     San,
-    /// At a LAN of the network of this number.
-    Prp(Lan, u8),
-    Hsr,
 }
 
 /// What a run tells of its node.
@@ -51,92 +41,35 @@ fn run_as<R: BufRead, W: Write>(
     }
 }
 
-/// The role of a node. None for a network that no path can name.
-fn role_of(at: At) -> Option<RoleKind> {
-    Some(match at {
-        At::Danp | At::WideDanp => RoleKind::Danp,
-        At::Danh | At::DanhX => RoleKind::Danh,
-        At::San => RoleKind::San,
-        At::Prp(lan, net) => RoleKind::Prp {
-            lan,
-            net: NetId::checked(net)?,
-        },
-        At::Hsr => RoleKind::Hsr,
-    })
-}
-
-/// The settings of a node.
-fn settings_of(at: At) -> Settings {
-    match at {
-        At::DanhX => MODE_X,
-        At::WideDanp => WIDE,
-        _ => Settings::PLAIN,
-    }
-}
-
 /// A node of this role with the address 02:00:00:00:00:01.
-fn node_of(role: RoleKind, settings: Settings) -> Setup {
+fn node_of(at: At) -> Setup {
     Setup {
-        role,
+        role: match at {
+            At::Danp => RoleKind::Danp,
+            At::Danh => RoleKind::Danh,
+            At::San => RoleKind::San,
+        },
         mac: Mac([2, 0, 0, 0, 0, 1]),
-        settings,
+        settings: Settings::PLAIN,
         keys: Keys::FIXED,
     }
 }
 
-/// The node of a run. None for a network that no path can name.
-fn setup_of(at: At) -> Option<Setup> {
-    Some(node_of(role_of(at)?, settings_of(at)))
-}
-
 /// A doubly attached node of a PRP network with that address.
 fn danp() -> Setup {
-    node_of(RoleKind::Danp, Settings::PLAIN)
+    node_of(At::Danp)
 }
 
-/// Whether a run writes this and ends so.
-fn writes(
-    told: Told,
-    alloc: Global,
-    setup: &Setup,
-    script: &[u8],
-    wanted: &[u8],
-    ending: Ending,
-) -> Option<bool> {
-    let mut written: Vec<u8> = Vec::new(alloc);
-    let mut reader = script;
-    let outcome = run_as(told, alloc, setup, &mut reader, &mut written);
-    Some(is_ended(outcome, ending)? && written.as_slice() == wanted)
+/// So many times these octets. None for want of memory.
+fn repeated(alloc: Global, count: usize, octets: &[u8]) -> Option<Vec<u8>> {
+    let mut script = Vec::new(alloc);
+    for _ in 0..count {
+        script.extend_from_slice(octets).ok()?;
+    }
+    Some(script)
 }
 
-/// Whether a run at a node, with that address, writes this and ends so.
-pub fn is_run_at(
-    told: Told,
-    alloc: Global,
-    at: At,
-    script: Text,
-    wanted: Text,
-    ending: Ending,
-) -> Option<bool> {
-    let script = joined(alloc, script)?;
-    let wanted = joined(alloc, wanted)?;
-    writes(told, alloc, &setup_of(at)?, &script, &wanted, ending)
-}
-
-/// Whether a run of a script with a last line writes this and ends so.
-pub fn is_run_to(
-    alloc: Global,
-    before: Text,
-    line: &[u8],
-    wanted: &[u8],
-    ending: Ending,
-) -> Option<bool> {
-    let mut script = joined(alloc, before)?;
-    script.extend_from_slice(line).ok()?;
-    writes(Told::Frames, alloc, &danp(), &script, wanted, ending)
-}
-
-/// Whether a run over this reader, which fails or is long, writes this and ends so.
+/// Whether a run over this reader writes this and ends so.
 fn is_read<R: Read + Drop>(
     alloc: Global,
     reader: R,
@@ -170,11 +103,6 @@ pub fn is_broken(
 /// Whether a run over a reader that gives these octets one by one writes this and ends so.
 pub fn is_sparse(alloc: Global, octets: &[u8], wanted: &[u8], ending: Ending) -> Option<bool> {
     is_read(alloc, Sparse { octets }, wanted, ending)
-}
-
-/// Whether a run over so many empty lines ends so.
-pub fn are_empty_lines(alloc: Global, left: usize, ending: Ending) -> Option<bool> {
-    is_read(alloc, EmptyLines { left }, &[], ending)
 }
 
 /// What a run with this writer ends in, and whether it is so. None for want of memory.
@@ -212,9 +140,9 @@ pub fn is_unflushed(told: Told, alloc: Global, script: &[u8], ending: Ending) ->
     is_written(told, alloc, script, &mut Unflushed, ending)
 }
 
-/// Whether a run with a writer that is interrupted again and again ends well.
-pub fn is_interrupted(told: Told, alloc: Global, script: Text) -> Option<bool> {
-    let script = joined(alloc, script)?;
+/// Whether a run of so many times these octets, with a writer that is interrupted again and again, ends well.
+pub fn is_interrupted(told: Told, alloc: Global, count: usize, octets: &[u8]) -> Option<bool> {
+    let script = repeated(alloc, count, octets)?;
     is_written(
         told,
         alloc,
@@ -229,9 +157,15 @@ pub fn is_stuck(told: Told, alloc: Global, script: &[u8], ending: Ending) -> Opt
     is_written(told, alloc, script, &mut Stuck, ending)
 }
 
-/// Whether a run makes these calls of its writer.
-pub fn is_recorded(told: Told, alloc: Global, script: Text, calls: &[u8]) -> Option<bool> {
-    let script = joined(alloc, script)?;
+/// Whether a run of so many times these octets makes these calls of its writer.
+pub fn is_recorded(
+    told: Told,
+    alloc: Global,
+    count: usize,
+    octets: &[u8],
+    calls: &[u8],
+) -> Option<bool> {
+    let script = repeated(alloc, count, octets)?;
     let mut writer = Recorder::new();
     Some(is_written(told, alloc, &script, &mut writer, None)? && writer.kept(calls))
 }
@@ -259,7 +193,7 @@ pub fn is_taken_up(
     script: &[u8],
     answers: &[&[u8]],
 ) -> Option<bool> {
-    let setup = setup_of(at)?;
+    let setup = node_of(at);
     let mut written: Vec<u8> = Vec::new(alloc);
     written.reserve(1000).ok()?;
     let mut reader = script;

@@ -1,0 +1,92 @@
+//! Runs of a node in which an allocation fails: the lines before are answered, and the next run is whole.
+
+use super::runs::At;
+use super::steps::{Step, expect_steps};
+
+// With the Nth allocation refused, for any N.
+const AT_LANS: &[Step] = &[Step::TakenUp(
+    At::Danp,
+    b"in A 0 00\nin A 0 02000000000102000000000208005c\ntick 0\nin B 0 00\n",
+    &[
+        b"refused 1 TooShort\n",
+        b"H 02000000000102000000000208005c\n",
+        b"A 01154e00010002000000000188fb00017dff14060200000000010000\
+            0000000000000000000000000000000000000000000000000000000000000000fbffa03488fb\n\
+            B 01154e00010002000000000188fb00017dff14060200000000010000\
+            0000000000000000000000000000000000000000000000000000000000000000fbffb03488fb\n",
+        b"refused 4 TooShort\n",
+    ],
+)];
+
+#[test]
+fn allocation_is_refused(rt: HostRuntime) {
+    expect_steps(&rt, AT_LANS);
+}
+
+// With the Nth allocation refused, for any N.
+const IN_A_RING: &[Step] = &[Step::TakenUp(
+    At::Danh,
+    b"in A 0 00\nsend 0 ffffffffffff0200000000010800\nin A 1 ffffffffffff020000000002892f003400070800000000000000000000000000000000000000000000000000\
+        00000000000000000000000000000000000000000000\ntick 1\nin B 2 00\n",
+    &[
+        b"refused 1 TooShort\n",
+        b"A ffffffffffff020000000001892f0034fbff08000000000000000000000000000000000000000000000000\
+            0000000000000000000000000000000000000000000000\n\
+            B ffffffffffff020000000001892f1034fbff08000000000000000000000000000000000000000000000000\
+            0000000000000000000000000000000000000000000000\n",
+        b"H ffffffffffff02000000000208000000000000000000000000000000000000000000000000000000000000\
+            0000000000000000000000000000000000\n\
+            B ffffffffffff020000000002892f0034000708000000000000000000000000000000000000000000000000\
+            0000000000000000000000000000000000000000000000\n",
+        b"A 01154e000100020000000001892f0034fc0088fb00017dff17060200000000010000000000000000000000\
+            0000000000000000000000000000000000000000000000\n\
+            B 01154e000100020000000001892f1034fc0088fb00017dff17060200000000010000000000000000000000\
+            0000000000000000000000000000000000000000000000\n",
+        b"refused 5 TooShort\n",
+    ],
+)];
+
+#[test]
+fn allocation_is_refused_at_a_ring_node(rt: HostRuntime) {
+    expect_steps(&rt, IN_A_RING);
+}
+
+// With the Nth allocation refused, for any N.
+const AT_A_REDBOX: &[Step] = &[Step::TakenUp(
+    At::San,
+    b"in C 0 0200000000080200000000090800\nin A 1 020000000009020000000002892f003400050800000000000000000000000000000000000000000000000000\
+        00000000000000000000000000000000000000000000\nin C 2 00\n",
+    &[
+        b"A 020000000008020000000009892f0034fbff08000000000000000000000000000000000000000000000000\
+            0000000000000000000000000000000000000000000000\n\
+            B 020000000008020000000009892f1034fbff08000000000000000000000000000000000000000000000000\
+            0000000000000000000000000000000000000000000000\n",
+        b"C 02000000000902000000000208000000000000000000000000000000000000000000000000000000000000\
+            0000000000000000000000000000000000\n",
+        b"refused 3 TooShort\n",
+    ],
+)];
+
+#[test]
+fn allocation_is_refused_at_a_redbox(rt: HostRuntime) {
+    expect_steps(&rt, AT_A_REDBOX);
+}
+
+// With the Nth allocation refused, for any N: at the end, too.
+const WITH_ITS_STATUS: &[Step] = &[Step::StatusTakenUp(
+    At::Danp,
+    b"in A 0 00\nin A 0 02000000000102000000000208005c0005a00788fb\ntick 0\nin B 0 00\n",
+    &[
+        b"refused 1 TooShort\n",
+        b"",
+        b"",
+        b"refused 4 TooShort\n",
+        b"node 02:00:00:00:00:02 if1_age 0 if2_age 2147483647 if1_seq 5 if2_seq 0 if1_ifindex 1 if2_ifindex 2\n\
+alarm RingError 02:00:00:00:00:02 port B at 0\n",
+    ],
+)];
+
+#[test]
+fn allocation_is_refused_of_a_status(rt: HostRuntime) {
+    expect_steps(&rt, WITH_ITS_STATUS);
+}
