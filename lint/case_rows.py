@@ -7,7 +7,9 @@ A line of the file is one of these; one that begins with # is a comment, and an 
     args WORD..        its arguments behind those of the file `args`
     < TEXT             a line of its standard input
     > TEXT             a line of its standard output
-    ! TEXT             a line that stands in its standard error, and the run ends with status 1; without one it ends with 0 and says nothing
+    ! TEXT             a line of its standard error, and the run ends with status 1
+    ? TEXT             a line of its standard error, and the run ends with status 0; without one of both it says nothing
+    file NAME HEX      octets of a file of this name, behind those that it has; a run with files goes on in a folder of its own, where they lie
     each FIRST LAST    the lines from here to `end` come once for each of these numbers, {high} and {low} its octets as two digits each
     form NAME          what the runs of this form have in common, in the place of `row`; {text} is where they differ
     NAME "TEXT"        a run of the form of this name
@@ -36,10 +38,8 @@ class Row:
     stdin: bytes = b""
     stdout: bytes = b""
     stderr: list = field(default_factory=list)
-
-    @property
-    def status(self):
-        return "1" if self.stderr else "0"
+    status: str = "0"
+    files: dict = field(default_factory=dict)
 
 
 def filled(text, names):
@@ -51,6 +51,8 @@ def filled(text, names):
             raise Flaw(f"nothing is named {word!r}")
         return names.get(word, word) * int(found[3] or 1)
 
+    if re.search(r"(?<!\\)\{", HOLE.sub("", text)):
+        raise Flaw(f"`{text}` has a brace that names nothing: write \\{{")
     return HOLE.sub(of, text)
 
 
@@ -84,7 +86,7 @@ def add(row, lines, names):
             for number in range(first, last + 1) if is_numbered else [first]:
                 part = Row(row.name)
                 add(part, lines[at:end], {**names, "high": f"{number >> 8 & 255:02x}", "low": f"{number & 255:02x}"})
-                if part.args or part.stderr:
+                if part.args or part.stderr or part.files:
                     raise Flaw("`each` repeats lines of input and output alone")
                 count = 1 if is_numbered else last + 1 - first
                 row.stdin += part.stdin * count
@@ -96,8 +98,12 @@ def add(row, lines, names):
             row.stdin += octets_of(filled(text, names))
         elif kind == ">":
             row.stdout += octets_of(filled(text, names))
-        elif kind == "!" and text:
+        elif kind in ("!", "?") and text:
             row.stderr.append(filled(text, names))
+            row.status = "1" if kind == "!" else row.status
+        elif kind == "file" and re.fullmatch(r"[a-z.]+ .*", text):
+            name, _, digits = text.partition(" ")
+            row.files[name] = row.files.get(name, b"") + bytes.fromhex(filled(digits, names))
         else:
             raise Flaw(f"`{lines[at - 1]}` is no line of a row")
 

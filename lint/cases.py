@@ -76,13 +76,13 @@ def lines(text):
     return text.decode().splitlines()
 
 
-def run(program, root, args, stdin):
+def run(program, folder, args, stdin):
     """The standard output, standard error and exit status of a run; `TimeoutExpired` where it does not end."""
     with subprocess.Popen(
         # The name by which the parser's text speaks of the program.
         ["seamless", *args],
         executable=program,
-        cwd=root,
+        cwd=folder,
         stdin=stdin,
         stdout=subprocess.PIPE,
         stderr=subprocess.PIPE,
@@ -118,23 +118,18 @@ def run_of_folder(program, root, folder):
 
 def run_of_row(program, root, folder, row):
     """The run of one row of a case."""
-    with tempfile.TemporaryFile() as source:
+    with tempfile.TemporaryFile() as source, tempfile.TemporaryDirectory() as room:
         source.write(row.stdin)
         source.seek(0)
-        return run(program, root, lines(octets(folder / "args")) + row.args, source)
+        for name, text in row.files.items():
+            Path(room, name).write_bytes(text)
+        return run(program, room if row.files else root, lines(octets(folder / "args")) + row.args, source)
 
 
 def differing_status(wanted, status):
     """Whether a run ended otherwise."""
     if wanted != str(status):
         yield f"status: wanted {wanted}, got {status}"
-
-
-def missing(texts, said):
-    """Which of these texts standard error has not."""
-    for text in texts:
-        if text.encode() not in said:
-            yield f"stderr: has no {text!r}"
 
 
 def differences_of_folder(root, folder, printed, said, status):
@@ -145,7 +140,9 @@ def differences_of_folder(root, folder, printed, said, status):
     if (folder / "stderr").exists() or not begins + has:
         yield from difference("stderr", octets(folder / "stderr"), said)
     yield from difference("stderr", begins, said[: len(begins)])
-    yield from missing(lines(has), said)
+    for text in lines(has):
+        if text.encode() not in said:
+            yield f"stderr: has no {text!r}"
 
 
 def differences_of_row(row, printed, said, status):
@@ -154,7 +151,9 @@ def differences_of_row(row, printed, said, status):
     yield from difference("stdout", row.stdout, printed)
     if not row.stderr:
         yield from difference("stderr", b"", said)
-    yield from missing(row.stderr, said)
+    for text in row.stderr:
+        if text.encode() not in said.splitlines():
+            yield f"stderr: has no line {text!r}"
 
 
 def differences(program, root, folder):

@@ -127,15 +127,20 @@ class Cases(unittest.TestCase):
     def test_rows(self):
         program = "#!/bin/sh\nprintf '%s ' \"$@\"\ncat\ncase $* in *late) sleep 30 ;; *bad) echo fault 2 line >&2; exit 1 ;; esac\n"
         gone = dict.fromkeys(["stdin", "stdout", "stderr", "status"])
-        rows = "row first\n< one\n> one two words one\n\nrow a fault\nargs bad\n> one two words bad \\\n! 2 line\n"
+        rows = "row first\n< one\n> one two words one\n\nrow a fault\nargs bad\n> one two words bad \\\n! fault 2 line\n"
         self.assertEqual(self.outcome({**gone, "rows": rows}, program), OK)
         for change, found in [
             ((" one\n\n", " two\n\n"), "row first: stdout, line 1, from column 1: wanted 'one two words two\\n', got 'one two words one\\n'"),
             (("args bad\n> one two words bad", "> one two words"), "row a fault: status: wanted 1, got 0"),
-            (("! 2 line", "! 3 line"), "row a fault: stderr: has no '3 line'"),
-            (("! 2 line\n", ""), "row a fault: status: wanted 0, got 1"),
+            (("! fault 2 line", "! fault 2"), "row a fault: stderr: has no line 'fault 2'"),
+            (("! fault 2 line\n", ""), "row a fault: status: wanted 0, got 1"),
         ]:
             self.assertIn("    " + found, self.outcome({**gone, "rows": rows.replace(*change)}, program))
+        files = "row files\nargs bad.pcap\nfile bad.pcap 6f6e\nfile bad.pcap {65*2}\n> onee\\\n? a hint\n"
+        program_of_files = "#!/bin/sh\ncat $3\necho a hint >&2\n"
+        self.assertEqual(self.outcome({**gone, "rows": files}, program_of_files), OK)
+        self.assert_failed(["row files: stderr: has no line 'a hunt'"], {**gone, "rows": files.replace("a hint", "a hunt")}, program_of_files)
+        self.assertIn("    row files: status: wanted 1, got 0", self.outcome({**gone, "rows": files.replace("?", "!")}, program_of_files))
         with mock.patch.object(cases, "MOST_SECONDS", 0.5):
             self.assert_failed(["row slow: does not end within 0.5 seconds"], {**gone, "rows": "row slow\nargs late\n"}, program)
         self.assertIn("    `stdin` stands beside `rows`", self.outcome({"rows": rows}, program))
@@ -177,10 +182,12 @@ refused "a\n"
             ("< a\n", "`< a` stands in no row"),
             ("row\n", "row '' has no name, or that of another one"),
             ("row a\nrow a\n", "row 'a' has no name, or that of another one"),
-            ("row a\n? b\n", "row a: `? b` is no line of a row"),
+            ("row a\n% b\n", "row a: `% b` is no line of a row"),
+            ("row a\nfile A 00\n", "row a: `file A 00` is no line of a row"),
             ("row a\n!\n", "row a: `!` is no line of a row"),
             ("row a\n< {b}\n", "row a: nothing is named 'b'"),
             ("row a\n< {B*2}\n", "row a: nothing is named 'B'"),
+            ("row a\n< {B*2x}\n", "row a: `{B*2x}` has a brace that names nothing: write \\{"),
             ("row a\n< \\q\n", "row a: \\q is no octet"),
             ("row a\neach 1 2\n<\n", "row a: `each` has two numbers, and an `end` below"),
             ("row a\neach 1\nend\n", "row a: `each` has two numbers, and an `end` below"),

@@ -14,6 +14,7 @@ from cases import place
 WIDEST_DEFINITION = 140
 WIDEST_CLAUSE = 100
 MOST_README_WORDS = 1000
+MOST_TEST_LINES = 3000
 DOCUMENTS = ["README.md", "CHANGELOG.md", "CONTRIBUTING.md", "docs/*.md", "bench/*.md", "crates/*/README.md"]
 # The documents that show the program by example.
 PROGRAM_PAGES = ["README.md", "docs/PROGRAM.md"]
@@ -467,7 +468,16 @@ def decision_keys(root):
                     yield path, number, f"names `{key}`, which is no decision"
 
 
+def large_test_crates(root):
+    """A crate of tests has at most 3000 lines: a large one is the gate's longest proof, and takes its memory."""
+    for folder in sorted(root.glob("crates/*_tests")):
+        lines = sum(len(path.read_text().splitlines()) for path in folder.glob("src/**/*.rt"))
+        if lines > MOST_TEST_LINES:
+            yield folder / "src/lib.rt", 1, f"{folder.name} has {lines} lines, more than {MOST_TEST_LINES}"
+
+
 RULES = [
+    large_test_crates,
     wide_definitions,
     wide_clauses,
     silent_items,

@@ -245,6 +245,13 @@ class Lint(unittest.TestCase):
         self.assertEqual(self.findings({"README.md": "one\n" * 1000}), [])
         self.assertEqual(self.findings({"README.md": "one\n" * 1001}), ["README.md:1: has 1001 words, more than 1000"])
 
+    def test_large_test_crates(self):
+        whole = {"crates/sr_one_tests/src/lib.rt": "//\n" * 1000, "crates/sr_one_tests/src/one/two.rt": "//\n" * 2000}
+        large = "crates/sr_one_tests/src/lib.rt:1: sr_one_tests has 3001 lines, more than 3000"
+        self.assertNotIn(large, self.findings(whole))
+        self.assertIn(large, self.findings({**whole, "crates/sr_one_tests/src/three.rt": "//\n"}))
+        self.assertNotIn("more than", "".join(self.findings({"crates/sr_one/src/lib.rt": "//\n" * 3001})))
+
     def test_untold_laws(self):
         source, page = "crates/sr_one/src/laws.rt", "docs/LAWS.md"
         law = "/// One is one.\npub fn one_is_one()\n    ensures { OneIsOne }\n{}\n"
