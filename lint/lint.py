@@ -90,7 +90,7 @@ def planned(root):
 
 # Files beside the crates that have names of which documents speak.
 NAMING = ["crates.txt", "check", "seamless", "refuse", "bench/run", "lint/*.py", "lint/*.txt", "tools/*", "clib/check", "clib/*/*.h",
-          "bindings/*/*.py", "bindings/rust/*/*.rs"]
+          "bindings/*/*.py", "bindings/rust/*/*.rs", "examples/endpoint/*.[ch]", "examples/endpoint/test/*.py"]
 
 
 def missing_names(root):
