@@ -1,10 +1,12 @@
 """Nodes of seamless-endpoint and of Linux net/hsr in one network; and frames that are delayed and jumbled by netem."""
+import json
 import os
 import subprocess
 import time
 
-from lab import expect, flood
+from lab import Cuts, expect, flood
 from networks import danhs, danps, hosts_of, wants_no_faults, wants_none_lost
+from soak import compare, say_and_hear, wants_all_heard
 
 DEBUG = "/sys/kernel/debug"
 # A node tells of another at both ports within two intervals of supervision.
@@ -37,40 +39,56 @@ def kernels_table(host):
     return {row[0]: row for row in rows[2:]}
 
 
-def wants_tables(ours, kernels, figures):
-    """That each kernel's node lists each of ours as doubly attached, and ours list the kernel's at both ports."""
+def lacks_in_tables(ours, kernels):
+    """What is missing in the node tables, or nothing: each kernel's node lists each of ours as doubly attached, and ours list the kernel's as
+    heard at both ports."""
     for kernel in kernels:
         table = kernels_table(kernel)
         for host in ours:
-            expect(host.mac in table, f"{kernel.name}, the kernel's, does not list {host.mac}: {table}")
-            expect(table[host.mac][-1] == "1", f"{kernel.name}, the kernel's, takes {host.name} for no doubly attached node: {table[host.mac]}")
+            if table.get(host.mac, [None])[-1] != "1":
+                return f"{kernel.name}, the kernel's, does not list {host.name} as doubly attached: {table}"
     for host in ours:
-        nodes = {node["mac"]: node for node in figures[host.name]["nodes"]}
+        nodes = {node["mac"]: node for node in host.latest()["nodes"]}
         for kernel in kernels:
-            expect(kernel.mac in nodes, f"{host.name} does not list {kernel.mac}, the kernel's: {list(nodes)}")
-            ages = nodes[kernel.mac]["age_a"], nodes[kernel.mac]["age_b"]
-            expect(None not in ages and max(ages) < RECENT_MS, f"{host.name} heard {kernel.name}, the kernel's, {ages} ms ago at A and B")
+            ages = [nodes.get(kernel.mac, {}).get(age) for age in ("age_a", "age_b")]
+            if None in ages or max(ages) > RECENT_MS:
+                return f"{host.name} heard {kernel.name}, the kernel's, {ages} ms ago at A and B"
+    return None
 
 
-def mixed(build, pairs, untold=()):
-    """Some of a network's nodes are ours, and some the kernel's. Pings between pairs lose nothing while one path after the other is cut. Of
-    those that are untold, between kernels, is told what they lose."""
+def wants_tables(ours, kernels):
+    end = time.monotonic() + 30
+    while (lack := lacks_in_tables(ours, kernels)) and time.monotonic() < end:
+        time.sleep(1)
+    expect(not lack, lack)
+
+
+def datagrams(hosts, ours, paths, size):
+    """All say numbered datagrams to each other while one path after the other is cut: ours hear each once. Returns what is told of all."""
+    running = say_and_hear(hosts, max(10, 4 * len(paths) * size.seconds), 1, rate=50)
+    cuts = Cuts(paths, size.seconds)
+    heard = [json.loads(process.communicate(timeout=600)[0]) for process in running]
+    cuts.stop()
+    found = compare(hosts, heard)
+    wants_all_heard(found, ours)
+    return ", ".join(f"{host.name} lacks {lost} of {sent}, {again} twice" for host, (sent, lost, again) in found.items())
+
+
+def mixed(build, sure, told):
+    """Some of a network's nodes are ours, and some the kernel's, and one path after the other is cut. Pings between pairs that are sure lose
+    nothing, and ours hear each datagram once. Of the other pairs, and of the kernel's nodes, is told what they lose and double."""
 
     def test(lab, size):
         ours, kernels, paths = build(lab)
         hosts = {host.number: host for host in ours + kernels}
-
-        def chosen(them):
-            return [(hosts[one], hosts[other]) for one, other in them]
-
-        told = wants_none_lost(chosen(pairs), paths, size)
-        if untold:
-            sent, lost, doubled, _, _ = flood(chosen(untold), paths, size.pings // len(untold), size.seconds)
-            told += f"; between kernels {lost} of {sent} lost, {doubled} doubled"
-        time.sleep(5)
-        wants_tables(ours, kernels, {host.name: host.latest() for host in ours})
+        said = [wants_none_lost([(hosts[one], hosts[other]) for one, other in sure], paths, size)]
+        for one, other in told:
+            sent, lost, doubled, _, _ = flood([(hosts[one], hosts[other])], paths, size.pings, size.seconds)
+            said.append(f"n{one} to n{other} {lost} of {sent} lost, {doubled} doubled")
+        said.append(f"datagrams: {datagrams(list(hosts.values()), ours, paths, size)}")
+        wants_tables(ours, kernels)
         wants_no_faults(lab.stop())
-        return told
+        return "; ".join(said)
 
     return test
 
@@ -104,6 +122,6 @@ TESTS = {
     },
     "hsr": {
         "PRP with the kernel's nodes": mixed(prp_with_kernels, [(1, 2), (2, 3), (1, 3)], [(2, 4)]),
-        "HSR with the kernel's nodes": mixed(ring_with_kernels, [(1, 2), (4, 3), (1, 3)], [(2, 4)]),
+        "HSR with the kernel's nodes": mixed(ring_with_kernels, [(1, 3)], [(1, 2), (4, 3), (2, 4)]),
     },
 }

@@ -15,7 +15,8 @@ import struct
 import sys
 import time
 
-PORT, STREAM_PORT, SO_NO_CHECK = 7077, 7078, 11
+PORT, STREAM_PORT = 7077, 7078
+SO_NO_CHECK, SO_RCVBUFFORCE, ROOM = 11, 33, 8 << 20
 HEAD = struct.Struct("!BQ")
 TO_ALL = 1
 LINGER = 3.0
@@ -31,7 +32,7 @@ class Host:
         self.address, self.peers, self.random = address, peers, random.Random(seed)
         self.all = address.rpartition(".")[0] + ".255"
         self.socket = socket.socket(socket.AF_INET, socket.SOCK_DGRAM)
-        for option, value in (socket.SO_BROADCAST, 1), (SO_NO_CHECK, 1), (socket.SO_RCVBUF, 1 << 20):
+        for option, value in (socket.SO_BROADCAST, 1), (SO_NO_CHECK, 1), (SO_RCVBUFFORCE, ROOM):
             self.socket.setsockopt(socket.SOL_SOCKET, option, value)
         self.socket.bind(("", PORT))
         self.socket.setblocking(False)
@@ -49,9 +50,10 @@ class Host:
         self.socket.sendto(datagram(TO_ALL if to == self.all else 0, number, self.address, self.random.randrange(9, 1440)), (to, PORT))
 
     def hear(self, seconds):
-        """Takes what comes within a time."""
+        """Takes what comes within a time. Returns whether something came."""
         files = [self.socket, self.server, *self.streams]
-        for file in select.select(files, [], [], max(0.0, seconds))[0]:
+        found = select.select(files, [], [], max(0.0, seconds))[0]
+        for file in found:
             if file is self.server:
                 self.streams.append(self.server.accept()[0])
             elif file is self.socket:
@@ -65,6 +67,7 @@ class Host:
                 self.spoiled += more.count(b"s") != len(more)
                 if not more:
                     self.streams.remove(file)
+        return bool(found)
 
     def speak(self, seconds, rate, stream):
         begun, turn = time.monotonic(), 0
@@ -83,12 +86,12 @@ class Host:
                     pass
             turn += 1
 
-    def listen(self, seconds):
+    def listen(self):
+        """Takes what still comes, until nothing does for a while."""
         if self.client:
             self.client.close()
-        end = time.monotonic() + seconds
-        while (left := end - time.monotonic()) > 0:
-            self.hear(left)
+        while self.hear(LINGER):
+            pass
 
     def figures(self):
         """How many datagrams went to each address, how many different ones came from each, and how often one came again."""
@@ -105,7 +108,7 @@ def main(address, seconds, rate, seed, stream, *peers):
     print("ready", flush=True)
     sys.stdin.readline()
     host.speak(float(seconds), float(rate), stream)
-    host.listen(LINGER)
+    host.listen()
     print(json.dumps(host.figures()))
 
 
