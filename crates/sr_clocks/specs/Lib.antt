@@ -1,0 +1,5 @@
+pub mod Limits
+pub mod Windows
+pub mod Lines
+pub mod Seen
+pub mod Telling
