@@ -1,12 +1,14 @@
 -- Rings and LANs, a link at a time.
 use Rattle.std.proofs.Common.{◌≡◌, ◌≢◌, ℕ, zero, suc, ◌+◌, ◌-◌, ◌<◌, List, [], ◌∷◌, ◌++◌, Vec, length, get_or, refl, sym, ap, ◌∙◌, subst, append_assoc, arith, ⊎_elim}
+use Rattle.std.specs.Prelude.{All}
+use Rattle.std.proofs.lemmas.List.Elements.{All-get_or, All-push, All-rest}
 use Rattle.std.proofs.lemmas.List.{get_or_append_left, get_or_push, length_push, length-map, map-append}
 use Rattle.std.proofs.lemmas.Bool.{cases_eq}
 use Rattle.std.proofs.lemmas.Bool.Decides.{nat_tests}
 use Rattle.sr_lines.specs.declared.ends.Ends.{Ends}
 use Rattle.sr_lines.specs.Names.{end_wires, all_wires}
 use Rattle.sr_lines.specs.Pairs.{WirePair, AreLinked}
-use Rattle.sr_threaded.specs.Joined.{RingWires, IsRing, IsLan, IsUnused, AreUnused, AllUnused, ring_wires_of, ring_wires, lan_wires}
+use Rattle.sr_threaded.specs.Joined.{RingWires, IsRing, IsLan, IsUnused, AreUnused, AllUnused, AreAllUnused, ring_wires_of, ring_wires, lan_wires}
 use Rattle.sr_threaded.specs.Judged.{behind}
 use Rattle.sr_threaded.proofs.Zipped.{all_before}
 
@@ -231,3 +233,17 @@ pub lan_whole : {Z : Type 0} (rows rest made now : List (Vec Ends Z)) (own : Vec
 lan_whole rows rest made now own was len lan is =
     let same : length (lan_wires made) ≡ length (lan_wires rows) = length-map made (λ r. all_wires r.items) ∙ len ∙ sym (length-map rows (λ r. all_wires r.items)) in
     all_added (lan_wires rows) (lan_wires rest) (lan_wires made) (lan_wires now) (all_wires own.items) was same lan (ap (λ l. lan_wires l) is ∙ map-append (λ r. all_wires r.items) made (own ∷ []))
+
+-- the ends of one node more of a LAN are unused as those before are
+pub row_unused : {Z : Type 0} (rest behind made now : List (Vec Ends Z)) (own then : List Ends) (row new : Vec Ends Z) (there here : Ends)
+    → AreAllUnused rest → AreAllUnused made → All (λ e. IsUnused e) own → rest ≡ row ∷ behind → new.items ≡ row.items ++ there ∷ []
+    → IsUnused there → IsUnused here → now ≡ made ++ new ∷ [] → then ≡ own ++ here ∷ []
+    → AreAllUnused behind × AreAllUnused now × All (λ e. IsUnused e) then
+row_unused rest behind made now own then row new there here left done mine head grown first second is then_is =
+    let Row = λ (r : Vec Ends _). All (λ e. IsUnused e) r.items in
+    let old : Row row = All-get_or Row (row ∷ behind) 0 row (omega arith) (subst (λ l. AreAllUnused l) head left) in
+    let more : Row new = subst (λ l. All (λ e. IsUnused e) l) (sym grown) (All-push (λ e. IsUnused e) row.items there old first) in (
+      All-rest Row row behind rest head left,
+      subst (λ l. AreAllUnused l) (sym is) (All-push Row made new done more),
+      subst (λ l. All (λ e. IsUnused e) l) (sym then_is) (All-push (λ e. IsUnused e) own here mine second),
+    )

@@ -11,7 +11,9 @@ use Rattle.sr_lines.specs.declared.line.Line.TheVariants.{Host, Ring, Lan}
 use Rattle.sr_lines.specs.Handed.{tells_of, handed_of, asked_of, given_of, losses_of, ended_of, failed_of, frames_of, asked_by, lost_by, failed_by, lost_in, failed_in}
 use Rattle.sr_lines.specs.Names.{OfRing, OfLan, line_name, end_wires, all_wires}
 use Rattle.sr_lines.specs.Pairs.{WirePair}
+use Rattle.sr_node.specs.Images.{State}
 use Rattle.sr_ports.specs.declared.log.Log.{Log}
+use Rattle.sr_ports.specs.declared.settling.Settlement.{Settlement}
 use Rattle.sr_ports.specs.declared.worker.Worker.{Worker}
 use Rattle.sr_ports.specs.declared.worker.Worker.TheVariants as who
 use Rattle.sr_ports.specs.Stamps.{Stamp}
@@ -23,7 +25,7 @@ use Rattle.sr_workers.specs.Worked.{Worked, EndedAs, worker_begun}
 use Rattle.sr_threaded.specs.declared.kit.LineEnd.{LineEnd}
 use Rattle.sr_threaded.specs.declared.kit.NodeEnd.{NodeEnd}
 use Rattle.sr_threaded.specs.Joined.{RingWires, IsRing, IsLan, IsUnused, AreUnused, AllUnused, ring_wires_of, ring_wires}
-use Rattle.sr_threaded.specs.Ran.{LineStart, line_start, ring_start, lan_start, LineRan, NodeRan, AllRan, ring_starts, lan_starts, starts_at, ArePartsOf, WiredInRing, WiredInLans, RanInRing, RanInLans}
+use Rattle.sr_threaded.specs.Ran.{NodeStart, start_with, IsSettlementFrom, line_start, ring_start, lan_start, ring_starts, lan_starts, starts_at, LineRan, NodeRan, AllRan, ArePartsOf, WiredInRing, WiredInLans}
 
 -- what stands at a place within
 at : {A : Type 0} (xs : List A) (i : ℕ) → i < length xs → A
@@ -35,10 +37,10 @@ at (x ∷ xs) (suc i) low = at xs i (omega (arith, low))
 pub ok_of : {A E : Type 0} (P : A → Type 0) (r : Result A E) (a : A) → r ≡ Ok a → IfOk r P → P a
 ok_of P r a is holds = subst (λ x. IfOk x P) is holds
 
--- what follows there of three facts, and of two
-pub if_ok : {A E : Type 0} (P Q R S : A → Type 0) (r : Result A E) → IfOk r P → IfOk r Q → IfOk r R → ((a : A) → P a → Q a → R a → S a) → IfOk r S
-if_ok P Q R S (Ok a) p q r f = f a p q r
-if_ok P Q R S (Err e) p q r f = tt
+-- what follows there of four facts, and of two
+pub if_four : {A E : Type 0} (O P Q R S : A → Type 0) (r : Result A E) → IfOk r O → IfOk r P → IfOk r Q → IfOk r R → ((a : A) → O a → P a → Q a → R a → S a) → IfOk r S
+if_four O P Q R S (Ok a) o p q r f = f a o p q r
+if_four O P Q R S (Err e) o p q r f = tt
 
 pub if_both : {A E : Type 0} (P Q S : A → Type 0) (r : Result A E) → IfOk r P → IfOk r Q → ((a : A) → P a → Q a → S a) → IfOk r S
 if_both P Q S (Ok a) p q f = f a p q
@@ -72,33 +74,6 @@ module _ {F : Type 0} (feed : Ghosts F) where
         worked = subst P (λ k. (sym parts.log_is k, sym parts.line_is k, sym parts.unread_is k, sym parts.fault_is k, sym parts.held_is k)) was.worked;
       }
 
-  pub ran_in_ring : (begins : List (RingWires → List (LineStart feed.Name))) (starts : List (List (LineStart feed.Name))) (ends : List (NodeEnd F feed))
-      → WiredInRing begins starts → AllRan feed starts ends → RanInRing feed begins ends
-  ran_in_ring begins starts ends wired ran =
-      record {
-        wires = wired.wires;
-        count = wired.count ∙ sym ran.count;
-        ring = wired.ring;
-        each = λ i b w e low.
-            let within : i < length starts = subst (λ n. i < n) ran.count low in
-            subst (λ s. NodeRan feed s (get_or ends i e)) (wired.each i b w [] within) (ran.each i [] e within);
-      }
-
-  pub ran_in_lans : (begins : List (List WirePair → List WirePair → List (LineStart feed.Name))) (starts : List (List (LineStart feed.Name))) (ends : List (NodeEnd F feed))
-      → WiredInLans begins starts → AllRan feed starts ends → RanInLans feed begins ends
-  ran_in_lans begins starts ends wired ran =
-      record {
-        a = wired.a;
-        b = wired.b;
-        count_a = wired.count_a ∙ sym ran.count;
-        count_b = wired.count_b ∙ sym ran.count;
-        lan_a = wired.lan_a;
-        lan_b = wired.lan_b;
-        each = λ i b w e low.
-            let within : i < length starts = subst (λ n. i < n) ran.count low in
-            subst (λ s. NodeRan feed s (get_or ends i e)) (wired.each i b w [] within) (ran.each i [] e within);
-      }
-
   -- each of so many workers ended as it says
   abbrev pub AllEnded : {G : Type 0} → (G → FramingImage) → ℕ → ℕ → List (Kit Stamp (Line F) G) → List (Stamp × WorkerEnd (Line F)) → Type 0
   AllEnded meaning turns count kits dones =
@@ -111,11 +86,12 @@ module _ {F : Type 0} (feed : Ghosts F) where
       (i : ℕ) (d : Stamp × WorkerEnd (Line F)) (l : Log) (x : LineEnd F) → i < count → ArePartsOf (get_or dones i d).1 (get_or e.logs.items i l) (get_or e.ends.items i x)
 
   -- the workers of a node ended as they say, and these are the parts of their ends
-  pub node_ran : {G : Type 0} (meaning : G → FramingImage) (turns n m : ℕ) (kits : List (Kit Stamp (Line F) G)) (dones : List (Stamp × WorkerEnd (Line F))) (e : NodeEnd F feed)
+  pub node_ran : {G : Type 0} (node : State) (meaning : G → FramingImage) (turns n m : ℕ) (kits : List (Kit Stamp (Line F) G)) (dones : List (Stamp × WorkerEnd (Line F))) (own : Settlement) (e : NodeEnd F feed)
       → n ≡ length kits → m ≡ length dones → m ≡ n
       → AllEnded meaning turns n kits dones → vec_len e.logs ≡ m → vec_len e.ends ≡ m → AllParts m dones e
-      → NodeRan feed (map (λ k. line_start feed k.pass.worker (meaning k.framing) turns k.pass.count k.feed) kits) e
-  node_ran meaning turns n m kits dones e many most same ended logs ends parts =
+      → IsSettlementFrom node e.segment e.logs.items own
+      → NodeRan feed (start_with node (map (λ k. line_start feed k.pass.worker (meaning k.framing) turns k.pass.count k.feed) kits)) own e
+  node_ran node meaning turns n m kits dones own e many most same ended logs ends parts settles =
       let start = λ (k : Kit Stamp (Line F) _). line_start feed k.pass.worker (meaning k.framing) turns k.pass.count k.feed in
       let count : length (map start kits) ≡ length kits = length-map kits start in
       record {
@@ -131,12 +107,13 @@ module _ {F : Type 0} (feed : Ghosts F) where
             let whole = get_or kits i k in
             let ran = line_ran (meaning whole.framing) turns whole.pass (get_or dones i d).0 whole.feed (get_or dones i d).1 (get_or e.logs.items i l) (get_or e.ends.items i x) (ended i k d first) (parts i d l x second) in
             subst (λ y. LineRan feed y (get_or e.logs.items i l) (get_or e.ends.items i x)) (sym (get_or-map start kits i k s below)) ran;
+        settles = settles;
       }
 
   -- each node's run succeeded, and its workers did as they began
-  pub all_ran : {W E : Type 0} (starts : W → List (LineStart feed.Name)) (jobs : List W) (outcomes : List (Result (NodeEnd F feed) E)) (ends : List (NodeEnd F feed))
+  pub all_ran : {W E : Type 0} (starts : W → NodeStart feed.Name) (jobs : List W) (outcomes : List (Result (NodeEnd F feed) E)) (ends : List (NodeEnd F feed))
       → length outcomes ≡ length jobs → outcomes ≡ map (λ x. Ok x) ends
-      → ((i : ℕ) (d : Result (NodeEnd F feed) E) → i < length jobs → (job : W) × ((w : W) → get_or jobs i w ≡ job) × IfOk (get_or outcomes i d) (λ e. NodeRan feed (starts job) e))
+      → ((i : ℕ) (d : Result (NodeEnd F feed) E) → i < length jobs → (job : W) × ((w : W) → get_or jobs i w ≡ job) × IfOk (get_or outcomes i d) (λ e. NodeRan feed (starts job) e.settlement e))
       → AllRan feed (map starts jobs) ends
   all_ran starts jobs outcomes ends same are each =
       let count : length ends ≡ length jobs = sym (length-map ends (λ x. Ok x)) ∙ sym (ap length are) ∙ same in
@@ -148,8 +125,8 @@ module _ {F : Type 0} (feed : Ghosts F) where
             let within : i < length ends = subst (λ n. i < n) (sym count) below in
             let ran = each i (Ok e) below in
             let ok : get_or outcomes i (Ok e) ≡ Ok (get_or ends i e) = ap (λ l. get_or l i (Ok e)) are ∙ get_or-map (λ x. Ok x) ends i e (Ok e) within in
-            let node : NodeRan feed (starts ran.0) (get_or ends i e) = subst (λ r. IfOk r (λ x. NodeRan feed (starts ran.0) x)) ok ran.2 in
-            subst (λ y. NodeRan feed y (get_or ends i e)) (sym (get_or-map starts jobs i ran.0 s below ∙ ap starts (ran.1 ran.0))) node;
+            let node : NodeRan feed (starts ran.0) (get_or ends i e).settlement (get_or ends i e) = subst (λ r. IfOk r (λ x. NodeRan feed (starts ran.0) x.settlement x)) ok ran.2 in
+            subst (λ y. NodeRan feed y (get_or ends i e).settlement (get_or ends i e)) (sym (get_or-map starts jobs i ran.0 s below ∙ ap starts (ran.1 ran.0))) node;
       }
 
   line_at_ring : (w : Worker) (f : FramingImage) (turns : ℕ) (c : Cable) (e : Ends) → c.ends ≡ e → IsUnused e → asked_by c ≡ 0 → lost_by c ≡ 0 → failed_by c ≡ 0
@@ -168,22 +145,22 @@ module _ {F : Type 0} (feed : Ghosts F) where
       λ k. record { line = OfLan (all_wires (is k)); begun = worker_begun w f turns 0 false [] 0 [] (lost k) (failed k) }
 
   -- a node at new wires of a ring, and at those of two LANs
-  pub starts_in_ring : (a b host : FramingImage) (turns : ℕ) (f : F) (ca cb : Cable) (e : Ends × Ends)
+  pub starts_in_ring : (node : State) (a b host : FramingImage) (turns : ℕ) (f : F) (ca cb : Cable) (e : Ends × Ends)
       → ca.ends ≡ e.0 → asked_by ca ≡ 0 → lost_by ca ≡ 0 → failed_by ca ≡ 0
       → cb.ends ≡ e.1 → asked_by cb ≡ 0 → lost_by cb ≡ 0 → failed_by cb ≡ 0
-      → AreUnused e → starts_at feed a b host turns (Ring ca) (Ring cb) (Host f) ≡ ring_starts feed a b host turns f (ring_wires_of e)
-  starts_in_ring a b host turns f ca cb e is asked lost failed is' asked' lost' failed' new =
+      → AreUnused e → starts_at feed node a b host turns (Ring ca) (Ring cb) (Host f) ≡ ring_starts feed node a b host turns f (ring_wires_of e)
+  starts_in_ring node a b host turns f ca cb e is asked lost failed is' asked' lost' failed' new =
       let first = line_at_ring who.A a turns ca e.0 is new.at_a asked lost failed in
       let second = line_at_ring who.B b turns cb e.1 is' new.at_b asked' lost' failed' in
-      λ k. first k ∷ second k ∷ line_start feed who.Host host turns 0 (Host f) ∷ []
+      λ k. start_with node (first k ∷ second k ∷ line_start feed who.Host host turns 0 (Host f) ∷ [])
 
-  pub starts_in_lans : (a b host : FramingImage) (turns : ℕ) (f : F) (la lb : ALan) (ea eb : List Ends)
+  pub starts_in_lans : (node : State) (a b host : FramingImage) (turns : ℕ) (f : F) (la lb : ALan) (ea eb : List Ends)
       → la.ends.items ≡ ea → lost_in la ≡ 0 → failed_in la ≡ 0 → lb.ends.items ≡ eb → lost_in lb ≡ 0 → failed_in lb ≡ 0
-      → starts_at feed a b host turns (Lan la) (Lan lb) (Host f) ≡ lan_starts feed a b host turns f (all_wires ea) (all_wires eb)
-  starts_in_lans a b host turns f la lb ea eb is lost failed is' lost' failed' =
+      → starts_at feed node a b host turns (Lan la) (Lan lb) (Host f) ≡ lan_starts feed node a b host turns f (all_wires ea) (all_wires eb)
+  starts_in_lans node a b host turns f la lb ea eb is lost failed is' lost' failed' =
       let first = line_at_lan who.A a turns la ea is lost failed in
       let second = line_at_lan who.B b turns lb eb is' lost' failed' in
-      λ k. first k ∷ second k ∷ line_start feed who.Host host turns 0 (Host f) ∷ []
+      λ k. start_with node (first k ∷ second k ∷ line_start feed who.Host host turns 0 (Host f) ∷ [])
 
 -- nodes were put at the wires of a ring, and at those of two LANs
 pub wired_in_ring : {K W S : Type 0} (begins : K → RingWires → S) (starts : W → S) (kits : List K) (es : List (Ends × Ends)) (ws : List W)

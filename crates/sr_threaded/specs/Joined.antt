@@ -1,5 +1,5 @@
 -- Which wires join the nodes of a network.
-use Rattle.std.specs.Prelude.{◌≡◌, ◌<◌, ℕ, ◌+◌, ◌-◌, List, [], Vec, length, map, slice_index_or}
+use Rattle.std.specs.Prelude.{◌≡◌, ◌<◌, ℕ, ◌+◌, ◌-◌, List, [], Vec, length, map, slice_index_or, All}
 use Rattle.sr_lines.specs.declared.ends.Ends.{Ends}
 use Rattle.sr_lines.specs.Names.{end_wires, all_wires}
 use Rattle.sr_lines.specs.Pairs.{WirePair, AreLinked}
@@ -43,3 +43,7 @@ pub record AreUnused (e : Ends × Ends) : Type 0 where
 
 abbrev pub AllUnused : List (Ends × Ends) → Type 0
 AllUnused es = (i : ℕ) (e : Ends × Ends) → i < length es → AreUnused (slice_index_or es i e)
+
+-- so of all ends of each node of a LAN
+abbrev pub AreAllUnused : {Z : Type 0} → List (Vec Ends Z) → Type 0
+AreAllUnused rows = All (λ r. All (λ e. IsUnused e) r.items) rows

@@ -72,7 +72,7 @@ pub(crate) fn judgement_of(a: bool, b: bool) -> Judgement
 /// Judges the wires of a node of a ring by the logs of its workers and of those of the nodes before and behind it: what arrived at
 /// A beside what the node before took out for B, and what arrived at B beside what the node behind took out for A. The list has
 /// room for a frame.
-pub fn judge(before: &[Log], own: &[Log], behind: &[Log], buffer: &mut Vec<u8>) -> Judgement
+pub(crate) fn judge(before: &[Log], own: &[Log], behind: &[Log], buffer: &mut Vec<u8>) -> Judgement
     requires { MAX_FRAME_LEN ≤ vec_capacity buffer.old }
     ensures room { MAX_FRAME_LEN ≤ vec_capacity buffer.new }
     ensures judged { IsJudged before.now own.now behind.now result }
@@ -105,7 +105,10 @@ fn behind(i: usize, count: usize) -> usize
 }
 
 /// Judges the wires of each node of a ring. NoMemory: an allocation failed.
-pub fn judge_ring<F: Feed>(alloc: Global, ends: &[NodeEnd<F>]) -> Result<Vec<Judgement>, NoMemory>
+pub(crate) fn judge_ring<F: Feed>(
+    alloc: Global,
+    ends: &[NodeEnd<F>],
+) -> Result<Vec<Judgement>, NoMemory>
     ensures len { IfOk result (λ v. vec_len v ≡ length ends.now) }
     ensures each { IfOk result (λ v. (i : ℕ) (e : _) (j : _) → i < length ends.now → IsJudged
         (slice_index_or ends.now (before i (length ends.now)) e).logs.items
@@ -134,7 +137,7 @@ pub fn judge_ring<F: Feed>(alloc: Global, ends: &[NodeEnd<F>]) -> Result<Vec<Jud
 
 /// The settlement of a node by its logs and its wires: where the logs settle and the wires of a port disagree, it is that port's
 /// worker that disagrees.
-pub fn settlement_of(own: Settlement, judgement: Judgement) -> Settlement
+pub(crate) fn settlement_of(own: Settlement, judgement: Judgement) -> Settlement
     ensures { result ≡ settlement_of own judgement }
 {
     match (own, judgement) {

@@ -1,7 +1,6 @@
 //! What a node of a threaded network begins with, and what it ends with.
 
 ghost use Rattle.std.specs.Prelude.{◌≡◌};
-ghost use Rattle.sr_ports.specs.Settling.{IsSettlement};
 ghost use Rattle.sr_threaded.specs.Losses.{lost_from};
 
 use sr_forwarding::{Framing, Parcel, Role};
@@ -47,10 +46,10 @@ pub struct NodeEnd<F: Feed> {
     pub logs: Vec<Log>,
     /// What they ended with beside, in the same order.
     pub ends: Vec<LineEnd<F>>,
-    /// How the logs stand to the history.
+    /// How the logs stand to the history, which is torn at 0 where it opens with another node than was given, and the wires to
+    /// their other ends.
     pub settlement: Settlement,
     /// How many frames were lost on full wires that it was to send, up to the greatest number.
     pub lost: u64,
-    pub ghost settles: { ∥ IsSettlement segment.entries.items logs.items settlement ∥₁ },
     pub ghost counts: { lost ≡ lost_from 0 ends.items },
 }

@@ -9,13 +9,13 @@ mod losses;
 mod network;
 mod node;
 mod ring;
+mod settling;
 mod sources;
 mod twin;
 mod wiring;
 
 pub use fault::NetworkFault;
-pub use judging::{Judgement, judge, judge_ring, settlement_of};
+pub use judging::Judgement;
 pub use kit::{LineEnd, NodeEnd, NodeKit};
 pub use ring::run_ring;
-pub use sources::{judge_in_lan, judge_twin};
 pub use twin::run_twin;

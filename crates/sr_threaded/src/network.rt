@@ -2,6 +2,7 @@
 
 ghost use Rattle.std.specs.Prelude.{◌≡◌, map, vec_len, IfOk, IsErrOf};
 ghost use Rattle.sr_lines.specs.declared.line.Line.TheVariants.{Host};
+ghost use Rattle.sr_node.specs.States.{state_of};
 ghost use Rattle.sr_threaded.specs.Ran.{AllRan, NodeRan, starts_at};
 
 use crate::fault::of_crew;
@@ -31,10 +32,11 @@ pub(crate) fn wired<N: Role, G: Framing, F: Feed>(
     at_b: Line<F>,
     turns: u64,
 ) -> Wired<N, G, F>
-    ensures starts { starts_at F.Feed (G.meaning result.a) (G.meaning result.b)
-        (G.meaning result.host) result.turns result.at_a result.at_b result.at_host
-        ≡ starts_at F.Feed (G.meaning kit.a) (G.meaning kit.b) (G.meaning kit.host) turns
-        at_a at_b (Host kit.feed) }
+    ensures starts { starts_at F.Feed (state_of N.meaning result.node) (G.meaning result.a)
+        (G.meaning result.b) (G.meaning result.host) result.turns result.at_a result.at_b
+        result.at_host
+        ≡ starts_at F.Feed (state_of N.meaning kit.node) (G.meaning kit.a) (G.meaning kit.b)
+        (G.meaning kit.host) turns at_a at_b (Host kit.feed) }
 {
     let NodeKit {
         node,
@@ -66,13 +68,14 @@ pub(crate) fn run_wired<
     ensures size { IsErrOf result NetworkFault.Size → ⊥ }
     ensures len { IfOk result (λ v. vec_len v ≡ vec_len nodes) }
     ensures ran { IfOk result (λ v. AllRan F.Feed
-        (map (λ w. starts_at F.Feed (G.meaning w.a) (G.meaning w.b) (G.meaning w.host) w.turns
-        w.at_a w.at_b w.at_host) nodes.items) v.items) }
+        (map (λ w. starts_at F.Feed (state_of N.meaning w.node) (G.meaning w.a) (G.meaning w.b)
+        (G.meaning w.host) w.turns w.at_a w.at_b w.at_host) nodes.items) v.items) }
 {
     let work = |wired: Wired<N, G, F>| -> Result<NodeEnd<F>, CrewFault>
-        ensures { IfOk result (λ e. NodeRan F.Feed (starts_at F.Feed (G.meaning wired.a)
-            (G.meaning wired.b) (G.meaning wired.host) wired.turns wired.at_a wired.at_b
-            wired.at_host) e) }
+        ensures { IfOk result (λ e. NodeRan F.Feed (starts_at F.Feed
+            (state_of N.meaning wired.node) (G.meaning wired.a) (G.meaning wired.b)
+            (G.meaning wired.host) wired.turns wired.at_a wired.at_b wired.at_host)
+            e.settlement e) }
     { run_branded(rt, wired) };
     match thread::map_vec(rt, nodes, &work) {
         Ok(outcomes) => match all_of(alloc, outcomes) {

@@ -3,16 +3,17 @@
 ghost use Rattle.std.specs.Prelude.{◌≡◌, ◌<◌, ◌∷◌, [], ℕ, IfOk, map, vec_len, slice_index_or};
 ghost use Rattle.sr_node.specs.NodeImages.{image_state};
 ghost use Rattle.sr_node.specs.States.{state_of};
-ghost use Rattle.sr_threaded.specs.Ran.{ArePartsOf, NodeRan, line_start, starts_at};
+ghost use Rattle.sr_threaded.specs.Ran.{ArePartsOf, IsSettlementFrom, NodeRan, line_start, start_with, starts_at};
 
 use crate::lists::{both_of, split_all};
 use crate::losses::lost_in_all;
+use crate::settling::settlement_from;
 use crate::{LineEnd, NodeEnd};
 use sr_forwarding::{Framing, Role};
 use sr_frame::NoMemory;
 use sr_lines::Line;
-use sr_node::NodeOf;
-use sr_ports::{Kept, Log, Pass, Passes, Segment, SharedNode, rotate, settle};
+use sr_node::{NodeImage, NodeOf};
+use sr_ports::{Kept, Log, Pass, Passes, Segment, SharedNode, rotate};
 use sr_workers::{CrewFault, Feed, Kit, WorkerEnd, run_workers};
 use std::alloc::Global;
 use std::marker::Brand;
@@ -103,13 +104,20 @@ fn parts_of<L: Ledger, F: Feed>(done: (Pass<L>, WorkerEnd<Line<F>>)) -> (Log, Li
     (log, beside)
 }
 
-// What a node ends with.
-fn end_of<F: Feed>(segment: Segment, logs: Vec<Log>, ends: Vec<LineEnd<F>>) -> NodeEnd<F>
+// What a node ends with that was given so.
+fn end_of<F: Feed>(
+    given: &NodeImage,
+    segment: Segment,
+    logs: Vec<Log>,
+    ends: Vec<LineEnd<F>>,
+) -> NodeEnd<F>
     ensures segment { result.segment ≡ segment }
     ensures logs { result.logs ≡ logs }
     ensures ends { result.ends ≡ ends }
+    ensures settles { IsSettlementFrom (image_state given.now) result.segment result.logs.items
+        result.settlement }
 {
-    let settlement = settle(segment.entries.as_slice(), logs.as_slice());
+    let settlement = settlement_from(given, &segment, logs.as_slice());
     let lost = lost_in_all(ends.as_slice());
     NodeEnd {
         segment,
@@ -120,9 +128,10 @@ fn end_of<F: Feed>(segment: Segment, logs: Vec<Log>, ends: Vec<LineEnd<F>>) -> N
     }
 }
 
-// What a node ends with, of its history and of its workers' ends.
+// What a node ends with that was given so, of its history and of its workers' ends.
 fn closed<L: Ledger, F: Feed>(
     alloc: Global,
+    given: &NodeImage,
     segment: Segment,
     ends: Vec<(Pass<L>, WorkerEnd<Line<F>>)>,
 ) -> Result<NodeEnd<F>, CrewFault>
@@ -132,12 +141,14 @@ fn closed<L: Ledger, F: Feed>(
     ensures each { IfOk result (λ e. (i : ℕ) (d : _) (l : _) (x : _) → i < vec_len ends
         → ArePartsOf (slice_index_or ends.items i d).1 (slice_index_or e.logs.items i l)
         (slice_index_or e.ends.items i x)) }
+    ensures settles { IfOk result (λ e.
+        IsSettlementFrom (image_state given.now) e.segment e.logs.items e.settlement) }
 {
     let split = |done: (Pass<L>, WorkerEnd<Line<F>>)| -> (Log, LineEnd<F>)
         ensures { ArePartsOf done.1 result.0 result.1 }
     { parts_of(done) };
     match split_all(alloc, ends, &split) {
-        Ok((logs, ends)) => Ok(end_of(segment, logs, ends)),
+        Ok((logs, ends)) => Ok(end_of(given, segment, logs, ends)),
         Err(refused) => {
             drop(segment);
             Err(refused.into())
@@ -157,7 +168,7 @@ fn history_of<N: Role, L: Ledger>(kept: Kept<N, L>) -> Result<Segment, NoMemory>
     segment
 }
 
-// The workers of a node, and what it ends with.
+// The workers of a node that was given so, and what it ends with.
 fn work<
     N: Role + Send,
     L: Ledger + Send + Sync,
@@ -167,36 +178,38 @@ fn work<
 >(
     rt: &W,
     alloc: Global,
+    given: &NodeImage,
     shared: SharedNode<N, L>,
     kits: Vec<Kit<Pass<L>, Line<F>, G>>,
     turns: u64,
 ) -> Result<NodeEnd<F>, CrewFault>
     requires { vec_len kits ≡ 3 }
-    ensures { IfOk result (λ e. NodeRan F.Feed (map (λ k. line_start F.Feed k.pass.worker
-        (G.meaning k.framing) turns k.pass.count k.feed) kits.items) e) }
+    ensures { IfOk result (λ e. NodeRan F.Feed (start_with (image_state given.now)
+        (map (λ k. line_start F.Feed k.pass.worker (G.meaning k.framing) turns k.pass.count k.feed)
+        kits.items)) e.settlement e) }
 {
     let crew = run_workers(rt, alloc, &shared, kits, turns);
     let history = history_of(shared.into_kept());
     match both_of(crew, history) {
-        Ok((ends, segment)) => closed(alloc, segment, ends),
+        Ok((ends, segment)) => closed(alloc, given, segment, ends),
         Err(fault) => Err(fault),
     }
 }
 
-// One node under its lock, with three workers.
+// One node, which was given so, under its lock, with three workers.
 fn run_node<
     N: Role + Send,
     L: Ledger + Send + Sync,
     G: Framing + Send,
     F: Feed + Send,
     W: Threads + Wait + Sync,
->(rt: &W, wired: Wired<N, G, F>, blank: Blank) -> Result<NodeEnd<F>, CrewFault>
+>(rt: &W, given: &NodeImage, wired: Wired<N, G, F>, blank: Blank) -> Result<NodeEnd<F>, CrewFault>
     requires name { blank.name ≡ L.name }
     requires parts { blank.parts ≡ L.parts }
     requires five { L.parts ≡ 5 }
-    ensures { IfOk result (λ e. NodeRan F.Feed (starts_at F.Feed (G.meaning wired.a)
-        (G.meaning wired.b) (G.meaning wired.host) wired.turns wired.at_a wired.at_b
-        wired.at_host) e) }
+    ensures { IfOk result (λ e. NodeRan F.Feed (starts_at F.Feed (image_state given.now)
+        (G.meaning wired.a) (G.meaning wired.b) (G.meaning wired.host) wired.turns wired.at_a
+        wired.at_b wired.at_host) e.settlement e) }
 {
     let Wired {
         node,
@@ -223,7 +236,7 @@ fn run_node<
     };
     match SharedNode::<N, L>::new(alloc, node, blank) {
         Ok((shared, passes)) => match kits_of(alloc, passes, a, b, host) {
-            Ok(kits) => work(rt, alloc, shared, kits, turns),
+            Ok(kits) => work(rt, alloc, given, shared, kits, turns),
             Err(refused) => {
                 drop(shared);
                 Err(refused.into())
@@ -236,16 +249,23 @@ fn run_node<
     }
 }
 
-/// One node under its lock, with three workers on a thread each, until they have ended.
+/// One node under its lock, with three workers on a thread each, until they have ended. What lies under a lock is seen by no clause, so
+/// the node's image is taken before, and its history is torn at 0 where it opens with another.
 pub(crate) fn run_branded<
     N: Role + Send,
     G: Framing + Send,
     F: Feed + Send,
     W: Threads + Wait + Sync,
 >(rt: &W, wired: Wired<N, G, F>) -> Result<NodeEnd<F>, CrewFault>
-    ensures { IfOk result (λ e. NodeRan F.Feed (starts_at F.Feed (G.meaning wired.a)
-        (G.meaning wired.b) (G.meaning wired.host) wired.turns wired.at_a wired.at_b
-        wired.at_host) e) }
+    ensures { IfOk result (λ e. NodeRan F.Feed (starts_at F.Feed (state_of N.meaning wired.node)
+        (G.meaning wired.a) (G.meaning wired.b) (G.meaning wired.host) wired.turns wired.at_a
+        wired.at_b wired.at_host) e.settlement e) }
 {
-    run_node::<N, Brand, G, F, W>(rt, wired, Blank::new(5))
+    match wired.node.image() {
+        Ok(given) => run_node::<N, Brand, G, F, W>(rt, &given, wired, Blank::new(5)),
+        Err(refused) => {
+            drop(wired);
+            Err(refused.into())
+        }
+    }
 }

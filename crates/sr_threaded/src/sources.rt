@@ -139,7 +139,7 @@ fn agrees_in_lan<F: Feed>(
 
 /// Judges the wires of one of the nodes of two LANs: at each port, whether what arrived comes from other nodes, and that of each,
 /// by itself, is in order among what it sent there. The list has room for a frame.
-pub fn judge_in_lan<F: Feed>(
+pub(crate) fn judge_in_lan<F: Feed>(
     ends: &[NodeEnd<F>],
     own: &NodeEnd<F>,
     buffer: &mut Vec<u8>,
@@ -154,7 +154,10 @@ pub fn judge_in_lan<F: Feed>(
 }
 
 /// Judges the wires of each node of two LANs. NoMemory: an allocation failed.
-pub fn judge_twin<F: Feed>(alloc: Global, ends: &[NodeEnd<F>]) -> Result<Vec<Judgement>, NoMemory>
+pub(crate) fn judge_twin<F: Feed>(
+    alloc: Global,
+    ends: &[NodeEnd<F>],
+) -> Result<Vec<Judgement>, NoMemory>
     ensures len { IfOk result (λ v. vec_len v ≡ length ends.now) }
     ensures each { IfOk result (λ v. (i : ℕ) (e : _) (j : _) → i < length ends.now
         → IsJudgedInLans ends.now (slice_index_or ends.now i e) (slice_index_or v.items i j)) }

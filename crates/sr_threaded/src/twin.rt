@@ -1,17 +1,18 @@
 //! Two LANs, run by threads.
 
-ghost use Rattle.std.specs.Prelude.{◌≡◌, ◌<◌, ◌↔◌, ◌⊎◌, ℕ, map, vec_len, slice_index_or, IfOk, IsErrOf};
+ghost use Rattle.std.specs.Prelude.{◌≡◌, ◌<◌, ◌↔◌, ◌⊎◌, map, vec_len, IfOk, IsErrOf};
 ghost use Rattle.sr_lines.specs.Names.{all_wires};
+ghost use Rattle.sr_node.specs.States.{state_of};
 ghost use Rattle.sr_threaded.specs.Joined.{IsLan};
-ghost use Rattle.sr_threaded.specs.Ran.{RanInLans, WiredInLans, lan_starts, starts_at};
-ghost use Rattle.sr_threaded.specs.Sources.{IsJudgedInLans};
+ghost use Rattle.sr_threaded.specs.Ran.{AreJudgedInLans, RanInLans, WiredInLans, lan_starts, starts_at};
 
 use crate::lists::join_all;
 use crate::network::{FEWEST_NODES, MAX_NODES, run_wired, wired};
 use crate::node::Wired;
+use crate::settling::judged_ends;
 use crate::sources::judge_twin;
 use crate::wiring::lan_wires;
-use crate::{Judgement, NetworkFault, NodeEnd, NodeKit};
+use crate::{NetworkFault, NodeEnd, NodeKit};
 use sr_forwarding::{Framing, Role};
 use sr_frame::NoMemory;
 use sr_lines::{Ends, Lan, Line};
@@ -49,10 +50,11 @@ fn in_lans<N: Role, G: Framing, F: Feed>(
     at: TwinEnds,
     turns: u64,
 ) -> Wired<N, G, F>
-    ensures starts { starts_at F.Feed (G.meaning result.a) (G.meaning result.b)
-        (G.meaning result.host) result.turns result.at_a result.at_b result.at_host
-        ≡ lan_starts F.Feed (G.meaning kit.a) (G.meaning kit.b) (G.meaning kit.host) turns
-        kit.feed (all_wires at.a.items) (all_wires at.b.items) }
+    ensures starts { starts_at F.Feed (state_of N.meaning result.node)
+        (G.meaning result.a) (G.meaning result.b) (G.meaning result.host) result.turns
+        result.at_a result.at_b result.at_host
+        ≡ lan_starts F.Feed (state_of N.meaning kit.node) (G.meaning kit.a) (G.meaning kit.b)
+        (G.meaning kit.host) turns kit.feed (all_wires at.a.items) (all_wires at.b.items) }
 {
     let TwinEnds { a, b } = at;
     let at_a = Line::Lan(Lan::new(alloc, a));
@@ -68,10 +70,10 @@ fn all_in_lans<N: Role, G: Framing, F: Feed>(
 ) -> Result<Vec<Wired<N, G, F>>, NoMemory>
     ensures len { IfOk result (λ v. vec_len v ≡ vec_len kits) }
     ensures wired { IfOk result (λ v. WiredInLans
-        (map (λ k. lan_starts F.Feed (G.meaning k.a) (G.meaning k.b) (G.meaning k.host) turns
-        k.feed) kits.items)
-        (map (λ w. starts_at F.Feed (G.meaning w.a) (G.meaning w.b) (G.meaning w.host) w.turns
-        w.at_a w.at_b w.at_host) v.items)) }
+        (map (λ k. lan_starts F.Feed (state_of N.meaning k.node) (G.meaning k.a) (G.meaning k.b)
+        (G.meaning k.host) turns k.feed) kits.items)
+        (map (λ w. starts_at F.Feed (state_of N.meaning w.node) (G.meaning w.a) (G.meaning w.b)
+        (G.meaning w.host) w.turns w.at_a w.at_b w.at_host) v.items)) }
 {
     let ends = match twin_wires(alloc, kits.len()) {
         Ok(ends) => ends,
@@ -81,36 +83,35 @@ fn all_in_lans<N: Role, G: Framing, F: Feed>(
         }
     };
     let join = |kit: NodeKit<N, G, F>, at: TwinEnds| -> Wired<N, G, F>
-        ensures { starts_at F.Feed (G.meaning result.a) (G.meaning result.b)
-            (G.meaning result.host) result.turns result.at_a result.at_b result.at_host
-            ≡ lan_starts F.Feed (G.meaning kit.a) (G.meaning kit.b) (G.meaning kit.host) turns
-            kit.feed (all_wires at.a.items) (all_wires at.b.items) }
+        ensures { starts_at F.Feed (state_of N.meaning result.node)
+            (G.meaning result.a) (G.meaning result.b) (G.meaning result.host) result.turns
+            result.at_a result.at_b result.at_host
+            ≡ lan_starts F.Feed (state_of N.meaning kit.node) (G.meaning kit.a) (G.meaning kit.b)
+            (G.meaning kit.host) turns kit.feed (all_wires at.a.items) (all_wires at.b.items) }
     { in_lans(alloc, kit, at, turns) };
     join_all(alloc, kits, ends, &join)
 }
 
-// The ends of the nodes, with what is judged of their wires.
-fn judged<F: Feed>(
-    alloc: Global,
-    ends: Vec<NodeEnd<F>>,
-) -> Result<(Vec<NodeEnd<F>>, Vec<Judgement>), NetworkFault>
-    ensures ends { IfOk result (λ r. r.0 ≡ ends) }
-    ensures count { IfOk result (λ r. vec_len r.0 ≡ vec_len ends) }
-    ensures each { IfOk result (λ r. (i : ℕ) (e : _) (j : _) → i < vec_len r.0
-        → IsJudgedInLans r.0.items (slice_index_or r.0.items i e)
-        (slice_index_or r.1.items i j)) }
-    ensures len { IfOk result (λ r. vec_len r.1 ≡ vec_len r.0) }
-    ensures size { IsErrOf result NetworkFault.Size → ⊥ }
+// The ends of the nodes, of which each settles by its wires too.
+fn judged<F: Feed>(alloc: Global, ends: Vec<NodeEnd<F>>) -> Result<Vec<NodeEnd<F>>, NoMemory>
+    ensures len { IfOk result (λ v. vec_len v ≡ vec_len ends) }
+    ensures judged { IfOk result (λ v. AreJudgedInLans ends.items v.items) }
 {
-    match judge_twin(alloc, &ends) {
-        Ok(judged) => Ok((ends, judged)),
-        Err(fault) => Err(fault.into()),
-    }
+    let judgements = match judge_twin(alloc, &ends) {
+        Ok(judgements) => judgements,
+        Err(refused) => {
+            drop(ends);
+            return Err(refused);
+        }
+    };
+    judged_ends(alloc, ends, judgements)
 }
 
 /// Runs nodes of two LANs: each has three workers, each on a thread of its own, for so many turns, and in each LAN a wire goes from
-/// each node to each other one. Answers the nodes' ends in the order of the kits, and with each what is judged of its wires, of
-/// which `settlement_of` makes its settlement.
+/// each node to each other one. Answers the nodes' ends in the order of the kits.
+///
+/// The settlement of a node is `Torn(0)` exactly where its history does not open with the node of its kit. Else it is that of its
+/// logs, and where these settle and the wires of a port disagree, that port's worker disagrees, A before B.
 ///
 /// `Size` exactly where the kits are fewer than 2 or more than 16. `NoMemory` and `NoThread` come once the threads that began
 /// have ended; the kits are dropped then.
@@ -119,23 +120,18 @@ pub fn run_twin<N: Role + Send, G: Framing + Send, F: Feed + Send, W: Threads + 
     alloc: Global,
     kits: Vec<NodeKit<N, G, F>>,
     turns: u64,
-) -> Result<(Vec<NodeEnd<F>>, Vec<Judgement>), NetworkFault>
+) -> Result<Vec<NodeEnd<F>>, NetworkFault>
     ensures size { IsErrOf result NetworkFault.Size
         ↔ ((vec_len kits < 2) ⊎ (16 < vec_len kits)) }
 
-    // As many ends as kits, and as many judgements.
-    ensures count { IfOk result (λ r. vec_len r.0 ≡ vec_len kits) }
-    ensures len { IfOk result (λ r. vec_len r.1 ≡ vec_len r.0) }
+    // As many ends as kits.
+    ensures count { IfOk result (λ v. vec_len v ≡ vec_len kits) }
 
-    // Each node is told exactly whether its wires agree.
-    ensures each { IfOk result (λ r. (i : ℕ) (e : _) (j : _) → i < vec_len r.0
-        → IsJudgedInLans r.0.items (slice_index_or r.0.items i e)
-        (slice_index_or r.1.items i j)) }
-
-    // In each LAN wires join every two nodes, and each worker did what a worker does, at its wires or at its host's feed.
-    ensures ran { IfOk result (λ r. RanInLans F.Feed
-        (map (λ k. lan_starts F.Feed (G.meaning k.a) (G.meaning k.b) (G.meaning k.host) turns
-        k.feed) kits.items) r.0.items) }
+    // In each LAN wires join every two nodes, each worker did what a worker does, at its wires or at its host's feed, and each node's
+    // settlement says whether its history opens with the node of its kit, and how its logs and its wires stand to it.
+    ensures ran { IfOk result (λ v. RanInLans F.Feed
+        (map (λ k. lan_starts F.Feed (state_of N.meaning k.node) (G.meaning k.a) (G.meaning k.b)
+        (G.meaning k.host) turns k.feed) kits.items) v.items) }
 {
     if kits.len() < FEWEST_NODES || kits.len() > MAX_NODES {
         return Err(NetworkFault::Size);
@@ -147,7 +143,7 @@ pub fn run_twin<N: Role + Send, G: Framing + Send, F: Feed + Send, W: Threads + 
     match run_wired(rt, alloc, nodes) {
         Ok(ends) => match judged(alloc, ends) {
             Ok(all) => Ok(all),
-            Err(fault) => Err(fault),
+            Err(refused) => Err(refused.into()),
         },
         Err(fault) => Err(fault),
     }

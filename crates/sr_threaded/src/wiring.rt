@@ -4,7 +4,7 @@ ghost use Rattle.std.specs.Prelude.{◌≡◌, ◌<◌, ◌+◌, ◌++◌, ◌�
 ghost use Rattle.std.specs.Arc.{arc_value};
 ghost use Rattle.sr_lines.specs.Names.{end_wires};
 ghost use Rattle.sr_lines.specs.Pairs.{AreLinked};
-ghost use Rattle.sr_threaded.specs.Joined.{IsRing, IsLan, AllUnused, AreUnused, IsUnused, ring_wires, lan_wires};
+ghost use Rattle.sr_threaded.specs.Joined.{IsRing, IsLan, AllUnused, AreAllUnused, IsUnused, ring_wires, lan_wires};
 
 use sr_frame::NoMemory;
 use sr_lines::Ends;
@@ -72,9 +72,11 @@ fn with_end(row: Vec<Ends>, end: Ends) -> Result<Vec<Ends>, NoMemory>
 
 // The ends of these nodes of a LAN and of one more, which is joined to each of them.
 fn with_node(alloc: Global, rows: Vec<Vec<Ends>>) -> Result<Vec<Vec<Ends>>, NoMemory>
-    requires { IsLan (lan_wires rows.items) }
+    requires lan { IsLan (lan_wires rows.items) }
+    requires unused { AreAllUnused rows.items }
     ensures len { IfOk result (λ v. vec_len v ≡ vec_len rows + 1) }
     ensures lan { IfOk result (λ v. IsLan (lan_wires v.items)) }
+    ensures unused { IfOk result (λ v. AreAllUnused v.items) }
 {
     let mut all = Vec::new(alloc);
     let mut own = Vec::new(alloc);
@@ -95,6 +97,7 @@ fn with_node(alloc: Global, rows: Vec<Vec<Ends>>) -> Result<Vec<Vec<Ends>>, NoMe
 pub(crate) fn lan_wires(alloc: Global, count: usize) -> Result<Vec<Vec<Ends>>, NoMemory>
     ensures len { IfOk result (λ v. vec_len v ≡ count) }
     ensures lan { IfOk result (λ v. IsLan (lan_wires v.items)) }
+    ensures unused { IfOk result (λ v. AreAllUnused v.items) }
 {
     let mut rows = Vec::new(alloc);
     for _node in 0..count {

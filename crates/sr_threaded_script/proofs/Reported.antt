@@ -3,9 +3,6 @@ use Rattle.std.proofs.Common.{◌≡◌, ◌+◌, ◌<◌, ◌≤◌, ◌++◌, 
 use Rattle.std.specs.Prelude.{All, slice_get}
 use Rattle.std.proofs.lemmas.List.{drop_all, drop_more}
 use Rattle.std.proofs.lemmas.List.Elements.{All-more}
-use Rattle.sr_ports.specs.declared.settling.Settlement.{Settlement}
-use Rattle.sr_threaded.specs.Judged.{settlement_of}
-use Rattle.sr_threaded.specs.declared.judging.Judgement.{Judgement}
 use Rattle.sr_threaded.specs.declared.kit.NodeEnd.{NodeEnd}
 use Rattle.sr_workers.specs.declared.fault.WorkerFault.{WorkerFault}
 use Rattle.sr_workers.specs.declared.feed.Feed.{Ghosts}
@@ -13,30 +10,25 @@ use Rattle.sr_threaded_script.specs.declared.host.Host.{Host}
 use Rattle.sr_threaded_script.specs.Reports.{end_lines, faults_of, given_to, node_lines, report_from}
 
 -- what was told and what is left to tell is all
-pub one_more : {feed : Ghosts Host} (ends : List (NodeEnd Host feed)) (judged : List Judgement) (n : ℕ) (e : NodeEnd Host feed)
-    (j : Judgement) (text later all : List ℕ) (given : List (List ℕ)) (s : Settlement)
-    → n < length ends → n < length judged → e ≡ get_or ends n e → j ≡ get_or judged n j
-    → text ++ report_from n (drop n ends) (drop n judged) ≡ all
-    → given ≡ given_to e → s ≡ settlement_of e.settlement j → later ≡ text ++ node_lines n given s e.lost
-    → later ++ report_from (n + 1) (drop (n + 1) ends) (drop (n + 1) judged) ≡ all
-one_more ends judged n e j text later all given s in_ends in_judged e_is j_is so_far own settled told =
+pub one_more : {feed : Ghosts Host} (ends : List (NodeEnd Host feed)) (n : ℕ) (e : NodeEnd Host feed)
+    (text later all : List ℕ) (given : List (List ℕ))
+    → n < length ends → e ≡ get_or ends n e
+    → text ++ report_from n (drop n ends) ≡ all
+    → given ≡ given_to e → later ≡ text ++ node_lines n given e.settlement e.lost
+    → later ++ report_from (n + 1) (drop (n + 1) ends) ≡ all
+one_more ends n e text later all given in_ends e_is so_far own told =
     let es = drop (n + 1) ends in
-    let js = drop (n + 1) judged in
     let at_e : drop n ends ≡ e ∷ es = drop_more ends n e in_ends ∙ ap (λ x. x ∷ es) (sym e_is) in
-    let at_j : drop n judged ≡ j ∷ js = drop_more judged n j in_judged ∙ ap (λ x. x ∷ js) (sym j_is) in
-    let next : report_from n (drop n ends) (drop n judged) ≡ end_lines n e j ++ report_from (n + 1) es js =
-    ap (λ xs. report_from n xs (drop n judged)) at_e ∙ ap (λ ys. report_from n (e ∷ es) ys) at_j in
-    let lines : later ≡ text ++ end_lines n e j =
-    told ∙ ap (λ (g : List (List ℕ)). text ++ node_lines n g s e.lost) own
-    ∙ ap (λ (t : Settlement). text ++ node_lines n (given_to e) t e.lost) settled in
-    ap (λ t. t ++ report_from (n + 1) es js) lines ∙ append_assoc text (end_lines n e j) (report_from (n + 1) es js)
+    let next : report_from n (drop n ends) ≡ end_lines n e ++ report_from (n + 1) es = ap (λ xs. report_from n xs) at_e in
+    let lines : later ≡ text ++ end_lines n e = told ∙ ap (λ (g : List (List ℕ)). text ++ node_lines n g e.settlement e.lost) own in
+    ap (λ t. t ++ report_from (n + 1) es) lines ∙ append_assoc text (end_lines n e) (report_from (n + 1) es)
     ∙ ap (λ r. text ++ r) (sym next) ∙ so_far
 
 -- behind the last one all is told
-pub all_told : {feed : Ghosts Host} (ends : List (NodeEnd Host feed)) (judged : List Judgement) (n : ℕ) (text all : List ℕ)
-    → length ends ≤ n → text ++ report_from n (drop n ends) (drop n judged) ≡ all → text ≡ all
-all_told ends judged n text all behind so_far =
-    sym (append-nil text) ∙ ap (λ xs. text ++ report_from n xs (drop n judged)) (sym (drop_all n ends behind)) ∙ so_far
+pub all_told : {feed : Ghosts Host} (ends : List (NodeEnd Host feed)) (n : ℕ) (text all : List ℕ)
+    → length ends ≤ n → text ++ report_from n (drop n ends) ≡ all → text ≡ all
+all_told ends n text all behind so_far =
+    sym (append-nil text) ∙ ap (λ xs. text ++ report_from n xs) (sym (drop_all n ends behind)) ∙ so_far
 
 no_first : (xs : List WorkerFault) → slice_get xs 0 ≡ None → xs ≡ []
 no_first [] none = refl

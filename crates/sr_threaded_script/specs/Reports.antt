@@ -1,7 +1,7 @@
 -- What is printed of the nodes of a threaded network.
 use Rattle.std.specs.Prelude.{◌≡◌, ℕ, ◌-◌, List, [], ◌∷◌, ◌++◌, length, All, codes, slice_get}
 use Rattle.std.specs.Fmt.{decimal}
-use Rattle.std.specs.List.{enumerate_from, filter_map, flat_map, zip}
+use Rattle.std.specs.List.{enumerate_from, filter_map, flat_map}
 use Rattle.std.specs.Option.{option_map_or}
 use Rattle.sr_lines.specs.declared.line.Line.{Line}
 use Rattle.sr_lines.specs.declared.line.Line.TheVariants as line
@@ -11,10 +11,8 @@ use Rattle.sr_ports.specs.declared.settling.Settlement.{Settlement}
 use Rattle.sr_ports.specs.declared.settling.Settlement.TheVariants.{Settled, Disagrees, Torn}
 use Rattle.sr_script.specs.Texts.{printed}
 use Rattle.sr_plant_script.specs.Texts.{up_line}
-use Rattle.sr_threaded.specs.declared.judging.Judgement.{Judgement}
 use Rattle.sr_threaded.specs.declared.kit.LineEnd.{LineEnd}
 use Rattle.sr_threaded.specs.declared.kit.NodeEnd.{NodeEnd}
-use Rattle.sr_threaded.specs.Judged.{settlement_of}
 use Rattle.sr_workers.specs.declared.fault.WorkerFault.{WorkerFault}
 use Rattle.sr_workers.specs.declared.feed.Feed.{Ghosts}
 use Rattle.sr_threaded_script.specs.declared.host.Host.{Host}
@@ -67,15 +65,14 @@ faults_of e = filter_map (λ (x : LineEnd Host). x.fault) e.ends.items
 abbrev pub AllWhole : {feed : Ghosts Host} → List (NodeEnd Host feed) → Type 0
 AllWhole ends = All (λ e. faults_of e ≡ []) ends
 
--- what is printed of the node of this number that ended so, and of whose wires this is judged: its own of each
-abbrev pub end_lines : {feed : Ghosts Host} → ℕ → NodeEnd Host feed → Judgement → List ℕ
-end_lines node e j = node_lines node (given_to e) (settlement_of e.settlement j) e.lost
+-- what is printed of the node of this number that ended so: its own of each
+abbrev pub end_lines : {feed : Ghosts Host} → ℕ → NodeEnd Host feed → List ℕ
+end_lines node e = node_lines node (given_to e) e.settlement e.lost
 
 -- what is printed of nodes, of which the first has this number, one after the other
-abbrev pub report_from : {feed : Ghosts Host} → ℕ → List (NodeEnd Host feed) → List Judgement → List ℕ
-report_from {feed} first ends judged =
-    flat_map (λ (x : ℕ × (NodeEnd Host feed × Judgement)). end_lines x.0 x.1.0 x.1.1) (enumerate_from first (zip ends judged))
+abbrev pub report_from : {feed : Ghosts Host} → ℕ → List (NodeEnd Host feed) → List ℕ
+report_from {feed} first ends = flat_map (λ (x : ℕ × NodeEnd Host feed). end_lines x.0 x.1) (enumerate_from first ends)
 
 -- what is printed of all nodes
-abbrev pub report_of : {feed : Ghosts Host} → List (NodeEnd Host feed) → List Judgement → List ℕ
-report_of ends judged = report_from 0 ends judged
+abbrev pub report_of : {feed : Ghosts Host} → List (NodeEnd Host feed) → List ℕ
+report_of ends = report_from 0 ends

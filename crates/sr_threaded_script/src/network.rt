@@ -5,7 +5,7 @@ ghost use Rattle.sr_plant.specs.Limits.{most_nodes};
 ghost use Rattle.sr_plant_script.specs.Members.{routed_as};
 ghost use Rattle.sr_threaded_script.specs.Beginnings.{beginning_of, starting_node, starting_nodes};
 ghost use Rattle.sr_threaded_script.specs.Members.{member_kind};
-ghost use Rattle.sr_threaded_script.specs.Networks.{AreJudged, IsReport, RanIn};
+ghost use Rattle.sr_threaded_script.specs.Networks.{IsReport, RanIn};
 ghost use Rattle.sr_threaded_script.specs.Reports.{AllWhole, faults_of, given_on_line, given_to, report_of};
 ghost use Rattle.sr_threaded_script.specs.Sent.{own_frames};
 
@@ -19,7 +19,7 @@ use sr_lines::Line;
 use sr_node::NodeOf;
 use sr_plant_script::{Member, MemberRouting, mac_of};
 use sr_text::Text;
-use sr_threaded::{Judgement, NetworkFault, NodeEnd, NodeKit, run_ring, run_twin, settlement_of};
+use sr_threaded::{NetworkFault, NodeEnd, NodeKit, run_ring, run_twin};
 use sr_workers::{Feed, WorkerFault};
 use std::alloc::Global;
 use std::sync::Wait;
@@ -149,14 +149,9 @@ fn fault_in(end: &NodeEnd<Host>) -> Option<WorkerFault>
 }
 
 // What is printed of the nodes that ran. An error where a worker ended early, too.
-fn append_ends(
-    text: &mut Text,
-    ends: &[NodeEnd<Host>],
-    judged: &[Judgement],
-) -> Result<(), RunFault>
-    requires start { text.old ≡ [] }
-    requires len { length judged.now ≡ length ends.now }
-    ensures printed { OnOk result (text.new ≡ report_of ends.now judged.now) }
+fn append_ends(text: &mut Text, ends: &[NodeEnd<Host>]) -> Result<(), RunFault>
+    requires { text.old ≡ [] }
+    ensures printed { OnOk result (text.new ≡ report_of ends.now) }
     ensures whole { OnOk result (AllWhole ends.now) }
 {
     for node in 0..ends.len() {
@@ -164,8 +159,7 @@ fn append_ends(
         if let Some(fault) = fault_in(end) {
             return Err(fault.into());
         }
-        let settlement = settlement_of(end.settlement, judged[node]);
-        append_report(text, node, given_to(end), settlement, end.lost)?;
+        append_report(text, node, given_to(end), end.settlement, end.lost)?;
     }
     Ok(())
 }
@@ -177,12 +171,9 @@ fn run_kits<W: Threads + Wait + Sync>(
     net: ThreadedNet,
     kits: Vec<NodeKit<Member, PortFraming, Host>>,
     turns: u64,
-) -> Result<(Vec<NodeEnd<Host>>, Vec<Judgement>), NetworkFault>
-    ensures ends { IfOk result (λ r. vec_len r.0 ≡ vec_len kits) }
-    ensures judged { IfOk result (λ r. vec_len r.1 ≡ vec_len r.0) }
-    ensures ran { IfOk result (λ r. RanIn ⟦<Host as Feed>⟧ net turns kits.items r.0.items) }
-    ensures judged_each { IfOk result (λ r.
-        AreJudged ⟦<Host as Feed>⟧ net (vec_len r.0) r.0.items r.1.items) }
+) -> Result<Vec<NodeEnd<Host>>, NetworkFault>
+    ensures ends { IfOk result (λ v. vec_len v ≡ vec_len kits) }
+    ensures ran { IfOk result (λ v. RanIn ⟦<Host as Feed>⟧ net turns kits.items v.items) }
 {
     match net {
         ThreadedNet::Ring => run_ring(rt, alloc, kits, turns),
@@ -207,7 +198,7 @@ pub(crate) fn run_network<W: Threads + Wait + Sync>(
         Err(refused) => return Err(refused.into()),
     };
     match run_kits(rt, alloc, setup.net, kits, turns) {
-        Ok((ends, judged)) => append_ends(text, &ends, &judged),
+        Ok(ends) => append_ends(text, &ends),
         Err(fault) => Err(fault.into()),
     }
 }

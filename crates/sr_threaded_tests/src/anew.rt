@@ -3,7 +3,7 @@
 use super::networks::{kits_of, meeting_of, run_kits};
 use crate::host::Host;
 use sr_ports::Settlement;
-use sr_threaded::{Judgement, LineEnd, NetworkFault, NodeEnd, settlement_of};
+use sr_threaded::{LineEnd, NetworkFault, NodeEnd};
 use sr_threaded_script::ThreadedNet;
 use sr_workers::WorkerFault;
 use std::alloc::Global;
@@ -27,14 +27,14 @@ fn are_whole_but_for_memory(ends: &[LineEnd<Host>]) -> bool {
 }
 
 // Whether all nodes settle, of which workers may have stopped for want of memory.
-fn all_settle(ends: &[NodeEnd<Host>], judged: &[Judgement]) -> bool {
-    for (end, one) in ends.iter().zip(judged.iter()) {
-        let settled = settlement_of(end.settlement, *one) == Settlement::Settled;
+fn all_settle(ends: &[NodeEnd<Host>]) -> bool {
+    for end in ends {
+        let settled = end.settlement == Settlement::Settled;
         if !settled || !are_whole_but_for_memory(end.ends.as_slice()) {
             return false;
         }
     }
-    ends.len() == 2 && judged.len() == 2
+    ends.len() == 2
 }
 
 // Runs two nodes, of which the first sends a frame and no host waits. Whether they settle; None where memory, or a thread, was
@@ -43,8 +43,8 @@ fn run_two<W: Threads + Wait + Sync>(rt: &W, alloc: Global, net: ThreadedNet) ->
     let meeting = meeting_of(alloc, 0)?;
     match kits_of(alloc, net, 2, &meeting) {
         Some(kits) => match run_kits(rt, alloc, net, kits, TURNS) {
-            Ok((ends, judged)) => {
-                let settle = all_settle(ends.as_slice(), judged.as_slice());
+            Ok(ends) => {
+                let settle = all_settle(ends.as_slice());
                 drop(ends);
                 Some(settle)
             }

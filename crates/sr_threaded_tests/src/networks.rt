@@ -8,7 +8,7 @@ use sr_node::{Answer, Event, NodeOf};
 use sr_plant_script::{Member, MemberRouting};
 use sr_ports::{Log, Settlement, Worker};
 use sr_sequence::Seq;
-use sr_threaded::{Judgement, NetworkFault, NodeEnd, NodeKit, run_ring, run_twin, settlement_of};
+use sr_threaded::{NetworkFault, NodeEnd, NodeKit, run_ring, run_twin};
 use sr_threaded_script::ThreadedNet;
 use std::alloc::Global;
 use std::process::Abort;
@@ -183,11 +183,10 @@ fn are_whole(end: &NodeEnd<Host>) -> bool {
 }
 
 // Whether all is well with a node's end.
-fn is_well(end: &NodeEnd<Host>, judged: Judgement, number: usize, turns: u64) -> bool {
-    let settled = settlement_of(end.settlement, judged) == Settlement::Settled;
+fn is_well(end: &NodeEnd<Host>, number: usize, turns: u64) -> bool {
     let most = if number == 0 { 0 } else { 1 };
     let sends = number == 0 && turns > 0;
-    settled
+    end.settlement == Settlement::Settled
         && are_long(end.logs.as_slice(), turns)
         && are_whole(end)
         && has_sent(end.logs.as_slice()) == sends
@@ -195,23 +194,23 @@ fn is_well(end: &NodeEnd<Host>, judged: Judgement, number: usize, turns: u64) ->
         && end.lost == 0
 }
 
-fn look(ends: &[NodeEnd<Host>], judged: &[Judgement], turns: u64) -> Seen {
-    let mut well = ends.len() == judged.len();
+fn look(ends: &[NodeEnd<Host>], turns: u64) -> Seen {
+    let mut well = true;
     let mut all = true;
-    for (number, (end, one)) in ends.iter().zip(judged.iter()).enumerate() {
-        well = well && is_well(end, *one, number, turns);
+    for (number, end) in ends.iter().enumerate() {
+        well = well && is_well(end, number, turns);
         all = all && (number == 0 || given_to(end) == 1);
     }
     Seen { well, all }
 }
 
 fn look_at(
-    ran: Result<(Vec<NodeEnd<Host>>, Vec<Judgement>), NetworkFault>,
+    ran: Result<Vec<NodeEnd<Host>>, NetworkFault>,
     turns: u64,
 ) -> Result<Seen, NetworkFault> {
     match ran {
-        Ok((ends, judged)) => {
-            let seen = look(ends.as_slice(), judged.as_slice(), turns);
+        Ok(ends) => {
+            let seen = look(ends.as_slice(), turns);
             drop(ends);
             Ok(seen)
         }
@@ -226,7 +225,7 @@ pub(super) fn run_kits<W: Threads + Wait + Sync>(
     net: ThreadedNet,
     kits: Vec<NodeKit<Member, PortFraming, Host>>,
     turns: u64,
-) -> Result<(Vec<NodeEnd<Host>>, Vec<Judgement>), NetworkFault> {
+) -> Result<Vec<NodeEnd<Host>>, NetworkFault> {
     match net {
         ThreadedNet::Ring => run_ring(rt, alloc, kits, turns),
         ThreadedNet::TwinLan => run_twin(rt, alloc, kits, turns),

@@ -10,3 +10,6 @@ returns-in-Ok-clause-each g c i d l x low =
     let logs : c.end_of.result.logs.items ≡ c.in-Ok.logs.items = ap (λ v. v.items) c.end_of.ensures.logs in
     let ends : c.end_of.result.ends.items ≡ c.in-Ok.ends.items = ap (λ v. v.items) c.end_of.ensures.ends in
     subst P (λ k. (sym logs k, sym ends k)) (c.in-Ok.ensures.each i d l x low)
+
+pub returns-in-Ok-clause-settles : goal.returns-in-Ok-clause-settles
+returns-in-Ok-clause-settles g c = c.end_of.ensures.settles
