@@ -8,10 +8,11 @@ import sys
 from pathlib import Path
 
 # What stands in the C beside the crate: it calls the one of the crate that is named.
-IN_C = {"seamless_open": "seamless_make"}
+IN_C = {"seamless_open": "seamless_make", "seamless_resume": "seamless_remake"}
 WIDTHS = {"uint8_t": "u8", "uint16_t": "u16", "uint32_t": "u32", "uint64_t": "u64"}
 # The constants of the crate, by the words of the header.
-NUMBERS = {"NO_MEMORY": "NO_MEMORY", "ARGUMENT": "ARGUMENT", "CLOSED": "CLOSED", "OPEN": "OPEN", "OWN": "OWN", "ABI": "ABI"}
+NUMBERS = {"NO_MEMORY": "NO_MEMORY", "ARGUMENT": "ARGUMENT", "CLOSED": "CLOSED", "OPEN": "OPEN", "OWN": "OWN", "ABI": "ABI",
+           "VERSION": "VERSION", "SNAPSHOT": "SNAPSHOT", "APART": "APART"}
 FAULTS = {"UNREAD": "Reading", "UNTAGGED": "Untagged", "TABLE_FULL": "TableFull", "OUTBOX_FULL": "OutboxFull"}
 
 
@@ -44,6 +45,26 @@ def crate_structs(sources):
     return structs
 
 
+def fault_findings(root, numbers):
+    """Faults that a binding has under another number, or not at all. A node of the Rust binding is always open."""
+    rust, python = ((root / path).read_text() for path in ("bindings/rust/seamless/src/fault.rs", "bindings/python/seamless.py"))
+    for name, number in numbers.items():
+        if 257 <= number < 300:
+            if f"    {name} = {number}\n" not in python:
+                yield f"the fault `{name}` is not {number} in the Python binding"
+            if name not in ("CLOSED", "OPEN") and f"{number} => Err(Fault::{name.title().replace('_', '')})" not in rust:
+                yield f"the fault `{name}` is not {number} in the Rust binding"
+
+
+def version_findings(root, header, number):
+    """Places that name another version than the header's number."""
+    version = f"{number // 10000}.{number // 100 % 100}.{number % 100}"
+    for path, line in [("clib/include/seamless.h", f'#define SEAMLESS_VERSION_TEXT "{version}"'), ("clib/Makefile", f"VERSION = {version}"),
+                       ("bindings/rust/seamless/Cargo.toml", f'version = "{version}"'), ("bindings/rust/seamless-sys/Cargo.toml", f'version = "{version}"')]:
+        if line not in (root / path).read_text().split("\n"):
+            yield f"{path} has another version than {version}"
+
+
 def findings(root):
     header = (root / "clib/include/seamless.h").read_text()
     sources = "\n".join(path.read_text() for path in sorted((root / "crates/sr_c/src").glob("*.rt")))
@@ -63,6 +84,8 @@ def findings(root):
     for name, fields in header_structs(header).items():
         if name != "node" and structs.get(name.removesuffix("_entry")) != fields:
             yield f"the struct `{name}` has other fields in the crate"
+    yield from fault_findings(root, numbers)
+    yield from version_findings(root, header, numbers["VERSION"])
     for path in ("bindings/rust/seamless-sys/src/lib.rs", "bindings/python/seamless.py"):
         binding = (root / path).read_text()
         for name in sorted(header_calls(header)):

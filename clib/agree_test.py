@@ -8,9 +8,10 @@ from pathlib import Path
 from agree import findings
 
 TOP = Path(__file__).resolve().parent.parent
-READ = ["clib/include", "crates/sr_c/src", "bindings/rust/seamless-sys/src", "bindings/python"]
+READ = ["clib", "crates/sr_c/src", "bindings/rust/seamless-sys", "bindings/rust/seamless", "bindings/python"]
 HEADER, FRAMES, CODES, ENTRIES = "clib/include/seamless.h", "crates/sr_c/src/frames.rt", "crates/sr_c/src/codes.rt", "crates/sr_c/src/entries.rt"
 SYS, PYTHON = "bindings/rust/seamless-sys/src/lib.rs", "bindings/python/seamless.py"
+FAULTS, MAKE = "bindings/rust/seamless/src/fault.rs", "clib/Makefile"
 
 
 class Agreement(unittest.TestCase):
@@ -40,6 +41,11 @@ class Agreement(unittest.TestCase):
             (ENTRIES, "pub wrong_lan: u64", "pub wrong_lan: u32"),
             (SYS, "fn seamless_time(", "fn seamless_tame("),
             (PYTHON, '"seamless_alarm_at"', '"seamless_alarms_at"'),
+            (PYTHON, "APART = 267", "APART = 266"),
+            (FAULTS, "265 => Err(Fault::Snapshot)", "266 => Err(Fault::Snapshot)"),
+            (HEADER, "SEAMLESS_SNAPSHOT = 265", "SEAMLESS_SNAPSHOT = 266"),
+            (HEADER, "#define SEAMLESS_VERSION 400", "#define SEAMLESS_VERSION 401"),
+            (MAKE, "VERSION = 0.4.0", "VERSION = 0.4.1"),
         ]:
             with self.subTest(new=new):
                 self.assertNotEqual(self.found(name, old, new), [])

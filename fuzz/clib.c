@@ -24,6 +24,23 @@ static void take_all(seamless_node *node, size_t capacity) {
     free(buffer);
 }
 
+// What the node has noted is read again, and taken over by the node itself.
+static void keep(seamless_node *node, const seamless_setup *setup) {
+    size_t count = 0, again = 0;
+    seamless_node other = SEAMLESS_CLOSED_NODE;
+    hold(seamless_snapshot(node, (uint8_t *)&count, 0, &again) == 0 && again <= SEAMLESS_MAX_SNAPSHOT);
+    uint8_t *octets = malloc(again), *others = malloc(again);
+    if (octets && others) {
+        hold(seamless_snapshot(node, octets, again, &count) == 0 && count == again);
+        hold(seamless_resume(setup, octets, count, &other) == 0 && seamless_time(&other) <= seamless_time(node));
+        hold(seamless_snapshot(&other, others, count, &again) == 0 && again <= count);
+        hold(seamless_absorb(&other, octets, count) == 0 && seamless_absorb(node, octets, count) == 0);
+        hold(seamless_close(&other) == 0);
+    }
+    free(octets);
+    free(others);
+}
+
 static void tell_all(seamless_node *node) {
     seamless_node_entry entry, of;
     seamless_alarm_entry alarm;
@@ -32,6 +49,17 @@ static void tell_all(seamless_node *node) {
         hold(seamless_node_of(node, entry.mac, &of) == 0 && of.age_a == entry.age_a);
     for (size_t index = 0; seamless_alarm_at(node, index, &alarm) == 0; index++)
         hold(alarm.kind == 1 || alarm.kind == 2);
+    static seamless_node_entry entries[SEAMLESS_MAX_NODES];
+    static seamless_alarm_entry alarms[SEAMLESS_MAX_ALARMS];
+    static seamless_proxied_entry proxied[SEAMLESS_MAX_PROXIED];
+    seamless_cursor cursor = {0, 0, 0};
+    size_t count = 0;
+    hold(seamless_nodes(node, entries, SEAMLESS_MAX_NODES, &count) == 0 && count <= SEAMLESS_MAX_NODES);
+    hold(seamless_node_at(node, count, &entry) == SEAMLESS_ARGUMENT);
+    hold(seamless_alarms(node, alarms, SEAMLESS_MAX_ALARMS, &count) == 0 && count <= SEAMLESS_MAX_ALARMS);
+    hold(seamless_alarms_since(node, &cursor, alarms, SEAMLESS_MAX_ALARMS) == 0 && cursor.count == count && cursor.number == cursor.missed + count);
+    hold(seamless_alarms_since(node, &cursor, alarms, SEAMLESS_MAX_ALARMS) == 0 && !cursor.count && !cursor.missed);
+    hold(seamless_proxied(node, proxied, SEAMLESS_MAX_PROXIED, &count) == 0 && count <= SEAMLESS_MAX_PROXIED);
     for (uint32_t port = SEAMLESS_H; port <= SEAMLESS_C; port++)
         hold(seamless_counters(node, port, &counted) == 0 && counted.unread + counted.untagged <= counted.received);
 }
@@ -66,8 +94,19 @@ int LLVMFuzzerTestOneInput(const uint8_t *octets, size_t size) {
         take_all(&node, octets[at + 2] < 240 ? SEAMLESS_MAX_FRAME : octets[at + 3]);
         at += 4 + count;
     }
-    if (!opened)
+    if (!opened) {
         tell_all(&node);
+        keep(&node, &setup);
+    } else {
+        // The octets as a snapshot: hardly ever are they one.
+        uint32_t resumed = seamless_resume(&setup, octets, size, &node);
+        hold(resumed == SEAMLESS_ARGUMENT && !node.at);
+    }
+    setup = (seamless_setup){.fixed_key = 1};
+    seamless_node read = SEAMLESS_CLOSED_NODE;
+    uint32_t resumed = seamless_resume(&setup, octets, size, &read);
+    hold(resumed == 0 || resumed == SEAMLESS_SNAPSHOT);
+    hold(seamless_close(&read) == (resumed ? SEAMLESS_CLOSED : 0));
     hold(seamless_close(&node) == (opened ? SEAMLESS_CLOSED : 0) && !node.at);
     return 0;
 }

@@ -268,10 +268,12 @@ def made_lacks(root):
                 yield path, number + 1, "makes want of memory, and passes on none"
 
 
-# The node that the words of a command line name has fixed keys, until a run draws its own. A C program asks for fixed keys by name.
+# The node that the words of a command line name has fixed keys, until a run draws its own. A C program asks for fixed keys by name. A node
+# that only keeps a snapshot while another absorbs it hears nobody.
 FIXED_KEYS = {
     "crates/sr_cli/src/meanings.rt": r"\s*keys: Keys::FIXED,\s*",
     "crates/sr_c/src/making.rt": r"\s*return Keys::FIXED;\s*",
+    "crates/sr_endpoint/src/keeping.rt": r"\s*NodeOf::resumed\(alloc, Danp::new\(NOBODY\), Mode::H, table, Keys::FIXED\)\s*",
 }
 
 

@@ -10,6 +10,7 @@ from typing import Iterator, Optional, Union
 
 ABI = 1
 MAX_FRAME = 1524
+MAX_NODES, MAX_ALARMS, MAX_PROXIED = 1024, 64, 256
 
 
 class Role(enum.IntEnum):
@@ -42,6 +43,8 @@ class Code(enum.IntEnum):
     ARGUMENT = 262
     CLOSED = 263
     OPEN = 264
+    SNAPSHOT = 265
+    APART = 267
     PROCESSOR = 268
 
 
@@ -83,6 +86,23 @@ class Alarm:
     at: int
 
 
+@dataclass(frozen=True)
+class AlarmsSince:
+    """Alarms since an earlier call, how many more were raised and are not kept any more, and the number with which to ask the next time."""
+
+    alarms: list[Alarm]
+    missed: int
+    next: int
+
+
+@dataclass(frozen=True)
+class Proxied:
+    """An address that a RedBox stands for, and when it was last heard at the interlink."""
+
+    mac: bytes
+    at: int
+
+
 class _Setup(ctypes.Structure):
     _fields_ = [("mac", ctypes.c_uint8 * 6)] + [
         (name, ctypes.c_uint8) for name in ("role", "mode", "width", "lan", "net", "fixed_key")
@@ -102,6 +122,14 @@ class _AlarmEntry(ctypes.Structure):
     _fields_ = [("mac", ctypes.c_uint8 * 6), ("kind", ctypes.c_uint8), ("port", ctypes.c_uint8), ("at", ctypes.c_uint64)]
 
 
+class _ProxiedEntry(ctypes.Structure):
+    _fields_ = [("mac", ctypes.c_uint8 * 6), ("at", ctypes.c_uint64)]
+
+
+class _Cursor(ctypes.Structure):
+    _fields_ = [("number", ctypes.c_uint64), ("missed", ctypes.c_uint64), ("count", ctypes.c_uint64)]
+
+
 COUNTED = ("received", "sent", "wrong_lan", "unread", "untagged", "table_full", "outbox_full", "no_memory")
 NEVER = 2147483647
 
@@ -113,10 +141,12 @@ class _Counters(ctypes.Structure):
 def _load() -> ctypes.CDLL:
     library = ctypes.CDLL(os.environ.get("SEAMLESS_LIBRARY") or ctypes.util.find_library("seamless") or "libseamless.so.1")
     node, size, number, time = ctypes.POINTER(_Handle), ctypes.c_size_t, ctypes.c_uint32, ctypes.c_uint64
-    octets = ctypes.c_char_p
+    octets, count = ctypes.c_char_p, ctypes.POINTER(ctypes.c_size_t)
     calls = {
         "seamless_abi": (number, []),
+        "seamless_version": (number, []),
         "seamless_open": (number, [ctypes.POINTER(_Setup), node]),
+        "seamless_resume": (number, [ctypes.POINTER(_Setup), octets, size, node]),
         "seamless_close": (number, [node]),
         "seamless_receive": (number, [node, number, octets, size, time]),
         "seamless_send": (number, [node, octets, size, time]),
@@ -127,7 +157,14 @@ def _load() -> ctypes.CDLL:
         "seamless_counters": (number, [node, number, ctypes.POINTER(_Counters)]),
         "seamless_node_at": (number, [node, size, ctypes.POINTER(_NodeEntry)]),
         "seamless_node_of": (number, [node, octets, ctypes.POINTER(_NodeEntry)]),
+        "seamless_nodes": (number, [node, ctypes.POINTER(_NodeEntry), size, count]),
         "seamless_alarm_at": (number, [node, size, ctypes.POINTER(_AlarmEntry)]),
+        "seamless_alarms": (number, [node, ctypes.POINTER(_AlarmEntry), size, count]),
+        "seamless_alarms_since": (number, [node, ctypes.POINTER(_Cursor), ctypes.POINTER(_AlarmEntry), size]),
+        "seamless_proxied": (number, [node, ctypes.POINTER(_ProxiedEntry), size, count]),
+        "seamless_proxied_at": (number, [node, size, ctypes.POINTER(_ProxiedEntry)]),
+        "seamless_snapshot": (number, [node, octets, size, count]),
+        "seamless_absorb": (number, [node, octets, size]),
     }
     for name, (result, arguments) in calls.items():
         call = getattr(library, name)
@@ -146,6 +183,12 @@ def _taken(answer: int) -> int:
     return answer
 
 
+def version() -> tuple[int, int, int]:
+    """The version of the library that is loaded: its three numbers."""
+    number = _library.seamless_version()
+    return number // 10000, number // 100 % 100, number % 100
+
+
 def _address(mac: bytes) -> bytes:
     if len(mac) != 6:
         raise ValueError("an address has 6 octets")
@@ -158,21 +201,28 @@ def _status(entry: _NodeEntry) -> Status:
     return Status(bytes(entry.mac), redbox, ages[0], ages[1], entry.seq_a, entry.seq_b)
 
 
+def _alarm(entry: _AlarmEntry) -> Alarm:
+    return Alarm(bytes(entry.mac), Port(entry.port) if entry.kind == 1 else None, entry.at)
+
+
 class Node:
     """A node. It belongs to one thread at a time. After `close`, each call raises CLOSED or tells of nothing."""
 
     def __init__(self, role: Role, mac: bytes, *, key: Optional[bytes] = None, fixed_key: bool = False, mode_x: bool = False,
-                 wide: bool = False, lan_b: bool = False, net: int = 0) -> None:
+                 wide: bool = False, lan_b: bool = False, net: int = 0, snapshot: Optional[bytes] = None) -> None:
         """`key`: 32 octets that place addresses in tables, of the system's random source where none is given. `fixed_key`: one that anyone
         can know. `mode_x`: mode X in place of H. `wide`: 2048 numbers of each source in place of 1024. `lan_b`, `net`: the LAN and the
-        number of the network at the interlink of a REDBOX_PRP."""
+        number of the network at the interlink of a REDBOX_PRP. `snapshot`: one of a node whose record of duplicates this one goes on with."""
         self._handle = _Handle()
         self._buffer = ctypes.create_string_buffer(MAX_FRAME)
         octets = bytes(32) if fixed_key else os.urandom(32) if key is None else key
         if len(octets) != 32:
             raise ValueError("a key has 32 octets")
         setup = _Setup((ctypes.c_uint8 * 6)(*_address(mac)), role, mode_x, wide, lan_b, net, fixed_key, (ctypes.c_uint8 * 32)(*octets))
-        _taken(_library.seamless_open(setup, self._handle))
+        if snapshot is None:
+            _taken(_library.seamless_open(setup, self._handle))
+        else:
+            _taken(_library.seamless_resume(setup, snapshot, len(snapshot), self._handle))
 
     def close(self) -> None:
         """Frees the node. A second call does nothing."""
@@ -231,16 +281,38 @@ class Node:
 
     def nodes(self) -> Iterator[Status]:
         """What is told of the other nodes, in the order of first hearing."""
-        entry, index = _NodeEntry(), 0
-        while (answer := _library.seamless_node_at(self._handle, index, entry)) != Code.ARGUMENT:
-            _taken(answer)
-            yield _status(entry)
-            index += 1
+        entries, count = (_NodeEntry * MAX_NODES)(), ctypes.c_size_t()
+        _taken(_library.seamless_nodes(self._handle, entries, MAX_NODES, count))
+        yield from map(_status, entries[:count.value])
 
     def alarms(self) -> Iterator[Alarm]:
         """The alarms that are kept, the oldest first."""
-        entry, index = _AlarmEntry(), 0
-        while (answer := _library.seamless_alarm_at(self._handle, index, entry)) != Code.ARGUMENT:
-            _taken(answer)
-            yield Alarm(bytes(entry.mac), Port(entry.port) if entry.kind == 1 else None, entry.at)
-            index += 1
+        entries, count = (_AlarmEntry * MAX_ALARMS)(), ctypes.c_size_t()
+        _taken(_library.seamless_alarms(self._handle, entries, MAX_ALARMS, count))
+        yield from map(_alarm, entries[:count.value])
+
+    def alarms_since(self, number: int) -> AlarmsSince:
+        """The alarms from a number on: they are numbered from 0, in the order in which they were raised. Begin with 0, and go on with
+        `next`: then each alarm is told once."""
+        entries, cursor = (_AlarmEntry * MAX_ALARMS)(), _Cursor(number)
+        _taken(_library.seamless_alarms_since(self._handle, cursor, entries, MAX_ALARMS))
+        return AlarmsSince(list(map(_alarm, entries[:cursor.count])), cursor.missed, cursor.number)
+
+    def proxied(self) -> Iterator[Proxied]:
+        """The addresses that a RedBox for SANs stands for, in the order of first hearing."""
+        entries, count = (_ProxiedEntry * MAX_PROXIED)(), ctypes.c_size_t()
+        _taken(_library.seamless_proxied(self._handle, entries, MAX_PROXIED, count))
+        yield from (Proxied(bytes(entry.mac), entry.at) for entry in entries[:count.value])
+
+    def snapshot(self) -> bytes:
+        """What the node has noted of each source, as octets: the same on every machine."""
+        count = ctypes.c_size_t()
+        _taken(_library.seamless_snapshot(self._handle, b"", 0, count))
+        octets = ctypes.create_string_buffer(count.value)
+        _taken(_library.seamless_snapshot(self._handle, octets, count, count))
+        return octets.raw
+
+    def absorb(self, snapshot: bytes) -> None:
+        """Takes over what the snapshot of another node says, as a standby does: what both have noted of each source is joined, at the later
+        of both times."""
+        _taken(_library.seamless_absorb(self._handle, snapshot, len(snapshot)))

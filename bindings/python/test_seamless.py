@@ -1,7 +1,7 @@
 """Worked frames by the Python binding: python3 -m unittest, with SEAMLESS_LIBRARY."""
 import unittest
 
-from seamless import OWN, Alarm, Code, Fault, Node, Port, Role
+from seamless import OWN, Alarm, AlarmsSince, Code, Fault, Node, Port, Proxied, Role, version
 
 M1, M2 = bytes.fromhex("020000000001"), bytes.fromhex("020000000002")
 PLAIN = M1 + M2 + bytes.fromhex("0800") + bytes(46)
@@ -60,6 +60,30 @@ class Nodes(unittest.TestCase):
             self.assertEqual((status.mac, status.age_a, status.age_b, status.seq_b, status.redbox), (M2, 3001, 0, 7, None))
             self.assertEqual((node.status(M2), node.status(M1)), (status, None))
             self.assertEqual(list(node.alarms()), [Alarm(M2, Port.A, 3001)])
+            self.assertEqual(node.alarms_since(0), AlarmsSince([Alarm(M2, Port.A, 3001)], 0, 1))
+            self.assertEqual(node.alarms_since(1), AlarmsSince([], 0, 1))
+
+    def test_a_redbox_tells_whom_it_stands_for(self) -> None:
+        with Node(Role.REDBOX_SAN, M1) as node:
+            node.receive(Port.C, PLAIN, 5)
+            self.assertEqual(list(node.proxied()), [Proxied(M2, 5)])
+
+    def test_a_record_goes_from_node_to_node(self) -> None:
+        with Node(Role.DANP, M1) as one, Node(Role.DANP, M1) as standby:
+            one.receive(Port.A, copy(5, "a"), 100)
+            snapshot = one.snapshot()
+            self.assertEqual((len(snapshot), snapshot[:7]), (7 + 784, b"SRDW\x01\x00\x01"))
+            standby.absorb(snapshot)
+            with Node(Role.DANP, M1, wide=True, snapshot=snapshot) as resumed:
+                self.assertEqual(resumed.time(), 100)
+                for node in (standby, resumed):
+                    self.assertEqual(node.receive(Port.B, copy(5, "b"), 100), [])
+                    self.assertEqual(node.receive(Port.B, copy(6, "b"), 100), [Port.H])
+            self.expect(Code.SNAPSHOT, standby.absorb, b"")
+            self.expect(Code.SNAPSHOT, lambda: Node(Role.DANP, M1, snapshot=snapshot[1:]))
+
+    def test_the_version(self) -> None:
+        self.assertEqual(version(), (0, 4, 0))
 
 
 if __name__ == "__main__":

@@ -31,6 +31,11 @@ extern "C" {
 // The interface that this header describes. seamless_abi answers that of the library: where they differ, open no node.
 #define SEAMLESS_ABI 1
 
+// The version of the library that this header came with: 10000 for the first number, 100 for the second, 1 for the third. seamless_version
+// answers that of the library that is linked.
+#define SEAMLESS_VERSION 400
+#define SEAMLESS_VERSION_TEXT "0.4.0"
+
 // The most octets of a frame that goes out.
 #define SEAMLESS_MAX_FRAME 1524
 
@@ -39,6 +44,14 @@ extern "C" {
 
 // How many frames wait at a port at most.
 #define SEAMLESS_MAX_WAITING 256
+
+// How many other nodes are known, how many alarms are kept, and how many addresses a RedBox for SANs stands for, at most.
+#define SEAMLESS_MAX_NODES 1024
+#define SEAMLESS_MAX_ALARMS 64
+#define SEAMLESS_MAX_PROXIED 256
+
+// The most octets of a snapshot: 7, and for each of 1024 sources 784 where a node remembers 1024 numbers of each, 1552 where it remembers 2048.
+#define SEAMLESS_MAX_SNAPSHOT 1589255
 
 // A handle of a node, in the caller's memory: NULL where it is closed.
 typedef struct seamless_node {
@@ -71,6 +84,8 @@ enum {
     SEAMLESS_ARGUMENT = 262,     // a role, mode, width, LAN, network, key, port, index or address that there is not
     SEAMLESS_CLOSED = 263,       // the handle is closed, or was never opened
     SEAMLESS_OPEN = 264,         // the handle is open already
+    SEAMLESS_SNAPSHOT = 265,     // the octets are no snapshot
+    SEAMLESS_APART = 267,        // what two nodes have noted of a source is 32768 numbers apart, so that neither is ahead
     SEAMLESS_PROCESSOR = 268     // the processor is older than x86-64-v2
 };
 
@@ -112,6 +127,19 @@ typedef struct seamless_alarm_entry {
     uint64_t at;     // when, in milliseconds
 } seamless_alarm_entry;
 
+// An address that a RedBox stands for.
+typedef struct seamless_proxied_entry {
+    uint8_t mac[6];  // the address
+    uint64_t at;     // when it was last heard at the interlink, in milliseconds
+} seamless_proxied_entry;
+
+// Where a program stands that asks for alarms again and again. It begins zeroed, and is changed by seamless_alarms_since alone.
+typedef struct seamless_cursor {
+    uint64_t number;  // the number of the next alarm that it wants: they are numbered from 0, in the order in which they were raised
+    uint64_t missed;  // how many of those that it wanted are not kept any more
+    uint64_t count;   // how many it was told
+} seamless_cursor;
+
 // What was counted at a port since the node was opened, by calls at it. Each count stays at its greatest value.
 typedef struct seamless_counters_entry {
     uint64_t received;     // frames that came in, those that were refused too; at port H those that the host sent
@@ -134,14 +162,25 @@ SEAMLESS_LAID_OUT(seamless_node, sizeof(void *));
 SEAMLESS_LAID_OUT(seamless_setup, 44);
 SEAMLESS_LAID_OUT(seamless_node_entry, 28);
 SEAMLESS_LAID_OUT(seamless_alarm_entry, 16);
+SEAMLESS_LAID_OUT(seamless_proxied_entry, 16);
+SEAMLESS_LAID_OUT(seamless_cursor, 24);
 SEAMLESS_LAID_OUT(seamless_counters_entry, 64);
 
 // The number of the interface of the library.
 uint32_t seamless_abi(void);
 
+// The version of the library, as SEAMLESS_VERSION is made.
+uint32_t seamless_version(void);
+
 // Makes a node, which the handle keeps then. Answers 0, or SEAMLESS_OPEN, SEAMLESS_ARGUMENT, SEAMLESS_NO_MEMORY or SEAMLESS_PROCESSOR: then
 // the handle stays as it was.
 uint32_t seamless_open(const seamless_setup *setup, seamless_node *node);
+
+// Makes a node as seamless_open does, that goes on with the record of duplicates of a snapshot: after a restart it hands up no second copy
+// of what was handed up before. Its time is the greatest at which a source of the snapshot was heard, and sources that were silent for
+// 400 ms by then are left out. A snapshot of a node of the other width is read at the width of the setup: of more numbers the oldest are
+// left out, and of fewer the others count as not seen. Answers what seamless_open does, or SEAMLESS_SNAPSHOT.
+uint32_t seamless_resume(const seamless_setup *setup, const uint8_t *octets, size_t count, seamless_node *node);
 
 // Frees the node of a handle, which is closed then. Answers 0, or SEAMLESS_CLOSED.
 uint32_t seamless_close(seamless_node *node);
@@ -179,9 +218,43 @@ uint32_t seamless_node_at(seamless_node *node, size_t index, seamless_node_entry
 // the entry stays. It allocates nothing.
 uint32_t seamless_node_of(seamless_node *node, const uint8_t mac[6], seamless_node_entry *entry);
 
-// An alarm, the oldest first; at most 64 are kept. Answers 0, SEAMLESS_ARGUMENT where there are fewer, SEAMLESS_NO_MEMORY or
-// SEAMLESS_CLOSED: then the entry stays.
+// What is told of all other nodes that were heard less than 60000 ms ago, in the order of first hearing, into an array of this capacity:
+// as many as there is room for. Their count is how many they are, also where there is less room. Answers 0, SEAMLESS_NO_MEMORY or
+// SEAMLESS_CLOSED: then array and count stay. It takes one walk, where seamless_node_at takes one for each index.
+uint32_t seamless_nodes(seamless_node *node, seamless_node_entry *entries, size_t capacity, size_t *count);
+
+// An alarm, the oldest first; at most SEAMLESS_MAX_ALARMS are kept. Answers 0, SEAMLESS_ARGUMENT where there are fewer, SEAMLESS_NO_MEMORY
+// or SEAMLESS_CLOSED: then the entry stays.
 uint32_t seamless_alarm_at(seamless_node *node, size_t index, seamless_alarm_entry *entry);
+
+// All alarms that are kept, the oldest first, as seamless_nodes tells of nodes.
+uint32_t seamless_alarms(seamless_node *node, seamless_alarm_entry *entries, size_t capacity, size_t *count);
+
+// The alarms from the cursor's number on that are kept, the oldest first, into an array of this capacity: as many as there is room for.
+// The cursor moves behind them, so that the next call goes on there: with a cursor that began zeroed, and calls until its count is less
+// than the capacity, each alarm is told once. Its `missed` is how many alarms from its number on are not kept any more: more than
+// SEAMLESS_MAX_ALARMS were raised since. (Where one call raises more than so many, the first of them are not counted.) Answers 0,
+// SEAMLESS_NO_MEMORY or SEAMLESS_CLOSED: then array and cursor stay.
+uint32_t seamless_alarms_since(seamless_node *node, seamless_cursor *cursor, seamless_alarm_entry *entries, size_t capacity);
+
+// The addresses that the node stands for beside its own, which it heard at its interlink less than 60000 ms ago, in the order of first
+// hearing, as seamless_nodes tells of nodes; at most SEAMLESS_MAX_PROXIED. There are none but at SEAMLESS_REDBOX_SAN.
+uint32_t seamless_proxied(seamless_node *node, seamless_proxied_entry *entries, size_t capacity, size_t *count);
+
+// One of these addresses, by its place. Answers 0, SEAMLESS_ARGUMENT where there are fewer, SEAMLESS_NO_MEMORY or SEAMLESS_CLOSED: then the
+// entry stays. Each call copies the node, so that seamless_proxied is the one for all.
+uint32_t seamless_proxied_at(seamless_node *node, size_t index, seamless_proxied_entry *entry);
+
+// What the node has noted of each source, as octets, at the front of a buffer of this capacity, where there is room for all; else the
+// buffer stays. The count is how many octets they are, either way, so that a call with capacity 0 asks for it; SEAMLESS_MAX_SNAPSHOT are
+// never too few. Answers 0, SEAMLESS_NO_MEMORY or SEAMLESS_CLOSED: then buffer and count stay. The octets are the same on every machine.
+uint32_t seamless_snapshot(seamless_node *node, uint8_t *octets, size_t capacity, size_t *count);
+
+// Takes over what the snapshot of another node says, as a standby does: what both have noted of each source is joined, at the later of both
+// times. Sources that were silent for 400 ms by then are left out. A snapshot of the other width is read as seamless_resume reads it.
+// Answers 0, SEAMLESS_SNAPSHOT, SEAMLESS_TABLE_FULL where both together have over 1024 sources, SEAMLESS_APART, SEAMLESS_NO_MEMORY or
+// SEAMLESS_CLOSED: then the node stays.
+uint32_t seamless_absorb(seamless_node *node, const uint8_t *octets, size_t count);
 
 #ifdef __cplusplus
 }

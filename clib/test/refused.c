@@ -90,6 +90,28 @@ static void run(uint8_t role) {
         AGAIN(seamless_alarm_at(&node, index, &alarm));
         note((uint32_t)alarm.at);
     }
+    seamless_node_entry entries[30];
+    seamless_alarm_entry alarms[70];
+    seamless_proxied_entry proxied[60];
+    seamless_cursor cursor = {0, 0, 0};
+    static uint8_t octets[SEAMLESS_MAX_SNAPSHOT];
+    size_t count = 0;
+    AGAIN(seamless_nodes(&node, entries, 30, &count));
+    note((uint32_t)count);
+    AGAIN(seamless_alarms(&node, alarms, 70, &count));
+    note((uint32_t)count);
+    AGAIN(seamless_alarms_since(&node, &cursor, alarms, 70));
+    note((uint32_t)cursor.number);
+    AGAIN(seamless_proxied(&node, proxied, 60, &count));
+    note((uint32_t)count);
+    AGAIN(seamless_proxied_at(&node, 0, proxied));
+    AGAIN(seamless_snapshot(&node, octets, sizeof octets, &count));
+    for (size_t at = 0; at < count; at++)
+        note(octets[at]);
+    AGAIN(seamless_absorb(&node, octets, count));
+    note(seamless_close(&node));
+    AGAIN(seamless_resume(&setup, octets, count, &node));
+    note((uint32_t)seamless_time(&node));
     note(seamless_close(&node));
 }
 

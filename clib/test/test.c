@@ -151,6 +151,152 @@ static void others(void) {
     seamless_close(&node);
 }
 
+// A frame of another source, by the last octet of its address.
+static uint32_t in_of(seamless_node *node, uint32_t port, uint64_t now, unsigned source, unsigned number) {
+    char text[200];
+    snprintf(text, sizeof text, "020000000001 0200000001%02x 0800 Z46 %04x %c034 88fb", source, number, port == SEAMLESS_A ? 'a' : 'b');
+    return in(node, port, now, text);
+}
+
+static void lists(void) {
+    seamless_node node = open_node(SEAMLESS_DANP, M1);
+    seamless_node_entry entries[4], one;
+    size_t count = 7;
+    memset(entries, 7, sizeof entries);
+    expect("nobody is known", seamless_nodes(&node, entries, 4, &count) == 0 && count == 0 && entries[0].mac[0] == 7);
+    for (unsigned source = 1; source <= 3; source++)
+        in_of(&node, SEAMLESS_A, source, source, source);
+    expect("all nodes are told at once", seamless_nodes(&node, entries, 4, &count) == 0 && count == 3 && entries[3].mac[0] == 7);
+    int same = 1;
+    for (unsigned index = 0; index < 3; index++)
+        same &= seamless_node_at(&node, index, &one) == 0 && !memcmp(one.mac, entries[index].mac, 6) && one.age_a == entries[index].age_a &&
+                one.seq_a == index + 1 && entries[index].seq_a == index + 1 && entries[index].mac[5] == index + 1;
+    expect("they are those that are told one by one", same);
+    memset(entries, 7, sizeof entries);
+    expect("as many as there is room for", seamless_nodes(&node, entries, 2, &count) == 0 && count == 3 && entries[1].seq_a == 2 && entries[2].mac[0] == 7);
+    expect("how many there are", seamless_nodes(&node, entries, 0, &count) == 0 && count == 3);
+    seamless_close(&node);
+}
+
+// Alarms of sources that are heard at B alone: one for each.
+static void raise(seamless_node *node, unsigned from, unsigned to, uint64_t now) {
+    for (unsigned source = from; source < to; source++)
+        in_of(node, SEAMLESS_B, now, source, 0);
+    seamless_tick(node, now);
+    uint8_t buffer[SEAMLESS_MAX_FRAME];
+    for (uint32_t port = SEAMLESS_H; port <= SEAMLESS_B; port++)
+        while (seamless_take(node, port, buffer, sizeof buffer)) {
+        }
+}
+
+static void alarms(void) {
+    seamless_node node = open_node(SEAMLESS_DANP, M1);
+    seamless_cursor cursor = {0, 0, 0}, late = {0, 0, 0};
+    seamless_alarm_entry entries[100];
+    size_t count = 7;
+    memset(entries, 7, sizeof entries);
+    expect("no alarm yet", seamless_alarms_since(&node, &cursor, entries, 100) == 0 && cursor.count == 0 && cursor.number == 0 && entries[0].kind == 7 &&
+                               seamless_alarms(&node, entries, 100, &count) == 0 && count == 0);
+    raise(&node, 0, 3, 0);
+    expect("three alarms by two calls", seamless_alarms_since(&node, &cursor, entries, 2) == 0 && cursor.count == 2 && cursor.number == 2 &&
+                                            entries[0].mac[5] == 0 && entries[1].mac[5] == 1 && entries[2].kind == 7 &&
+                                            seamless_alarms_since(&node, &cursor, entries, 2) == 0 && cursor.count == 1 && cursor.number == 3 &&
+                                            entries[0].mac[5] == 2 && entries[0].kind == 1 && entries[0].port == SEAMLESS_A && entries[1].mac[5] == 1);
+    expect("none is told again", seamless_alarms_since(&node, &cursor, entries, 100) == 0 && cursor.count == 0 && cursor.number == 3 && cursor.missed == 0);
+    raise(&node, 3, 40, 1);
+    raise(&node, 40, 80, 2);
+    expect("those that are kept", seamless_alarms(&node, entries, 100, &count) == 0 && count == SEAMLESS_MAX_ALARMS && entries[0].mac[5] == 16 && entries[63].mac[5] == 79);
+    expect("what came in between was missed", seamless_alarms_since(&node, &cursor, entries, 100) == 0 && cursor.missed == 13 && cursor.count == 64 &&
+                                                  cursor.number == 80 && entries[0].mac[5] == 16 && entries[63].mac[5] == 79);
+    expect("one that begins late", seamless_alarms_since(&node, &late, entries, 1) == 0 && late.missed == 16 && late.count == 1 && late.number == 17);
+    raise(&node, 80, 81, 3);
+    expect("the next one alone", seamless_alarms_since(&node, &cursor, entries, 100) == 0 && cursor.missed == 0 && cursor.count == 1 && cursor.number == 81 &&
+                                     entries[0].mac[5] == 80 && entries[0].at == 3);
+    late.number = 1000;
+    expect("one that wants what is to come", seamless_alarms_since(&node, &late, entries, 100) == 0 && late.count == 0 && late.missed == 0 && late.number == 1000);
+    seamless_close(&node);
+}
+
+static void proxied(void) {
+    seamless_node node = open_node(SEAMLESS_REDBOX_SAN, M1);
+    seamless_proxied_entry entries[3] = {{.at = 7}, {.at = 7}, {.at = 7}}, one = {.at = 7};
+    size_t count = 7;
+    expect("nobody is proxied", seamless_proxied(&node, entries, 3, &count) == 0 && count == 0 && seamless_proxied_at(&node, 0, &one) == SEAMLESS_ARGUMENT && one.at == 7);
+    in(&node, SEAMLESS_C, 5, "ffffffffffff 020000000031 0800 Z46");
+    in(&node, SEAMLESS_C, 9, "ffffffffffff 020000000032 0800 Z46");
+    expect("two addresses are proxied", seamless_proxied(&node, entries, 3, &count) == 0 && count == 2 && entries[0].mac[5] == 0x31 && entries[0].at == 5 &&
+                                            entries[1].mac[5] == 0x32 && entries[1].at == 9 && entries[2].at == 7);
+    expect("the second one", seamless_proxied_at(&node, 1, &one) == 0 && one.mac[5] == 0x32 && one.at == 9 && seamless_proxied_at(&node, 2, &one) == SEAMLESS_ARGUMENT);
+    in(&node, SEAMLESS_A, 60006, "ffffffffffff 020000000002 892f 0034 0000 0800 Z46");
+    expect("one that was silent for 60000 ms is not", seamless_proxied(&node, entries, 3, &count) == 0 && count == 1 && entries[0].mac[5] == 0x32 && entries[1].mac[5] == 0x32);
+    seamless_close(&node);
+    node = open_node(SEAMLESS_DANH, M1);
+    expect("a node that is no RedBox proxies nobody", seamless_proxied(&node, entries, 3, &count) == 0 && count == 0);
+    seamless_close(&node);
+}
+
+static uint8_t snapshot[SEAMLESS_MAX_SNAPSHOT];
+
+static void snapshots(void) {
+    static const uint8_t empty[7] = {0x53, 0x52, 0x44, 0x57, 1, 0, 0};
+    seamless_node node = open_node(SEAMLESS_DANP, M1), standby = open_node(SEAMLESS_DANP, M1), again = SEAMLESS_CLOSED_NODE;
+    size_t count = 0, size = 0;
+    expect("the snapshot of a node that heard nobody", seamless_snapshot(&node, snapshot, sizeof snapshot, &count) == 0 && count == 7 && !memcmp(snapshot, empty, 7));
+    in(&node, SEAMLESS_A, 100, FRAME("0005", "a034"));
+    expect("how many octets it has", seamless_snapshot(&node, snapshot, 0, &size) == 0 && size == 7 + 784);
+    memset(snapshot, 9, sizeof snapshot);
+    expect("a buffer is too short for it", seamless_snapshot(&node, snapshot, size - 1, &count) == 0 && count == size && snapshot[0] == 9);
+    expect("one is not", seamless_snapshot(&node, snapshot, size, &count) == 0 && count == size && snapshot[0] == 0x53 && snapshot[size] == 9);
+    seamless_close(&node);
+
+    seamless_setup setup = setup_of(SEAMLESS_DANP, M1);
+    expect("a node goes on with it", seamless_resume(&setup, snapshot, size, &again) == 0 && seamless_time(&again) == 100);
+    expect("it is refused where the handle is open", seamless_resume(&setup, snapshot, size, &again) == SEAMLESS_OPEN);
+    expect("the second copy goes nowhere then", in(&again, SEAMLESS_B, 101, FRAME("0005", "b034")) == 0);
+    expect("the next frame goes up", in(&again, SEAMLESS_B, 101, FRAME("0006", "b034")) == 1);
+    expect("a standby takes it over", seamless_absorb(&standby, snapshot, size) == 0 && in(&standby, SEAMLESS_B, 101, FRAME("0005", "b034")) == 0);
+    seamless_close(&again);
+
+    setup.width = 1;
+    expect("a node of the other width goes on with it", seamless_resume(&setup, snapshot, size, &again) == 0 && in(&again, SEAMLESS_B, 101, FRAME("0005", "b034")) == 0);
+    expect("its snapshot is longer", seamless_snapshot(&again, snapshot, sizeof snapshot, &count) == 0 && count == 7 + 1552 && snapshot[4] == 2);
+    expect("it is taken over at the other width", seamless_absorb(&standby, snapshot, count) == 0);
+    seamless_close(&again);
+    setup.width = 2;
+    expect("no such width", seamless_resume(&setup, snapshot, count, &again) == SEAMLESS_ARGUMENT && !again.at);
+    setup.width = 0;
+    expect("octets that are no snapshot", seamless_resume(&setup, snapshot, count - 1, &again) == SEAMLESS_SNAPSHOT && !again.at);
+    expect("a standby refuses them too", seamless_absorb(&standby, snapshot, 0) == SEAMLESS_SNAPSHOT);
+    // The number 5 and the number 32773 of one source are half of all numbers apart.
+    node = open_node(SEAMLESS_DANP, M1);
+    in(&node, SEAMLESS_A, 102, FRAME("8006", "a034"));
+    seamless_snapshot(&node, snapshot, sizeof snapshot, &count);
+    seamless_close(&node);
+    node = open_node(SEAMLESS_DANP, M1);
+    in(&node, SEAMLESS_A, 102, FRAME("0006", "a034"));
+    expect("two records that are apart", seamless_absorb(&node, snapshot, count) == SEAMLESS_APART && in(&node, SEAMLESS_B, 102, FRAME("0006", "b034")) == 0);
+    seamless_close(&node);
+    seamless_close(&standby);
+}
+
+// Two nodes of 600 sources each: together there are too many.
+static void too_many(void) {
+    seamless_node one = open_node(SEAMLESS_DANP, M1), other = open_node(SEAMLESS_DANP, M1);
+    uint8_t octets[SEAMLESS_MAX_FRAME];
+    for (unsigned source = 0; source < 1200; source++) {
+        char text[200];
+        snprintf(text, sizeof text, "020000000001 02000000%04x 0800 Z46 0000 a034 88fb", 256 + source);
+        in(source < 600 ? &one : &other, SEAMLESS_A, 0, text);
+        seamless_take(&one, SEAMLESS_H, octets, sizeof octets);
+        seamless_take(&other, SEAMLESS_H, octets, sizeof octets);
+    }
+    size_t count;
+    expect("the snapshot of 600 sources", seamless_snapshot(&other, snapshot, sizeof snapshot, &count) == 0 && count == 7 + 600 * 784);
+    expect("there is no room for the sources of both", seamless_absorb(&one, snapshot, count) == SEAMLESS_TABLE_FULL);
+    seamless_close(&one);
+    seamless_close(&other);
+}
+
 static void counters(void) {
     seamless_node node = open_node(SEAMLESS_DANP, M1);
     seamless_counters_entry at_a, at_h;
@@ -226,12 +372,20 @@ static void closed(seamless_node *node, const char *name) {
     seamless_node_entry entry = {.seq_a = 7};
     seamless_alarm_entry alarm = {.at = 7};
     seamless_counters_entry counted = {.sent = 7};
+    seamless_proxied_entry proxied = {.at = 7};
+    seamless_cursor cursor = {7, 7, 7};
+    size_t count = 7;
     expect(name, seamless_receive(node, SEAMLESS_A, octets, 60, 0) == SEAMLESS_CLOSED && seamless_send(node, octets, 60, 0) == SEAMLESS_CLOSED &&
                      seamless_tick(node, 0) == SEAMLESS_CLOSED && seamless_take(node, SEAMLESS_A, octets, sizeof octets) == 0 && octets[0] == 7 &&
                      seamless_waiting(node, SEAMLESS_A) == 0 && seamless_time(node) == 0 &&
                      seamless_counters(node, SEAMLESS_A, &counted) == SEAMLESS_CLOSED && counted.sent == 7 &&
                      seamless_node_at(node, 0, &entry) == SEAMLESS_CLOSED && seamless_node_of(node, M1, &entry) == SEAMLESS_CLOSED && entry.seq_a == 7 &&
-                     seamless_alarm_at(node, 0, &alarm) == SEAMLESS_CLOSED && alarm.at == 7 && seamless_close(node) == SEAMLESS_CLOSED && !node->at);
+                     seamless_alarm_at(node, 0, &alarm) == SEAMLESS_CLOSED && seamless_proxied_at(node, 0, &proxied) == SEAMLESS_CLOSED &&
+                     seamless_nodes(node, &entry, 1, &count) == SEAMLESS_CLOSED && seamless_alarms(node, &alarm, 1, &count) == SEAMLESS_CLOSED &&
+                     seamless_alarms_since(node, &cursor, &alarm, 1) == SEAMLESS_CLOSED && seamless_proxied(node, &proxied, 1, &count) == SEAMLESS_CLOSED &&
+                     seamless_snapshot(node, octets, sizeof octets, &count) == SEAMLESS_CLOSED && seamless_absorb(node, octets, 7) == SEAMLESS_CLOSED &&
+                     entry.seq_a == 7 && alarm.at == 7 && proxied.at == 7 && cursor.number == 7 && cursor.missed == 7 && cursor.count == 7 && count == 7 &&
+                     octets[0] == 7 && seamless_close(node) == SEAMLESS_CLOSED && !node->at);
 }
 
 static void closed_handles(void) {
@@ -247,10 +401,16 @@ static void closed_handles(void) {
 
 int main(void) {
     expect("the library has this interface", seamless_abi() == SEAMLESS_ABI);
+    expect("it has this version", seamless_version() == SEAMLESS_VERSION);
     prp_node();
     ring_nodes();
     supervision();
     others();
+    lists();
+    alarms();
+    proxied();
+    snapshots();
+    too_many();
     counters();
     wrong_setups();
     wrong_ports();

@@ -11,6 +11,7 @@ use Rattle.sr_endpoint.specs.Endpoints.{state_by}
 use Rattle.sr_c.specs.declared.entries.NodeEntry.{NodeEntry}
 use Rattle.sr_c.specs.declared.entries.AlarmEntry.{AlarmEntry}
 use Rattle.sr_c.specs.declared.entries.CountersEntry.{CountersEntry}
+use Rattle.sr_c.specs.declared.entries.ProxiedEntry.{ProxiedEntry}
 use Rattle.sr_c.specs.Codes.{argument, port_number}
 
 -- the octets of an address that may be missing: zeros then
@@ -37,6 +38,9 @@ node_entry s = record {
 abbrev pub alarm_entry : Alarm → AlarmEntry
 alarm_entry (alarm.RingError mac port at) = record { mac = mac.0; kind = 1; port = port_number port; at = at }
 alarm_entry (alarm.NodeDown mac at) = record { mac = mac.0; kind = 2; port = 0; at = at }
+
+abbrev pub proxied_entry : Mac × ℕ → ProxiedEntry
+proxied_entry p = record { mac = p.0.0; at = p.1 }
 
 -- what is counted at a port
 abbrev pub counters_entry : Endpoint → Port → CountersEntry
@@ -65,3 +69,8 @@ TellsAlarm (Some alarm) code old new = (code ≡ 0) × (new ≡ alarm_entry alar
 abbrev pub TellsCounters : Option Port → Endpoint → ℕ → CountersEntry → CountersEntry → Type 0
 TellsCounters None e code old new = (code ≡ argument) × (new ≡ old)
 TellsCounters (Some port) e code old new = (code ≡ 0) × (new ≡ counters_entry e port)
+
+-- an address is put into an entry, or there is none and the entry stays
+abbrev pub TellsProxied : Option (Mac × ℕ) → ℕ → ProxiedEntry → ProxiedEntry → Type 0
+TellsProxied None code old new = (code ≡ argument) × (new ≡ old)
+TellsProxied (Some p) code old new = (code ≡ 0) × (new ≡ proxied_entry p)

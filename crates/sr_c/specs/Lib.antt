@@ -3,4 +3,5 @@ pub mod Codes
 pub mod Entries
 pub mod Follows
 pub mod Handles
+pub mod Lists
 pub mod Setups

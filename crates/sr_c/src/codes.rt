@@ -1,14 +1,18 @@
 //! What the calls answer, as numbers.
 
 ghost use Rattle.std.specs.Prelude.{◌≡◌};
-ghost use Rattle.sr_c.specs.Codes.{fault_code, port_number, port_of, received_code, stepped_code};
+ghost use Rattle.sr_c.specs.Codes.{snapshot_code, fault_code, port_number, port_of, received_code, stepped_code, taken_over_code};
 
 use bitflags::Flags;
+use sr_dup_table::DupFault;
 use sr_forwarding::{Outlets, Port};
 use sr_node::{Answer, StepFault};
 
 /// An allocation failed.
 pub(crate) const NO_MEMORY: u32 = 261;
+
+/// As many other sources are remembered as there may be.
+const TABLE_FULL: u32 = 259;
 
 /// An argument that may not be given.
 pub(crate) const ARGUMENT: u32 = 262;
@@ -18,6 +22,12 @@ pub(crate) const CLOSED: u32 = 263;
 
 /// The handle is open already.
 pub(crate) const OPEN: u32 = 264;
+
+/// The octets are no snapshot.
+const SNAPSHOT: u32 = 265;
+
+/// What two nodes have noted of a source is half of all numbers apart.
+const APART: u32 = 267;
 
 /// The frame that came in was the node's own.
 const OWN: u32 = 16;
@@ -78,5 +88,28 @@ pub(crate) fn stepped_code(outcome: Result<Answer, StepFault>) -> u32
     match outcome {
         Ok(_) => 0,
         Err(fault) => fault_code(fault),
+    }
+}
+
+/// The number for a snapshot that is refused.
+pub(crate) fn snapshot_code(fault: DupFault) -> u32
+    ensures { result ≡ snapshot_code fault }
+{
+    match fault {
+        DupFault::TableFull => TABLE_FULL,
+        DupFault::NoMemory => NO_MEMORY,
+        DupFault::Apart(_) => APART,
+        DupFault::OtherWidth => ARGUMENT,
+        DupFault::BadSnapshot => SNAPSHOT,
+    }
+}
+
+/// The number for a snapshot that is taken over or refused.
+pub(crate) fn taken_over_code(outcome: Result<(), DupFault>) -> u32
+    ensures { result ≡ taken_over_code outcome }
+{
+    match outcome {
+        Ok(()) => 0,
+        Err(fault) => snapshot_code(fault),
     }
 }

@@ -1,7 +1,7 @@
 //! What a C program is told, in structs of numbers.
 
 ghost use Rattle.std.specs.Prelude.{◌≡◌};
-ghost use Rattle.sr_c.specs.Entries.{TellsAlarm, TellsCounters, TellsStatus, alarm_entry, node_entry, octets_or_zeros};
+ghost use Rattle.sr_c.specs.Entries.{TellsAlarm, TellsCounters, TellsProxied, TellsStatus, alarm_entry, node_entry, octets_or_zeros, proxied_entry};
 
 use crate::codes::{ARGUMENT, port_number};
 use sr_endpoint::Endpoint;
@@ -64,6 +64,28 @@ pub struct CountersEntry {
     pub no_memory: u64,
 }
 
+/// An address that a RedBox stands for.
+#[repr(C)]
+#[derive(Clone, Copy, Drop)]
+pub struct ProxiedEntry {
+    /// The address.
+    pub mac: [u8; 6],
+    /// When it was last heard at the interlink, in milliseconds.
+    pub at: u64,
+}
+
+/// Where a program stands that asks for alarms again and again.
+#[repr(C)]
+#[derive(Clone, Copy, Drop)]
+pub struct CursorEntry {
+    /// The number of the next alarm that it wants.
+    pub number: u64,
+    /// How many of those that it wanted are not kept any more.
+    pub missed: u64,
+    /// How many it was told.
+    pub count: u64,
+}
+
 // The octets of an address that may be missing: zeros then.
 fn octets_of(mac: Option<Mac>) -> [u8; 6]
     ensures { result ≡ octets_or_zeros mac }
@@ -74,8 +96,8 @@ fn octets_of(mac: Option<Mac>) -> [u8; 6]
     }
 }
 
-// What is told of a node.
-fn node_entry(status: &Status) -> NodeEntry
+/// What is told of a node.
+pub(crate) fn node_entry(status: &Status) -> NodeEntry
     ensures { result ≡ node_entry status.now }
 {
     let Mac(mac) = status.addr;
@@ -90,8 +112,8 @@ fn node_entry(status: &Status) -> NodeEntry
     }
 }
 
-// An alarm.
-fn alarm_entry(alarm: &Alarm) -> AlarmEntry
+/// An alarm.
+pub(crate) fn alarm_entry(alarm: &Alarm) -> AlarmEntry
     ensures { result ≡ alarm_entry alarm.now }
 {
     let (kind, mac, port, at) = match alarm {
@@ -125,6 +147,26 @@ pub(crate) fn tell_alarm(told: Option<Alarm>, entry: &mut AlarmEntry) -> u32
         return ARGUMENT;
     };
     *entry = alarm_entry(&alarm);
+    0
+}
+
+/// An address that a RedBox stands for.
+pub(crate) fn proxied_entry(proxied: &(Mac, u64)) -> ProxiedEntry
+    ensures { result ≡ proxied_entry proxied.now }
+{
+    let (address, at) = *proxied;
+    let Mac(mac) = address;
+    ProxiedEntry { mac, at }
+}
+
+/// Puts an address into an entry.
+pub(crate) fn tell_proxied(told: Option<(Mac, u64)>, entry: &mut ProxiedEntry) -> u32
+    ensures { TellsProxied told result entry.old entry.new }
+{
+    let Some(proxied) = told else {
+        return ARGUMENT;
+    };
+    *entry = proxied_entry(&proxied);
     0
 }
 

@@ -1,12 +1,12 @@
 //! How a handle is opened and closed.
 
 ghost use Rattle.std.specs.Prelude.{◌≡◌};
-ghost use Rattle.sr_c.specs.Calls.{ClosesAs, OpensAs};
+ghost use Rattle.sr_c.specs.Calls.{ClosesAs, OpensAs, ResumesAs};
 ghost use Rattle.sr_c.specs.Setups.{setup_by};
 
-use crate::codes::{ARGUMENT, CLOSED, NO_MEMORY, OPEN};
+use crate::codes::{ARGUMENT, CLOSED, NO_MEMORY, OPEN, snapshot_code};
 use crate::handle::Handle;
-use crate::making::{SetupEntry, endpoint_of, entry_keys, setup_of};
+use crate::making::{SetupEntry, endpoint_of, entry_keys, resumed_of, setup_of};
 use sr_raw_box::RawBox;
 use std::alloc::Global;
 
@@ -19,6 +19,17 @@ pub extern "C" fn seamless_abi() -> u32
     ensures { result ≡ 1 }
 {
     ABI
+}
+
+/// The version of the library: 10000 for the first number, 100 for the second, 1 for the third.
+const VERSION: u32 = 400;
+
+/// The version of the library.
+#[unsafe(no_mangle)]
+pub extern "C" fn seamless_version() -> u32
+    ensures { result ≡ 400 }
+{
+    VERSION
 }
 
 /// Makes a node, which the handle keeps then.
@@ -38,6 +49,31 @@ pub extern "C" fn seamless_make(alloc: Global, setup: &SetupEntry, node: &mut Ha
             0
         }
         Err(_) => NO_MEMORY,
+    }
+}
+
+/// Makes a node that goes on with what a snapshot says, which the handle keeps then.
+#[unsafe(no_mangle)]
+pub extern "C" fn seamless_remake(
+    alloc: Global,
+    setup: &SetupEntry,
+    octets: &[u8],
+    node: &mut Handle,
+) -> u32
+    ensures { ResumesAs (setup_by setup.now) octets.now result node.old.value node.new.value }
+{
+    if node.is_open() {
+        return OPEN;
+    }
+    let Some(wanted) = setup_of(setup) else {
+        return ARGUMENT;
+    };
+    match resumed_of(alloc, &wanted, entry_keys(setup), octets) {
+        Ok(endpoint) => {
+            *node = Handle::of_raw_box(RawBox::of(endpoint));
+            0
+        }
+        Err(fault) => snapshot_code(fault),
     }
 }
 

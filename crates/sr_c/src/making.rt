@@ -1,11 +1,13 @@
 //! How a node is made of what a C program says.
 
-ghost use Rattle.std.specs.Prelude.{◌≡◌, IfOk};
+ghost use Rattle.std.specs.Prelude.{◌≡◌, IfErr, IfOk};
+ghost use Rattle.sr_endpoint.specs.AlarmLogs.{no_alarms};
 ghost use Rattle.sr_endpoint.specs.Counting.{no_traffic};
 ghost use Rattle.sr_endpoint.specs.Endpoints.{new_state, state_by};
+ghost use Rattle.sr_endpoint.specs.Snapshots.{JoinsSnapshot, RefusesSnapshot};
 ghost use Rattle.sr_c.specs.Setups.{has_key, kind_by, lan_by, mode_by, net_by, prp_kind, setup_by, width_by};
 
-use sr_dup_table::Width;
+use sr_dup_table::{DupFault, Width};
 use sr_endpoint::{Endpoint, Setup};
 use sr_forwarding::{NetId, RoleKind};
 use sr_frame::{Mac, NoMemory};
@@ -145,9 +147,28 @@ pub(crate) fn endpoint_of(
     keys: Keys,
 ) -> Result<Box<Endpoint>, NoMemory>
     ensures begun { IfOk result (λ e. state_by e.value ≡ new_state setup.now) }
-    ensures uncounted { IfOk result (λ e. e.value.counters ≡ no_traffic) }
+    ensures uncounted { IfOk result (λ e. (e.value.counters ≡ no_traffic)
+        × (e.value.log ≡ no_alarms)) }
 {
     boxed(alloc, Endpoint::new(alloc, setup, keys)?)
+}
+
+/// A node that goes on with what a snapshot says, in a box.
+pub(crate) fn resumed_of(
+    alloc: Global,
+    setup: &Setup,
+    keys: Keys,
+    octets: &[u8],
+) -> Result<Box<Endpoint>, DupFault>
+    ensures resumed { IfOk result (λ e.
+        JoinsSnapshot (new_state setup.now) octets.now (state_by e.value)) }
+    ensures refused { IfErr result (λ fault.
+        RefusesSnapshot (new_state setup.now) octets.now fault) }
+    ensures uncounted { IfOk result (λ e. (e.value.counters ≡ no_traffic)
+        × (e.value.log ≡ no_alarms)) }
+{
+    let endpoint = Endpoint::resumed(alloc, setup, keys, octets)?;
+    Ok(boxed(alloc, endpoint)?)
 }
 
 /// A node in a box.

@@ -7,11 +7,12 @@ ghost use Rattle.sr_node.specs.Arriving.{arrival_answer};
 ghost use Rattle.sr_node.specs.Octets.{TakesOctets};
 ghost use Rattle.sr_node.specs.States.{state_of};
 ghost use Rattle.sr_node.specs.Steps.{TakesEvent};
+ghost use Rattle.sr_endpoint.specs.AlarmLogs.{Looks, no_alarms};
 ghost use Rattle.sr_endpoint.specs.Counting.{after_arrival, no_traffic};
 ghost use Rattle.sr_endpoint.specs.AnyRoles.{image_of};
 ghost use Rattle.sr_endpoint.specs.Endpoints.{new_state, state_by};
 
-use crate::{AnyRole, Counters, Setup};
+use crate::{AlarmLog, AnyRole, Counters, Setup};
 use sr_forwarding::{Outlets, PortFraming, ReadFault, Role, framing_at};
 use sr_frame::{Frame, FrameFault, MAX_FRAME_LEN, NoMemory, Port, view};
 use sr_node::{Answer, Event, NodeOf, StepFault};
@@ -23,6 +24,7 @@ use std::alloc::{AllocError, Global};
 pub struct Endpoint {
     pub(crate) node: NodeOf<AnyRole>,
     pub(crate) counters: Counters,
+    pub(crate) log: AlarmLog,
     pub(crate) alloc: Global,
     // The frame that the host sends.
     pub(crate) sending: Vec<u8>,
@@ -95,7 +97,7 @@ impl Endpoint {
     /// A new node, whose tables have these keys. NoMemory: an allocation failed.
     pub fn new(alloc: Global, setup: &Setup, keys: Keys) -> Result<Endpoint, NoMemory>
         ensures begun { IfOk result (λ e. state_by e ≡ new_state setup.now) }
-        ensures uncounted { IfOk result (λ e. e.counters ≡ no_traffic) }
+        ensures uncounted { IfOk result (λ e. (e.counters ≡ no_traffic) × (e.log ≡ no_alarms)) }
     {
         let sending = room(alloc)?;
         let frame = room(alloc)?;
@@ -104,6 +106,7 @@ impl Endpoint {
         Ok(Endpoint {
             node,
             counters: Counters::none(),
+            log: AlarmLog::new(alloc),
             alloc,
             sending,
             frame,
@@ -120,6 +123,7 @@ impl Endpoint {
         ensures takes { TakesOctets arrival_answer (carriage (state_by self.old).role.kind port)
             (state_by self.old) port octets.now now result (state_by self.new) }
         ensures counted { self.new.counters ≡ after_arrival self.old.counters port result }
+        ensures unlogged { self.new.log ≡ self.old.log }
     {
         let outcome = receive_at(&mut self.node, port, octets, now);
         self.counters.count_arrival(port, &outcome);
@@ -132,6 +136,7 @@ impl Endpoint {
             (event.Send octets.now now) result (state_by self.new) }
         ensures same { OnErr result (state_by self.new ≡ state_by self.old) }
         ensures uncounted { self.new.counters ≡ self.old.counters }
+        ensures unlogged { self.new.log ≡ self.old.log }
     {
         refill(&mut self.sending, octets)?;
         send_list(self.alloc, &mut self.node, &mut self.sending, now)
@@ -144,17 +149,32 @@ impl Endpoint {
             (event.Send octets.now now) result (state_by self.new) }
         ensures same { OnErr result (state_by self.new ≡ state_by self.old) }
         ensures counted { self.new.counters ≡ after_arrival self.old.counters Port.H result }
+        ensures unlogged { self.new.log ≡ self.old.log }
     {
         let outcome = self.send_uncounted(octets, now);
         self.counters.count_arrival(Port::H, &outcome);
         outcome
     }
 
-    /// Time passes.
+    // Looks at the alarms, where memory is to be had.
+    fn note_alarms(&mut self)
+        ensures same { state_by self.new ≡ state_by self.old }
+        ensures uncounted { self.new.counters ≡ self.old.counters }
+        ensures looked { Looks (state_by self.old).core.nodes.alarms self.old.log self.new.log }
+    {
+        if let Ok(alarms) = self.node.alarms() {
+            self.log.look(alarms);
+        }
+    }
+
+    /// Time passes. The alarms that are raised are counted, unless an allocation fails: then a later look at them does it.
     pub fn tick(&mut self, now: u64) -> Result<Answer, StepFault>
         ensures takes { TakesEvent (state_by self.old) (event.Tick now) result (state_by self.new) }
         ensures uncounted { self.new.counters ≡ self.old.counters }
+        ensures looked { Looks (state_by self.new).core.nodes.alarms self.old.log self.new.log }
     {
-        self.node.step(&Event::Tick { now })
+        let outcome = self.node.step(&Event::Tick { now });
+        self.note_alarms();
+        outcome
     }
 }

@@ -2,14 +2,19 @@
 
 ghost use Rattle.std.specs.Prelude.{◌≡◌, ◌<◌, ◌≤◌, ◌+◌, ◌++◌, length, take, IfSome, IfNone};
 ghost use Rattle.sr_forwarding.specs.Encoding.{IsWritten};
+ghost use Rattle.sr_forwarding.specs.Framings.{Tagged, Trailed};
 ghost use Rattle.sr_forwarding.specs.Kinds.{carriage};
+ghost use Rattle.sr_forwarding.specs.Parcels.{plain_of};
 ghost use Rattle.sr_node.specs.Outboxes.{box_at};
 ghost use Rattle.sr_node.specs.PerPort.{at};
 ghost use Rattle.sr_endpoint.specs.Counting.{after_taken};
 ghost use Rattle.sr_endpoint.specs.Endpoints.{state_by, IsFirstOut};
 
 use crate::{Counters, Endpoint};
-use sr_forwarding::{Form, Framing, Parcel, PortFraming, RoleKind, framing_at};
+use sr_forwarding::{
+    Form, Framing, HsrFraming, Parcel, PortFraming, PrpFraming, RoleKind, framing_at,
+    tagged_pieces, trailed_pieces,
+};
 use sr_frame::Port;
 
 /// Puts octets in two pieces at the front of a buffer, and answers how many they are. None, and the buffer stays, where it is shorter,
@@ -30,18 +35,73 @@ fn put(buffer: &mut [u8], front: &[u8], behind: &[u8]) -> Option<usize>
     Some(count)
 }
 
-/// What a parcel goes out as at a port, in two pieces of its own octets. None where its framing is to write a tag or a trailer.
-fn pieces_of(kind: RoleKind, port: Port, parcel: &Parcel) -> Option<(&[u8], &[u8])>
-    ensures written { IfSome result (λ pieces. IsWritten (carriage kind port) parcel.now.form
-        parcel.now (pieces.0.now ++ pieces.1.now)) }
-    ensures size { IfSome result (λ pieces. length pieces.0.now + length pieces.1.now ≤ 1524) }
+/// Puts a parcel that its framing writes anew. The list `frame` is used again.
+fn put_written<F: Framing>(
+    framing: &F,
+    parcel: &Parcel,
+    frame: &mut Vec<u8>,
+    buffer: &mut [u8],
+) -> Option<usize>
+    ensures put { IfSome result (λ count. IsWritten (F.meaning framing.now) parcel.now.form
+        parcel.now (take count buffer.new)) }
+    ensures some { IfSome result (λ count. 0 < count) }
+    ensures same { IfNone result (buffer.new ≡ buffer.old) }
 {
-    match (framing_at(kind, port), parcel.form()) {
-        (PortFraming::Plain(_), _) => Some(parcel.plain_pieces()),
-        (PortFraming::Hsr(_), Form::Hsr) => Some((parcel.octets(), &[])),
-        (PortFraming::Prp(_), Form::Prp) => Some((parcel.octets(), &[])),
-        _ => None,
+    frame.clear();
+    framing.write(frame, &parcel.view()).ok()?;
+    put(buffer, frame, &[])
+}
+
+/// Puts a parcel as it goes out in a ring. The list `frame` is used again where it does not go out in pieces of its own octets.
+fn put_tagged(
+    framing: HsrFraming,
+    parcel: &Parcel,
+    frame: &mut Vec<u8>,
+    buffer: &mut [u8],
+) -> Option<usize>
+    ensures put { IfSome result (λ count. IsWritten (Tagged framing.path) parcel.now.form
+        parcel.now (take count buffer.new)) }
+    ensures some { IfSome result (λ count. 0 < count) }
+    ensures same { IfNone result (buffer.new ≡ buffer.old) }
+{
+    if let Form::Hsr = parcel.form() {
+        return put(buffer, parcel.octets(), &[]);
     }
+    if let Some(pieces) = tagged_pieces(parcel, framing) {
+        return put(buffer, &pieces.0, pieces.1);
+    }
+    put_written(&framing, parcel, frame, buffer)
+}
+
+/// Puts a parcel as it goes out in a LAN. The list `frame` is used again where it does not go out in pieces of its own octets.
+fn put_trailed(
+    framing: PrpFraming,
+    parcel: &Parcel,
+    frame: &mut Vec<u8>,
+    buffer: &mut [u8],
+) -> Option<usize>
+    ensures put { IfSome result (λ count. IsWritten (Trailed framing.lan framing.net)
+        parcel.now.form parcel.now (take count buffer.new)) }
+    ensures some { IfSome result (λ count. 0 < count) }
+    ensures same { IfNone result (buffer.new ≡ buffer.old) }
+{
+    if let Form::Prp = parcel.form() {
+        return put(buffer, parcel.octets(), &[]);
+    }
+    if let Some(pieces) = trailed_pieces(parcel, framing) {
+        return put(buffer, pieces.0, &pieces.1);
+    }
+    put_written(&framing, parcel, frame, buffer)
+}
+
+/// Puts a parcel as an ordinary frame.
+fn put_plain(parcel: &Parcel, buffer: &mut [u8]) -> Option<usize>
+    ensures put { IfSome result (λ count. take count buffer.new ≡ plain_of parcel.now) }
+    ensures some { IfSome result (λ count. 0 < count) }
+    ensures same { IfNone result (buffer.new ≡ buffer.old) }
+{
+    let (front, behind) = parcel.plain_pieces();
+    put(buffer, front, behind)
 }
 
 /// Puts what a parcel goes out as at a port at the front of a buffer, and answers how many octets it has. The list `frame` is used again.
@@ -58,12 +118,11 @@ fn put_parcel(
     ensures some { IfSome result (λ count. 0 < count) }
     ensures same { IfNone result (buffer.new ≡ buffer.old) }
 {
-    if let Some((front, behind)) = pieces_of(kind, port, parcel) {
-        return put(buffer, front, behind);
+    match framing_at(kind, port) {
+        PortFraming::Plain(_) => put_plain(parcel, buffer),
+        PortFraming::Hsr(framing) => put_tagged(framing, parcel, frame, buffer),
+        PortFraming::Prp(framing) => put_trailed(framing, parcel, frame, buffer),
     }
-    frame.clear();
-    framing_at(kind, port).write(frame, &parcel.view()).ok()?;
-    put(buffer, frame, &[])
 }
 
 impl Endpoint {
@@ -73,6 +132,7 @@ impl Endpoint {
         ensures given { IfSome result (λ count. IsFirstOut (state_by self.old) port
             (take count buffer.new) (state_by self.new)) }
         ensures some { IfSome result (λ count. 0 < count) }
+        ensures unlogged { self.new.log ≡ self.old.log }
         ensures counted { IfSome result (λ _. self.new.counters
             ≡ after_taken self.old.counters port) }
         ensures kept { IfNone result (state_by self.new ≡ state_by self.old) }

@@ -70,6 +70,28 @@ pub struct AlarmEntry {
     pub at: u64,
 }
 
+/// An address that a RedBox stands for.
+#[repr(C)]
+#[derive(Clone, Copy, Debug, Default, PartialEq, Eq)]
+pub struct ProxiedEntry {
+    /// The address.
+    pub mac: [u8; 6],
+    /// When it was last heard at the interlink, in milliseconds.
+    pub at: u64,
+}
+
+/// Where a program stands that asks for alarms again and again.
+#[repr(C)]
+#[derive(Clone, Copy, Debug, Default, PartialEq, Eq)]
+pub struct Cursor {
+    /// The number of the next alarm that it wants.
+    pub number: u64,
+    /// How many of those that it wanted are not kept any more.
+    pub missed: u64,
+    /// How many it was told.
+    pub count: u64,
+}
+
 /// What was counted at a port.
 #[repr(C)]
 #[derive(Clone, Copy, Debug, Default, PartialEq, Eq)]
@@ -94,7 +116,9 @@ pub struct Counters {
 
 extern "C" {
     pub fn seamless_abi() -> u32;
+    pub fn seamless_version() -> u32;
     pub fn seamless_open(setup: *const Setup, node: *mut Handle) -> u32;
+    pub fn seamless_resume(setup: *const Setup, octets: *const u8, count: usize, node: *mut Handle) -> u32;
     pub fn seamless_close(node: *mut Handle) -> u32;
     pub fn seamless_receive(node: *mut Handle, port: u32, octets: *const u8, count: usize, now: u64) -> u32;
     pub fn seamless_send(node: *mut Handle, octets: *const u8, count: usize, now: u64) -> u32;
@@ -105,5 +129,12 @@ extern "C" {
     pub fn seamless_counters(node: *mut Handle, port: u32, entry: *mut Counters) -> u32;
     pub fn seamless_node_at(node: *mut Handle, index: usize, entry: *mut NodeEntry) -> u32;
     pub fn seamless_node_of(node: *mut Handle, mac: *const [u8; 6], entry: *mut NodeEntry) -> u32;
+    pub fn seamless_nodes(node: *mut Handle, entries: *mut NodeEntry, capacity: usize, count: *mut usize) -> u32;
     pub fn seamless_alarm_at(node: *mut Handle, index: usize, entry: *mut AlarmEntry) -> u32;
+    pub fn seamless_alarms(node: *mut Handle, entries: *mut AlarmEntry, capacity: usize, count: *mut usize) -> u32;
+    pub fn seamless_alarms_since(node: *mut Handle, cursor: *mut Cursor, entries: *mut AlarmEntry, capacity: usize) -> u32;
+    pub fn seamless_proxied(node: *mut Handle, entries: *mut ProxiedEntry, capacity: usize, count: *mut usize) -> u32;
+    pub fn seamless_proxied_at(node: *mut Handle, index: usize, entry: *mut ProxiedEntry) -> u32;
+    pub fn seamless_snapshot(node: *mut Handle, octets: *mut u8, capacity: usize, count: *mut usize) -> u32;
+    pub fn seamless_absorb(node: *mut Handle, octets: *const u8, count: usize) -> u32;
 }

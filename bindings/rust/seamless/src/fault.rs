@@ -17,6 +17,10 @@ pub enum Fault {
     NoMemory,
     /// A network or a key that there is not.
     Argument,
+    /// The octets are no snapshot.
+    Snapshot,
+    /// What two nodes have noted of a source is 32768 numbers apart.
+    Apart,
     /// The processor is older than x86-64-v2.
     Processor,
     /// The library has another interface than this crate was written for.
@@ -32,6 +36,8 @@ impl fmt::Display for Fault {
             Fault::OutboxFull => "an outbox is full",
             Fault::NoMemory => "out of memory",
             Fault::Argument => "there is no such network or key",
+            Fault::Snapshot => "the octets are no snapshot",
+            Fault::Apart => "two records of a source are 32768 apart",
             Fault::Processor => "the processor is older than x86-64-v2",
             Fault::Interface => "the library has another interface",
         })
@@ -50,6 +56,8 @@ pub(crate) fn taken(answer: u32) -> Result<u32, Fault> {
         260 => Err(Fault::OutboxFull),
         261 => Err(Fault::NoMemory),
         262 => Err(Fault::Argument),
+        265 => Err(Fault::Snapshot),
+        267 => Err(Fault::Apart),
         268 => Err(Fault::Processor),
         _ => Err(Fault::Interface),
     }

@@ -15,6 +15,11 @@ use std::time::Duration;
 /// The most octets of a frame that goes out.
 pub const MAX_FRAME: usize = 1524;
 
+/// How many other nodes are known, how many alarms are kept, and how many addresses a RedBox stands for, at most.
+const MAX_NODES: usize = 1024;
+const MAX_ALARMS: usize = 64;
+const MAX_PROXIED: usize = 256;
+
 /// An address.
 pub type Mac = [u8; 6];
 
@@ -210,6 +215,32 @@ impl Alarm {
     }
 }
 
+/// An address that a RedBox stands for.
+#[derive(Clone, Copy, Debug, PartialEq, Eq)]
+pub struct Proxied {
+    /// The address.
+    pub mac: Mac,
+    /// When it was last heard at the interlink.
+    pub at: Duration,
+}
+
+/// Alarms since an earlier call.
+#[derive(Clone, Debug, Default, PartialEq, Eq)]
+pub struct AlarmsSince {
+    /// They, the oldest first.
+    pub alarms: Vec<Alarm>,
+    /// How many more were raised, and are not kept any more.
+    pub missed: u64,
+    /// The number with which to ask the next time.
+    pub next: u64,
+}
+
+/// The version of the library that is linked: its three numbers.
+pub fn version() -> (u32, u32, u32) {
+    let version = unsafe { sys::seamless_version() };
+    (version / 10000, version / 100 % 100, version % 100)
+}
+
 fn milliseconds(now: Duration) -> u64 {
     u64::try_from(now.as_millis()).unwrap_or(u64::MAX)
 }
@@ -224,12 +255,44 @@ unsafe impl Send for Node {}
 impl Node {
     /// A new node. `Argument`: there is no such network, or the key is all 0. `Interface`: the library is another than this crate was written for.
     pub fn new(setup: &Setup) -> Result<Node, Fault> {
+        Node::opened(|handle| unsafe { sys::seamless_open(&setup.entry(), handle) })
+    }
+
+    /// A new node that goes on with the record of duplicates of a snapshot: after a restart it hands up no second copy of what was handed up
+    /// before. Its time is the greatest at which a source of the snapshot was heard. A snapshot of a node of the other window is read at the
+    /// setup's. `Snapshot`: the octets are none. The rest: as `new`.
+    pub fn resumed(setup: &Setup, snapshot: &[u8]) -> Result<Node, Fault> {
+        Node::opened(|handle| unsafe { sys::seamless_resume(&setup.entry(), snapshot.as_ptr(), snapshot.len(), handle) })
+    }
+
+    fn opened(open: impl FnOnce(&mut sys::Handle) -> u32) -> Result<Node, Fault> {
         if unsafe { sys::seamless_abi() } != sys::ABI {
             return Err(Fault::Interface);
         }
         let mut handle = sys::Handle { at: std::ptr::null_mut() };
-        fault::taken(unsafe { sys::seamless_open(&setup.entry(), &mut handle) })?;
+        fault::taken(open(&mut handle))?;
         Ok(Node(handle))
+    }
+
+    /// What the node has noted of each source, as octets. They are the same on every machine.
+    pub fn snapshot(&mut self) -> Result<Vec<u8>, Fault> {
+        let mut octets = Vec::new();
+        loop {
+            let mut count = 0;
+            fault::taken(unsafe { sys::seamless_snapshot(&mut self.0, octets.as_mut_ptr(), octets.len(), &mut count) })?;
+            if count <= octets.len() {
+                octets.truncate(count);
+                return Ok(octets);
+            }
+            octets.resize(count, 0);
+        }
+    }
+
+    /// Takes over what the snapshot of another node says, as a standby does: what both have noted of each source is joined, at the later of
+    /// both times. `Snapshot`: the octets are none. `TableFull`: both together have over 1024 sources. `Apart`: so are two of their records.
+    pub fn absorb(&mut self, snapshot: &[u8]) -> Result<(), Fault> {
+        fault::taken(unsafe { sys::seamless_absorb(&mut self.0, snapshot.as_ptr(), snapshot.len()) })?;
+        Ok(())
     }
 
     /// Octets come in at port A, B or C.
@@ -282,20 +345,35 @@ impl Node {
         (unsafe { sys::seamless_node_of(&mut self.0, &mac, &mut entry) } == 0).then(|| Status::of(entry))
     }
 
-    /// What is told of the other nodes, in the order of first hearing.
-    pub fn nodes(&mut self) -> impl Iterator<Item = Status> + '_ {
-        (0..).map_while(|index| {
-            let mut entry = sys::NodeEntry::default();
-            (unsafe { sys::seamless_node_at(&mut self.0, index, &mut entry) } == 0).then(|| Status::of(entry))
-        })
+    /// What is told of the other nodes, in the order of first hearing, at this moment. None where an allocation failed.
+    pub fn nodes(&mut self) -> impl Iterator<Item = Status> {
+        let (mut entries, mut count) = (vec![sys::NodeEntry::default(); MAX_NODES], 0);
+        unsafe { sys::seamless_nodes(&mut self.0, entries.as_mut_ptr(), MAX_NODES, &mut count) };
+        entries.into_iter().take(count).map(Status::of)
     }
 
-    /// The alarms that are kept, the oldest first.
-    pub fn alarms(&mut self) -> impl Iterator<Item = Alarm> + '_ {
-        (0..).map_while(|index| {
-            let mut entry = sys::AlarmEntry::default();
-            (unsafe { sys::seamless_alarm_at(&mut self.0, index, &mut entry) } == 0).then(|| Alarm::of(entry))
-        })
+    /// The alarms that are kept, the oldest first, at this moment. None where an allocation failed.
+    pub fn alarms(&mut self) -> impl Iterator<Item = Alarm> {
+        let (mut entries, mut count) = ([sys::AlarmEntry::default(); MAX_ALARMS], 0);
+        unsafe { sys::seamless_alarms(&mut self.0, entries.as_mut_ptr(), MAX_ALARMS, &mut count) };
+        entries.into_iter().take(count).map(Alarm::of)
+    }
+
+    /// The alarms from a number on: they are numbered from 0, in the order in which they were raised. Begin with 0, and go on with `next`:
+    /// then each alarm is told once.
+    pub fn alarms_since(&mut self, number: u64) -> Result<AlarmsSince, Fault> {
+        let mut cursor = sys::Cursor { number, ..sys::Cursor::default() };
+        let mut entries = [sys::AlarmEntry::default(); MAX_ALARMS];
+        fault::taken(unsafe { sys::seamless_alarms_since(&mut self.0, &mut cursor, entries.as_mut_ptr(), MAX_ALARMS) })?;
+        let alarms = entries.into_iter().take(cursor.count as usize).map(Alarm::of).collect();
+        Ok(AlarmsSince { alarms, missed: cursor.missed, next: cursor.number })
+    }
+
+    /// The addresses that a RedBox for SANs stands for, in the order of first hearing, at this moment. None where an allocation failed.
+    pub fn proxied(&mut self) -> impl Iterator<Item = Proxied> {
+        let (mut entries, mut count) = ([sys::ProxiedEntry::default(); MAX_PROXIED], 0);
+        unsafe { sys::seamless_proxied(&mut self.0, entries.as_mut_ptr(), MAX_PROXIED, &mut count) };
+        entries.into_iter().take(count).map(|it| Proxied { mac: it.mac, at: Duration::from_millis(it.at) })
     }
 }
 

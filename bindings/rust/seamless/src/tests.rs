@@ -76,6 +76,49 @@ fn other_nodes_and_alarms() {
 }
 
 #[test]
+fn alarms_are_told_once() {
+    let (mut node, later) = (node(Role::Danp), Duration::from_millis(3001));
+    assert_eq!(node.alarms_since(0), Ok(AlarmsSince::default()));
+    node.receive(Port::B, &copy(7, 0xb), later).unwrap();
+    node.tick(later).unwrap();
+    let alarm = Alarm::NotHeardAt(Port::A, OTHER, later);
+    assert_eq!(node.alarms_since(0), Ok(AlarmsSince { alarms: vec![alarm], missed: 0, next: 1 }));
+    assert_eq!(node.alarms_since(1), Ok(AlarmsSince { alarms: vec![], missed: 0, next: 1 }));
+}
+
+#[test]
+fn a_redbox_tells_whom_it_stands_for() {
+    let (mut node, at) = (node(Role::RedBoxSan), Duration::from_millis(5));
+    assert_eq!(node.proxied().count(), 0);
+    node.receive(Port::C, &plain(), at).unwrap();
+    assert_eq!(node.proxied().collect::<Vec<_>>(), [Proxied { mac: OTHER, at }]);
+}
+
+#[test]
+fn a_record_goes_from_node_to_node() {
+    let (mut one, mut standby, at) = (node(Role::Danp), node(Role::Danp), Duration::from_millis(100));
+    one.receive(Port::A, &copy(5, 0xa), at).unwrap();
+    let snapshot = one.snapshot().unwrap();
+    assert_eq!(snapshot.len(), 7 + 784);
+    let wide = Setup { window: Window::Wide, ..Setup::new(Role::Danp, OWN, Key::Fixed) };
+    let mut resumed = Node::resumed(&wide, &snapshot).unwrap();
+    assert_eq!(resumed.time(), at);
+    standby.absorb(&snapshot).unwrap();
+    for node in [&mut resumed, &mut standby] {
+        assert_eq!(passed(node.receive(Port::B, &copy(5, 0xb), at)), []);
+        assert_eq!(passed(node.receive(Port::B, &copy(6, 0xb), at)), [Port::H]);
+    }
+    assert_eq!(Node::resumed(&wide, &snapshot[1..]).err(), Some(Fault::Snapshot));
+    assert_eq!(standby.absorb(&[]), Err(Fault::Snapshot));
+}
+
+#[test]
+fn the_version_is_that_of_the_crate() {
+    let (major, minor, patch) = version();
+    assert_eq!(format!("{major}.{minor}.{patch}"), env!("CARGO_PKG_VERSION"));
+}
+
+#[test]
 fn a_node_goes_to_another_thread() {
     let mut node = node(Role::Danh);
     let back = std::thread::spawn(move || {
