@@ -1,0 +1,81 @@
+#compdef seamless
+# Completions of seamless for zsh. lint/manual.py writes this file.
+_seamless() {
+    case "$words[2] $words[CURRENT-1]" in
+    "replay --role") compadd -- danp danh san prp hsr ;;
+    "replay --mac") ;;
+    "replay --lan") compadd -- a b ;;
+    "replay --net") ;;
+    "replay --mode") compadd -- h x ;;
+    "replay --window") compadd -- 1024 2048 ;;
+    "status --role") compadd -- danp danh san prp hsr ;;
+    "status --mac") ;;
+    "status --lan") compadd -- a b ;;
+    "status --net") ;;
+    "status --mode") compadd -- h x ;;
+    "status --window") compadd -- 1024 2048 ;;
+    "script --a") _files ;;
+    "script --b") _files ;;
+    "script --c") _files ;;
+    "script --shift-a") ;;
+    "script --shift-b") ;;
+    "script --shift-c") ;;
+    "script --fcs") compadd -- 4 ;;
+    "script --from") ;;
+    "script --to") ;;
+    "script --tick") ;;
+    "audit --a") _files ;;
+    "audit --b") _files ;;
+    "audit --mirror") _files ;;
+    "audit --network") compadd -- prp hsr ;;
+    "audit --shift-a") ;;
+    "audit --shift-b") ;;
+    "audit --fcs") compadd -- 4 ;;
+    "audit --from") ;;
+    "audit --to") ;;
+    "audit --list") ;;
+    "audit --format") compadd -- text json csv svg ;;
+    "merge --a") _files ;;
+    "merge --b") _files ;;
+    "merge --write") _files ;;
+    "merge --network") compadd -- prp hsr ;;
+    "merge --shift-a") ;;
+    "merge --shift-b") ;;
+    "merge --fcs") compadd -- 4 ;;
+    "merge --from") ;;
+    "merge --to") ;;
+    "merge --only") compadd -- lost ;;
+    "ring --nodes") ;;
+    "ring --turns") ;;
+    "ring --mode") compadd -- h x ;;
+    "ring --window") compadd -- 1024 2048 ;;
+    "lan --nodes") ;;
+    "lan --turns") ;;
+    "lan --mode") compadd -- h x ;;
+    "lan --window") compadd -- 1024 2048 ;;
+    "ring-lan --ring") ;;
+    "ring-lan --lan") ;;
+    "ring-lan --mode") compadd -- h x ;;
+    "ring-lan --window") compadd -- 1024 2048 ;;
+    "two-rings --left") ;;
+    "two-rings --right") ;;
+    "two-rings --joins") ;;
+    "two-rings --mode") compadd -- h x ;;
+    "two-rings --window") compadd -- 1024 2048 ;;
+    *)
+        case "$CURRENT $words[2]" in
+        "2 "*) compadd -- replay status script audit merge ring lan ring-lan two-rings --help --version ;;
+        *" replay") compadd -- --role --mac --lan --net --mode --window --help ;;
+        *" status") compadd -- --role --mac --lan --net --mode --window --counters --help ;;
+        *" script") compadd -- --a --b --c --shift-a --shift-b --shift-c --fcs --from --to --tick --help ;;
+        *" audit") compadd -- --a --b --mirror --network --shift-a --shift-b --fcs --from --to --list --format --check --help ;;
+        *" merge") compadd -- --a --b --write --network --shift-a --shift-b --fcs --from --to --keep --only --help ;;
+        *" ring") compadd -- --nodes --turns --mode --window --help ;;
+        *" lan") compadd -- --nodes --turns --mode --window --help ;;
+        *" ring-lan") compadd -- --ring --lan --mode --window --help ;;
+        *" two-rings") compadd -- --left --right --joins --mode --window --help ;;
+        esac
+        ;;
+    esac
+}
+_seamless "$@"

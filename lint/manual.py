@@ -10,11 +10,14 @@ import sys
 from pathlib import Path
 
 ROOT = Path(__file__).resolve().parent.parent
+# Where the first sentence of an explanation ends, or its list of words begins.
+FIRST_SENTENCE_ENDS = r"\. | Possible values| \["
 STATUSES = [
     ("0", "A good run, or the version."),
     ("1", "A fault of the script, of a capture, of a read or of a write, or an allocation that failed."),
     ("2", "A fault of the command line, or the help."),
     ("3", "A fault of the network that audit --check found."),
+    ("4", "Captures of which audit --check can judge nothing."),
 ]
 
 
@@ -157,7 +160,7 @@ def fish(program):
         lines.append(f"complete -c seamless -n __fish_use_subcommand -a {name} -d {quoted(about)}")
         for option, takes, about in taken(text):
             behind = " -r -F" if takes == "file" else " -x" if takes == "value" else f" -x -a {quoted(' '.join(takes))}" if takes else ""
-            lines.append(f"complete -c seamless -n '__fish_seen_subcommand_from {name}' -l {option[2:]}{behind} -d {quoted(about.split('. ')[0])}")
+            lines.append(f"complete -c seamless -n '__fish_seen_subcommand_from {name}' -l {option[2:]}{behind} -d {quoted(re.split(FIRST_SENTENCE_ENDS, about)[0])}")
     return "\n".join(lines) + "\n"
 
 
