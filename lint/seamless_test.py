@@ -73,7 +73,7 @@ class Seamless(unittest.TestCase):
         (self.top / "tools" / "rt").write_text(TOOLCHAIN)
         (self.top / "tools" / "rt").chmod(0o755)
         (self.top / "lint").mkdir()
-        for name in ("build.py", "times.py", "workspace.py"):
+        for name in ("build.py", "times.py", "workspace.py", "sources.sh"):
             shutil.copy(HERE / name, self.top / "lint" / name)
         shutil.copy(HERE.parent / "seamless", self.top / "seamless")
         (self.top / ".git").mkdir()
@@ -250,16 +250,16 @@ class Seamless(unittest.TestCase):
     def test_the_kit_and_the_commit_of_a_version(self):
         (self.top / ".git").rmdir()
         self.call().communicate(timeout=PATIENCE)
-        self.assertEqual(self.call("--version").communicate(timeout=PATIENCE), ("--version\nkit kit-1\n", ""))
+        self.assertEqual(self.call("--version").communicate(timeout=PATIENCE), ("--version\nkit kit-1\nbuilt here\n", ""))
         self.git("init")
         self.git("add", "crates.txt")
         self.git("commit", "--message", "First")
         commit = self.git("rev-parse", "--short=12", "HEAD")
-        self.assertEqual(self.call("--version").communicate(timeout=PATIENCE), (f"--version\nkit kit-1\ncommit {commit}\n", ""))
+        self.assertEqual(self.call("--version").communicate(timeout=PATIENCE), (f"--version\nkit kit-1\ncommit {commit}\nbuilt here\n", ""))
         self.assertEqual(self.call("--version", "x").communicate(timeout=PATIENCE), ("--version x\n", ""))
         with open(self.top / "crates.txt", "a") as listed:
             listed.write("# changed\n")
-        self.assertEqual(self.call("-V").communicate(timeout=PATIENCE)[0], f"-V\nkit kit-1\ncommit {commit}, changed since\n")
+        self.assertEqual(self.call("-V").communicate(timeout=PATIENCE)[0], f"-V\nkit kit-1\ncommit {commit}, changed since\nbuilt here\n")
 
 
 class Order(unittest.TestCase):
