@@ -5,7 +5,7 @@ else once as a whole line. It belongs to the function that it stands in; one in 
 constant; one that no function names is tried alone, over the whole crate. It is refused where its own function has an open goal of
 its own, masked where its function is not tried for a callee that is open, and has got through where its function is proved.
 
-A refusal in lint/refused.txt rests on this file as it stood (ledger.py): what only says which wrong bodies are tried together,
+A refusal that the ledger has rests on this file as it stood (ledger.py): what only says which wrong bodies are tried together,
 and when, is in rounds.py."""
 import functools
 import re
@@ -13,7 +13,7 @@ import subprocess
 from dataclasses import dataclass, field
 from pathlib import Path
 
-from workspace import closure, crates_below, is_library_old
+from workspace import closure, crates_below, how_to_build_below, is_library_old
 
 # What a wrong body comes to. The first is what is wanted; a masked one says nothing yet.
 REFUSED, MASKED, PROVED, BAD, UNKNOWN = "refused", "masked", "NOT REFUSED", "BAD EDIT", "NOT TRIED"
@@ -187,7 +187,7 @@ def question(root, name, only):
     ours = closure(below, [name])[:-1]
     old = [it for it in ours if is_library_old(root, below, it)]
     if old:
-        raise Unusable(f"{' '.join(old)} is not built as it stands: flock seamless python3 -B lint/build.py --below {name}")
+        raise Unusable(f"{' '.join(old)} is not built as it stands: {how_to_build_below(name)}")
     library = {it: root / "crates" / it / "out" / "rlib" / f"{it}.rlib" for it in ours}
     library |= {it: at / "rlibs" / f"{it}.rlib" for it in ("std", *below[name]) if it not in below}
     root_file = next(it for it in ("src/lib.rt", "src/main.rt") if (root / "crates" / name / it).is_file())
@@ -200,6 +200,12 @@ def question(root, name, only):
 
 
 # Reading what the prover says.
+
+
+def unbroken(said):
+    """What the prover says, each message in one line: it breaks off what is long, and goes on further in."""
+    return re.sub(r"\n  +", " ", said)
+
 
 GONE = re.compile(r"has no field|is not in scope|has no `|was not admitted|can be named from here")
 
@@ -215,14 +221,14 @@ UNFOUND = re.compile(r"no proof: expected answers in .*; `search` did not prove 
 
 def line_of(said, crate, function):
     """What is said of the function as a whole."""
-    found = re.search(rf"^fn {crate}::{re.escape(function.path)}: (.*)$", said, re.M)
+    found = re.search(rf"^fn {crate}::{re.escape(function.path)}: (.*)$", unbroken(said), re.M)
     return found[1] if found else ""
 
 
 def open_goal(said, function):
     """The first goal of the function that stays open, as the prover names it. A proof that only names what is gone is none."""
     own, closures = function.proofs()
-    for line in said.split("\n"):
+    for line in unbroken(said).split("\n"):
         inside = re.match(r"note: (src/\S+?):(\d+):\d+: (.*)", line)
         if inside and inside[1] == function.file and function.first <= int(inside[2]) <= function.last and "not proved" in inside[3]:
             return named_in(inside[3])
@@ -261,7 +267,6 @@ def verdict_on_edit(said, crate, edit):
     return next((it for kind in (REFUSED, MASKED, UNKNOWN, PROVED) for it in verdicts if it[0] == kind))
 
 
-
 def strangers(said, crate, functions, edited):
     """Functions without a wrong body that have an open goal of their own: the crate is not proved as it stands."""
     own = {it.path for it in edited}
@@ -295,7 +300,7 @@ def verdict_on_whole(said, functions):
 
 def reaches(said, crate, caller, callee):
     """Whether a function is not tried for this callee, straight or by others between."""
-    seen, left = set(), [caller.path]
+    said, seen, left = unbroken(said), set(), [caller.path]
     while left:
         found = re.search(rf"^fn {crate}::{re.escape(left.pop())}: .*?it calls (.*)$", said, re.M)
         for path in re.findall(rf"`{crate}::([\w:]+)`", found[1] if found else ""):

@@ -52,6 +52,11 @@ def is_library_old(root, below, name):
     return any(it.stat().st_mtime_ns > made for part in parts if part.is_dir() for it in (part, *part.rglob("*")))
 
 
+def how_to_build_below(name):
+    """The command that builds what stands below a crate."""
+    return f"flock seamless python3 -B lint/build.py --below {name}"
+
+
 def lines_of(root, name):
     """How many lines of source, definitions and proofs a crate has."""
     return sum(path.read_bytes().count(b"\n") for path in files_of(root, name))
