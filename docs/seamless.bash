@@ -1,4 +1,4 @@
-# Completions of seamless for bash. lint/manual.py writes this file.
+# Completions of seamless for bash. gate/manual.py writes this file.
 _seamless() {
     local words=""
     case "${COMP_WORDS[1]} ${COMP_WORDS[COMP_CWORD - 1]}" in

@@ -1,4 +1,4 @@
-# Completions of seamless for fish. lint/manual.py writes this file.
+# Completions of seamless for fish. gate/manual.py writes this file.
 complete -c seamless -f
 complete -c seamless -n __fish_use_subcommand -a replay -d 'Prints the frames that the node hands out'
 complete -c seamless -n '__fish_seen_subcommand_from replay' -l role -x -a 'danp danh san prp hsr' -d 'The role of the node'

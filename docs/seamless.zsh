@@ -1,5 +1,5 @@
 #compdef seamless
-# Completions of seamless for zsh. lint/manual.py writes this file.
+# Completions of seamless for zsh. gate/manual.py writes this file.
 _seamless() {
     case "$words[2] $words[CURRENT-1]" in
     "replay --role") compadd -- danp danh san prp hsr ;;

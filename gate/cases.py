@@ -14,7 +14,7 @@ A case is a folder that is named for what it shows. Of its files only `args` has
     stdin-is, stdout-is   in place of `stdin` and `stdout`: the path of the file, where a document or another case has it too
     *.pcap, *.pcapng   captures that `args` names
 
-In the place of all but `args` and captures there may be `rows`: many runs in one file, each with a name (lint/case_rows.py).
+In the place of all but `args` and captures there may be `rows`: many runs in one file, each with a name (gate/case_rows.py).
 
 cases.py [--program PATH] [NAME..]: the cases of these names, all where none is given, of the program at PATH, ./seamless
 where none is given."""

@@ -2,11 +2,13 @@
 """The man page and the completions have what the help of a program says."""
 import os
 import subprocess
+import sys
 import tempfile
 import unittest
 from pathlib import Path
 
-import manual
+sys.path.insert(0, str(Path(__file__).resolve().parent.parent))
+import manual  # noqa: E402
 
 # A program with one subcommand, which says what it is asked for on the output that ./seamless uses.
 PROGRAM = """#!/bin/sh

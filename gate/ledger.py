@@ -1,4 +1,4 @@
-"""The ledger of refusals, lint/refused.txt: crates all of whose wrong bodies the rounds have seen refused, each with the sum of what
+"""The ledger of refusals, gate/refused.txt: crates all of whose wrong bodies the rounds have seen refused, each with the sum of what
 that hangs on. While the sum is the same, trying them anew shows the same.
 
 A refusal hangs on the crate's own sources, definitions and proofs, on its wrong bodies, on those three of each crate of the
@@ -15,8 +15,8 @@ from workspace import PARTS, closure, crates_below, files_of
 
 DAYS = 5
 JUDGE = Path(__file__).resolve().parent / "judge.py"
-HEAD = """# Crates all of whose wrong bodies were refused, each with the sum of what that hangs on (lint/ledger.py).
-# Written by lint/rounds.py --write alone.
+HEAD = """# Crates all of whose wrong bodies were refused, each with the sum of what that hangs on (gate/ledger.py).
+# Written by gate/rounds.py --write alone.
 """
 
 
@@ -34,7 +34,7 @@ class Ledger:
     """What the ledger of a repository has, and what it is to have."""
 
     def __init__(self, root):
-        self.root, self.file, self.below = root, root / "lint" / "refused.txt", crates_below(root)
+        self.root, self.file, self.below = root, root / "gate" / "refused.txt", crates_below(root)
         lines = self.file.read_text().split("\n") if self.file.is_file() else []
         self.entries = dict(line.split(": ") for line in lines if ": " in line and not line.startswith("#"))
         self.kit, self.judge, self.sums = kit_line(), JUDGE.read_bytes(), {}

@@ -9,7 +9,7 @@ In a round as many are put into a copy of the crate as stand in different functi
 functions and for what they call. A wrong body that is masked, or one of a round that does not compile, waits for a later round.
 What a wrong body comes to is told in judge.py.
 
-The ledger is lint/refused.txt: crates all of whose wrong bodies were refused, each with the sum of what that hangs on
+The ledger is gate/refused.txt: crates all of whose wrong bodies were refused, each with the sum of what that hangs on
 (ledger.py). Nothing writes it but this script, and this script only with --write: it puts in each crate whose wrong bodies it has
 just seen refused, and takes out each of which it saw another thing.
 
@@ -196,7 +196,7 @@ def main(words, root=Path(__file__).resolve().parent.parent, day=None):
     if given.due:
         wanted = due(asked, ledger, time.time() // 86400 if day is None else day)
         taken = [it for it in asked if it not in wanted]
-        print(f"rounds: {sum(bodies[it] for it in taken)} wrong bodies of {len(taken)} crates were refused as they stand (lint/refused.txt): not tried anew", flush=True)
+        print(f"rounds: {sum(bodies[it] for it in taken)} wrong bodies of {len(taken)} crates were refused as they stand (gate/refused.txt): not tried anew", flush=True)
     passed, failed = try_all(root, wanted, ledger, bodies if given.write else None)
     used = resource.getrusage(resource.RUSAGE_CHILDREN)
     print(f"rounds: {used.ru_utime + used.ru_stime:.0f} CPU seconds")

@@ -1,13 +1,13 @@
 #!/usr/bin/env python3
 """Refuses each allocation of each test in turn, and sees that the test passes all the same.
 
-    ./refuse [WORD..]        the tests whose names have one of these words; all without a word
+    gate/allocations.py [WORD..]     the tests whose names have one of these words; all without a word
 
 The drivers of the tests make a call that was refused again, and see that nothing changed in between. So a test that passes with
 its Nth allocation refused, for every N, shows that of each call it makes. One run of the test forks at each allocation
-(tools/refusing.c); behind the start of a thread there is a run for each N. Tests are built as `rt test` leaves them in out/, and
+(gate/c/refusing.c); behind the start of a thread there is a run for each N. Tests are built as `rt test` leaves them in out/, and
 proved first where a source is newer. A long test is run once instead, with every Kth allocation of its first thread
-refused. The program is run on cases of examples/cases too, once for each N (tools/refused_runs.py). tools/refused.txt names the
+refused. The program is run on cases of examples/cases too, once for each N (gate/allocation_runs.py). gate/allocations.txt names the
 calls and the test in which each is swept, the long tests, the cases, and the tests that are left out. The last line is
 `N passed, M failed`.
 """
@@ -20,11 +20,9 @@ import subprocess
 import sys
 import tempfile
 
-TOP = os.path.dirname(os.path.realpath(__file__))
-sys.dont_write_bytecode = True
-sys.path.insert(0, f"{TOP}/tools")
-import refused_runs  # noqa: E402
+import allocation_runs
 
+TOP = os.path.dirname(os.path.dirname(os.path.realpath(__file__)))
 CRATES = tuple(f"sr_{it}_tests" for it in "format table capture node network script ports workers threaded".split())
 # A child that takes longer hangs.
 SECONDS = 20
@@ -170,7 +168,7 @@ def programs(folder):
     for crate in CRATES:
         program = f"{folder}/{crate}_tests" if folder else f"{TOP}/crates/{crate}/out/{crate}_tests"
         if not folder and is_old(program, crate):
-            print(f"refuse: building {crate}", flush=True)
+            print(f"allocations: building {crate}", flush=True)
             subprocess.run(["rt", "test"], cwd=f"{TOP}/crates/{crate}", stdout=subprocess.DEVNULL)
             os.utime(program)
         made[crate] = program
@@ -195,7 +193,7 @@ def library_in(room):
     """Builds the library that refuses."""
     library = f"{room}/refusing.so"
     subprocess.run([os.environ.get("CC", "cc"), "-O2", "-Wall", "-Werror", "-shared", "-fPIC", "-o", library,
-                    f"{TOP}/tools/refusing.c"], check=True)
+                    f"{TOP}/gate/c/refusing.c"], check=True)
     return library
 
 
@@ -209,7 +207,7 @@ def jobs(made, program, listed, library, room):
             elif not listed.leaves_out(name):
                 yield name, functools.partial(sweep, tests, test, library, room)
     for subcommand, case in listed.runs:
-        yield f"{subcommand}::{case}", functools.partial(refused_runs.sweep, Found(), program, subcommand, case, library, room, SECONDS,
+        yield f"{subcommand}::{case}", functools.partial(allocation_runs.sweep, Found(), program, subcommand, case, library, room, SECONDS,
                                                         EACH)
 
 
@@ -224,27 +222,27 @@ def sweep_all(made, program, words, listed, room):
             name, found = running[done], done.result()
             swept[name] = found
             verdict = "ok" if not found.faults else f"FAILED ({len(found.faults)}): {'; '.join(found.faults[:5])}"
-            print(f"refuse: {name}: {found.refused} of {found.asked} ... {verdict}", flush=True)
+            print(f"allocations: {name}: {found.refused} of {found.asked} ... {verdict}", flush=True)
     return swept
 
 
-def main(words, folder=None, listed=f"{TOP}/tools/refused.txt"):
+def main(words, folder=None, listed=f"{TOP}/gate/allocations.txt"):
     listed = Table(listed)
     made = programs(folder)
     program = the_program(folder) if listed.runs else None
-    with tempfile.TemporaryDirectory(prefix="refuse-") as room:
+    with tempfile.TemporaryDirectory(prefix="allocations-") as room:
         swept = sweep_all(made, program, words, listed, room)
     failed = sum(bool(it.faults) for it in swept.values())
     if not words:
         known = {f"{crate}::{test}" for crate, program in made.items() for test in tests_of(program)}
         for lost in listed.lost(known):
-            print(f"refuse: tools/refused.txt {lost}, which is no test")
+            print(f"allocations: gate/allocations.txt {lost}, which is no test")
             failed += 1
         for name, tests in listed.calls:
             lost = [it for it in tests if it not in swept]
             failed += bool(lost)
             of = [f"{swept[it].refused} of {swept[it].asked}" for it in tests if it in swept]
-            print(f"refuse: {name}: {', '.join(of)}" + (f" ... FAILED: not swept: {' '.join(lost)}" if lost else ""))
+            print(f"allocations: {name}: {', '.join(of)}" + (f" ... FAILED: not swept: {' '.join(lost)}" if lost else ""))
     print(f"{len(swept) - sum(bool(it.faults) for it in swept.values())} passed, {failed} failed")
     return bool(failed)
 

@@ -2,14 +2,16 @@
 """A run that is as its case says passes, and each thing that can be wrong is found out."""
 import contextlib
 import io
+import sys
 import tempfile
 import time
 import unittest
 from pathlib import Path
 from unittest import mock
 
-import case_rows
-import cases
+sys.path.insert(0, str(Path(__file__).resolve().parent.parent))
+import case_rows  # noqa: E402
+import cases  # noqa: E402
 
 # Prints its input, says its arguments, each in brackets, and ends with 3.
 PROGRAM = """#!/bin/sh

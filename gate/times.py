@@ -3,7 +3,7 @@
 
 times.py COMMAND..   runs the command, and notes in out/times.txt what the checks that it starts take: of each crate its proof, its
                      tests, its must-fail edits and its rounds of wrong bodies
-times.py --write     writes what was noted on this machine into lint/times.txt, which is the table for those that noted nothing
+times.py --write     writes what was noted on this machine into gate/times.txt, which is the table for those that noted nothing
 
 A line of either file is a crate, a part and seconds. Of a crate that no table has the time is taken from its lines. Nothing rests on
 these figures but what is said of the time, and in which order crates are built."""
@@ -24,7 +24,7 @@ AT_LEAST = {"proof": 15, "tests": 15, "edits": 30, "rounds": 30}
 OF_A_LINE = {"proof": 0.06, "tests": 0.1, "edits": 0.04, "rounds": 0.04}
 EVERY = 1.0
 TICKS = os.sysconf("SC_CLK_TCK")
-HEAD = "# Seconds of a processor that a part of each crate takes in the gate. Written by lint/times.py --write alone.\n"
+HEAD = "# Seconds of a processor that a part of each crate takes in the gate. Written by gate/times.py --write alone.\n"
 
 
 def read(file):
@@ -38,7 +38,7 @@ class Times:
     """The times that are known: those of this machine, or else those of the repository."""
 
     def __init__(self, root):
-        self.root, self.noted, self.given = root, root / "out" / "times.txt", root / "lint" / "times.txt"
+        self.root, self.noted, self.given = root, root / "out" / "times.txt", root / "gate" / "times.txt"
         self.seconds = {**read(self.given), **read(self.noted)}
 
     def of(self, name, part):

@@ -10,7 +10,7 @@ import tempfile
 import unittest
 from pathlib import Path
 
-TOP = Path(__file__).resolve().parent.parent
+TOP = Path(__file__).resolve().parent.parent.parent
 CRATES = {"sr_low": "", "sr_cli": "sr_low", "sr_c": "sr_low"}
 RELEASED = b'#!/bin/sh\n[ "$1" = --version ] && echo "seamless 1.0" || echo "released $*"\n'
 LIBRARY = b"an archive"
@@ -40,7 +40,7 @@ class Release(unittest.TestCase):
     def setUp(self):
         self.top = Path(tempfile.mkdtemp())
         self.addCleanup(shutil.rmtree, self.top)
-        for name in ("seamless", "install", "release/compare", "lint/sources.sh", "lint/build.py", "lint/times.py", "lint/workspace.py"):
+        for name in ("seamless", "install", "release/compare", "gate/sources.sh", "gate/build.py", "gate/times.py", "gate/workspace.py"):
             self.copy(name)
         for name in ("clib/Makefile", "clib/processor.c", "clib/seamless.map", "clib/seamless.pc.in", "clib/include/seamless.h"):
             self.copy(name)
@@ -68,7 +68,7 @@ class Release(unittest.TestCase):
 
     def release(self):
         """Makes the release of the tree as it stands."""
-        told = f"cd {self.top} && top=$PWD && . lint/sources.sh && sum_of_sources"
+        told = f"cd {self.top} && top=$PWD && . gate/sources.sh && sum_of_sources"
         sources = subprocess.run(["bash", "-c", told], capture_output=True, text=True, check=True).stdout.strip()
         lines = ["version 1.0", "kit kit-1", "cc none", f"sources {sources}"]
         for name, octets in (("seamless-x86_64-linux", RELEASED), ("libseamless-x86_64-linux.a", LIBRARY)):

@@ -4,14 +4,16 @@ crates whose wrong bodies were refused."""
 import contextlib
 import io
 import shutil
+import sys
 import tempfile
 import unittest
 from pathlib import Path
 from unittest import mock
 
-import judge
-import ledger
-import rounds
+sys.path.insert(0, str(Path(__file__).resolve().parent.parent))
+import judge  # noqa: E402
+import ledger  # noqa: E402
+import rounds  # noqa: E402
 
 SOURCE = """//! A crate to put wrong bodies into.
 #![tactic(auto)]
@@ -92,7 +94,7 @@ class Workspace(unittest.TestCase):
     def setUp(self):
         self.top = Path(tempfile.mkdtemp())
         self.addCleanup(shutil.rmtree, self.top)
-        (self.top / "lint").mkdir()
+        (self.top / "gate").mkdir()
 
     def write(self, name, text):
         path = self.top / name
@@ -200,7 +202,7 @@ step-{name}-requires c = omega arith
         self.write("crates/low/src/lib.rt", "//! Nothing.\n")
         said, status, _, whole = self.tried({"steps_twice": WRONG["steps_twice"]})
         self.assertEqual((said, status), ({"steps_twice": "NOT TRIED"}, 1), whole)
-        self.assertIn("low is not built as it stands: flock seamless python3 -B lint/build.py --below small", whole)
+        self.assertIn("low is not built as it stands: flock seamless python3 -B gate/build.py --below small", whole)
 
     def test_once_as_a_whole_line(self):
         text = "    let a = self.n;\n    self.n\n    self.n = 2;\n"
@@ -249,11 +251,11 @@ class Refusals(Workspace):
         return sorted(self.tried), status, said
 
     def written(self):
-        return [line.split(": ")[0] for line in (self.top / "lint" / "refused.txt").read_text().split("\n") if line and not line.startswith("#")]
+        return [line.split(": ")[0] for line in (self.top / "gate" / "refused.txt").read_text().split("\n") if line and not line.startswith("#")]
 
     def test_what_was_refused_is_not_tried_anew(self):
         self.assertEqual(self.due()[:2], (["beside", "high", "middle"], 0))
-        self.assertFalse((self.top / "lint" / "refused.txt").exists())
+        self.assertFalse((self.top / "gate" / "refused.txt").exists())
         self.assertEqual(self.due("--write")[0], ["beside", "high", "middle"])
         self.assertEqual(self.written(), ["beside", "high", "middle"])
         tried, status, said = self.due()

@@ -14,10 +14,11 @@ import unittest
 from pathlib import Path
 from unittest import mock
 
-import ledger
-import plan
-import times
-import workspace
+sys.path.insert(0, str(Path(__file__).resolve().parent.parent))
+import ledger  # noqa: E402
+import plan  # noqa: E402
+import times  # noqa: E402
+import workspace  # noqa: E402
 
 # A crate, what it stands on, and its lines.
 CRATES = {"low": ([], 1), "left": (["low"], 1), "right": (["low", "std"], 1), "top": (["left", "right"], 1), "beside": ([], 1)}
@@ -205,7 +206,7 @@ class Plan(Small):
         for name in ("left", "right"):
             self.write(f"crates/{name}/wrong/one.edit", "")
         proofs = "low proof 600\nleft proof 300\nright proof 1200\ntop proof 60\ntop tests 240\nbeside proof 600\n"
-        self.write("lint/times.txt", proofs + "low edits 120\nleft rounds 240\nright rounds 360\n")
+        self.write("gate/times.txt", proofs + "low edits 120\nleft rounds 240\nright rounds 360\n")
 
     def test_from_nothing(self):
         said = self.told(set())
@@ -228,7 +229,7 @@ class Plan(Small):
 
 class Table(Small):
     def test_what_is_known(self):
-        self.write("lint/times.txt", "# A comment.\nlow proof 10\nleft proof 20\n")
+        self.write("gate/times.txt", "# A comment.\nlow proof 10\nleft proof 20\n")
         self.write("out/times.txt", "low proof 11\n")
         known = times.Times(self.top)
         self.assertEqual([known.of(it, "proof") for it in ("low", "left")], [11, 20])
@@ -238,9 +239,9 @@ class Table(Small):
         times.Times(self.top).note({("low", "proof"): 3.6, ("gone", "proof"): 5})
         times.Times(self.top).note({("low", "rounds"): 7})
         self.assertEqual((self.top / "out" / "times.txt").read_text(), "gone proof 5\nlow proof 4\nlow rounds 7\n")
-        self.assertFalse((self.top / "lint").exists())
+        self.assertFalse((self.top / "gate").exists())
         times.Times(self.top).write()
-        self.assertEqual((self.top / "lint" / "times.txt").read_text(), times.HEAD + "low proof 4\nlow rounds 7\n")
+        self.assertEqual((self.top / "gate" / "times.txt").read_text(), times.HEAD + "low proof 4\nlow rounds 7\n")
 
     def test_parts(self):
         rows = [

@@ -12,10 +12,11 @@ import time
 import unittest
 from pathlib import Path
 
-import build
-import workspace
+sys.path.insert(0, str(Path(__file__).resolve().parent.parent))
+import build  # noqa: E402
+import workspace  # noqa: E402
 
-HERE = Path(__file__).resolve().parent
+GATE = Path(__file__).resolve().parent.parent
 # A machine that does much else is slow.
 PATIENCE = 120
 # In place of the toolchain: writes down which crate it builds and when, sees that what stands below is built, takes a moment, and makes a
@@ -72,10 +73,10 @@ class Seamless(unittest.TestCase):
         (self.top / "tools").mkdir()
         (self.top / "tools" / "rt").write_text(TOOLCHAIN)
         (self.top / "tools" / "rt").chmod(0o755)
-        (self.top / "lint").mkdir()
+        (self.top / "gate").mkdir()
         for name in ("build.py", "times.py", "workspace.py", "sources.sh"):
-            shutil.copy(HERE / name, self.top / "lint" / name)
-        shutil.copy(HERE.parent / "seamless", self.top / "seamless")
+            shutil.copy(GATE / name, self.top / "gate" / name)
+        shutil.copy(GATE.parent / "seamless", self.top / "seamless")
         (self.top / ".git").mkdir()
 
     def tools(self):
@@ -182,7 +183,7 @@ class Seamless(unittest.TestCase):
     def test_old_libraries_go(self):
         self.call().communicate(timeout=PATIENCE)
         self.change("sr_left", "changed\n")
-        subprocess.run([sys.executable, "-B", self.top / "lint" / "build.py", "--drop-old"], check=True)
+        subprocess.run([sys.executable, "-B", self.top / "gate" / "build.py", "--drop-old"], check=True)
         self.assertEqual([it for it in CRATES if (self.top / "crates" / it / "out" / "rlib").exists()], ["sr_low", "sr_right"])
 
     def test_one_that_was_only_touched(self):
@@ -196,7 +197,7 @@ class Seamless(unittest.TestCase):
         self.assertEqual(self.begun().count("sr_low"), 1)
 
     def test_what_stands_below(self):
-        build_below = [sys.executable, "-B", self.top / "lint" / "build.py", "--below", "sr_left", "sr_other"]
+        build_below = [sys.executable, "-B", self.top / "gate" / "build.py", "--below", "sr_left", "sr_other"]
         subprocess.run(build_below, env=self.tools(), check=True, capture_output=True)
         self.assertEqual(self.begun(), ["sr_low"])
 
@@ -268,9 +269,9 @@ class Order(unittest.TestCase):
     def setUp(self):
         self.top = Path(tempfile.mkdtemp())
         self.addCleanup(shutil.rmtree, self.top)
-        (self.top / "lint").mkdir()
+        (self.top / "gate").mkdir()
         (self.top / "crates.txt").write_text("low:\nlong: low\nshort: low\nlast: long short\nalone:\n")
-        (self.top / "lint" / "times.txt").write_text("low proof 10\nlong proof 100\nshort proof 20\nlast proof 30\nalone proof 25\n")
+        (self.top / "gate" / "times.txt").write_text("low proof 10\nlong proof 100\nshort proof 20\nlast proof 30\nalone proof 25\n")
         for name in ("low", "long", "short", "last", "alone"):
             (self.top / "crates" / name / "src").mkdir(parents=True)
             (self.top / "crates" / name / "src" / "lib.rt").write_text("\n")

@@ -1,10 +1,10 @@
 #!/usr/bin/env python3
 """What more lines and packets of a kind cost the program: allocations, memory, reads and writes, and of some the processor's time.
 
-    tools/costs.py [PROGRAM [TESTS]]     crates/sr_cli/out/sr_cli by default, and the tests where ./refuse builds them
+    gate/costs.py [PROGRAM [TESTS]]     crates/sr_cli/out/sr_cli by default, and the tests where gate/allocations.py builds them
 
 No clause speaks of these. A row runs the program twice, the second time with more of the same, and compares what both asked of
-the machine (tools/counting.c is loaded in front of it): what has been met before is to take no allocation and no octet more.
+the machine (gate/c/counting.c is loaded in front of it): what has been met before is to take no allocation and no octet more.
 The last row is the most memory that some tests take. It takes a C compiler. The last line is `N passed, M failed`.
 """
 import os
@@ -50,7 +50,7 @@ class Costs:
         self.program, self.tests, self.room = program, tests, room
         self.library = f"{room}/counting.so"
         subprocess.run([os.environ.get("CC", "cc"), "-O2", "-Wall", "-Werror", "-shared", "-fPIC", "-o", self.library,
-                        f"{TOP}/tools/counting.c", "-ldl"], check=True)
+                        f"{TOP}/gate/c/counting.c", "-ldl"], check=True)
 
     def run_test(self, crate, test):
         program = f"{self.tests}/{crate}.prog" if self.tests else f"{TOP}/crates/{crate}/out/{crate}_tests"

@@ -120,7 +120,7 @@ def tell(root, tries_all):
     chain = max(sum_of_chain(below, alone).values())
     wall = max(chain, (parts["proofs"] + parts["must-fail edits"]) / processors()) + parts["rounds"] / processors()
     told = ", ".join(f"{name} {minutes(taken)}" for name, taken in parts.items())
-    print(f"check: about {minutes(wall)} on {processors()} processors, by the times of earlier runs (lint/times.txt); of a processor: {told}", flush=True)
+    print(f"check: about {minutes(wall)} on {processors()} processors, by the times of earlier runs (gate/times.txt); of a processor: {told}", flush=True)
 
 
 def sum_of_chain(below, alone):

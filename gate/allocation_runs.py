@@ -7,13 +7,11 @@ the fault; or it ends with status 2 and has written nothing, where the command l
 import os
 import re
 import subprocess
-import sys
 from pathlib import Path
 
-TOP = Path(__file__).resolve().parent.parent
-sys.path.insert(0, str(TOP / "lint"))
-import cases  # noqa: E402
+import cases
 
+TOP = Path(__file__).resolve().parent.parent
 CASES = TOP / "examples" / "cases"
 # Subcommands that write octets and no lines.
 OCTETS = ("merge",)

@@ -139,7 +139,7 @@ def by_case(program, subcommand, before, place, first, offers, files):
 def bash(program):
     """The completions for bash."""
     words, files = lambda them: f'words="{" ".join(them)}"', 'COMPREPLY=($(compgen -f -- "$2")) && return'
-    lines = ["# Completions of seamless for bash. lint/manual.py writes this file.", "_seamless() {", '    local words=""']
+    lines = ["# Completions of seamless for bash. gate/manual.py writes this file.", "_seamless() {", '    local words=""']
     lines += by_case(program, "${COMP_WORDS[1]}", "${COMP_WORDS[COMP_CWORD - 1]}", "$COMP_CWORD", 1, words, files)
     lines += ['    COMPREPLY=($(compgen -W "$words" -- "$2"))', "}", "complete -F _seamless seamless ./seamless"]
     return "\n".join(lines) + "\n"
@@ -147,7 +147,7 @@ def bash(program):
 
 def zsh(program):
     """The completions for zsh."""
-    lines = ["#compdef seamless", "# Completions of seamless for zsh. lint/manual.py writes this file.", "_seamless() {"]
+    lines = ["#compdef seamless", "# Completions of seamless for zsh. gate/manual.py writes this file.", "_seamless() {"]
     lines += by_case(program, "$words[2]", "$words[CURRENT-1]", "$CURRENT", 2, lambda them: f"compadd -- {' '.join(them)}", "_files")
     return "\n".join([*lines, "}", '_seamless "$@"']) + "\n"
 
@@ -155,7 +155,7 @@ def zsh(program):
 def fish(program):
     """The completions for fish."""
     quoted = lambda text: "'" + text.replace("\\", "\\\\").replace("'", "\\'") + "'"
-    lines = ["# Completions of seamless for fish. lint/manual.py writes this file.", "complete -c seamless -f"]
+    lines = ["# Completions of seamless for fish. gate/manual.py writes this file.", "complete -c seamless -f"]
     for name, about, text in subcommands(program):
         lines.append(f"complete -c seamless -n __fish_use_subcommand -a {name} -d {quoted(about)}")
         for option, takes, about in taken(text):
@@ -175,7 +175,7 @@ def main():
         if not wanted.check:
             (ROOT / path).write_text(text)
         elif not (ROOT / path).exists() or (ROOT / path).read_text() != text:
-            print(f"{path} is not what lint/manual.py writes of the program's help: run it")
+            print(f"{path} is not what gate/manual.py writes of the program's help: run it")
             status = 1
     return status
 

@@ -89,7 +89,7 @@ def planned(root):
 
 
 # Files beside the crates that have names of which documents speak.
-NAMING = ["crates.txt", "check", "seamless", "refuse", "bench/run", "lint/*.py", "lint/*.txt", "tools/*", "clib/check", "clib/*/*.h",
+NAMING = ["crates.txt", "check", "seamless", "bench/run", "gate/*.py", "gate/*.txt", "gate/c/*.c", "gate/tests/*.py", "clib/check", "clib/*/*.h",
           "bindings/*/*.py", "bindings/rust/*/*.rs", "examples/endpoint/*.[ch]", "examples/endpoint/test/*.py"]
 
 
@@ -204,15 +204,15 @@ def public_names(root):
 
 
 def shared_names(root):
-    """The names of lint/shared_names.txt, each with its crates. A line is a name, a colon and crates; # begins a comment."""
-    path = root / "lint/shared_names.txt"
+    """The names of gate/shared_names.txt, each with its crates. A line is a name, a colon and crates; # begins a comment."""
+    path = root / "gate/shared_names.txt"
     lines = path.read_text().split("\n") if path.exists() else []
     pairs = [line.split(":") for line in lines if ":" in line and not line.startswith("#")]
     return {name.strip(): set(crates.split()) for name, crates in pairs}
 
 
 def names_twice(root):
-    """One public name of specs/ is one crate's, but for those that lint/shared_names.txt lists; it lists no other."""
+    """One public name of specs/ is one crate's, but for those that gate/shared_names.txt lists; it lists no other."""
     shared = shared_names(root)
     names = public_names(root)
     for name, places in sorted(names.items()):
@@ -222,7 +222,7 @@ def names_twice(root):
             yield path, number, f"`{name}` is public in {' and '.join(sorted(crates))}"
     for name, crates in sorted(shared.items()):
         for crate in sorted(crates - set(names.get(name, {}))):
-            yield root / "lint/shared_names.txt", 1, f"`{name}` is not public in {crate}"
+            yield root / "gate/shared_names.txt", 1, f"`{name}` is not public in {crate}"
 
 
 # Where want of memory is made all the same: the fault of a script of which no line was read yet, that of a line whose refusal

@@ -54,7 +54,7 @@ def is_library_old(root, below, name):
 
 def how_to_build_below(name):
     """The command that builds what stands below a crate."""
-    return f"flock seamless python3 -B lint/build.py --below {name}"
+    return f"flock seamless python3 -B gate/build.py --below {name}"
 
 
 def lines_of(root, name):

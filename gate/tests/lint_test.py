@@ -1,10 +1,12 @@
 #!/usr/bin/env python3
 """Each rule of the lint passes a small repository in order, and finds what breaks it."""
+import sys
 import tempfile
 import unittest
 from pathlib import Path
 
-import lint
+sys.path.insert(0, str(Path(__file__).resolve().parent.parent))
+import lint  # noqa: E402
 
 IN_ORDER = {
     "crates.txt": "# Each crate.\nsr_one:\nsr_one_tests: sr_one\n",
@@ -74,14 +76,14 @@ class Lint(unittest.TestCase):
         for line in ["abbrev pub two : ℕ", "unfoldable pub two : ℕ", "pub record two : Type 0 where", "pub data two : Type 0 where"]:
             twice = {"crates/sr_one/specs/Ones.antt": line + "\n", other: "-- two\nabbrev pub two : ℕ\n"}
             self.assertEqual(self.findings(twice), [f"{other}:2: `two` is public in sr_one and sr_one_tests"])
-            listed = {**twice, "lint/shared_names.txt": "# Both.\ntwo: sr_one sr_one_tests\n"}
+            listed = {**twice, "gate/shared_names.txt": "# Both.\ntwo: sr_one sr_one_tests\n"}
             self.assertEqual(self.findings(listed), [])
         for line in ["two : ℕ", "  pub two : ℕ", "pub mod two", "-- abbrev pub two : ℕ"]:
             once = {"crates/sr_one/specs/Ones.antt": "abbrev pub two : ℕ\n", other: line + "\n"}
             self.assertEqual(self.findings(once), [], line)
         self.assertEqual(
-            self.findings({"lint/shared_names.txt": "two: sr_one\n"}),
-            ["lint/shared_names.txt:1: `two` is not public in sr_one"],
+            self.findings({"gate/shared_names.txt": "two: sr_one\n"}),
+            ["gate/shared_names.txt:1: `two` is not public in sr_one"],
         )
 
     def test_made_lacks(self):

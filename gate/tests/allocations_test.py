@@ -1,8 +1,6 @@
 #!/usr/bin/env python3
 """What goes wrong where an allocation is refused is found, and what goes well is passed."""
 import contextlib
-import importlib.machinery
-import importlib.util
 import io
 import os
 import subprocess
@@ -13,10 +11,9 @@ from pathlib import Path
 from unittest import mock
 
 sys.dont_write_bytecode = True
-PATH = str(Path(__file__).resolve().parent.parent / "refuse")
-LOADER = importlib.machinery.SourceFileLoader("refuse", PATH)
-refuse = importlib.util.module_from_spec(importlib.util.spec_from_loader("refuse", LOADER))
-LOADER.exec_module(refuse)
+sys.path.insert(0, str(Path(__file__).resolve().parent.parent))
+import allocation_runs  # noqa: E402
+import allocations  # noqa: E402
 
 # Tests as the toolchain builds them: `--list` names them, and a name runs one. A counter holds a number and its notes. `add`
 # takes memory first and changes the counter then. The planted `add_early` changes it before. Each test makes a call that was
@@ -190,12 +187,12 @@ OTHERS = ("adds_early", "hangs", "leaks", "falls", "thread_early", "soaks_early"
 class Refuse(unittest.TestCase):
     @classmethod
     def setUpClass(cls):
-        cls.room = tempfile.TemporaryDirectory(prefix="refuse-test-")
+        cls.room = tempfile.TemporaryDirectory(prefix="allocations-test-")
         source = Path(cls.room.name) / "planted.c"
         source.write_text(PROGRAM)
         subprocess.run([os.environ.get("CC", "cc"), "-O0", "-pthread", "-o", f"{cls.room.name}/planted_tests", str(source)],
                        check=True)
-        cls.library = refuse.library_in(cls.room.name)
+        cls.library = allocations.library_in(cls.room.name)
         lines = Path(cls.room.name) / "lines.c"
         lines.write_text(LINES)
         subprocess.run([os.environ.get("CC", "cc"), "-O0", "-o", f"{cls.room.name}/planted", str(lines)], check=True)
@@ -205,8 +202,8 @@ class Refuse(unittest.TestCase):
         cls.room.cleanup()
 
     def swept(self, test):
-        with mock.patch.object(refuse, "SECONDS", 1):
-            return refuse.sweep(f"{self.room.name}/planted_tests", test, self.library, self.room.name)
+        with mock.patch.object(allocations, "SECONDS", 1):
+            return allocations.sweep(f"{self.room.name}/planted_tests", test, self.library, self.room.name)
 
     def test_a_call_that_changes_nothing_passes(self):
         found = self.swept("adds")
@@ -233,7 +230,7 @@ class Refuse(unittest.TestCase):
         self.assertEqual(len(self.swept("thread_early").faults), 5)
 
     def soaked(self, test, step=97):
-        return refuse.soak(f"{self.room.name}/planted_tests", test, self.library, self.room.name, step)
+        return allocations.soak(f"{self.room.name}/planted_tests", test, self.library, self.room.name, step)
 
     def test_every_97th_allocation_of_the_first_thread_is_refused(self):
         found = self.soaked("soaks")
@@ -261,8 +258,8 @@ class Refuse(unittest.TestCase):
 
     def ran(self, fault):
         case = self.a_case(fault)
-        with mock.patch.object(refuse.refused_runs, "CASES", case.parent):
-            return refuse.refused_runs.sweep(refuse.Found(), f"{self.room.name}/planted", "lines", case.name, self.library,
+        with mock.patch.object(allocation_runs, "CASES", case.parent):
+            return allocation_runs.sweep(allocations.Found(), f"{self.room.name}/planted", "lines", case.name, self.library,
                                              self.room.name, 10, 100)
 
     def test_a_run_that_writes_a_front_passes(self):
@@ -290,24 +287,24 @@ class Refuse(unittest.TestCase):
     def told(self, listed, words=()):
         listing = Path(self.room.name) / "refused.txt"
         listing.write_text(listed)
-        with mock.patch.object(refuse, "CRATES", ("planted",)), contextlib.redirect_stdout(io.StringIO()) as said:
-            status = refuse.main(list(words), self.room.name, str(listing))
+        with mock.patch.object(allocations, "CRATES", ("planted",)), contextlib.redirect_stdout(io.StringIO()) as said:
+            status = allocations.main(list(words), self.room.name, str(listing))
         return status, said.getvalue().splitlines()
 
     def test_a_call_is_told_with_its_allocations(self):
         out = "".join(f"not planted::{it}: planted\n" for it in OTHERS)
-        with mock.patch.object(refuse.refused_runs, "CASES", self.a_case("none").parent):
+        with mock.patch.object(allocation_runs, "CASES", self.a_case("none").parent):
             status, said = self.told(f"add: planted::adds\nrun: lines::a_case_none\nevery 97: planted::soaks\n"
                                      f"seamless lines: a_case_none\n{out}")
-        self.assertEqual((status, said[-3:]), (False, ["refuse: add: 5 of 5", "refuse: run: 6 of 6", "4 passed, 0 failed"]))
+        self.assertEqual((status, said[-3:]), (False, ["allocations: add: 5 of 5", "allocations: run: 6 of 6", "4 passed, 0 failed"]))
 
     def test_a_call_without_its_test_is_told(self):
         out = "".join(f"not planted::{it}: planted\n" for it in OTHERS)
         status, said = self.told(f"add: planted::gone\nevery 97: planted::dry\n{out}not planted::lost: it is gone\n")
         self.assertTrue(status)
-        self.assertIn("refuse: tools/refused.txt soaks planted::dry, which is no test", said)
-        self.assertIn("refuse: tools/refused.txt leaves out planted::lost, which is no test", said)
-        self.assertIn("refuse: add:  ... FAILED: not swept: planted::gone", said)
+        self.assertIn("allocations: gate/allocations.txt soaks planted::dry, which is no test", said)
+        self.assertIn("allocations: gate/allocations.txt leaves out planted::lost, which is no test", said)
+        self.assertIn("allocations: add:  ... FAILED: not swept: planted::gone", said)
 
 
 if __name__ == "__main__":

@@ -7,7 +7,7 @@ import unittest
 from pathlib import Path
 
 sys.dont_write_bytecode = True
-sys.path.insert(0, str(Path(__file__).resolve().parent))
+sys.path.insert(0, str(Path(__file__).resolve().parent.parent))
 import costs  # noqa: E402
 
 # Reads its lines a block at a time, or an octet at a time, and keeps what it is asked to for each line.
