@@ -10,6 +10,7 @@ import sys
 from pathlib import Path
 
 from cases import place
+from workspace import crates_below
 
 WIDEST_DEFINITION = 140
 WIDEST_CLAUSE = 100
@@ -32,8 +33,7 @@ def documents(root):
 
 def crates(root):
     """The names of crates.txt, in its order."""
-    lines = (root / "crates.txt").read_text().split("\n")
-    return [line.split(":")[0].split()[0] for line in lines if ":" in line and not line.startswith("#")]
+    return list(crates_below(root))
 
 
 def wide_definitions(root):
@@ -133,6 +133,22 @@ def missing_files(root):
                     yield path, number, f"names `{wanted}`, which is not there"
                 elif anchor and beside.is_file() and anchor not in anchors(beside.read_text()):
                     yield path, number, f"names the heading `{anchor}`, which is not there"
+
+
+def crates_out_of_order(root):
+    """A crate stands in crates.txt below those that it stands on, so that the file can be read as the map that it is; those of the
+    layer `Laws` come behind all that they are about, and some crates take words of theirs."""
+    below, laws, layer, above = crates_below(root), set(), "", set()
+    lines = list(numbered(root / "crates.txt"))
+    named = [(number, line.split("#")[0].split(":")[0].split()[:1]) for number, line in lines]
+    for (_, line), (_, name) in zip(lines, named):
+        layer = line[2:] if line.startswith("# ") else layer
+        laws |= set(name) if layer == "Laws" else set()
+    for number, name in ((number, it) for number, names in named for it in names):
+        for lower in below[name]:
+            if lower in below and lower not in above | laws:
+                yield root / "crates.txt", number, f"`{name}` stands on `{lower}`, which stands below it"
+        above.add(name)
 
 
 def crate_tables(root):
@@ -489,6 +505,7 @@ RULES = [
     dropped_keys,
     missing_files,
     missing_names,
+    crates_out_of_order,
     crate_tables,
     untested_examples,
     untested_lines,

@@ -9,7 +9,7 @@ sys.path.insert(0, str(Path(__file__).resolve().parent.parent))
 import lint  # noqa: E402
 
 IN_ORDER = {
-    "crates.txt": "# Each crate.\nsr_one:\nsr_one_tests: sr_one\n",
+    "crates.txt": "# Each crate: a line.\n\n# Octets: one\nsr_one: # sr_none: none\n\n# Tests\nsr_one_tests: sr_one\n",
     "README.md": "See [the map](docs/ARCHITECTURE.md).\n",
     "docs/ARCHITECTURE.md": "```\nsr_one sr_one_tests\n```\n"
     "| `sr_one` | `lib.rt` |\n| `sr_one_tests` | tests |\n## What is planned\n| `sr_two` |\n",
@@ -182,6 +182,12 @@ class Lint(unittest.TestCase):
         self.assertEqual(self.findings({**source, "docs/MODEL.md": row.replace("NAME", "one_two")}), [])
         found = self.findings({**source, "docs/MODEL.md": row.replace("NAME", "one_three")})
         self.assertEqual(found, ["docs/MODEL.md:1: names `one_three`, which no source has"])
+
+    def test_crates_out_of_order(self):
+        found = ["crates.txt:2: `sr_one_tests` stands on `sr_one`, which stands below it"]
+        for layer, wanted in [("# Octets", found), ("# Laws", []), ("#Laws", found), ("# Laws\n# Others", found)]:
+            listed = {"crates.txt": f"# Tests\nsr_one_tests: sr_one std\n\n{layer}\nsr_one: std # Laws\n"}
+            self.assertEqual(self.findings(listed), wanted, layer)
 
     def test_crate_tables(self):
         self.assertEqual(

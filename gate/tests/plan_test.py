@@ -31,7 +31,8 @@ class Small(unittest.TestCase):
     def setUp(self):
         self.top = Path(tempfile.mkdtemp())
         self.addCleanup(shutil.rmtree, self.top)
-        self.write("crates.txt", "".join(f"{name}: {' '.join(below)}\n" for name, (below, _) in CRATES.items()))
+        lines = [f"\n# {name}: beside\n{name}: {' '.join(below)} # beside: {name}\n" for name, (below, _) in CRATES.items()]
+        self.write("crates.txt", "# Each crate.\n" + "".join(lines))
         self.write("HANDLES", "Handles allowed: none.\n")
         for name, (_, lines) in CRATES.items():
             self.write(f"crates/{name}/src/lib.rt", "fn one() {}\n" * lines)
@@ -45,6 +46,7 @@ class Small(unittest.TestCase):
 class Workspace(Small):
     def test_crates(self):
         below = workspace.crates_below(self.top)
+        self.assertEqual(below, {name: lower for name, (lower, _) in CRATES.items()})
         self.assertEqual(workspace.closure(below, ["top"]), ["low", "left", "right", "top"])
         self.assertEqual(workspace.closure(below, ["beside", "left"]), ["beside", "low", "left"])
         self.assertEqual(workspace.and_above(below, {"left"}), ["left", "top"])

@@ -11,7 +11,7 @@ import unittest
 from pathlib import Path
 
 TOP = Path(__file__).resolve().parent.parent.parent
-CRATES = {"sr_low": "", "sr_cli": "sr_low", "sr_c": "sr_low"}
+CRATES = {"sr_beside": "", "sr_low": "", "sr_cli": "sr_low", "sr_c": "sr_low"}
 RELEASED = b'#!/bin/sh\n[ "$1" = --version ] && echo "seamless 1.0" || echo "released $*"\n'
 LIBRARY = b"an archive"
 # In place of the toolchain: its own line, and a program that tells where it comes from.
@@ -46,7 +46,8 @@ class Release(unittest.TestCase):
             self.copy(name)
         for name in ("docs/seamless.1", "docs/seamless.bash", "docs/seamless.zsh", "docs/seamless.fish"):
             self.copy(name)
-        self.write("crates.txt", "".join(f"{name}: {below}\n" for name, below in CRATES.items()))
+        lines = [f"\n# sr_low: sr_beside\n{name}: {below} # sr_beside stands below none\n" for name, below in CRATES.items()]
+        self.write("crates.txt", "# Each crate.\n" + "".join(lines))
         for name in CRATES:
             self.write(f"crates/{name}/src/{'main' if name == 'sr_cli' else 'lib'}.rt", name)
         self.write("tools/rt", TOOLCHAIN)
@@ -98,6 +99,11 @@ class Release(unittest.TestCase):
                 status, out, said = self.call("./seamless", "audit")
                 self.assertEqual((status, out), (0, "built audit\n"), said)
                 self.release()
+
+    def test_sources_of_a_crate_beside_it_are_none_of_it(self):
+        self.assertEqual(self.call("./seamless", "audit")[1], "released audit\n")
+        self.write("crates/sr_beside/src/lib.rt", "other")
+        self.assertEqual(self.call("./seamless", "audit")[1], "released audit\n")
 
     def test_other_sources_are_built_where_one_went(self):
         self.write("crates/sr_low/src/more.rt", "more")

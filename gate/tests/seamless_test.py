@@ -64,7 +64,8 @@ class Seamless(unittest.TestCase):
     def setUp(self):
         self.top = Path(tempfile.mkdtemp())
         self.addCleanup(shutil.rmtree, self.top)
-        (self.top / "crates.txt").write_text("".join(f"{name}: {' '.join(below)}\n" for name, below in CRATES.items()))
+        lines = [f"\n# {name}: nothing\n{name}: {' '.join(below)}\n" for name, below in CRATES.items()]
+        (self.top / "crates.txt").write_text("".join(lines))
         for name in CRATES:
             (self.top / "crates" / name / "src").mkdir(parents=True)
             (self.top / "crates" / name / "src" / "lib.rt").write_text(f"{name}\n")
