@@ -1,6 +1,6 @@
 //! A million random events at a node that threads share, and the same ones at a plain node on another thread: each answers as the
-//! other, and in the end both are equal. `./refuse` refuses allocations of the first thread all along, and none of the other's. An
-//! event that is refused for that is entered again.
+//! other, and in the end both are equal. `gate/allocations.py` refuses allocations of the first thread all along, and none of the
+//! other's. An event that is refused for that is entered again.
 
 ghost use Rattle.std.specs.Prelude.{◌≡◌};
 
