@@ -44,8 +44,8 @@ class Agreement(unittest.TestCase):
             (PYTHON, "APART = 267", "APART = 266"),
             (FAULTS, "265 => Err(Fault::Snapshot)", "266 => Err(Fault::Snapshot)"),
             (HEADER, "SEAMLESS_SNAPSHOT = 265", "SEAMLESS_SNAPSHOT = 266"),
-            (HEADER, "#define SEAMLESS_VERSION 400", "#define SEAMLESS_VERSION 401"),
-            (MAKE, "VERSION = 0.4.0", "VERSION = 0.4.1"),
+            (HEADER, "#define SEAMLESS_VERSION ", "#define SEAMLESS_VERSION 1"),
+            (MAKE, "VERSION = ", "VERSION = 1"),
         ]:
             with self.subTest(new=new):
                 self.assertNotEqual(self.found(name, old, new), [])

@@ -20,7 +20,7 @@ if [ "$1" = version ]; then
     echo kit-1
 else
     mkdir -p out/rlib/x.rlib
-    printf '#!/bin/sh\\necho "built $*"\\n' >out/sr_cli
+    printf '#!/bin/sh\\n[ "$1" = --version ] && echo "seamless 1.1" || echo "built $*"\\n' >out/sr_cli
     chmod +x out/sr_cli
 fi
 """
@@ -40,7 +40,7 @@ class Release(unittest.TestCase):
     def setUp(self):
         self.top = Path(tempfile.mkdtemp())
         self.addCleanup(shutil.rmtree, self.top)
-        for name in ("seamless", "install", "release/compare", "gate/sources.sh", "gate/build.py", "gate/times.py", "gate/workspace.py"):
+        for name in ("seamless", "install", "release/compare", "release/make", "gate/sources.sh", "gate/build.py", "gate/times.py", "gate/workspace.py"):
             self.copy(name)
         for name in ("clib/Makefile", "clib/processor.c", "clib/seamless.map", "clib/seamless.pc.in", "clib/include/seamless.h"):
             self.copy(name)
@@ -66,6 +66,11 @@ class Release(unittest.TestCase):
     def write(self, name, text):
         (self.top / name).parent.mkdir(parents=True, exist_ok=True)
         (self.top / name).write_text(text)
+
+    def tool(self, name, text):
+        """Puts a script in the place of a program."""
+        self.write(f"tools/{name}", f"#!/bin/bash\n{text}\n")
+        (self.top / "tools" / name).chmod(0o755)
 
     def release(self):
         """Makes the release of the tree as it stands."""
@@ -129,16 +134,76 @@ class Release(unittest.TestCase):
         self.assertEqual((status, out), (0, "built audit\n"))
         self.assertIn("release/seamless-x86_64-linux.gz is not what release/MANIFEST says", said)
 
+    def build(self, program=RELEASED, library=LIBRARY):
+        """Has the program and the library stand built, as these octets."""
+        for name, octets in (("crates/sr_cli/out/sr_cli", program), ("clib/out/libseamless.a", library)):
+            self.write(name, octets.decode())
+            (self.top / name).chmod(0o755)
+        return self.top / "crates/sr_cli/out/sr_cli", self.top / "clib/out/libseamless.a"
+
+    def repack(self, name, octets):
+        """Puts other octets into a file of the release."""
+        (self.top / "release" / f"{name}.gz").write_bytes(gzip.compress(octets))
+
     def test_what_is_released_is_compared_with_what_is_built(self):
-        program = self.top / "crates/sr_cli/out/sr_cli"
-        self.write("crates/sr_cli/out/sr_cli", RELEASED.decode())
-        self.assertEqual(self.call("release/compare")[:2], (3, "not compared: of the C library a part was made by another compiler: none\n"))
-        program.write_bytes(RELEASED + b"#")
+        self.assertEqual(self.call("release/compare")[:2], (3, "not compared: the program is not built here\n"))
+        program, library = self.build()
+        self.tool("cc", "echo none")
+        self.assertEqual(self.call("release/compare")[:2], (0, ""))
+        self.build(library=LIBRARY + b"s")
+        self.assertEqual(self.call("release/compare")[:2], (1, f"release/libseamless-x86_64-linux.a.gz is not {library}\n"))
+        self.build(program=RELEASED + b"#")
         self.assertEqual(self.call("release/compare")[:2], (1, f"release/seamless-x86_64-linux.gz is not {program}\n"))
-        (self.top / "release/seamless-x86_64-linux.gz").write_bytes(gzip.compress(RELEASED + b"#"))
-        self.assertEqual(self.call("release/compare")[:2], (1, "release/seamless-x86_64-linux.gz is not what release/MANIFEST says\n"))
         self.write("crates/sr_low/src/lib.rt", "other")
         self.assertEqual(self.call("release/compare")[:2], (3, "not compared: release/ was made of other sources\n"))
+        (self.top / "release/MANIFEST").unlink()
+        self.assertEqual(self.call("release/compare")[:2], (3, "not compared: there is no release\n"))
+
+    def test_where_a_part_can_not_be_compared_the_other_is(self):
+        program, library = self.build()
+        self.tool("cc", "echo another")
+        told = "the program is the same; not compared: of the C library a part was made by another compiler: none\n"
+        self.assertEqual(self.call("release/compare")[:2], (0, told))
+        self.tool("cc", "echo none")
+        library.unlink()
+        self.assertEqual(self.call("release/compare")[:2], (0, "the program is the same; not compared: the C library, which is not built here\n"))
+        program.write_bytes(RELEASED + b"#")
+        self.assertEqual(self.call("release/compare")[0], 1)
+
+    def test_a_released_file_of_which_an_octet_was_changed_fails_whatever_can_be_compared(self):
+        self.build()
+        kit = (self.top / "tools/rt").read_text()
+        for other_kit, other_sources in ((False, False), (True, False), (False, True)):
+            self.write("tools/rt", kit.replace("kit-1", "kit-2") if other_kit else kit)
+            self.write("crates/sr_low/src/lib.rt", "other" if other_sources else "sr_low")
+            for name, octets in (("seamless-x86_64-linux", RELEASED), ("libseamless-x86_64-linux.a", LIBRARY)):
+                with self.subTest(name, kit=other_kit, sources=other_sources):
+                    self.repack(name, octets[:-1] + bytes([octets[-1] ^ 1]))
+                    self.assertEqual(self.call("release/compare")[:2], (1, f"release/{name}.gz is not what release/MANIFEST says\n"))
+                    self.repack(name, octets)
+                    self.assertNotEqual(self.call("release/compare")[0], 1)
+
+    def test_a_release_is_made_of_the_tree(self):
+        for name in ("MANIFEST", "seamless-x86_64-linux.gz", "libseamless-x86_64-linux.a.gz"):
+            (self.top / "release" / name).unlink()
+        self.tool("cc", "echo one compiler")
+        self.tool("make", "mkdir -p clib/out && printf library >clib/out/libseamless.a")
+        status, out, said = self.call("release/make")
+        self.assertEqual((status, out), (0, (self.top / "release/MANIFEST").read_text()), said)
+        self.assertEqual(out.split("\n")[:3], ["version 1.1", "kit kit-1", "cc one compiler"])
+        self.assertEqual(self.call("release/compare")[:2], (0, ""))
+        self.assertEqual(self.call("./seamless", "audit", bare=True), (0, "built audit\n", ""))
+        self.assertTrue(self.call("./seamless", "--version", bare=True)[1].endswith("of the release\n"))
+        # A release of the same tree is the same octets.
+        files = {it.name: it.read_bytes() for it in (self.top / "release").glob("*") if it.is_file()}
+        self.assertEqual(self.call("release/make")[0], 0)
+        self.assertEqual({it.name: it.read_bytes() for it in (self.top / "release").glob("*") if it.is_file()}, files)
+
+    def test_a_release_that_can_not_be_built_leaves_the_last_one(self):
+        files = {it.name: it.read_bytes() for it in (self.top / "release").glob("*")}
+        self.tool("make", "exit 1")
+        self.assertNotEqual(self.call("release/make")[0], 0)
+        self.assertEqual({it.name: it.read_bytes() for it in (self.top / "release").glob("*") if it.is_file()}, files)
 
     def test_it_is_installed_and_taken_away(self):
         there = self.top / "there"
@@ -151,9 +216,77 @@ class Release(unittest.TestCase):
         self.assertEqual(self.call("./install", "--uninstall", "/usr", DESTDIR=str(there))[0], 0)
         self.assertEqual([it for it in there.rglob("*") if it.is_file()], [])
 
+    def test_what_is_built_here_is_installed_where_there_is_no_release(self):
+        (self.top / "release/MANIFEST").unlink()
+        status, out, said = self.call("./install", "there")
+        self.assertEqual((status, out), (0, ""))
+        self.assertTrue(said.endswith("install: without the C library, which is not built here (make -C clib)\n"), said)
+        files = {it.relative_to(self.top / "there").as_posix() for it in (self.top / "there").rglob("*") if it.is_file()}
+        self.assertEqual(files, {it for it in INSTALLED if not it.startswith(("lib/", "include/"))})
+        self.assertEqual(self.call("there/bin/seamless", "--version")[1], "seamless 1.1\n")
+        self.assertEqual(self.call("./install", "--uninstall", "there")[0], 0)
+        self.assertEqual([it for it in (self.top / "there").rglob("*") if it.is_file()], [])
+
+    def test_a_released_library_that_was_changed_is_not_installed(self):
+        self.repack("libseamless-x86_64-linux.a", LIBRARY + b"s")
+        status, _, said = self.call("./install", "there")
+        self.assertNotEqual(status, 0)
+        self.assertIn("release/libseamless-x86_64-linux.a.gz is not what release/MANIFEST says", said)
+        self.assertFalse((self.top / "there").exists())
+
+    def test_nothing_is_taken_away_that_is_not_there(self):
+        self.write("there/bin/another", "")
+        self.assertEqual(self.call("./install", "--uninstall", "there")[0], 0)
+        self.assertEqual([it.name for it in (self.top / "there").rglob("*") if it.is_file()], ["another"])
+
     def test_it_takes_one_folder(self):
         self.assertEqual(self.call("./install", "--other")[0], 2)
         self.assertEqual(self.call("./install", "a", "b")[0], 2)
+
+
+class Version(unittest.TestCase):
+    """Of the files of this repository, those that have its version."""
+
+    def setUp(self):
+        self.top = Path(tempfile.mkdtemp())
+        self.addCleanup(shutil.rmtree, self.top)
+        for name in ("release", "clib", "bindings", "crates/sr_c", "crates/sr_options/src"):
+            shutil.copytree(TOP / name, self.top / name, ignore=shutil.ignore_patterns("out", "target", "proofs"))
+        shutil.copy(TOP / "CHANGELOG.md", self.top)
+
+    def call(self, *words):
+        return subprocess.run([self.top / "release/version", *words], capture_output=True, text=True)
+
+    def lines(self, name):
+        return (self.top / name).read_text().split("\n")
+
+    def test_each_file_gets_it(self):
+        for version, number in (("1.2.3", 10203), ("1.2.3", 10203), ("0.10.99", 1099)):
+            ran = self.call(version)
+            # What agree.py compares are header, crate, Makefile and bindings.
+            self.assertEqual((ran.returncode, ran.stdout, ran.stderr), (0, "", ""))
+            self.assertIn(f'const VERSION: &str = "{version}";', self.lines("crates/sr_options/src/command_line.rt"))
+            self.assertIn(f"#define SEAMLESS_VERSION {number}", self.lines("clib/include/seamless.h"))
+            life = "\n".join(self.lines("crates/sr_c/src/life.rt"))
+            self.assertIn(f"fn seamless_version() -> u32\n    ensures {{ result ≡ {number} }}\n", life)
+            self.assertIn("fn seamless_abi() -> u32\n    ensures { result ≡ 1 }\n", life)
+            file, old, new = self.lines("crates/sr_c/wrong/is_another_version.edit")[:3]
+            self.assertEqual(life.count(old.removeprefix("old: ")), 1)
+            self.assertNotEqual(old.removeprefix("old: "), new.removeprefix("new: "))
+            self.assertEqual(self.lines("bindings/rust/Cargo.lock").count(f'version = "{version}"'), 2)
+        self.assertIn("## 1.2.3", self.lines("CHANGELOG.md"))
+        self.assertFalse([it for it in self.lines("CHANGELOG.md") if it.startswith("## Unreleased")])
+
+    def test_what_is_no_version_changes_nothing(self):
+        files = {it: it.read_bytes() for it in self.top.rglob("*") if it.is_file()}
+        for words in ((), ("1.2",), ("1.2.3-dev",), ("1.100.0",), ("01.2.3",), ("x1.2.3",)):
+            self.assertEqual(self.call(*words).returncode, 2, words)
+        self.assertEqual({it: it.read_bytes() for it in self.top.rglob("*") if it.is_file()}, files)
+
+    def test_a_file_without_it_is_told(self):
+        (self.top / "clib/Makefile").write_text("all:\n")
+        ran = self.call("1.2.3")
+        self.assertEqual((ran.returncode, ran.stderr), (1, "release/version: clib/Makefile has no version\n"))
 
 
 if __name__ == "__main__":
