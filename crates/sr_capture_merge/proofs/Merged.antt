@@ -33,6 +33,7 @@ use Rattle.sr_capture_script.specs.Texts.{is_wanted, time_since}
 use Rattle.sr_capture_script.proofs.Going.{length_more}
 use Rattle.sr_capture_script.proofs.Coming.{come_none, came_to, comes_first, stops_first, all_came, not_early, last_more, starts_more, none_behind}
 use Rattle.sr_pcapng.specs.Writing.{packet_block, file_head}
+use Rattle.sr_merge.specs.Due.{due}
 use Rattle.sr_merge.specs.Merging.{Read, Pending, Merging, TakesIn}
 use Rattle.sr_merge.specs.Verdicts.{kept_of_all}
 use Rattle.sr_capture_merge.specs.declared.plan.Plan.{Plan}
@@ -568,6 +569,13 @@ packet_time : (spelling : Spelling) (side : Side) (number time : ℕ) (octets : 
     (packet_read spelling side number time octets answer).came.time ≡ time
 packet_time spelling side number time octets (Ok p) = frame_time spelling side number time octets p p.seq
 packet_time spelling side number time octets (Err fault) = refl
+
+-- nothing is due at the time of a packet, where nothing is at the time at which it came
+pub none_due : (plan : Plan) (side : Side) (number time : ℕ) (octets : List ℕ) (p : Read) (ws : List Pending) →
+    IsPacketRead plan side number time octets p → due time ws ≡ [] → due p.came.time ws ≡ []
+none_due plan side number time octets p ws reads none =
+    let when : p.came.time ≡ time = ap (λ r. r.came.time) reads.2 ∙ packet_time plan.spelling side number time octets reads.0 in
+    subst (λ t. due t ws ≡ []) (sym when) none
 
 pub taken_on : (plan own : Plan) (start : ℕ) (side : Side) (number time : ℕ) (packet : Packet) (octets : List ℕ) (p : Read) (old mid new : Merging)
     (from to : Sink) → is_whole packet.extent packet.len ≡ true → own ≡ plan → octets ≡ packet.octets.items →

@@ -7,6 +7,7 @@ ghost use Rattle.sr_capture_script.specs.SourceViews.{IsFed};
 ghost use Rattle.sr_capture_merge.specs.Reading.{side_at};
 ghost use Rattle.sr_capture_merge.specs.Files.{sink, IsStop, WritesOn, TakesOn, EndsOn, EndsBy};
 ghost use Rattle.sr_capture_merge.specs.Merged.{MergesOn, MergesAll, MergesUntil, IsMerged, IsMergedUpTo};
+ghost use Rattle.sr_merge.specs.Due.{due};
 ghost use Rattle.sr_merge.specs.Merging.{Pending, pending_of};
 ghost use Rattle.sr_merge.specs.Verdicts.{verdict_until};
 
@@ -17,7 +18,7 @@ use crate::reading::packet_of;
 use sr_audit::Side;
 use sr_capture::{Extent, MAX_KEPT, Packet};
 use sr_capture_script::{Captures, Choice, Front, Inlet, ScriptFault, start_of};
-use sr_merge::{MAX_WAITING, Merge, Verdict, Waiting};
+use sr_merge::{Due, Merge, Verdict, Waiting};
 use sr_slots::Keys;
 use std::alloc::Global;
 use std::io::{BufRead, Write};
@@ -32,7 +33,7 @@ fn side_of(inlet: Inlet) -> Side
     }
 }
 
-/// Writes the packets that wait, up to one of which a copy may come yet when the next packet comes at this time.
+/// Writes the packets that are due when the next packet comes at this time.
 fn write_due<W: Write>(
     merge: &mut Merge,
     output: &mut Output,
@@ -45,17 +46,11 @@ fn write_due<W: Write>(
     ensures stops { IfErr result (λ fault. IsStop fault (WritesOn output.old.plan
         output.old.start now merge.old merge.new (sink (W.contents writer.old) output.old.counts)
         (sink (W.contents writer.new) output.new.counts))) }
+    ensures due { OnOk result (due now merge.new.waiting ≡ []) }
     ensures plan { output.new.plan ≡ output.old.plan }
     ensures start { output.new.start ≡ output.old.start }
 {
-    'waiting: for _ in 0..merge.len() {
-        let Some(waiting) = merge.front() else {
-            return Ok(());
-        };
-        let verdict = waiting.verdict(now);
-        if verdict.is_none() && merge.len() < MAX_WAITING {
-            return Ok(());
-        }
+    'waiting: while let Some(Due { waiting, verdict }) = merge.due(now) {
         output.put(waiting, verdict, writer)?;
         merge.drop_front();
     }

@@ -2,3 +2,4 @@ pub mod PlaceLemmas
 pub mod RunLemmas
 pub mod KeptLemmas
 pub mod CopyLemmas
+pub mod DueLemmas

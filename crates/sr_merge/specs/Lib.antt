@@ -6,3 +6,4 @@ pub mod WaitingLemmas
 pub mod Verdicts
 pub mod VerdictLemmas
 pub mod Copies
+pub mod Due

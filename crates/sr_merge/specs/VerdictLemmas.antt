@@ -157,7 +157,7 @@ known_none true early h = cc
 known_none false true h = refl
 known_none false false h = cc
 
-none_early : (now : ℕ) (w : Pending) → verdict_of now w ≡ None → nat_lt (now - w.packet.came.time) copy_time ≡ true
+pub none_early : (now : ℕ) (w : Pending) → verdict_of now w ≡ None → nat_lt (now - w.packet.came.time) copy_time ≡ true
 none_early now w h = by w.packet.came.frame h
   where
     by : (o : Option FrameId) → verdict_by now w o ≡ None → nat_lt (now - w.packet.came.time) copy_time ≡ true

@@ -3,6 +3,7 @@
 ghost use Rattle.sr_merge.specs.MergeRuns.{EachFrameIsWrittenOnce, WhatIsNewIsWritten};
 ghost use Rattle.sr_merge.specs.Copies.{WhatIsMetHasACopy, CopiesInTimeCount};
 ghost use Rattle.sr_merge.specs.Verdicts.{EachFrameIsKeptOnce};
+ghost use Rattle.sr_merge.specs.Due.{WhatIsDueIsWritten, AllIsWrittenAtTheEnd};
 
 /// In every steady run what was written, and what waits behind it, are the packets that were taken without those of whose frame an
 /// earlier copy came: each frame once, by its first copy, each packet without number each time, in the order in which they came, with
@@ -35,4 +36,16 @@ pub fn what_is_met_has_a_copy()
 /// that one count as come by both sides.
 pub fn copies_in_time_count()
     ensures { CopiesInTimeCount }
+{}
+
+/// Before a packet is taken, those that are due then were written: the first ones by whose sides it is known that they came, or behind
+/// which so many wait that they are waited for no longer. What is left came less than 400 ms before, and fewer than 262144 packets.
+pub fn what_is_due_is_written()
+    ensures { WhatIsDueIsWritten }
+{}
+
+/// Where nothing waits any longer, all that is to be written was written: in a steady run each frame once, by its first copy, and each
+/// packet without number.
+pub fn all_is_written_at_the_end()
+    ensures { AllIsWrittenAtTheEnd }
 {}

@@ -10,7 +10,7 @@ ghost use Rattle.sr_merge.specs.Merging.{answer_for, sources_told};
 use crate::came::FrameId;
 use crate::packet::Packet;
 use crate::queue::Queue;
-use crate::waiting::Waiting;
+use crate::waiting::{Verdict, Waiting};
 use sr_dup_table::DupTable;
 use sr_dup_window::{Lane, Lanes};
 use sr_frame::NoMemory;
@@ -22,8 +22,8 @@ use std::marker::Model;
 /// 401.2 ms, and so no less than copies are waited for (choice of this project).
 const RECORD_STEP: u64 = 1_003_000;
 
-/// Once so many packets wait, the first one is to be written without a verdict (choice of this project).
-pub const MAX_WAITING: usize = 262_144;
+/// Once so many packets wait, the first one is due without a verdict (choice of this project).
+const MAX_WAITING: usize = 262_144;
 
 /// The most lists of octets that are used again.
 const MAX_SPARE: usize = 4096;
@@ -124,10 +124,20 @@ fn joined(mut list: Vec<u8>, front: &[u8], back: &[u8]) -> Result<Vec<u8>, NoMem
     Ok(list)
 }
 
+/// A packet that is to be written before another is taken.
+pub struct Due<'a> {
+    /// The packet.
+    pub waiting: &'a Waiting,
+    /// By which sides it came. None: that is not known, and so many packets wait that it is waited for no longer.
+    pub verdict: Option<Verdict>,
+}
+
 impl Merge {
-    ghost use Rattle.std.specs.Prelude.{◌≡◌, ◌↔◌, ◌++◌, ◌∷◌, [], length, drop, true, None, Some, IfOk, OnOk, OnErr, IsOk, IfSome, is_some};
+    ghost use Rattle.std.specs.Prelude.{◌≡◌, ◌↔◌, ◌≤◌, ◌++◌, ◌∷◌, [], length, drop, true, None, Some, IfOk, OnOk, OnErr, IsOk, IfSome, is_some};
     ghost use Rattle.sr_slots.specs.Places.{IsFound};
-    ghost use Rattle.sr_merge.specs.Merging.{next_written, read_of, pending_of, unmet, copy_noted, answer_for, sources_told, TakesIn};
+    ghost use Rattle.sr_merge.specs.Limits.{most_held};
+    ghost use Rattle.sr_merge.specs.Merging.{next_written, read_of, pending_of, unmet, copy_noted, answer_for, sources_told, verdict_of, TakesIn};
+    ghost use Rattle.sr_merge.specs.Due.{due};
 
     /// Nothing came in yet.
     ///
@@ -148,13 +158,6 @@ impl Merge {
         })
     }
 
-    /// How many packets wait.
-    pub fn len(&self) -> usize
-        ensures { result ≡ length self.now.waiting }
-    {
-        self.queue.len()
-    }
-
     /// How many packets were taken as they came, since 1024 other sources were live.
     pub fn untold(&self) -> u64
         ensures { result ≡ self.now.untold }
@@ -169,6 +172,24 @@ impl Merge {
             next_written self.now.waiting ≡ Some (pending_of w.now)) }
     {
         self.queue.front()
+    }
+
+    /// The first packet, if it is due when one comes at this time: it is to be written before that one is taken.
+    pub fn due(&self, now: u64) -> Option<Due<'_>>
+        ensures none { result ≡ None ↔ (due now self.now.waiting ≡ []) }
+        ensures first { IfSome result (λ d.
+            next_written self.now.waiting ≡ Some (pending_of d.waiting.now)) }
+        ensures verdict { IfSome result (λ d.
+            d.verdict ≡ verdict_of now (pending_of d.waiting.now)) }
+        ensures crowded { IfSome result (λ d.
+            d.verdict ≡ None → most_held ≤ length self.now.waiting) }
+    {
+        let waiting = self.front()?;
+        let verdict = waiting.verdict(now);
+        if verdict.is_none() && self.queue.len() < MAX_WAITING {
+            return None;
+        }
+        Some(Due { waiting, verdict })
     }
 
     /// Drops the packet that was written.
@@ -279,11 +300,12 @@ impl Merge {
     }
 
     /// Takes a packet. It waits to be written where it has no number, where no earlier copy of its frame is known, or where 1024 other
-    /// sources are live, so that nothing can be told; else it is the copy of one that may wait yet.
+    /// sources are live, so that nothing can be told; else it is the copy of one that may wait yet. What is due then was written.
     ///
     /// # Errors
     /// `NoMemory` where a growth was refused: no packet was taken.
     pub fn take(&mut self, packet: Packet<'_>) -> Result<(), NoMemory>
+        requires { due packet.came.time self.old.waiting ≡ [] }
         ensures taken { OnOk result (TakesIn self.old (read_of packet.entry) self.new) }
         ensures err { OnErr result (self.new ≡ self.old) }
     {

@@ -1,6 +1,5 @@
-use Rattle.std.proofs.Common.{◌≡◌, arith, refl, sym, subst, ◌∙◌}
+use Rattle.std.proofs.Common.{◌≡◌, refl, sym, subst, ◌∙◌}
 use Rattle.std.specs.Io.KnownBytes.{Appends}
-use Rattle.std.proofs.lemmas.Grind.{common_steps}
 use Rattle.sr_merge.specs.Merging.{pending_of, packet_of}
 use Rattle.sr_capture_merge.specs.Entries.{written_piece}
 use Rattle.sr_capture_merge.specs.Files.{sink, WritesOn}
@@ -10,7 +9,6 @@ use Rattle.sr_capture_merge.proofs.Counted.{none_left_more}
 use Rattle.sr_capture_merge.proofs.Merged.{sink_is, stops_so}
 use Rattle.sr_capture_merge.proofs.Settled.{written_later, written_next}
 use Rattle.sr_capture_merge.proofs.merging.write_due.Goals as goal
-use Rattle.sr_capture_merge.proofs.merging.write_due.Goals.{else-is_none-via-then-is_none+else-len-lt-MAX_WAITING, else-is_none-via-else-is_none}
 
 pub waiting-init : goal.waiting-init
 waiting-init g c = record {
@@ -26,9 +24,8 @@ waiting-init g c = record {
 pub waiting-preserved : goal.waiting-preserved
 waiting-preserved g c =
     let i = c.waiting.invariant in
-    let own = packet_of c.in-Some.waiting.now in
-    let v = c.verdict-verdict.result in
-    let none = c.is_none.ensures in
+    let own = packet_of c.in-Some.field-0.waiting.now in
+    let v = c.in-Some.field-0.verdict in
     let counted = subst (λ p. c.put.new.self.counts ≡ counted_one p (record { packet = own; verdict = v }) c.waiting.output.counts) i.plan
     c.in_ok-put.ensures.counts in
     record {
@@ -37,15 +34,12 @@ waiting-preserved g c =
             c.put.new.self.counts i.on.left_out counted;
         on = λ taken before held le h.
             written_next c.args.output.now.plan c.args.output.now.start taken c.args.now c.waiting.merge c.drop_front.new.self
-            (pending_of c.in-Some.waiting.now) v held (sink (g.W.Write.contents c.waiting.writer) c.waiting.output.counts)
+            (pending_of c.in-Some.field-0.waiting.now) v held (sink (g.W.Write.contents c.waiting.writer) c.waiting.output.counts)
             (sink (g.W.Write.contents c.put.new.writer) c.put.new.self.counts)
-            (i.on.on taken before held le h) c.in-Some.ensures.some c.drop_front.ensures.sources c.drop_front.ensures.untold
+            (i.on.on taken before held le h) c.in-Some.ensures.first c.drop_front.ensures.sources c.drop_front.ensures.untold
             c.drop_front.ensures.waiting
-            (sym c.verdict-verdict.ensures)
-            (λ e. elim c.else-is_none.branch [
-              | else-is_none-via-then-is_none+else-len-lt-MAX_WAITING w ↦ let n = w.len.ensures in omega (arith, n)
-              | else-is_none-via-else-is_none w ↦ let f = w.if-is_none.false in absurd (grind (arith, common_steps, none, e, f))
-            ])
+            (sym c.in-Some.ensures.verdict)
+            c.in-Some.ensures.crowded
             (subst (λ p. Appends (g.W.Write.contents c.waiting.writer) (g.W.Write.contents c.put.new.writer) (written_piece p c.args.output.now.start v own)) i.plan
             (subst (λ s. Appends (g.W.Write.contents c.waiting.writer) (g.W.Write.contents c.put.new.writer) (written_piece c.waiting.output.plan s v own)) i.start
             c.in_ok-put.ensures.wrote))

@@ -1,4 +1,4 @@
-use Rattle.std.proofs.Common.{◌≡◌}
+use Rattle.std.proofs.Common.{◌≡◌, length}
 use Rattle.sr_capture_merge.specs.Files.{sink, WritesOn}
 use Rattle.sr_capture_merge.proofs.merging.write_due.Given as goal
 
@@ -9,3 +9,6 @@ invariant-waiting g l = record {
   plan : l.output.plan ≡ l.fn.output.plan;
   start : l.output.start ≡ l.fn.output.start;
 }
+
+abbrev pub decreases-waiting : goal.decreases-waiting
+decreases-waiting g l = length l.merge.waiting
