@@ -1,8 +1,8 @@
 -- Bodies of packets, of which a front is kept.
-use Rattle.std.proofs.Common.{◌≡◌, ℕ, ◌+◌, ◌-◌, ◌<◌, ◌≤◌, List, ◌++◌, length, take, Option, Some, None, true, false, sym, ap, subst, refl, ◌∙◌, arith, inl, inr}
+use Rattle.std.proofs.Common.{◌≡◌, ℕ, ◌+◌, ◌-◌, ◌<◌, ◌≤◌, List, ◌++◌, length, take, drop, Option, Some, None, true, false, sym, ap, subst, refl, ◌∙◌, arith, inl, inr}
 use Rattle.std.specs.Prelude.{IfSome}
 use Rattle.std.proofs.lemmas.List.{length-take}
-use Rattle.std.proofs.lemmas.List.{length-append, take_at}
+use Rattle.std.proofs.lemmas.List.{length-append, length-drop, take-append-drop, take-take, drop-take, take_at}
 use Rattle.sr_capture.specs.declared.fault.CaptureFault.{CaptureFault}
 use Rattle.sr_capture.specs.declared.fault.Reason.{Reason}
 use Rattle.sr_capture.specs.Taking.{Loses, LosesBelow, LeavesNone, TakesAll}
@@ -48,6 +48,33 @@ record_done form shown head front kept wanted a b c l is_head body cut time exte
     let shows : Shows shown packet =
     record { time = time; extent = extent; len = len ∙ sym far; octets = λ small. octets ∙ body.3 (omega (arith, far)) ∙ same } in
     (front ++ body.0, packet, loses_more front body.0 a b c l body.1, is_record, shows, omega (arith, length-append front body.0, is_head.size, body.2))
+
+-- a packet whose head and body are at hand is a record
+pub record_at_hand : (form : Form) (shown : Packet) (head : Head) (near : ℕ) (xs : List ℕ) (a c : Option (List ℕ)) → Loses (take (16 + head.held) xs) a c
+    → IsHead form (take 16 xs) head → 16 + head.held ≤ length xs → shown.len ≡ head.held - form.check_len → (shown.len ≤ 1524 → near ≡ shown.len)
+    → shown.time ≡ head.time → shown.extent ≡ head.extent → shown.octets.items ≡ take near (drop 16 xs) → shown.size ≡ 16 + head.held
+    → LosesRecord form shown a c
+record_at_hand form shown head near xs a c l is_head whole len all time extent octets size =
+    let body = take head.held (drop 16 xs) in
+    let far : length body ≡ head.held = omega (arith, length-take head.held (drop 16 xs), length-drop 16 xs, whole) in
+    let cut : length body - form.check_len ≡ shown.len = omega (arith, far, len) in
+    let own = take (length body - form.check_len) body in
+    let long : length own ≡ shown.len = omega (arith, length-take (length body - form.check_len) body, far, len) in
+    let same : take shown.len (drop 16 xs) ≡ own = sym (take-take shown.len head.held (drop 16 xs) (omega (arith, len)))
+    ∙ ap (λ n. take n body) (sym cut) in
+    let seam : take 16 (take (16 + head.held) xs) ≡ take 16 xs = take-take 16 (16 + head.held) xs (omega arith) in
+    let spelled : take (16 + head.held) xs ≡ take 16 xs ++ body = sym (take-append-drop 16 (take (16 + head.held) xs))
+    ∙ ap (λ (t : List ℕ). t ++ drop 16 (take (16 + head.held) xs)) seam ∙ ap (λ (t : List ℕ). take 16 xs ++ t) (drop-take 16 head.held xs) in
+    let packet : Captured = record { time = head.time; extent = head.extent; octets = own } in
+    let is_record : IsRecord form (take (16 + head.held) xs) packet =
+    record { front = take 16 xs; head = head; body = body; spelled = spelled; is_head = is_head; size = far; time = refl; extent = refl; octets = refl } in
+    let shows : Shows shown packet = record {
+      time = time;
+      extent = extent;
+      len = sym long;
+      octets = λ small. octets ∙ ap (λ n. take n (drop 16 xs)) (all (omega (arith, long, small))) ∙ same;
+    } in
+    (take (16 + head.held) xs, packet, l, is_record, shows, omega (arith, length-take (16 + head.held) xs, whole, size))
 
 -- the input ends in a body
 pub ends_early : (a b c : Option (List ℕ)) (form : Form) (head : Head) (front kept : List ℕ) (wanted : ℕ) → Loses front a b → IsHead form front head

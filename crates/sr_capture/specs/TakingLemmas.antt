@@ -23,7 +23,7 @@ use Rattle.std.proofs.Common.{
   append_assoc,
 }
 use Rattle.std.specs.Prelude.{IfSome}
-use Rattle.std.specs.Io.KnownBytes.{Keeps}
+use Rattle.std.specs.Io.KnownBytes.{Keeps, Consumes}
 use Rattle.std.proofs.lemmas.List.{length-append, append-nil}
 use Rattle.sr_capture.specs.Taking.{Loses, LosesBelow, LeavesNone, TakesAll, Gathers, Fills, FillsBelow}
 
@@ -36,6 +36,12 @@ pub keeps_all : (a b : Option (List ℕ)) → Keeps a b → Loses [] a b
 keeps_all None b kept = tt
 keeps_all (Some x) None kept = absurd kept
 keeps_all (Some x) (Some y) kept = sym kept
+
+-- what was consumed was lost
+pub loses_consumed : (bs : List ℕ) (a b : Option (List ℕ)) → Consumes a b bs → Loses bs a b
+loses_consumed bs None b taken = tt
+loses_consumed bs (Some x) None taken = absurd taken
+loses_consumed bs (Some x) (Some y) taken = taken
 
 -- nothing is shown: nothing is left
 pub at_end : (a b : Option (List ℕ)) (shown : List ℕ) → Keeps a b → IfSome a (λ xs. length shown ≡ 0 → xs ≡ []) → length shown ≡ 0

@@ -1,9 +1,9 @@
 //! The packets of a pcap file.
 
-ghost use Rattle.std.specs.Prelude.{◌≡◌, ◌≢◌, ◌≤◌, ◌<◌, ◌+◌, ◌-◌, ◌*◌, ◌++◌, ◌^◌, ◌⊎◌, ℕ, List, length, take, IfOk, IfErr, IfSome, MatchOption, vec_len, vec_capacity};
+ghost use Rattle.std.specs.Prelude.{◌≡◌, ◌≢◌, ◌≤◌, ◌<◌, ◌+◌, ◌-◌, ◌*◌, ◌++◌, ◌^◌, ◌⊎◌, ℕ, true, false, [], List, length, take, IfOk, IfErr, IfSome, MatchOption, vec_len, vec_capacity};
 ghost use Rattle.sr_capture.specs.Taking.{Loses, LosesBelow};
 ghost use Rattle.sr_capture.specs.Headers.{IsLack};
-ghost use Rattle.sr_capture.specs.Records.{nanoseconds_of, IsHead, TakesBody, TakesPacket, WasAtEnd, IsNoRecord};
+ghost use Rattle.sr_capture.specs.Records.{nanoseconds_of, IsHead, TakesBody, TakesPacket, LosesRecord, WasAtEnd, IsNoRecord};
 
 use crate::fault::{CaptureFault, Reason};
 use crate::header::{Form, TimeUnit};
@@ -81,6 +81,13 @@ fn take_head<R: BufRead>(
     }
 }
 
+/// How many octets of a packet are wanted: those before the check sequence.
+fn wanted_of(form: Form, head: Head) -> u32
+    ensures { result ≡ head.held - form.check_len }
+{
+    head.held.saturating_sub(u32::from(form.check_len))
+}
+
 /// How many octets are kept of so many: all, or none where no frame is as long.
 fn kept_of(wanted: u32) -> usize
     ensures few { result ≤ wanted }
@@ -134,6 +141,103 @@ fn take_body<R: BufRead>(
     }
 }
 
+/// The head of the packet at the front of these octets, where they have all of it.
+fn head_at_hand(form: Form, octets: &[u8]) -> Option<Head>
+    ensures { IfSome result (λ head.
+        IsHead form (take 16 octets.now) head × (16 + head.held ≤ length octets.now)) }
+{
+    if octets.len() < HEAD_LEN {
+        return None;
+    }
+    let head = head_of(form, &octets[..HEAD_LEN]);
+    if octets.len() - HEAD_LEN < head.held as usize {
+        return None;
+    }
+    Some(head)
+}
+
+/// Takes the next packet where the reader has all of it at hand, and the list has room for it. False where it is not so, and then
+/// nothing is taken.
+///
+/// # Errors
+/// `Read` where the reader fails.
+// speed: D-capture-at-hand
+fn take_at_hand<R: BufRead>(reader: &mut R, form: Form, packet: &mut Packet) -> Result<bool, Reason>
+    ensures taken { IfOk result (λ taken. taken ≡ true
+        → LosesRecord form packet.new (R.remaining reader.old) (R.remaining reader.new)) }
+    ensures left { IfOk result (λ taken. taken ≡ false
+        → Loses [] (R.remaining reader.old) (R.remaining reader.new)) }
+    ensures err { IfErr result (λ reason. (reason ≡ Reason.Read)
+        × Loses [] (R.remaining reader.old) (R.remaining reader.new)) }
+    ensures few { vec_len packet.new.octets ≤ 1524 }
+    ensures capacity { vec_capacity packet.old.octets ≤ vec_capacity packet.new.octets }
+{
+    packet.octets.clear();
+    let Ok(available) = reader.fill_buf() else {
+        return Err(Reason::Read);
+    };
+    let Some(head) = head_at_hand(form, available) else {
+        return Ok(false);
+    };
+    let wanted = wanted_of(form, head);
+    let near = kept_of(wanted);
+    if packet.octets.capacity() < near {
+        return Ok(false);
+    }
+    packet
+        .octets
+        .extend_from_slice(&available[HEAD_LEN..HEAD_LEN + near])
+        .unwrap();
+    let size = HEAD_LEN + head.held as usize;
+    reader.consume(size);
+    packet.time = head.time;
+    packet.extent = head.extent;
+    packet.len = u64::from(wanted);
+    packet.size = size as u64;
+    Ok(true)
+}
+
+/// Takes the next packet, its head first and then its body.
+///
+/// # Errors
+/// Those of `next_packet`.
+fn take_in_parts<R: BufRead>(
+    reader: &mut R,
+    form: Form,
+    packet: &mut Packet,
+) -> Result<bool, CaptureFault>
+    ensures taken { IfOk result (λ more.
+        TakesPacket more form packet.new (R.remaining reader.old) (R.remaining reader.new)) }
+    ensures fault { IfErr result (λ fault.
+        IsNoRecord form fault (R.remaining reader.old) (R.remaining reader.new)) }
+    ensures few { vec_len packet.new.octets ≤ 1524 }
+    ensures room { 1524 ≤ vec_capacity packet.old.octets
+        → IfErr result (λ fault. fault.reason ≢ Reason.NoMemory) }
+    ensures capacity { vec_capacity packet.old.octets ≤ vec_capacity packet.new.octets }
+{
+    let Some(head) = take_head(reader, form, &mut packet.octets)? else {
+        return Ok(false);
+    };
+    let wanted = wanted_of(form, head);
+    match take_body(reader, head.held, wanted, &mut packet.octets) {
+        Ok(true) => {
+            packet.time = head.time;
+            packet.extent = head.extent;
+            packet.len = u64::from(wanted);
+            packet.size = HEAD_LEN as u64 + u64::from(head.held);
+            Ok(true)
+        }
+        Ok(false) => Err(CaptureFault {
+            at: 0,
+            reason: Reason::Unfinished,
+        }),
+        Err(fault) => Err(CaptureFault {
+            at: HEAD_LEN as u64 + fault.at,
+            reason: fault.reason,
+        }),
+    }
+}
+
 /// Takes the next packet. False where nothing is left. A packet whose list has room for 1524 octets takes no memory.
 ///
 /// # Errors
@@ -153,25 +257,9 @@ pub fn next_packet<R: BufRead>(
         → IfErr result (λ fault. fault.reason ≢ Reason.NoMemory) }
     ensures capacity { vec_capacity packet.old.octets ≤ vec_capacity packet.new.octets }
 {
-    let Some(head) = take_head(reader, form, &mut packet.octets)? else {
-        return Ok(false);
-    };
-    let wanted = head.held.saturating_sub(u32::from(form.check_len));
-    match take_body(reader, head.held, wanted, &mut packet.octets) {
-        Ok(true) => {
-            packet.time = head.time;
-            packet.extent = head.extent;
-            packet.len = u64::from(wanted);
-            packet.size = HEAD_LEN as u64 + u64::from(head.held);
-            Ok(true)
-        }
-        Ok(false) => Err(CaptureFault {
-            at: 0,
-            reason: Reason::Unfinished,
-        }),
-        Err(fault) => Err(CaptureFault {
-            at: HEAD_LEN as u64 + fault.at,
-            reason: fault.reason,
-        }),
+    match take_at_hand(reader, form, packet) {
+        Ok(true) => Ok(true),
+        Ok(false) => take_in_parts(reader, form, packet),
+        Err(reason) => Err(CaptureFault { at: 0, reason }),
     }
 }
