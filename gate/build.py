@@ -221,9 +221,11 @@ class Build:
         return not self.failed
 
     def note(self, name, seconds):
-        """Notes what a build took, where it was one: what stands built takes a moment."""
+        """Notes what a build took, where it was one: what stands built takes a moment. Nothing rests on these figures, so a build goes
+        on where they can't be written."""
         if name not in self.fresh:
-            self.times.note({(name, "proof"): seconds})
+            with contextlib.suppress(OSError):
+                self.times.note({(name, "proof"): seconds})
 
     def break_off(self):
         """Ends the builds that go on, and keeps what they have proved."""
@@ -276,6 +278,10 @@ def main(words, root=ROOT):
             return 0 if Build(root, names, rooms).run() else 1
     except BrokenOff:
         say("the build was broken off")
+        return 2
+    except OSError as why:
+        # A full disk, say.
+        say(f"the build was broken off: {why}")
         return 2
 
 

@@ -181,6 +181,18 @@ class Seamless(unittest.TestCase):
         self.change("sr_left", "mended\n")
         self.assertEqual(self.call("again").communicate(timeout=PATIENCE)[0], "again\n")
 
+    def test_times_that_can_not_be_noted(self):
+        (self.top / "out").write_text("It is no folder.")
+        call = self.call("built")
+        self.assertEqual((call.communicate(timeout=PATIENCE)[0], call.returncode), ("built\n", 0))
+
+    def test_files_that_can_not_be_written(self):
+        (self.top / ".git" / "seamless-rooms").write_text("It is no folder.")
+        call = self.call("built")
+        out, err = call.communicate(timeout=PATIENCE)
+        self.assertEqual((call.returncode, out), (2, ""))
+        self.assertRegex(err, r"^seamless: the build was broken off: .*seamless-rooms'\n$")
+
     def test_old_libraries_go(self):
         self.call().communicate(timeout=PATIENCE)
         self.change("sr_left", "changed\n")
