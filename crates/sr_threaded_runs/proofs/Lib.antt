@@ -1,0 +1,4 @@
+mod Lists
+mod Ran
+mod Printed
+mod UpLines
