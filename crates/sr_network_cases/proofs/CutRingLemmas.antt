@@ -1,14 +1,11 @@
 -- The run of two nodes of a ring with a cut link, worked out.
-use Rattle.std.proofs.Common.{◌≡◌, inl, inr, ℕ, ◌+◌, ◌-◌, ◌<◌, ◌≤◌, ◌==◌, true, false, List, [], ◌∷◌, ◌++◌, map, None, Some, slice_get, refl, sym, ap, ◌∙◌, subst, arith}
+use Rattle.std.proofs.Common.{◌≡◌, inl, ℕ, true, false, List, [], ◌∷◌, ◌++◌, map, None, Some, refl, sym, ap, ◌∙◌, arith}
 use Rattle.std.specs.Prelude.{replicate}
-use Rattle.std.proofs.lemmas.Bool.{cases_Bool}
 use Rattle.sr_frame.specs.Frame.{HasFrameLength, Fields, padded, spelling}
 use Rattle.sr_frame.specs.declared.ports.Port.TheVariants.{H, A, B}
-use Rattle.sr_sequence.specs.declared.Seq.{Seq}
 use Rattle.sr_hsr_tag.specs.declared.tag.HsrTag.{HsrTag}
 use Rattle.sr_hsr_tag.specs.Tagged.{IsTagged, tag_octets}
 use Rattle.sr_dup_table.specs.declared.width.Width.{Width}
-use Rattle.sr_dup_table.specs.Limits.{forget_time}
 use Rattle.sr_forwarding.specs.declared.form.Form.TheVariants as form
 use Rattle.sr_forwarding.specs.declared.kind.RoleKind.TheVariants.{Danh}
 use Rattle.sr_forwarding.specs.Decoding.{IsTaggedParcel}
@@ -24,7 +21,6 @@ use Rattle.sr_node.specs.Images.{State}
 use Rattle.sr_node.specs.declared.mode.Mode.{Mode}
 use Rattle.sr_node.specs.declared.mode.Mode.TheVariants as mode
 use Rattle.sr_node.specs.declared.mode.Settings.{Settings}
-use Rattle.sr_node.specs.Limits.{first_number}
 use Rattle.sr_node.specs.Octets.{OctetsArrived}
 use Rattle.sr_node.specs.Sending.{sent, sent_parcel, send_outlets}
 use Rattle.sr_node.specs.Starts.{Start, begun_as}
@@ -39,13 +35,11 @@ use Rattle.sr_plant.specs.Steps.{acted, without, PlantStep}
 use Rattle.sr_plant.specs.Topologies.{framing_of}
 use Rattle.sr_plant_runs.specs.PlantRuns.{Turn, PlantRun}
 use Rattle.sr_plant_runs.specs.TableWidths.{least_width, greatest_width}
-use Rattle.sr_plant_runs.specs.Traffic.{Numbering, AreFew, IsTimely, IsWithinLimits, count_of}
+use Rattle.sr_plant_runs.specs.Traffic.{IsWithinLimits}
 use Rattle.sr_plant_runs.specs.WorkedRun.{address, greeting}
 use Rattle.sr_plant_runs.proofs.WidthLemmas.{at_least, at_most}
+use Rattle.sr_network_cases.proofs.OneFrame.{number, few, none_few, timely}
 use Rattle.sr_network_cases.specs.CutRing.{ring_of_two, PassesTheCut, CutRingsMeetThePremises}
-
-abbrev number : Seq
-number = record { 0 = first_number }
 
 -- the frame as it goes over the ring from A of the first node
 abbrev tag : HsrTag
@@ -171,31 +165,14 @@ turns x m w =
 runs : (x : Settings) (m : Mode) (w : Width) → PlantRun Ring (starts x m w) (turns x m w) (carried_plant x m w)
 runs x m w = ((((refl, refl), refl, cuts x m w), refl, sends x m w), refl, carries x m w)
 
--- the one frame that is numbered
-abbrev only : Numbering
-only = record { node = 0; before = 0; time = 0 }
-
-few : (greatest : ℕ) → greatest ≤ 2048 → AreFew greatest (only ∷ []) 0
-few greatest small k = elim (cases_Bool (k == 0)) [
-  | inl is ↦ rw is (omega (arith, small))
-  | inr other ↦ rw other (omega arith)
-]
-
-none_few : (greatest : ℕ) → greatest ≤ 2048 → AreFew greatest [] 0
-none_few greatest small k = omega (arith, small)
-
-timely : (least : ℕ) → 1024 ≤ least → (s : Plant) → s.clock ≡ 0 → IsTimely least (only ∷ []) (only ∷ []) s (Carry 0)
-timely least some s clock m got =
-    let same : only ≡ m = cc in
-    subst (λ x. (count_of x.node (only ∷ []) - (x.before + 1) < least) × (s.clock < x.time + forget_time)) same (omega (arith, some), omega (arith, clock))
-
 within : (x : Settings) (m : Mode) (w : Width) → IsWithinLimits (starts x m w) (turns x m w)
 within x m w =
     let some = at_least (starts x m w) in
-    let small = at_most (starts x m w) in (
-      ((tt, tt, none_few (greatest_width (starts x m w)) small), tt, few (greatest_width (starts x m w)) small),
-      timely (least_width (starts x m w)) some (sent_plant x m w) refl,
-      few (greatest_width (starts x m w)) small,
+    let small = at_most (starts x m w) in
+    let most = greatest_width (starts x m w) in (
+      ((tt, tt, none_few most small), tt, few 0 most small),
+      timely 0 (least_width (starts x m w)) some (sent_plant x m w) refl,
+      few 0 most small,
     )
 
 passes : (x : Settings) (m : Mode) (w : Width) → PassesTheCut (starts x m w) (turns x m w) (carried_plant x m w)

@@ -1,1 +1,5 @@
+mod OneFrame
 mod CutRingLemmas
+mod CutLanLemmas
+mod CutRingLanLemmas
+mod CutTwoRingsLemmas

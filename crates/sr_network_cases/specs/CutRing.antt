@@ -1,5 +1,5 @@
 -- A run of real nodes, worked out: a ring of two nodes with a cut link, in which one sends a frame to the other.
-use Rattle.std.specs.Prelude.{◌≡◌, ℕ, List, [], ◌∷◌, map, Some, slice_get}
+use Rattle.std.specs.Prelude.{◌≡◌, List, [], ◌∷◌, map, Some, slice_get}
 use Rattle.sr_forwarding.specs.declared.kind.RoleKind.TheVariants.{Danh}
 use Rattle.sr_forwarding.specs.Parcels.{ParcelImage}
 use Rattle.sr_forwarding.specs.RoleImages.{role_of}

@@ -1,1 +1,2 @@
 pub mod CutRing
+pub mod CutNetworks
