@@ -4,6 +4,7 @@ import subprocess
 import sys
 import tempfile
 import unittest
+import unittest.mock
 from pathlib import Path
 
 sys.dont_write_bytecode = True
@@ -12,6 +13,8 @@ import costs  # noqa: E402
 
 # Reads its lines a block at a time, or an octet at a time, and keeps what it is asked to for each line.
 PROGRAM = r"""
+#define _GNU_SOURCE
+#include <sched.h>
 #include <stdlib.h>
 #include <string.h>
 #include <unistd.h>
@@ -28,7 +31,9 @@ int main(int count, char **args) {
                 if (!keeps)
                     free(kept);
             }
-    _exit(count > 1 && !strcmp(args[1], "fails"));
+    cpu_set_t processors;
+    sched_getaffinity(0, sizeof processors, &processors);
+    _exit(count > 1 && (!strcmp(args[1], "fails") || (!strcmp(args[1], "one") && CPU_COUNT(&processors) != 1)));
 }
 """
 
@@ -47,10 +52,10 @@ class CostsTest(unittest.TestCase):
     def tearDownClass(cls):
         cls.room.cleanup()
 
-    def found(self, way, allowed=0):
+    def found(self, way, allowed=0, octets=0):
         failed = []
         runs = [self.costs.run([way], b"line\n" * count) for count in (10, 30)]
-        costs.same("lines", *runs, failed, allowed=allowed)
+        costs.same("lines", *runs, failed, allowed=allowed, octets=octets)
         return failed
 
     def test_what_takes_nothing_more_passes(self):
@@ -62,6 +67,26 @@ class CostsTest(unittest.TestCase):
 
     def test_memory_that_grows_is_found(self):
         self.assertTrue(self.found("keeps", allowed=20))
+        self.assertTrue(self.found("keeps", allowed=20, octets=1999))
+        self.assertEqual(self.found("keeps", allowed=20, octets=3000), [])
+
+    def test_a_bound_is_no_less_than_what_is_held_and_less_than_half_as_much_again(self):
+        for octets, most, passes in ((100, 99, False), (100, 100, True), (100, 149, True), (100, 150, False)):
+            failed = []
+            costs.within("lines", octets, most, failed)
+            self.assertEqual(not failed, passes, (octets, most))
+
+    def test_threads_have_one_processor_and_their_worst_run_counts(self):
+        runs = iter([costs.Run("5 100 0 0", 0), costs.Run("9 50 0 0", 0), costs.Run("7 300 0 0", 0)])
+        with unittest.mock.patch.object(self.costs, "run", lambda *args, **how: next(runs)):
+            worst = self.costs.worst_on_threads([])
+        self.assertEqual((worst.allocations, worst.octets), (9, 300))
+        self.costs.worst_on_threads(["one"])
+
+    def test_the_least_time_of_three_runs_counts(self):
+        runs = iter([costs.Run("0 0 0 0", seconds) for seconds in (3, 1, 2)])
+        with unittest.mock.patch.object(self.costs, "run", lambda *args: next(runs)):
+            self.assertEqual(self.costs.least_seconds([]), 1)
 
     def test_reads_are_counted(self):
         self.assertLess(self.costs.run(["plain"], b"line\n" * 100).reads, 5)
