@@ -61,13 +61,13 @@ class Costs:
         """The processor's time where nothing else has it: the least of three runs."""
         return min(self.run(args, script).seconds for _ in range(3))
 
-    def worst_on_threads(self, args, script=b""):
-        """The most that any of three runs takes, all threads of which have one processor: on several it would vary twofold."""
-        runs = [self.run(args, script, on_one=True) for _ in range(3)]
-        for it in runs[1:]:
-            runs[0].allocations = max(runs[0].allocations, it.allocations)
-            runs[0].octets = max(runs[0].octets, it.octets)
-        return runs[0]
+    def on_threads(self, args, script=b"", pick=max):
+        """The most that any of four runs takes, or the least, all threads of which have one processor: on several it varies twofold."""
+        runs = [self.run(args, script, on_one=True) for _ in range(4)]
+        picked = runs[0]
+        picked.allocations = pick(run.allocations for run in runs)
+        picked.octets = pick(run.octets for run in runs)
+        return picked
 
     def run(self, args, script=b"", program=None, on_one=False):
         program = program or self.program
@@ -150,6 +150,8 @@ def one_more_source(costs, failed):
             ("the second source", node("danp"), (1, 2), 1200),
             # 768 of these are its record's, the others its places in the tables and the allocator's own.
             ("a source of hundreds", node("danp"), (200, 400), 1300),
+            # 1536 are its record's there.
+            ("a source of twice the window", [*node("danp"), "--window", "2048"], (200, 400), 2300),
             # With what is printed of it.
             ("a source in a status", ["status", *node("danp")[1:]], (200, 400), 1500)):
         few, many = (costs.run(args, warm + rounds(trailed, count, 0, 3)) for count in counts)
@@ -183,6 +185,23 @@ def host(costs, failed):
     ticks = ["".join(f"tick {2000 * count}\n" for count in range(end)).encode() for end in (2000, 2500)]
     # Each is written into a list of its own.
     same("life checks", *[costs.run(node("danp"), it) for it in ticks], failed, allowed=500)
+
+
+def learned(sources, begin=0, time=0):
+    """Frames of so many hosts behind a box, three of each."""
+    return "".join(f"in C {time} ffffffffffff{0x020000000100 + begin + source:012x}0800{0:092d}\n" for _ in range(3)
+                   for source in range(sources)).encode()
+
+
+def hosts_of_a_box(costs, failed):
+    """Hosts behind a box: one that is known takes nothing, a further one its places, and a full table of them is all"""
+    known = plain(2 * WARM).encode() + learned(200)
+    one, more, other = (costs.run(node("san"), known + it) for it in (b"", learned(200, time=1000), learned(200, 200)))
+    same("known hosts", one, more, failed)
+    within("a host", (other.octets - one.octets) // 200, 1200, failed)
+    # Two a host, and no third.
+    come = [known + b"".join(learned(200, 200 * at, 70_000 * at) for at in range(1, end)) for end in (8, 16)]
+    same("hosts that come and go", *[costs.run(node("san"), it) for it in come], failed, allowed=2 * 200 * 8)
 
 
 def floods(costs, failed):
@@ -227,6 +246,10 @@ def networks(costs, failed):
     same("frames round a ring", costs.run(ring, turn * 1500), costs.run(ring, turn * 1900), failed, allowed=9 * 400)
     wave = b"send 0 1 01\n" * 1000 + b"carry 0\n" * 4000
     same("frames in flight together", costs.run(ring, wave * 2), costs.run(ring, wave * 4), failed, allowed=9 * 2000)
+    flow = b"send 2 all 01\nflow\n"
+    # Twelve carries hand it to five nodes, and eighteen to seven. What each puts in flight is a list of its own.
+    for args, lists in ((["ring-lan", "--ring", "4", "--lan", "2"], 29), (["two-rings", "--left", "4", "--right", "4", "--joins", "2"], 45)):
+        same(f"frames through boxes of {args[0]}", costs.run(args, flow * 500), costs.run(args, flow * 900), failed, allowed=lists * 400)
     # Both copies of a frame stand in a ring, and 30 in LANs of 16 nodes, where those of one LAN share the octets.
     for kind, payload, copies, most in (("ring", 1, 2, 190), ("lan", 1, 30, 95), ("lan", 1000, 30, 180)):
         few, many = (costs.run([kind, "--nodes", "16"], "".join(
@@ -238,16 +261,18 @@ def threads(costs, failed):
     """Nodes on threads: a turn takes what the journal and the log keep of it, and a frame the lists that are kept of it"""
     frame = b"send 0 1 01\n"
     for kind in ("ring", "lan"):
-        def turns(count, nodes=3, frames=0):
-            return costs.worst_on_threads([kind, "--nodes", str(nodes), "--turns", str(count)], frame * frames)
+        def turns(count):
+            return costs.on_threads([kind, "--nodes", "3", "--turns", str(count)])
 
         # From 1366 turns to 2048 journals with room for 8192 events do, and logs with room for 2048. Which thread ends first moves a
         # few allocations, and what is held at the end.
         same(f"turns of a {kind}", turns(1500), turns(1900), failed, allowed=8, octets=300_000)
         # Three journals have room for 4096 events each then, and nine logs for 1024.
         within(f"an event of a {kind}", (turns(1000).octets - turns(1).octets) // (9 * 1000), 350, failed)
-        # Ten lists a frame are kept or handed on, and no eleventh.
-        same(f"frames on threads of a {kind}", turns(1000, 2, 100), turns(1000, 2, 200), failed, allowed=10 * 100 + 8, octets=300_000)
+        # Ten lists a frame are kept or handed on, and no eleventh. Frames that wait for a thread have to have more, and the run in
+        # which the fewest do shows whether lists are used again.
+        few, many = (costs.on_threads([kind, "--nodes", "2", "--turns", "1000"], frame * count, min) for count in (100, 200))
+        same(f"frames on threads of a {kind}", few, many, failed, allowed=10 * 100 + 8, octets=300_000)
 
 
 def captures(costs, failed):
@@ -385,8 +410,8 @@ def most_of_tests(costs, failed):
             failed.append(f"{crate}::{test} holds {octets} octets, and {most} are enough")
 
 
-ROWS = (known_sources, one_more_source, alone, forwarded, host, floods, sources_that_return, networks, threads, captures, judged, listed,
-        blocks, not_gone_over, waiting, together, most_of_tests)
+ROWS = (known_sources, one_more_source, alone, forwarded, host, hosts_of_a_box, floods, sources_that_return, networks, threads,
+        captures, judged, listed, blocks, not_gone_over, waiting, together, most_of_tests)
 
 
 def main(program, tests=None):

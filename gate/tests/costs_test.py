@@ -76,12 +76,13 @@ class CostsTest(unittest.TestCase):
             costs.within("lines", octets, most, failed)
             self.assertEqual(not failed, passes, (octets, most))
 
-    def test_threads_have_one_processor_and_their_worst_run_counts(self):
-        runs = iter([costs.Run("5 100 0 0", 0), costs.Run("9 50 0 0", 0), costs.Run("7 300 0 0", 0)])
-        with unittest.mock.patch.object(self.costs, "run", lambda *args, **how: next(runs)):
-            worst = self.costs.worst_on_threads([])
-        self.assertEqual((worst.allocations, worst.octets), (9, 300))
-        self.costs.worst_on_threads(["one"])
+    def test_threads_have_one_processor_and_the_most_or_the_least_counts(self):
+        for pick, wanted in ((max, (9, 300)), (min, (5, 50))):
+            runs = iter([costs.Run(text, 0) for text in ("6 100 0 0", "9 50 0 0", "7 300 0 0", "5 200 0 0")])
+            with unittest.mock.patch.object(self.costs, "run", lambda *args, **how: next(runs)):
+                picked = self.costs.on_threads([], pick=pick)
+            self.assertEqual((picked.allocations, picked.octets), wanted)
+        self.costs.on_threads(["one"])
 
     def test_the_least_time_of_three_runs_counts(self):
         runs = iter([costs.Run("0 0 0 0", seconds) for seconds in (3, 1, 2)])
