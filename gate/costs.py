@@ -387,7 +387,7 @@ def waiting(costs, failed):
         costs, f"wait-{count}", [(0, place) for place in range(count)], 2000)]).octets for count in (20_000, 40_000))
     # A packet has 66 octets.
     within("a packet that waits", (many - few) // 20_000, 300, failed)
-    # 4000 within 400 ms wait together, which is as many lists as are kept.
+    # 4000 within 400 ms wait together, and 4096 lists are kept for those that come later.
     once, again = (costs.run(["merge", "-w", "-", "--b", OTHER, "--a", write_capture(
         costs, f"later-{count}", [(0, place) for place in range(count)], 100_000)]) for count in (10_000, 40_000))
     same("packets that wait later", once, again, failed, allowed=8, octets=10_000)
