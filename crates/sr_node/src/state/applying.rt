@@ -23,6 +23,8 @@ use sr_forwarding::{Parcel, ParcelView};
 use sr_frame::Port;
 
 // The counts after a frame from this port.
+// speed: D-node-inlined
+#[inline(always)]
 fn count_wrong_lan(counts: &mut PerPort<u64>, port: Port, parcel: &ParcelView<'_>)
     ensures { counts.new ≡ wrong_lan_after counts.old port parcel.now }
 {

@@ -143,6 +143,8 @@ impl Core {
     }
 
     /// Gives up the places. Nothing that shows changes.
+    // speed: D-node-inlined
+    #[inline(always)]
     pub(crate) fn release(&mut self)
         ensures same { shown self.new ≡ shown self.old }
         ensures idle { IsIdle self.new }
