@@ -427,20 +427,30 @@ def untold_laws(root):
 
 # The one wording is "allocation failed", in whatever tense.
 OTHER_FAILED_ALLOCATIONS = re.compile(
-    r"(want|lack|shortage) of memory"
-    r"|memory (\w+ )?(ran|runs|run|running) (out|short)|(ran|runs|run|running) out of memory|out of memory"
-    r"|(memory|growths?|allocations?) (that )?(is|was|are|were|be|being|may be|might be|has been|gets|got)( \w+)? (refused|denied|missing|lacking)"
-    r"|(memory|growth|allocation) refused|refus(ed|es|ing) (a |an |the |one |each )?(growths?|memory|allocations?)",
+    r"(want|lack|shortage)\s+of\s+memory"
+    r"|memory\s+(\w+\s+)?(ran|runs|run|running)\s+(out|short)|(ran|runs|run|running)\s+out\s+of\s+memory|out\s+of\s+memory"
+    r"|(memory|growths?|allocations?)\s+(that\s+)?(is|was|are|were|be|being|may\s+be|might\s+be|has\s+been|gets|got)(\s+\w+)?\s+(refused|denied|missing|lacking)"
+    r"|(memory|growth|allocation)\s+refused|refus(ed|es|ing)\s+(a\s+|an\s+|the\s+|one\s+|each\s+)?(growths?|memory|allocations?)",
     re.IGNORECASE,
 )
 
 
+def comments_alone(text):
+    """The text of a source with its comments alone, each sign of them in its place, so that a sentence may go on in the next line."""
+    lines = (re.match(r"(\s*//[/!]?)(.*)", line) for line in text.split("\n"))
+    return "\n".join(" " * len(line[1]) + line[2] if line else "." for line in lines)
+
+
 def failed_allocations(root):
-    """Documents have one wording for an allocation that failed. What stands between backticks is quoted: the text of a fault, say."""
-    for path in documents(root):
-        text = re.sub(r"`[^`\n]*`", lambda quoted: " " * len(quoted[0]), path.read_text())
+    """Documents, and comments of the code, have one wording for an allocation that failed. What stands between backticks is quoted:
+    the text of a fault, say."""
+    texts = [(path, path.read_text()) for path in documents(root)]
+    texts += [(path, comments_alone(path.read_text())) for path in sorted(root.glob("crates/*/src/**/*.rt"))]
+    for path, text in texts:
+        text = re.sub(r"`[^`\n]*`", lambda quoted: " " * len(quoted[0]), text)
         for found in OTHER_FAILED_ALLOCATIONS.finditer(text):
-            yield path, text.count("\n", 0, found.start()) + 1, f"says `{found[0]}` for a failed allocation"
+            said = " ".join(found[0].split())
+            yield path, text.count("\n", 0, found.start()) + 1, f"says `{said}` for a failed allocation"
 
 
 LEANING = re.compile(r"^\s*(//[/!]?|--) (The same|and|And)\b")

@@ -299,6 +299,12 @@ class Lint(unittest.TestCase):
             found = self.findings({"docs/ONE.md": f"one\n{text}\n"})
             self.assertEqual(len(found), 1, text)
             self.assertRegex(found[0], r"^docs/ONE.md:2: says `.*` for a failed allocation$")
+        for text in ["/// Memory ran out.", "    // None for want\n    // of memory.", "//! Each growth\n//! may be refused."]:
+            found = self.findings({"crates/sr_one/src/two.rt": f"{text}\nfn two() {{}}\n"})
+            self.assertEqual(len(found), 1, text)
+            self.assertRegex(found[0], r"^crates/sr_one/src/two.rt:1: says `[\w ]*` for a failed allocation$")
+        for text in ["// memory\nran_out();\n// out", 'let text = "out of memory";', "// `out of memory`"]:
+            self.assertEqual(self.findings({"crates/sr_one/src/two.rt": f"fn two() {{\n{text}\n}}\n"}), [], text)
         for text in ["an allocation failed", "where an allocation fails", "a refused event", "growths come first", "takes memory", "`out of memory`"]:
             self.assertEqual(self.findings({"docs/ONE.md": text + "\n"}), [], text)
 
