@@ -123,7 +123,7 @@ impl<V: Drop, const SPAN: u64, const MOST: usize> AgedSlots<V, SPAN, MOST> {
         self.slots.iter()
     }
 
-    /// Makes room for so many more addresses, in one growth. Nothing that shows changes. NoMemory: memory ran out.
+    /// Makes room for so many more addresses, in one growth. Nothing that shows changes. NoMemory: an allocation failed.
     pub fn reserve(&mut self, more: usize) -> Result<(), NoMemory>
         ensures { self.new ≡ self.old }
     {
@@ -131,7 +131,7 @@ impl<V: Drop, const SPAN: u64, const MOST: usize> AgedSlots<V, SPAN, MOST> {
     }
 
     /// Holds a place for an address, so that `append` of it needs no memory. Nothing else sees the place.
-    /// NoMemory: memory ran out, and nothing changes.
+    /// NoMemory: an allocation failed, and nothing changes.
     pub fn hold(&mut self, key: Mac) -> Result<(), NoMemory>
         ensures entries { self.new.entries ≡ self.old.entries }
         ensures held { OnOk result (is_held self.new key ≡ true) }
@@ -143,7 +143,7 @@ impl<V: Drop, const SPAN: u64, const MOST: usize> AgedSlots<V, SPAN, MOST> {
         self.slots.hold(key)
     }
 
-    /// Holds the places of two addresses. NoMemory: memory ran out, and nothing changes.
+    /// Holds the places of two addresses. NoMemory: an allocation failed, and nothing changes.
     pub fn hold_both(&mut self, key: Mac, other: Mac) -> Result<(), NoMemory>
         ensures entries { self.new.entries ≡ self.old.entries }
         ensures held { OnOk result ((is_held self.new key ≡ true)
@@ -156,7 +156,7 @@ impl<V: Drop, const SPAN: u64, const MOST: usize> AgedSlots<V, SPAN, MOST> {
     }
 
     /// Holds a place for just those addresses for which another table holds one; what else was held is given up. Where the other
-    /// holds none, it goes over nothing. NoMemory: memory ran out, and no place is held.
+    /// holds none, it goes over nothing. NoMemory: an allocation failed, and no place is held.
     pub fn hold_as(&mut self, other: &Self) -> Result<(), NoMemory>
         ensures entries { self.new.entries ≡ self.old.entries }
         ensures held { OnOk result (KeepsAllHeld other.now.held self.new.held) }
@@ -238,7 +238,7 @@ impl<V: Drop, const SPAN: u64, const MOST: usize> AgedSlots<V, SPAN, MOST> {
 
     /// Adds a value for an address that has none, in a table with room for one more. It goes last. The forgotten values of a
     /// table of `MOST` go first. Where a place is held for the address, it uses that, and needs no memory.
-    /// NoMemory: memory ran out, and nothing changes.
+    /// NoMemory: an allocation failed, and nothing changes.
     pub fn append(&mut self, key: Mac, value: V, now: u64) -> Result<(), NoMemory>
         requires absent { value_at self.old key ≡ None }
         requires room { nat_lt (length (with_room SPAN MOST now self.old.entries)) MOST ≡ true }
@@ -318,7 +318,7 @@ impl<V: Drop, const SPAN: u64, const MOST: usize> AgedSlots<V, SPAN, MOST> {
 
 impl<V: Drop + Copy, const SPAN: u64, const MOST: usize> AgedSlots<V, SPAN, MOST> {
     /// A table of its own with the same values in the same order, under the same keys. It holds no place.
-    /// NoMemory: memory ran out.
+    /// NoMemory: an allocation failed.
     pub fn try_clone(&self) -> Result<Self, NoMemory>
         ensures entries { IfOk result (λ own. own.entries ≡ self.now.entries) }
         ensures held { IfOk result (λ own. own.held ≡ []) }

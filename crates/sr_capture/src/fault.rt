@@ -12,7 +12,7 @@ pub enum Reason {
     /// The reader failed; an interrupted read is a failure too.
     #[error("the file can not be read")]
     Read,
-    /// A growth was refused.
+    /// An allocation failed.
     #[error("out of memory")]
     NoMemory,
     /// The file begins as one that gzip compressed.

@@ -17,7 +17,7 @@ pub enum ScriptFault {
     Write,
     /// There were more packets than 64 bits count.
     Endless,
-    /// A growth was refused.
+    /// An allocation failed.
     NoMemory,
 }
 

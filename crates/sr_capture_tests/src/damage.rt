@@ -1,4 +1,4 @@
-//! Files that end early, that can not be read on, or that are damaged; writers that fail, and memory that is refused.
+//! Files that end early, that can not be read on, or that are damaged; writers that fail, and allocations that fail.
 
 use super::runs::Ends;
 use super::steps::{Step, expect_steps};

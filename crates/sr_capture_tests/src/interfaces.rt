@@ -59,7 +59,7 @@ fn interfaces_are_listed_up_to_a_fault(rt: HostRuntime) {
     expect_steps(&rt, LISTED);
 }
 
-/// Memory may be refused once, also for the last of the blocks that are listed: then no list is told that lacks it.
+/// An allocation may fail once, also for the last of the blocks that are listed: then no list is told that lacks it.
 const LISTED_AGAIN: &[Step] = &[Step::File(
     SIX,
     &[These(b"in A 0 abcd\n")],

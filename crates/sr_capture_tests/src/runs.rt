@@ -1,5 +1,5 @@
-//! The runs. Each function keeps to itself what it owns, and answers whether all was as it had to be, or None for want
-//! of memory.
+//! The runs. Each function keeps to itself what it owns, and answers whether all was as it had to be, or None where an
+//! allocation failed.
 
 use super::failing::{Broken, Impatient, Narrow};
 use super::texts::{Text, joined};
@@ -34,7 +34,7 @@ pub type Ending = Option<(Inlet, u64, Reason)>;
 /// Where a packet ends in a file, and its line.
 pub type Ends = &'static [(usize, &'static [u8])];
 
-/// Whether a script that is written to a list ends so. None where memory was refused, to the list too.
+/// Whether a script that is written to a list ends so. None where an allocation failed, to the list too.
 pub fn is_ended(outcome: Result<(), ScriptFault>, ending: Ending) -> Option<bool> {
     match outcome {
         Ok(()) => Some(ending.is_none()),
@@ -279,8 +279,8 @@ fn runs_again(
         && are_lines(written.as_slice(), ends, octets.len(), last)
 }
 
-/// Whether a file gives these lines, and these behind them. Where memory is refused, some of them are written, and the next
-/// run is whole. What the test itself needs comes first.
+/// Whether a file gives these lines, and these behind them. Where an allocation fails, some of them are written, and the
+/// next run is whole. What the test itself needs comes first.
 pub fn is_taken_up(alloc: Global, file: Text, ends: Ends, last: &'static [u8]) -> Option<bool> {
     let octets = joined(alloc, file)?;
     let mut written: Vec<u8> = Vec::new(alloc);

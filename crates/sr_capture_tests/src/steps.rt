@@ -32,7 +32,7 @@ pub enum Step {
     Patient(Text, usize, Text),
     /// A file in which octets are changed, one after the other, so many times.
     Endured(Text, u32),
-    /// A file with these packets, and the last line of its script. Memory may be refused once.
+    /// A file with these packets, and the last line of its script. An allocation may fail once.
     TakenUp(Text, Ends, &'static [u8]),
     /// A reason, and its text.
     Told(Reason, &'static [u8]),
@@ -42,7 +42,7 @@ pub enum Step {
     Unwritten(&'static [Given], usize),
 }
 
-/// Whether a run comes to what it has to. None for want of memory.
+/// Whether a run comes to what it has to. None where an allocation failed.
 fn comes(alloc: Global, step: Step) -> Option<bool> {
     match step {
         Step::File(file, wanted, ending) => is_script(alloc, file, wanted, ending),
@@ -60,7 +60,7 @@ fn comes(alloc: Global, step: Step) -> Option<bool> {
     }
 }
 
-/// The place of the first step that differs, or None. Where memory is refused, the step is gone again.
+/// The place of the first step that differs, or None. Where an allocation fails, the step is gone again.
 fn first_wrong(alloc: Global, steps: &[Step]) -> Option<usize> {
     for (place, step) in steps.iter().enumerate() {
         let is_right = match comes(alloc, *step) {

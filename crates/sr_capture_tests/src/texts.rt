@@ -25,7 +25,7 @@ fn append_part(octets: &mut Vec<u8>, part: Part) -> Result<(), AllocError> {
     }
 }
 
-/// The octets of a text. None for want of memory.
+/// The octets of a text. None where an allocation failed.
 pub fn joined(alloc: Global, text: Text) -> Option<Vec<u8>> {
     let mut octets = Vec::new(alloc);
     for part in text {

@@ -50,7 +50,7 @@ fn written<W: Write>(writer: &mut W, names: Names, packets: &[Given]) -> Option<
     Some(())
 }
 
-/// Whether a file of these packets has these octets. None for want of memory.
+/// Whether a file of these packets has these octets. None where an allocation failed.
 pub fn is_written(alloc: Global, names: Names, packets: &[Given], wanted: Text) -> Option<bool> {
     let mut octets = Vec::new(alloc);
     written(&mut octets, names, packets)?;
@@ -157,8 +157,8 @@ fn list_of(alloc: Global, count: usize) -> Option<Vec<u8>>
     Some(octets)
 }
 
-/// How many octets the block of a packet has that is as long as can be, with as long a comment. None for want of memory, or where
-/// it is not written.
+/// How many octets the block of a packet has that is as long as can be, with as long a comment. None where an allocation failed,
+/// or where it is not written.
 fn longest_block(alloc: Global) -> Option<usize> {
     let octets = list_of(alloc, MAX_WRITTEN)?;
     let mut block = Vec::new(alloc);

@@ -16,7 +16,7 @@ pub enum DupFault {
     /// 1024 other sources are live.
     #[error("the duplicate table is full")]
     TableFull,
-    /// Memory ran out.
+    /// An allocation failed.
     #[error("out of memory")]
     NoMemory,
     /// Two records of this source are 32768 apart, so neither is ahead of the other.

@@ -114,7 +114,7 @@ fn join_fault<const N: usize>(table: &TableOf<N>, other: &TableOf<N>, now: u64) 
     }
 }
 
-// Adds a source to a table that lacks it. TableFull: 1024 others stand there. NoMemory: memory ran out.
+// Adds a source to a table that lacks it. TableFull: 1024 others stand there. NoMemory: an allocation failed.
 fn add<const N: usize>(
     table: &mut TableOf<N>,
     src: Mac,
@@ -134,7 +134,8 @@ fn add<const N: usize>(
     Ok(())
 }
 
-// Joins a source to a table. TableFull: it is new, and 1024 others stand there. Apart: the two records are. NoMemory: memory ran out.
+// Joins a source to a table. TableFull: it is new, and 1024 others stand there. Apart: the two records are. NoMemory: an
+// allocation failed.
 fn take<const N: usize>(
     table: &mut TableOf<N>,
     src: Mac,
@@ -183,7 +184,7 @@ fn take_all<const N: usize>(
 }
 
 // The join of two tables at a time, as a table of its own, which holds the places that the first one holds. An error: they have none,
-// or memory ran out.
+// or an allocation failed.
 fn join_of<const N: usize>(
     table: &TableOf<N>,
     other: &TableOf<N>,
@@ -213,7 +214,7 @@ impl<const N: usize> TableOf<N> {
     /// Joins the sources of another table to these: the records of a source, and the later of its times. Sources that are silent
     /// for `ENTRY_FORGET_TIME` at this time are left out on both sides, and those that are new come last. Held places stay held.
     /// TableFull: the join has over 1024 sources. Apart: two records of this source are 32768 apart, the first such source of the
-    /// other table. NoMemory: memory ran out. The first of these is answered, and nothing changes.
+    /// other table. NoMemory: an allocation failed. The first of these is answered, and nothing changes.
     pub fn merge(&mut self, other: &TableOf<N>, now: u64) -> Result<(), DupFault>
         ensures joins { OnOk result (IsJoin (64 * N) (live_at now self.old.sources)
             (live_at now other.now.sources) self.new.sources) }
@@ -243,8 +244,8 @@ impl DupTable {
     /// Joins the sources of another table to these: the records of a source, and the later of its times. Sources that are silent
     /// for `ENTRY_FORGET_TIME` at this time are left out on both sides, and those that are new come last. Held places stay held.
     /// OtherWidth: the tables have two widths. TableFull: the join has over 1024 sources. Apart: two records of this source are
-    /// 32768 apart, the first such source of the other table. NoMemory: memory ran out. The first of these is answered, and nothing
-    /// changes.
+    /// 32768 apart, the first such source of the other table. NoMemory: an allocation failed. The first of these is answered, and
+    /// nothing changes.
     pub fn merge(&mut self, other: &DupTable, now: u64) -> Result<(), DupFault>
         ensures joins { OnOk result (IsJoin self.old.width (live_at now self.old.sources)
             (live_at now other.now.sources) self.new.sources) }

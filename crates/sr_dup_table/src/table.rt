@@ -118,7 +118,7 @@ impl DupTable {
     }
 
     /// A table of its own of the same width, with the same sources in the same order, under the same keys. It holds no place.
-    /// NoMemory: memory ran out.
+    /// NoMemory: an allocation failed.
     pub fn try_clone(&self) -> Result<DupTable, NoMemory>
         ensures width { IfOk result (λ own. own.width ≡ self.now.width) }
         ensures sources { IfOk result (λ own. own.sources ≡ self.now.sources) }
@@ -162,7 +162,7 @@ impl DupTable {
         }
     }
 
-    /// Makes room for so many more sources, in one growth. Nothing that shows changes. NoMemory: memory ran out.
+    /// Makes room for so many more sources, in one growth. Nothing that shows changes. NoMemory: an allocation failed.
     pub fn make_room(&mut self, more: usize) -> Result<(), NoMemory>
         ensures { self.new ≡ self.old }
     {
@@ -173,7 +173,7 @@ impl DupTable {
     }
 
     /// Holds a place for a source, so that its next arrival takes no memory. Nothing else sees the place.
-    /// NoMemory: memory ran out, and nothing changes.
+    /// NoMemory: an allocation failed, and nothing changes.
     pub fn reserve(&mut self, src: Mac) -> Result<(), NoMemory>
         ensures width { self.new.width ≡ self.old.width }
         ensures sources { self.new.sources ≡ self.old.sources }
@@ -234,7 +234,7 @@ impl DupTable {
     }
 
     /// Notes an arrival at this time, and answers the asked lanes on which its number is new in the epoch of its source.
-    /// TableFull: 1024 other sources are live. NoMemory: memory ran out. Either way nothing changes.
+    /// TableFull: 1024 other sources are live. NoMemory: an allocation failed. Either way nothing changes.
     pub fn arrive(&mut self, src: Mac, seq: Seq, lanes: Lanes, now: u64) -> Result<Lanes, DupFault>
         requires { is_empty lanes ≡ false }
         ensures { Arrives self.old src seq.0 lanes now result self.new }
@@ -244,7 +244,7 @@ impl DupTable {
 
     /// What `arrive` does, where the record of the source is looked for first where a hint says. It notes an arrival, and answers the
     /// asked lanes on which its number is new in the epoch of its source.
-    /// TableFull: 1024 other sources are live. NoMemory: memory ran out. Either way nothing changes.
+    /// TableFull: 1024 other sources are live. NoMemory: an allocation failed. Either way nothing changes.
     // speed: D-node-one-look
     #[inline(always)]
     pub fn arrive_at(

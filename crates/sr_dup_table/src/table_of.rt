@@ -79,7 +79,7 @@ impl<const N: usize> TableOf<N> {
     }
 
     /// A table of its own with the same sources in the same order, under the same keys. It holds no place.
-    /// NoMemory: memory ran out.
+    /// NoMemory: an allocation failed.
     pub fn try_clone(&self) -> Result<TableOf<N>, NoMemory>
         ensures sources { IfOk result (λ own. own.sources ≡ self.now.sources) }
         ensures held { IfOk result (λ own. own.held ≡ []) }
@@ -114,7 +114,7 @@ impl<const N: usize> TableOf<N> {
         self.slots.len()
     }
 
-    /// Makes room for so many more sources, in one growth. Nothing that shows changes. NoMemory: memory ran out.
+    /// Makes room for so many more sources, in one growth. Nothing that shows changes. NoMemory: an allocation failed.
     pub fn make_room(&mut self, more: usize) -> Result<(), NoMemory>
         ensures { self.new ≡ self.old }
     {
@@ -122,7 +122,7 @@ impl<const N: usize> TableOf<N> {
     }
 
     /// Holds a place for a source, so that its next arrival takes no memory. Nothing else sees the place.
-    /// NoMemory: memory ran out, and nothing changes.
+    /// NoMemory: an allocation failed, and nothing changes.
     pub fn reserve(&mut self, src: Mac) -> Result<(), NoMemory>
         ensures sources { self.new.sources ≡ self.old.sources }
         ensures held { OnOk result (is_held self.new.held src ≡ true) }
@@ -133,7 +133,8 @@ impl<const N: usize> TableOf<N> {
         self.slots.hold(src)
     }
 
-    // Holds a place for just those sources for which another table holds one. NoMemory: memory ran out, and no place is held.
+    // Holds a place for just those sources for which another table holds one. NoMemory: an allocation failed, and no place is
+    // held.
     pub(crate) fn hold_as(&mut self, other: &TableOf<N>) -> Result<(), NoMemory>
         ensures sources { self.new.sources ≡ self.old.sources }
         ensures held { OnOk result (KeepsAllHeld other.now.held self.new.held) }
@@ -212,7 +213,7 @@ impl<const N: usize> TableOf<N> {
     }
 
     /// Notes an arrival at this time, and answers the asked lanes on which its number is new in the epoch of its source.
-    /// TableFull: 1024 other sources are live. NoMemory: memory ran out. Either way nothing changes.
+    /// TableFull: 1024 other sources are live. NoMemory: an allocation failed. Either way nothing changes.
     pub fn arrive(&mut self, src: Mac, seq: Seq, lanes: Lanes, now: u64) -> Result<Lanes, DupFault>
         requires { is_empty lanes ≡ false }
         ensures { Arrives (as_table (64 * N) self.old) src seq.0 lanes now result
@@ -223,7 +224,7 @@ impl<const N: usize> TableOf<N> {
 
     /// What `arrive` does, where the record of the source is looked for first where a hint says. It notes an arrival, and answers the
     /// asked lanes on which its number is new in the epoch of its source.
-    /// TableFull: 1024 other sources are live. NoMemory: memory ran out. Either way nothing changes.
+    /// TableFull: 1024 other sources are live. NoMemory: an allocation failed. Either way nothing changes.
     // speed: D-node-one-look
     #[inline(always)]
     pub fn arrive_at(
@@ -295,7 +296,7 @@ impl<const N: usize> TableOf<N> {
     }
 
     /// Adds a source to a table that is not full. It goes last; the forgotten ones of a crowded table go first. Where a place is held
-    /// for it, it uses that, and takes no memory. NoMemory: memory ran out, and nothing changes.
+    /// for it, it uses that, and takes no memory. NoMemory: an allocation failed, and nothing changes.
     pub fn put_last(&mut self, src: Mac, first: Record<N>, now: u64) -> Result<(), NoMemory>
         requires absent { lookup (mac_eq src) self.old.sources ≡ None }
         requires room { nat_lt (length (with_room now self.old.sources)) most_sources ≡ true }

@@ -1,5 +1,5 @@
-//! The calls. Each function keeps to itself what it owns, and answers whether all was as it had to be, or None for want
-//! of memory: a frame or a list that a test held would make its proof long.
+//! The calls. Each function keeps to itself what it owns, and answers whether all was as it had to be, or None where an
+//! allocation failed: a frame or a list that a test held would make its proof long.
 
 use super::steps::{Cut, Saying, Tagging, Trailing};
 use super::texts::{Text, is_text, joined};

@@ -44,7 +44,7 @@ fn fields_of_a_tagged_frame(rt: HostRuntime) {
     expect_steps(&rt, FIELDS);
 }
 
-// Each growth may be refused: the call is then made again, and answers as it would have.
+// Each allocation may fail: the call is then made again, and answers as it would have.
 const COPIES: &[Step] = &[
     Step::Copies(&[These(&[1; 14])], 0x0101),
     Step::Copies(&[These(&[1; 60])], 0x0101),

@@ -1,4 +1,4 @@
-//! Growths that are refused, one at a time.
+//! Allocations that fail, one at a time.
 
 use sr_forwarding::{Framing, HsrFraming, Parcel, PlainFraming, PrpFraming, ReadFault};
 use sr_prp_trailer::Lan;
@@ -8,7 +8,7 @@ use std::alloc::Global;
 const RING_FRAME: &[u8] =
     b"\x02\x00\x00\x00\x00\x01\x02\x00\x00\x00\x00\x02\x89\x2f\x00\x34\x00\x05\x08\x00\x00\x00\x00\x00\x00\x00\x00\x00\x00\x00\x00\x00\x00\x00\x00\x00\x00\x00\x00\x00\x00\x00\x00\x00\x00\x00\x00\x00\x00\x00\x00\x00\x00\x00\x00\x00\x00\x00\x00\x00\x00\x00\x00\x00\x00\x00";
 
-/// Its parcel, also where memory is refused once.
+/// Its parcel, also where an allocation fails once.
 fn ring_parcel(alloc: Global) -> Option<Parcel> {
     let ring = HsrFraming { path: 0 };
     match ring.decode(alloc, RING_FRAME) {
@@ -18,7 +18,7 @@ fn ring_parcel(alloc: Global) -> Option<Parcel> {
     }
 }
 
-/// Whether a parcel has an equal copy, also where memory is refused once.
+/// Whether a parcel has an equal copy, also where an allocation fails once.
 fn has_copy(alloc: Global, parcel: &Parcel) -> bool {
     match parcel.try_clone(alloc) {
         Ok(copy) => copy == *parcel,
@@ -26,7 +26,7 @@ fn has_copy(alloc: Global, parcel: &Parcel) -> bool {
     }
 }
 
-/// Whether a parcel is written behind what a list has. Where memory is refused once, the list stays as it was.
+/// Whether a parcel is written behind what a list has. Where an allocation fails once, the list stays as it was.
 fn goes_behind(framing: &dyn Framing, out: &mut Vec<u8>, parcel: &Parcel) -> bool {
     let before = out.len();
     match framing.write(out, &parcel.view()) {
@@ -43,7 +43,7 @@ fn goes_out(alloc: Global, framing: &dyn Framing, parcel: &Parcel) -> bool {
     goes_behind(framing, &mut out, parcel) && goes_behind(framing, &mut out, parcel)
 }
 
-/// Whether all calls that allocate do their work, also where memory is refused once.
+/// Whether all calls that allocate do their work, also where an allocation fails once.
 fn survives(alloc: Global) -> Option<bool> {
     let parcel = ring_parcel(alloc)?;
     let lan = PrpFraming {

@@ -140,7 +140,7 @@ const READINGS: &[Reading] = &[
     ),
 ];
 
-/// Whether the octets are read so. None for want of memory.
+/// Whether the octets are read so. None where an allocation failed.
 fn reads(alloc: Global, row: Reading) -> Option<bool> {
     let (at, octets, plain, seen_as) = row;
     let octets = joined(alloc, &[octets])?;
@@ -162,7 +162,7 @@ fn edges_of_reading(rt: HostRuntime) {
     assert_eq!(rt; first_reading(rt.alloc()), None);
 }
 
-// The longest plain frame, with a tag, with a trailer, and as it is. None for want of memory.
+// The longest plain frame, with a tag, with a trailer, and as it is. None where an allocation failed.
 fn longest_is_written(alloc: Global) -> Option<bool> {
     let plain = joined(alloc, &[&[TO_ONE, These(b"\x08\x00"), Zeros(1504)]])?;
     all_three(alloc, &plain).ok()

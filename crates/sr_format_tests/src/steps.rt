@@ -63,7 +63,7 @@ pub enum Cut {
     Untagged,
 }
 
-/// Whether a call comes to what it has to. None for want of memory.
+/// Whether a call comes to what it has to. None where an allocation failed.
 fn comes(alloc: Global, step: Step) -> Option<bool> {
     match step {
         Step::View(text, fault) => calls::is_viewed(alloc, text, fault),
@@ -97,7 +97,7 @@ fn comes(alloc: Global, step: Step) -> Option<bool> {
     }
 }
 
-/// The place of the first step that differs, or None. Where a growth is refused, the step is gone again.
+/// The place of the first step that differs, or None. Where an allocation fails, the step is gone again.
 fn first_wrong(alloc: Global, steps: &[Step]) -> Option<usize> {
     for (place, step) in steps.iter().enumerate() {
         let is_right = match comes(alloc, *step) {

@@ -24,7 +24,7 @@ const IN_VLAN: Text = &[These(&[
 ])];
 
 // The frames of a Linux PRP node and a Linux HSR node, and a worked frame of a RedBox: each is read, and is
-// what is written of its value. The growth may be refused: the call is then made again.
+// what is written of its value. The allocation may fail: the call is then made again.
 const FRAMES: &[Step] = &[
     Step::Said(
         HEAD,

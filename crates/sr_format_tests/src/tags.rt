@@ -186,7 +186,7 @@ const IP_ZEROS: Text = &[These(&[8, 0]), Zeros(46)];
 
 const IP_NOTHING: Text = &[These(&[8, 0])];
 
-// Each growth may be refused: the call is then made again.
+// Each allocation may fail: the call is then made again.
 const GROUP_AND_BACK: &[Step] = &[
     Step::Tagged(
         GROUP,

@@ -55,7 +55,7 @@ pub fn append_text(octets: &mut Vec<u8>, text: Text) -> Result<(), AllocError> {
     Ok(())
 }
 
-/// The texts one behind the other. None for want of memory.
+/// The texts one behind the other. None where an allocation failed.
 pub fn joined(alloc: Global, texts: &[Text]) -> Option<Vec<u8>> {
     let mut octets = Vec::new(alloc);
     for text in texts {
@@ -64,7 +64,7 @@ pub fn joined(alloc: Global, texts: &[Text]) -> Option<Vec<u8>> {
     Some(octets)
 }
 
-/// Whether the octets are this text. None for want of memory.
+/// Whether the octets are this text. None where an allocation failed.
 pub fn is_text(alloc: Global, octets: &[u8], texts: &[Text]) -> Option<bool> {
     let wanted = joined(alloc, texts)?;
     Some(wanted.as_slice() == octets)

@@ -205,7 +205,7 @@ const OWN_IN_VLAN: Text = &[
 
 const OWN_TRAILER: Text = &[These(&[0, 0, 0xa0, 0x34, 0x88, 0xfb])];
 
-// Each growth may be refused: the call is then made again.
+// Each allocation may fail: the call is then made again.
 const TAGGED_AND_BACK: &[Step] = &[
     Step::Appended(OWN_IN_VLAN, 0, A, Some((OWN_IN_VLAN, OWN_TRAILER))),
     Step::Trailer(OWN_IN_VLAN, OWN_TRAILER, Some((0, A, 0x34))),

@@ -23,7 +23,7 @@ pub enum ReadFault {
     /// A frame without the tag or the trailer that the port asks for, or a parcel without a number for them.
     #[error("the frame has no tag")]
     Untagged,
-    /// A growth was refused.
+    /// An allocation failed.
     #[error("out of memory")]
     NoMemory,
 }

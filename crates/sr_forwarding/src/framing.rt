@@ -67,7 +67,7 @@ pub trait Framing: Drop {
     /// Appends the octets that a parcel is written as to a list. A list with room for 1524 octets takes no memory.
     ///
     /// `Untagged` where the parcel has no number and the port's form needs one, `TooLong` where more than 1524 octets would
-    /// come of it, `NoMemory` where a growth was refused: the list then stays as it was.
+    /// come of it, `NoMemory` where an allocation failed: the list then stays as it was.
     fn write(&self, out: &mut Vec<u8>, parcel: &ParcelView<'_>) -> Result<(), ReadFault>
         ensures written { OnOk result
             (Appends (meaning self.now) parcel.now out.old.items out.new.items) }

@@ -20,7 +20,7 @@ pub fn routes_never_have_the_inlet()
         → has (routes r h inlet now) inlet ≡ false }
 {}
 
-/// With a role's own framings, what goes where its routes say is written, want of memory apart.
+/// With a role's own framings, what goes where its routes say is written, a failed allocation apart.
 pub fn what_is_wanted_is_written()
     ensures { (r : RoleImage) (h : Header) (inlet outlet : Port) (now : ℕ) (p : ParcelImage)
         (f : FramingImage)
@@ -46,8 +46,8 @@ pub fn writings_are_unique()
         → IsWritten f p.form p a → IsWritten f p.form p b → a ≡ b }
 {}
 
-/// What a framing refuses in a parcel is never a failed allocation. So a parcel whose writing failed for want of memory can
-/// be written, and one that was refused otherwise can't.
+/// What a framing refuses in a parcel is never a failed allocation. So a parcel that was not written for a failed
+/// allocation can be written, and one that was refused otherwise can't.
 pub fn want_of_memory_is_no_fault_of_a_parcel()
     ensures never { (f : FramingImage) (p : ParcelImage)
         → write_fault f p ≢ Some ReadFault.NoMemory }

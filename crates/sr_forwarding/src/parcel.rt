@@ -155,7 +155,7 @@ impl Parcel {
         self.octets.into_octets()
     }
 
-    /// An equal parcel. `NoMemory` where its one growth was refused.
+    /// An equal parcel. `NoMemory` where its one allocation failed.
     pub fn try_clone(&self, alloc: Global) -> Result<Parcel, NoMemory>
         ensures { IfOk result (λ p. p ≡ self.now) }
     {

@@ -171,7 +171,7 @@ impl<'a> ParcelView<'a> {
         }
     }
 
-    /// A parcel with octets of its own that are copied once. `NoMemory` where the growth was refused.
+    /// A parcel with octets of its own that are copied once. `NoMemory` where the allocation failed.
     pub fn to_parcel(&self, alloc: Global) -> Result<Parcel, NoMemory>
         ensures { IfOk result (λ p. p ≡ self.now) }
     {
@@ -190,7 +190,7 @@ impl<'a> ParcelView<'a> {
         Ok(Parcel::of_parts(self.form, octets, self.seq, self.path, self.wrong_lan))
     }
 
-    /// The parcel in plain form, with octets of its own that are copied once. `NoMemory` where the growth was refused.
+    /// The parcel in plain form, with octets of its own that are copied once. `NoMemory` where the allocation failed.
     pub fn to_plain_parcel(&self, alloc: Global) -> Result<Parcel, NoMemory>
         ensures { IfOk result (λ p. p ≡ as_plain self.now) }
     {

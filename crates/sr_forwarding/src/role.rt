@@ -33,7 +33,7 @@ pub trait Role: Drop {
         ensures { result ≡ routes (meaning self.now) header.now inlet now };
 
     /// Learns the source of a frame at the interlink, where the role stands for the nodes behind it.
-    /// NoMemory: a growth was refused, and nothing changes.
+    /// NoMemory: an allocation failed, and nothing changes.
     fn learn(
         &mut self,
         alloc: Global,
@@ -51,7 +51,7 @@ pub trait Role: Drop {
         ensures count { result ≡ pruned_count (meaning self.old) now }
         ensures after { meaning self.new ≡ pruned (meaning self.old) now };
 
-    /// The role as data. NoMemory: a growth was refused.
+    /// The role as data. NoMemory: an allocation failed.
     fn image(&self, alloc: Global) -> Result<RoleImage, NoMemory>
         ensures { IfOk result (λ i. i ≡ meaning self.now) };
 }

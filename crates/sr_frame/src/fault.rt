@@ -1,4 +1,4 @@
-//! Why octets are no frame, and want of memory.
+//! Why octets are no frame, and a failed allocation.
 
 ghost use Rattle.std.specs.Prelude.{◌≡◌};
 ghost use Rattle.sr_frame.specs.FaultCodes.{frame_code};
@@ -6,7 +6,7 @@ ghost use Rattle.sr_frame.specs.FaultCodes.{frame_code};
 use std::alloc::AllocError;
 use thiserror::Error;
 
-/// A growth was refused: there was no memory for it.
+/// An allocation failed: there was no memory for it.
 #[derive(Clone, Copy, Debug, PartialEq, Eq, Error)]
 #[error("out of memory")]
 pub struct NoMemory;
@@ -20,7 +20,7 @@ pub enum FrameFault {
     /// More than 1524 octets.
     #[error("the frame is too long")]
     TooLong,
-    /// A growth was refused.
+    /// An allocation failed.
     #[error("out of memory")]
     NoMemory,
 }

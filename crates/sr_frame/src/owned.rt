@@ -54,7 +54,7 @@ impl Frame {
     /// A frame of its own with these octets.
     ///
     /// `TooShort` and `TooLong` exactly where [`view`](crate::view) answers them; `NoMemory` where its one
-    /// growth was refused.
+    /// allocation failed.
     pub fn copy(alloc: Global, octets: &[u8]) -> Result<Frame, FrameFault>
         ensures ok { IfOk result (λ f. (f ≡ octets.now) × HasFrameLength f) }
         ensures short { IsErrOf result FrameFault.TooShort
@@ -74,7 +74,7 @@ impl Frame {
         Self { octets }
     }
 
-    /// An equal frame. `NoMemory` where its one growth was refused.
+    /// An equal frame. `NoMemory` where its one allocation failed.
     pub fn try_clone(&self, alloc: Global) -> Result<Frame, NoMemory>
         ensures { IfOk result (λ f. f ≡ self.now) }
     {

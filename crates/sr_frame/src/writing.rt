@@ -9,7 +9,7 @@ use crate::fields::{FrameView, VLAN_ETHERTYPE};
 
 /// Appends the octets of the frame with these fields to a list.
 ///
-/// A list with room for them takes no memory. `NoMemory` where its growth was refused: the list then stays as it was.
+/// A list with room for them takes no memory. `NoMemory` where its allocation failed: the list then stays as it was.
 pub fn append(out: &mut Vec<u8>, frame: &FrameView<'_>) -> Result<(), NoMemory>
     ensures ok { OnOk result (out.new.items ≡ out.old.items ++ spelling (fields_of frame.now)) }
     ensures err { OnErr result (out.new.items ≡ out.old.items) }

@@ -41,7 +41,7 @@ pub enum UntagFault {
     /// The inner type is that of a VLAN tag, and too little stands behind it.
     #[error("the frame without its HSR tag is too short")]
     TooShort,
-    /// Memory ran out.
+    /// An allocation failed.
     #[error("out of memory")]
     NoMemory,
 }

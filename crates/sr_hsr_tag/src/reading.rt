@@ -151,7 +151,7 @@ pub fn untagged_view<'a>(frame: &FrameView<'a>) -> Result<(FrameView<'a>, HsrTag
 
 /// The frame without its tag, with octets of its own that are copied once.
 ///
-/// Its faults are those of [`untagged_view`], and `NoMemory` where the growth was refused.
+/// Its faults are those of [`untagged_view`], and `NoMemory` where the allocation failed.
 pub fn untagged(alloc: Global, frame: &FrameView<'_>) -> Result<Frame, UntagFault>
     ensures found { IfOk result (λ own.
         (t : HsrTag) × IsTagged (spelling (fields_of frame.now)) own t) }

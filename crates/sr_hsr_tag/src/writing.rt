@@ -68,7 +68,7 @@ fn put_tagged(out: &mut Vec<u8>, frame: &FrameView<'_>, tag: HsrTag)
 ///
 /// A payload of fewer than 46 octets is padded with zeros, so that the tagged frame has 66 octets, or 70 with a
 /// VLAN tag. The tag stands where the frame's type does, behind a VLAN tag; its size counts the octets behind the type 0x892F to the end. `TooLong` where more than 1524
-/// octets would come of it; `NoMemory` where the growth was refused: the list then stays as it was.
+/// octets would come of it; `NoMemory` where the allocation failed: the list then stays as it was.
 pub fn append_tagged(
     out: &mut Vec<u8>,
     frame: &FrameView<'_>,

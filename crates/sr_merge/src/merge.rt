@@ -142,7 +142,7 @@ impl Merge {
     /// Nothing came in yet.
     ///
     /// # Errors
-    /// `NoMemory` where a growth was refused.
+    /// `NoMemory` where an allocation failed.
     pub fn new(alloc: Global, keys: Keys) -> Result<Merge, NoMemory>
         ensures sources { IfOk result (λ merge. merge.sources ≡ []) }
         ensures waiting { IfOk result (λ merge. merge.waiting ≡ []) }
@@ -303,7 +303,7 @@ impl Merge {
     /// sources are live, so that nothing can be told; else it is the copy of one that may wait yet. What is due then was written.
     ///
     /// # Errors
-    /// `NoMemory` where a growth was refused: no packet was taken.
+    /// `NoMemory` where an allocation failed: no packet was taken.
     pub fn take(&mut self, packet: Packet<'_>) -> Result<(), NoMemory>
         requires { due packet.came.time self.old.waiting ≡ [] }
         ensures taken { OnOk result (TakesIn self.old (read_of packet.entry) self.new) }

@@ -129,7 +129,7 @@ impl Queue {
     /// Has a packet wait behind all others, of which no copy is known.
     ///
     /// # Errors
-    /// `NoMemory` where a growth was refused: nothing changed.
+    /// `NoMemory` where an allocation failed: nothing changed.
     pub fn push(&mut self, waiting: Waiting) -> Result<(), NoMemory>
         requires { waiting.is_met ≡ false }
         ensures ok { OnOk result (self.new ≡ self.old ++ pending_of waiting ∷ []) }

@@ -39,7 +39,7 @@ impl<R: Role> NodeOf<R> {
     /// the greatest at which a source of the table was last heard, or 0. The places held in the table are given up. All else
     /// is as in a new node, whose table of nodes has these keys; the table of duplicates keeps its own.
     ///
-    /// NoMemory: a growth was refused, and role and table are dropped.
+    /// NoMemory: an allocation failed, and role and table are dropped.
     pub fn resumed(
         alloc: Global,
         role: R,

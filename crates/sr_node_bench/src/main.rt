@@ -14,7 +14,7 @@ use std::process::ExitCode;
 use std::rt::Env;
 use works::{Count, Subject, Work, done, work_of};
 
-/// The exit status where the command line names no work, or memory ran out before it.
+/// The exit status where the command line names no work, or an allocation failed before it.
 const FAILED: u8 = 1;
 
 fn main(rt: HostRuntime) -> ExitCode {
@@ -28,7 +28,7 @@ fn main(rt: HostRuntime) -> ExitCode {
     }
 }
 
-/// Does what the command line says. None where it says nothing that is known, or memory runs out.
+/// Does what the command line says. None where it says nothing that is known, or an allocation fails.
 fn start<R: AllocGlobal + Env>(rt: &R) -> Option<Count> {
     let args = std::env::args(rt).ok()?;
     let words = args.collect::<Vec<String>>(rt.alloc()).ok()?;

@@ -29,7 +29,7 @@ fn sample() -> [u8; FRAME_LEN] {
 }
 
 impl NodeAtWork {
-    /// A new node in a role. None where memory runs out.
+    /// A new node in a role. None where an allocation fails.
     pub fn new(alloc: Global, role: Box<dyn Role + Send>) -> Option<NodeAtWork> {
         Some(NodeAtWork {
             node: Node::new(alloc, role).ok()?,

@@ -109,7 +109,7 @@ impl NodeTable {
     }
 
     /// A table of its own with the same nodes in the same order, the same alarms, and the same ports found late, under the same
-    /// keys. It holds no place. NoMemory: memory ran out.
+    /// keys. It holds no place. NoMemory: an allocation failed.
     pub fn try_clone(&self) -> Result<NodeTable, NoMemory>
         ensures table { IfOk result (λ own. own.table ≡ self.now.table) }
         ensures held { IfOk result (λ own. own.held ≡ []) }
@@ -191,7 +191,7 @@ impl NodeTable {
     }
 
     /// Holds the place of an address, or the places of two, so that their next hearing takes no memory. Nothing else sees them.
-    /// NoMemory: memory ran out, and nothing changes.
+    /// NoMemory: an allocation failed, and nothing changes.
     pub fn reserve(&mut self, mac: Mac, other: Option<Mac>) -> Result<(), NoMemory>
         ensures table { self.new.table ≡ self.old.table }
         ensures held { OnOk result (is_held self.new mac ≡ true) }
@@ -227,7 +227,7 @@ impl NodeTable {
     }
 
     /// Sees to it that the next hearing of an address takes no memory: one that has an entry needs none, where a hint tells of
-    /// it; for any other a place is held. NoMemory: memory ran out, and nothing changes.
+    /// it; for any other a place is held. NoMemory: an allocation failed, and nothing changes.
     // speed: D-node-one-look
     #[inline(always)]
     pub fn reserve_at(&mut self, hint: Option<Hint>, mac: Mac) -> Result<Ready, NoMemory>
@@ -268,7 +268,7 @@ impl NodeTable {
     }
 
     /// Hears a numbered frame of a node at a ring port, A or B. Full: 1024 other nodes are live, and nothing is kept.
-    /// NoMemory: memory ran out for a new node. Either way nothing changes.
+    /// NoMemory: an allocation for a new node failed. Either way nothing changes.
     pub fn heard(
         &mut self,
         mac: Mac,

@@ -86,7 +86,7 @@ fn list_rest<R: BufRead>(
 }
 
 /// The reason that is told for what is wrong with a block of a section: where it describes a second interface that is
-/// Ethernet, all that are, or that memory was refused for the list. `block` is used for it.
+/// Ethernet, all that are, or that an allocation failed for the list. `block` is used for it.
 pub(crate) fn told<R: BufRead>(
     reader: &mut R,
     section: Option<Section>,

@@ -61,8 +61,8 @@ fn share_of<L: Ledger>(passes: Passes<L>) -> Share<L>
 }
 
 impl<R: Role, L: Ledger> Kept<R, L> {
-    /// A node with an empty journal that opens with the node as it is, and the passes of its workers. NoMemory: a growth was
-    /// refused.
+    /// A node with an empty journal that opens with the node as it is, and the passes of its workers. NoMemory: an
+    /// allocation failed.
     pub fn new(
         alloc: Global,
         node: NodeOf<R>,
@@ -113,8 +113,8 @@ impl<R: Role, L: Ledger> Kept<R, L> {
 }
 
 impl<R: Role, L: Ledger> SharedNode<R, L> {
-    /// A node under its lock as it is, with an empty journal that opens with it, and the passes of its workers. NoMemory: a growth was
-    /// refused.
+    /// A node under its lock as it is, with an empty journal that opens with it, and the passes of its workers. NoMemory: an
+    /// allocation failed.
     ///
     /// The clauses speak of the passes alone: a lock shows nothing of what lies under it, since another thread may have it. What
     /// is put there is what `Kept::new` gives, whose clauses say all of it.

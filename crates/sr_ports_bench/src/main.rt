@@ -25,7 +25,7 @@ use ways::{Alone, Copied, Entered, Locked};
 /// The address of the node.
 const OWN: Mac = Mac([2, 0, 0, 0, 0, 1]);
 
-/// The exit status where the command line names no work, or memory ran out before it.
+/// The exit status where the command line names no work, or an allocation failed before it.
 const FAILED: u8 = 1;
 
 fn main(rt: HostRuntime) -> ExitCode {
@@ -76,7 +76,7 @@ fn asked<R: AllocGlobal + Env>(rt: &R) -> Option<(Plan, u32)> {
     Some((plan_of(way, work)?, times.parse().ok()?))
 }
 
-/// Does what the command line says. None where it says nothing that is known, or memory runs out.
+/// Does what the command line says. None where it says nothing that is known, or an allocation fails.
 fn start<R: AllocGlobal + Env + Wait>(rt: &R) -> Option<u64> {
     let (plan, times) = asked(rt)?;
     match NodeOf::new(rt.alloc(), Danp::new(OWN)) {

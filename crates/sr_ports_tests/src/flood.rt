@@ -74,7 +74,7 @@ struct Tally {
     entered: u64,
     table_full: u64,
     host_full: u64,
-    // Other refusals, want of memory apart.
+    // Other refusals, a failed allocation apart.
     other: u64,
     // Parcels that were taken out.
     taken: u64,
@@ -290,7 +290,7 @@ fn floods<R: Role, L: Ledger, W: Wait>(
     hand
 }
 
-// The host's frame for all. None for want of memory.
+// The host's frame for all. None where an allocation failed.
 fn sending(alloc: Global) -> Option<Event> {
     let frame = Frame::copy(alloc, &plain_from(OWN, EVERYONE)).ok()?;
     Some(Event::Send { frame, now: NOW })

@@ -1,6 +1,6 @@
 //! A million random events at a node that threads share, and the same ones at a plain node on another thread: each answers as the
-//! other, and in the end both are equal. `gate/allocations.py` refuses allocations of the first thread all along, and none of the
-//! other's. An event that is refused for that is entered again.
+//! other, and in the end both are equal. `gate/allocations.py` has allocations of the first thread fail all along, and none of
+//! the other's. An event that is refused for that is entered again.
 
 ghost use Rattle.std.specs.Prelude.{◌≡◌};
 
@@ -212,7 +212,7 @@ fn is_right(told: Option<Told>, image: Option<NodeImage>, plain: Option<End>) ->
     }
 }
 
-// The plain node is on the thread that is started, so that none of its allocations is refused. So is the image of the shared node:
+// The plain node is on the thread that is started, so that none of its allocations fails. So is the image of the shared node:
 // that of a full table takes more allocations than lie between two that are refused.
 fn both<L: Ledger + Send + Sync, W: Threads + Wait + Sync>(
     rt: &W,

@@ -102,7 +102,7 @@ impl ProxyTable {
     }
 
     /// Learns an address, or renews its time. Full: 256 other addresses are live, and nothing is kept.
-    /// NoMemory: memory ran out for a new address. Either way nothing changes.
+    /// NoMemory: an allocation for a new address failed. Either way nothing changes.
     pub fn learn(&mut self, mac: Mac, now: u64) -> Result<LearnOutcome, NoMemory>
         ensures answer { IfOk result (λ learnt. learnt ≡ answer_to self.old mac now) }
         ensures after { OnOk result (self.new ≡ after_learning self.old mac now) }

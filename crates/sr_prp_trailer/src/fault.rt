@@ -13,7 +13,7 @@ pub enum StripFault {
     /// The last octets are no trailer.
     #[error("the frame has no trailer")]
     NoTrailer,
-    /// A growth was refused.
+    /// An allocation failed.
     #[error("out of memory")]
     NoMemory,
 }

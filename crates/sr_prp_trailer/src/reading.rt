@@ -92,7 +92,7 @@ pub fn read(frame: &FrameView<'_>) -> Option<Trailer>
 
 /// The frame before the trailer, in one list of octets that is copied once.
 ///
-/// `NoTrailer` exactly where [`read`] finds none; `NoMemory` where the growth was refused.
+/// `NoTrailer` exactly where [`read`] finds none; `NoMemory` where the allocation failed.
 pub fn stripped(alloc: Global, frame: &FrameView<'_>) -> Result<Frame, StripFault>
     ensures found { IfOk result (λ plain.
         (t : Trailer) × IsTrailed (spelling (fields_of frame.now)) plain t) }

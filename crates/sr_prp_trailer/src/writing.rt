@@ -36,7 +36,7 @@ fn put_padded(out: &mut Vec<u8>, frame: &FrameView<'_>, len: usize)
 ///
 /// A payload of fewer than 46 octets is padded with zeros first, so that the frame has 60 octets before the
 /// trailer, or 64 with a VLAN tag. `TooLong` where more than 1524 octets would come of it; `NoMemory` where
-/// the growth was refused: the list then stays as it was.
+/// the allocation failed: the list then stays as it was.
 pub fn append_trailed(
     out: &mut Vec<u8>,
     frame: &FrameView<'_>,

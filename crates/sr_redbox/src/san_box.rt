@@ -55,7 +55,7 @@ impl SanBox {
         self.proxied.has(mac, now)
     }
 
-    // Stands for this address from now on, where there is room. NoMemory: memory ran out, and nothing changes.
+    // Stands for this address from now on, where there is room. NoMemory: an allocation failed, and nothing changes.
     fn proxy(&mut self, mac: Mac, now: u64) -> Result<LearnOutcome, NoMemory>
         ensures answer { IfOk result (λ a. a ≡ proxy_answer (san_of self.old).proxied mac now) }
         ensures after { OnOk result (san_of self.new

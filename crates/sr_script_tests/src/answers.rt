@@ -5,7 +5,7 @@ use sr_session::{Fault, FaultKind};
 /// How a run has to end: with the fault of a line, or well.
 pub type Ending = Option<(u64, FaultKind)>;
 
-/// Whether a run ends so. None for want of memory.
+/// Whether a run ends so. None where an allocation failed.
 pub fn is_ended(outcome: Result<(), Fault>, ending: Ending) -> Option<bool> {
     match outcome {
         Ok(()) => Some(ending.is_none()),

@@ -182,7 +182,7 @@ impl<V: Drop + Ranked> Slots<V> {
         Ok(())
     }
 
-    /// Makes room for so many more addresses, in one growth. Nothing that shows changes. NoMemory: memory ran out.
+    /// Makes room for so many more addresses, in one growth. Nothing that shows changes. NoMemory: an allocation failed.
     pub fn reserve(&mut self, more: usize) -> Result<(), NoMemory>
         ensures { self.new ≡ self.old }
     {
@@ -201,7 +201,7 @@ impl<V: Drop + Ranked> Slots<V> {
         Ok(())
     }
 
-    /// Holds the places of two addresses. NoMemory: memory ran out, and nothing changes.
+    /// Holds the places of two addresses. NoMemory: an allocation failed, and nothing changes.
     pub fn hold_both(&mut self, key: Mac, other: Mac) -> Result<(), NoMemory>
         ensures entries { self.new.entries ≡ self.old.entries }
         ensures held { OnOk result ((is_held self.new key ≡ true)
@@ -280,7 +280,7 @@ impl<V: Drop + Ranked> Slots<V> {
     }
 
     /// Holds a place for just those addresses for which another table holds one; what else was held is given up. Where the other
-    /// holds none, it goes over nothing. NoMemory: memory ran out, and no place is held.
+    /// holds none, it goes over nothing. NoMemory: an allocation failed, and no place is held.
     pub fn hold_as(&mut self, other: &Slots<V>) -> Result<(), NoMemory>
         ensures entries { self.new.entries ≡ self.old.entries }
         ensures held { OnOk result (KeepsAllHeld other.now.held self.new.held) }
@@ -349,7 +349,7 @@ impl<V: Drop + Ranked> Slots<V> {
 
 impl<V: Drop + Ranked + Copy> Slots<V> {
     /// A table of its own with the same values in the same order, under the same keys. It holds no place.
-    /// NoMemory: memory ran out.
+    /// NoMemory: an allocation failed.
     pub fn try_clone(&self) -> Result<Slots<V>, NoMemory>
         ensures entries { IfOk result (λ own. own.entries ≡ self.now.entries) }
         ensures held { IfOk result (λ own. own.held ≡ []) }

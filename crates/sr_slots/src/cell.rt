@@ -33,7 +33,7 @@ impl<V: Drop + Ranked> Model for Cell<V> {
 }
 
 impl<V: Drop + Ranked> Cell<V> {
-    /// Cell for a value. NoMemory: memory ran out.
+    /// Cell for a value. NoMemory: an allocation failed.
     pub fn new(alloc: Global) -> Result<Cell<V>, NoMemory>
         ensures { IfOk result (λ room. room ≡ None) }
     {

@@ -55,7 +55,8 @@ fn settle<V: Drop + Ranked>(
     end - 1
 }
 
-// The index of the place of an address, which is looked for at an index first, and made where there is none. NoMemory: memory ran out.
+// The index of the place of an address, which is looked for at an index first, and made where there is none. NoMemory: an
+// allocation failed.
 fn place_for<V: Drop + Ranked>(
     map: &mut IndexMap<Mac, Slot<V>, Keys>,
     alloc: Global,
@@ -104,7 +105,7 @@ fn add_gap<V: Drop + Ranked>(map: &mut IndexMap<Mac, Slot<V>, Keys>, alloc: Glob
 }
 
 // The index of the place of an address, as `place_for` answers it. Where it stands before a value, an empty place stands behind all
-// values then, unless an allocation failed. NoMemory: memory ran out.
+// values then, unless an allocation failed. NoMemory: an allocation failed.
 fn place_to_settle<V: Drop + Ranked>(
     map: &mut IndexMap<Mac, Slot<V>, Keys>,
     alloc: Global,

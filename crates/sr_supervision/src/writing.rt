@@ -72,7 +72,7 @@ fn put_content(out: &mut Vec<u8>, supervision: Supervision) -> Result<(), NoMemo
 /// The supervision frame that says this, in one list of octets.
 ///
 /// Its source is the RedBox where there is one, and else the node. It has path 0, version 1 and 60 octets.
-/// `NoMemory` where the growth was refused.
+/// `NoMemory` where the allocation failed.
 pub fn write(alloc: Global, supervision: &Supervision) -> Result<Frame, NoMemory>
     ensures octets { IfOk result (λ own. own ≡ written supervision.now) }
     // What is written is read again as this value.

@@ -15,7 +15,7 @@ use std::thread::Threads;
 // How many turns each worker makes.
 const TURNS: u64 = 20;
 
-// Whether workers stopped for want of memory alone, if at all: their own, or that of a line, which is a fault of the feed.
+// Whether workers stopped for a failed allocation alone, if at all: their own, or that of a line, which is a fault of the feed.
 fn are_whole_but_for_memory(ends: &[LineEnd<Host>]) -> bool {
     for end in ends {
         match end.fault {
@@ -26,7 +26,7 @@ fn are_whole_but_for_memory(ends: &[LineEnd<Host>]) -> bool {
     ends.len() == 3
 }
 
-// Whether all nodes settle, of which workers may have stopped for want of memory.
+// Whether all nodes settle, of which workers may have stopped for a failed allocation.
 fn all_settle(ends: &[NodeEnd<Host>]) -> bool {
     for end in ends {
         let settled = end.settlement == Settlement::Settled;

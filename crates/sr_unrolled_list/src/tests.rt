@@ -10,7 +10,7 @@ const PIECES: usize = 196;
 /// So many items fill that many pieces.
 const ITEMS: usize = PIECES * PIECE;
 
-// A list with no items. Where memory runs out the call is repeated.
+// A list with no items. Where an allocation fails the call is repeated.
 fn makes(alloc: Global) -> Option<UnrolledList<usize>> {
     match UnrolledList::new(alloc) {
         Ok(list) => Some(list),
@@ -18,7 +18,7 @@ fn makes(alloc: Global) -> Option<UnrolledList<usize>> {
     }
 }
 
-// Makes room for one more item. Where memory runs out the list is as it was, and the call is repeated.
+// Makes room for one more item. Where an allocation fails the list is as it was, and the call is repeated.
 fn makes_room(list: &mut UnrolledList<usize>) -> bool
     ensures { result ≡ true → 0 < list.new.room }
 {

@@ -68,7 +68,7 @@ fn frame_event<G: Framing>(
     }
 }
 
-/// What a turn becomes. NoMemory: a growth was refused.
+/// What a turn becomes. NoMemory: an allocation failed.
 pub(crate) fn event_of<G: Framing>(
     alloc: Global,
     framing: &G,

@@ -31,8 +31,8 @@ pub trait Enters: Drop {
     fn worker(&self) -> Worker
         ensures { result ≡ whose self.now };
 
-    /// Enters an event whole, as one step of the node, or refuses it. A Take is refused for a full journal or for want of
-    /// memory alone.
+    /// Enters an event whole, as one step of the node, or refuses it. A Take is refused for a full journal or for a
+    /// failed allocation alone.
     fn enter<W: Wait>(&mut self, rt: &W, event: &Event) -> Result<Answer, EnterFault>
         ensures enters { enters self.old event.now result self.new }
         ensures whose { whose self.new ≡ whose self.old }

@@ -17,7 +17,7 @@ pub struct FeedFault;
 /// Why a worker stopped before its end.
 #[derive(Clone, Copy, Debug, PartialEq, Eq, Error)]
 pub enum WorkerFault {
-    /// A growth was refused.
+    /// An allocation failed.
     #[error("out of memory")]
     NoMemory,
     /// The journal has as many entries as it may have.
@@ -63,7 +63,7 @@ pub(crate) fn stop_of(fault: EnterFault) -> Option<WorkerFault>
 /// Why a crew of workers has no result.
 #[derive(Clone, Copy, Debug, PartialEq, Eq, Error)]
 pub enum CrewFault {
-    /// 1: memory ran out.
+    /// 1: an allocation failed.
     #[error("out of memory")]
     NoMemory,
     /// 2: no thread could be started.

@@ -75,7 +75,7 @@ impl Script {
         Turn::End
     }
 
-    // A growth was refused: that is a failure, or the end where there were as many as can be counted.
+    // An allocation failed: that is a failure, or the end where there were as many as can be counted.
     fn fail(&mut self) -> Result<(), FeedFault>
         ensures same { (self.new.lines ≡ self.old.lines) × (self.new.next ≡ self.old.next)
             × (self.new.given ≡ self.old.given) × (self.new.lost ≡ self.old.lost) }
@@ -91,7 +91,8 @@ impl Script {
         Err(FeedFault)
     }
 
-    // Counts a frame that is lost: one that has no frame's length, or for which a growth was refused once more than can be counted.
+    // Counts a frame that is lost: one that has no frame's length, or for which an allocation failed once more than can be
+    // counted.
     fn lose(&mut self, octets: &[u8]) -> Given
         requires { HasFrameLength octets.now → self.old.failures + 1 ≡ 2 ^ 64 }
         ensures lost { self.new.lost ≡ lost_after self.old.lost Lost }

@@ -13,7 +13,7 @@ use std::alloc::Global;
 use std::fmt::Display;
 use std::process::Abort;
 
-/// Whether a fault is told so. None for want of memory.
+/// Whether a fault is told so. None where an allocation failed.
 fn is_told_once<D: Display>(alloc: Global, fault: &D, words: &str) -> Option<bool> {
     let text = fault.to_string(alloc).ok()?;
     Some(text.as_str() == words)

@@ -54,7 +54,7 @@ fn fault_of(alloc: Global, case: Case) -> Option<PlantFault> {
     }
 }
 
-// The place of the first case that comes to something else. Where a growth is refused, it comes again.
+// The place of the first case that comes to something else. Where an allocation fails, it comes again.
 fn first_wrong(alloc: Global, cases: &[(Case, Option<PlantFault>)]) -> Option<usize> {
     for (place, (case, wanted)) in cases.iter().enumerate() {
         let first = fault_of(alloc, *case);

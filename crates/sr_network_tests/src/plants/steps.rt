@@ -77,7 +77,7 @@ fn zeros(alloc: Global, count: usize) -> Result<Frame, FrameFault> {
     Frame::copy(alloc, &octets)
 }
 
-// The event. None for want of memory.
+// The event. None where an allocation failed.
 fn event_of(alloc: Global, act: Act) -> Option<PlantEvent> {
     Some(match act {
         Act::Send(node, to) => PlantEvent::Send {
@@ -121,7 +121,7 @@ fn counts<R: Role>(plant: &PlantOf<R>) -> (usize, usize) {
     (plant.in_flight(), up)
 }
 
-// Whether it comes to this. Where a growth is refused nothing may have changed, and it comes again.
+// Whether it comes to this. Where an allocation fails nothing may have changed, and it comes again.
 fn comes_to<R: Role>(
     alloc: Global,
     plant: &mut PlantOf<R>,
@@ -277,7 +277,7 @@ fn first_wrong_of(alloc: Global, network: Network, steps: &[Step]) -> Option<usi
     }
 }
 
-/// Fails the test at the place of the first step at which a new network differs. Where a growth is refused as it is made,
+/// Fails the test at the place of the first step at which a new network differs. Where an allocation fails as it is made,
 /// it is made again.
 pub fn expect_steps(rt: &impl Abort, alloc: Global, network: Network, steps: &[Step]) {
     let mut wrong = first_wrong_of(alloc, network, steps);

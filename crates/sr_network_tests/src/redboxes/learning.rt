@@ -36,7 +36,7 @@ fn header(src: Mac) -> Header {
     }
 }
 
-// The box as data, asked for again where memory runs out.
+// The box as data, asked for again where an allocation fails.
 fn image_of(alloc: Global, role: &SanBox) -> Option<RoleImage> {
     match role.image(alloc) {
         Ok(image) => Some(image),
@@ -68,7 +68,7 @@ enum Came {
     Otherwise,
 }
 
-// Want of memory is to leave the box as it was.
+// A failed allocation is to leave the box as it was.
 fn came_of(call: Result<LearnOutcome, NoMemory>, is_same: bool) -> Came {
     match call {
         Ok(learnt) => Came::Answered(learnt),

@@ -85,7 +85,7 @@ fn read(node: &mut Node, port: Port, octets: &[u8], now: u64) -> Result<Answer, 
     node.arrive(&framing_at(node.kind(), port), port, octets, now)
 }
 
-// The node as data, asked for again where memory runs out.
+// The node as data, asked for again where an allocation fails.
 fn image_of(node: &Node) -> Option<NodeImage> {
     match node.image() {
         Ok(image) => Some(image),
@@ -141,7 +141,7 @@ fn came_of(call: Result<Answer, StepFault>, wanted: Wanted) -> Came {
     }
 }
 
-// Want of memory is to leave the node as it was.
+// A failed allocation is to leave the node as it was.
 fn settled(came: Came, is_same: bool) -> Came {
     match came {
         Came::NoMemory if !is_same => Came::Otherwise,
@@ -156,7 +156,7 @@ fn read_whole(node: &mut Node, port: Port, octets: &[u8], now: u64, wanted: Want
     settled(came, is_as(node, before))
 }
 
-// Octets come in; where memory runs out, once more.
+// Octets come in; where an allocation fails, once more.
 fn goes_to(node: &mut Node, port: Port, sent: Sent, now: u64, outlets: &'static [Port]) -> bool {
     let (octets, len) = octets_of(sent);
     let octets = &octets[..len.min(66)];
@@ -187,7 +187,7 @@ fn step_whole(node: &mut Node, event: &Event, wanted: Wanted) -> Came {
     settled(came, is_as(node, before))
 }
 
-// An event; where memory runs out, once more.
+// An event; where an allocation fails, once more.
 fn happens(node: &mut Node, event: &Event, wanted: Wanted) -> bool {
     let came = match step_whole(node, event, wanted) {
         Came::NoMemory => step_whole(node, event, wanted),
@@ -196,7 +196,7 @@ fn happens(node: &mut Node, event: &Event, wanted: Wanted) -> bool {
     came == Came::AsWanted
 }
 
-// A frame of these octets, asked for again where memory runs out.
+// A frame of these octets, asked for again where an allocation fails.
 fn frame_of(alloc: Global, octets: &[u8]) -> Option<Frame> {
     match Frame::copy(alloc, octets) {
         Ok(frame) => Some(frame),
@@ -267,7 +267,7 @@ fn differs(alloc: Global, node: &mut Node, steps: &[Step]) -> Option<usize> {
     None
 }
 
-// The place of the first step at which a new node over this role differs; as many as there are where memory ran out.
+// The place of the first step at which a new node over this role differs; as many as there are where an allocation failed.
 fn differs_over(alloc: Global, role: Box<dyn Role + Send>, steps: &[Step]) -> Option<usize> {
     match Node::new(alloc, role) {
         Ok(mut node) => differs(alloc, &mut node, steps),
@@ -306,7 +306,7 @@ fn differs_at(alloc: Global, kind: Kind, steps: &[Step]) -> Option<usize> {
     }
 }
 
-/// The place of the first step at which a new node differs. Where memory ran out as it was made, it is made again.
+/// The place of the first step at which a new node differs. Where an allocation failed as it was made, it is made again.
 pub fn first_wrong(alloc: Global, kind: Kind, steps: &[Step]) -> Option<usize> {
     for _ in 0..4u8 {
         let place = differs_at(alloc, kind, steps);
@@ -348,7 +348,7 @@ fn refuses_another(alloc: Global, node: &mut Node) -> bool {
 }
 
 // The place of the first step at which a node of a ring differs after it got a box of its address; as many as there are where it
-// differed before, or where memory ran out.
+// differed before, or where an allocation failed.
 fn exchanges(alloc: Global, node: &mut Node, before: &[Step], after: &[Step]) -> Option<usize> {
     let goes = differs(alloc, node, before).is_none()
         && refuses_another(alloc, node)
@@ -376,7 +376,7 @@ fn exchanged_differs(alloc: Global, before: &[Step], after: &[Step]) -> Option<u
 }
 
 /// The place of the first step at which a node of a ring differs after it got a box of its address; as many as there are where it
-/// differed before. Where memory ran out as it was made, it is made again.
+/// differed before. Where an allocation failed as it was made, it is made again.
 pub fn differs_after_exchange(alloc: Global, before: &[Step], after: &[Step]) -> Option<usize> {
     for _ in 0..8u8 {
         let place = exchanged_differs(alloc, before, after);

@@ -71,7 +71,7 @@ fn differs<R: Role>(alloc: Global, role: &R, rows: &[Row], now: u64) -> Option<u
 /// The time at which the box learned what it proxies.
 const LEARNED: u64 = 1000;
 
-// A box that proxies a node and a group address. Where memory ran out, it is asked once more.
+// A box that proxies a node and a group address. Where an allocation failed, it is asked once more.
 fn san_box(alloc: Global) -> Option<SanBox> {
     let mut role = SanBox::new(alloc, OWN);
     for src in [PROXIED, LEARNED_GROUP] {

@@ -1,4 +1,4 @@
-//! What a node keeps grows before an event is taken. Nothing of it shows, and where a growth is refused the rest is given up.
+//! What a node keeps grows before an event is taken. Nothing of it shows, and where an allocation fails the rest is given up.
 
 ghost use Rattle.std.specs.Prelude.{◌≡◌, OnOk, OnErr, IsOk, None, true};
 ghost use Rattle.sr_slots.specs.Places.{IsFound};
@@ -16,7 +16,7 @@ use sr_frame::{Mac, NoMemory};
 use sr_slots::Hint;
 
 impl Core {
-    /// A copy for each of these outlets, where there is room. Nothing that shows changes. NoMemory: a growth was refused.
+    /// A copy for each of these outlets, where there is room. Nothing that shows changes. NoMemory: an allocation failed.
     // speed: D-node-inlined
     #[inline(always)]
     pub(crate) fn reserve_copies(

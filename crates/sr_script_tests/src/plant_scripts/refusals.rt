@@ -3,7 +3,7 @@
 use super::steps::{Step, expect_steps};
 use sr_plant_script::Topology;
 
-// With the Nth allocation refused, for any N.
+// With the Nth allocation failing, for any N.
 const IN_A_RING: &[Step] = &[Step::TakenUp(
     Topology::Ring,
     3,
@@ -25,7 +25,7 @@ fn allocation_is_refused_in_a_ring(rt: HostRuntime) {
     expect_steps(&rt, IN_A_RING);
 }
 
-// With the Nth allocation refused, for any N.
+// With the Nth allocation failing, for any N.
 const IN_LANS: &[Step] = &[Step::TakenUp(
     Topology::TwinLan,
     2,

@@ -1,5 +1,5 @@
-//! The runs. Each function keeps to itself what it owns, and answers whether all was as it had to be, or None for want
-//! of memory.
+//! The runs. Each function keeps to itself what it owns, and answers whether all was as it had to be, or None where an
+//! allocation failed.
 
 use crate::answers::are_answers;
 use sr_node::Settings;
@@ -32,8 +32,8 @@ fn runs_again(
         && are_answers(written, answers, answers.len())
 }
 
-/// Whether a run writes these answers, one to each line and one at the end. Where memory is refused, it ends at the line at
-/// work with the lines before it answered, and the next run is whole. What the test itself needs comes first.
+/// Whether a run writes these answers, one to each line and one at the end. Where an allocation fails, it ends at the line
+/// at work with the lines before it answered, and the next run is whole. What the test itself needs comes first.
 pub fn is_taken_up(
     alloc: Global,
     topology: Topology,

@@ -8,17 +8,17 @@ use std::process::Abort;
 /// A run, and what has to come of it.
 #[derive(Clone, Copy)]
 pub enum Step {
-    /// A script on a plant, and the answers to each of its lines and at the end. Memory may be refused once.
+    /// A script on a plant, and the answers to each of its lines and at the end. An allocation may fail once.
     TakenUp(Topology, usize, &'static [u8], &'static [&'static [u8]]),
 }
 
-/// Whether a run comes to what it has to. None for want of memory.
+/// Whether a run comes to what it has to. None where an allocation failed.
 fn comes(alloc: Global, step: Step) -> Option<bool> {
     let Step::TakenUp(topology, nodes, script, answers) = step;
     is_taken_up(alloc, topology, nodes, script, answers)
 }
 
-/// The place of the first step that differs, or None. Where memory is refused, the step is gone again.
+/// The place of the first step that differs, or None. Where an allocation fails, the step is gone again.
 fn first_wrong(alloc: Global, steps: &[Step]) -> Option<usize> {
     for (place, step) in steps.iter().enumerate() {
         let is_right = match comes(alloc, *step) {

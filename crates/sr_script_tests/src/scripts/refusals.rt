@@ -3,7 +3,7 @@
 use super::runs::At;
 use super::steps::{Step, expect_steps};
 
-// With the Nth allocation refused, for any N.
+// With the Nth allocation failing, for any N.
 const AT_LANS: &[Step] = &[Step::TakenUp(
     At::Danp,
     b"in A 0 00\nin A 0 02000000000102000000000208005c\ntick 0\nin B 0 00\n",
@@ -23,7 +23,7 @@ fn allocation_is_refused(rt: HostRuntime) {
     expect_steps(&rt, AT_LANS);
 }
 
-// With the Nth allocation refused, for any N.
+// With the Nth allocation failing, for any N.
 const IN_A_RING: &[Step] = &[Step::TakenUp(
     At::Danh,
     b"in A 0 00\nsend 0 ffffffffffff0200000000010800\nin A 1 ffffffffffff020000000002892f003400070800000000000000000000000000000000000000000000000000\
@@ -51,7 +51,7 @@ fn allocation_is_refused_at_a_ring_node(rt: HostRuntime) {
     expect_steps(&rt, IN_A_RING);
 }
 
-// With the Nth allocation refused, for any N.
+// With the Nth allocation failing, for any N.
 const AT_A_REDBOX: &[Step] = &[Step::TakenUp(
     At::San,
     b"in C 0 0200000000080200000000090800\nin A 1 020000000009020000000002892f003400050800000000000000000000000000000000000000000000000000\
@@ -72,7 +72,7 @@ fn allocation_is_refused_at_a_redbox(rt: HostRuntime) {
     expect_steps(&rt, AT_A_REDBOX);
 }
 
-// With the Nth allocation refused, for any N: at the end, too.
+// With the Nth allocation failing, for any N: at the end, too.
 const WITH_ITS_STATUS: &[Step] = &[Step::StatusTakenUp(
     At::Danp,
     b"in A 0 00\nin A 0 02000000000102000000000208005c0005a00788fb\ntick 0\nin B 0 00\n",

@@ -1,5 +1,5 @@
-//! The runs. Each function keeps to itself what it owns, and answers whether all was as it had to be, or None for want
-//! of memory.
+//! The runs. Each function keeps to itself what it owns, and answers whether all was as it had to be, or None where an
+//! allocation failed.
 
 use super::failing::{Broken, Interrupted, Narrow, Recorder, Sparse, Stuck, Unflushed};
 use crate::answers::{Ending, are_answers, is_ended};
@@ -60,7 +60,7 @@ fn danp() -> Setup {
     node_of(At::Danp)
 }
 
-/// So many times these octets. None for want of memory.
+/// So many times these octets. None where an allocation failed.
 fn repeated(alloc: Global, count: usize, octets: &[u8]) -> Option<Vec<u8>> {
     let mut script = Vec::new(alloc);
     for _ in 0..count {
@@ -105,7 +105,7 @@ pub fn is_sparse(alloc: Global, octets: &[u8], wanted: &[u8], ending: Ending) ->
     is_read(alloc, Sparse { octets }, wanted, ending)
 }
 
-/// What a run with this writer ends in, and whether it is so. None for want of memory.
+/// What a run with this writer ends in, and whether it is so. None where an allocation failed.
 fn is_written<W: Write>(
     told: Told,
     alloc: Global,
@@ -184,7 +184,7 @@ fn runs_again(
         && are_answers(written, answers, answers.len())
 }
 
-/// Whether a run writes these answers, one to each line, and behind them what is told at the end. Where memory is refused, it
+/// Whether a run writes these answers, one to each line, and behind them what is told at the end. Where an allocation fails, it
 /// ends at the line at work with the lines before it answered, and the next run is whole. What the test itself needs comes first.
 pub fn is_taken_up(
     told: Told,

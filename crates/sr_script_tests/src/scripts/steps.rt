@@ -28,13 +28,13 @@ pub enum Step {
     Stuck(Told, &'static [u8], Ending),
     /// A script of so many times these octets, and the calls of its writer.
     Recorded(Told, usize, &'static [u8], &'static [u8]),
-    /// A script at a node, and the answers to each of its lines. Memory may be refused once.
+    /// A script at a node, and the answers to each of its lines. An allocation may fail once.
     TakenUp(At, &'static [u8], &'static [&'static [u8]]),
-    /// A script at a node, the answers to each of its lines, and the status behind them. Memory may be refused once.
+    /// A script at a node, the answers to each of its lines, and the status behind them. An allocation may fail once.
     StatusTakenUp(At, &'static [u8], &'static [&'static [u8]]),
 }
 
-/// Whether a run comes to what it has to. None for want of memory.
+/// Whether a run comes to what it has to. None where an allocation failed.
 fn comes(alloc: Global, step: Step) -> Option<bool> {
     match step {
         Step::Recorded(told, count, octets, calls) => is_recorded(
@@ -56,7 +56,7 @@ fn comes(alloc: Global, step: Step) -> Option<bool> {
     }
 }
 
-/// The place of the first step that differs, or None. Where memory is refused, the step is gone again.
+/// The place of the first step that differs, or None. Where an allocation fails, the step is gone again.
 fn first_wrong(alloc: Global, steps: &[Step]) -> Option<usize> {
     for (place, step) in steps.iter().enumerate() {
         let is_right = match comes(alloc, *step) {
