@@ -15,6 +15,8 @@ mod judging;
 #[cfg(test)]
 mod marks;
 #[cfg(test)]
+mod rotating;
+#[cfg(test)]
 mod runs;
 #[cfg(test)]
 mod scripts;
