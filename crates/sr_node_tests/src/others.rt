@@ -88,10 +88,27 @@ fn reader_of(alloc: Global, sent: Sent) -> Option<Node> {
     }
 }
 
-/// Another node of the address, which heard this frame. None for want of memory.
-fn hearer(alloc: Global, sent: Sent, now: u64) -> Option<Node> {
+// Whether the node hears the copy of a frame that it heard, if there is one, at port B, and sends it nowhere.
+fn hears_copy(node: &mut Node, copy: Option<Sent>, now: u64) -> bool {
+    match copy {
+        Some(copy) => { arrive_of_many(node, Port::B, &octets_of(copy), now) == Outcome::Nowhere }
+        None => true,
+    }
+}
+
+/// What another node of the address heard: a frame at port A, and perhaps its copy at port B, at a time.
+#[derive(Clone, Copy)]
+pub struct Heard {
+    pub sent: Sent,
+    pub copy: Option<Sent>,
+    pub now: u64,
+}
+
+/// Another node of the address, which heard this. None for want of memory.
+fn hearer(alloc: Global, heard: Heard) -> Option<Node> {
+    let Heard { sent, copy, now } = heard;
     let mut other = reader_of(alloc, sent)?;
-    if hears(&mut other, sent, now) {
+    if hears(&mut other, sent, now) && hears_copy(&mut other, copy, now) {
         Some(other)
     } else {
         None
@@ -99,29 +116,23 @@ fn hearer(alloc: Global, sent: Sent, now: u64) -> Option<Node> {
 }
 
 // None where there is no other node.
-fn absorbed_once(alloc: Global, node: &mut Node, sent: Sent, now: u64) -> Option<Absorbed> {
-    match hearer(alloc, sent, now) {
+fn absorbed_once(alloc: Global, node: &mut Node, heard: Heard) -> Option<Absorbed> {
+    match hearer(alloc, heard) {
         Some(other) => Some(absorb(node, &other)),
         None => None,
     }
 }
 
-fn absorbed(alloc: Global, node: &mut Node, sent: Sent, now: u64) -> Option<Absorbed> {
-    match absorbed_once(alloc, node, sent, now) {
+fn absorbed(alloc: Global, node: &mut Node, heard: Heard) -> Option<Absorbed> {
+    match absorbed_once(alloc, node, heard) {
         Some(absorbed) => Some(absorbed),
-        None => absorbed_once(alloc, node, sent, now),
+        None => absorbed_once(alloc, node, heard),
     }
 }
 
 /// Whether taking over comes to this. Want of memory for the other node is met by another try.
-pub fn absorbs(
-    alloc: Global,
-    node: &mut Node,
-    sent: Sent,
-    now: u64,
-    wanted: Option<MergeFault>,
-) -> bool {
-    match (absorbed(alloc, node, sent, now), wanted) {
+pub fn absorbs(alloc: Global, node: &mut Node, heard: Heard, wanted: Option<MergeFault>) -> bool {
+    match (absorbed(alloc, node, heard), wanted) {
         (Some(Absorbed::Whole), None) => true,
         (Some(Absorbed::Refused(fault)), Some(wanted)) => fault == wanted,
         _ => false,

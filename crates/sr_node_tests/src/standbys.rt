@@ -86,6 +86,20 @@ fn numbers_half_of_all_apart_are_not_taken_over(rt: HostRuntime) {
     expect_steps(&rt, APART);
 }
 
+// What the other node had by both LANs does not come up again by either.
+const HAD_BY_BOTH: &[Step] = &[
+    Step::AbsorbBoth(Sent::InA(0), Sent::InB(0), 0),
+    Step::In(Port::A, Sent::InA(0), 0, Outcome::Nowhere),
+    Step::In(Port::B, Sent::InB(0), 0, Outcome::Nowhere),
+    Step::Waiting(Port::H, 0),
+    Step::In(Port::A, Sent::InA(1), 0, Outcome::Up),
+];
+
+#[test]
+fn what_the_other_node_had_by_both_lans_goes_up_no_more(rt: HostRuntime) {
+    expect_steps(&rt, HAD_BY_BOTH);
+}
+
 // Of many sources each record is copied; for a run in which one allocation fails.
 const MANY: &[Step] = &[
     Step::Sources(20),

@@ -7,7 +7,7 @@ use super::calls::{
 use super::frames::{OWN, Sent, octets_of};
 use super::makers::{danh, danp};
 use super::many::{fills, hears_sources, lives};
-use super::others::{absorbs, becomes};
+use super::others::{Heard, absorbs, becomes};
 use super::resumed::resumed;
 use super::taken::takes;
 use sr_dup_table::Width;
@@ -105,6 +105,8 @@ pub enum Step {
     Become(RoleKind),
     /// The node takes over what a new node of its address has noted, in mode H, that heard this frame at port A at this time, or why not.
     Absorb(Sent, u64, Option<MergeFault>),
+    /// The node takes over what such a node has noted that heard the first frame at port A and the second, its copy, at port B.
+    AbsorbBoth(Sent, Sent, u64),
     /// So many frames of one node come in at port A at this time, under the numbers from 0 on, and each goes up.
     Fill(u16, u64),
     /// So many sources send a frame each at time 0, and each is taken out for the host.
@@ -159,7 +161,14 @@ fn succeeds(alloc: Global, node: &mut Node, step: Step) -> bool {
         Step::Take(port, wanted) => takes(alloc, node, port, wanted),
         Step::TakeEvent(port) => takes_by_event(alloc, node, port),
         Step::Become(kind) => becomes(alloc, node, kind),
-        Step::Absorb(sent, now, wanted) => absorbs(alloc, node, sent, now, wanted),
+        Step::Absorb(sent, now, wanted) => {
+            let copy = None;
+            absorbs(alloc, node, Heard { sent, copy, now }, wanted)
+        }
+        Step::AbsorbBoth(sent, copy, now) => {
+            let copy = Some(copy);
+            absorbs(alloc, node, Heard { sent, copy, now }, None)
+        }
         Step::Fill(count, now) => fills(node, count, now),
         Step::Sources(count) => hears_sources(node, count),
         Step::LifeChecks(count) => lives(alloc, node, count),

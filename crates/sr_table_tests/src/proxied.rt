@@ -13,7 +13,8 @@ enum Step {
     Has(u16, u64, bool),
     Prune(u64, usize),
     Lists(u64, &'static [u16]),
-    Counts(u64, usize),
+    // So many addresses from this one on are listed, in order.
+    ListsFrom(u64, u16, u16),
 }
 
 fn mac(number: u16) -> Mac {
@@ -56,10 +57,11 @@ fn fills(table: &mut ProxyTable, first: u16, count: u16, now: u64) -> bool {
     true
 }
 
-fn counts(table: &ProxyTable, now: u64, want: usize) -> bool {
+fn lists_from(table: &ProxyTable, now: u64, first: u16, count: u16) -> bool {
     for _ in 0..2u8 {
         if let Ok(macs) = table.list(now) {
-            return macs.len() == want;
+            let want = (0..count).map(|number| mac(first.wrapping_add(number)));
+            return macs.iter().copied().eq(want);
         }
     }
     false
@@ -84,7 +86,7 @@ fn holds(table: &mut ProxyTable, step: Step) -> bool {
         Step::Has(number, now, want) => table.has(mac(number), now) == want,
         Step::Prune(now, want) => table.prune(now) == want,
         Step::Lists(now, want) => lists(table, now, want),
-        Step::Counts(now, want) => counts(table, now, want),
+        Step::ListsFrom(now, first, count) => lists_from(table, now, first, count),
     }
 }
 
@@ -128,7 +130,7 @@ fn a_full_table(rt: HostRuntime) {
         Step::Learn(256, 1, LearnOutcome::New),
         Step::Learn(257, 59999, LearnOutcome::Full),
         Step::Has(257, 59999, false),
-        Step::Counts(59999, 256),
+        Step::ListsFrom(59999, 1, 256),
         Step::Learn(257, 60000, LearnOutcome::New),
         Step::Lists(60000, &[256, 257]),
     ];
