@@ -33,6 +33,7 @@ _seamless() {
     "audit --fcs") compadd -- 4 ;;
     "audit --from") ;;
     "audit --to") ;;
+    "audit --shift") compadd -- auto none ;;
     "audit --list") ;;
     "audit --format") compadd -- text json csv svg ;;
     "merge --a") _files ;;
@@ -68,7 +69,7 @@ _seamless() {
         *" replay") compadd -- --role --mac --lan --net --mode --window --help ;;
         *" status") compadd -- --role --mac --lan --net --mode --window --counters --help ;;
         *" script") compadd -- --a --b --c --shift-a --shift-b --shift-c --fcs --from --to --tick --help ;;
-        *" audit") compadd -- --a --b --mirror --network --shift-a --shift-b --fcs --from --to --list --format --check --help ;;
+        *" audit") compadd -- --a --b --mirror --network --shift-a --shift-b --fcs --from --to --shift --list --format --check --help ;;
         *" merge") compadd -- --a --b --write --network --shift-a --shift-b --fcs --from --to --keep --only --help ;;
         *" ring") compadd -- --nodes --turns --mode --window --help ;;
         *" lan") compadd -- --nodes --turns --mode --window --help ;;

@@ -1,13 +1,17 @@
 #!/usr/bin/env python3
 """Random networks whose truth is known, against what `seamless audit --check` says of captures of both LANs.
 
-    tools/networks.py [--program PATH] [FIRST COUNT]     20 networks from seed 1 on; ./seamless by default
+    gate/networks.py [--program PATH] [FIRST COUNT]     20 networks from seed 1 on; ./seamless by default
 
 Each network has 2 to 6 sources, from 1000 frames a second to one in two seconds, and mirror ports at both LANs. Of each frame
 it is written down which LANs lost it, and the figures of each source are counted of that: no rule of the program is used. The
 faults are frames that one LAN lost, or both, alone or in a row behind which a slow source goes on; a source that restarts with
-other numbers; a LAN that died, files that are swapped, recorders that don't overlap. Half of the networks are sound. A line
-tells each network of which the audit says something else. The last line is `N passed, M failed`.
+other numbers; a LAN that died, files that are swapped, recorders that don't overlap. Half of the networks are sound. In half of
+them the clock of B is up to 10 s off and drifts by up to 50 ppm, and in some it is set while it records, so that two offsets fit. In
+a third of them the recorders begin and end at other moments, and have the frames of that time. In every fourth network a RedBox numbers
+the frames of two devices by one counter, and every third one is an HSR ring of 3 to 8 nodes, whose two ways are recorded at a link: half
+of its frames go to one node, and pass the link on one way. A ring loses frames of a way, or both, or it is cut. A line tells each network
+of which the audit says something else. The last line is `N passed, M failed`.
 """
 import argparse
 import json
@@ -21,11 +25,25 @@ import tempfile
 TOP = os.path.dirname(os.path.dirname(os.path.realpath(__file__)))
 SECOND = 10**9
 PERIODS = [SECOND // 1000, SECOND // 100, SECOND // 10, SECOND // 2, SECOND, 2 * SECOND]
-FAULTS = ["loss", "both", "row", "restart", "dead", "swapped", "apart"]
+RING_FAULTS = ["loss", "both", "cut", "restart"]
+# How long a frame takes from one node of a ring to the next one, in nanoseconds.
+HOP = 20_000
+FAULTS = ["loss", "both", "row", "restart", "dead", "swapped", "apart", "set"]
 # The faults behind which captures say nothing of the network.
-UNJUDGED = {"dead", "swapped", "apart"}
+UNJUDGED = {"dead", "swapped", "apart", "set"}
+# The time of the first packet: a clock that is behind does not fall below 0.
+BEGIN = 100 * SECOND
+# How far off the offset of a clock is told at most: copies come up to 0.4 ms apart, by which the drift of 5 s is told 80 ppm off, and
+# the middle of the recordings is 15 s away.
+OFFSET_LEFT = 5_000_000
 # How far behind the beginning of the recordings the first frame is sent, so that each recorder has each copy.
 QUIET = SECOND // 100
+# How long both recorders run before a frame is lost, and behind it: what is lost nearer to their edges can't be told from them.
+INNER = SECOND // 10
+# How wide the edge of a recording is at least.
+EDGE = SECOND // 1000
+# When the last recorder ends that waits for all frames.
+END = 40 * SECOND
 # A restart is told from a gap where its number lies further ahead.
 NEAR = 1024
 
@@ -42,7 +60,7 @@ class Source:
         time = QUIET + rng.randrange(self.period)
         while time < seconds * SECOND:
             # Which LANs bring it.
-            self.frames.append({"time": time, "number": number, "lans": {0, 1}})
+            self.frames.append({"time": time, "number": number, "lans": {0, 1}, "ways": {0, 1}})
             number = (number + 1) % 65536
             time += self.period - rng.randrange(self.period // 10)
         self.restarted = None
@@ -60,21 +78,65 @@ class Source:
 
     def figures(self):
         """What an audit is to say of it."""
-        seen = [frame for frame in self.frames if frame["lans"]]
-        wanted = dict.fromkeys(["rx_a", "rx_b", "pairs", "only_a", "only_b", "neither", "restarts", "jumps"], 0)
-        wanted["rx_a"] = sum(0 in frame["lans"] for frame in seen)
-        wanted["rx_b"] = sum(1 in frame["lans"] for frame in seen)
-        wanted["pairs"] = sum(len(frame["lans"]) == 2 for frame in seen)
-        wanted["only_a"] = sum(frame["lans"] == {0} for frame in seen)
-        wanted["only_b"] = sum(frame["lans"] == {1} for frame in seen)
+        seen = [frame for frame in self.frames if frame["seen"]]
+        names = ["rx_a", "rx_b", "pairs", "only_a", "only_b", "edge_a", "edge_b", "neither", "restarts", "jumps"]
+        wanted = dict.fromkeys(names, 0)
+        wanted["rx_a"] = sum(0 in frame["seen"] for frame in seen)
+        wanted["rx_b"] = sum(1 in frame["seen"] for frame in seen)
+        wanted["pairs"] = sum(len(frame["seen"]) == 2 for frame in seen)
+        both = [frame for frame in seen if frame["ways"] == {0, 1}]
+        wanted["only_a"] = sum(frame["seen"] == {0} and 1 not in frame["lans"] for frame in both)
+        wanted["only_b"] = sum(frame["seen"] == {1} and 0 not in frame["lans"] for frame in both)
+        wanted["edge_a"] = sum(frame["seen"] == {0} and 1 in frame["lans"] for frame in both)
+        wanted["edge_b"] = sum(frame["seen"] == {1} and 0 in frame["lans"] for frame in both)
+        wanted["single_a"] = sum(frame["ways"] == {0} for frame in seen)
+        wanted["single_b"] = sum(frame["ways"] == {1} for frame in seen)
         cut = len(self.frames) if self.restarted is None else self.restarted
-        for run in self.frames[:cut], self.frames[cut:]:
-            heard = [index for index, frame in enumerate(run) if frame["lans"]]
-            if heard:
-                wanted["neither"] += sum(not frame["lans"] for frame in run[heard[0]:heard[-1]])
-        wanted["restarts"] = int(self.restarted is not None and any(f["lans"] for f in self.frames[:cut])
-                                 and any(f["lans"] for f in self.frames[cut:]))
+        wanted["neither"] = sum(self.missing(run) for run in (self.frames[:cut], self.frames[cut:]))
+        wanted["restarts"] = int(self.restarted is not None and any(f["seen"] for f in self.frames[:cut])
+                                 and any(f["seen"] for f in self.frames[cut:]))
         return wanted
+
+    def missing(self, run):
+        """How many frames no recorder has, between the first and the last one that one has."""
+        heard = [index for index, frame in enumerate(run) if frame["seen"]]
+        return sum(not frame["seen"] for frame in run[heard[0]:heard[-1]]) if heard else 0
+
+    def reports(self):
+        """What an audit is to say of its addresses."""
+        return [(self.mac, self.figures())]
+
+
+class RedBox(Source):
+    """A RedBox with two devices, whose frames it numbers by one counter. It tells of both each 2 s at most."""
+
+    def __init__(self, rng, index, seconds):
+        super().__init__(rng, index, seconds)
+        self.devices = [bytes([2, 0, 0, 0, 2 + device, index]) for device in range(2)]
+        told = -2 * SECOND
+        for at, frame in enumerate(self.frames):
+            frame["mac"] = rng.choice(self.devices)
+            if frame["time"] - told >= 2 * SECOND:
+                told = frame["time"]
+                for device, other in zip(self.devices, self.frames[at:]):
+                    other["tells"] = device
+        for frame in self.frames:
+            if "tells" in frame:
+                frame["mac"] = self.mac
+
+    def reports(self):
+        found = []
+        for mac in [self.mac, *self.devices]:
+            own = Source.__new__(Source)
+            own.frames = [frame for frame in self.frames if frame["mac"] == mac]
+            own.restarted = None
+            wanted = own.figures()
+            wanted["neither"] = self.figures()["neither"] if mac == self.mac else 0
+            # Numbers of one address jump where others have those between.
+            del wanted["jumps"], wanted["restarts"]
+            if wanted["rx_a"] or wanted["rx_b"]:
+                found.append((mac, wanted))
+        return found
 
 
 class Network:
@@ -84,15 +146,48 @@ class Network:
         rng = random.Random(seed)
         self.seed = seed
         seconds = rng.randrange(5, 13)
-        self.sources = [Source(rng, index, seconds) for index in range(rng.randrange(2, 7))]
-        self.faults = rng.sample(FAULTS, rng.randrange(1, 3)) if rng.random() < 0.5 else []
-        for fault in self.faults:
+        self.sources = self.make_sources(rng, seconds)
+        self.runs = [(0, END)] * 2
+        if rng.random() < 1 / 3:
+            third = seconds * SECOND // 3
+            self.runs = [(rng.randrange(third), rng.randrange(2 * third, 3 * third)) for _ in "AB"]
+        self.faults = rng.sample(self.kinds, rng.randrange(1, 3)) if rng.random() < 0.5 else []
+        # A restart comes first, which moves what is behind it.
+        for fault in sorted(self.faults, key=lambda one: one != "restart"):
             self.put(rng, fault)
+        # How far the clock of B is ahead when the recordings begin, in nanoseconds, and how fast it drifts, in ppb.
+        self.clock = (rng.randrange(-10 * SECOND, 10 * SECOND), rng.randrange(-50_000, 50_000)) if rng.random() < 0.5 else None
+        for source in self.sources:
+            for frame in source.frames:
+                # Which recorders have it.
+                frame["seen"] = {lan for lan in frame["lans"] if self.runs_at(lan, frame["time"] + source.delays[lan])}
+
+    # The faults that it may have, and how its frames have their numbers.
+    kinds = FAULTS
+    protocol = "prp"
+
+    def make_sources(self, rng, seconds):
+        sources = [Source(rng, index, seconds) for index in range(rng.randrange(2, 7))]
+        if rng.random() < 0.25:
+            sources.append(RedBox(rng, len(sources), seconds))
+        return sources
+
+    def octets_of(self, source, frame, lan):
+        return octets(source, frame, lan)
+
+    def runs_at(self, lan, time):
+        begin, end = self.runs[lan]
+        return begin <= time <= end
+
+    def is_inner(self, time):
+        """Both recorders ran for a while, and go on."""
+        return all(self.runs_at(lan, at) for lan in range(2) for at in (time - INNER, time + INNER)) or self.runs == [(0, END)] * 2
 
     def put(self, rng, fault):
         """Has a fault happen, where there is room for it: each source keeps its first and its last frame."""
         source = rng.choice(self.sources)
-        inner = [index for index in range(1, len(source.frames) - 1) if index != source.restarted]
+        inner = [index for index in range(1, len(source.frames) - 1)
+                 if index != source.restarted and self.is_inner(source.frames[index]["time"])]
         if fault == "loss" and inner:
             for index in rng.sample(inner, min(len(inner), rng.randrange(1, 9))):
                 source.frames[index]["lans"].discard(rng.randrange(2))
@@ -102,7 +197,8 @@ class Network:
             slow = max(self.sources, key=lambda one: one.period)
             first = rng.randrange(1, max(2, len(slow.frames) - 2))
             for frame in slow.frames[first:min(first + rng.randrange(1, 7), len(slow.frames) - 1)]:
-                frame["lans"].clear()
+                if self.is_inner(frame["time"]):
+                    frame["lans"].clear()
         elif fault == "restart" and len(source.frames) > 3 and source.restarted is None:
             source.restart(rng)
 
@@ -110,21 +206,35 @@ class Network:
         """The packets of both recorders, each with its time."""
         both = []
         for lan in range(2):
-            # Both record a frame without number first and last, so that every copy came while both ran.
-            packets = [(0, plain()), (40 * SECOND, plain())]
+            # Each records a frame without number when it begins, and when it ends.
+            packets = [(time, plain()) for time in self.runs[lan]]
             for source in self.sources:
-                packets += [(frame["time"] + source.delays[lan], octets(source, frame, lan))
-                            for frame in source.frames if lan in frame["lans"]]
+                packets += [(frame["time"] + source.delays[lan], self.octets_of(source, frame, lan))
+                            for frame in source.frames if lan in frame["seen"]]
             both.append(sorted(packets, key=lambda packet: packet[0]))
         if "dead" in self.faults:
             both[0] = [packet for packet in both[0] if packet[1] == plain()]
         if "apart" in self.faults:
-            both[1] = [(time + 4000 * SECOND, packet) for time, packet in both[1]]
+            # B recorded another hour: of the same sources, with other numbers.
+            both[1] = [(time + 4000 * SECOND, renumbered(packet, 20_000)) for time, packet in both[1]]
+        if "set" in self.faults:
+            # 48 frames of one source, and the clock of B is set back by 9 s in the middle.
+            both = [[(number * SECOND, octets(self.sources[0], {"number": number}, lan)) for number in range(48)] for lan in range(2)]
+            both[1] = [(time + (24 - time // SECOND // 24 * 9) * SECOND, packet) for time, packet in both[1]]
+            both[1].sort(key=lambda packet: packet[0])
+        for lan in range(2):
+            both[lan] = [(BEGIN + time, packet) for time, packet in both[lan]]
+        if self.clock:
+            ahead, drift = self.clock
+            both[1] = [(time + ahead + (time - BEGIN) * drift // SECOND, packet) for time, packet in both[1]]
         return both[::-1] if "swapped" in self.faults else both
+
+    def has_pairs(self):
+        return any(source.figures()["pairs"] for source in self.sources)
 
     def status(self):
         """How a check is to end."""
-        if UNJUDGED & set(self.faults):
+        if UNJUDGED & set(self.faults) or not self.has_pairs():
             return 4
         lost = any(source.figures()[name] for source in self.sources for name in ("only_a", "only_b", "neither"))
         return 3 if lost else 0
@@ -134,10 +244,80 @@ def plain():
     return bytes.fromhex("ffffffffffff020000000200") + b"\x08\x06" + bytes(46)
 
 
+def renumbered(packet, more):
+    """A frame with a number that is so much greater."""
+    if packet == plain():
+        return packet
+    number = (struct.unpack(">H", packet[-6:-4])[0] + more) % 65536
+    return packet[:-6] + struct.pack(">H", number) + packet[-4:]
+
+
 def octets(source, frame, lan):
     """A frame of 46 octets with its trailer: its number, the LAN's id and the length of what stands behind the type."""
-    front = bytes.fromhex("010ccd010001") + source.mac + b"\x88\xb8" + bytes(46)
+    front = bytes.fromhex("010ccd010001") + frame.get("mac", source.mac) + b"\x88\xb8" + bytes(46)
+    if "tells" in frame:
+        # A supervision frame: path 0, version 1, a number, the device and its RedBox.
+        says = struct.pack(">HHBB", 1, 0, 20, 6) + frame["tells"] + b"\x1e\x06" + source.mac + bytes(2)
+        front = bytes.fromhex("01154e000100") + source.mac + b"\x88\xfb" + says.ljust(46, b"\0")
     return front + struct.pack(">HHH", frame["number"], (0xA + lan) << 12 | 52, 0x88FB)
+
+
+def tagged(source, frame, lan):
+    """A frame of 46 octets with its HSR tag: its way, the length of what stands behind the type, and its number."""
+    front = frame.get("to", bytes.fromhex("010ccd010001")) + source.mac + b"\x89\x2f"
+    return front + struct.pack(">HHH", lan << 12 | 52, frame["number"], 0x88B8) + bytes(46)
+
+
+class Ring(Network):
+    """A ring, whose two ways are recorded at the link from its last node to its first one."""
+
+    kinds = RING_FAULTS
+    protocol = "hsr"
+
+    def make_sources(self, rng, seconds):
+        sources = [RingNode(rng, index, seconds) for index in range(rng.randrange(3, 9))]
+        for index, source in enumerate(sources):
+            # By the one way a frame goes up to the last node, by the other one down to the first.
+            source.delays = [(len(sources) - index) * HOP, (index + 1) * HOP]
+            source.network = self
+            for frame in source.frames[1:-1]:
+                if rng.random() < 0.5:
+                    to = rng.choice([other for other in range(len(sources)) if other != index])
+                    frame["to"] = sources[to].mac
+                    frame["ways"] = {0} if to < index else {1}
+                    frame["lans"] = set(frame["ways"])
+        return sources
+
+    def put(self, rng, fault):
+        if fault != "cut":
+            super().put(rng, fault)
+            return
+        # From a time on no frame passes the link behind a node. Both recorders see the whole of it.
+        self.runs = [(0, END)] * 2
+        link, time = rng.randrange(len(self.sources) - 1), rng.randrange(2, 5) * SECOND
+        for index, source in enumerate(self.sources):
+            for frame in source.frames:
+                if frame["time"] >= time:
+                    frame["lans"].discard(0 if index <= link else 1)
+
+    def octets_of(self, source, frame, lan):
+        return tagged(source, frame, lan)
+
+
+class RingNode(Source):
+    """A node of a ring. What no recorder has is told of the time in which both ran."""
+
+    def missing(self, run):
+        begin = max(begin for begin, _ in self.network.runs) + EDGE
+        end = min(end for _, end in self.network.runs) - EDGE
+        heard = [index for index, frame in enumerate(run)
+                 if any(begin <= frame["time"] + self.delays[lan] <= end for lan in frame["seen"])]
+        return sum(not frame["seen"] for frame in run[heard[0]:heard[-1]]) if heard else 0
+
+
+def network_of(seed):
+    """The network of a seed: every third one is a ring."""
+    return Ring(seed) if seed % 3 == 0 else Network(seed)
 
 
 def write(path, packets):
@@ -150,27 +330,45 @@ def write(path, packets):
 def differences(network, status, lines):
     """Where what an audit says is not what happened."""
     found = [] if status == network.status() else [f"status {status}, and not {network.status()}"]
+    found += [f"the clock of B is told as {told}" for told in clock_differences(network, lines)]
     if UNJUDGED & set(network.faults):
         return found
-    said = {line["source"]: line for line in lines if line["line"] == "source"}
-    for source in network.sources:
-        mac = source.mac.hex(":")
-        for name, wanted in source.figures().items():
+    said = {line["source"]: dict(line, single_a=0, single_b=0) for line in lines if line["line"] == "source"}
+    for line in lines:
+        if line["line"] == "single":
+            said[line["source"]].update(line)
+    for mac, figures in (report for source in network.sources for report in source.reports()):
+        mac = mac.hex(":")
+        for name, wanted in figures.items():
             if said.get(mac, {}).get(name) != wanted:
                 found.append(f"{mac} {name} {said.get(mac, {}).get(name)}, and not {wanted}")
     return found
 
 
+def clock_differences(network, lines):
+    """How far the clock of B is told to be ahead, where that is not so."""
+    told = [line for line in lines if line["line"] == "clocks"]
+    if UNJUDGED & set(network.faults) or not network.clock:
+        return [line for line in told if abs(line["b_ahead_us"]) > 1000] if not network.clock and not network.faults else []
+    if not told:
+        return ["nothing"] if network.has_pairs() else []
+    ahead, drift = network.clock
+    wanted = ahead + sum(network.runs[1]) // 2 * drift // SECOND
+    line = told[0]
+    return [] if abs(line["b_ahead_us"] * 1000 - wanted) <= OFFSET_LEFT else [f"{line}, and not {wanted} ns"]
+
+
 def judge(program, seed, room):
     """What differs in the network of a seed."""
-    network = Network(seed)
+    network = network_of(seed)
     paths = [f"{room}/a.pcap", f"{room}/b.pcap"]
     for path, packets in zip(paths, network.captures()):
         write(path, packets)
-    args = [program, "audit", "--a", paths[0], "--b", paths[1], "--format", "json", "--check"]
+    args = [program, "audit", "--a", paths[0], "--b", paths[1], "--network", network.protocol, "--format", "json", "--check"]
+    args += ["--shift", "auto"] if network.clock else []
     run = subprocess.run(args, capture_output=True, text=True, timeout=60, check=False)
     lines = [json.loads(line) for line in run.stdout.splitlines()]
-    return [f"network {seed} ({', '.join(network.faults) or 'sound'}): {it}" for it in differences(network, run.returncode, lines)]
+    return [f"{type(network).__name__.lower()} {seed} ({', '.join(network.faults) or 'sound'}): {it}" for it in differences(network, run.returncode, lines)]
 
 
 def main():

@@ -1,22 +1,43 @@
 #!/usr/bin/env python3
 """What an audit says wrongly of a network is found, and what it says rightly is passed."""
+import functools
 import random
 import sys
 import unittest
 from pathlib import Path
 
 sys.dont_write_bytecode = True
-sys.path.insert(0, str(Path(__file__).resolve().parent))
+sys.path.insert(0, str(Path(__file__).resolve().parent.parent))
 import networks  # noqa: E402
+
+
+@functools.cache
+def network_of(seed):
+    return networks.network_of(seed)
 
 
 def network_with(*faults):
     """The first network that has just these faults."""
-    return next(one for one in map(networks.Network, range(1, 1000)) if sorted(one.faults) == sorted(faults))
+    return next(one for one in map(network_of, range(1, 1000)) if sorted(one.faults) == sorted(faults) and one.has_pairs())
+
+
+def network_where(is_wanted):
+    return next(one for one in map(network_of, range(1, 1000)) if is_wanted(one))
+
+
+def clocks_of(network):
+    """The line that tells of the clock of B, as it is."""
+    ahead, drift = network.clock
+    return {"line": "clocks", "b_ahead_us": (ahead + sum(network.runs[1]) // 2 * drift // 10**9) / 1000, "drift_ppm": drift / 1000, "pairs": 20}
 
 
 def said_of(network):
-    return [{"line": "source", "source": source.mac.hex(":"), **source.figures()} for source in network.sources]
+    lines = [clocks_of(network)] if network.clock else []
+    for mac, figures in (report for source in network.sources for report in source.reports()):
+        lines.append({"line": "source", "source": mac.hex(":"), **figures})
+        if figures["single_a"] or figures["single_b"]:
+            lines.append({"line": "single", "source": mac.hex(":"), "single_a": figures["single_a"], "single_b": figures["single_b"]})
+    return lines
 
 
 class NetworksTest(unittest.TestCase):
@@ -29,15 +50,47 @@ class NetworksTest(unittest.TestCase):
         network = network_with("row")
         for name in network.sources[0].figures():
             lines = said_of(network)
-            lines[0][name] += 1
+            if name.startswith("single"):
+                lines.append({"line": "single", "source": network.sources[0].mac.hex(":"), name: 1})
+            else:
+                next(line for line in lines if line["line"] == "source")[name] += 1
             self.assertEqual(len(networks.differences(network, network.status(), lines)), 1, name)
+
+    def test_a_frame_of_a_ring_that_is_not_told_is_found(self):
+        network = network_where(lambda one: isinstance(one, networks.Ring) and not one.faults and one.has_pairs())
+        self.assertEqual((network.status(), networks.differences(network, 0, said_of(network))), (0, []))
+        lines = [line for line in said_of(network) if line["line"] != "single"]
+        self.assertTrue(networks.differences(network, 0, lines))
+
+    def test_a_number_of_a_redbox_is_told_of_it_alone(self):
+        network = network_where(lambda one: isinstance(one.sources[-1], networks.RedBox) and not one.faults and one.has_pairs())
+        box = network.sources[-1]
+        box.frames[len(box.frames) // 2]["seen"].clear()
+        told = {mac: figures["neither"] for mac, figures in box.reports()}
+        self.assertEqual((told.pop(box.mac), set(told.values())), (1, {0}))
+        network_of.cache_clear()
 
     def test_a_source_that_is_left_out_is_found(self):
         network = network_with()
-        self.assertTrue(networks.differences(network, 0, said_of(network)[1:]))
+        lines = said_of(network)
+        lines.remove(next(line for line in lines if line["line"] == "source"))
+        self.assertTrue(networks.differences(network, 0, lines))
+
+    def test_a_clock_that_is_told_wrongly_is_found(self):
+        network = network_where(lambda one: one.clock and not one.faults)
+        lines = said_of(network)
+        self.assertEqual(networks.differences(network, 0, lines), [])
+        self.assertTrue(networks.differences(network, 0, lines[1:]))
+        lines[0]["b_ahead_us"] += 6000
+        self.assertTrue(networks.differences(network, 0, lines))
+
+    def test_a_clock_that_is_put_right_and_was_right_is_found(self):
+        network = network_where(lambda one: not one.clock and not one.faults)
+        line = {"line": "clocks", "b_ahead_us": 5000.0, "drift_ppm": 0.0, "pairs": 20}
+        self.assertTrue(networks.differences(network, 0, [line] + said_of(network)))
 
     def test_each_wrong_status_is_found(self):
-        for faults, status in ((), 0), (("row",), 3), (("dead",), 4), (("swapped",), 4), (("apart",), 4):
+        for faults, status in ((), 0), (("row",), 3), (("dead",), 4), (("swapped",), 4), (("apart",), 4), (("set",), 4):
             network = network_with(*faults)
             self.assertEqual(network.status(), status)
             for other in {0, 1, 3, 4} - {status}:
@@ -45,14 +98,23 @@ class NetworksTest(unittest.TestCase):
 
     def test_a_row_on_both_lans_is_counted_between_what_was_heard(self):
         source = networks.Source(random.Random(1), 0, 10)
+        for frame in source.frames:
+            frame["seen"] = set(frame["lans"])
         for frame in source.frames[:2] + source.frames[3:5]:
-            frame["lans"].clear()
+            frame["seen"].clear()
         self.assertEqual(source.figures()["neither"], 2)
+
+    def test_what_one_recorder_has_while_the_other_one_does_not_run_is_no_loss(self):
+        network = network_where(lambda one: one.runs[0] != one.runs[1] and one.has_pairs() and not one.faults)
+        self.assertEqual(network.status(), 0)
+        self.assertTrue(any(source.figures()[name] for source in network.sources for name in ("edge_a", "edge_b")))
 
     def test_a_frame_has_its_number_and_its_lan(self):
         source = networks.Source(random.Random(1), 0, 10)
         packet = networks.octets(source, {"number": 0x1234}, 1)
         self.assertEqual((packet[6:12], packet[-6:].hex(), len(packet)), (source.mac, "1234b03488fb", 66))
+        packet = networks.tagged(source, {"number": 0x1234}, 1)
+        self.assertEqual((packet[6:12], packet[12:20].hex(), len(packet)), (source.mac, "892f1034123488b8", 66))
 
 
 if __name__ == "__main__":

@@ -28,7 +28,7 @@ use Rattle.sr_capture_audit.specs.Auditing.{tap_at, AreSeenAt, AreSeen, sent_by,
 use Rattle.sr_capture_audit.proofs.Spanned.{span_more}
 
 -- one packet more
-seen_more : (subject : Subject) (xs : List Handed) (seen : List Seen) (x : Handed) (own : List Seen) → AreSeen subject xs seen →
+pub seen_more : (subject : Subject) (xs : List Handed) (seen : List Seen) (x : Handed) (own : List Seen) → AreSeen subject xs seen →
     AreSeenAt (tap_at subject.ports x.inlet) subject.network x own → AreSeen subject (xs ++ x ∷ []) (seen ++ own)
 seen_more subject [] seen x own h more = (own, [], ap (λ l. l ++ own) h ∙ sym (append-nil own), more, refl)
 seen_more subject (y ∷ ys) seen x own h more =
@@ -139,7 +139,7 @@ counted place shown x old new o own k octets is told some kinds are counts whole
 -- no packet was taken
 pub begun : (subject : Subject) (spans : Spans) (counts : Counts) (audit : Audit) → counts ≡ all_figures [] → Audits spans [] audit.sources.entries →
     Hears [] audit.sources.entries → audit.spans ≡ spans → IsLeftOut audit.sources.entries [] audit.left_out →
-    IsReportOf subject spans [] (record { subject = subject; spans = spans; whole = None; counts = counts; audit = audit })
+    IsReportOf subject spans [] (record { subject = subject; spans = spans; whole = None; counts = counts; audit = audit; groups = None; counters = None })
 begun subject spans counts audit none audits hears same left = record {
   subject_is = refl;
   spans_are = refl;

@@ -17,12 +17,14 @@ use Rattle.std.specs.Prelude.{
   length,
   take,
   drop,
+  slice_index,
   Option,
   None,
   Some,
 }
 use Rattle.std.specs.Str.{bytes_eq}
 use Rattle.sr_frame.specs.Frame.{least_len}
+use Rattle.sr_frame.specs.declared.fields.Mac.{Mac}
 use Rattle.sr_prp_trailer.specs.declared.trailer.Lan.{Lan}
 use Rattle.sr_prp_trailer.specs.declared.trailer.Lan.TheVariants as lan
 use Rattle.sr_supervision.specs.declared.message.Supervision.{Supervision}
@@ -30,7 +32,7 @@ use Rattle.sr_supervision.specs.Supervised.{IsSupervision, life_type}
 use Rattle.sr_forwarding.specs.declared.fault.ReadFault.{ReadFault}
 use Rattle.sr_forwarding.specs.Decoding.{IsRead, IsUnread}
 use Rattle.sr_forwarding.specs.Framings.{FramingImage, Trailed, Tagged}
-use Rattle.sr_forwarding.specs.Octets.{src_in, is_supervision}
+use Rattle.sr_forwarding.specs.Octets.{dst_in, src_in, is_supervision}
 use Rattle.sr_forwarding.specs.Parcels.{ParcelImage, plain_of}
 use Rattle.sr_audit.specs.declared.side.Side.{Side}
 use Rattle.sr_audit.specs.declared.side.Side.TheVariants as side
@@ -76,9 +78,11 @@ abbrev pub is_astray_at : Tap → ParcelImage → Bool
 is_astray_at (tap.Side own) p = p.wrong_lan
 is_astray_at tap.Mirror p = false
 
--- the sign of life in a supervision frame, if it can be read: the address that it is for, and the type of its first TLV
+-- the sign of life in a supervision frame, if it can be read: the address that it is for, the type of its first TLV, and the RedBox that
+-- the address stands behind
 abbrev pub IsSignIn : List ℕ → Option Sign → Type 0
 IsSignIn plain (Some sign) = (s : Supervision) × IsSupervision plain s × (sign.mac ≡ s.mac) × (sign.kind ≡ life_type s.life)
+    × (sign.redbox ≡ s.redbox)
 IsSignIn plain None = (s : Supervision) → IsSupervision plain s → ⊥
 
 -- the sign of life that a frame is, if its destination and type are those of supervision
@@ -89,11 +93,16 @@ IsSignIf false plain sign = sign ≡ None
 abbrev pub IsSignOf : List ℕ → Option Sign → Type 0
 IsSignOf plain sign = IsSignIf (is_supervision plain) plain sign
 
+-- an address is that of a group: the lowest bit of its first octet is set
+abbrev pub is_group_address : Mac → Bool
+is_group_address mac = slice_index mac.0 0 % 2 == 1
+
 -- what a parcel with a number says
 pub record IsNumberedAs (network : Network) (tap : Tap) (p : ParcelImage) (n : Numbered) : Type 0 where
   pub seq : p.seq ≡ Some n.seq
   pub src : n.src ≡ src_in (plain_of p)
   pub side : n.side ≡ numbered_side network tap p
+  pub to_group : n.to_group ≡ is_group_address (dst_in (plain_of p))
   pub astray : n.is_astray ≡ is_astray_at tap p
   pub sign : IsSignOf (plain_of p) n.sign
 

@@ -3,5 +3,9 @@ pub mod Hints
 pub mod Kinds
 pub mod Counting
 pub mod Auditing
+pub mod Edging
+pub mod Unions
+pub mod Ruling
+pub mod Clocking
 pub mod Spanning
 pub mod Judging

@@ -8,16 +8,19 @@ ghost use Rattle.sr_capture_script.specs.Merging.{feed_of};
 ghost use Rattle.sr_capture_script.specs.Passing.{EndsFor};
 ghost use Rattle.sr_capture_script.specs.SourceViews.{IsFed};
 ghost use Rattle.sr_capture_audit.specs.Auditing.{sign_with, TakesKind, IsAuditOf};
+ghost use Rattle.sr_capture_audit.specs.Faults.{shows_lost, have_lost, have_missing};
 
 use crate::counts::Counts;
+use crate::edges::{LEAST_EDGE, bounded_edge, widest};
 use crate::judgement::{Judgement, Reason};
 use crate::kind::{Kind, Sign, kind_of};
-use crate::lines::{print_capture, print_source, print_table_names, print_table_row};
+use crate::lines::{Lost, print_capture, print_source, print_table_names, print_table_row};
 use crate::network::{Ports, Subject};
 use crate::rows::{Format, count, print_row};
-use sr_audit::{Arrival, Audit, Side, Span, Spans};
+use sr_audit::{Arrival, Audit, Figures, Side, Source, Span, Spans};
 use sr_capture::Packet;
 use sr_capture_script::{Captures, Choice, Pass, Place, ScriptFault, pass_over};
+use sr_frame::Mac;
 use sr_slots::Keys;
 use std::alloc::Global;
 use std::io::{BufRead, Write};
@@ -31,6 +34,52 @@ pub struct Report {
     whole: Option<Span>,
     counts: Counts,
     audit: Audit,
+    /// The figures of the frames to groups, where these alone tell what was lost.
+    groups: Option<Audit>,
+    /// The figures of the counters by which frames are numbered, where sources stand behind RedBoxes.
+    counters: Option<Audit>,
+}
+
+/// Whether a frame came by one side alone, while the capture of the other side ran.
+fn shows_lost(figures: &Figures) -> bool
+    ensures { result ≡ shows_lost figures.now }
+{
+    let only = figures.only();
+    only.a > 0 || only.b > 0
+}
+
+/// Whether such a frame is one of an audit.
+fn have_lost(audit: &Audit) -> bool
+    ensures { result ≡ have_lost audit.now }
+{
+    for (_, source) in audit.sources() {
+        if shows_lost(&source.figures()) {
+            return true;
+        }
+    }
+    false
+}
+
+/// Whether no frame had a number of a source.
+fn have_missing(audit: &Audit) -> bool
+    ensures { result ≡ have_missing audit.now }
+{
+    for (_, source) in audit.sources() {
+        if source.figures().neither > 0 {
+            return true;
+        }
+    }
+    false
+}
+
+/// What an audit has of a source.
+fn source_in(audit: &Audit, mac: Mac) -> Option<&Source> {
+    for (own, source) in audit.sources() {
+        if own == mac {
+            return Some(source);
+        }
+    }
+    None
 }
 
 /// Has an audit take a sign of life, if there is one.
@@ -161,23 +210,32 @@ pub fn figures_of<R: BufRead + Drop>(
         whole: None,
         counts: Counts::NONE,
         audit: Audit::new(alloc, keys, spans),
+        groups: None,
+        counters: None,
     };
     pass_over(captures, choice, &mut report)?;
     Ok(report)
 }
 
 impl Report {
-    ghost use Rattle.std.specs.Prelude.{◌≡◌, length};
-    ghost use Rattle.sr_capture_audit.specs.Faults.{has_faults};
+    ghost use Rattle.std.specs.Prelude.{◌≡◌, ◌||◌, length, Some};
+    ghost use Rattle.sr_audit.specs.declared.audit.Audit.{Audit};
+    ghost use Rattle.sr_capture_audit.specs.Edging.{edge_width, tells_of_lost, tells_of_missing};
+    ghost use Rattle.sr_capture_audit.specs.Faults.{has_faults, own_figures, groups_have_lost, counters_have_missing};
     ghost use Rattle.sr_capture_audit.specs.Judging.{has_pairs, reason_of, network_judgement};
 
     /// Prints the lines of the captures. At a mirror port they are those of each side, and of the packets without a number.
     ///
     /// # Errors
     /// `Write` where the writer fails.
-    fn print_captures<W: Write>(&self, writer: &mut W, format: Format) -> Result<(), ScriptFault> {
-        print_capture(writer, format, "A", &self.counts.a, self.spans.a)?;
-        print_capture(writer, format, "B", &self.counts.b, self.spans.b)?;
+    fn print_captures<W: Write>(
+        &self,
+        writer: &mut W,
+        format: Format,
+        recorded: &Spans,
+    ) -> Result<(), ScriptFault> {
+        print_capture(writer, format, "A", &self.counts.a, recorded.a)?;
+        print_capture(writer, format, "B", &self.counts.b, recorded.b)?;
         match self.subject.ports {
             Ports::Two => Ok(()),
             Ports::Mirror => {
@@ -190,10 +248,15 @@ impl Report {
     ///
     /// # Errors
     /// `Write` where the writer fails.
-    fn print_lines<W: Write>(&self, writer: &mut W, format: Format) -> Result<(), ScriptFault> {
-        self.print_captures(writer, format)?;
+    fn print_lines<W: Write>(
+        &self,
+        writer: &mut W,
+        format: Format,
+        recorded: &Spans,
+    ) -> Result<(), ScriptFault> {
+        self.print_captures(writer, format, recorded)?;
         for (mac, source) in self.audit.sources() {
-            print_source(writer, format, mac, source, &self.spans)?;
+            print_source(writer, format, mac, source, &self.lost_of(mac, source))?;
         }
         Ok(())
     }
@@ -202,9 +265,48 @@ impl Report {
     fn print_table<W: Write>(&self, writer: &mut W) -> Result<(), ScriptFault> {
         print_table_names(writer)?;
         for (mac, source) in self.audit.sources() {
-            print_table_row(writer, mac, source, &self.spans)?;
+            print_table_row(writer, mac, source, &self.lost_of(mac, source))?;
         }
         Ok(())
+    }
+
+    /// This report with an audit of the frames to groups, which alone tells what was lost.
+    pub fn with_groups(self, groups: Audit) -> Report
+        ensures { result ≡ record self { groups = Some groups } }
+    {
+        let groups = Some(groups);
+        Report { groups, ..self }
+    }
+
+    /// This report with an audit of the counters by which frames are numbered, which alone tells of numbers that no frame had.
+    pub fn with_counters(self, counters: Audit) -> Report
+        ensures { result ≡ record self { counters = Some counters } }
+    {
+        let counters = Some(counters);
+        Report { counters, ..self }
+    }
+
+    /// How many numbers of a source no frame had. One behind a RedBox has none of its own.
+    fn missing_of(&self, mac: Mac, source: &Source) -> u64 {
+        match &self.counters {
+            None => source.figures().neither,
+            Some(counters) => match source_in(counters, mac) {
+                Some(counter) => counter.figures().neither,
+                None => 0,
+            },
+        }
+    }
+
+    /// What is lost of a source.
+    fn lost_of(&self, mac: Mac, source: &Source) -> Lost {
+        let missing = self.missing_of(mac, source);
+        match &self.groups {
+            None => Lost::of(source, &self.spans, missing),
+            Some(groups) => match source_in(groups, mac) {
+                Some(grouped) => Lost::of(grouped, &self.spans, missing).beside(source),
+                None => Lost::none(missing).beside(source),
+            },
+        }
     }
 
     /// Prints the lines of the captures and of the sources, or the table of the sources.
@@ -212,8 +314,21 @@ impl Report {
     /// # Errors
     /// `Write` where the writer fails.
     pub fn print<W: Write>(&self, writer: &mut W, format: Format) -> Result<(), ScriptFault> {
+        self.print_recorded(writer, format, &self.spans)
+    }
+
+    /// Prints the lines or the table, where the captures have these spans, and the figures are of the parts of them that are judged.
+    ///
+    /// # Errors
+    /// `Write` where the writer fails.
+    pub fn print_recorded<W: Write>(
+        &self,
+        writer: &mut W,
+        format: Format,
+        recorded: &Spans,
+    ) -> Result<(), ScriptFault> {
         match format {
-            Format::Text | Format::Json => self.print_lines(writer, format),
+            Format::Text | Format::Json => self.print_lines(writer, format, recorded),
             Format::Csv => self.print_table(writer),
         }
     }
@@ -240,20 +355,80 @@ impl Report {
         *counts
     }
 
+    /// Whether the audit of the frames to groups tells of lost ones, or that of the counters of numbers that no frame had.
+    fn others_have_faults(&self) -> bool
+        ensures { result ≡ groups_have_lost self.now.groups
+            || counters_have_missing self.now.counters }
+    {
+        let Report {
+            groups,
+            counters,
+            ..
+        } = self;
+        let has_lost = match groups {
+            Some(groups) => have_lost(groups),
+            None => false,
+        };
+        let has_missing = match counters {
+            Some(counters) => have_missing(counters),
+            None => false,
+        };
+        has_lost || has_missing
+    }
+
+    /// The figures of a source without those of which another audit tells.
+    fn own_figures(&self, figures: Figures) -> Figures
+        ensures { result ≡ own_figures self.now figures }
+    {
+        let mut own = figures;
+        if self.groups.is_some() {
+            own.tally.alone = own.edges;
+        }
+        if self.counters.is_some() {
+            own.neither = 0;
+        }
+        own
+    }
+
     /// Whether a figure of a fault is not 0: frames that came by one side alone, or by none, copies that came more than once, trailers of
     /// the other LAN or that are none, or a skew of 400 ms or more.
     fn has_faults(&self) -> bool
         ensures { result ≡ has_faults self.now }
     {
-        if self.counts.have_faults() {
+        if self.counts.have_faults() || self.others_have_faults() {
             return true;
         }
         for (_, source) in self.audit.sources() {
-            if source.figures().has_faults() {
+            if self.own_figures(source.figures()).has_faults() {
                 return true;
             }
         }
         false
+    }
+
+    /// Whether a frame came by one side alone, while the capture of the other side ran.
+    pub fn has_lost(&self) -> bool
+        ensures { result ≡ tells_of_lost self.now }
+    {
+        have_lost(&self.audit)
+    }
+
+    /// Whether no frame had a number of a source.
+    pub fn has_missing(&self) -> bool
+        ensures { result ≡ tells_of_missing self.now }
+    {
+        have_missing(&self.audit)
+    }
+
+    /// How wide the edges of the captures are, in nanoseconds: as far as the copies of a frame came apart, 1 ms at least and 400 ms at most.
+    pub fn edge_width(&self) -> u64
+        ensures { result ≡ edge_width self.now }
+    {
+        let mut width = LEAST_EDGE;
+        for (_, source) in self.audit.sources() {
+            width = width.max(widest(&source.figures().skews));
+        }
+        bounded_edge(width)
     }
 
     /// Whether a frame came by both sides.

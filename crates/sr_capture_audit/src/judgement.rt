@@ -28,6 +28,10 @@ pub enum Reason {
     Unpaired,
     /// The recorder cut more than one packet in ten.
     Cut,
+    /// Two offsets of the recorders' clocks fit: so many frames tell of the one, and so many of the other.
+    TwoOffsets(usize, usize),
+    /// No frame was seen by both recorders, so that nothing tells of their clocks.
+    NoOffset,
 }
 
 impl fmt::Display for Reason {
@@ -39,6 +43,11 @@ impl fmt::Display for Reason {
             Reason::Swapped => write!(f, "the captures seem to be swapped"),
             Reason::Unpaired => write!(f, "no frame came by both A and B"),
             Reason::Cut => write!(f, "more than one packet in ten was cut by the recorder"),
+            Reason::TwoOffsets(most, others) => write!(
+                f,
+                "two offsets of the clocks fit, by {most} frames and by {others}: --shift-b?"
+            ),
+            Reason::NoOffset => write!(f, "no frame of both A and B tells of their clocks"),
         }
     }
 }

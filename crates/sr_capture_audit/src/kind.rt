@@ -5,7 +5,7 @@ ghost use Rattle.sr_supervision.specs.Supervised.{life_type};
 ghost use Rattle.sr_forwarding.specs.Decoding.{IsRead, IsUnread};
 ghost use Rattle.sr_forwarding.specs.Parcels.{plain_of};
 ghost use Rattle.sr_capture.specs.Records.{Captured, Shows};
-ghost use Rattle.sr_capture_audit.specs.Kinds.{expected_lan, tap_framing, names_b, side_if, IsSignIn, IsNumberedAs, ends_as_trailer, IsParcelKind, IsOctetsKind, IsKind};
+ghost use Rattle.sr_capture_audit.specs.Kinds.{expected_lan, tap_framing, names_b, side_if, is_group_address, IsSignIn, IsNumberedAs, ends_as_trailer, IsParcelKind, IsOctetsKind, IsKind};
 
 use crate::network::{Network, Tap};
 use sr_audit::Side;
@@ -16,11 +16,12 @@ use sr_prp_trailer::Lan;
 use sr_sequence::Seq;
 use sr_supervision::{Life, read};
 
-/// A sign of life: the address that it is for, and the type of its first TLV.
+/// A sign of life: the address that it is for, the type of its first TLV, and the RedBox that the address stands behind.
 #[derive(Clone, Copy)]
 pub(crate) struct Sign {
     pub mac: Mac,
     pub kind: u8,
+    pub redbox: Option<Mac>,
 }
 
 /// What a numbered frame says.
@@ -32,6 +33,8 @@ pub(crate) struct Numbered {
     pub seq: Seq,
     /// The side where it came in.
     pub side: Side,
+    /// Whether it was sent to a group.
+    pub to_group: bool,
     /// Whether its trailer names the other LAN.
     pub is_astray: bool,
     /// The sign of life that it is, if it is one.
@@ -75,6 +78,7 @@ fn sign_of(parcel: &ParcelView<'_>) -> Option<Sign>
         Ok(supervision) => Some(Sign {
             mac: supervision.mac,
             kind: type_of(supervision.life),
+            redbox: supervision.redbox,
         }),
         Err(_) => None,
     }
@@ -90,6 +94,13 @@ fn named_side(network: Network, parcel: &ParcelView<'_>) -> Side
         Network::Hsr => parcel.path() % 2 == 1,
     };
     if is_b { Side::B } else { Side::A }
+}
+
+/// Whether an address is that of a group.
+fn is_group_address(mac: Mac) -> bool
+    ensures { result ≡ is_group_address mac }
+{
+    mac.0[0] % 2 == 1
 }
 
 /// What a parcel with a number says. None: it has none.
@@ -112,6 +123,7 @@ fn number_in(network: Network, tap: Tap, parcel: &ParcelView<'_>) -> Option<Numb
         src: header.src,
         seq,
         side,
+        to_group: is_group_address(header.dst),
         is_astray,
         sign,
     })
@@ -128,7 +140,11 @@ fn lan_of(tap: Tap) -> Lan
 }
 
 /// What the framing of a capture answers to octets.
-fn read_at<'a>(network: Network, tap: Tap, octets: &'a [u8]) -> Result<ParcelView<'a>, ReadFault>
+pub(crate) fn read_at<'a>(
+    network: Network,
+    tap: Tap,
+    octets: &'a [u8],
+) -> Result<ParcelView<'a>, ReadFault>
     ensures ok { IfOk result (λ p. IsRead (tap_framing network tap) octets.now p) }
     ensures err { IfErr result (λ e. IsUnread (tap_framing network tap) octets.now e) }
 {

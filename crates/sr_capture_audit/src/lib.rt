@@ -1,9 +1,12 @@
 //! The audit of captures of a redundant network: packets are read, their figures counted and printed.
 #![tactic(auto)]
 
+mod clocks;
 mod columns;
 mod counts;
 mod drawing;
+mod edges;
+mod fates;
 mod figures;
 mod hints;
 mod judgement;
@@ -12,16 +15,22 @@ mod lines;
 mod lists;
 mod network;
 mod picture;
+mod redboxes;
 mod rows;
+mod ruling;
 mod shown;
 mod spanning;
 
+pub use clocks::{clocks_between, delays_by, print_clocks};
 pub use counts::{Counts, SideCounts};
+pub use edges::inner_spans;
 pub use figures::{Report, Summary, figures_of};
 pub use hints::{Hint, hint_of};
 pub use judgement::{Judgement, Reason};
 pub use lists::{Lists, print_lists};
 pub use network::{Network, Ports, Subject};
-pub use picture::print_picture;
+pub use picture::{print_picture, print_picture_recorded};
+pub use redboxes::{RedBoxes, redboxes_of};
 pub use rows::Format;
+pub use ruling::{Rule, ruled_of};
 pub use spanning::spans_of;

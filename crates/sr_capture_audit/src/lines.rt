@@ -3,7 +3,7 @@
 use crate::counts::SideCounts;
 use crate::network::letter_of;
 use crate::rows::{Field, Format, Value, bare, count, named, print_names, print_row};
-use sr_audit::{Alive, Figures, Row, Skews, Source, Span, Spans};
+use sr_audit::{Alive, Figures, Row, Sides, Skews, Source, Span, Spans};
 use sr_capture_script::ScriptFault;
 use sr_frame::Mac;
 use std::io::Write;
@@ -27,10 +27,66 @@ fn capture_fields(name: &'static str, counts: &SideCounts, span: Option<Span>) -
     ]
 }
 
+/// What is lost of a source.
+#[derive(Clone, Copy)]
+pub(crate) struct Lost {
+    /// How many frames came while the capture of the other side ran.
+    only: Sides,
+    /// How many came while it did not.
+    edges: Sides,
+    /// How many that tell of no loss, since they were sent to a single address of a ring.
+    single: Sides,
+    /// How many numbers no frame had.
+    missing: u64,
+    /// The side by which alone the source is heard at last.
+    sided: Option<Row>,
+}
+
+impl Lost {
+    /// No frame, and so many numbers.
+    pub(crate) fn none(missing: u64) -> Lost {
+        Lost {
+            only: Sides::NONE,
+            edges: Sides::NONE,
+            single: Sides::NONE,
+            missing,
+            sided: None,
+        }
+    }
+
+    /// What the figures of a source tell, and so many numbers.
+    pub(crate) fn of(source: &Source, spans: &Spans, missing: u64) -> Lost {
+        let figures = source.figures();
+        Lost {
+            only: figures.only(),
+            edges: figures.edges,
+            sided: source.sided(spans),
+            ..Lost::none(missing)
+        }
+    }
+
+    /// What is lost of some frames of a source, whose others that came by one side alone tell of no loss.
+    pub(crate) fn beside(self, source: &Source) -> Lost {
+        let alone = source.figures().tally.alone;
+        let a = self.only.a.saturating_add(self.edges.a);
+        let b = self.only.b.saturating_add(self.edges.b);
+        let single = Sides {
+            a: alone.a.saturating_sub(a),
+            b: alone.b.saturating_sub(b),
+        };
+        Lost { single, ..self }
+    }
+}
+
 /// The line `source`.
-fn source_fields(mac: Mac, figures: &Figures) -> [Field; 15] {
+fn source_fields(mac: Mac, figures: &Figures, lost: &Lost) -> [Field; 15] {
     let tally = figures.tally;
-    let only = figures.only();
+    let Lost {
+        only,
+        edges,
+        missing,
+        ..
+    } = *lost;
     [
         bare("source", Value::Mac(mac)),
         count("rx_a", tally.rx.a),
@@ -38,9 +94,9 @@ fn source_fields(mac: Mac, figures: &Figures) -> [Field; 15] {
         count("pairs", tally.pairs),
         count("only_a", only.a),
         count("only_b", only.b),
-        count("edge_a", figures.edges.a),
-        count("edge_b", figures.edges.b),
-        count("neither", figures.neither),
+        count("edge_a", edges.a),
+        count("edge_b", edges.b),
+        count("neither", missing),
         count("repeat_a", tally.repeats.a),
         count("repeat_b", tally.repeats.b),
         count("order_a", figures.order.a),
@@ -69,6 +125,15 @@ fn skew_fields(mac: Mac, skews: &Skews) -> [Field; 12] {
         count("under_100ms", e),
         count("under_400ms", f),
         count("over", over),
+    ]
+}
+
+/// The line `single`.
+fn single_fields(mac: Mac, single: Sides) -> [Field; 3] {
+    [
+        bare("source", Value::Mac(mac)),
+        count("single_a", single.a),
+        count("single_b", single.b),
     ]
 }
 
@@ -123,24 +188,43 @@ fn print_sided<W: Write>(
     }
 }
 
-/// Prints the lines of a source: that of the skews where there is a pair, that of supervision frames where some came, and that of the side
-/// by which alone it is heard at last.
+/// Prints the line of the frames to single addresses of a ring that went past on one way, if some did.
+fn print_single<W: Write>(
+    writer: &mut W,
+    format: Format,
+    mac: Mac,
+    single: Sides,
+) -> Result<(), ScriptFault> {
+    if single == Sides::NONE {
+        return Ok(());
+    }
+    print_row(writer, format, "single", &single_fields(mac, single))
+}
+
+/// Prints the lines of a source: that of the skews where there is a pair, that of frames to single addresses of a ring, that of supervision
+/// frames where some came, and that of the side by which alone it is heard at last.
 pub(crate) fn print_source<W: Write>(
     writer: &mut W,
     format: Format,
     mac: Mac,
     source: &Source,
-    spans: &Spans,
+    lost: &Lost,
 ) -> Result<(), ScriptFault> {
     let figures = source.figures();
-    print_row(writer, format, "source", &source_fields(mac, &figures))?;
+    print_row(
+        writer,
+        format,
+        "source",
+        &source_fields(mac, &figures, lost),
+    )?;
     if figures.skews.count > 0 {
         print_row(writer, format, "skew", &skew_fields(mac, &figures.skews))?;
     }
+    print_single(writer, format, mac, lost.single)?;
     if let Some(alive) = source.alive() {
         print_row(writer, format, "alive", &alive_fields(mac, &alive))?;
     }
-    print_sided(writer, format, mac, source.sided(spans))
+    print_sided(writer, format, mac, lost.sided)
 }
 
 /// What a table has of the line `sided`: its LAN, which is empty where there is no such line.
@@ -157,7 +241,7 @@ fn sided_cells(sided: Option<Row>) -> [Field; 3] {
 }
 
 /// A line of the table of sources: the values of the line `source`, and behind them those of the lines `skew` and `sided`.
-fn table_fields(mac: Mac, figures: &Figures, sided: Option<Row>) -> [Field; 28] {
+fn table_fields(mac: Mac, figures: &Figures, lost: &Lost) -> [Field; 28] {
     let [
         source,
         rx_a,
@@ -174,9 +258,9 @@ fn table_fields(mac: Mac, figures: &Figures, sided: Option<Row>) -> [Field; 28] 
         order_b,
         jumps,
         restarts,
-    ] = source_fields(mac, figures);
+    ] = source_fields(mac, figures, lost);
     let [_, _, least, mean, greatest, a, b, c, d, e, f, over] = skew_fields(mac, &figures.skews);
-    let [lan, frames, since] = sided_cells(sided);
+    let [lan, frames, since] = sided_cells(lost.sided);
     [
         source, rx_a, rx_b, pairs, only_a, only_b, edge_a, edge_b, neither, repeat_a, repeat_b,
         order_a, order_b, jumps, restarts, least, mean, greatest, a, b, c, d, e, f, over, lan,
@@ -186,7 +270,10 @@ fn table_fields(mac: Mac, figures: &Figures, sided: Option<Row>) -> [Field; 28] 
 
 /// Prints the names of the table of sources.
 pub(crate) fn print_table_names<W: Write>(writer: &mut W) -> Result<(), ScriptFault> {
-    print_names(writer, &table_fields(Mac([0; 6]), &Figures::NONE, None))
+    print_names(
+        writer,
+        &table_fields(Mac([0; 6]), &Figures::NONE, &Lost::none(0)),
+    )
 }
 
 /// Prints the line of a source in the table of sources.
@@ -194,8 +281,8 @@ pub(crate) fn print_table_row<W: Write>(
     writer: &mut W,
     mac: Mac,
     source: &Source,
-    spans: &Spans,
+    lost: &Lost,
 ) -> Result<(), ScriptFault> {
-    let fields = table_fields(mac, &source.figures(), source.sided(spans));
+    let fields = table_fields(mac, &source.figures(), lost);
     print_row(writer, Format::Csv, "source", &fields)
 }

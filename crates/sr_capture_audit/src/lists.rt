@@ -1,9 +1,10 @@
 //! Lists of single frames and copies.
 
+use crate::fates::Fates;
 use crate::kind::{Kind, kind_of};
 use crate::network::{Ports, Subject, letter_of};
 use crate::rows::{Field, Format, Value, bare, count, named, print_names, print_row};
-use sr_audit::{Arrival, Copied, Listed, Listing, Side, Spans};
+use sr_audit::{Arrival, Copied, Listed, Side, Spans};
 use sr_capture::Packet;
 use sr_capture_script::{Captures, Choice, Pass, Place, ScriptFault, pass_over};
 use sr_frame::Mac;
@@ -136,7 +137,7 @@ fn print_list_names<W: Write>(writer: &mut W, style: Style) -> Result<(), Script
 struct Listings<'a, W> {
     subject: Subject,
     style: Style,
-    listing: Listing,
+    fates: Fates,
     decided: Vec<Listed>,
     writer: &'a mut W,
 }
@@ -159,7 +160,7 @@ impl<W: Write> Listings<'_, W> {
 
     /// Prints what is decided at the end of a source's arrivals.
     fn finish(&mut self, src: Mac) -> Result<(), ScriptFault> {
-        self.listing.finish(src, &mut self.decided)?;
+        self.fates.finish(src, &mut self.decided)?;
         self.print()
     }
 }
@@ -189,7 +190,7 @@ impl<W: Write> Pass for Listings<'_, W> {
             let fields = copy_fields(self.style, numbered.side, copy);
             print_row(self.writer, self.style.format, "wrong_lan", &fields)?;
         }
-        self.listing.note(copy, &mut self.decided)?;
+        self.fates.note(copy, numbered.to_group, &mut self.decided)?;
         self.print()
     }
 }
@@ -221,12 +222,12 @@ pub fn print_lists<R: BufRead + Drop, W: Write>(
     let mut listings = Listings {
         subject,
         style,
-        listing: Listing::new(alloc, keys, spans, first),
+        fates: Fates::new(alloc, keys, spans, subject.network, first),
         decided: Vec::new(alloc),
         writer,
     };
     pass_over(captures, choice, &mut listings)?;
-    let addresses = listings.listing.addresses()?;
+    let addresses = listings.fates.addresses()?;
     for at in 0..addresses.len() {
         listings.finish(addresses[at])?;
     }

@@ -2,9 +2,10 @@
 
 use crate::columns::{Chart, Times};
 use crate::drawing::{draw_chart, draw_foot, draw_head};
+use crate::fates::Fates;
 use crate::kind::{Kind, kind_of};
 use crate::network::Subject;
-use sr_audit::{Arrival, Copied, Listed, Listing, Span, Spans};
+use sr_audit::{Arrival, Copied, Listed, Span, Spans};
 use sr_capture::Packet;
 use sr_capture_script::{Captures, Choice, Pass, Place, ScriptFault, pass_over};
 use sr_frame::Mac;
@@ -45,7 +46,7 @@ struct Picture {
     subject: Subject,
     times: Times,
     alloc: Global,
-    listing: Listing,
+    fates: Fates,
     decided: Vec<Listed>,
     charts: Vec<Chart>,
 }
@@ -96,9 +97,9 @@ impl Picture {
 
     /// Takes what is decided at the end of all arrivals, and answers how many sources there are.
     fn finish(&mut self) -> Result<usize, ScriptFault> {
-        let addresses = self.listing.addresses()?;
+        let addresses = self.fates.addresses()?;
         for at in 0..addresses.len() {
-            self.listing.finish(addresses[at], &mut self.decided)?;
+            self.fates.finish(addresses[at], &mut self.decided)?;
             self.settle();
         }
         Ok(addresses.len())
@@ -136,7 +137,7 @@ impl Pass for Picture {
             packet: place.number,
         };
         self.make_chart(numbered.src)?;
-        self.listing.note(copy, &mut self.decided)?;
+        self.fates.note(copy, numbered.to_group, &mut self.decided)?;
         self.settle();
         Ok(())
     }
@@ -156,11 +157,28 @@ pub fn print_picture<R: BufRead + Drop, W: Write>(
     spans: Spans,
     writer: &mut W,
 ) -> Result<(), ScriptFault> {
+    print_picture_recorded(alloc, keys, captures, choice, subject, spans, spans, writer)
+}
+
+/// Draws captures of the first spans, of which the parts are judged that the second ones are.
+///
+/// # Errors
+/// The fault of a file, `Write`, `NoMemory` or `Endless`.
+pub fn print_picture_recorded<R: BufRead + Drop, W: Write>(
+    alloc: Global,
+    keys: Keys,
+    captures: &mut Captures<R>,
+    choice: &Choice,
+    subject: Subject,
+    recorded: Spans,
+    judged: Spans,
+    writer: &mut W,
+) -> Result<(), ScriptFault> {
     let mut picture = Picture {
         subject,
-        times: times_of(spans),
+        times: times_of(recorded),
         alloc,
-        listing: Listing::new(alloc, keys, spans, 0),
+        fates: Fates::new(alloc, keys, judged, subject.network, 0),
         decided: Vec::new(alloc),
         charts: Vec::new(alloc),
     };

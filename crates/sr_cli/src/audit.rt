@@ -1,13 +1,15 @@
 //! The subcommand `audit`: opens the captures for each pass, and says what is wrong with one.
 
+use crate::clocks::{Known, on_clocks, read_clocks};
 use crate::meanings::{lines_of, lists_of, network_of, subject_of};
 use crate::pipes::Pipe;
 use crate::progress::Progress;
 use crate::script::{Opened, open_file, tell_ended};
-use sr_audit::{LISTED_AT_ONCE, MAX_SOURCES, Span, Spans};
+use sr_audit::{Audit, LISTED_AT_ONCE, MAX_SOURCES, Span, Spans};
 use sr_capture_audit::{
-    Counts, Format, Judgement, Report, SideCounts, Summary, figures_of, hint_of, print_lists,
-    print_picture, spans_of,
+    Counts, Format, Judgement, Network, RedBoxes, Report, Rule, SideCounts, Summary, figures_of,
+    hint_of, inner_spans, print_clocks, print_lists, print_picture_recorded, redboxes_of, ruled_of,
+    spans_of,
 };
 use sr_capture_script::{Captures, Inlet, ScriptFault};
 use sr_options::{AuditTask, Ports};
@@ -22,11 +24,18 @@ const RUN_FAILED: u8 = 1;
 
 /// What ended an audit early.
 #[derive(Clone, Copy)]
-enum Ended {
+pub enum Ended {
     /// A capture could not be opened, of which standard error has been told.
     Unopened,
     /// This fault.
     By(ScriptFault),
+}
+
+/// When the captures begin and end, and the parts of them in which a frame is missing that has no copy there.
+#[derive(Clone, Copy)]
+struct Times {
+    recorded: Spans,
+    judged: Spans,
 }
 
 impl From<ScriptFault> for Ended {
@@ -52,6 +61,20 @@ fn open<'a, R: AllocGlobal + Eprint + Files>(
         Ok(captures) => Ok(captures),
         Err(fault) => Err(Ended::By(fault)),
     }
+}
+
+/// Opens one capture alone.
+pub fn open_alone<'a, R: AllocGlobal + Eprint + Files>(
+    rt: &'a R,
+    task: &AuditTask<'_>,
+    inlet: Inlet,
+    progress: Progress,
+) -> Result<Captures<Opened<'a, R>>, Ended> {
+    let alone = match inlet {
+        Inlet::A => AuditTask { b: None, ..*task },
+        _ => AuditTask { a: None, ..*task },
+    };
+    open(rt, &alone, progress)
 }
 
 /// Says that no packet of a capture is wanted.
@@ -239,15 +262,97 @@ fn read_figures<R: AllocGlobal + Eprint + Files>(
     )?)
 }
 
+/// The figures of the captures under a rule, by a pass of their own.
+fn read_ruled<R: AllocGlobal + Eprint + Files>(
+    rt: &R,
+    task: &AuditTask<'_>,
+    keys: Keys,
+    judged: Spans,
+    rule: Rule,
+) -> Result<Audit, Ended> {
+    let mut captures = open(rt, task, Progress::Silent)?;
+    Ok(ruled_of(
+        rt.alloc(),
+        keys,
+        &mut captures,
+        &task.options.choice,
+        subject_of(task),
+        judged,
+        rule,
+    )?)
+}
+
+/// The RedBoxes that supervision names, by a pass of its own.
+fn read_redboxes<R: AllocGlobal + Eprint + Files>(
+    rt: &R,
+    task: &AuditTask<'_>,
+    keys: Keys,
+) -> Result<RedBoxes, Ended> {
+    let mut captures = open(rt, task, Progress::Silent)?;
+    Ok(redboxes_of(
+        rt.alloc(),
+        keys,
+        &mut captures,
+        &task.options.choice,
+        subject_of(task),
+    )?)
+}
+
+/// A report in which the frames to groups of a ring tell what was lost.
+fn judged_by_groups<R: AllocGlobal + Eprint + Files>(
+    rt: &R,
+    task: &AuditTask<'_>,
+    keys: Keys,
+    judged: Spans,
+    report: Report,
+) -> Result<Report, Ended> {
+    if network_of(task.network) == Network::Prp || !report.has_lost() {
+        return Ok(report);
+    }
+    let groups = read_ruled(rt, task, keys, judged, Rule::Groups)?;
+    Ok(report.with_groups(groups))
+}
+
+/// A report in which the counters of RedBoxes tell of numbers that no frame had, where supervision names some.
+fn judged_by_counters<R: AllocGlobal + Eprint + Files>(
+    rt: &R,
+    task: &AuditTask<'_>,
+    keys: Keys,
+    judged: Spans,
+    report: Report,
+) -> Result<Report, Ended> {
+    if !report.has_missing() {
+        return Ok(report);
+    }
+    let redboxes = read_redboxes(rt, task, keys)?;
+    let are_two = judged.a.is_some() && judged.b.is_some();
+    let rule = match network_of(task.network) {
+        Network::Hsr if are_two => Rule::InnerCounters(redboxes),
+        _ if redboxes.is_empty() => return Ok(report),
+        _ => Rule::Counters(redboxes),
+    };
+    let counters = read_ruled(rt, task, keys, judged, rule)?;
+    Ok(report.with_counters(counters))
+}
+
+/// Writes what is known of the clocks, unless a table or a picture is wanted in its place.
+fn write_clocks<W: Write>(task: &AuditTask<'_>, known: Known, writer: &mut W) -> Result<(), Ended> {
+    if let (Known::Ahead(line, ahead, pairs), Some(format)) = (known, lines_of(task)) {
+        print_clocks(writer, format, line, ahead, pairs)?;
+    }
+    Ok(())
+}
+
 /// Writes the figures, unless a table or a picture is wanted in their place, and lets them go, so that lists find room.
 fn write_figures<W: Write>(
     task: &AuditTask<'_>,
+    times: Times,
     report: Report,
     writer: &mut W,
 ) -> Result<(), Ended> {
     match lines_of(task) {
         Some(Format::Csv) if lists_of(task).is_some() => {}
-        Some(format) => report.print(writer, format)?,
+        Some(format) => report.print_recorded(writer, format, &times.recorded)?,
         None => {}
     }
     Ok(())
@@ -258,17 +363,18 @@ fn draw<R: AllocGlobal + Eprint + Files, W: Write>(
     rt: &R,
     task: &AuditTask<'_>,
     keys: Keys,
-    spans: Spans,
+    times: Times,
     writer: &mut W,
 ) -> Result<(), Ended> {
     let mut captures = open(rt, task, Progress::Silent)?;
-    print_picture(
+    print_picture_recorded(
         rt.alloc(),
         keys,
         &mut captures,
         &task.options.choice,
         subject_of(task),
-        spans,
+        times.recorded,
+        times.judged,
         writer,
     )?;
     Ok(())
@@ -279,14 +385,22 @@ fn write_rest<R: AllocGlobal + Eprint + Files, W: Write>(
     rt: &R,
     task: &AuditTask<'_>,
     keys: Keys,
-    spans: Spans,
+    times: Times,
     summary: &Summary,
     writer: &mut W,
 ) -> Result<(), Ended> {
     let Some(format) = lines_of(task) else {
-        return draw(rt, task, keys, spans, writer);
+        return draw(rt, task, keys, times, writer);
     };
-    print_all_lists(rt, task, keys, spans, summary.sources, format, writer)?;
+    print_all_lists(
+        rt,
+        task,
+        keys,
+        times.judged,
+        summary.sources,
+        format,
+        writer,
+    )?;
     summary.print_end(writer, format)?;
     Ok(())
 }
@@ -296,13 +410,15 @@ fn write_all<R: AllocGlobal + Eprint + Files, W: Write>(
     rt: &R,
     task: &AuditTask<'_>,
     keys: Keys,
-    spans: Spans,
+    known: Known,
+    times: Times,
     report: Report,
     summary: &Summary,
     writer: &mut W,
 ) -> Result<(), Ended> {
-    write_figures(task, report, writer)?;
-    write_rest(rt, task, keys, spans, summary, writer)?;
+    write_clocks(task, known, writer)?;
+    write_figures(task, times, report, writer)?;
+    write_rest(rt, task, keys, times, summary, writer)?;
     match writer.flush() {
         Ok(()) => Ok(()),
         Err(_) => Err(Ended::By(ScriptFault::Write)),
@@ -317,16 +433,75 @@ fn tell<R: Eprint>(rt: &R, ended: Ended, is_closed: bool) -> u8 {
     RUN_FAILED
 }
 
+/// How wide the edges of captures are by their figures, which are let go, so that others find room.
+fn edge_width_of(report: Report) -> u64 {
+    report.edge_width()
+}
+
+/// The parts of captures that are judged, and the figures of these. Where one side alone has a frame, they are made anew without the edges:
+/// the other recorder may have begun between its copies, or ended there.
+fn read_inner<R: AllocGlobal + Eprint + Files>(
+    rt: &R,
+    task: &AuditTask<'_>,
+    keys: Keys,
+    recorded: Spans,
+) -> Result<(Spans, Report), Ended> {
+    let report = read_figures(rt, task, keys, recorded)?;
+    if !report.has_lost() {
+        return Ok((recorded, report));
+    }
+    let judged = inner_spans(edge_width_of(report), recorded);
+    let report = read_figures(rt, task, keys, judged)?;
+    Ok((judged, report))
+}
+
 /// What is known of the captures before anything is written: when they begin and end, and their figures.
 fn read_all<R: AllocGlobal + Eprint + Files>(
     rt: &R,
     task: &AuditTask<'_>,
     keys: Keys,
     progress: Progress,
-) -> Result<(Spans, Report), Ended> {
-    let spans = read_spans(rt, task, progress)?;
-    let report = read_figures(rt, task, keys, spans)?;
-    Ok((spans, report))
+) -> Result<(Times, Report), Ended> {
+    let recorded = read_spans(rt, task, progress)?;
+    let (judged, report) = read_inner(rt, task, keys, recorded)?;
+    let report = judged_by_groups(rt, task, keys, judged, report)?;
+    let report = judged_by_counters(rt, task, keys, judged, report)?;
+    Ok((Times { recorded, judged }, report))
+}
+
+/// Audits the captures on the clocks that are known.
+fn run_on_clocks<R: AllocGlobal + Print + Eprint + Files>(
+    rt: &R,
+    task: &AuditTask<'_>,
+    keys: Keys,
+    known: Known,
+    progress: Progress,
+) -> Result<(), u8> {
+    let (times, report) = match read_all(rt, task, keys, progress) {
+        Ok(read) => read,
+        Err(ended) => return Err(tell(rt, ended, false)),
+    };
+    let Ok(mut writer) = BufWriter::new(rt.alloc(), Pipe::new(io::writer(rt))) else {
+        return Err(tell(rt, Ended::By(ScriptFault::NoMemory), false));
+    };
+    let summary = report.summary();
+    if let Err(ended) = write_all(rt, task, keys, known, times, report, &summary, &mut writer) {
+        return Err(tell(rt, ended, writer.get_ref().is_closed()));
+    }
+    tell_odd(rt, task, &times.recorded, &summary);
+    if task.is_check {
+        check(rt, judgement_on(known, summary.judgement))
+    } else {
+        Ok(())
+    }
+}
+
+/// What is judged, where clocks that can't be told leave nothing to judge.
+fn judgement_on(known: Known, judgement: Judgement) -> Judgement {
+    match known {
+        Known::Unjudged(unjudged) => unjudged,
+        Known::Nothing | Known::Ahead(_, _, _) => judgement,
+    }
 }
 
 /// Writes the figures of the captures to standard output. A fault is told on standard error, and so is what looks wrong. An error is the
@@ -340,23 +515,11 @@ pub fn run_audit<R: AllocGlobal + Print + Eprint + Files + RandomSource>(
         let _ = eprintln!(rt; "fault read");
         return Err(RUN_FAILED);
     };
-    let (spans, report) = match read_all(rt, task, keys, progress) {
+    let known = match read_clocks(rt, task, progress) {
         Ok(known) => known,
         Err(ended) => return Err(tell(rt, ended, false)),
     };
-    let Ok(mut writer) = BufWriter::new(rt.alloc(), Pipe::new(io::writer(rt))) else {
-        return Err(tell(rt, Ended::By(ScriptFault::NoMemory), false));
-    };
-    let summary = report.summary();
-    if let Err(ended) = write_all(rt, task, keys, spans, report, &summary, &mut writer) {
-        return Err(tell(rt, ended, writer.get_ref().is_closed()));
-    }
-    tell_odd(rt, task, &spans, &summary);
-    if task.is_check {
-        check(rt, summary.judgement)
-    } else {
-        Ok(())
-    }
+    run_on_clocks(rt, &on_clocks(task, known), keys, known, progress)
 }
 
 /// Says why nothing can be judged, where that is so. An error is the exit status of a check that does not pass.

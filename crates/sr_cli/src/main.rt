@@ -2,6 +2,7 @@
 #![tactic(auto)]
 
 mod audit;
+mod clocks;
 mod meanings;
 mod merge;
 mod pipes;

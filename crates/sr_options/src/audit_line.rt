@@ -23,6 +23,17 @@ pub enum Ports {
     Mirror,
 }
 
+/// How the clocks of the recorders are put right.
+#[derive(Clone, Copy, Debug, PartialEq, Eq)]
+pub enum Shift {
+    /// Nobody said: by the frames that both saw, where these are clear.
+    Unasked,
+    /// By the frames that both saw.
+    Auto,
+    /// By shifts that were given, or not at all.
+    Given,
+}
+
 /// How an audit is printed.
 #[derive(Clone, Copy, Debug, PartialEq, Eq)]
 pub enum Format {
@@ -76,6 +87,8 @@ pub struct AuditTask<'a> {
     pub network: Network,
     /// Where the captures were made.
     pub ports: Ports,
+    /// How clocks are put right.
+    pub shift: Shift,
     /// Which lists are printed.
     pub lists: Lists,
     /// How it is printed.
@@ -103,6 +116,9 @@ pub(crate) fn audit_command<'a>(
     let mirror = "The capture of a mirror port, which sees both LANs";
     let command = with_option(alloc, command, "mirror", "FILE[:N]", mirror);
     let command = with_reading(alloc, command, words);
+    let shift = "How clocks are put right: auto, by the frames that both recorders saw, or none";
+    let shift = option(alloc, "shift", "HOW", shift).value_parser(["auto", "none"].as_slice());
+    let command = with_arg(command, shift);
     let list = "Lists single frames: lost, wrong, pairs, or several, joined by commas";
     let command = with_option(alloc, command, "list", "LISTS", list);
     let format = option(alloc, "format", "FORMAT", "How it is printed")
@@ -160,6 +176,16 @@ fn format_of(matches: &ArgMatches<'_>) -> Format {
         Some("csv") => Format::Csv,
         Some("svg") => Format::Svg,
         _ => Format::Text,
+    }
+}
+
+/// How the clocks of the recorders are put right. Shifts that are given stand, unless more is asked for.
+fn shift_in(matches: &ArgMatches<'_>) -> Shift {
+    match matches.get_str("shift") {
+        Some("auto") => Shift::Auto,
+        Some(_) => Shift::Given,
+        None if matches.contains_id("shift-a") || matches.contains_id("shift-b") => Shift::Given,
+        None => Shift::Unasked,
     }
 }
 
@@ -226,6 +252,7 @@ pub(crate) fn audit_task<'a>(matches: &ArgMatches<'a>) -> Result<AuditTask<'a>, 
         options,
         network: network_of(matches),
         ports,
+        shift: shift_in(matches),
         lists,
         format,
         is_check: matches.get_flag("check"),

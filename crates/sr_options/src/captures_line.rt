@@ -2,10 +2,13 @@
 
 use crate::command_line::with_arg;
 use crate::fault::OptionFault;
-use crate::script_line::{check_len_of, choice_of, option, shift_a_of, shift_b_of, with_option};
+use crate::script_line::{
+    check_len_of, choice_of, option, shift_a_of, shift_b_of, with_option, with_shift,
+};
+use crate::shifts::delays_in;
 use crate::words::Words;
 use clap::{ArgMatches, Command};
-use sr_capture_script::{Interfaces, Options, delays_of};
+use sr_capture_script::{Interfaces, Options};
 use std::alloc::{AllocError, Global};
 
 /// How frames of a network have their numbers.
@@ -27,10 +30,10 @@ pub(crate) fn with_reading<'a>(
         .default_value("prp")
         .value_parser(words.networks.as_slice());
     let command = with_arg(command, network);
-    let shift = "Milliseconds that are added to the times of A";
-    let command = with_option(alloc, command, "shift-a", "MS", shift);
-    let shift = "Milliseconds that are added to the times of B";
-    let command = with_option(alloc, command, "shift-b", "MS", shift);
+    let shift = "What is added to the times of A: milliseconds, or 0.3ms, 300us, 5s";
+    let command = with_shift(alloc, command, "shift-a", shift);
+    let shift = "What is added to the times of B: milliseconds, or 0.3ms, 300us, 5s";
+    let command = with_shift(alloc, command, "shift-b", shift);
     let fcs = "The octets of check sequence, where a file does not tell";
     let fcs = option(alloc, "fcs", "4", fcs).value_parser(["4"].as_slice());
     let command = with_arg(command, fcs);
@@ -55,7 +58,7 @@ pub(crate) fn options_of(
 ) -> Result<Options, OptionFault> {
     let shift_a = shift_a_of(matches)?;
     let shift_b = shift_b_of(matches)?;
-    let delays = delays_of(shift_a, shift_b, 0).ok_or(OptionFault::Shifts)?;
+    let delays = delays_in(shift_a, shift_b, 0).ok_or(OptionFault::Shifts)?;
     Ok(Options {
         choice: choice_of(matches)?,
         check_len: check_len_of(matches),

@@ -3,7 +3,7 @@
 /// What is wrong with the value of an option, or with options that stand together.
 #[derive(Clone, Copy, Debug, PartialEq, Eq)]
 pub enum OptionFault {
-    /// `--shift-a` is no whole number of milliseconds.
+    /// `--shift-a` is no number of milliseconds, nor of its unit.
     ShiftA,
     /// `--shift-b` is none.
     ShiftB,
@@ -58,7 +58,7 @@ impl OptionFault {
     pub(crate) fn wanted(self) -> &'static str {
         match self {
             OptionFault::ShiftA | OptionFault::ShiftB | OptionFault::ShiftC =>
-                "a shift is a whole number of milliseconds, as 500 or -500",
+                "a shift is a number of milliseconds, or has a unit of s, ms, us or ns behind it, as 500, -0.3ms or 300us",
             OptionFault::Shifts => "the shifts are more than 146 years apart",
             OptionFault::From | OptionFault::To =>
                 "--from and --to take whole milliseconds from the earliest packet on",

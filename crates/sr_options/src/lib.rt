@@ -15,10 +15,11 @@ mod node_options;
 mod plant_line;
 mod refusal;
 mod script_line;
+mod shifts;
 mod task;
 mod words;
 
-pub use audit_line::{AuditTask, Format, Lists, Ports};
+pub use audit_line::{AuditTask, Format, Lists, Ports, Shift};
 pub use captures_line::Network;
 pub use command_line::task_of;
 pub use counts::{BoxedNodes, LanNodes, Nodes};

@@ -87,12 +87,7 @@ pub(crate) fn merge_command<'a>(
 
 /// What is shifted back: how much less than nothing the least shift is, in nanoseconds.
 fn early_of(shift_a: i64, shift_b: i64) -> u64 {
-    shift_a
-        .min(shift_b)
-        .saturating_neg()
-        .max(0)
-        .unsigned_abs()
-        .saturating_mul(1_000_000)
+    shift_a.min(shift_b).saturating_neg().max(0).unsigned_abs()
 }
 
 /// How frames are written, by the options that the parser let through.

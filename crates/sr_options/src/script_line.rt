@@ -6,8 +6,9 @@ ghost use Rattle.sr_options.specs.Tasks.{ScriptKeepsRules};
 use crate::command_line::{with_arg, with_captures};
 use crate::examples;
 use crate::fault::OptionFault;
+use crate::shifts::{delays_in, nanoseconds_of};
 use clap::{Arg, ArgMatches, Command};
-use sr_capture_script::{Choice, Delays, Interfaces, Options, delays_of};
+use sr_capture_script::{Choice, Delays, Interfaces, Options};
 use sr_pcapng::Wanted;
 use std::alloc::{AllocError, Global};
 
@@ -46,6 +47,19 @@ pub(crate) fn with_option<'a>(
     with_arg(command, option(alloc, name, value, help))
 }
 
+/// A command with the shift of a file more, if it was made. One that is negative may have a unit.
+pub(crate) fn with_shift<'a>(
+    alloc: Global,
+    command: Result<Command<'a>, AllocError>,
+    name: &'a str,
+    help: &'a str,
+) -> Result<Command<'a>, AllocError> {
+    with_arg(
+        command,
+        option(alloc, name, "TIME", help).allow_hyphen_values(true),
+    )
+}
+
 /// What the parser knows of the subcommand.
 pub(crate) fn script_command<'a>(alloc: Global) -> Result<Command<'a>, AllocError> {
     let about = "Prints a script of the packets of up to three captures";
@@ -64,12 +78,12 @@ pub(crate) fn script_command<'a>(alloc: Global) -> Result<Command<'a>, AllocErro
         "FILE[:N]",
         "The capture of the interlink",
     );
-    let shift = "Milliseconds that are added to the times of A";
-    let command = with_option(alloc, command, "shift-a", "MS", shift);
-    let shift = "Milliseconds that are added to the times of B";
-    let command = with_option(alloc, command, "shift-b", "MS", shift);
-    let shift = "Milliseconds that are added to the times of C";
-    let command = with_option(alloc, command, "shift-c", "MS", shift);
+    let shift = "What is added to the times of A: milliseconds, or 0.3ms, 300us, 5s";
+    let command = with_shift(alloc, command, "shift-a", shift);
+    let shift = "What is added to the times of B: milliseconds, or 0.3ms, 300us, 5s";
+    let command = with_shift(alloc, command, "shift-b", shift);
+    let shift = "What is added to the times of C: milliseconds, or 0.3ms, 300us, 5s";
+    let command = with_shift(alloc, command, "shift-c", shift);
     let fcs = "The octets of check sequence, where a file does not tell";
     let fcs = option(alloc, "fcs", "4", fcs).value_parser(["4"].as_slice());
     let command = with_arg(command, fcs);
@@ -142,15 +156,15 @@ pub(crate) fn time_of(
     }
 }
 
-/// The shift of a file, 0 where there is none; else this fault.
+/// The shift of a file in nanoseconds, 0 where there is none; else this fault.
 fn shift_of(
     matches: &ArgMatches<'_>,
     name: &'static str,
     fault: OptionFault,
 ) -> Result<i64, OptionFault> {
-    match matches.try_get_one::<i64>(name) {
-        Ok(shift) => Ok(shift.unwrap_or(0)),
-        Err(_) => Err(fault),
+    match matches.get_str(name) {
+        Some(word) => nanoseconds_of(word).ok_or(fault),
+        None => Ok(0),
     }
 }
 
@@ -179,7 +193,7 @@ fn script_delays_of(matches: &ArgMatches<'_>) -> Result<Delays, OptionFault> {
     let shift_a = shift_a_of(matches)?;
     let shift_b = shift_b_of(matches)?;
     let shift_c = shift_of(matches, "shift-c", OptionFault::ShiftC)?;
-    delays_of(shift_a, shift_b, shift_c).ok_or(OptionFault::Shifts)
+    delays_in(shift_a, shift_b, shift_c).ok_or(OptionFault::Shifts)
 }
 
 /// Which times are wanted, without ticks.

@@ -1,0 +1,150 @@
+//! Audits of some frames, or of frames by other sources.
+
+ghost use Rattle.std.specs.Prelude.{◌≡◌, ◌||◌, [], List, ℕ, Option, OnOk, IfOk, IfErr};
+ghost use Rattle.sr_audit.specs.declared.side.Side.TheVariants.{A, B};
+ghost use Rattle.sr_audit.specs.Edges.{is_beyond};
+ghost use Rattle.sr_capture_script.specs.declared.choice.Inlet.TheVariants.{A as AtA, B as AtB, C as AtC};
+ghost use Rattle.sr_capture_script.specs.Merging.{feed_of};
+ghost use Rattle.sr_capture_script.specs.Passing.{EndsFor};
+ghost use Rattle.sr_capture_script.specs.SourceViews.{IsFed};
+ghost use Rattle.sr_capture_audit.specs.Ruling.{TakesRuled, IsRuledAuditOf};
+
+use crate::kind::{Kind, Numbered, kind_of};
+use crate::network::Subject;
+use crate::redboxes::RedBoxes;
+use sr_audit::{Arrival, Audit, Side, Spans};
+use sr_capture::Packet;
+use sr_capture_script::{Captures, Choice, Pass, Place, ScriptFault, pass_over};
+use sr_frame::Mac;
+use sr_slots::Keys;
+use std::alloc::Global;
+use std::io::BufRead;
+
+/// Whether a time is before the beginning of a capture, or behind its end.
+fn is_outer(spans: &Spans, time: u64) -> bool
+    ensures { result ≡ (is_beyond spans.now A time || is_beyond spans.now B time) }
+{
+    spans.is_beyond(Side::A, time) || spans.is_beyond(Side::B, time)
+}
+
+/// Which frames are audited, and of which source each is.
+#[derive(Drop)]
+pub enum Rule {
+    /// Frames to groups, of their sources. These alone tell of a ring what was lost: one to a single address goes past a node on one of its
+    /// two ways.
+    Groups,
+    /// All frames, each of the source whose counter numbered it.
+    Counters(RedBoxes),
+    /// Frames that came while both captures ran, each of the source whose counter numbered it: in a ring one to a single address goes past
+    /// on one way, whose recorder may not have run.
+    InnerCounters(RedBoxes),
+}
+
+impl Rule {
+    ghost use Rattle.std.specs.Prelude.{◌≡◌};
+    ghost use Rattle.sr_capture_audit.specs.Ruling.{source_under};
+
+    /// The source of a frame. None: it is not audited.
+    fn source_of(&self, spans: &Spans, numbered: Numbered, time: u64) -> Option<Mac>
+        ensures { result ≡ source_under self.now spans.now numbered time }
+    {
+        match self {
+            Rule::Groups if numbered.to_group => Some(numbered.src),
+            Rule::Groups => None,
+            Rule::Counters(redboxes) => Some(redboxes.counter_of(numbered.src)),
+            Rule::InnerCounters(_) if is_outer(spans, time) => None,
+            Rule::InnerCounters(redboxes) => Some(redboxes.counter_of(numbered.src)),
+        }
+    }
+}
+
+/// The figures so far.
+#[derive(Drop)]
+struct Ruling {
+    subject: Subject,
+    rule: Rule,
+    spans: Spans,
+    audit: Audit,
+}
+
+/// Has an audit take a packet, if it is a frame with a number that is audited.
+fn note_ruled(
+    audit: &mut Audit,
+    rule: &Rule,
+    spans: &Spans,
+    kind: Kind,
+    time: u64,
+) -> Result<(), ScriptFault>
+    ensures taken { OnOk result (TakesRuled rule.now spans.now kind time audit.old audit.new) }
+    ensures refused { IfErr result (λ fault. fault ≡ ScriptFault.NoMemory) }
+{
+    let Kind::Numbered(numbered) = kind else {
+        return Ok(());
+    };
+    let Some(src) = rule.source_of(spans, numbered, time) else {
+        return Ok(());
+    };
+    let arrival = Arrival {
+        side: numbered.side,
+        seq: numbered.seq,
+        time,
+    };
+    audit.note(src, arrival)?;
+    Ok(())
+}
+
+impl Pass for Ruling {
+    ghost use Rattle.std.specs.Prelude.{◌≡◌};
+    ghost use Rattle.sr_capture_script.specs.declared.fault.ScriptFault.TheVariants.{NoMemory as OutOfMemory};
+    ghost use Rattle.sr_capture_audit.specs.Ruling.{RulesMore};
+
+    ghost takes = { λ old x new. RulesMore x old new };
+
+    ghost refuses = { λ fault. fault ≡ OutOfMemory };
+
+    fn take(&mut self, place: Place, packet: &Packet) -> Result<(), ScriptFault> {
+        let Some(tap) = self.subject.tap_at(place.inlet) else {
+            return Ok(());
+        };
+        let kind = kind_of(self.subject.network, tap, packet);
+        note_ruled(&mut self.audit, &self.rule, &self.spans, kind, place.time)
+    }
+}
+
+/// The figures under a rule, of captures whose spans are known.
+///
+/// # Errors
+/// The fault of a file, `NoMemory` or `Endless`.
+pub fn ruled_of<R: BufRead + Drop>(
+    alloc: Global,
+    keys: Keys,
+    captures: &mut Captures<R>,
+    choice: &Choice,
+    subject: Subject,
+    spans: Spans,
+    rule: Rule,
+) -> Result<Audit, ScriptFault>
+    ensures audits { IfOk result (λ audit. (start_a start_b start_c : Option (List ℕ))
+        → IsFed R.remaining AtA start_a captures.old.a []
+        → IsFed R.remaining AtB start_b captures.old.b []
+        → IsFed R.remaining AtC start_c captures.old.c []
+        → IsRuledAuditOf rule choice.now subject spans (feed_of captures.old.a start_a)
+        (feed_of captures.old.b start_b) (feed_of captures.old.c start_c) audit) }
+
+    // What ends it early is a fault of a file, behind all of its packets that came, more packets than are counted, or memory.
+    ensures ends { IfErr result (λ fault. (start_a start_b start_c : Option (List ℕ))
+        → IsFed R.remaining AtA start_a captures.old.a []
+        → IsFed R.remaining AtB start_b captures.old.b []
+        → IsFed R.remaining AtC start_c captures.old.c []
+        → EndsFor (λ own. own ≡ ScriptFault.NoMemory) (feed_of captures.old.a start_a)
+        (feed_of captures.old.b start_b) (feed_of captures.old.c start_c) fault) }
+{
+    let mut ruling = Ruling {
+        subject,
+        rule,
+        spans,
+        audit: Audit::new(alloc, keys, spans),
+    };
+    pass_over(captures, choice, &mut ruling)?;
+    Ok(ruling.audit)
+}

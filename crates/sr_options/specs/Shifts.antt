@@ -1,0 +1,22 @@
+-- Shifts of times in nanoseconds, and the delays that stand for them.
+use Rattle.std.specs.Prelude.{◌≡◌, ℕ, ◌^◌, ℤ, pos, ◌-ℤ◌, ◌<ℤ◌, ◌⊎◌}
+use Rattle.sr_capture_script.specs.declared.choice.Delays.{Delays}
+use Rattle.sr_capture_script.specs.Shifts.{least_of}
+
+-- a delay is as long as a shift is above the least
+abbrev pub IsPutOffBy : ℤ → ℤ → ℕ → Type 0
+IsPutOffBy least shift delay = pos delay ≡ shift -ℤ least
+
+-- a shift is more than 2^62 nanoseconds above the least
+abbrev pub IsShiftedTooFar : ℤ → ℤ → Type 0
+IsShiftedTooFar least shift = pos (2 ^ 62) <ℤ (shift -ℤ least)
+
+-- each delay stands for its shift
+pub record ArePutOffBy (a b c : ℤ) (delays : Delays) : Type 0 where
+  pub of_a : IsPutOffBy (least_of a b c) a delays.a
+  pub of_b : IsPutOffBy (least_of a b c) b delays.b
+  pub of_c : IsPutOffBy (least_of a b c) c delays.c
+
+-- a shift is too far above the least
+abbrev pub AreShiftedTooFar : ℤ → ℤ → ℤ → Type 0
+AreShiftedTooFar a b c = IsShiftedTooFar (least_of a b c) a ⊎ (IsShiftedTooFar (least_of a b c) b ⊎ IsShiftedTooFar (least_of a b c) c)
