@@ -174,7 +174,7 @@ impl Audit {
     /// Takes the next arrival of a source.
     ///
     /// # Errors
-    /// `NoMemory` where a growth was refused: no arrival was taken.
+    /// `NoMemory` where an allocation failed: no arrival was taken.
     pub fn note(&mut self, src: Mac, x: Arrival) -> Result<(), NoMemory>
         ensures taken { OnOk result ((xs : List Sent) → length xs + 1 < 2 ^ 64
             → Audits self.old.spans xs self.old.sources.entries
@@ -211,7 +211,7 @@ impl Audit {
     /// Takes a supervision frame for an address. One for an address beyond the 1024th is passed over.
     ///
     /// # Errors
-    /// `NoMemory` where a growth was refused: no supervision frame was taken.
+    /// `NoMemory` where an allocation failed: no supervision frame was taken.
     pub fn hear(&mut self, mac: Mac, kind: u8, side: Side, time: u64) -> Result<(), NoMemory>
         ensures audits { (spans : Spans) (xs : List Sent)
             → Audits spans xs self.old.sources.entries

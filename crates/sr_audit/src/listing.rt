@@ -143,7 +143,7 @@ impl Listing {
     /// Takes the next arrival, and appends what is decided by it. A source that is not listed is passed over.
     ///
     /// # Errors
-    /// `NoMemory` where a growth was refused.
+    /// `NoMemory` where an allocation failed.
     pub fn note(&mut self, x: Copied, list: &mut Vec<Listed>) -> Result<(), NoMemory>
         ensures lists { OnOk result ((xs : List Copied) → length xs + 1 < 2 ^ 64
             → KeepsSources self.old.first xs self.old.sources.entries
@@ -173,7 +173,7 @@ impl Listing {
     /// The sources in the order of first hearing.
     ///
     /// # Errors
-    /// `NoMemory` where the growth was refused.
+    /// `NoMemory` where the allocation failed.
     pub fn addresses(&self) -> Result<Vec<Mac>, NoMemory>
         ensures { IfOk result (λ addresses.
             addresses.items ≡ keys_of self.now.sources.entries) }
@@ -218,7 +218,7 @@ impl Listing {
     /// Appends what is decided at the end of a source's arrivals.
     ///
     /// # Errors
-    /// `NoMemory` where a growth was refused.
+    /// `NoMemory` where an allocation failed.
     pub fn finish(&mut self, src: Mac, list: &mut Vec<Listed>) -> Result<(), NoMemory>
         ensures listed { OnOk result ((xs : List Copied)
             → KeepsSources self.old.first xs self.old.sources.entries

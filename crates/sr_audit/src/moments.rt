@@ -29,7 +29,7 @@ impl Moments {
     /// No copy came.
     ///
     /// # Errors
-    /// `NoMemory` where a growth was refused.
+    /// `NoMemory` where an allocation failed.
     pub fn new(alloc: Global) -> Result<Moments, NoMemory> {
         let mut times = Vec::new(alloc);
         times.resize(usize::from(KEPT_NUMBERS), 0)?;

@@ -131,7 +131,7 @@ impl Source {
     /// A source of which nothing came.
     ///
     /// # Errors
-    /// `NoMemory` where a growth was refused.
+    /// `NoMemory` where an allocation failed.
     pub(crate) fn new(alloc: Global) -> Result<Source, NoMemory>
         ensures taken { IfOk result (λ source. (spans : Spans) → HasTaken spans [] source) }
         ensures heard { IfOk result (HasHeard []) }

@@ -90,7 +90,7 @@ impl Chart {
     /// A source of which nothing is known.
     ///
     /// # Errors
-    /// `NoMemory` where a growth was refused.
+    /// `NoMemory` where an allocation failed.
     pub fn new(alloc: Global, src: Mac) -> Result<Chart, ScriptFault> {
         let columns = columns_of(alloc, COLUMNS)?;
         Ok(Chart {

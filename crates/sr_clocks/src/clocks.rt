@@ -26,7 +26,7 @@ pub enum Clocks {
 /// or less than three frames lie in one of the thirds.
 ///
 /// # Errors
-/// `NoMemory` where a growth was refused.
+/// `NoMemory` where an allocation failed.
 pub fn clocks_of(alloc: Global, pairs: &[Pair]) -> Result<Clocks, NoMemory>
     ensures { IfOk result (λ clocks. AreClocks pairs.now clocks) }
 {

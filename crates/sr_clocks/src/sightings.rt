@@ -93,7 +93,7 @@ impl Sightings {
     /// No frame was seen.
     ///
     /// # Errors
-    /// `NoMemory` where a growth was refused.
+    /// `NoMemory` where an allocation failed.
     pub fn new(alloc: Global) -> Result<Sightings, NoMemory>
         ensures { IfOk result (λ s. Keeps [] s) }
     {
@@ -133,7 +133,7 @@ impl Sightings {
 /// The frames that both recorders saw once, and that their bins keep.
 ///
 /// # Errors
-/// `NoMemory` where a growth was refused.
+/// `NoMemory` where an allocation failed.
 #[tactic(auto, using(crate::proofs::PairLemmas::pairs_one_more))]
 pub fn pairs_of(alloc: Global, first: &Sightings, second: &Sightings) -> Result<Vec<Pair>, NoMemory>
     ensures { IfOk result (λ pairs. (xs ys : List Sighting) → Keeps xs first.now

@@ -1,4 +1,4 @@
-//! The calls of a node that the steps make. Where a growth is refused, nothing may have changed, and the call is made again.
+//! The calls of a node that the steps make. Where an allocation fails, nothing may have changed, and the call is made again.
 //!
 //! What costs is an owned value that is alive over branches: so each function here has one at most, and answers a plain
 //! value. Whatever may want memory twice is a function that answers None for want of it, and its caller asks again.
@@ -13,7 +13,7 @@ use std::alloc::Global;
 
 const NO_MEMORY: Outcome = Outcome::Refused(StepFault::NoMemory);
 
-// Whether a node is as it was. None for want of memory.
+// Whether a node is as it was. None where an allocation failed.
 fn is_still(node: &Node, before: &NodeImage) -> Option<bool> {
     match node.image() {
         Ok(image) => Some(image == *before),
@@ -21,7 +21,7 @@ fn is_still(node: &Node, before: &NodeImage) -> Option<bool> {
     }
 }
 
-/// Whether a node is as it was. Want of memory for its image is met by another try.
+/// Whether a node is as it was. A failed allocation for its image is met by another try.
 fn is_as(node: &Node, before: &NodeImage) -> bool {
     match is_still(node, before) {
         Some(is_same) => is_same,
@@ -43,7 +43,7 @@ fn read_from(node: &mut Node, before: &NodeImage, port: Port, octets: &[u8], now
     unchanged_or(node, before, outcome)
 }
 
-// None for want of memory for the image.
+// None where an allocation for the image failed.
 fn read_beside(node: &mut Node, port: Port, octets: &[u8], now: u64) -> Option<Outcome> {
     match node.image() {
         Ok(before) => Some(read_from(node, &before, port, octets, now)),
@@ -80,7 +80,7 @@ fn step_from(node: &mut Node, before: &NodeImage, event: &Event) -> Outcome {
     unchanged_or(node, before, outcome)
 }
 
-// None for want of memory for the image.
+// None where an allocation for the image failed.
 fn step_beside(node: &mut Node, event: &Event) -> Option<Outcome> {
     match node.image() {
         Ok(before) => Some(step_from(node, &before, event)),
@@ -136,7 +136,7 @@ fn absorb_from(node: &mut Node, before: &NodeImage, other: &Node) -> Absorbed {
     }
 }
 
-// None for want of memory for the image.
+// None where an allocation for the image failed.
 fn absorb_beside(node: &mut Node, other: &Node) -> Option<Absorbed> {
     match node.image() {
         Ok(before) => Some(absorb_from(node, &before, other)),
@@ -167,7 +167,7 @@ fn clone_happens_once(alloc: Global, node: &mut Node, event: &Event) -> Option<O
     }
 }
 
-/// A clone of the event happens. Want of memory for it is met by another try.
+/// A clone of the event happens. A failed allocation for it is met by another try.
 fn clone_happens(alloc: Global, node: &mut Node, event: &Event) -> Outcome {
     match clone_happens_once(alloc, node, event) {
         Some(outcome) => outcome,
@@ -200,7 +200,7 @@ pub fn tick(alloc: Global, node: &mut Node, now: u64) -> Outcome {
     clone_ticks(alloc, node, &Event::Tick { now })
 }
 
-/// Octets are decoded, and come in as an event. Want of memory for the parcel is met by another try.
+/// Octets are decoded, and come in as an event. A failed allocation for the parcel is met by another try.
 pub fn hand(alloc: Global, node: &mut Node, port: Port, octets: &[u8], now: u64) -> Outcome {
     match hand_once(alloc, node, port, octets, now) {
         Some(outcome) => outcome,
@@ -224,7 +224,7 @@ fn send_once(alloc: Global, node: &mut Node, octets: &[u8], now: u64) -> Option<
     }
 }
 
-/// The host sends. Want of memory for the frame itself is met by another try.
+/// The host sends. A failed allocation for the frame itself is met by another try.
 pub fn send(alloc: Global, node: &mut Node, dst: Mac, src: Mac, len: usize, now: u64) -> Outcome {
     let octets = zeros_between(dst, src);
     let sent = &octets[..len.min(1524)];
@@ -254,7 +254,7 @@ fn knows_now(node: &Node, wanted: &[Mac]) -> Option<bool> {
     }
 }
 
-/// Whether these nodes are known, in this order. Want of memory is met by another try.
+/// Whether these nodes are known, in this order. A failed allocation is met by another try.
 pub fn knows(node: &Node, wanted: &[Mac]) -> bool {
     match knows_now(node, wanted) {
         Some(is_so) => is_so,
@@ -269,7 +269,7 @@ fn alarmed_now(node: &Node, wanted: &[Alarm]) -> Option<bool> {
     }
 }
 
-/// Whether these alarms are kept, in this order. Want of memory is met by another try.
+/// Whether these alarms are kept, in this order. A failed allocation is met by another try.
 pub fn alarmed(node: &Node, wanted: &[Alarm]) -> bool {
     match alarmed_now(node, wanted) {
         Some(is_so) => is_so,

@@ -11,7 +11,7 @@ fn node_over(alloc: Global, role: Box<dyn Role + Send>, settings: Settings) -> O
     Node::with(alloc, role, settings).ok()
 }
 
-/// A new node of a PRP network. None for want of memory.
+/// A new node of a PRP network. None where an allocation failed.
 pub fn danp(alloc: Global) -> Option<Node> {
     match Box::new(alloc, Danp::new(OWN)) {
         Ok(role) => node_over(alloc, role, Settings::PLAIN),
@@ -19,7 +19,7 @@ pub fn danp(alloc: Global) -> Option<Node> {
     }
 }
 
-/// A new node of a ring. None for want of memory.
+/// A new node of a ring. None where an allocation failed.
 pub fn danh(alloc: Global, settings: Settings) -> Option<Node> {
     match Box::new(alloc, Danh::new(OWN)) {
         Ok(role) => node_over(alloc, role, settings),
@@ -31,7 +31,7 @@ fn resumed_over(alloc: Global, role: Box<dyn Role + Send>, table: DupTable) -> O
     Node::resumed(alloc, role, Mode::H, table, Keys::FIXED).ok()
 }
 
-/// A node of a PRP network that is resumed with this table. None for want of memory.
+/// A node of a PRP network that is resumed with this table. None where an allocation failed.
 pub fn resumed_danp(alloc: Global, table: DupTable) -> Option<Node> {
     match Box::new(alloc, Danp::new(OWN)) {
         Ok(role) => resumed_over(alloc, role, table),

@@ -67,8 +67,8 @@ fn becomes_once(alloc: Global, node: &mut Node, kind: RoleKind) -> bool {
     }
 }
 
-/// Whether the node refuses a role of another address, and gets one of its own and of this kind. Want of memory for a box
-/// is met by another try.
+/// Whether the node refuses a role of another address, and gets one of its own and of this kind. A failed allocation for
+/// a box is met by another try.
 pub fn becomes(alloc: Global, node: &mut Node, kind: RoleKind) -> bool {
     becomes_once(alloc, node, kind) || becomes_once(alloc, node, kind)
 }
@@ -80,7 +80,7 @@ fn hears(node: &mut Node, sent: Sent, now: u64) -> bool {
     )
 }
 
-/// A new node that reads this frame. None for want of memory.
+/// A new node that reads this frame. None where an allocation failed.
 fn reader_of(alloc: Global, sent: Sent) -> Option<Node> {
     match sent {
         Sent::Tagged(..) => danh(alloc, Settings::PLAIN),
@@ -104,7 +104,7 @@ pub struct Heard {
     pub now: u64,
 }
 
-/// Another node of the address, which heard this. None for want of memory.
+/// Another node of the address, which heard this. None where an allocation failed.
 fn hearer(alloc: Global, heard: Heard) -> Option<Node> {
     let Heard { sent, copy, now } = heard;
     let mut other = reader_of(alloc, sent)?;
@@ -130,7 +130,7 @@ fn absorbed(alloc: Global, node: &mut Node, heard: Heard) -> Option<Absorbed> {
     }
 }
 
-/// Whether taking over comes to this. Want of memory for the other node is met by another try.
+/// Whether taking over comes to this. A failed allocation for the other node is met by another try.
 pub fn absorbs(alloc: Global, node: &mut Node, heard: Heard, wanted: Option<MergeFault>) -> bool {
     match (absorbed(alloc, node, heard), wanted) {
         (Some(Absorbed::Whole), None) => true,

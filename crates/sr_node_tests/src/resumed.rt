@@ -20,7 +20,7 @@ fn handed_up() -> Lanes
     Lanes::H.union(Lanes::GOT_A)
 }
 
-// What a node left that handed number 5 of the other node up at 1000. None for want of memory.
+// What a node left that handed number 5 of the other node up at 1000. None where an allocation failed.
 fn text_left(alloc: Global) -> Option<Vec<u8>> {
     let mut table = DupTable::new(alloc);
     match table.arrive(OTHER, Seq(5), handed_up(), 1000) {
@@ -29,7 +29,7 @@ fn text_left(alloc: Global) -> Option<Vec<u8>> {
     }
 }
 
-// That as a wide table, which holds a place. None for want of memory.
+// That as a wide table, which holds a place. None where an allocation failed.
 fn table_left(alloc: Global) -> Option<DupTable> {
     let text = text_left(alloc)?;
     let mut table = read_snapshot(alloc, text.as_slice(), Width::Wide).ok()?;
@@ -39,7 +39,7 @@ fn table_left(alloc: Global) -> Option<DupTable> {
     }
 }
 
-/// A node of a PRP network that is resumed with that table. None for want of memory.
+/// A node of a PRP network that is resumed with that table. None where an allocation failed.
 pub fn resumed(alloc: Global) -> Option<Node> {
     resumed_danp(alloc, table_left(alloc)?)
 }

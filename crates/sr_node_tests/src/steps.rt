@@ -225,7 +225,7 @@ fn first_wrong_of_resumed(alloc: Global, steps: &[Step]) -> Option<usize> {
     }
 }
 
-// Where a growth is refused as the node is made, it is made again.
+// Where an allocation fails as the node is made, it is made again.
 fn wrong_danp(alloc: Global, steps: &[Step]) -> Option<usize> {
     let wrong = first_wrong_of_danp(alloc, steps);
     if wrong == Some(steps.len()) {

@@ -54,7 +54,7 @@ pub fn decoded(alloc: Global, framing: PortFraming, octets: &[u8]) -> Option<Par
     framing.decode(alloc, octets).ok()
 }
 
-// Whether a parcel is written as these octets. None for want of memory.
+// Whether a parcel is written as these octets. None where an allocation failed.
 fn is_written(alloc: Global, framing: PortFraming, parcel: &Parcel, octets: &[u8]) -> Option<bool> {
     match framing.encode(alloc, parcel) {
         Ok(frame) => Some(frame.octets() == octets),
@@ -62,7 +62,7 @@ fn is_written(alloc: Global, framing: PortFraming, parcel: &Parcel, octets: &[u8
     }
 }
 
-/// Whether a parcel is written as these octets. Want of memory for the frame is met by another try.
+/// Whether a parcel is written as these octets. A failed allocation for the frame is met by another try.
 pub fn goes_as(alloc: Global, framing: PortFraming, parcel: &Parcel, octets: &[u8]) -> bool {
     match is_written(alloc, framing, parcel, octets) {
         Some(is_same) => is_same,

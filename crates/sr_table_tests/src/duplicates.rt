@@ -28,7 +28,7 @@ enum Answer {
     New,
     Known,
     Full,
-    /// Two calls disagree, or memory ran out twice.
+    /// Two calls disagree, or an allocation failed twice.
     Wrong,
 }
 
@@ -62,7 +62,7 @@ fn told(table: &mut DupTable, src: Mac, now: u64) -> (Answer, Option<Hint>) {
     }
 }
 
-// What the table answers to number 5 of a source. Where memory runs out the table stays, and the call is repeated.
+// What the table answers to number 5 of a source. Where an allocation fails the table stays, and the call is repeated.
 fn hear(table: &mut DupTable, number: u16, now: u64) -> Answer {
     let src = mac(number);
     let count = table.source_count();
@@ -153,7 +153,7 @@ fn ages(rt: HostRuntime) {
     assert!(rt; aged(rt.alloc()) == (0, 7, 1));
 }
 
-// A clone. Where memory runs out it is asked for again.
+// A clone. Where an allocation fails it is asked for again.
 fn cloned(table: &DupTable) -> Option<DupTable> {
     match table.try_clone() {
         Ok(own) => Some(own),

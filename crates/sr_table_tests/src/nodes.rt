@@ -44,7 +44,7 @@ const fn mac(number: u16) -> Mac {
     Mac([2, 0, 0, 0, (number / 256) as u8, (number % 256) as u8])
 }
 
-// A call is made once more where memory ran out.
+// A call is made once more where an allocation failed.
 fn heard(table: &mut NodeTable, node: u16, at: At, seq: u16, now: u64) -> Option<LearnOutcome> {
     for _ in 0..2u8 {
         let answer = match at {

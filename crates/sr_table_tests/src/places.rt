@@ -82,7 +82,7 @@ fn add(table: &mut Small, number: u8, now: u64) -> bool {
     table.get(key).is_none() && !table.is_full(now) && table.append(key, 0, now).is_ok()
 }
 
-// Adds so many addresses. Where memory runs out the table is as it was, and the call is repeated.
+// Adds so many addresses. Where an allocation fails the table is as it was, and the call is repeated.
 fn fills(table: &mut Small, first: u8, count: u8, now: u64) -> bool {
     for number in 0..count {
         let number = first.wrapping_add(number);

@@ -22,7 +22,7 @@ fn mac(number: u16) -> Mac {
     Mac([2, 0, 0, 0, high, low])
 }
 
-// All that a table has, asked for again where memory runs out.
+// All that a table has, asked for again where an allocation fails.
 fn times_of(table: &ProxyTable) -> Option<Vec<(Mac, u64)>> {
     match table.times() {
         Ok(times) => Some(times),
@@ -38,7 +38,7 @@ fn is_as(table: &ProxyTable, before: Option<Vec<(Mac, u64)>>) -> bool {
     }
 }
 
-// What is learned. Want of memory leaves the table as it was, and the call is made once more.
+// What is learned. A failed allocation leaves the table as it was, and the call is made once more.
 fn learn(table: &mut ProxyTable, number: u16, now: u64) -> Option<LearnOutcome> {
     let before = times_of(table);
     match table.learn(mac(number), now) {

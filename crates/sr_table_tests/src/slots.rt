@@ -184,7 +184,7 @@ const WHAT_COMES_BACK_GOES_LAST: [Step; 18] = [
     Step::Shows(67_521, 189),
 ];
 
-// Where memory runs out the table is as it was, and the call is repeated.
+// Where an allocation fails the table is as it was, and the call is repeated.
 fn add(slots: &mut Slots<Number>, last: u8, value: u32) -> bool {
     let key = mac(last);
     let len = slots.len();

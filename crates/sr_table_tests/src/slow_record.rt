@@ -53,7 +53,7 @@ impl Slow {
     /// Adds a number to the asked lanes that lack it, and answers those.
     fn add(&mut self, number: u64, lanes: Lanes) -> Result<Lanes, Fail> {
         let fresh = lanes.difference(self.lanes_of(number));
-        // What memory refused once is asked again.
+        // What an allocation failed for is asked again.
         if !fresh.is_empty() && self.noted.push((number, fresh)).is_err() {
             self.noted.push((number, fresh))?;
         }

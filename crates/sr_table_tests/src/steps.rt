@@ -103,7 +103,7 @@ fn table(tables: &Tables, which: Which) -> &DupTable {
     }
 }
 
-// A number that is heard, asked for again where memory runs out.
+// A number that is heard, asked for again where an allocation fails.
 fn hear(table: &mut DupTable, src: u16, seq: u16, now: u64) -> bool {
     match table.arrive(mac(src), Seq(seq), handed_up(), now) {
         Ok(_) => true,
@@ -130,7 +130,7 @@ fn outcome_of(answer: Result<(), DupFault>) -> Merged {
     }
 }
 
-// A clone. Where memory runs out it is asked for again.
+// A clone. Where an allocation fails it is asked for again.
 fn cloned(table: &DupTable) -> Option<DupTable> {
     match table.try_clone() {
         Ok(own) => Some(own),
@@ -138,7 +138,7 @@ fn cloned(table: &DupTable) -> Option<DupTable> {
     }
 }
 
-// A merge that is done again where memory runs out. What is refused changes nothing.
+// A merge that is done again where an allocation fails. What is refused changes nothing.
 fn merge(table: &mut DupTable, other: &DupTable, now: u64) -> Merged {
     let Some(before) = cloned(table) else {
         return Merged::Wrong;
@@ -156,7 +156,7 @@ fn merge(table: &mut DupTable, other: &DupTable, now: u64) -> Merged {
     outcome_of(answer)
 }
 
-// Room that is asked for again where memory runs out.
+// Room that is asked for again where an allocation fails.
 fn make_room(table: &mut DupTable, more: usize, answer: bool) -> bool {
     let Some(before) = cloned(table) else {
         return false;
@@ -187,7 +187,7 @@ fn knows(table: &DupTable, src: u16, seq: u16, now: u64) -> Option<bool> {
     }
 }
 
-// A snapshot, asked for again where memory runs out.
+// A snapshot, asked for again where an allocation fails.
 fn text_of(alloc: Global, table: &DupTable) -> Option<Vec<u8>> {
     match snapshot(alloc, table) {
         Ok(text) => Some(text),
@@ -223,7 +223,7 @@ fn has_same_text(alloc: Global, one: &DupTable, other: &DupTable) -> bool {
     }
 }
 
-// What octets are read as at a width, asked for again where memory runs out.
+// What octets are read as at a width, asked for again where an allocation fails.
 fn table_of(alloc: Global, text: &[u8], width: Width) -> Option<DupTable> {
     match read_snapshot(alloc, text, width) {
         Ok(own) => Some(own),

@@ -29,7 +29,7 @@ fn with_node<W: Threads + Wait + Sync>(
     )
 }
 
-// None for want of memory, here and below.
+// None where an allocation failed, here and below.
 fn with_role<W: Threads + Wait + Sync>(
     rt: &W,
     alloc: Global,

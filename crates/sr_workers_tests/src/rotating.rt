@@ -146,7 +146,7 @@ fn kit_of<L: Ledger>(pass: Pass<L>, closed: Arc<AtomicU64>) -> Kit<Pass<L>, Till
     }
 }
 
-// The kits of A and of the Ager. None for want of memory, here and below.
+// The kits of A and of the Ager. None where an allocation failed, here and below.
 fn kits_of<L: Ledger>(
     alloc: Global,
     passes: Passes<L>,

@@ -25,7 +25,7 @@ use std::thread::Threads;
 /// The node.
 pub(super) const OWN: Mac = Mac([2, 0, 0, 0, 0, 1]);
 
-// None for want of memory.
+// None where an allocation failed.
 fn worked<R: Role + Send, L: Ledger + Send + Sync, C: Framing + Send, W: Threads + Wait + Sync>(
     rt: &W,
     alloc: Global,
@@ -42,7 +42,7 @@ fn worked<R: Role + Send, L: Ledger + Send + Sync, C: Framing + Send, W: Threads
     }
 }
 
-// None for want of memory.
+// None where an allocation failed.
 fn settled<R: Role + Send, L: Ledger + Send + Sync, C: Framing + Send, W: Threads + Wait + Sync>(
     rt: &W,
     alloc: Global,
@@ -71,7 +71,7 @@ fn settled<R: Role + Send, L: Ledger + Send + Sync, C: Framing + Send, W: Thread
     })
 }
 
-/// None for want of memory.
+/// None where an allocation failed.
 pub(super) fn ran<
     R: Role + Send,
     L: Ledger + Send + Sync,
@@ -99,7 +99,7 @@ pub(super) fn ran<
     }
 }
 
-// None for want of memory.
+// None where an allocation failed.
 fn ran_danp<W: Threads + Wait + Sync>(
     rt: &W,
     alloc: Global,
@@ -114,7 +114,7 @@ fn ran_danp<W: Threads + Wait + Sync>(
     }
 }
 
-// None for want of memory.
+// None where an allocation failed.
 fn reported<W: Threads + Wait + Sync>(rt: &W, alloc: Global, run: &Run) -> Option<Report> {
     let flags = flags_of(alloc).ok()?;
     let gears = gears_of(run, &flags).ok()?;

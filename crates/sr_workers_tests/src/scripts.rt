@@ -26,7 +26,7 @@ const OCTETS: [u8; 60] = [
     0, 0, 0, 0, 0, 0, 0, 0, 0, 0, 0, 0, 0, 0, 0, 0, 0, 0, 0, 0, 0, 0, 0, 0, 0, 0, 0, 0,
 ];
 
-// None for want of memory, here and below.
+// None where an allocation failed, here and below.
 fn line_of(alloc: Global, say: Say) -> Option<Line> {
     match say {
         Say::Frame(now) => Some(Line::Frame(Frame::copy(alloc, &OCTETS).ok()?, now)),
@@ -44,7 +44,7 @@ fn lines_of(alloc: Global, script: &[Say]) -> Option<Vec<Line>> {
     Some(lines)
 }
 
-// The host's frame as an event. None for want of memory, here and below.
+// The host's frame as an event. None where an allocation failed, here and below.
 fn sending(alloc: Global) -> Option<Event> {
     let frame = Frame::copy(alloc, &OCTETS).ok()?;
     Some(Event::Send { frame, now: 0 })
