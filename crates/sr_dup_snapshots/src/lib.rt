@@ -5,8 +5,8 @@ mod fields;
 mod laws;
 mod reading;
 mod record;
+mod tables;
 mod writing;
 
 pub use laws::{readings_are_one, snapshots_are_unique, snapshots_tell};
-pub use reading::read_snapshot;
-pub use writing::snapshot;
+pub use tables::Snapshots;

@@ -200,14 +200,13 @@ fn built<const N: usize>(alloc: Global, text: Text<'_>) -> Result<TableOf<N>, No
     Ok(table)
 }
 
-/// The table of this width that a snapshot of either width spells. Its sources stand in ascending order of address, and it holds no
-/// place. Read as wide, a snapshot of version 1 has the numbers 1024 to 2047 before the greatest one noted on no lane; read as
-/// narrow, one of version 2 is cut to the 1024 greatest numbers. BadSnapshot: the octets are the snapshot of no table of either
-/// width. Their head or version is another, they have over 1024 sources, another length than so many sources have, addresses that
-/// don't ascend, or a source without its greatest number on any lane. One pass over the octets tells, before any memory is asked
-/// for. NoMemory: an allocation failed. No more is asked for than sources stand in the octets: the places of all at once, and then
-/// for each its record, which has memory of its own, so that what goes moves no record.
-pub fn read_snapshot(alloc: Global, octets: &[u8], width: Width) -> Result<DupTable, DupFault>
+// The table of this width that a snapshot of either width spells. No more memory is asked for than sources stand in the octets: the places
+// of all at once, and then for each its record, which has memory of its own, so that what goes moves no record.
+pub(crate) fn read_snapshot(
+    alloc: Global,
+    octets: &[u8],
+    width: Width,
+) -> Result<DupTable, DupFault>
     ensures found { IfOk result (λ table. IsReadAs (numbers_in width) octets.now table.sources) }
     ensures width { IfOk result (λ table. table.width ≡ numbers_in width) }
     ensures held { IfOk result (λ table. table.held ≡ []) }

@@ -86,9 +86,8 @@ fn spelled<const N: usize>(
     Ok(octets)
 }
 
-/// The snapshot of a table, version 1 of a narrow one and version 2 of a wide one: one text for all tables that are the same, in
-/// whatever order. Held places are no part of it. NoMemory: an allocation failed.
-pub fn snapshot(alloc: Global, table: &DupTable) -> Result<Vec<u8>, NoMemory>
+// The snapshot of a table.
+pub(crate) fn snapshot(alloc: Global, table: &DupTable) -> Result<Vec<u8>, NoMemory>
     ensures { IfOk result (λ octets.
         IsSnapshot table.now.width octets.items table.now.sources) }
 {

@@ -11,7 +11,7 @@ ghost use Rattle.sr_endpoint.specs.Endpoints.{new_state, state_by};
 ghost use Rattle.sr_endpoint.specs.Snapshots.{JoinsSnapshot, RefusesSnapshot, TakesOver, noting};
 
 use crate::{Endpoint, Setup};
-use sr_dup_snapshots::{read_snapshot, snapshot};
+use sr_dup_snapshots::Snapshots;
 use sr_dup_table::{DupFault, DupTable, Width};
 use sr_forwarding::Danp;
 use sr_frame::{Mac, NoMemory};
@@ -49,7 +49,7 @@ impl Endpoint {
             (state_by self.now).core.sources) }
     {
         let image = self.node.image()?;
-        snapshot(self.alloc, &image.sources)
+        image.sources.snapshot(self.alloc)
     }
 
     /// How many numbers of each source the node remembers. NoMemory: an allocation failed.
@@ -67,7 +67,7 @@ impl Endpoint {
         ensures uncounted { self.new.counters ≡ self.old.counters }
         ensures unlogged { self.new.log ≡ self.old.log }
     {
-        let table = match read_snapshot(self.alloc, octets, width) {
+        let table = match DupTable::read_snapshot(self.alloc, octets, width) {
             Ok(table) => table,
             Err(fault) => return Err(fault),
         };

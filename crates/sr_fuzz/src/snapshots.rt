@@ -1,7 +1,7 @@
 //! Snapshots of tables of sources, there and back.
 
 use crate::digest::Digest;
-use sr_dup_snapshots::{read_snapshot, snapshot};
+use sr_dup_snapshots::Snapshots;
 use sr_dup_table::{DupFault, DupTable, Width};
 use std::alloc::Global;
 
@@ -15,7 +15,7 @@ fn version_of(width: Width) -> u8 {
 
 /// Whether octets are read as a table that is the same.
 fn is_read_as(alloc: Global, table: &DupTable, width: Width, text: &[u8]) -> bool {
-    match read_snapshot(alloc, text, width) {
+    match DupTable::read_snapshot(alloc, text, width) {
         Ok(again) => again.same(table),
         Err(_) => false,
     }
@@ -23,7 +23,7 @@ fn is_read_as(alloc: Global, table: &DupTable, width: Width, text: &[u8]) -> boo
 
 /// Whether a table is written as octets again that are read as it. What was read at its own width is written as it was.
 fn is_written(alloc: Global, table: &DupTable, width: Width, octets: &[u8]) -> bool {
-    match snapshot(alloc, table) {
+    match table.snapshot(alloc) {
         Ok(text) => {
             (octets.get(4) != Some(&version_of(width)) || text.as_slice() == octets)
                 && is_read_as(alloc, table, width, &text)
@@ -54,7 +54,7 @@ pub fn come_of(alloc: Global, octets: &[u8]) -> Option<Digest> {
     } else {
         Width::Wide
     };
-    match read_snapshot(alloc, text, width) {
+    match DupTable::read_snapshot(alloc, text, width) {
         Ok(table) => sources_of(alloc, &table, width, text),
         Err(DupFault::BadSnapshot) => Some(Digest::new()),
         Err(_) => None,

@@ -6,7 +6,7 @@ ghost use Rattle.sr_dup_window.specs.LaneSets.{is_empty};
 use super::frames::{EVERYONE, OTHER, OWN, Sent};
 use super::makers::resumed_danp;
 use super::steps::{Outcome, Step, expect_resumed_steps};
-use sr_dup_snapshots::{read_snapshot, snapshot};
+use sr_dup_snapshots::Snapshots;
 use sr_dup_table::{DupTable, Width};
 use sr_dup_window::Lanes;
 use sr_frame::Port;
@@ -24,7 +24,7 @@ fn handed_up() -> Lanes
 fn text_left(alloc: Global) -> Option<Vec<u8>> {
     let mut table = DupTable::new(alloc);
     match table.arrive(OTHER, Seq(5), handed_up(), 1000) {
-        Ok(_) => snapshot(alloc, &table).ok(),
+        Ok(_) => table.snapshot(alloc).ok(),
         Err(_) => None,
     }
 }
@@ -32,7 +32,7 @@ fn text_left(alloc: Global) -> Option<Vec<u8>> {
 // That as a wide table, which holds a place. None where an allocation failed.
 fn table_left(alloc: Global) -> Option<DupTable> {
     let text = text_left(alloc)?;
-    let mut table = read_snapshot(alloc, text.as_slice(), Width::Wide).ok()?;
+    let mut table = DupTable::read_snapshot(alloc, text.as_slice(), Width::Wide).ok()?;
     match table.reserve(OWN) {
         Ok(()) => Some(table),
         Err(_) => None,

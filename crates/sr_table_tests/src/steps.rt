@@ -2,7 +2,7 @@
 ghost use Rattle.std.specs.Prelude.{◌≡◌, false};
 ghost use Rattle.sr_dup_window.specs.LaneSets.{is_empty};
 
-use sr_dup_snapshots::{read_snapshot, snapshot};
+use sr_dup_snapshots::Snapshots;
 use sr_dup_table::{DupFault, DupTable, Width};
 use sr_dup_window::Lanes;
 use sr_frame::Mac;
@@ -189,9 +189,9 @@ fn knows(table: &DupTable, src: u16, seq: u16, now: u64) -> Option<bool> {
 
 // A snapshot, asked for again where an allocation fails.
 fn text_of(alloc: Global, table: &DupTable) -> Option<Vec<u8>> {
-    match snapshot(alloc, table) {
+    match table.snapshot(alloc) {
         Ok(text) => Some(text),
-        Err(_) => snapshot(alloc, table).ok(),
+        Err(_) => table.snapshot(alloc).ok(),
     }
 }
 
@@ -225,9 +225,9 @@ fn has_same_text(alloc: Global, one: &DupTable, other: &DupTable) -> bool {
 
 // What octets are read as at a width, asked for again where an allocation fails.
 fn table_of(alloc: Global, text: &[u8], width: Width) -> Option<DupTable> {
-    match read_snapshot(alloc, text, width) {
+    match DupTable::read_snapshot(alloc, text, width) {
         Ok(own) => Some(own),
-        Err(DupFault::NoMemory) => read_snapshot(alloc, text, width).ok(),
+        Err(DupFault::NoMemory) => DupTable::read_snapshot(alloc, text, width).ok(),
         Err(_) => None,
     }
 }
@@ -245,7 +245,7 @@ fn is_read(alloc: Global, text: &[u8]) -> Option<bool> {
 
 fn is_bad(alloc: Global, text: &[u8], width: Width) -> bool {
     matches!(
-        read_snapshot(alloc, text, width),
+        DupTable::read_snapshot(alloc, text, width),
         Err(DupFault::BadSnapshot)
     )
 }
