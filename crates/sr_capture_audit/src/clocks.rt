@@ -119,6 +119,10 @@ impl Recording {
             return;
         };
         let frame = parcel.plain();
+        // In a ring a frame to a single address goes past one recorder alone.
+        if self.network == Network::Hsr && !frame.dst.is_group() {
+            return;
+        }
         let source = number_of(frame.src);
         let bin = bin_of(source, seq);
         let rank = rank_of(source, seq);
