@@ -252,7 +252,8 @@ class Version(unittest.TestCase):
         self.addCleanup(shutil.rmtree, self.top)
         for name in ("release", "clib", "bindings", "crates/sr_c", "crates/sr_options/src"):
             shutil.copytree(TOP / name, self.top / name, ignore=shutil.ignore_patterns("out", "target", "proofs"))
-        shutil.copy(TOP / "CHANGELOG.md", self.top)
+        # The repository's own has changes that are not released only between two releases.
+        (self.top / "CHANGELOG.md").write_text("# Changelog\n\n## Unreleased (1.2.3-dev)\n\n- One.\n\n## 0.1\n")
 
     def call(self, *words):
         return subprocess.run([self.top / "release/version", *words], capture_output=True, text=True)
@@ -274,8 +275,7 @@ class Version(unittest.TestCase):
             self.assertEqual(life.count(old.removeprefix("old: ")), 1)
             self.assertNotEqual(old.removeprefix("old: "), new.removeprefix("new: "))
             self.assertEqual(self.lines("bindings/rust/Cargo.lock").count(f'version = "{version}"'), 2)
-        self.assertIn("## 1.2.3", self.lines("CHANGELOG.md"))
-        self.assertFalse([it for it in self.lines("CHANGELOG.md") if it.startswith("## Unreleased")])
+        self.assertEqual([it for it in self.lines("CHANGELOG.md") if it.startswith("## ")], ["## 1.2.3", "## 0.1"])
 
     def test_what_is_no_version_changes_nothing(self):
         files = {it: it.read_bytes() for it in self.top.rglob("*") if it.is_file()}
