@@ -61,9 +61,10 @@ impl Session for PlantSession {
 /// is written together, and flushed, before more is read, and before a fault.
 ///
 /// # Errors
-/// `Line` and `Long` come at the first line that is not a line of a script, whatever memory there is. `Read`, `Write` and
-/// `Memory` come where the reader, the writer or an allocation fails, and at no such line. The lines before that of the fault are
-/// answered, and nothing else is written, but for a part of the text of that line where the writer failed.
+/// `Memory` comes at line 1, whatever that line is, where an allocation before the first line is read fails. Then `Line` and `Long`
+/// come at the first line that is not a line of a script, whatever memory there is. `Read`, `Write` and `Memory` come where the
+/// reader, the writer or an allocation fails, and at no such line. The lines before that of the fault are answered, and nothing else
+/// is written, but for text of that line where the writer failed: a part of it, or all where it could not be passed on.
 pub fn run_plant<R: BufRead, W: Write>(
     alloc: Global,
     setup: &PlantSetup,

@@ -49,7 +49,7 @@ pub struct NodeEnd<F: Feed> {
     /// How the logs stand to the history, which is torn at 0 where it opens with another node than was given, and the wires to
     /// their other ends.
     pub settlement: Settlement,
-    /// How many frames were lost on full wires that it was to send, up to the greatest number.
+    /// How many frames were lost that it was to send, on full wires or where an allocation failed, up to the greatest number.
     pub lost: u64,
     pub ghost counts: { lost ≡ lost_from 0 ends.items },
 }
