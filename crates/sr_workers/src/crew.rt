@@ -88,7 +88,7 @@ fn work_at<R: Role, L: Ledger, F: Feed, G: Framing, W: Wait>(
         framing,
     } = kit;
     let kit = Kit {
-        pass: Seat { shared, pass },
+        pass: Seat::new(shared, pass),
         feed,
         framing,
     };

@@ -5,13 +5,14 @@ ghost use Rattle.std.specs.declared.result.Result.{Result};
 ghost use Rattle.sr_node.specs.declared.event.Event.{Event};
 ghost use Rattle.sr_node.specs.declared.event.Answer.{Answer};
 ghost use Rattle.sr_node.specs.Answers.{IsAnswerOf};
+ghost use Rattle.sr_ports.specs.Refusals.{none_refused};
 ghost use Rattle.sr_ports.specs.declared.fault.EnterFault.{EnterFault};
 ghost use Rattle.sr_ports.specs.declared.worker.Worker.{Worker};
 ghost use Rattle.sr_workers.specs.Entering.{IsRefusalOf};
 
 use sr_forwarding::Role;
 use sr_node::{Answer, Event, a_take_alone_is_answered_taken};
-use sr_ports::{EnterFault, Pass, SharedNode, Worker, enter};
+use sr_ports::{EnterFault, Pass, Refusals, SharedNode, Worker, enter_noted};
 use std::sync::Wait;
 use std::sync::ledger::Ledger;
 
@@ -49,6 +50,22 @@ pub struct Seat<'s, R: Role, L: Ledger> {
     pub shared: &'s SharedNode<R, L>,
     /// The worker's pass.
     pub pass: Pass<L>,
+    /// What the worker was refused here.
+    pub refusals: Refusals,
+}
+
+impl<'s, R: Role, L: Ledger> Seat<'s, R, L> {
+    /// A place at the node, where nothing was refused yet.
+    pub fn new(shared: &'s SharedNode<R, L>, pass: Pass<L>) -> Seat<'s, R, L>
+        ensures pass { result.pass ≡ pass }
+        ensures refusals { result.refusals ≡ none_refused }
+    {
+        Seat {
+            shared,
+            pass,
+            refusals: Refusals::new(),
+        }
+    }
 }
 
 impl<R: Role, L: Ledger> Enters for Seat<'_, R, L> {
@@ -58,7 +75,7 @@ impl<R: Role, L: Ledger> Enters for Seat<'_, R, L> {
 
     ghost count = { λ s. s.pass.count };
 
-    ghost enters = { λ s e r t. EntersWith s.pass e r t.pass };
+    ghost enters = { λ s e r t. EntersWith s.pass s.refusals e r t.pass t.refusals };
 
     fn worker(&self) -> Worker {
         self.pass.worker()
@@ -69,6 +86,6 @@ impl<R: Role, L: Ledger> Enters for Seat<'_, R, L> {
     fn enter<W: Wait>(&mut self, rt: &W, event: &Event) -> Result<Answer, EnterFault> {
         a_take_alone_is_answered_taken();
         let mut kept = self.shared.kept.lock(rt);
-        enter(&mut *kept, &mut self.pass, event)
+        enter_noted(&mut *kept, &mut self.pass, &mut self.refusals, event)
     }
 }

@@ -121,7 +121,7 @@ fn ended<R: Role, L: Ledger, G: Framing, W: Wait>(
         feed,
         framing,
     } = kit;
-    let kit = kit_of(Seat { shared, pass }, feed, framing);
+    let kit = kit_of(Seat::new(shared, pass), feed, framing);
     let (_, end) = run_worker(rt, alloc, kit, turns);
     (came_of(&end), end.log)
 }
