@@ -1,5 +1,5 @@
 -- What captures say of a network as a whole, by the figures that a report holds.
-use Rattle.std.specs.Prelude.{ℕ, ◌/◌, nat_lt, Bool, not, ◌||◌, Option, None, Some, if◌then◌else◌}
+use Rattle.std.specs.Prelude.{ℕ, ◌+◌, ◌/◌, nat_lt, Bool, not, ◌&&◌, ◌||◌, Option, None, Some, if◌then◌else◌}
 use Rattle.std.specs.List.{list_any}
 use Rattle.sr_audit.specs.declared.side.Side.TheVariants.{A, B}
 use Rattle.sr_audit.specs.declared.source.Figures.{Figures}
@@ -27,6 +27,17 @@ has_cut_many c = nat_lt (c.packets / 10) c.cut
 
 abbrev pub are_cut : Counts → Bool
 are_cut c = has_cut_many c.a || (has_cut_many c.b || has_cut_many c.neither)
+
+-- more than one in ten of a source's copies is one that came before, at each side
+abbrev pub are_repeated : Figures → Bool
+are_repeated f = nat_lt (f.tally.rx.a / 10) f.tally.repeats.a && nat_lt (f.tally.rx.b / 10) f.tally.repeats.b
+
+abbrev pub has_repeated : Report → Bool
+has_repeated r = list_any (λ e. are_repeated (figures_of e.1)) r.audit.sources.entries
+
+-- of one capture of a ring, whose sides are the ways that frames themselves name: both have more than one in twenty of them
+abbrev pub have_both_ways : Counts → Bool
+have_both_ways c = nat_lt ((c.a.numbered + c.b.numbered) / 20) c.a.numbered && nat_lt ((c.a.numbered + c.b.numbered) / 20) c.b.numbered
 
 -- why nothing can be judged: numbers are gone with the ends of cut packets, a side has no frame with a number, the captures are swapped, or
 -- no frame came by both

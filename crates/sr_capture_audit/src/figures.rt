@@ -9,6 +9,7 @@ ghost use Rattle.sr_capture_script.specs.Passing.{EndsFor};
 ghost use Rattle.sr_capture_script.specs.SourceViews.{IsFed};
 ghost use Rattle.sr_capture_audit.specs.Auditing.{sign_with, TakesKind, IsAuditOf};
 ghost use Rattle.sr_capture_audit.specs.Faults.{shows_lost, have_lost, have_missing};
+ghost use Rattle.sr_capture_audit.specs.Judging.{are_repeated};
 
 use crate::counts::Counts;
 use crate::edges::{LEAST_EDGE, bounded_edge, widest};
@@ -70,6 +71,14 @@ fn have_missing(audit: &Audit) -> bool
         }
     }
     false
+}
+
+/// Whether more than one in ten copies came before, at each side.
+fn are_repeated(figures: &Figures) -> bool
+    ensures { result ≡ are_repeated figures.now }
+{
+    let (rx, repeats) = (figures.tally.rx, figures.tally.repeats);
+    rx.a / 10 < repeats.a && rx.b / 10 < repeats.b
 }
 
 /// What an audit has of a source.
@@ -222,7 +231,7 @@ impl Report {
     ghost use Rattle.sr_audit.specs.declared.audit.Audit.{Audit};
     ghost use Rattle.sr_capture_audit.specs.Edging.{edge_width, tells_of_lost, tells_of_missing};
     ghost use Rattle.sr_capture_audit.specs.Faults.{has_faults, own_figures, groups_have_lost, counters_have_missing};
-    ghost use Rattle.sr_capture_audit.specs.Judging.{has_pairs, reason_of, network_judgement};
+    ghost use Rattle.sr_capture_audit.specs.Judging.{has_pairs, has_repeated, reason_of, network_judgement};
 
     /// Prints the lines of the captures. At a mirror port they are those of each side, and of the packets without a number.
     ///
@@ -418,6 +427,18 @@ impl Report {
         ensures { result ≡ tells_of_missing self.now }
     {
         have_missing(&self.audit)
+    }
+
+    /// Whether more than one in ten copies of a source came before, at each side: so it is where each capture has both ways of a ring.
+    pub fn has_repeated(&self) -> bool
+        ensures { result ≡ has_repeated self.now }
+    {
+        for (_, source) in self.audit.sources() {
+            if are_repeated(&source.figures()) {
+                return true;
+            }
+        }
+        false
     }
 
     /// How wide the edges of the captures are, in nanoseconds: as far as the copies of a frame came apart, 1 ms at least and 400 ms at most.

@@ -1,7 +1,7 @@
 //! What captures say of a network as a whole.
 
 ghost use Rattle.std.specs.Prelude.{◌≡◌};
-ghost use Rattle.sr_capture_audit.specs.Judging.{has_cut_many, are_cut, check_status};
+ghost use Rattle.sr_capture_audit.specs.Judging.{has_cut_many, are_cut, have_both_ways, check_status};
 
 use crate::counts::{Counts, SideCounts};
 use crate::network::letter_of;
@@ -28,6 +28,8 @@ pub enum Reason {
     Unpaired,
     /// The recorder cut more than one packet in ten.
     Cut,
+    /// Each capture of a ring has frames of both ways, as one that goes by a port in and out.
+    BothWays,
     /// Two offsets of the recorders' clocks fit: so many frames tell of the one, and so many of the other.
     TwoOffsets(usize, usize),
     /// No frame was seen by both recorders, so that nothing tells of their clocks.
@@ -43,6 +45,10 @@ impl fmt::Display for Reason {
             Reason::Swapped => write!(f, "the captures seem to be swapped"),
             Reason::Unpaired => write!(f, "no frame came by both A and B"),
             Reason::Cut => write!(f, "more than one packet in ten was cut by the recorder"),
+            Reason::BothWays => write!(
+                f,
+                "A and B each have frames of both ways of the ring: were those that go out recorded too?"
+            ),
             Reason::TwoOffsets(most, others) => write!(
                 f,
                 "two offsets of the clocks fit, by {most} frames and by {others}: --shift-b?"
@@ -84,6 +90,15 @@ fn has_cut_many(counts: &SideCounts) -> bool
 }
 
 impl Counts {
+    /// Of one capture of a ring, audited as that of a mirror port: whether it has frames of both ways, each more than one in twenty.
+    pub fn have_both_ways(&self) -> bool
+        ensures { result ≡ have_both_ways self.now }
+    {
+        let (a, b) = (u128::from(self.a.numbered), u128::from(self.b.numbered));
+        let part = (a + b) / 20;
+        part < a && part < b
+    }
+
     /// Whether a recorder cut more than one packet in ten.
     pub(crate) fn are_cut(&self) -> bool
         ensures { result ≡ are_cut self.now }

@@ -7,9 +7,9 @@ use crate::progress::Progress;
 use crate::script::{Opened, open_file, tell_ended};
 use sr_audit::{Audit, LISTED_AT_ONCE, MAX_SOURCES, Span, Spans};
 use sr_capture_audit::{
-    Counts, Format, Judgement, Network, RedBoxes, Report, Rule, SideCounts, Summary, figures_of,
-    hint_of, inner_spans, print_clocks, print_lists, print_picture_recorded, redboxes_of, ruled_of,
-    spans_of,
+    Counts, Format, Judgement, Network, Reason, RedBoxes, Report, Rule, SideCounts, Subject,
+    Summary, figures_of, hint_of, inner_spans, print_clocks, print_lists, print_picture_recorded,
+    redboxes_of, ruled_of, spans_of,
 };
 use sr_capture_script::{Captures, Inlet, ScriptFault};
 use sr_options::{AuditTask, Ports};
@@ -485,14 +485,17 @@ fn run_on_clocks<R: AllocGlobal + Print + Eprint + Files>(
         return Err(tell(rt, Ended::By(ScriptFault::NoMemory), false));
     };
     let summary = report.summary();
+    let are_repeated = report.has_repeated();
     if let Err(ended) = write_all(rt, task, keys, known, times, report, &summary, &mut writer) {
         return Err(tell(rt, ended, writer.get_ref().is_closed()));
     }
     tell_odd(rt, task, &times.recorded, &summary);
-    if task.is_check {
-        check(rt, judgement_on(known, summary.judgement))
-    } else {
-        Ok(())
+    if !task.is_check {
+        return Ok(());
+    }
+    match judged_by_ways(rt, task, keys, are_repeated, summary.judgement) {
+        Ok(judgement) => check(rt, judgement_on(known, judgement)),
+        Err(ended) => Err(tell(rt, ended, false)),
     }
 }
 
@@ -520,6 +523,54 @@ pub fn run_audit<R: AllocGlobal + Print + Eprint + Files + RandomSource>(
         Err(ended) => return Err(tell(rt, ended, false)),
     };
     run_on_clocks(rt, &on_clocks(task, known), keys, known, progress)
+}
+
+/// Whether one of two captures of a ring has frames of both ways, by a pass of its own: as at a mirror port, frames name theirs.
+fn has_both_ways<R: AllocGlobal + Eprint + Files>(
+    rt: &R,
+    task: &AuditTask<'_>,
+    keys: Keys,
+    inlet: Inlet,
+) -> Result<bool, Ended> {
+    let mut alone = AuditTask { b: None, ..*task };
+    if inlet == Inlet::B {
+        alone.a = task.b;
+        alone.options.interfaces.a = task.options.interfaces.b;
+    }
+    let mut captures = open(rt, &alone, Progress::Silent)?;
+    let subject = Subject {
+        ports: sr_capture_audit::Ports::Mirror,
+        ..subject_of(task)
+    };
+    let choice = task.options.choice;
+    let report = figures_of(
+        rt.alloc(),
+        keys,
+        &mut captures,
+        &choice,
+        subject,
+        Spans::NONE,
+    )?;
+    Ok(report.summary().counts.have_both_ways())
+}
+
+/// What is judged of a ring whose captures may have both ways, each frame going by twice. Nothing, where both do.
+fn judged_by_ways<R: AllocGlobal + Eprint + Files>(
+    rt: &R,
+    task: &AuditTask<'_>,
+    keys: Keys,
+    are_repeated: bool,
+    judgement: Judgement,
+) -> Result<Judgement, Ended> {
+    let is_ring = network_of(task.network) == Network::Hsr && task.ports == Ports::Two;
+    if is_ring
+        && are_repeated
+        && has_both_ways(rt, task, keys, Inlet::A)?
+        && has_both_ways(rt, task, keys, Inlet::B)?
+    {
+        return Ok(Judgement::Unjudged(Reason::BothWays));
+    }
+    Ok(judgement)
 }
 
 /// Says why nothing can be judged, where that is so. An error is the exit status of a check that does not pass.
