@@ -1,8 +1,8 @@
-//! The calls. Each function answers whether all was as it had to be, or None where an allocation failed. What a call gives is let go
-//! by a function over any type, and no `?` and no branch stands where it is alive: that would make the proof long.
+//! The calls. Each function keeps to itself what it owns, and answers whether all was as it had to be, or None where an
+//! allocation failed: a frame or a list that a test held would make its proof long.
 
 use super::steps::{Cut, Saying, Tagging, Trailing};
-use super::texts::{Lists, Text};
+use super::texts::{Text, is_text, joined};
 use sr_frame::{Frame, FrameFault, Mac, append, view};
 use sr_hsr_tag::{TagFault, UntagFault, tagged, untagged, untagged_view};
 use sr_prp_trailer::{Lan, StripFault, appended, stripped};
@@ -10,156 +10,133 @@ use sr_sequence::Seq;
 use sr_supervision::{SupFault, Supervision, is_supervision, write};
 use std::alloc::Global;
 
-// Whether a frame, which is let go, has these octets.
-fn is_frame(own: Frame, wanted: &[u8]) -> bool {
-    let is_same = own.octets() == wanted;
-    drop(own);
-    is_same
-}
-
 /// What a call on a view of octets comes to; false where they are no frame.
-pub fn is_viewed(lists: &mut Lists, text: Text, fault: Option<FrameFault>) -> Option<bool> {
-    lists.give(&[text])?;
-    Some(view(&lists.given).err() == fault)
+pub fn is_viewed(alloc: Global, text: Text, fault: Option<FrameFault>) -> Option<bool> {
+    let octets = joined(alloc, &[text])?;
+    Some(view(&octets).err() == fault)
 }
 
 /// Whether a view of octets has these addresses, VLAN and EtherType, this payload, and these lengths of header and all.
 pub fn has_fields(
-    lists: &mut Lists,
+    alloc: Global,
     text: Text,
     names: (Mac, Mac, Option<u16>, u16),
     payload: Text,
     lengths: (usize, usize),
 ) -> Option<bool> {
-    lists.give(&[text])?;
-    lists.want(&[payload])?;
-    let Ok(fields) = view(&lists.given) else {
+    let octets = joined(alloc, &[text])?;
+    let Ok(fields) = view(&octets) else {
         return Some(false);
     };
-    Some(
-        (fields.dst, fields.src, fields.vlan, fields.ethertype) == names
-            && (fields.header_len(), fields.frame_len()) == lengths
-            && fields.payload == lists.wanted.as_slice(),
-    )
-}
-
-fn are_equal(other: &Frame, frame: &Frame, ethertype: u16) -> bool {
-    *other == *frame && other.octets() == frame.octets() && other.view().ethertype == ethertype
+    let are_same = (fields.dst, fields.src, fields.vlan, fields.ethertype) == names
+        && (fields.header_len(), fields.frame_len()) == lengths;
+    Some(are_same && is_text(alloc, fields.payload, &[payload])?)
 }
 
 fn is_cloned(alloc: Global, frame: &Frame, ethertype: u16) -> Option<bool> {
     let other = frame.try_clone(alloc).ok()?;
-    let is_same = are_equal(&other, frame, ethertype);
-    drop(other);
-    Some(is_same)
+    Some(other == *frame && other.octets() == frame.octets() && other.view().ethertype == ethertype)
 }
 
 /// A list to which nothing could be appended stays empty.
-fn is_put_in_a_list(list: &mut Vec<u8>, frame: &Frame) -> Option<bool> {
-    list.clear();
-    match append(list, &frame.view()) {
+fn is_put_in_a_list(alloc: Global, frame: &Frame) -> Option<bool> {
+    let mut list = Vec::new(alloc);
+    match append(&mut list, &frame.view()) {
         Ok(()) => Some(list.as_slice() == frame.octets()),
         Err(_) if list.is_empty() => None,
         Err(_) => Some(false),
     }
 }
 
-// Whether a frame has the octets that are given, and can be cloned and put into a list.
-fn is_copy(alloc: Global, lists: &mut Lists, frame: &Frame, ethertype: u16) -> Option<bool> {
-    Some(
-        frame.octets() == lists.given.as_slice()
-            && is_cloned(alloc, frame, ethertype)?
-            && is_put_in_a_list(&mut lists.own, frame)?,
-    )
-}
-
 /// Whether octets are copied into a frame of their own, which can be cloned and put into a list.
-pub fn is_copied(alloc: Global, lists: &mut Lists, text: Text, ethertype: u16) -> Option<bool> {
-    lists.give(&[text])?;
-    match Frame::copy(alloc, &lists.given) {
+pub fn is_copied(alloc: Global, text: Text, ethertype: u16) -> Option<bool> {
+    let octets = joined(alloc, &[text])?;
+    match Frame::copy(alloc, &octets) {
         Err(FrameFault::NoMemory) => None,
         Err(_) => Some(false),
-        Ok(frame) => {
-            let is_right = is_copy(alloc, lists, &frame, ethertype);
-            drop(frame);
-            is_right
-        }
+        Ok(frame) => Some(
+            frame.octets() == octets.as_slice()
+                && is_cloned(alloc, &frame, ethertype)?
+                && is_put_in_a_list(alloc, &frame)?,
+        ),
     }
 }
 
 /// Whether an address is shown so, and is one of a group or not.
 pub fn is_shown(alloc: Global, mac: Mac, wanted: &str, is_group: bool) -> Option<bool> {
     let text = mac.to_string(alloc).ok()?;
-    let is_same = text.as_str() == wanted;
-    drop(text);
-    Some(is_same && mac.is_group() == is_group)
+    Some(text.as_str() == wanted && mac.is_group() == is_group)
 }
 
 /// What taking off the trailer comes to: the plain frame where there is one, and else `NoTrailer`.
-fn is_stripped(alloc: Global, lists: &Lists, is_there: bool) -> Option<bool> {
-    let Ok(frame) = view(&lists.given) else {
+fn is_stripped(alloc: Global, octets: &[u8], plain: Text, is_there: bool) -> Option<bool> {
+    let Ok(frame) = view(octets) else {
         return Some(false);
     };
     match stripped(alloc, &frame) {
         Err(StripFault::NoMemory) => None,
         Err(StripFault::NoTrailer) => Some(!is_there),
-        Ok(own) => Some(is_frame(own, &lists.wanted) && is_there),
+        Ok(own) => Some(is_there && is_text(alloc, own.octets(), &[plain])?),
     }
 }
 
 /// Whether octets have this trailer or none, and are the plain ones without it.
 pub fn has_trailer(
     alloc: Global,
-    lists: &mut Lists,
     plain: Text,
     last: Text,
     trailer: Option<Trailing>,
 ) -> Option<bool> {
-    lists.give(&[plain, last])?;
-    lists.want(&[plain])?;
-    let Ok(frame) = view(&lists.given) else {
+    let octets = joined(alloc, &[plain, last])?;
+    let Ok(frame) = view(&octets) else {
         return Some(false);
     };
     let found = sr_prp_trailer::read(&frame).map(|found| (found.seq.0, found.lan, found.size));
     if found != trailer {
         return Some(false);
     }
-    is_stripped(alloc, lists, trailer.is_some())
+    is_stripped(alloc, &octets, plain, trailer.is_some())
 }
 
 /// Whether a frame gets a trailer so, or is too long for one.
 pub fn is_appended(
     alloc: Global,
-    lists: &mut Lists,
     given: Text,
     seq: u16,
     lan: Lan,
     wanted: Option<(Text, Text)>,
 ) -> Option<bool> {
-    lists.give(&[given])?;
-    if let Some((plain, last)) = wanted {
-        lists.want(&[plain, last])?;
-    }
-    let Ok(frame) = view(&lists.given) else {
+    let octets = joined(alloc, &[given])?;
+    let Ok(frame) = view(&octets) else {
         return Some(false);
     };
     match appended(alloc, &frame, Seq(seq), lan) {
         Err(FrameFault::NoMemory) => None,
         Err(FrameFault::TooLong) => Some(wanted.is_none()),
         Err(FrameFault::TooShort) => Some(false),
-        Ok(own) => Some(is_frame(own, &lists.wanted) && wanted.is_some()),
+        Ok(own) => match wanted {
+            Some((plain, last)) => is_text(alloc, own.octets(), &[plain, last]),
+            None => Some(false),
+        },
     }
 }
 
-/// What taking out the tag comes to: what is wanted, or this fault.
-fn takes_tag_out(alloc: Global, lists: &Lists, fault: Option<UntagFault>) -> Option<bool> {
-    let Ok(frame) = view(&lists.given) else {
+/// What taking out the tag comes to.
+fn takes_tag_out(
+    alloc: Global,
+    octets: &[u8],
+    wanted: Result<(Text, Text), UntagFault>,
+) -> Option<bool> {
+    let Ok(frame) = view(octets) else {
         return Some(false);
     };
     match untagged(alloc, &frame) {
         Err(UntagFault::NoMemory) => None,
-        Err(found) => Some(fault == Some(found)),
-        Ok(own) => Some(is_frame(own, &lists.wanted) && fault.is_none()),
+        Err(fault) => Some(wanted.err() == Some(fault)),
+        Ok(own) => match wanted {
+            Ok((before, behind)) => is_text(alloc, own.octets(), &[before, behind]),
+            Err(_) => Some(false),
+        },
     }
 }
 
@@ -172,40 +149,30 @@ fn tag_of(octets: &[u8]) -> Option<Result<Tagging, TagFault>> {
 /// Whether a ring frame without its tag is the plain one.
 pub fn is_untagged(
     alloc: Global,
-    lists: &mut Lists,
     before: Text,
     tag: Text,
     behind: Text,
     says: Tagging,
 ) -> Option<bool> {
-    lists.give(&[before, tag, behind])?;
-    lists.want(&[before, behind])?;
-    if tag_of(&lists.given) != Some(Ok(says)) {
+    let octets = joined(alloc, &[before, tag, behind])?;
+    if tag_of(&octets) != Some(Ok(says)) {
         return Some(false);
     }
-    takes_tag_out(alloc, lists, None)
+    takes_tag_out(alloc, &octets, Ok((before, behind)))
 }
 
 /// Whether octets are refused as a ring frame so.
 pub fn is_not_untagged(
     alloc: Global,
-    lists: &mut Lists,
     text: Text,
     says: Result<Tagging, TagFault>,
     fault: UntagFault,
 ) -> Option<bool> {
-    lists.give(&[text])?;
-    if tag_of(&lists.given) != Some(says) {
+    let octets = joined(alloc, &[text])?;
+    if tag_of(&octets) != Some(says) {
         return Some(false);
     }
-    takes_tag_out(alloc, lists, Some(fault))
-}
-
-// How many octets a frame has, which is let go.
-fn length_of(own: Frame) -> usize {
-    let length = own.octets().len();
-    drop(own);
-    length
+    takes_tag_out(alloc, &octets, Err(fault))
 }
 
 /// What becomes of the first octets of a frame.
@@ -219,25 +186,18 @@ fn cut_of(alloc: Global, octets: &[u8]) -> Option<Option<Cut>> {
         Err(UntagFault::NoMemory) => None,
         Err(UntagFault::Truncated) => Some(Some(Cut::Truncated)),
         Err(_) => Some(None),
-        Ok(own) => {
-            let is_six_fewer = octets.len().checked_sub(length_of(own)) == Some(6);
-            Some(is_six_fewer.then_some(Cut::Untagged))
-        }
+        Ok(own) if octets.len().checked_sub(own.octets().len()) == Some(6) => Some(Some(
+            Cut::Untagged,
+        )),
+        Ok(_) => Some(None),
     }
 }
 
 /// Whether each beginning of octets, of these lengths, is refused or read so.
-pub fn are_cut(
-    alloc: Global,
-    lists: &mut Lists,
-    text: Text,
-    from: usize,
-    to: usize,
-    cut: Cut,
-) -> Option<bool> {
-    lists.give(&[text])?;
+pub fn are_cut(alloc: Global, text: Text, from: usize, to: usize, cut: Cut) -> Option<bool> {
+    let octets = joined(alloc, &[text])?;
     for len in from..to {
-        if len > lists.given.len() || cut_of(alloc, &lists.given[..len])? != Some(cut) {
+        if len > octets.len() || cut_of(alloc, &octets[..len])? != Some(cut) {
             return Some(false);
         }
     }
@@ -246,19 +206,18 @@ pub fn are_cut(
 
 /// Whether the view of a ring frame without its tag has these fields.
 pub fn has_untagged_view(
-    lists: &mut Lists,
+    alloc: Global,
     text: Text,
     names: (Option<u16>, u16),
     payload: Text,
 ) -> Option<bool> {
-    lists.give(&[text])?;
-    lists.want(&[payload])?;
-    let Ok(frame) = view(&lists.given) else {
+    let octets = joined(alloc, &[text])?;
+    let Ok(frame) = view(&octets) else {
         return Some(false);
     };
     match untagged_view(&frame) {
         Ok((plain, _)) => Some(
-            (plain.vlan, plain.ethertype) == names && plain.payload == lists.wanted.as_slice(),
+            (plain.vlan, plain.ethertype) == names && is_text(alloc, plain.payload, &[payload])?,
         ),
         Err(_) => Some(false),
     }
@@ -267,17 +226,13 @@ pub fn has_untagged_view(
 /// Whether a plain frame gets this tag, or is refused.
 pub fn is_tagged(
     alloc: Global,
-    lists: &mut Lists,
     before: Text,
     plain: Text,
     (path, seq): (u8, u16),
     wanted: Option<Text>,
 ) -> Option<bool> {
-    lists.give(&[before, plain])?;
-    if let Some(behind) = wanted {
-        lists.want(&[before, behind])?;
-    }
-    let Ok(frame) = view(&lists.given) else {
+    let octets = joined(alloc, &[before, plain])?;
+    let Ok(frame) = view(&octets) else {
         return Some(false);
     };
     if path >= 16 {
@@ -287,19 +242,22 @@ pub fn is_tagged(
         Err(FrameFault::NoMemory) => None,
         Err(FrameFault::TooLong) => Some(wanted.is_none()),
         Err(FrameFault::TooShort) => Some(false),
-        Ok(own) => Some(is_frame(own, &lists.wanted) && wanted.is_some()),
+        Ok(own) => match wanted {
+            Some(behind) => is_text(alloc, own.octets(), &[before, behind]),
+            None => Some(false),
+        },
     }
 }
 
 /// Whether octets are read as supervision that says this, or are none.
 pub fn is_said(
-    lists: &mut Lists,
+    alloc: Global,
     head: Text,
     payload: Text,
     said: Result<Saying, SupFault>,
 ) -> Option<bool> {
-    lists.give(&[head, payload])?;
-    let Ok(frame) = view(&lists.given) else {
+    let octets = joined(alloc, &[head, payload])?;
+    let Ok(frame) = view(&octets) else {
         return Some(false);
     };
     let is_addressed = said != Err(SupFault::NotSupervision);
@@ -323,39 +281,17 @@ fn supervision_of(saying: Saying) -> Supervision {
 }
 
 /// Whether supervision is written so.
-pub fn is_written(
-    alloc: Global,
-    lists: &mut Lists,
-    saying: Saying,
-    head: Text,
-    payload: Text,
-) -> Option<bool> {
-    lists.want(&[head, payload])?;
+pub fn is_written(alloc: Global, saying: Saying, head: Text, payload: Text) -> Option<bool> {
     let own = write(alloc, &supervision_of(saying)).ok()?;
-    Some(is_frame(own, &lists.wanted))
-}
-
-// Whether a frame goes out so on a LAN, with its trailer.
-fn is_trailed(alloc: Global, own: &Frame, seq: u16, lan: Lan, wanted: &[u8]) -> Option<bool> {
-    match appended(alloc, &own.view(), Seq(seq), lan) {
-        Err(FrameFault::NoMemory) => None,
-        Err(_) => Some(false),
-        Ok(sent) => Some(is_frame(sent, wanted)),
-    }
+    is_text(alloc, own.octets(), &[head, payload])
 }
 
 /// Whether supervision goes out so on a LAN, with its trailer.
-pub fn is_sent(
-    alloc: Global,
-    lists: &mut Lists,
-    saying: Saying,
-    seq: u16,
-    lan: Lan,
-    text: Text,
-) -> Option<bool> {
-    lists.want(&[text])?;
+pub fn is_sent(alloc: Global, saying: Saying, seq: u16, lan: Lan, text: Text) -> Option<bool> {
     let own = write(alloc, &supervision_of(saying)).ok()?;
-    let is_sent = is_trailed(alloc, &own, seq, lan, &lists.wanted);
-    drop(own);
-    is_sent
+    match appended(alloc, &own.view(), Seq(seq), lan) {
+        Err(FrameFault::NoMemory) => None,
+        Err(_) => Some(false),
+        Ok(sent) => is_text(alloc, sent.octets(), &[text]),
+    }
 }

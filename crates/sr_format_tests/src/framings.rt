@@ -36,45 +36,37 @@ fn number_of(seq: Option<Seq>) -> Option<u16> {
 // Whether a parcel has an equal copy.
 fn is_cloned(alloc: Global, parcel: &Parcel) -> Result<bool, ReadFault> {
     let own = parcel.try_clone(alloc)?;
-    let is_same = own == *parcel;
-    drop(own);
-    Ok(is_same)
+    Ok(own == *parcel)
 }
 
 // Whether the plain form of a parcel is copied whole.
 fn is_copied_plain(alloc: Global, parcel: &Parcel, plain: &[u8]) -> Result<bool, ReadFault> {
     let own = parcel.view().to_plain_parcel(alloc)?;
-    let is_same = own.octets() == plain;
-    drop(own);
-    Ok(is_same)
+    Ok(own.octets() == plain)
 }
 
 // Whether it goes up to a host whole, with nothing behind it.
 fn goes_up(alloc: Global, parcel: &Parcel, plain: &[u8]) -> Result<bool, ReadFault> {
     let sent = PlainFraming.encode(alloc, parcel)?;
-    let is_same = sent.octets() == plain;
-    drop(sent);
-    Ok(is_same)
+    Ok(sent.octets() == plain)
 }
 
-// Whether the plain form of a parcel, which is written to the list, is this one.
-fn is_plain(own: &mut Vec<u8>, parcel: &Parcel, plain: &[u8]) -> Result<bool, ReadFault> {
-    own.clear();
-    append(own, &parcel.plain())?;
-    Ok(own.as_slice() == plain)
-}
-
-// What a parcel is, and whether its plain form, its copy and its octets for a host are as they have to be.
-fn seen_as(
+/// What a framing reads, and whether the plain form is this one.
+fn read_by(
+    framing: &dyn Framing,
     alloc: Global,
-    own: &mut Vec<u8>,
-    parcel: &Parcel,
+    octets: &[u8],
     plain: &[u8],
 ) -> Result<Seen, ReadFault> {
-    if !(is_plain(own, parcel, plain)?
-        && is_cloned(alloc, parcel)?
-        && is_copied_plain(alloc, parcel, plain)?
-        && goes_up(alloc, parcel, plain)?)
+    let parcel = framing.decode(alloc, octets)?;
+    let mut own = Vec::new(alloc);
+    append(&mut own, &parcel.plain())?;
+    if own.as_slice() != plain {
+        return Ok(Seen::OtherPlain);
+    }
+    if !(is_cloned(alloc, &parcel)?
+        && is_copied_plain(alloc, &parcel, plain)?
+        && goes_up(alloc, &parcel, plain)?)
     {
         return Ok(Seen::OtherPlain);
     }
@@ -86,44 +78,38 @@ fn seen_as(
     ))
 }
 
-/// What a framing reads, and whether the plain form is this one.
-fn read_by(
-    framing: &dyn Framing,
-    alloc: Global,
-    own: &mut Vec<u8>,
-    octets: &[u8],
-    plain: &[u8],
-) -> Result<Seen, ReadFault> {
-    match framing.decode(alloc, octets) {
-        Ok(parcel) => {
-            let seen = seen_as(alloc, own, &parcel, plain);
-            drop(parcel);
-            seen
-        }
-        Err(fault) => Err(fault),
-    }
-}
-
-/// What is read at a port. The list takes the plain form.
-pub fn read_at(alloc: Global, own: &mut Vec<u8>, at: At, octets: &[u8], plain: &[u8]) -> Seen {
+/// What is read at a port.
+pub fn read_at(alloc: Global, at: At, octets: &[u8], plain: &[u8]) -> Seen {
     let seen = match at {
-        At::Hsr(path) => read_by(&HsrFraming { path: path % 16 }, alloc, own, octets, plain),
+        At::Hsr(path) => read_by(&HsrFraming { path: path % 16 }, alloc, octets, plain),
         At::Prp(lan, net) => read_by(
             &PrpFraming {
                 lan,
                 net: net.min(MAX_NET),
             },
             alloc,
-            own,
             octets,
             plain,
         ),
-        At::Plain => read_by(&PlainFraming, alloc, own, octets, plain),
+        At::Plain => read_by(&PlainFraming, alloc, octets, plain),
     };
     match seen {
         Ok(seen) => seen,
         Err(fault) => Seen::Refused(fault),
     }
+}
+
+/// A plain parcel of these octets under a number, written at a port and read there again, is this frame with that number.
+fn comes_back(
+    framing: &dyn Framing,
+    alloc: Global,
+    plain: &[u8],
+    again: &[u8],
+    seen: Seen,
+) -> Result<bool, ReadFault> {
+    let parcel = Parcel::plain_with(frame_of(alloc, plain)?, Some(Seq(7)));
+    let octets = framing.encode(alloc, &parcel)?;
+    Ok(read_by(framing, alloc, octets.octets(), again)? == seen)
 }
 
 fn frame_of(alloc: Global, octets: &[u8]) -> Result<Frame, ReadFault> {
@@ -133,53 +119,25 @@ fn frame_of(alloc: Global, octets: &[u8]) -> Result<Frame, ReadFault> {
     }
 }
 
-// What a port sends of a plain parcel of these octets under a number.
-fn sent(framing: &dyn Framing, alloc: Global, plain: &[u8]) -> Result<Frame, ReadFault> {
-    let parcel = Parcel::plain_with(frame_of(alloc, plain)?, Some(Seq(7)));
-    let sent = framing.encode(alloc, &parcel);
-    drop(parcel);
-    sent
-}
-
-/// A plain parcel of these octets under a number, written at a port and read there again, is this frame with that number.
-fn comes_back(
-    framing: &dyn Framing,
-    alloc: Global,
-    own: &mut Vec<u8>,
-    plain: &[u8],
-    again: &[u8],
-    seen: Seen,
-) -> Result<bool, ReadFault> {
-    let octets = sent(framing, alloc, plain)?;
-    let read = read_by(framing, alloc, own, octets.octets(), again);
-    drop(octets);
-    Ok(read? == seen)
-}
-
-/// The frame with zeros up to 60 octets, or 64 with a VLAN tag, in place of what the list has.
-fn pad(octets: &mut Vec<u8>, plain: &[u8]) -> Result<(), AllocError> {
+/// The frame with zeros up to 60 octets, or 64 with a VLAN tag.
+fn padded(alloc: Global, plain: &[u8]) -> Result<Vec<u8>, AllocError> {
     let least = match plain {
         [_, _, _, _, _, _, _, _, _, _, _, _, 0x81, 0, ..] => 64,
         _ => 60,
     };
-    octets.clear();
+    let mut octets = Vec::new(alloc);
     octets.extend_from_slice(plain)?;
     for _ in plain.len()..least {
         octets.push(0)?;
     }
-    Ok(())
+    Ok(octets)
 }
 
 /// Whether a plain frame is written by all three framings and read again: padded, but where it was plain before.
-pub fn all_three(
-    alloc: Global,
-    own: &mut Vec<u8>,
-    again: &mut Vec<u8>,
-    plain: &[u8],
-) -> Result<bool, ReadFault> {
-    if pad(again, plain).is_err() {
+pub fn all_three(alloc: Global, plain: &[u8]) -> Result<bool, ReadFault> {
+    let Ok(again) = padded(alloc, plain) else {
         return Err(ReadFault::NoMemory);
-    }
+    };
     let ring = HsrFraming { path: 1 };
     let lan = PrpFraming {
         lan: Lan::B,
@@ -189,8 +147,8 @@ pub fn all_three(
     let by_lan = Seen::Parcel(Form::Prp, Some(7), 7, false);
     let by_plain = Seen::Parcel(Form::Plain, None, 0, false);
     Ok(
-        comes_back(&ring, alloc, own, plain, again, by_ring)?
-            && comes_back(&lan, alloc, own, plain, again, by_lan)?
-            && comes_back(&PlainFraming, alloc, own, plain, plain, by_plain)?,
+        comes_back(&ring, alloc, plain, &again, by_ring)?
+            && comes_back(&lan, alloc, plain, &again, by_lan)?
+            && comes_back(&PlainFraming, alloc, plain, plain, by_plain)?,
     )
 }

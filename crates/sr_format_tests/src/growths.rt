@@ -18,21 +18,11 @@ fn ring_parcel(alloc: Global) -> Option<Parcel> {
     }
 }
 
-// Whether a copy, which is let go, is the parcel.
-fn is_parcel(copy: Parcel, parcel: &Parcel) -> bool {
-    let is_same = copy == *parcel;
-    drop(copy);
-    is_same
-}
-
 /// Whether a parcel has an equal copy, also where an allocation fails once.
 fn has_copy(alloc: Global, parcel: &Parcel) -> bool {
     match parcel.try_clone(alloc) {
-        Ok(copy) => is_parcel(copy, parcel),
-        Err(_) => match parcel.try_clone(alloc) {
-            Ok(copy) => is_parcel(copy, parcel),
-            Err(_) => false,
-        },
+        Ok(copy) => copy == *parcel,
+        Err(_) => parcel.try_clone(alloc).is_ok(),
     }
 }
 
@@ -47,35 +37,25 @@ fn goes_behind(framing: &dyn Framing, out: &mut Vec<u8>, parcel: &Parcel) -> boo
     }
 }
 
-fn goes_twice(framing: &dyn Framing, out: &mut Vec<u8>, parcel: &Parcel) -> bool {
-    goes_behind(framing, out, parcel) && goes_behind(framing, out, parcel)
-}
-
-/// Whether a parcel is written twice by a framing, behind an empty list.
+/// Whether a parcel is written twice by a framing.
 fn goes_out(alloc: Global, framing: &dyn Framing, parcel: &Parcel) -> bool {
     let mut out = Vec::new(alloc);
-    let goes = goes_twice(framing, &mut out, parcel);
-    drop(out);
-    goes
-}
-
-fn all_go_out(alloc: Global, parcel: &Parcel) -> bool {
-    let lan = PrpFraming {
-        lan: Lan::A,
-        net: 1,
-    };
-    has_copy(alloc, parcel)
-        && goes_out(alloc, &HsrFraming { path: 0 }, parcel)
-        && goes_out(alloc, &lan, parcel)
-        && goes_out(alloc, &PlainFraming, parcel)
+    goes_behind(framing, &mut out, parcel) && goes_behind(framing, &mut out, parcel)
 }
 
 /// Whether all calls that allocate do their work, also where an allocation fails once.
 fn survives(alloc: Global) -> Option<bool> {
     let parcel = ring_parcel(alloc)?;
-    let survives = all_go_out(alloc, &parcel);
-    drop(parcel);
-    Some(survives)
+    let lan = PrpFraming {
+        lan: Lan::A,
+        net: 1,
+    };
+    Some(
+        has_copy(alloc, &parcel)
+            && goes_out(alloc, &HsrFraming { path: 0 }, &parcel)
+            && goes_out(alloc, &lan, &parcel)
+            && goes_out(alloc, &PlainFraming, &parcel),
+    )
 }
 
 #[test]

@@ -2,7 +2,7 @@
 
 use super::framings::{At, Seen, all_three, read_at};
 use super::texts::Part::{self, These, Zeros};
-use super::texts::{Lists, Text};
+use super::texts::{Text, joined};
 use sr_forwarding::{Form, Framing, HsrFraming, PrpFraming, ReadFault};
 use sr_prp_trailer::Lan;
 use std::alloc::Global;
@@ -141,17 +141,16 @@ const READINGS: &[Reading] = &[
 ];
 
 /// Whether the octets are read so. None where an allocation failed.
-fn reads(alloc: Global, lists: &mut Lists, row: Reading) -> Option<bool> {
+fn reads(alloc: Global, row: Reading) -> Option<bool> {
     let (at, octets, plain, seen_as) = row;
-    lists.give(&[octets])?;
-    lists.want(&[plain])?;
-    let seen = read_at(alloc, &mut lists.own, at, &lists.given, &lists.wanted);
-    Some(seen == seen_as)
+    let octets = joined(alloc, &[octets])?;
+    let plain = joined(alloc, &[plain])?;
+    Some(read_at(alloc, at, &octets, &plain) == seen_as)
 }
 
-fn first_reading(alloc: Global, lists: &mut Lists) -> Option<usize> {
+fn first_reading(alloc: Global) -> Option<usize> {
     for (place, row) in READINGS.iter().enumerate() {
-        if reads(alloc, lists, *row) != Some(true) {
+        if reads(alloc, *row) != Some(true) {
             return Some(place);
         }
     }
@@ -160,24 +159,18 @@ fn first_reading(alloc: Global, lists: &mut Lists) -> Option<usize> {
 
 #[test]
 fn edges_of_reading(rt: HostRuntime) {
-    let mut lists = Lists::new(rt.alloc());
-    let wrong = first_reading(rt.alloc(), &mut lists);
-    drop(lists);
-    assert_eq!(rt; wrong, None);
+    assert_eq!(rt; first_reading(rt.alloc()), None);
 }
 
 // The longest plain frame, with a tag, with a trailer, and as it is. None where an allocation failed.
-fn longest_is_written(alloc: Global, lists: &mut Lists) -> Option<bool> {
-    lists.give(&[&[TO_ONE, These(b"\x08\x00"), Zeros(1504)]])?;
-    all_three(alloc, &mut lists.own, &mut lists.again, &lists.given).ok()
+fn longest_is_written(alloc: Global) -> Option<bool> {
+    let plain = joined(alloc, &[&[TO_ONE, These(b"\x08\x00"), Zeros(1504)]])?;
+    all_three(alloc, &plain).ok()
 }
 
 #[test]
 fn the_longest_frame_is_written(rt: HostRuntime) {
-    let mut lists = Lists::new(rt.alloc());
-    let is_written = longest_is_written(rt.alloc(), &mut lists);
-    drop(lists);
-    assert_eq!(rt; is_written, Some(true));
+    assert_eq!(rt; longest_is_written(rt.alloc()), Some(true));
 }
 
 /// What the first octets of a frame are read as.
@@ -192,15 +185,11 @@ enum Beginning {
 
 fn begins_as(alloc: Global, framing: &dyn Framing, octets: &[u8]) -> Beginning {
     match framing.decode(alloc, octets) {
-        Ok(parcel) => {
-            let is_numbered = parcel.seq().is_some();
-            drop(parcel);
-            if is_numbered {
-                Beginning::Numbered
-            } else {
-                Beginning::Unnumbered
-            }
-        }
+        Ok(parcel) => if parcel.seq().is_some() {
+            Beginning::Numbered
+        } else {
+            Beginning::Unnumbered
+        },
         Err(ReadFault::TooShort) => Beginning::TooShort,
         Err(ReadFault::Truncated) => Beginning::Truncated,
         Err(_) => Beginning::Other,
@@ -211,10 +200,14 @@ fn begins_as(alloc: Global, framing: &dyn Framing, octets: &[u8]) -> Beginning {
 fn begins(
     alloc: Global,
     framing: &dyn Framing,
-    octets: &[u8],
-    (from, end): (usize, usize),
+    frame: Text,
+    from: usize,
+    end: usize,
     seen: Beginning,
 ) -> bool {
+    let Some(octets) = joined(alloc, &[frame]) else {
+        return false;
+    };
     for len in from..end {
         if len > octets.len() || begins_as(alloc, framing, &octets[..len]) != seen {
             return false;
@@ -223,72 +216,29 @@ fn begins(
     true
 }
 
-// From which length on, and below which, the beginnings of a frame are read as this.
-type Beginnings = ((usize, usize), Beginning);
-
-// The lengths whose beginnings are read otherwise.
-fn first_beginning(
-    alloc: Global,
-    lists: &mut Lists,
-    framing: &dyn Framing,
-    frame: Text,
-    rows: &[Beginnings],
-) -> Option<(usize, usize)> {
-    if lists.give(&[frame]).is_none() {
-        return Some((0, 0));
-    }
-    for (lengths, seen) in rows {
-        if !begins(alloc, framing, &lists.given, *lengths, *seen) {
-            return Some(*lengths);
-        }
-    }
-    None
-}
-
-const RING_FRAME: Text = &[
-    TO_ONE,
-    These(b"\x89\x2f\x00\x34\xfb\xff\x08\x00"),
-    Zeros(46),
-];
-
-const RING_BEGINNINGS: &[Beginnings] = &[
-    ((0, 14), Beginning::TooShort),
-    ((14, 20), Beginning::Truncated),
-    ((20, 67), Beginning::Numbered),
-];
-
-const LAN_FRAME: Text = &[
-    TO_ONE,
-    These(b"\x08\x00"),
-    Zeros(48),
-    These(b"\xa0\x34\x88\xfb"),
-];
-
-const LAN_BEGINNINGS: &[Beginnings] = &[
-    ((0, 14), Beginning::TooShort),
-    ((14, 66), Beginning::Unnumbered),
-    ((66, 67), Beginning::Numbered),
-];
-
-fn first_of_a_ring(alloc: Global, lists: &mut Lists) -> Option<(usize, usize)> {
+#[test]
+fn beginnings_of_frames(rt: HostRuntime) {
+    let alloc = rt.alloc();
+    let frame: &[Part] = &[
+        TO_ONE,
+        These(b"\x89\x2f\x00\x34\xfb\xff\x08\x00"),
+        Zeros(46),
+    ];
     let ring = HsrFraming { path: 0 };
-    first_beginning(alloc, lists, &ring, RING_FRAME, RING_BEGINNINGS)
-}
-
-fn first_of_a_lan(alloc: Global, lists: &mut Lists) -> Option<(usize, usize)> {
+    assert!(rt; begins(alloc, &ring, frame, 0, 14, Beginning::TooShort));
+    assert!(rt; begins(alloc, &ring, frame, 14, 20, Beginning::Truncated));
+    assert!(rt; begins(alloc, &ring, frame, 20, 67, Beginning::Numbered));
+    let frame: &[Part] = &[
+        TO_ONE,
+        These(b"\x08\x00"),
+        Zeros(48),
+        These(b"\xa0\x34\x88\xfb"),
+    ];
     let lan = PrpFraming {
         lan: Lan::A,
         net: 0,
     };
-    first_beginning(alloc, lists, &lan, LAN_FRAME, LAN_BEGINNINGS)
-}
-
-#[test]
-fn beginnings_of_frames(rt: HostRuntime) {
-    let mut lists = Lists::new(rt.alloc());
-    let of_a_ring = first_of_a_ring(rt.alloc(), &mut lists);
-    let of_a_lan = first_of_a_lan(rt.alloc(), &mut lists);
-    drop(lists);
-    assert_eq!(&rt; of_a_ring, None);
-    assert_eq!(&rt; of_a_lan, None);
+    assert!(rt; begins(alloc, &lan, frame, 0, 14, Beginning::TooShort));
+    assert!(rt; begins(alloc, &lan, frame, 14, 66, Beginning::Unnumbered));
+    assert!(rt; begins(alloc, &lan, frame, 66, 67, Beginning::Numbered));
 }

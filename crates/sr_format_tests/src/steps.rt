@@ -1,7 +1,7 @@
 //! One driver for all tests: it makes the calls of a table, and answers at which one it differs.
 
 use super::calls;
-use super::texts::{Lists, Text};
+use super::texts::Text;
 use sr_frame::{FrameFault, Mac};
 use sr_hsr_tag::{TagFault, UntagFault};
 use sr_prp_trailer::Lan;
@@ -64,51 +64,44 @@ pub enum Cut {
 }
 
 /// Whether a call comes to what it has to. None where an allocation failed.
-fn comes(alloc: Global, lists: &mut Lists, step: Step) -> Option<bool> {
+fn comes(alloc: Global, step: Step) -> Option<bool> {
     match step {
-        Step::View(text, fault) => calls::is_viewed(lists, text, fault),
+        Step::View(text, fault) => calls::is_viewed(alloc, text, fault),
         Step::Fields(text, names, payload, lengths) => calls::has_fields(
-            lists, text, names, payload, lengths,
+            alloc, text, names, payload, lengths,
         ),
-        Step::Copies(text, kind) => calls::is_copied(alloc, lists, text, kind),
+        Step::Copies(text, kind) => calls::is_copied(alloc, text, kind),
         Step::Address(mac, text, is_group) => calls::is_shown(alloc, mac, text, is_group),
-        Step::Trailer(plain, last, trailer) => calls::has_trailer(
-            alloc, lists, plain, last, trailer,
-        ),
+        Step::Trailer(plain, last, trailer) => calls::has_trailer(alloc, plain, last, trailer),
         Step::Appended(given, seq, lan, wanted) => calls::is_appended(
-            alloc, lists, given, seq, lan, wanted,
+            alloc, given, seq, lan, wanted,
         ),
         Step::Untagged(before, tag, behind, says) => calls::is_untagged(
-            alloc, lists, before, tag, behind, says,
+            alloc, before, tag, behind, says,
         ),
-        Step::NotUntagged(text, says, fault) => calls::is_not_untagged(
-            alloc, lists, text, says, fault,
-        ),
-        Step::Cut(text, (from, to), cut) => calls::are_cut(alloc, lists, text, from, to, cut),
+        Step::NotUntagged(text, says, fault) => calls::is_not_untagged(alloc, text, says, fault),
+        Step::Cut(text, (from, to), cut) => calls::are_cut(alloc, text, from, to, cut),
         Step::UntaggedView(text, names, payload) => calls::has_untagged_view(
-            lists, text, names, payload,
+            alloc, text, names, payload,
         ),
         Step::Tagged(before, plain, path, seq, wanted) => calls::is_tagged(
             alloc,
-            lists,
             before,
             plain,
             (path, seq),
             wanted,
         ),
-        Step::Said(head, payload, said) => calls::is_said(lists, head, payload, said),
-        Step::Written(saying, head, payload) => calls::is_written(
-            alloc, lists, saying, head, payload,
-        ),
-        Step::Sent(saying, seq, lan, text) => calls::is_sent(alloc, lists, saying, seq, lan, text),
+        Step::Said(head, payload, said) => calls::is_said(alloc, head, payload, said),
+        Step::Written(saying, head, payload) => calls::is_written(alloc, saying, head, payload),
+        Step::Sent(saying, seq, lan, text) => calls::is_sent(alloc, saying, seq, lan, text),
     }
 }
 
 /// The place of the first step that differs, or None. Where an allocation fails, the step is gone again.
-fn first_wrong(alloc: Global, lists: &mut Lists, steps: &[Step]) -> Option<usize> {
+fn first_wrong(alloc: Global, steps: &[Step]) -> Option<usize> {
     for (place, step) in steps.iter().enumerate() {
-        let is_right = match comes(alloc, lists, *step) {
-            None => comes(alloc, lists, *step),
+        let is_right = match comes(alloc, *step) {
+            None => comes(alloc, *step),
             other => other,
         };
         if is_right != Some(true) {
@@ -118,14 +111,7 @@ fn first_wrong(alloc: Global, lists: &mut Lists, steps: &[Step]) -> Option<usize
     None
 }
 
-fn wrong(alloc: Global, steps: &[Step]) -> Option<usize> {
-    let mut lists = Lists::new(alloc);
-    let wrong = first_wrong(alloc, &mut lists, steps);
-    drop(lists);
-    wrong
-}
-
 /// Fails the test at the place of the first step that differs.
 pub fn expect_steps<R: Abort + AllocGlobal>(rt: &R, steps: &[Step]) {
-    assert_eq!(rt; wrong(rt.alloc(), steps), None);
+    assert_eq!(rt; first_wrong(rt.alloc(), steps), None);
 }

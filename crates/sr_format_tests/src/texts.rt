@@ -55,46 +55,17 @@ pub fn append_text(octets: &mut Vec<u8>, text: Text) -> Result<(), AllocError> {
     Ok(())
 }
 
-/// Lists of octets that calls are made with. They stay from call to call, so that no proof lets them go.
-#[derive(Drop)]
-pub struct Lists {
-    /// What is read, or written down.
-    pub given: Vec<u8>,
-    /// What has to come of it.
-    pub wanted: Vec<u8>,
-    /// What a parcel has as its plain form, or a list that a frame is put into.
-    pub own: Vec<u8>,
-    /// What a plain form is read as where it was written.
-    pub again: Vec<u8>,
-}
-
-impl Lists {
-    /// Empty lists.
-    pub fn new(alloc: Global) -> Lists {
-        Lists {
-            given: Vec::new(alloc),
-            wanted: Vec::new(alloc),
-            own: Vec::new(alloc),
-            again: Vec::new(alloc),
-        }
-    }
-
-    /// Texts, one behind the other, are given. None where an allocation failed.
-    pub fn give(&mut self, texts: &[Text]) -> Option<()> {
-        put(&mut self.given, texts)
-    }
-
-    /// Texts, one behind the other, are wanted. None where an allocation failed.
-    pub fn want(&mut self, texts: &[Text]) -> Option<()> {
-        put(&mut self.wanted, texts)
-    }
-}
-
-// Texts, one behind the other, in place of what the list has.
-fn put(octets: &mut Vec<u8>, texts: &[Text]) -> Option<()> {
-    octets.clear();
+/// The texts one behind the other. None where an allocation failed.
+pub fn joined(alloc: Global, texts: &[Text]) -> Option<Vec<u8>> {
+    let mut octets = Vec::new(alloc);
     for text in texts {
-        append_text(octets, *text).ok()?;
+        append_text(&mut octets, *text).ok()?;
     }
-    Some(())
+    Some(octets)
+}
+
+/// Whether the octets are this text. None where an allocation failed.
+pub fn is_text(alloc: Global, octets: &[u8], texts: &[Text]) -> Option<bool> {
+    let wanted = joined(alloc, texts)?;
+    Some(wanted.as_slice() == octets)
 }
