@@ -1,9 +1,11 @@
-//! Tests of `sr_capture`, `sr_pcapng` and `sr_capture_script`, above them, so that their own functions are proved once: captures in
-//! memory, and the scripts that they give.
+//! Tests of `sr_capture`, `sr_pcapng`, `sr_capture_script` and `sr_clocks`, above them, so that their own functions are proved once:
+//! captures in memory, the scripts that they give, and clocks.
 #![tactic(auto)]
 
 #[cfg(test)]
 mod blocks;
+#[cfg(test)]
+mod clocks;
 #[cfg(test)]
 mod damage;
 #[cfg(test)]

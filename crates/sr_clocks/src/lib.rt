@@ -6,8 +6,6 @@ mod line;
 mod median;
 mod pair;
 mod sightings;
-#[cfg(test)]
-mod tests;
 mod window;
 
 pub use clocks::{Clocks, clocks_of};

@@ -1,8 +1,6 @@
 //! What worked cases tell of clocks.
 
-use crate::clocks::{Clocks, clocks_of};
-use crate::line::Line;
-use crate::pair::Pair;
+use sr_clocks::{Clocks, Line, Pair, clocks_of};
 use std::alloc::Global;
 
 /// Frames that both recorders saw, and what they tell.
