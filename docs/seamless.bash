@@ -17,9 +17,11 @@ _seamless() {
     "script --a") COMPREPLY=($(compgen -f -- "$2")) && return ;;
     "script --b") COMPREPLY=($(compgen -f -- "$2")) && return ;;
     "script --c") COMPREPLY=($(compgen -f -- "$2")) && return ;;
+    "script --network") words="prp hsr" ;;
     "script --shift-a") ;;
     "script --shift-b") ;;
     "script --shift-c") ;;
+    "script --shift") words="auto none" ;;
     "script --fcs") words="4" ;;
     "script --from") ;;
     "script --to") ;;
@@ -45,6 +47,7 @@ _seamless() {
     "merge --fcs") words="4" ;;
     "merge --from") ;;
     "merge --to") ;;
+    "merge --shift") words="auto none" ;;
     "merge --only") words="lost" ;;
     "ring --nodes") ;;
     "ring --turns") ;;
@@ -68,9 +71,9 @@ _seamless() {
         "1 "*) words="replay status script audit merge ring lan ring-lan two-rings --help --version" ;;
         *" replay") words="--role --mac --lan --net --mode --window --help" ;;
         *" status") words="--role --mac --lan --net --mode --window --counters --help" ;;
-        *" script") words="--a --b --c --shift-a --shift-b --shift-c --fcs --from --to --tick --help" ;;
+        *" script") words="--a --b --c --network --shift-a --shift-b --shift-c --shift --fcs --from --to --tick --help" ;;
         *" audit") words="--a --b --mirror --network --shift-a --shift-b --fcs --from --to --shift --list --format --check --help" ;;
-        *" merge") words="--a --b --write --network --shift-a --shift-b --fcs --from --to --keep --only --help" ;;
+        *" merge") words="--a --b --write --network --shift-a --shift-b --fcs --from --to --shift --keep --only --help" ;;
         *" ring") words="--nodes --turns --mode --window --help" ;;
         *" lan") words="--nodes --turns --mode --window --help" ;;
         *" ring-lan") words="--ring --lan --mode --window --help" ;;

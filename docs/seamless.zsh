@@ -17,9 +17,11 @@ _seamless() {
     "script --a") _files ;;
     "script --b") _files ;;
     "script --c") _files ;;
+    "script --network") compadd -- prp hsr ;;
     "script --shift-a") ;;
     "script --shift-b") ;;
     "script --shift-c") ;;
+    "script --shift") compadd -- auto none ;;
     "script --fcs") compadd -- 4 ;;
     "script --from") ;;
     "script --to") ;;
@@ -45,6 +47,7 @@ _seamless() {
     "merge --fcs") compadd -- 4 ;;
     "merge --from") ;;
     "merge --to") ;;
+    "merge --shift") compadd -- auto none ;;
     "merge --only") compadd -- lost ;;
     "ring --nodes") ;;
     "ring --turns") ;;
@@ -68,9 +71,9 @@ _seamless() {
         "2 "*) compadd -- replay status script audit merge ring lan ring-lan two-rings --help --version ;;
         *" replay") compadd -- --role --mac --lan --net --mode --window --help ;;
         *" status") compadd -- --role --mac --lan --net --mode --window --counters --help ;;
-        *" script") compadd -- --a --b --c --shift-a --shift-b --shift-c --fcs --from --to --tick --help ;;
+        *" script") compadd -- --a --b --c --network --shift-a --shift-b --shift-c --shift --fcs --from --to --tick --help ;;
         *" audit") compadd -- --a --b --mirror --network --shift-a --shift-b --fcs --from --to --shift --list --format --check --help ;;
-        *" merge") compadd -- --a --b --write --network --shift-a --shift-b --fcs --from --to --keep --only --help ;;
+        *" merge") compadd -- --a --b --write --network --shift-a --shift-b --fcs --from --to --shift --keep --only --help ;;
         *" ring") compadd -- --nodes --turns --mode --window --help ;;
         *" lan") compadd -- --nodes --turns --mode --window --help ;;
         *" ring-lan") compadd -- --ring --lan --mode --window --help ;;

@@ -1,5 +1,5 @@
 #!/usr/bin/env python3
-"""Random networks whose truth is known, against what `seamless audit --check` says of captures of both LANs.
+"""Random networks whose truth is known, against what `seamless audit --check` says of captures of both LANs, and `seamless merge` makes.
 
     gate/networks.py [--program PATH] [FIRST COUNT]     20 networks from seed 1 on; ./seamless by default
 
@@ -10,8 +10,9 @@ other numbers; a LAN that died, files that are swapped, recorders that don't ove
 them the clock of B is up to 10 s off and drifts by up to 50 ppm, and in some it is set while it records, so that two offsets fit. In
 a third of them the recorders begin and end at other moments, and have the frames of that time. In every fourth network a RedBox numbers
 the frames of two devices by one counter, and every third one is an HSR ring of 3 to 8 nodes, whose two ways are recorded at a link: half
-of its frames go to one node, and pass the link on one way. A ring loses frames of a way, or both, or it is cut. A line tells each network
-of which the audit says something else. The last line is `N passed, M failed`.
+of its frames go to one node, and pass the link on one way. A ring loses frames of a way, or both, or it is cut. A merge of a network that
+can be judged has each frame that a recorder has once, at the time of a copy by the clock of A. A line tells each network of which the audit
+says something else, or the merge has. The last line is `N passed, M failed`.
 """
 import argparse
 import json
@@ -358,17 +359,57 @@ def clock_differences(network, lines):
     return [] if abs(line["b_ahead_us"] * 1000 - wanted) <= OFFSET_LEFT else [f"{line}, and not {wanted} ns"]
 
 
+def packets_of(octets):
+    """The packets of a pcapng file of the least octet first, in nanoseconds: interface, time, and what was recorded."""
+    found, at = [], 0
+    while at < len(octets):
+        kind, size = struct.unpack_from("<II", octets, at)
+        if kind == 6:
+            lane, high, low, held = struct.unpack_from("<IIII", octets, at + 8)
+            found.append((lane, high << 32 | low, octets[at + 28:at + 28 + held]))
+        at += size
+    return found
+
+
+def merge_differences(network, packets):
+    """Where a merge that keeps trailers and tags is not each frame once, and each packet without number each time, in order of time."""
+    frames = {}
+    for source in network.sources:
+        for frame in source.frames:
+            for lan in frame["seen"]:
+                frames.setdefault((lan, network.octets_of(source, frame, lan)), []).append((frame, source.delays[lan]))
+    merged, plains = set(), 0
+    for lane, time, packet in packets:
+        if packet == plain():
+            plains += 1
+            continue
+        near = [(frame, delay) for frame, delay in frames.get((lane, packet), [])
+                if abs(BEGIN + frame["time"] + delay - time) <= 2 * OFFSET_LEFT]
+        if not near or id(near[0][0]) in merged:
+            return [f"the merge has {packet.hex()} at {time} once more than it came, or at no time of it"]
+        merged.add(id(near[0][0]))
+    seen = sum(bool(frame["seen"]) for source in network.sources for frame in source.frames)
+    found = [] if len(merged) == seen else [f"the merge has {len(merged)} frames, and not {seen}"]
+    found += [] if plains == 4 else [f"the merge has {plains} packets without number, and not 4"]
+    times = [time for _, time, _ in packets]
+    return found + ([] if times == sorted(times) else ["the merge is not in order of time"])
+
+
 def judge(program, seed, room):
     """What differs in the network of a seed."""
     network = network_of(seed)
     paths = [f"{room}/a.pcap", f"{room}/b.pcap"]
     for path, packets in zip(paths, network.captures()):
         write(path, packets)
-    args = [program, "audit", "--a", paths[0], "--b", paths[1], "--network", network.protocol, "--format", "json", "--check"]
+    args = ["--a", paths[0], "--b", paths[1], "--network", network.protocol]
     args += ["--shift", "auto"] if network.clock else []
-    run = subprocess.run(args, capture_output=True, text=True, timeout=60, check=False)
+    run = subprocess.run([program, "audit", *args, "--format", "json", "--check"], capture_output=True, text=True, timeout=60, check=False)
     lines = [json.loads(line) for line in run.stdout.splitlines()]
-    return [f"{type(network).__name__.lower()} {seed} ({', '.join(network.faults) or 'sound'}): {it}" for it in differences(network, run.returncode, lines)]
+    found = differences(network, run.returncode, lines)
+    if not UNJUDGED & set(network.faults) and network.has_pairs():
+        run = subprocess.run([program, "merge", *args, "--keep", "-w", "-"], capture_output=True, timeout=60, check=False)
+        found += merge_differences(network, packets_of(run.stdout)) if run.returncode == 0 else [f"a merge ends with status {run.returncode}"]
+    return [f"{type(network).__name__.lower()} {seed} ({', '.join(network.faults) or 'sound'}): {it}" for it in found]
 
 
 def main():

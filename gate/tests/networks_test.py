@@ -109,6 +109,20 @@ class NetworksTest(unittest.TestCase):
         self.assertEqual(network.status(), 0)
         self.assertTrue(any(source.figures()[name] for source in network.sources for name in ("edge_a", "edge_b")))
 
+    def test_what_a_merge_lacks_or_has_too_much_is_found(self):
+        network = network_with("loss")
+        merged = [(min(frame["seen"]), networks.BEGIN + frame["time"] + source.delays[min(frame["seen"])],
+                   network.octets_of(source, frame, min(frame["seen"])))
+                  for source in network.sources for frame in source.frames if frame["seen"]]
+        merged += [(lan, networks.BEGIN + time, networks.plain()) for lan in range(2) for time in network.runs[lan]]
+        merged.sort(key=lambda packet: packet[1])
+        self.assertEqual(networks.merge_differences(network, merged), [])
+        self.assertTrue(networks.merge_differences(network, merged[1:]))
+        self.assertTrue(networks.merge_differences(network, merged[:-1] + [merged[-2], merged[-1]]))
+        self.assertTrue(networks.merge_differences(network, merged[::-1]))
+        moved = [(lane, time + 10**9, packet) for lane, time, packet in merged]
+        self.assertTrue(networks.merge_differences(network, moved))
+
     def test_a_frame_has_its_number_and_its_lan(self):
         source = networks.Source(random.Random(1), 0, 10)
         packet = networks.octets(source, {"number": 0x1234}, 1)

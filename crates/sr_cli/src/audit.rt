@@ -1,6 +1,6 @@
 //! The subcommand `audit`: opens the captures for each pass, and says what is wrong with one.
 
-use crate::clocks::{Known, on_clocks, read_clocks};
+use crate::clocks::{Known, on_clocks, read_clocks, recorders_of_audit};
 use crate::meanings::{lines_of, lists_of, network_of, subject_of};
 use crate::pipes::Pipe;
 use crate::progress::Progress;
@@ -61,20 +61,6 @@ fn open<'a, R: AllocGlobal + Eprint + Files>(
         Ok(captures) => Ok(captures),
         Err(fault) => Err(Ended::By(fault)),
     }
-}
-
-/// Opens one capture alone.
-pub fn open_alone<'a, R: AllocGlobal + Eprint + Files>(
-    rt: &'a R,
-    task: &AuditTask<'_>,
-    inlet: Inlet,
-    progress: Progress,
-) -> Result<Captures<Opened<'a, R>>, Ended> {
-    let alone = match inlet {
-        Inlet::A => AuditTask { b: None, ..*task },
-        _ => AuditTask { a: None, ..*task },
-    };
-    open(rt, &alone, progress)
 }
 
 /// Says that no packet of a capture is wanted.
@@ -518,7 +504,7 @@ pub fn run_audit<R: AllocGlobal + Print + Eprint + Files + RandomSource>(
         let _ = eprintln!(rt; "fault read");
         return Err(RUN_FAILED);
     };
-    let known = match read_clocks(rt, task, progress) {
+    let known = match read_clocks(rt, &recorders_of_audit(task), progress) {
         Ok(known) => known,
         Err(ended) => return Err(tell(rt, ended, false)),
     };

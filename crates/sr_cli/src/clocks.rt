@@ -1,12 +1,15 @@
-//! The clocks of the recorders of two captures: read ahead of an audit, by passes of their own.
+//! The clocks of the recorders of two captures: read ahead of all else, by passes of their own.
 
-use crate::audit::{Ended, open_alone};
+use crate::audit::Ended;
 use crate::meanings::network_of;
 use crate::progress::Progress;
-use sr_capture_audit::{Judgement, Reason, clocks_between, delays_by};
-use sr_capture_script::Inlet;
+use crate::script::{Opened, open_file, tell_ended};
+use sr_advice::letter_of;
+use sr_capture_audit::{Format, Judgement, Reason, clocks_between, delays_by, print_clocks};
+use sr_capture_script::{Captures, Inlet, Options, ScriptFault};
 use sr_clocks::{Clocks, Line};
-use sr_options::{AuditTask, Ports, Shift};
+use sr_options::{AuditTask, MergeTask, Network, Ports, ScriptTask, Shift};
+use std::fmt;
 use std::rt::Files;
 
 /// How many frames tell of clocks where nobody asked for them.
@@ -24,6 +27,81 @@ pub enum Known {
     Ahead(Line, i128, usize),
     /// They can't be told, and nothing can be judged.
     Unjudged(Judgement),
+}
+
+/// Why times are taken as they are.
+#[derive(Clone, Copy)]
+pub enum Untold<'a> {
+    /// The frames that both recorders saw don't tell of one offset.
+    By(Judgement),
+    /// A capture is none of a file, and is gone once it was read.
+    Once(&'a str),
+    /// A capture can't be read to its end.
+    Broken(Inlet),
+    /// The recordings are more than 146 years apart.
+    Far,
+}
+
+impl fmt::Display for Untold<'_> {
+    fn fmt<W: fmt::Write>(&self, f: &mut fmt::Formatter<W>) -> fmt::Result {
+        match *self {
+            Untold::By(Judgement::Unjudged(reason)) => write!(f, "{reason}"),
+            Untold::By(_) => f.write_str("nothing tells of them"),
+            Untold::Once(path) => write!(f, "{path} is no file, and can be read once alone"),
+            Untold::Broken(inlet) => {
+                let letter = letter_of(inlet);
+                write!(f, "{letter} can't be read to its end")
+            }
+            Untold::Far => f.write_str("the recordings are more than 146 years apart"),
+        }
+    }
+}
+
+/// The captures whose clocks are asked for.
+#[derive(Clone, Copy)]
+pub struct Recorders<'a> {
+    a: Option<&'a str>,
+    b: Option<&'a str>,
+    options: Options,
+    network: Network,
+    shift: Shift,
+}
+
+/// The captures of an audit.
+pub fn recorders_of_audit<'a>(task: &AuditTask<'a>) -> Recorders<'a> {
+    let b = match task.ports {
+        Ports::Two => task.b,
+        Ports::Mirror => None,
+    };
+    Recorders {
+        a: task.a,
+        b,
+        options: task.options,
+        network: task.network,
+        shift: task.shift,
+    }
+}
+
+/// The captures of a merge.
+pub fn recorders_of_merge<'a>(task: &MergeTask<'a>) -> Recorders<'a> {
+    Recorders {
+        a: task.a,
+        b: task.b,
+        options: task.options,
+        network: task.network,
+        shift: task.shift,
+    }
+}
+
+/// The captures of a script. Nothing tells of the clock of C.
+pub fn recorders_of_script<'a>(task: &ScriptTask<'a>) -> Recorders<'a> {
+    Recorders {
+        a: task.a,
+        b: task.b,
+        options: task.options,
+        network: task.network,
+        shift: task.shift,
+    }
 }
 
 /// What so many frames tell, where nobody asked.
@@ -50,24 +128,63 @@ fn known_asked(clocks: Clocks, ahead: i128) -> Known {
     }
 }
 
+/// Opens one capture alone.
+fn open_alone<'a, R: AllocGlobal + Eprint + Files>(
+    rt: &'a R,
+    recorders: &Recorders<'_>,
+    inlet: Inlet,
+    progress: Progress,
+) -> Result<Captures<Opened<'a, R>>, Ended> {
+    let interfaces = recorders.options.interfaces;
+    let (a, b) = match inlet {
+        Inlet::A => (recorders.a, None),
+        Inlet::B | Inlet::C => (None, recorders.b),
+    };
+    let Ok(a) = open_file(rt, Inlet::A, a, interfaces.a, progress) else {
+        return Err(Ended::Unopened);
+    };
+    let Ok(b) = open_file(rt, Inlet::B, b, interfaces.b, progress) else {
+        return Err(Ended::Unopened);
+    };
+    match Captures::open(rt.alloc(), a, b, None, &recorders.options) {
+        Ok(captures) => Ok(captures),
+        Err(fault) => Err(Ended::By(fault)),
+    }
+}
+
+impl Recorders<'_> {
+    /// Whether clocks are to be put right by frames, and there are two of them.
+    fn are_wanted(&self) -> bool {
+        self.shift != Shift::Given && self.a.is_some() && self.b.is_some()
+    }
+
+    /// What the frames of both captures, each opened alone, tell of their clocks.
+    fn told_by<'a, R: AllocGlobal + Eprint + Files>(
+        &self,
+        rt: &'a R,
+        a: &mut Captures<Opened<'a, R>>,
+        b: &mut Captures<Opened<'a, R>>,
+    ) -> Result<Known, ScriptFault> {
+        let (clocks, ahead) = clocks_between(rt.alloc(), network_of(self.network), a, b)?;
+        match self.shift {
+            Shift::Auto => Ok(known_asked(clocks, ahead)),
+            Shift::Unasked | Shift::Given => Ok(known_unasked(clocks, ahead)),
+        }
+    }
+}
+
 /// What the frames that both recorders saw tell of their clocks, by a pass over each capture.
 pub fn read_clocks<R: AllocGlobal + Eprint + Files>(
     rt: &R,
-    task: &AuditTask<'_>,
+    recorders: &Recorders<'_>,
     progress: Progress,
 ) -> Result<Known, Ended> {
-    let is_wanted = task.shift != Shift::Given && task.ports == Ports::Two;
-    if !is_wanted || task.a.is_none() || task.b.is_none() {
+    if !recorders.are_wanted() {
         return Ok(Known::Nothing);
     }
-    let mut a = open_alone(rt, task, Inlet::A, progress)?;
-    let mut b = open_alone(rt, task, Inlet::B, progress)?;
-    let network = network_of(task.network);
-    let (clocks, ahead) = clocks_between(rt.alloc(), network, &mut a, &mut b)?;
-    match task.shift {
-        Shift::Auto => Ok(known_asked(clocks, ahead)),
-        Shift::Unasked | Shift::Given => Ok(known_unasked(clocks, ahead)),
-    }
+    let mut a = open_alone(rt, recorders, Inlet::A, progress)?;
+    let mut b = open_alone(rt, recorders, Inlet::B, progress)?;
+    Ok(recorders.told_by(rt, &mut a, &mut b)?)
 }
 
 /// A task on the clocks that are known. Where the recordings are more than 146 years apart, it stays as it is.
@@ -80,4 +197,127 @@ pub fn on_clocks<'a>(task: &AuditTask<'a>, known: Known) -> AuditTask<'a> {
         }
     }
     own
+}
+
+/// The path, where what it names can be read once alone, as a pipe.
+fn read_once<'a, R: Files>(rt: &R, path: Option<&'a str>) -> Option<&'a str> {
+    let path = path?;
+    let metadata = std::fs::metadata(rt, path).ok()?;
+    if metadata.is_file() || metadata.is_dir() {
+        None
+    } else {
+        Some(path)
+    }
+}
+
+/// Why clocks that were asked for are not known.
+#[derive(Clone, Copy, PartialEq, Eq)]
+pub enum Unknown {
+    /// They can't be told, which standard error is told of.
+    Untold,
+    /// For another fault, which it is told of too.
+    Fault,
+}
+
+/// Says that times are taken as they are, and why. Where somebody asked for more, that is a fault.
+pub fn tell_untold<R: Eprint>(rt: &R, shift: Shift, untold: Untold<'_>) -> Result<(), Unknown> {
+    if shift == Shift::Auto {
+        let _ = eprintln!(rt; "fault clocks");
+        let _ = eprintln!(rt; "{untold}; --shift none takes the times as they are");
+        return Err(Unknown::Untold);
+    }
+    let _ = eprintln!(rt; "the times of B are taken as they are: {untold}");
+    Ok(())
+}
+
+/// Says how far the clock of B is ahead, as an audit does.
+pub fn tell_ahead<R: AllocGlobal + Eprint>(
+    rt: &R,
+    line: Line,
+    ahead: i128,
+    pairs: usize,
+) -> Result<(), Unknown> {
+    let mut text = Vec::new(rt.alloc());
+    if print_clocks(&mut text, Format::Text, line, ahead, pairs).is_err() {
+        tell_ended(rt, ScriptFault::NoMemory, false);
+        return Err(Unknown::Fault);
+    }
+    if let Ok(told) = str::from_utf8(text.as_slice()) {
+        let _ = eprint!(rt; "{told}");
+    }
+    Ok(())
+}
+
+/// Opens one capture alone. None: its front has a fault, which is told where it is opened again.
+fn open_front<'a, R: AllocGlobal + Eprint + Files>(
+    rt: &'a R,
+    recorders: &Recorders<'_>,
+    inlet: Inlet,
+    progress: Progress,
+) -> Result<Option<Captures<Opened<'a, R>>>, Unknown> {
+    match open_alone(rt, recorders, inlet, progress) {
+        Ok(captures) => Ok(Some(captures)),
+        Err(Ended::By(ScriptFault::File(_, _))) => Ok(None),
+        Err(Ended::By(fault)) => {
+            tell_ended(rt, fault, false);
+            Err(Unknown::Fault)
+        }
+        Err(Ended::Unopened) => Err(Unknown::Fault),
+    }
+}
+
+/// What is known of the clocks of two captures that are open. Where one of them ends early nothing is, which is told.
+fn read_opened<'a, R: AllocGlobal + Eprint + Files>(
+    rt: &'a R,
+    recorders: &Recorders<'_>,
+    a: &mut Captures<Opened<'a, R>>,
+    b: &mut Captures<Opened<'a, R>>,
+) -> Result<Known, Unknown> {
+    match recorders.told_by(rt, a, b) {
+        Ok(known) => Ok(known),
+        Err(ScriptFault::File(inlet, _)) => {
+            tell_untold(rt, recorders.shift, Untold::Broken(inlet))?;
+            Ok(Known::Nothing)
+        }
+        Err(fault) => {
+            tell_ended(rt, fault, false);
+            Err(Unknown::Fault)
+        }
+    }
+}
+
+/// What is known of the clocks of captures that may be pipes: of those nothing is, which is told.
+fn read_open_clocks<R: AllocGlobal + Eprint + Files>(
+    rt: &R,
+    recorders: &Recorders<'_>,
+    progress: Progress,
+) -> Result<Known, Unknown> {
+    if let Some(path) = read_once(rt, recorders.a).or(read_once(rt, recorders.b)) {
+        tell_untold(rt, recorders.shift, Untold::Once(path))?;
+        return Ok(Known::Nothing);
+    }
+    let Some(mut a) = open_front(rt, recorders, Inlet::A, progress)? else {
+        return Ok(Known::Nothing);
+    };
+    let Some(mut b) = open_front(rt, recorders, Inlet::B, progress)? else {
+        return Ok(Known::Nothing);
+    };
+    read_opened(rt, recorders, &mut a, &mut b)
+}
+
+/// What is known of the clocks of captures that are read again behind it. Where two offsets fit, or nothing is known though somebody asked,
+/// that is told.
+pub fn seek_clocks<R: AllocGlobal + Eprint + Files>(
+    rt: &R,
+    recorders: &Recorders<'_>,
+    progress: Progress,
+) -> Result<Known, Unknown> {
+    if !recorders.are_wanted() {
+        return Ok(Known::Nothing);
+    }
+    let known = read_open_clocks(rt, recorders, progress)?;
+    if let Known::Unjudged(judgement) = known {
+        tell_untold(rt, recorders.shift, Untold::By(judgement))?;
+    }
+    Ok(known)
 }

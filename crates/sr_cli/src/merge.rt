@@ -1,5 +1,8 @@
 //! The subcommand `merge`: opens the captures and the file that is written, and says what was merged.
 
+use crate::clocks::{
+    Known, Unknown, Untold, recorders_of_merge, seek_clocks, tell_ahead, tell_untold,
+};
 use crate::meanings::plan_of;
 use crate::pipes::Pipe;
 use crate::progress::Progress;
@@ -140,6 +143,28 @@ fn merge_into<'a, R: AllocGlobal + Eprint + Files, W: Write + Drop>(
     }
 }
 
+/// The task by the clocks that are known, of which standard error is told.
+fn on_known_clocks<'a, R: AllocGlobal + Eprint + Files>(
+    rt: &R,
+    task: &MergeTask<'a>,
+    progress: Progress,
+) -> Result<MergeTask<'a>, Unknown> {
+    let known = seek_clocks(rt, &recorders_of_merge(task), progress)?;
+    let Known::Ahead(line, ahead, pairs) = known else {
+        return Ok(*task);
+    };
+    match task.by_clock_of_a(ahead) {
+        Some(own) => {
+            tell_ahead(rt, line, ahead, pairs)?;
+            Ok(own)
+        }
+        None => {
+            tell_untold(rt, task.shift, Untold::Far)?;
+            Ok(*task)
+        }
+    }
+}
+
 /// Merges the captures into the file that is named, or into standard output. What was merged is told on standard error, and so is a fault.
 pub fn run_merge<R: AllocGlobal + Print + Eprint + Files + RandomSource>(
     rt: &R,
@@ -149,6 +174,9 @@ pub fn run_merge<R: AllocGlobal + Print + Eprint + Files + RandomSource>(
     if is_capture(rt, Inlet::A, task.a, task.out) || is_capture(rt, Inlet::B, task.b, task.out) {
         return Err(());
     }
+    let Ok(task) = &on_known_clocks(rt, task, progress) else {
+        return Err(());
+    };
     let Ok(keys) = Keys::new(rt) else {
         let _ = eprintln!(rt; "fault read");
         return Err(());

@@ -1,5 +1,8 @@
 //! The subcommand `script`: opens the captures, and says what is wrong with one.
 
+use crate::clocks::{
+    Known, Unknown, Untold, recorders_of_script, seek_clocks, tell_ahead, tell_untold,
+};
 use crate::pipes::{Pipe, Surveyed};
 use crate::progress::{Metered, Progress};
 use sr_advice::{FileFault, FileReason, Unopened, letter_of};
@@ -118,6 +121,35 @@ fn tell_fault<R: Eprint, W: Write>(rt: &R, fault: ScriptFault, is_closed: bool, 
     tell_ended(rt, fault, is_closed);
 }
 
+/// The task by the clocks that are known, of which standard error is told.
+fn on_known_clocks<'a, R: AllocGlobal + Eprint + Files>(
+    rt: &R,
+    task: &ScriptTask<'a>,
+    progress: Progress,
+) -> Result<ScriptTask<'a>, Unknown> {
+    let known = seek_clocks(rt, &recorders_of_script(task), progress)?;
+    let Known::Ahead(line, ahead, pairs) = known else {
+        return Ok(*task);
+    };
+    match task.by_clock_of_a(ahead) {
+        Some(own) => {
+            tell_ahead(rt, line, ahead, pairs)?;
+            Ok(own)
+        }
+        None => {
+            tell_untold(rt, task.shift, Untold::Far)?;
+            Ok(*task)
+        }
+    }
+}
+
+/// Says in a comment that clocks can't be told, so that who reads the script knows of it.
+fn tell_unknown<R: Print>(rt: &R, unknown: Unknown) {
+    if unknown == Unknown::Untold {
+        let _ = println!(rt; "# fault clocks");
+    }
+}
+
 /// Writes the script to standard output. A fault is told on standard error.
 pub fn run_script<R: AllocGlobal + Print + Eprint + Files>(
     rt: &R,
@@ -128,6 +160,13 @@ pub fn run_script<R: AllocGlobal + Print + Eprint + Files>(
     let a = open_for_script(rt, Inlet::A, task.a, interfaces.a, progress)?;
     let b = open_for_script(rt, Inlet::B, task.b, interfaces.b, progress)?;
     let c = open_for_script(rt, Inlet::C, task.c, interfaces.c, progress)?;
+    let task = &match on_known_clocks(rt, task, progress) {
+        Ok(task) => task,
+        Err(unknown) => {
+            tell_unknown(rt, unknown);
+            return Err(());
+        }
+    };
     let Ok(buffered) = BufWriter::new(rt.alloc(), Pipe::new(io::writer(rt))) else {
         let _ = eprintln!(rt; "fault memory");
         return Err(());

@@ -1,5 +1,8 @@
 -- The rules that options keep together.
-use Rattle.std.specs.Prelude.{◌≡◌, ◌≢◌, ℕ, ◌+◌, ◌≤◌, Bool, true, false, Option, Some, None, ⊤}
+use Rattle.std.specs.Prelude.{◌≡◌, ◌≢◌, ℕ, ◌+◌, ◌^◌, ◌≤◌, ℤ, Bool, true, false, Option, Some, None, ⊤, ◌⊎◌}
+use Rattle.sr_capture_script.specs.declared.choice.Delays.{Delays}
+use Rattle.sr_capture_script.specs.declared.choice.Options.{Options}
+use Rattle.sr_options.specs.Shifts.{others_longer, AreSetBack, AreSetBackTooFar}
 use Rattle.sr_options.specs.declared.audit_line.AuditTask.{AuditTask}
 use Rattle.sr_options.specs.declared.audit_line.Format.{Format}
 use Rattle.sr_options.specs.declared.audit_line.Format.TheVariants as format
@@ -8,6 +11,7 @@ use Rattle.sr_options.specs.declared.audit_line.Ports.{Ports}
 use Rattle.sr_options.specs.declared.audit_line.Ports.TheVariants as ports
 use Rattle.sr_options.specs.declared.coupled_line.Joins.{Joins}
 use Rattle.sr_options.specs.declared.coupled_line.Joins.TheVariants as joins
+use Rattle.sr_options.specs.declared.merge_line.MergeTask.{MergeTask}
 use Rattle.sr_options.specs.declared.plant_line.Shape.{Shape}
 use Rattle.sr_options.specs.declared.plant_line.Shape.TheVariants as shape
 use Rattle.sr_options.specs.declared.script_line.ScriptTask.{ScriptTask}
@@ -42,6 +46,22 @@ AuditKeepsRules t = FitsFormat t.format t.lists × StandsAlone t.ports t.b
 -- ticks are at least a millisecond apart
 abbrev pub ScriptKeepsRules : ScriptTask → Type 0
 ScriptKeepsRules t = t.options.choice.tick ≢ Some 0
+
+-- a script by the clock of A, where that of B is so far ahead: it differs in its delays alone
+pub record ScriptsByClockOfA (old : ScriptTask) (ahead : ℤ) (new : ScriptTask) : Type 0 where
+  pub delays : Delays
+  pub are : AreSetBack old.options.delays ahead delays
+  pub is : new ≡ record old { options = record old.options { delays = delays } }
+
+-- a merge by the clock of A: the times that are written are earlier by what those of A are put off longer, so that these stay as they were
+pub record MergesByClockOfA (old : MergeTask) (ahead : ℤ) (new : MergeTask) : Type 0 where
+  pub delays : Delays
+  pub are : AreSetBack old.options.delays ahead delays
+  pub is : new ≡ record old { options = record old.options { delays = delays }; early = old.early + others_longer ahead }
+
+-- a delay would be more than 2^62 nanoseconds, or what all times are put off more than 64 bits
+abbrev pub IsTooFarAhead : MergeTask → ℤ → Type 0
+IsTooFarAhead t ahead = AreSetBackTooFar t.options.delays ahead ⊎ (2 ^ 64 ≤ t.early + others_longer ahead)
 
 -- a ring has more nodes than boxes
 abbrev pub ShapeKeepsRules : Shape → Type 0

@@ -8,6 +8,7 @@ use crate::command_line::with_arg;
 use crate::examples;
 use crate::fault::OptionFault;
 use crate::script_line::{Capture, capture_of, is_same, option, with_option};
+use crate::shifts::{Shift, shift_in, with_clocks};
 use crate::words::Words;
 use clap::{Arg, ArgAction, ArgMatches, Command};
 use sr_capture_script::{Interfaces, Options};
@@ -21,17 +22,6 @@ pub enum Ports {
     Two,
     /// One at a mirror port, which sees the frames of both sides.
     Mirror,
-}
-
-/// How the clocks of the recorders are put right.
-#[derive(Clone, Copy, Debug, PartialEq, Eq)]
-pub enum Shift {
-    /// Nobody said: by the frames that both saw, where these are clear.
-    Unasked,
-    /// By the frames that both saw.
-    Auto,
-    /// By shifts that were given, or not at all.
-    Given,
 }
 
 /// How an audit is printed.
@@ -116,9 +106,7 @@ pub(crate) fn audit_command<'a>(
     let mirror = "The capture of a mirror port, which sees both LANs";
     let command = with_option(alloc, command, "mirror", "FILE[:N]", mirror);
     let command = with_reading(alloc, command, words);
-    let shift = "How clocks are put right: auto, by the frames that both recorders saw, or none";
-    let shift = option(alloc, "shift", "HOW", shift).value_parser(["auto", "none"].as_slice());
-    let command = with_arg(command, shift);
+    let command = with_clocks(alloc, command);
     let list = "Lists single frames: lost, wrong, pairs, or several, joined by commas";
     let command = with_option(alloc, command, "list", "LISTS", list);
     let format = option(alloc, "format", "FORMAT", "How it is printed")
@@ -176,16 +164,6 @@ fn format_of(matches: &ArgMatches<'_>) -> Format {
         Some("csv") => Format::Csv,
         Some("svg") => Format::Svg,
         _ => Format::Text,
-    }
-}
-
-/// How the clocks of the recorders are put right. Shifts that are given stand, unless more is asked for.
-fn shift_in(matches: &ArgMatches<'_>) -> Shift {
-    match matches.get_str("shift") {
-        Some("auto") => Shift::Auto,
-        Some(_) => Shift::Given,
-        None if matches.contains_id("shift-a") || matches.contains_id("shift-b") => Shift::Given,
-        None => Shift::Unasked,
     }
 }
 

@@ -20,8 +20,8 @@ pub enum Network {
     Hsr,
 }
 
-/// A command with the options that say how captures are read: the network, shifts, check sequences, and the part that is wanted.
-pub(crate) fn with_reading<'a>(
+/// A command with the option that says how frames have their numbers, if it was made.
+pub(crate) fn with_network<'a>(
     alloc: Global,
     command: Result<Command<'a>, AllocError>,
     words: &'a Words<'a>,
@@ -29,7 +29,16 @@ pub(crate) fn with_reading<'a>(
     let network = option(alloc, "network", "NETWORK", "How frames have their numbers")
         .default_value("prp")
         .value_parser(words.networks.as_slice());
-    let command = with_arg(command, network);
+    with_arg(command, network)
+}
+
+/// A command with the options that say how captures are read: the network, shifts, check sequences, and the part that is wanted.
+pub(crate) fn with_reading<'a>(
+    alloc: Global,
+    command: Result<Command<'a>, AllocError>,
+    words: &'a Words<'a>,
+) -> Result<Command<'a>, AllocError> {
+    let command = with_network(alloc, command, words);
     let shift = "What is added to the times of A: milliseconds, or 0.3ms, 300us, 5s";
     let command = with_shift(alloc, command, "shift-a", shift);
     let shift = "What is added to the times of B: milliseconds, or 0.3ms, 300us, 5s";

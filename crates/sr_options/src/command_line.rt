@@ -85,7 +85,7 @@ fn command<'a>(alloc: Global, words: &'a Words<'a>) -> Result<Command<'a>, Alloc
         examples::STATUS,
     );
     let command = with(command, with_arg(status, counters_option(alloc)));
-    let command = with(command, script_command(alloc));
+    let command = with(command, script_command(alloc, words));
     let audit = audit_command(alloc, words);
     let command = with(command, audit);
     let merge = merge_command(alloc, words);

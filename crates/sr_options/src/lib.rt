@@ -19,7 +19,7 @@ mod shifts;
 mod task;
 mod words;
 
-pub use audit_line::{AuditTask, Format, Lists, Ports, Shift};
+pub use audit_line::{AuditTask, Format, Lists, Ports};
 pub use captures_line::Network;
 pub use command_line::task_of;
 pub use counts::{BoxedNodes, LanNodes, Nodes};
@@ -31,5 +31,6 @@ pub use node_options::{Mode, NodeOptions, Window};
 pub use plant_line::{Net, PlantTask, Shape, ThreadsTask};
 pub use refusal::Refused;
 pub use script_line::ScriptTask;
+pub use shifts::Shift;
 pub use task::Task;
 pub use words::Words;

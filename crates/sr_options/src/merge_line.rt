@@ -1,10 +1,14 @@
 //! The words behind `seamless merge`.
 
+ghost use Rattle.sr_options.specs.Tasks.{MergesByClockOfA, IsTooFarAhead};
+ghost use Rattle.std.specs.Prelude.{IfSome, IfNone};
+
 use crate::captures_line::{Network, network_of, options_of, with_reading};
 use crate::command_line::with_arg;
 use crate::examples;
 use crate::fault::OptionFault;
 use crate::script_line::{capture_of, option, shift_a_of, shift_b_of};
+use crate::shifts::{Shift, set_back, shift_in, with_clocks};
 use crate::words::Words;
 use clap::{Arg, ArgAction, ArgMatches, Command};
 use sr_capture_script::{Interfaces, Options};
@@ -42,12 +46,35 @@ pub struct MergeTask<'a> {
     pub options: Options,
     /// How frames have their numbers.
     pub network: Network,
+    /// How clocks are put right.
+    pub shift: Shift,
     /// How they are written.
     pub spelling: Spelling,
     /// Which are written.
     pub scope: Scope,
     /// How much less than nothing the least shift is, in nanoseconds: so much the times of all packets are put off.
     pub early: u64,
+}
+
+impl<'a> MergeTask<'a> {
+    /// The task by the clock of A, where that of B is so many nanoseconds ahead. None: times would be put off by more than 2^62 of them,
+    /// or all of them by 2^64.
+    pub fn by_clock_of_a(&self, ahead: i128) -> Option<MergeTask<'a>>
+        ensures some { IfSome result (λ own. MergesByClockOfA self.now ahead own) }
+        ensures none { IfNone result (IsTooFarAhead self.now ahead) }
+    {
+        let delays = set_back(self.options.delays, ahead)?;
+        let longer = delays.a - self.options.delays.a;
+        let early = self.early.checked_add(longer)?;
+        Some(MergeTask {
+            options: Options {
+                delays,
+                ..self.options
+            },
+            early,
+            ..*self
+        })
+    }
 }
 
 /// An option with a value that has to be given.
@@ -74,6 +101,7 @@ pub(crate) fn merge_command<'a>(
     let write = required(alloc, "write", "FILE", write).short('w');
     let command = with_arg(command, write);
     let command = with_reading(alloc, command, words);
+    let command = with_clocks(alloc, command);
     let keep = Arg::new(alloc, "keep")
         .long("keep")
         .action(ArgAction::SetTrue)
@@ -125,6 +153,7 @@ pub(crate) fn merge_task<'a>(matches: &ArgMatches<'a>) -> Result<MergeTask<'a>, 
         out: matches.get_str("write").unwrap_or("-"),
         options,
         network: network_of(matches),
+        shift: shift_in(matches),
         spelling: spelling_of(matches),
         scope: scope_of(matches),
         early,

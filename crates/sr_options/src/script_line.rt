@@ -1,12 +1,15 @@
 //! The words behind `seamless script`.
 
-ghost use Rattle.std.specs.Prelude.{◌≡◌, ◌≢◌, IfOk, Some, None};
-ghost use Rattle.sr_options.specs.Tasks.{ScriptKeepsRules};
+ghost use Rattle.std.specs.Prelude.{◌≡◌, ◌≢◌, IfOk, IfSome, IfNone, Some, None};
+ghost use Rattle.sr_options.specs.Shifts.{AreSetBackTooFar};
+ghost use Rattle.sr_options.specs.Tasks.{ScriptKeepsRules, ScriptsByClockOfA};
 
+use crate::captures_line::{Network, network_of, with_network};
 use crate::command_line::{with_arg, with_captures};
 use crate::examples;
 use crate::fault::OptionFault;
-use crate::shifts::{delays_in, nanoseconds_of};
+use crate::shifts::{Shift, delays_in, nanoseconds_of, set_back, shift_in, with_clocks};
+use crate::words::Words;
 use clap::{Arg, ArgMatches, Command};
 use sr_capture_script::{Choice, Delays, Interfaces, Options};
 use sr_pcapng::Wanted;
@@ -23,8 +26,29 @@ pub struct ScriptTask<'a> {
     pub c: Option<&'a str>,
     /// How the script is made.
     pub options: Options,
+    /// How frames have their numbers, by which clocks are told.
+    pub network: Network,
+    /// How clocks are put right.
+    pub shift: Shift,
     /// Whether the captures of A and B are one.
     pub is_same: bool,
+}
+
+impl<'a> ScriptTask<'a> {
+    /// The task by the clock of A, where that of B is so many nanoseconds ahead. None: times would be put off by more than 2^62 of them.
+    pub fn by_clock_of_a(&self, ahead: i128) -> Option<ScriptTask<'a>>
+        ensures some { IfSome result (λ own. ScriptsByClockOfA self.now ahead own) }
+        ensures none { IfNone result (AreSetBackTooFar self.now.options.delays ahead) }
+    {
+        let delays = set_back(self.options.delays, ahead)?;
+        Some(ScriptTask {
+            options: Options {
+                delays,
+                ..self.options
+            },
+            ..*self
+        })
+    }
 }
 
 /// An option with a value.
@@ -61,7 +85,10 @@ pub(crate) fn with_shift<'a>(
 }
 
 /// What the parser knows of the subcommand.
-pub(crate) fn script_command<'a>(alloc: Global) -> Result<Command<'a>, AllocError> {
+pub(crate) fn script_command<'a>(
+    alloc: Global,
+    words: &'a Words<'a>,
+) -> Result<Command<'a>, AllocError> {
     let about = "Prints a script of the packets of up to three captures";
     let command = Ok(
         Command::new(alloc, "script")
@@ -78,12 +105,14 @@ pub(crate) fn script_command<'a>(alloc: Global) -> Result<Command<'a>, AllocErro
         "FILE[:N]",
         "The capture of the interlink",
     );
+    let command = with_network(alloc, command, words);
     let shift = "What is added to the times of A: milliseconds, or 0.3ms, 300us, 5s";
     let command = with_shift(alloc, command, "shift-a", shift);
     let shift = "What is added to the times of B: milliseconds, or 0.3ms, 300us, 5s";
     let command = with_shift(alloc, command, "shift-b", shift);
     let shift = "What is added to the times of C: milliseconds, or 0.3ms, 300us, 5s";
     let command = with_shift(alloc, command, "shift-c", shift);
+    let command = with_clocks(alloc, command);
     let fcs = "The octets of check sequence, where a file does not tell";
     let fcs = option(alloc, "fcs", "4", fcs).value_parser(["4"].as_slice());
     let command = with_arg(command, fcs);
@@ -250,6 +279,8 @@ pub(crate) fn script_task<'a>(matches: &ArgMatches<'a>) -> Result<ScriptTask<'a>
         b: b.path,
         c: c.path,
         options: script_options_of(matches, interfaces)?,
+        network: network_of(matches),
+        shift: shift_in(matches),
         is_same: is_same(matches),
     })
 }

@@ -1,9 +1,44 @@
 //! Shifts of times, as words and as delays.
 
-ghost use Rattle.std.specs.Prelude.{◌≤◌, ◌^◌, ◌≤ℤ◌, IfSome, IfNone};
-ghost use Rattle.sr_options.specs.Shifts.{IsPutOffBy, IsShiftedTooFar, ArePutOffBy, AreShiftedTooFar};
+ghost use Rattle.std.specs.Prelude.{◌≡◌, ◌+◌, ◌≤◌, ◌<◌, ◌^◌, ◌≤ℤ◌, IfSome, IfNone};
+ghost use Rattle.sr_options.specs.Shifts.{IsPutOffBy, IsShiftedTooFar, ArePutOffBy, AreShiftedTooFar, AreSetBack, AreSetBackTooFar};
 
+use crate::command_line::with_arg;
+use crate::script_line::option;
+use clap::{ArgMatches, Command};
 use sr_capture_script::{Delays, MAX_DELAY};
+use std::alloc::{AllocError, Global};
+
+/// How the clocks of the recorders are put right.
+#[derive(Clone, Copy, Debug, PartialEq, Eq)]
+pub enum Shift {
+    /// Nobody said: by the frames that both saw, where these are clear.
+    Unasked,
+    /// By the frames that both saw.
+    Auto,
+    /// By shifts that were given, or not at all.
+    Given,
+}
+
+/// A command with the option that says how clocks are put right, if it was made.
+pub(crate) fn with_clocks<'a>(
+    alloc: Global,
+    command: Result<Command<'a>, AllocError>,
+) -> Result<Command<'a>, AllocError> {
+    let shift = "How clocks are put right: auto, by the frames that both recorders saw, or none";
+    let shift = option(alloc, "shift", "HOW", shift).value_parser(["auto", "none"].as_slice());
+    with_arg(command, shift)
+}
+
+/// How the clocks of the recorders are put right. Shifts that are given stand, unless more is asked for.
+pub(crate) fn shift_in(matches: &ArgMatches<'_>) -> Shift {
+    match matches.get_str("shift") {
+        Some("auto") => Shift::Auto,
+        Some(_) => Shift::Given,
+        None if matches.contains_id("shift-a") || matches.contains_id("shift-b") => Shift::Given,
+        None => Shift::Unasked,
+    }
+}
 
 /// A word without its unit, and the nanoseconds of that: milliseconds where it has none.
 fn parted(word: &str) -> (&str, i64) {
@@ -84,4 +119,36 @@ pub(crate) fn delays_in(shift_a: i64, shift_b: i64, shift_c: i64) -> Option<Dela
         b: delay_of(shift_b, least)?,
         c: delay_of(shift_c, least)?,
     })
+}
+
+/// A delay that is longer by so many nanoseconds. None: it is too long.
+fn longer_by(delay: u64, more: u128) -> Option<u64>
+    requires { more ≤ 2 ^ 127 }
+    ensures sum { IfSome result (λ own. own ≡ delay + more) }
+    ensures small { IfSome result (λ own. own ≤ 2 ^ 62) }
+    ensures none { IfNone result (2 ^ 62 < delay + more) }
+{
+    let sum = u128::from(delay) + more;
+    if u128::from(MAX_DELAY) < sum {
+        return None;
+    }
+    Some(sum as u64)
+}
+
+/// The delays by which the times of B are so many nanoseconds earlier, beside those of A and C, than by others: none is less than it was,
+/// since times are put off alone. None: one would be more than 2^62 nanoseconds.
+pub(crate) fn set_back(delays: Delays, ahead: i128) -> Option<Delays>
+    ensures some { IfSome result (AreSetBack delays ahead) }
+    ensures none { IfNone result (AreSetBackTooFar delays ahead) }
+{
+    let more = ahead.unsigned_abs();
+    let Delays { a, b, c } = delays;
+    if ahead < 0 {
+        let b = longer_by(b, more)?;
+        Some(Delays { a, b, c })
+    } else {
+        let a = longer_by(a, more)?;
+        let c = longer_by(c, more)?;
+        Some(Delays { a, b, c })
+    }
 }
