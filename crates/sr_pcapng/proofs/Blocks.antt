@@ -1,8 +1,8 @@
 -- Blocks that are taken in two pieces.
-use Rattle.std.proofs.Common.{◌≡◌, ◌≢◌, ℕ, ◌+◌, ◌-◌, ◌≤◌, List, [], ◌∷◌, ◌++◌, length, Option, Some, None, false, sym, ap, subst, ◌∙◌, arith, inl, inr}
-use Rattle.std.specs.Prelude.{IfSome}
+use Rattle.std.proofs.Common.{◌≡◌, ◌≢◌, ℕ, ◌+◌, ◌-◌, ◌%◌, ◌≤◌, List, [], ◌∷◌, ◌++◌, length, Option, Some, None, false, sym, ap, subst, refl, ◌∙◌, arith, inl, inr}
+use Rattle.std.specs.Prelude.{IfSome, take, drop}
 use Rattle.std.specs.Int.{w16, w32, from_le_bytes, from_be_bytes}
-use Rattle.std.proofs.lemmas.List.{length-append, append-nil, get_or_append_left}
+use Rattle.std.proofs.lemmas.List.{length-append, append-nil, get_or_append_left, length-take, take-append-drop}
 use Rattle.sr_capture.specs.declared.fault.CaptureFault.{CaptureFault}
 use Rattle.sr_capture.specs.declared.numbers.ByteOrder.{ByteOrder}
 use Rattle.sr_capture.specs.declared.numbers.ByteOrder.TheVariants.{Little, Big}
@@ -10,7 +10,8 @@ use Rattle.sr_capture.specs.Headers.{IsLack}
 use Rattle.sr_capture.specs.Numbers.{two_at, four_at, half_at, word_at}
 use Rattle.sr_capture.specs.Taking.{Loses, LeavesNone, Gathers, Fills, FillsBelow}
 use Rattle.sr_capture.specs.TakingLemmas.{loses_more, none_left}
-use Rattle.sr_pcapng.specs.Blocks.{HasOrder, BeginsBlock, IsBlock, EndsOtherwise, EndsEarly, IsNoBlock}
+use Rattle.sr_pcapng.specs.declared.block.Kind.TheVariants as kind
+use Rattle.sr_pcapng.specs.Blocks.{kind_of, BeginsSection, IsSize, HasOrder, BeginsBlock, IsBlock, IsAtHand, EndsOtherwise, EndsEarly, IsNoBlock}
 
 four_is : (a b c d e f g h : ℕ) → a ≡ e → b ≡ f → c ≡ g → d ≡ h → a ∷ b ∷ c ∷ d ∷ [] ≡ e ∷ f ∷ g ∷ h ∷ []
 four_is a b c d e f g h p q r s = cc
@@ -115,3 +116,49 @@ pub ends_otherwise : (own : Option ByteOrder) (held kept : List ℕ) (order : By
 ends_otherwise own held kept order size a b c lost begins g whole tail =
     let all = begun own held kept order size a b c lost begins g in
     (order, subst (BeginsBlock own kept order) (sym whole) all.begins, λ e. tail (ap (λ n. word_at order kept (n - 4)) (sym whole) ∙ e ∙ whole))
+
+-- a number in the front of octets stands in them
+word_taken : (order : ByteOrder) (xs : List ℕ) (size at : ℕ) → size ≤ length xs → at + 4 ≤ size → word_at order (take size xs) at ≡ word_at order xs at
+word_taken order xs size at whole near =
+    sym (word_front order (take size xs) (drop size xs) at (omega (arith, length-take size xs, whole, near)))
+    ∙ ap (λ (l : List ℕ). word_at order l at) (take-append-drop size xs)
+
+no_section : (order : ByteOrder) (xs : List ℕ) → kind_of order xs ≡ kind.Enhanced → BeginsSection xs → ⊥
+no_section order xs is e = other (sym (section_is e) ∙ is)
+  where
+    section_is : word_at Big xs 0 ≡ 0x0A0D0D0A → kind_of order xs ≡ kind.Section
+    section_is h = grind (arith, h)
+
+    other : kind.Section ≡ kind.Enhanced → ⊥
+    other h = cc
+
+kind_alike : (order : ByteOrder) (xs ys : List ℕ) → word_at Big xs 0 ≡ word_at Big ys 0 → word_at order xs 0 ≡ word_at order ys 0
+    → kind_of order xs ≡ kind_of order ys
+kind_alike order xs ys a b = cc
+
+-- a block that is whole at the front of octets
+pub at_hand : (order : ByteOrder) (xs : List ℕ) (size : ℕ) → 12 ≤ length xs → kind_of order xs ≡ kind.Enhanced → IsSize order xs size
+    → size ≤ length xs → word_at order xs (size - 4) ≡ size → IsAtHand order xs (take size xs)
+at_hand order xs size front is long whole tail =
+    let len : length (take size xs) ≡ size = omega (arith, length-take size xs, whole) in
+    let type = word_taken Big xs size 0 whole (omega (arith, long.least)) in
+    let own = word_taken order xs size 0 whole (omega (arith, long.least)) in
+    let none : BeginsSection (take size xs) → ⊥ = λ e. no_section order xs is (sym type ∙ e) in
+    record {
+      front = ap (λ n. take n xs) (sym len);
+      whole = omega (arith, len, whole);
+      is = record {
+        begins = record {
+          front = omega (arith, len, long.least);
+          in_order = inr (none, refl);
+          long = record {
+            told = len ∙ long.told ∙ sym (word_taken order xs size 4 whole (omega (arith, long.least)));
+            least = omega (arith, len, long.least);
+            even = ap (λ n. n % 4) len ∙ long.even;
+            most = omega (arith, len, long.most);
+          };
+        };
+        ends = ap (λ n. word_at order (take size xs) (n - 4)) len ∙ word_taken order xs size (size - 4) whole (omega (arith, long.least)) ∙ tail ∙ sym len;
+      };
+      packet = kind_alike order (take size xs) xs type own ∙ is;
+    }

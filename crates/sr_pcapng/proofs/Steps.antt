@@ -1,6 +1,6 @@
 -- Blocks, one behind the other.
-use Rattle.std.proofs.Common.{◌≡◌, ◌≢◌, ℕ, ◌+◌, ◌-◌, ◌^◌, ◌≤◌, List, [], ◌∷◌, ◌++◌, length, Option, Some, None, true, false, sym, ap, subst, ◌∙◌, arith, inl, inr}
-use Rattle.std.specs.Prelude.{min}
+use Rattle.std.proofs.Common.{◌≡◌, ◌≢◌, ℕ, ◌+◌, ◌-◌, ◌^◌, ◌≤◌, List, [], ◌∷◌, ◌++◌, length, Option, Some, None, true, false, sym, ap, subst, refl, ◌∙◌, arith, inl, inr}
+use Rattle.std.specs.Prelude.{min, IfSome, IfErr, Result, Ok, Err}
 use Rattle.std.proofs.lemmas.List.{length-append}
 use Rattle.sr_capture.specs.declared.fault.CaptureFault.{CaptureFault}
 use Rattle.sr_capture.specs.declared.numbers.ByteOrder.{ByteOrder}
@@ -12,9 +12,11 @@ use Rattle.sr_capture.specs.Taking.{Loses, LeavesNone}
 use Rattle.sr_capture.specs.TakingLemmas.{loses_more, loses_nothing, loses_no_more, none_left}
 use Rattle.sr_pcapng.specs.declared.block.Kind.TheVariants as kind
 use Rattle.sr_pcapng.specs.declared.track.Track.{Track}
-use Rattle.sr_pcapng.specs.Blocks.{kind_of, IsBlock}
+use Rattle.sr_pcapng.specs.Blocks.{kind_of, IsBlock, IsNone, EndsEarly, IsNoBlock}
 use Rattle.sr_pcapng.specs.StepLemmas.{blocks_none, blocks_one, blocks_on}
-use Rattle.sr_pcapng.specs.Steps.{IsStep, AreBlocks, IsNoStep, Takes, Stops}
+use Rattle.sr_pcapng.specs.declared.track.Section.{Section}
+use Rattle.sr_pcapng.specs.PacketBlocks.{InEnhanced}
+use Rattle.sr_pcapng.specs.Steps.{order_in, Means, IsStep, AreBlocks, IsNoStep, Takes, Stops, RefusesBlock}
 
 -- a track that has passed over blocks without a packet
 pub record Passes (track : Track) (old now : Option (List ℕ)) (size : ℕ) (count : ℕ) (last : Track) : Type 0 where
@@ -97,3 +99,39 @@ in_no_section octets order is other = elim is.begins.in_order [ inl h ↦ other 
 
     none_some : None ≡ Some order → ⊥
     none_some e = cc
+
+-- a packet that is at hand is a step
+pub step_at_hand : (track : Track) (section : Section) (octets : List ℕ) (shown : List Captured) → track.section ≡ Some section
+    → IsBlock (Some section.order) octets section.order → kind_of section.order octets ≡ kind.Enhanced → InEnhanced track.wanted section octets shown
+    → IsStep track octets shown track
+step_at_hand track section octets shown at is packet inside =
+    let means : Means kind.Enhanced track section.order octets shown track = (section, at, (refl, inside)) in (
+      section.order,
+      subst (λ (o : Option ByteOrder). IsBlock o octets section.order) (sym (ap order_in at)) is,
+      subst (λ k. Means k track section.order octets shown track) (sym packet) means,
+    )
+
+-- what is said of known octets holds where none of them was taken before
+known_before : (P : List ℕ → Type 0) (a b : Option (List ℕ)) → Loses [] a b → IfSome b P → IfSome a P
+known_before P None b lost h = tt
+known_before P (Some xs) None lost h = absurd lost
+known_before P (Some xs) (Some ys) lost h = subst P (sym lost) h
+
+no_block_behind : (own : Option ByteOrder) (fault : CaptureFault) (a b c : Option (List ℕ)) → Loses [] a b → IsNoBlock own fault b c → IsNoBlock own fault a c
+no_block_behind own fault a b c lost (inl h) = inl (h.0, (h.1.0, h.1.1, loses_more [] h.1.0 a b c lost h.1.2, h.1.3))
+no_block_behind own fault a b c lost (inr h) = inr (h.0, none_of h.1)
+  where
+    none_of : IsNone own fault.reason b c → IsNone own fault.reason a c
+    none_of (inl k) = inl (k.0, known_before (EndsEarly own) a b lost k.1)
+    none_of (inr k) = inr (k.0, loses_more [] k.0 a b c lost k.1, k.2)
+
+-- why there is no next block, where none of the octets was taken before
+pub no_step_behind : (track : Track) (fault : CaptureFault) (a b c : Option (List ℕ)) → Loses [] a b → IsNoStep track fault b c → IsNoStep track fault a c
+no_step_behind track fault a b c lost (inl h) = inl (no_block_behind (order_in track.section) fault a b c lost h)
+no_step_behind track fault a b c lost (inr h) =
+    inr (h.0, h.1, (h.2.0, h.2.1, h.2.2, loses_more [] h.2.0 a b h.2.2 lost h.2.3, h.2.4, h.2.5, h.2.6))
+
+pub faults_behind : {A : Type 0} (track : Track) (a b c : Option (List ℕ)) → Loses [] a b → (r : Result A CaptureFault)
+    → IfErr r (λ fault. IsNoStep track fault b c) → IfErr r (λ fault. IsNoStep track fault a c)
+faults_behind track a b c lost (Ok v) h = tt
+faults_behind track a b c lost (Err fault) h = no_step_behind track fault a b c lost h

@@ -1,6 +1,6 @@
 -- A block of a pcapng file: its type, its length, a body, and its length once more.
 use Rattle.std.specs.Prelude.{◌≡◌, ◌≢◌, ℕ, ◌-◌, ◌%◌, ◌^◌, ◌<◌, ◌≤◌, ◌⊎◌, ◌==◌, if◌then◌else◌}
-use Rattle.std.specs.Prelude.{List, length, Option, Some, IfSome}
+use Rattle.std.specs.Prelude.{List, length, take, Option, Some, IfSome}
 use Rattle.sr_capture.specs.declared.numbers.ByteOrder.{ByteOrder}
 use Rattle.sr_capture.specs.declared.numbers.ByteOrder.TheVariants.{Little, Big}
 use Rattle.sr_capture.specs.declared.fault.Reason.{Reason}
@@ -61,6 +61,13 @@ pub record BeginsBlock (own : Option ByteOrder) (octets : List ℕ) (order : Byt
 pub record IsBlock (own : Option ByteOrder) (octets : List ℕ) (order : ByteOrder) : Type 0 where
   pub begins : BeginsBlock own octets order (length octets)
   pub ends : word_at order octets (length octets - 4) ≡ length octets
+
+-- this block of a packet is whole at the front of octets, in a section of this order
+pub record IsAtHand (order : ByteOrder) (octets block : List ℕ) : Type 0 where
+  pub front : block ≡ take (length block) octets
+  pub whole : length block ≤ length octets
+  pub is : IsBlock (Some order) block order
+  pub packet : kind_of order block ≡ kind.Enhanced
 
 -- why octets begin no block
 abbrev pub BeginsNone : Option ByteOrder → List ℕ → Reason → Type 0

@@ -124,11 +124,12 @@ RefusesBlock track fault old new = (own : Reason) × (fault.at ≡ place_of own)
 abbrev pub IsNoStep : Track → CaptureFault → Option (List ℕ) → Option (List ℕ) → Type 0
 IsNoStep track fault old new = IsNoBlock (order_in track.section) fault old new ⊎ RefusesBlock track fault old new
 
--- a block was taken that shows a packet or none, or nothing was left
-abbrev pub TakesStep : Step → Track → Track → List ℕ → Packet → Option (List ℕ) → Option (List ℕ) → Type 0
-TakesStep step.End track next octets packet old new = WasAtEnd old new × (next ≡ track)
-TakesStep step.Passed track next octets packet old new = Loses octets old new × IsStep track octets [] next
-TakesStep step.Packet track next octets packet old new = Loses octets old new
+-- a block of so many octets was taken that shows a packet or none, or nothing was left
+abbrev pub TakesStep : Step → Track → Track → Packet → Option (List ℕ) → Option (List ℕ) → Type 0
+TakesStep step.End track next packet old new = WasAtEnd old new × (next ≡ track)
+TakesStep (step.Passed size) track next packet old new = (octets : List ℕ) × (length octets ≡ size) × Loses octets old new
+    × IsStep track octets [] next
+TakesStep (step.Packet size) track next packet old new = (octets : List ℕ) × (length octets ≡ size) × Loses octets old new
     × ((captured : Captured) × IsStep track octets (captured ∷ []) next × Shows packet captured)
 
 -- the blocks up to the next packet were taken, or all that were left, and none of them shows one

@@ -3,7 +3,7 @@
 ghost use Rattle.std.specs.Prelude.{◌≡◌, ◌≢◌, ◌≤◌, ◌^◌, ℕ, List, length, vec_capacity, IfOk, IfErr, IfSome, IfNone, MatchOption};
 ghost use Rattle.sr_capture.specs.Taking.{Loses};
 ghost use Rattle.sr_capture.specs.Records.{WasAtEnd};
-ghost use Rattle.sr_pcapng.specs.Blocks.{kind_of, numbered, HasOrder, IsSize, IsWrongSize, BeginsBlock, BeginsNone, IsBlock, IsNoBlock};
+ghost use Rattle.sr_pcapng.specs.Blocks.{kind_of, numbered, HasOrder, IsSize, IsWrongSize, BeginsBlock, BeginsNone, IsBlock, IsAtHand, IsNoBlock};
 
 use sr_capture::{ByteOrder, CaptureFault, Reason, fill, keep, word_at};
 use std::io::BufRead;
@@ -104,6 +104,29 @@ fn front_of(own: Option<ByteOrder>, octets: &[u8]) -> Result<(ByteOrder, usize),
         Ok(size) => Ok((order, size)),
         Err(reason) => Err(reason),
     }
+}
+
+/// The enhanced packet at the front of these octets, in a section of this order, where they have all of its block.
+// speed: D-capture-at-hand
+pub(crate) fn enhanced_at_hand(order: ByteOrder, octets: &[u8]) -> Option<&[u8]>
+    ensures { IfSome result (λ block. IsAtHand order octets.now block.now) }
+{
+    if octets.len() < FRONT_LEN {
+        return None;
+    }
+    let Kind::Enhanced = kind_of(order, octets) else {
+        return None;
+    };
+    let Ok(size) = size_of(order, octets) else {
+        return None;
+    };
+    if octets.len() < size {
+        return None;
+    }
+    if word_at(order, octets, size - 4) as usize != size {
+        return None;
+    }
+    Some(&octets[..size])
 }
 
 /// Takes the front of a block, and tells its order and its length. None where nothing is left.

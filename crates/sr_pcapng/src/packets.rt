@@ -1,25 +1,26 @@
 //! The packets of a file.
 
-ghost use Rattle.std.specs.Prelude.{◌≡◌, ◌-◌, ◌^◌, min, ℕ, List, length, IfOk, IfErr};
+ghost use Rattle.std.specs.Prelude.{◌≡◌, ◌-◌, ◌^◌, [], min, ℕ, List, length, IfOk, IfErr, IfSome, IfNone};
 ghost use Rattle.sr_capture.specs.Taking.{Loses};
 ghost use Rattle.sr_pcapng.specs.Steps.{order_in, place_of, IsNoStep, TakesStep, Takes, IsNoPacket};
 
-use crate::block::take_block;
+use crate::block::{enhanced_at_hand, take_block};
+use crate::enhanced::read_enhanced;
 use crate::listing::told;
 use crate::reading::read_block;
 use crate::track::{Section, Track};
 use sr_capture::{ByteOrder, CaptureFault, Packet, Reason};
 use std::io::BufRead;
 
-/// What came of a block.
+/// What came of a block, of so many octets.
 #[derive(Clone, Copy, PartialEq, Eq)]
 enum Step {
     /// There was none.
     End,
     /// It has no packet that is wanted.
-    Passed,
+    Passed(usize),
     /// It has a packet.
-    Packet,
+    Packet(usize),
 }
 
 /// The order of octets of a section, if there is one.
@@ -43,15 +44,55 @@ fn place_of(reason: Reason) -> u64
     }
 }
 
-/// Takes the next block.
-fn take_step<R: BufRead>(
+/// Takes the next block where the reader has all of it at hand, and it is an enhanced packet. None where it is not so, or where it is
+/// refused, and then nothing is taken.
+///
+/// # Errors
+/// `Read` where the reader fails.
+// speed: D-capture-at-hand
+fn take_at_hand<R: BufRead>(
+    reader: &mut R,
+    track: &Track,
+    packet: &mut Packet,
+) -> Result<Option<Step>, Reason>
+    ensures taken { IfOk result (λ found. IfSome found (λ step. TakesStep step track.now track.now
+        packet.new (R.remaining reader.old) (R.remaining reader.new))) }
+    ensures left { IfOk result (λ found.
+        IfNone found (Loses [] (R.remaining reader.old) (R.remaining reader.new))) }
+    ensures err { IfErr result (λ reason. (reason ≡ Reason.Read)
+        × Loses [] (R.remaining reader.old) (R.remaining reader.new)) }
+{
+    let Ok(available) = reader.fill_buf() else {
+        return Err(Reason::Read);
+    };
+    let Some(section) = track.section else {
+        return Ok(None);
+    };
+    let Some(block) = enhanced_at_hand(section.order, available) else {
+        return Ok(None);
+    };
+    let size = block.len();
+    match read_enhanced(track.wanted, &section, block, packet) {
+        Ok(true) => {
+            reader.consume(size);
+            Ok(Some(Step::Packet(size)))
+        }
+        Ok(false) => {
+            reader.consume(size);
+            Ok(Some(Step::Passed(size)))
+        }
+        Err(_) => Ok(None),
+    }
+}
+
+/// Takes the next block into a list, and reads it there.
+fn take_in_list<R: BufRead>(
     reader: &mut R,
     track: &mut Track,
     block: &mut Vec<u8>,
     packet: &mut Packet,
 ) -> Result<Step, CaptureFault>
-    ensures taken { IfOk result (λ step.
-        TakesStep step track.old track.new block.new.items packet.new
+    ensures taken { IfOk result (λ step. TakesStep step track.old track.new packet.new
         (R.remaining reader.old) (R.remaining reader.new)) }
     ensures fault { IfErr result (λ fault.
         IsNoStep track.old fault (R.remaining reader.old) (R.remaining reader.new)) }
@@ -63,12 +104,31 @@ fn take_step<R: BufRead>(
         Err(fault) => return Err(fault),
     };
     match read_block(track, order, block, packet) {
-        Ok(true) => Ok(Step::Packet),
-        Ok(false) => Ok(Step::Passed),
+        Ok(true) => Ok(Step::Packet(block.len())),
+        Ok(false) => Ok(Step::Passed(block.len())),
         Err(own) => Err(CaptureFault {
             at: place_of(own),
             reason: told(reader, section, own, block),
         }),
+    }
+}
+
+/// Takes the next block.
+fn take_step<R: BufRead>(
+    reader: &mut R,
+    track: &mut Track,
+    block: &mut Vec<u8>,
+    packet: &mut Packet,
+) -> Result<Step, CaptureFault>
+    ensures taken { IfOk result (λ step. TakesStep step track.old track.new packet.new
+        (R.remaining reader.old) (R.remaining reader.new)) }
+    ensures fault { IfErr result (λ fault.
+        IsNoStep track.old fault (R.remaining reader.old) (R.remaining reader.new)) }
+{
+    match take_at_hand(reader, track, packet) {
+        Ok(Some(step)) => Ok(step),
+        Ok(None) => take_in_list(reader, track, block, packet),
+        Err(reason) => Err(CaptureFault { at: 0, reason }),
     }
 }
 
@@ -96,9 +156,9 @@ pub fn next_packet<R: BufRead>(
     let mut size: u64 = 0;
     'steps: for _ in 0..u64::MAX {
         match take_step(reader, track, block, packet) {
-            Ok(Step::Passed) => size = size.saturating_add(block.len() as u64),
-            Ok(Step::Packet) => {
-                packet.size = size.saturating_add(block.len() as u64);
+            Ok(Step::Passed(len)) => size = size.saturating_add(len as u64),
+            Ok(Step::Packet(len)) => {
+                packet.size = size.saturating_add(len as u64);
                 return Ok(true);
             }
             Ok(Step::End) => {
