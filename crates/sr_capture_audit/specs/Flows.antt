@@ -43,24 +43,25 @@ use Rattle.sr_capture_audit.specs.Faults.{shows_lost}
 -- a flow is named by the last three octets of both its addresses
 abbrev pub flow_name : Mac → Mac → Mac
 flow_name src dst = record {
-  0 = slice_index src.0 3 ∷ slice_index src.0 4 ∷ slice_index src.0 5 ∷ slice_index dst.0 3 ∷ slice_index dst.0 4 ∷ slice_index dst.0 5 ∷ [];
+  0 = slice_index src.0 3 ∷ slice_index src.0 4 ∷ slice_index src.0 5
+      ∷ slice_index dst.0 3 ∷ slice_index dst.0 4 ∷ slice_index dst.0 5 ∷ [];
 }
 
 -- where a flow of a name leads
-abbrev pub end_of : Mac → Mac
-end_of name = record { 0 = 0 ∷ 0 ∷ 0 ∷ slice_index name.0 3 ∷ slice_index name.0 4 ∷ slice_index name.0 5 ∷ [] }
+abbrev pub flow_end : Mac → Mac
+flow_end name = record { 0 = 0 ∷ 0 ∷ 0 ∷ slice_index name.0 3 ∷ slice_index name.0 4 ∷ slice_index name.0 5 ∷ [] }
 
 -- how many frames came by one side alone while the capture of the other side ran
-abbrev pub lost_in : Figures → ℕ
-lost_in f = bounded_sum (f.tally.alone.a - f.edges.a) (f.tally.alone.b - f.edges.b)
+abbrev pub lone_frames : Figures → ℕ
+lone_frames f = bounded_sum (f.tally.alone.a - f.edges.a) (f.tally.alone.b - f.edges.b)
 
 -- both captures see a flow: it has 18 pairs, and nine for each frame that came by one side alone
 abbrev pub is_paired : Figures → Bool
-is_paired f = nat_le 18 f.tally.pairs && nat_le (lost_in f) (f.tally.pairs / 9)
+is_paired f = nat_le 18 f.tally.pairs && nat_le (lone_frames f) (f.tally.pairs / 9)
 
 -- it has 20 frames, and one capture does not see it
 abbrev pub is_unpaired : Figures → Bool
-is_unpaired f = not (is_paired f) && nat_le 20 (bounded_sum f.tally.pairs (lost_in f))
+is_unpaired f = not (is_paired f) && nat_le 20 (bounded_sum f.tally.pairs (lone_frames f))
 
 -- frames of a flow came by one side alone, of which it is not known that both captures see it
 abbrev pub is_single : Figures → Bool
@@ -72,10 +73,10 @@ with_name names n = if is_some (lookup (mac_eq n.0) names) then names else names
 
 -- the flows that both captures see, each with its end; and their ends
 abbrev pub paired_in : List (Mac × Source) → List (Mac × Mac)
-paired_in entries = map (λ e. (e.0, end_of e.0)) (filter (λ e. is_paired (figures_of e.1)) entries)
+paired_in entries = map (λ e. (e.0, flow_end e.0)) (filter (λ e. is_paired (figures_of e.1)) entries)
 
 abbrev pub ends_in : List (Mac × Source) → List (Mac × Mac)
-ends_in entries = map (λ e. (end_of e.0, end_of e.0)) (filter (λ e. is_paired (figures_of e.1)) entries)
+ends_in entries = map (λ e. (flow_end e.0, flow_end e.0)) (filter (λ e. is_paired (figures_of e.1)) entries)
 
 -- both recorders are mirrors: they see flows to three addresses, and all that have 20 frames
 abbrev pub are_mirrors : List (Mac × Source) → Bool

@@ -16,7 +16,9 @@ use crate::edges::{LEAST_EDGE, bounded_edge, widest};
 use crate::flows::Sight;
 use crate::judgement::{Judgement, Reason};
 use crate::kind::{Kind, Sign, kind_of};
-use crate::lines::{Lost, Missing, print_capture, print_source, print_table_names, print_table_row};
+use crate::lines::{
+    Lost, Missing, print_capture, print_source, print_table_names, print_table_row,
+};
 use crate::network::{Ports, Subject};
 use crate::rows::{Format, count, print_row};
 use sr_audit::{Arrival, Audit, Figures, Side, Source, Span, Spans};

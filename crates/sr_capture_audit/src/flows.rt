@@ -3,7 +3,7 @@
 ghost use Rattle.std.specs.Prelude.{◌≡◌, ℕ, OnOk, IfOk, IfErr, fold};
 ghost use Rattle.std.specs.List.{list_any};
 ghost use Rattle.sr_audit.specs.Shown.{figures_of, frames_in};
-ghost use Rattle.sr_capture_audit.specs.Flows.{flow_name, end_of, lost_in, is_paired, is_unpaired, is_single, with_name, paired_in, ends_in, AreFlowsIn, lacks_many, shows_part, sight_of};
+ghost use Rattle.sr_capture_audit.specs.Flows.{flow_name, flow_end, lone_frames, is_paired, is_unpaired, is_single, with_name, paired_in, ends_in, AreFlowsIn, lacks_many, shows_part, sight_of};
 
 use crate::figures::shows_lost;
 use crate::kind::Numbered;
@@ -74,16 +74,16 @@ pub(crate) fn flow_name(src: Mac, dst: Mac) -> Mac
 }
 
 /// Where a flow of a name leads.
-fn end_of(name: Mac) -> Mac
-    ensures { result ≡ end_of name }
+fn flow_end(name: Mac) -> Mac
+    ensures { result ≡ flow_end name }
 {
     let name = name.0;
     Mac([0, 0, 0, name[3], name[4], name[5]])
 }
 
 /// How many frames came by one side alone while the capture of the other side ran.
-fn lost_in(figures: &Figures) -> u64
-    ensures { result ≡ lost_in figures.now }
+fn lone_frames(figures: &Figures) -> u64
+    ensures { result ≡ lone_frames figures.now }
 {
     let only = figures.only();
     only.a.saturating_add(only.b)
@@ -94,14 +94,14 @@ fn is_paired(figures: &Figures) -> bool
     ensures { result ≡ is_paired figures.now }
 {
     let pairs = figures.tally.pairs;
-    pairs >= LEAST_PAIRED && lost_in(figures) <= pairs / PAIRS_FOR_ONE
+    pairs >= LEAST_PAIRED && lone_frames(figures) <= pairs / PAIRS_FOR_ONE
 }
 
 /// Whether one capture does not see it, of a flow that has many frames.
 fn is_unpaired(figures: &Figures) -> bool
     ensures { result ≡ is_unpaired figures.now }
 {
-    let frames = figures.tally.pairs.saturating_add(lost_in(figures));
+    let frames = figures.tally.pairs.saturating_add(lone_frames(figures));
     !is_paired(figures) && frames >= LEAST_LONG
 }
 
@@ -156,7 +156,7 @@ fn note_paired(names: &mut Slots<End>, audit: &Audit) -> Result<(), ScriptFault>
 {
     for (name, source) in audit.sources() {
         if is_paired(&source.figures()) {
-            note(names, name, end_of(name))?;
+            note(names, name, flow_end(name))?;
         }
     }
     Ok(())
@@ -170,7 +170,7 @@ fn note_ends(names: &mut Slots<End>, audit: &Audit) -> Result<(), ScriptFault>
 {
     for (name, source) in audit.sources() {
         if is_paired(&source.figures()) {
-            note(names, end_of(name), end_of(name))?;
+            note(names, flow_end(name), flow_end(name))?;
         }
     }
     Ok(())

@@ -171,10 +171,7 @@ fn single_fields(mac: Mac, single: Sides) -> [Field; 3] {
 
 /// The line `unseen`.
 fn unseen_fields(mac: Mac, numbers: u64) -> [Field; 2] {
-    [
-        bare("source", Value::Mac(mac)),
-        count("numbers", numbers),
-    ]
+    [bare("source", Value::Mac(mac)), count("numbers", numbers)]
 }
 
 /// The line `alive`.
