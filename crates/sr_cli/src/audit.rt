@@ -574,6 +574,23 @@ pub fn run_audit<R: AllocGlobal + Print + Eprint + Files + RandomSource>(
     run_on_clocks(rt, &on_clocks(task, known), keys, known, progress)
 }
 
+/// A task of one of two captures alone, in the place of A.
+fn alone_at_a<'a>(task: &AuditTask<'a>, inlet: Inlet) -> AuditTask<'a> {
+    if inlet == Inlet::A {
+        return AuditTask { b: None, ..*task };
+    }
+    let mut options = task.options;
+    let mut interfaces = options.interfaces;
+    interfaces.a = interfaces.b;
+    options.interfaces = interfaces;
+    AuditTask {
+        a: task.b,
+        b: None,
+        options,
+        ..*task
+    }
+}
+
 /// Whether one of two captures of a ring has frames of both ways, by a pass of its own: as at a mirror port, frames name theirs.
 fn has_both_ways<R: AllocGlobal + Eprint + Files>(
     rt: &R,
@@ -581,12 +598,7 @@ fn has_both_ways<R: AllocGlobal + Eprint + Files>(
     keys: Keys,
     inlet: Inlet,
 ) -> Result<bool, Ended> {
-    let mut alone = AuditTask { b: None, ..*task };
-    if inlet == Inlet::B {
-        alone.a = task.b;
-        alone.options.interfaces.a = task.options.interfaces.b;
-    }
-    let mut captures = open(rt, &alone, Progress::Silent)?;
+    let mut captures = open(rt, &alone_at_a(task, inlet), Progress::Silent)?;
     let subject = Subject {
         ports: sr_capture_audit::Ports::Mirror,
         ..subject_of(task)
