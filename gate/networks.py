@@ -393,6 +393,9 @@ class Ring(Network):
 class InAndOut(Ring):
     """A ring, at a node of which each frame is recorded as it comes in by one port, and as it goes out by the other one."""
 
+    # Of a ring that is cut such captures have each frame once by both ports, so that they read as sound.
+    kinds = ["loss", "both", "restart"]
+
     def captures(self):
         both = super().captures()
         return [sorted(own + [(time + HOP, packet) for time, packet in other if packet != plain()], key=lambda packet: packet[0])
