@@ -397,6 +397,8 @@ class InAndOut(Ring):
     kinds = ["loss", "both", "restart"]
 
     def captures(self):
+        # Both ports are recorded by one clock.
+        self.clock = None
         both = super().captures()
         return [sorted(own + [(time + HOP, packet) for time, packet in other if packet != plain()], key=lambda packet: packet[0])
                 for own, other in (both, both[::-1])]
