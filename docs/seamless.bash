@@ -72,7 +72,7 @@ _seamless() {
         *" replay") words="--role --mac --lan --net --mode --window --help" ;;
         *" status") words="--role --mac --lan --net --mode --window --counters --help" ;;
         *" script") words="--a --b --c --network --shift-a --shift-b --shift-c --shift --fcs --from --to --tick --help" ;;
-        *" audit") words="--a --b --mirror --network --shift-a --shift-b --fcs --from --to --shift --list --format --check --help" ;;
+        *" audit") words="--a --b --mirror --network --shift-a --shift-b --fcs --from --to --shift --list --format --check --complete --help" ;;
         *" merge") words="--a --b --write --network --shift-a --shift-b --fcs --from --to --shift --keep --only --help" ;;
         *" ring") words="--nodes --turns --mode --window --help" ;;
         *" lan") words="--nodes --turns --mode --window --help" ;;

@@ -45,6 +45,7 @@ complete -c seamless -n '__fish_seen_subcommand_from audit' -l shift -x -a 'auto
 complete -c seamless -n '__fish_seen_subcommand_from audit' -l list -x -d 'Lists single frames: lost, wrong, pairs, or several, joined by commas'
 complete -c seamless -n '__fish_seen_subcommand_from audit' -l format -x -a 'text json csv svg' -d 'How it is printed'
 complete -c seamless -n '__fish_seen_subcommand_from audit' -l check -d 'Ends with status 3 where a figure tells of a fault, 4 where nothing can be judged'
+complete -c seamless -n '__fish_seen_subcommand_from audit' -l complete -d 'Both recorders see all frames: a number that none of them has was lost'
 complete -c seamless -n '__fish_seen_subcommand_from audit' -l help -d 'Print help (see a summary with \'-h\')'
 complete -c seamless -n __fish_use_subcommand -a merge -d 'Writes two captures as one, in which each frame stands once'
 complete -c seamless -n '__fish_seen_subcommand_from merge' -l a -r -F -d 'The capture of LAN A; FILE:N is interface N of a pcapng file'

@@ -72,7 +72,7 @@ _seamless() {
         *" replay") compadd -- --role --mac --lan --net --mode --window --help ;;
         *" status") compadd -- --role --mac --lan --net --mode --window --counters --help ;;
         *" script") compadd -- --a --b --c --network --shift-a --shift-b --shift-c --shift --fcs --from --to --tick --help ;;
-        *" audit") compadd -- --a --b --mirror --network --shift-a --shift-b --fcs --from --to --shift --list --format --check --help ;;
+        *" audit") compadd -- --a --b --mirror --network --shift-a --shift-b --fcs --from --to --shift --list --format --check --complete --help ;;
         *" merge") compadd -- --a --b --write --network --shift-a --shift-b --fcs --from --to --shift --keep --only --help ;;
         *" ring") compadd -- --nodes --turns --mode --window --help ;;
         *" lan") compadd -- --nodes --turns --mode --window --help ;;

@@ -10,9 +10,12 @@ other numbers; a LAN that died, files that are swapped, recorders that don't ove
 them the clock of B is up to 10 s off and drifts by up to 50 ppm, and in some it is set while it records, so that two offsets fit. In
 a third of them the recorders begin and end at other moments, and have the frames of that time. In every fourth network a RedBox numbers
 the frames of two devices by one counter, and every third one is an HSR ring of 3 to 8 nodes, whose two ways are recorded at a link: half
-of its frames go to one node, and pass the link on one way. A ring loses frames of a way, or both, or it is cut. A merge of a network that
-can be judged has each frame that a recorder has once, at the time of a copy by the clock of A. A line tells each network of which the audit
-says something else, or the merge has. The last line is `N passed, M failed`.
+of its frames go to one node, and pass the link on one way. A ring loses frames of a way, or both, or it is cut.
+Of each twelve networks one has access ports in place of mirrors, at one LAN or both, which see frames to single addresses only where a
+switch floods them; in one sources talk to each other past two mirrors; in one a RedBox numbers the frames of two devices by one counter and
+never tells of them; and in one the recorders of a ring's node see what it sends on too, where there is nothing to judge. A merge of a network
+that can be judged has each frame that a recorder has once, at the time of a copy by the clock of A. A line tells each network of which the
+audit says something else, or the merge has. The last line is `N passed, M failed`.
 """
 import argparse
 import json
@@ -52,6 +55,9 @@ NEAR = 1024
 class Source:
     """A source: its address, and when it sends which number."""
 
+    # Whether numbers of its network go past no recorder.
+    hides = False
+
     def __init__(self, rng, index, seconds):
         self.mac = bytes([2, 0, 0, 0, 1, index])
         self.period = rng.choice(PERIODS)
@@ -80,7 +86,7 @@ class Source:
     def figures(self):
         """What an audit is to say of it."""
         seen = [frame for frame in self.frames if frame["seen"]]
-        names = ["rx_a", "rx_b", "pairs", "only_a", "only_b", "edge_a", "edge_b", "neither", "restarts", "jumps"]
+        names = ["rx_a", "rx_b", "pairs", "only_a", "only_b", "edge_a", "edge_b", "neither", "unseen", "restarts", "jumps"]
         wanted = dict.fromkeys(names, 0)
         wanted["rx_a"] = sum(0 in frame["seen"] for frame in seen)
         wanted["rx_b"] = sum(1 in frame["seen"] for frame in seen)
@@ -93,7 +99,8 @@ class Source:
         wanted["single_a"] = sum(frame["ways"] == {0} for frame in seen)
         wanted["single_b"] = sum(frame["ways"] == {1} for frame in seen)
         cut = len(self.frames) if self.restarted is None else self.restarted
-        wanted["neither"] = sum(self.missing(run) for run in (self.frames[:cut], self.frames[cut:]))
+        missing = "unseen" if self.hides else "neither"
+        wanted[missing] = sum(self.missing(run) for run in (self.frames[:cut], self.frames[cut:]))
         wanted["restarts"] = int(self.restarted is not None and any(f["seen"] for f in self.frames[:cut])
                                  and any(f["seen"] for f in self.frames[cut:]))
         return wanted
@@ -109,7 +116,9 @@ class Source:
 
 
 class RedBox(Source):
-    """A RedBox with two devices, whose frames it numbers by one counter. It tells of both each 2 s at most."""
+    """A RedBox with two devices, whose frames it numbers by one counter. It tells of both each 2 s at most, unless it is silent."""
+
+    is_silent = False
 
     def __init__(self, rng, index, seconds):
         super().__init__(rng, index, seconds)
@@ -117,7 +126,7 @@ class RedBox(Source):
         told = -2 * SECOND
         for at, frame in enumerate(self.frames):
             frame["mac"] = rng.choice(self.devices)
-            if frame["time"] - told >= 2 * SECOND:
+            if frame["time"] - told >= 2 * SECOND and not self.is_silent:
                 told = frame["time"]
                 for device, other in zip(self.devices, self.frames[at:]):
                     other["tells"] = device
@@ -132,7 +141,11 @@ class RedBox(Source):
             own.frames = [frame for frame in self.frames if frame["mac"] == mac]
             own.restarted = None
             wanted = own.figures()
-            wanted["neither"] = self.figures()["neither"] if mac == self.mac else 0
+            if self.is_silent:
+                # Of numbers that its devices share an audit knows nothing.
+                del wanted["neither"], wanted["unseen"]
+            else:
+                wanted["neither"] = self.figures()["neither"] if mac == self.mac else 0
             # Numbers of one address jump where others have those between.
             del wanted["jumps"], wanted["restarts"]
             if wanted["rx_a"] or wanted["rx_b"]:
@@ -184,11 +197,15 @@ class Network:
         """Both recorders ran for a while, and go on."""
         return all(self.runs_at(lan, at) for lan in range(2) for at in (time - INNER, time + INNER)) or self.runs == [(0, END)] * 2
 
+    def can_lose(self, frame):
+        """Whether the captures show it where this frame is lost."""
+        return True
+
     def put(self, rng, fault):
         """Has a fault happen, where there is room for it: each source keeps its first and its last frame."""
         source = rng.choice(self.sources)
         inner = [index for index in range(1, len(source.frames) - 1)
-                 if index != source.restarted and self.is_inner(source.frames[index]["time"])]
+                 if index != source.restarted and self.is_inner(source.frames[index]["time"]) and self.can_lose(source.frames[index])]
         if fault == "loss" and inner:
             for index in rng.sample(inner, min(len(inner), rng.randrange(1, 9))):
                 source.frames[index]["lans"].discard(rng.randrange(2))
@@ -230,12 +247,16 @@ class Network:
             both[1] = [(time + ahead + (time - BEGIN) * drift // SECOND, packet) for time, packet in both[1]]
         return both[::-1] if "swapped" in self.faults else both
 
+    def has_nothing(self):
+        """Whether the captures say nothing of the network."""
+        return bool(UNJUDGED & set(self.faults))
+
     def has_pairs(self):
         return any(source.figures()["pairs"] for source in self.sources)
 
     def status(self):
         """How a check is to end."""
-        if UNJUDGED & set(self.faults) or not self.has_pairs():
+        if self.has_nothing() or not self.has_pairs():
             return 4
         lost = any(source.figures()[name] for source in self.sources for name in ("only_a", "only_b", "neither"))
         return 3 if lost else 0
@@ -255,7 +276,7 @@ def renumbered(packet, more):
 
 def octets(source, frame, lan):
     """A frame of 46 octets with its trailer: its number, the LAN's id and the length of what stands behind the type."""
-    front = bytes.fromhex("010ccd010001") + frame.get("mac", source.mac) + b"\x88\xb8" + bytes(46)
+    front = frame.get("to", bytes.fromhex("010ccd010001")) + frame.get("mac", source.mac) + b"\x88\xb8" + bytes(46)
     if "tells" in frame:
         # A supervision frame: path 0, version 1, a number, the device and its RedBox.
         says = struct.pack(">HHBB", 1, 0, 20, 6) + frame["tells"] + b"\x1e\x06" + source.mac + bytes(2)
@@ -267,6 +288,71 @@ def tagged(source, frame, lan):
     """A frame of 46 octets with its HSR tag: its way, the length of what stands behind the type, and its number."""
     front = frame.get("to", bytes.fromhex("010ccd010001")) + source.mac + b"\x89\x2f"
     return front + struct.pack(">HHH", lan << 12 | 52, frame["number"], 0x88B8) + bytes(46)
+
+
+def fast(rng, kind, index, seconds):
+    """A source that sends 100 frames a second or more."""
+    while True:
+        source = kind(rng, index, seconds)
+        if source.period <= SECOND // 100:
+            return source
+
+
+class Talking(Network):
+    """A PRP network with mirror ports, where three sources send each second frame to the next one of them, and others to any."""
+
+    kinds = ["loss", "both", "row", "dead", "swapped", "apart"]
+
+    def make_sources(self, rng, seconds):
+        sources = [fast(rng, Source, index, seconds) for index in range(3)]
+        while len(sources) < 6:
+            source = Source(rng, len(sources), seconds)
+            if source.period > SECOND // 100:
+                sources.append(source)
+        for index, source in enumerate(sources):
+            for frame in source.frames[1:-1]:
+                if rng.random() < 0.5:
+                    to = (index + 1) % 3 if index < 3 else rng.choice([other for other in range(6) if other != index])
+                    frame["to"] = sources[to].mac
+        return sources
+
+
+class Access(Network):
+    """A PRP network with an access port at one LAN or both, which sees frames to groups, and of others what a switch floods."""
+
+    kinds = ["loss", "dead", "swapped", "apart"]
+
+    def make_sources(self, rng, seconds):
+        sources = [fast(rng, Source, 0, seconds)] + [Source(rng, index, seconds) for index in range(1, rng.randrange(2, 7))]
+        mirrors = rng.choice([set(), {0}, {1}])
+        flood = rng.choice([0, 0, 0.01])
+        for index, source in enumerate(sources):
+            source.hides = not mirrors
+            for frame in source.frames[1:-1]:
+                if rng.random() < 0.5:
+                    frame["to"] = sources[rng.choice([other for other in range(len(sources)) if other != index])].mac
+                    frame["ways"] = {lan for lan in range(2) if lan in mirrors or rng.random() < flood}
+                    frame["lans"] = set(frame["ways"])
+        return sources
+
+    def can_lose(self, frame):
+        return "to" not in frame
+
+
+class SilentBox(RedBox):
+    """A RedBox that never tells of its devices."""
+
+    is_silent = True
+
+
+class Untold(Network):
+    """A PRP network with mirror ports, where a RedBox never tells of its devices."""
+
+    kinds = ["loss", "dead", "swapped", "apart"]
+
+    def make_sources(self, rng, seconds):
+        sources = [Source(rng, index, seconds) for index in range(rng.randrange(1, 6))]
+        return sources + [fast(rng, SilentBox, len(sources), seconds)]
 
 
 class Ring(Network):
@@ -305,6 +391,26 @@ class Ring(Network):
         return tagged(source, frame, lan)
 
 
+class InAndOut(Ring):
+    """A ring, at a node of which each frame is recorded as it comes in by one port, and as it goes out by the other one."""
+
+    # Of a ring that is cut such captures have each frame once by both ports, so that they read as sound.
+    kinds = ["loss", "both", "restart"]
+
+    def captures(self):
+        # Both ports are recorded by one clock.
+        self.clock = None
+        both = super().captures()
+        return [sorted(own + [(time + HOP, packet) for time, packet in other if packet != plain()], key=lambda packet: packet[0])
+                for own, other in (both, both[::-1])]
+
+    def status(self):
+        return 4
+
+    def has_nothing(self):
+        return True
+
+
 class RingNode(Source):
     """A node of a ring. What no recorder has is told of the time in which both ran."""
 
@@ -318,7 +424,8 @@ class RingNode(Source):
 
 def network_of(seed):
     """The network of a seed: every third one is a ring."""
-    return Ring(seed) if seed % 3 == 0 else Network(seed)
+    kinds = {1: Access, 5: Talking, 7: Untold, 9: InAndOut}
+    return kinds.get(seed % 12, Ring if seed % 3 == 0 else Network)(seed)
 
 
 def write(path, packets):
@@ -332,14 +439,19 @@ def differences(network, status, lines):
     """Where what an audit says is not what happened."""
     found = [] if status == network.status() else [f"status {status}, and not {network.status()}"]
     found += [f"the clock of B is told as {told}" for told in clock_differences(network, lines)]
-    if UNJUDGED & set(network.faults):
+    if network.has_nothing():
         return found
-    said = {line["source"]: dict(line, single_a=0, single_b=0) for line in lines if line["line"] == "source"}
+    said = {line["source"]: dict(line, single_a=0, single_b=0, unseen=0) for line in lines if line["line"] == "source"}
     for line in lines:
         if line["line"] == "single":
             said[line["source"]].update(line)
+        if line["line"] == "unseen":
+            said[line["source"]]["unseen"] = line["numbers"]
     for mac, figures in (report for source in network.sources for report in source.reports()):
         mac = mac.hex(":")
+        if "cut" in network.faults and mac in said:
+            # What no recorder has of a ring that is cut may have come where it was sent to.
+            said[mac].update(neither=said[mac]["neither"] + said[mac]["unseen"], unseen=0)
         for name, wanted in figures.items():
             if said.get(mac, {}).get(name) != wanted:
                 found.append(f"{mac} {name} {said.get(mac, {}).get(name)}, and not {wanted}")
@@ -349,7 +461,7 @@ def differences(network, status, lines):
 def clock_differences(network, lines):
     """How far the clock of B is told to be ahead, where that is not so."""
     told = [line for line in lines if line["line"] == "clocks"]
-    if UNJUDGED & set(network.faults) or not network.clock:
+    if network.has_nothing() or not network.clock:
         return [line for line in told if abs(line["b_ahead_us"]) > 1000] if not network.clock and not network.faults else []
     if not told:
         return ["nothing"] if network.has_pairs() else []

@@ -37,10 +37,20 @@ def said_of(network):
         lines.append({"line": "source", "source": mac.hex(":"), **figures})
         if figures["single_a"] or figures["single_b"]:
             lines.append({"line": "single", "source": mac.hex(":"), "single_a": figures["single_a"], "single_b": figures["single_b"]})
+        if figures.get("unseen"):
+            lines.append({"line": "unseen", "source": mac.hex(":"), "numbers": figures["unseen"]})
     return lines
 
 
 class NetworksTest(unittest.TestCase):
+    def test_what_captures_have_of_each_kind_of_network(self):
+        for kind in (networks.Access, networks.Talking, networks.Untold, networks.InAndOut):
+            network = network_where(lambda one: type(one) is kind and not one.faults and one.has_pairs())
+            status = 4 if kind is networks.InAndOut else 0
+            self.assertEqual((network.status(), networks.differences(network, status, said_of(network))), (status, []), kind)
+        network = network_where(lambda one: isinstance(one, networks.Access) and "loss" in one.faults and not one.has_nothing() and one.has_pairs())
+        self.assertEqual(network.status(), 3)
+
     def test_truth_passes(self):
         for faults in [()], [("loss",)], [("row",)], [("restart",)]:
             network = network_with(*faults[0])
@@ -52,6 +62,8 @@ class NetworksTest(unittest.TestCase):
             lines = said_of(network)
             if name.startswith("single"):
                 lines.append({"line": "single", "source": network.sources[0].mac.hex(":"), name: 1})
+            elif name == "unseen":
+                lines.append({"line": "unseen", "source": network.sources[0].mac.hex(":"), "numbers": 1})
             else:
                 next(line for line in lines if line["line"] == "source")[name] += 1
             self.assertEqual(len(networks.differences(network, network.status(), lines)), 1, name)

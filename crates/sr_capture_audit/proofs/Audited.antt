@@ -17,6 +17,7 @@ use Rattle.sr_capture_script.specs.Merging.{Feed}
 use Rattle.sr_capture_script.specs.Passing.{Handed, wanted, IsHandedAs, TakesWanted}
 use Rattle.sr_capture_audit.specs.declared.counts.Counts.{Counts}
 use Rattle.sr_capture_audit.specs.declared.figures.Report.{Report}
+use Rattle.sr_capture_audit.specs.declared.flows.Sight.TheVariants.{All}
 use Rattle.sr_capture_audit.specs.declared.kind.Kind.{Kind}
 use Rattle.sr_capture_audit.specs.declared.kind.Numbered.{Numbered as NumberedFrame}
 use Rattle.sr_capture_audit.specs.declared.kind.Kind.TheVariants.{Numbered, Plain}
@@ -139,7 +140,8 @@ counted place shown x old new o own k octets is told some kinds are counts whole
 -- no packet was taken
 pub begun : (subject : Subject) (spans : Spans) (counts : Counts) (audit : Audit) → counts ≡ all_figures [] → Audits spans [] audit.sources.entries →
     Hears [] audit.sources.entries → audit.spans ≡ spans → IsLeftOut audit.sources.entries [] audit.left_out →
-    IsReportOf subject spans [] (record { subject = subject; spans = spans; whole = None; counts = counts; audit = audit; groups = None; counters = None })
+    IsReportOf subject spans []
+    (record { subject = subject; spans = spans; whole = None; counts = counts; audit = audit; judged = None; counters = None; sight = All })
 begun subject spans counts audit none audits hears same left = record {
   subject_is = refl;
   spans_are = refl;

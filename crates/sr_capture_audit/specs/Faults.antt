@@ -8,6 +8,8 @@ use Rattle.sr_audit.specs.Shown.{figures_of}
 use Rattle.sr_capture_audit.specs.declared.counts.SideCounts.{SideCounts}
 use Rattle.sr_capture_audit.specs.declared.counts.Counts.{Counts}
 use Rattle.sr_capture_audit.specs.declared.figures.Report.{Report}
+use Rattle.sr_capture_audit.specs.declared.flows.Sight.{Sight}
+use Rattle.sr_capture_audit.specs.declared.flows.Sight.TheVariants.{All, Part}
 
 -- a trailer names the other LAN, or is none
 abbrev pub is_faulty : SideCounts → Bool
@@ -30,10 +32,10 @@ shows_missing f = nat_lt 0 f.neither
 abbrev pub have_missing : Audit → Bool
 have_missing audit = list_any (λ e. shows_missing (figures_of e.1)) audit.sources.entries
 
--- figures without those of which another audit tells: of lost frames that of the frames to groups, and of numbers that no frame had that of
--- the counters
+-- figures without those of which another audit tells: of lost frames that of the frames which tell of them, and of numbers that no frame
+-- had that of the counters
 abbrev pub lost_told : Option Audit → Figures → Figures
-lost_told (Some groups) f = record f { tally = record f.tally { alone = f.edges } }
+lost_told (Some judged) f = record f { tally = record f.tally { alone = f.edges } }
 lost_told None f = f
 
 abbrev pub missing_told : Option Audit → Figures → Figures
@@ -41,17 +43,19 @@ missing_told (Some counters) f = record f { neither = 0 }
 missing_told None f = f
 
 abbrev pub own_figures : Report → Figures → Figures
-own_figures r f = missing_told r.counters (lost_told r.groups f)
+own_figures r f = missing_told r.counters (lost_told r.judged f)
 
-abbrev pub groups_have_lost : Option Audit → Bool
-groups_have_lost (Some groups) = have_lost groups
-groups_have_lost None = false
+abbrev pub judged_have_lost : Option Audit → Bool
+judged_have_lost (Some judged) = have_lost judged
+judged_have_lost None = false
 
-abbrev pub counters_have_missing : Option Audit → Bool
-counters_have_missing (Some counters) = have_missing counters
-counters_have_missing None = false
+-- numbers that no frame had were lost, where captures have all that was sent
+abbrev pub counters_have_missing : Sight → Option Audit → Bool
+counters_have_missing All (Some counters) = have_missing counters
+counters_have_missing Part (Some counters) = false
+counters_have_missing sight None = false
 
 -- the counts tell of faults, or what the figures of a source tell by themselves, or another audit does
 abbrev pub has_faults : Report → Bool
-has_faults r = have_faults r.counts || (groups_have_lost r.groups || (counters_have_missing r.counters
+has_faults r = have_faults r.counts || (judged_have_lost r.judged || (counters_have_missing r.sight r.counters
     || list_any (λ e. tells_of_faults (own_figures r (figures_of e.1))) r.audit.sources.entries))

@@ -101,6 +101,7 @@ is_group_address mac = slice_index mac.0 0 % 2 == 1
 pub record IsNumberedAs (network : Network) (tap : Tap) (p : ParcelImage) (n : Numbered) : Type 0 where
   pub seq : p.seq ≡ Some n.seq
   pub src : n.src ≡ src_in (plain_of p)
+  pub dst : n.dst ≡ dst_in (plain_of p)
   pub side : n.side ≡ numbered_side network tap p
   pub to_group : n.to_group ≡ is_group_address (dst_in (plain_of p))
   pub astray : n.is_astray ≡ is_astray_at tap p

@@ -5,6 +5,7 @@ pub mod Counting
 pub mod Auditing
 pub mod Edging
 pub mod Unions
+pub mod Flows
 pub mod Ruling
 pub mod Clocking
 pub mod Spanning

@@ -1,5 +1,5 @@
--- Audits of some frames, or of frames by other sources: of those to groups, which alone tell of a ring what was lost, since one to a single
--- address goes past a node on one of its two ways; and of the counters by which frames are numbered.
+-- Audits of some frames, or of frames by other sources: of those to single addresses, flow by flow; of those that tell what was lost, which
+-- one to a single address does only where both captures see its flow; and of the counters by which frames are numbered.
 use Rattle.std.specs.Prelude.{◌≡◌, ℕ, ◌^◌, ◌<◌, ◌||◌, List, [], ◌∷◌, ◌++◌, length, reverse, Option, None, Some, if◌then◌else◌}
 use Rattle.std.specs.List.{flat_map}
 use Rattle.sr_frame.specs.declared.fields.Mac.{Mac}
@@ -18,16 +18,18 @@ use Rattle.sr_capture_audit.specs.declared.kind.Kind.TheVariants.{Numbered}
 use Rattle.sr_capture_audit.specs.declared.kind.Numbered.{Numbered as NumberedFrame}
 use Rattle.sr_capture_audit.specs.declared.network.Subject.{Subject}
 use Rattle.sr_capture_audit.specs.declared.ruling.Rule.{Rule}
-use Rattle.sr_capture_audit.specs.declared.ruling.Rule.TheVariants.{Groups, Counters, InnerCounters}
+use Rattle.sr_capture_audit.specs.declared.ruling.Rule.TheVariants.{ByFlow, Judged, Counters, InnerCounters}
 use Rattle.sr_capture_audit.specs.declared.ruling.Ruling.{Ruling}
 use Rattle.sr_capture_audit.specs.Auditing.{AreSeen}
 use Rattle.sr_capture_audit.specs.Counting.{Seen}
+use Rattle.sr_capture_audit.specs.Flows.{flow_name, judges}
 use Rattle.sr_capture_audit.specs.Unions.{counter_of}
 
--- the source of a frame under a rule, that came at a time: its own if it was sent to a group, and none else; or that whose counter numbered
--- it, of all frames, or of those that came while both captures ran
+-- the source of a frame under a rule, that came at a time: its flow if it was sent to a single address; its own if it tells of losses; or
+-- that whose counter numbered it, of all frames, or of those that came while both captures ran
 abbrev pub source_under : Rule → Spans → NumberedFrame → ℕ → Option Mac
-source_under Groups spans n time = if n.to_group then Some n.src else None
+source_under ByFlow spans n time = if n.to_group then None else Some (flow_name n.src n.dst)
+source_under (Judged f) spans n time = if judges f n then Some n.src else None
 source_under (Counters b) spans n time = Some (counter_of b.boxes.entries n.src)
 source_under (InnerCounters b) spans n time =
     if is_beyond spans A time || is_beyond spans B time then None else Some (counter_of b.boxes.entries n.src)

@@ -13,9 +13,12 @@ ghost use Rattle.sr_capture_audit.specs.Judging.{are_repeated};
 
 use crate::counts::Counts;
 use crate::edges::{LEAST_EDGE, bounded_edge, widest};
+use crate::flows::Sight;
 use crate::judgement::{Judgement, Reason};
 use crate::kind::{Kind, Sign, kind_of};
-use crate::lines::{Lost, print_capture, print_source, print_table_names, print_table_row};
+use crate::lines::{
+    Lost, Missing, print_capture, print_source, print_table_names, print_table_row,
+};
 use crate::network::{Ports, Subject};
 use crate::rows::{Format, count, print_row};
 use sr_audit::{Arrival, Audit, Figures, Side, Source, Span, Spans};
@@ -35,14 +38,16 @@ pub struct Report {
     whole: Option<Span>,
     counts: Counts,
     audit: Audit,
-    /// The figures of the frames to groups, where these alone tell what was lost.
-    groups: Option<Audit>,
+    /// The figures of the frames that tell what was lost, where not all do.
+    judged: Option<Audit>,
     /// The figures of the counters by which frames are numbered, where sources stand behind RedBoxes.
     counters: Option<Audit>,
+    /// Whether those tell of numbers that were lost, or went past no recorder.
+    sight: Sight,
 }
 
 /// Whether a frame came by one side alone, while the capture of the other side ran.
-fn shows_lost(figures: &Figures) -> bool
+pub(crate) fn shows_lost(figures: &Figures) -> bool
     ensures { result ≡ shows_lost figures.now }
 {
     let only = figures.only();
@@ -219,8 +224,9 @@ pub fn figures_of<R: BufRead + Drop>(
         whole: None,
         counts: Counts::NONE,
         audit: Audit::new(alloc, keys, spans),
-        groups: None,
+        judged: None,
         counters: None,
+        sight: Sight::All,
     };
     pass_over(captures, choice, &mut report)?;
     Ok(report)
@@ -230,7 +236,7 @@ impl Report {
     ghost use Rattle.std.specs.Prelude.{◌≡◌, ◌||◌, length, Some};
     ghost use Rattle.sr_audit.specs.declared.audit.Audit.{Audit};
     ghost use Rattle.sr_capture_audit.specs.Edging.{edge_width, tells_of_lost, tells_of_missing};
-    ghost use Rattle.sr_capture_audit.specs.Faults.{has_faults, own_figures, groups_have_lost, counters_have_missing};
+    ghost use Rattle.sr_capture_audit.specs.Faults.{has_faults, own_figures, judged_have_lost, counters_have_missing};
     ghost use Rattle.sr_capture_audit.specs.Judging.{has_pairs, has_repeated, reason_of, network_judgement};
 
     /// Prints the lines of the captures. At a mirror port they are those of each side, and of the packets without a number.
@@ -279,40 +285,46 @@ impl Report {
         Ok(())
     }
 
-    /// This report with an audit of the frames to groups, which alone tells what was lost.
-    pub fn with_groups(self, groups: Audit) -> Report
-        ensures { result ≡ record self { groups = Some groups } }
+    /// This report with an audit of the frames that tell what was lost, which alone does.
+    pub fn with_judged(self, judged: Audit) -> Report
+        ensures { result ≡ record self { judged = Some judged } }
     {
-        let groups = Some(groups);
-        Report { groups, ..self }
+        let judged = Some(judged);
+        Report { judged, ..self }
     }
 
-    /// This report with an audit of the counters by which frames are numbered, which alone tells of numbers that no frame had.
-    pub fn with_counters(self, counters: Audit) -> Report
-        ensures { result ≡ record self { counters = Some counters } }
+    /// This report with an audit of the counters by which frames are numbered, which alone tells of numbers that no frame had: these were
+    /// lost where the captures have all that was sent, and may have gone past no recorder where they have a part.
+    pub fn with_counters(self, counters: Audit, sight: Sight) -> Report
+        ensures { result ≡ record self { counters = Some counters; sight = sight } }
     {
         let counters = Some(counters);
-        Report { counters, ..self }
+        Report {
+            counters,
+            sight,
+            ..self
+        }
     }
 
     /// How many numbers of a source no frame had. One behind a RedBox has none of its own.
-    fn missing_of(&self, mac: Mac, source: &Source) -> u64 {
-        match &self.counters {
+    fn missing_of(&self, mac: Mac, source: &Source) -> Missing {
+        let numbers = match &self.counters {
             None => source.figures().neither,
             Some(counters) => match source_in(counters, mac) {
                 Some(counter) => counter.figures().neither,
                 None => 0,
             },
-        }
+        };
+        Missing::by(self.sight, numbers)
     }
 
     /// What is lost of a source.
     fn lost_of(&self, mac: Mac, source: &Source) -> Lost {
         let missing = self.missing_of(mac, source);
-        match &self.groups {
+        match &self.judged {
             None => Lost::of(source, &self.spans, missing),
-            Some(groups) => match source_in(groups, mac) {
-                Some(grouped) => Lost::of(grouped, &self.spans, missing).beside(source),
+            Some(judged) => match source_in(judged, mac) {
+                Some(own) => Lost::of(own, &self.spans, missing).beside(source),
                 None => Lost::none(missing).beside(source),
             },
         }
@@ -364,22 +376,22 @@ impl Report {
         *counts
     }
 
-    /// Whether the audit of the frames to groups tells of lost ones, or that of the counters of numbers that no frame had.
+    /// Whether the audit of the frames that tell what was lost does, or that of the counters tells of numbers that were lost.
     fn others_have_faults(&self) -> bool
-        ensures { result ≡ groups_have_lost self.now.groups
-            || counters_have_missing self.now.counters }
+        ensures { result ≡ judged_have_lost self.now.judged
+            || counters_have_missing self.now.sight self.now.counters }
     {
         let Report {
-            groups,
+            judged,
             counters,
             ..
         } = self;
-        let has_lost = match groups {
-            Some(groups) => have_lost(groups),
+        let has_lost = match judged {
+            Some(judged) => have_lost(judged),
             None => false,
         };
         let has_missing = match counters {
-            Some(counters) => have_missing(counters),
+            Some(counters) => self.sight == Sight::All && have_missing(counters),
             None => false,
         };
         has_lost || has_missing
@@ -390,7 +402,7 @@ impl Report {
         ensures { result ≡ own_figures self.now figures }
     {
         let mut own = figures;
-        if self.groups.is_some() {
+        if self.judged.is_some() {
             own.tally.alone = own.edges;
         }
         if self.counters.is_some() {

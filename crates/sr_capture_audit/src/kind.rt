@@ -29,6 +29,8 @@ pub(crate) struct Sign {
 pub(crate) struct Numbered {
     /// Its source.
     pub src: Mac,
+    /// The address that it was sent to.
+    pub dst: Mac,
     /// Its number.
     pub seq: Seq,
     /// The side where it came in.
@@ -121,6 +123,7 @@ fn number_in(network: Network, tap: Tap, parcel: &ParcelView<'_>) -> Option<Numb
     };
     Some(Numbered {
         src: header.src,
+        dst: header.dst,
         seq,
         side,
         to_group: is_group_address(header.dst),

@@ -1,6 +1,7 @@
 //! The lines of captures and sources.
 
 use crate::counts::SideCounts;
+use crate::flows::Sight;
 use crate::network::letter_of;
 use crate::rows::{Field, Format, Value, bare, count, named, print_names, print_row};
 use sr_audit::{Alive, Figures, Row, Sides, Skews, Source, Span, Spans};
@@ -27,6 +28,37 @@ fn capture_fields(name: &'static str, counts: &SideCounts, span: Option<Span>) -
     ]
 }
 
+/// How many numbers of a source no frame had.
+#[derive(Clone, Copy)]
+pub(crate) struct Missing {
+    /// Numbers of frames that were lost.
+    neither: u64,
+    /// Those of frames that may have gone past no recorder.
+    unseen: u64,
+}
+
+impl Missing {
+    /// None.
+    const NONE: Missing = Missing {
+        neither: 0,
+        unseen: 0,
+    };
+
+    /// So many, where the captures have all that was sent, or a part.
+    pub(crate) fn by(sight: Sight, numbers: u64) -> Missing {
+        match sight {
+            Sight::All => Missing {
+                neither: numbers,
+                unseen: 0,
+            },
+            Sight::Part => Missing {
+                neither: 0,
+                unseen: numbers,
+            },
+        }
+    }
+}
+
 /// What is lost of a source.
 #[derive(Clone, Copy)]
 pub(crate) struct Lost {
@@ -34,17 +66,17 @@ pub(crate) struct Lost {
     only: Sides,
     /// How many came while it did not.
     edges: Sides,
-    /// How many that tell of no loss, since they were sent to a single address of a ring.
+    /// How many that tell of no loss: they were sent to a single address, and it is not known that both captures see their flow.
     single: Sides,
     /// How many numbers no frame had.
-    missing: u64,
+    missing: Missing,
     /// The side by which alone the source is heard at last.
     sided: Option<Row>,
 }
 
 impl Lost {
     /// No frame, and so many numbers.
-    pub(crate) fn none(missing: u64) -> Lost {
+    pub(crate) fn none(missing: Missing) -> Lost {
         Lost {
             only: Sides::NONE,
             edges: Sides::NONE,
@@ -55,7 +87,7 @@ impl Lost {
     }
 
     /// What the figures of a source tell, and so many numbers.
-    pub(crate) fn of(source: &Source, spans: &Spans, missing: u64) -> Lost {
+    pub(crate) fn of(source: &Source, spans: &Spans, missing: Missing) -> Lost {
         let figures = source.figures();
         Lost {
             only: figures.only(),
@@ -96,7 +128,7 @@ fn source_fields(mac: Mac, figures: &Figures, lost: &Lost) -> [Field; 15] {
         count("only_b", only.b),
         count("edge_a", edges.a),
         count("edge_b", edges.b),
-        count("neither", missing),
+        count("neither", missing.neither),
         count("repeat_a", tally.repeats.a),
         count("repeat_b", tally.repeats.b),
         count("order_a", figures.order.a),
@@ -135,6 +167,11 @@ fn single_fields(mac: Mac, single: Sides) -> [Field; 3] {
         count("single_a", single.a),
         count("single_b", single.b),
     ]
+}
+
+/// The line `unseen`.
+fn unseen_fields(mac: Mac, numbers: u64) -> [Field; 2] {
+    [bare("source", Value::Mac(mac)), count("numbers", numbers)]
 }
 
 /// The line `alive`.
@@ -188,7 +225,7 @@ fn print_sided<W: Write>(
     }
 }
 
-/// Prints the line of the frames to single addresses of a ring that went past on one way, if some did.
+/// Prints the line of the frames to single addresses that came by one side and tell of no loss, if some did.
 fn print_single<W: Write>(
     writer: &mut W,
     format: Format,
@@ -201,8 +238,21 @@ fn print_single<W: Write>(
     print_row(writer, format, "single", &single_fields(mac, single))
 }
 
-/// Prints the lines of a source: that of the skews where there is a pair, that of frames to single addresses of a ring, that of supervision
-/// frames where some came, and that of the side by which alone it is heard at last.
+/// Prints the line of the numbers that no frame had, and that may have gone past no recorder, if there are some.
+fn print_unseen<W: Write>(
+    writer: &mut W,
+    format: Format,
+    mac: Mac,
+    numbers: u64,
+) -> Result<(), ScriptFault> {
+    if numbers == 0 {
+        return Ok(());
+    }
+    print_row(writer, format, "unseen", &unseen_fields(mac, numbers))
+}
+
+/// Prints the lines of a source: that of the skews where there is a pair, those of frames to single addresses and of numbers that tell of no
+/// loss, that of supervision frames where some came, and that of the side by which alone it is heard at last.
 pub(crate) fn print_source<W: Write>(
     writer: &mut W,
     format: Format,
@@ -221,6 +271,7 @@ pub(crate) fn print_source<W: Write>(
         print_row(writer, format, "skew", &skew_fields(mac, &figures.skews))?;
     }
     print_single(writer, format, mac, lost.single)?;
+    print_unseen(writer, format, mac, lost.missing.unseen)?;
     if let Some(alive) = source.alive() {
         print_row(writer, format, "alive", &alive_fields(mac, &alive))?;
     }
@@ -272,7 +323,7 @@ fn table_fields(mac: Mac, figures: &Figures, lost: &Lost) -> [Field; 28] {
 pub(crate) fn print_table_names<W: Write>(writer: &mut W) -> Result<(), ScriptFault> {
     print_names(
         writer,
-        &table_fields(Mac([0; 6]), &Figures::NONE, &Lost::none(0)),
+        &table_fields(Mac([0; 6]), &Figures::NONE, &Lost::none(Missing::NONE)),
     )
 }
 

@@ -9,6 +9,7 @@ ghost use Rattle.sr_capture_script.specs.Passing.{EndsFor};
 ghost use Rattle.sr_capture_script.specs.SourceViews.{IsFed};
 ghost use Rattle.sr_capture_audit.specs.Ruling.{TakesRuled, IsRuledAuditOf};
 
+use crate::flows::{Flows, flow_name};
 use crate::kind::{Kind, Numbered, kind_of};
 use crate::network::Subject;
 use crate::redboxes::RedBoxes;
@@ -30,9 +31,11 @@ fn is_outer(spans: &Spans, time: u64) -> bool
 /// Which frames are audited, and of which source each is.
 #[derive(Drop)]
 pub enum Rule {
-    /// Frames to groups, of their sources. These alone tell of a ring what was lost: one to a single address goes past a node on one of its
-    /// two ways.
-    Groups,
+    /// Frames to single addresses, each of the flow that it belongs to.
+    ByFlow,
+    /// Frames to groups, and those of flows that both captures see, of their sources. These alone tell what was lost: a frame to a single
+    /// address goes past one recorder alone, or past none, where it takes no way to the other one.
+    Judged(Flows),
     /// All frames, each of the source whose counter numbered it.
     Counters(RedBoxes),
     /// Frames that came while both captures ran, each of the source whose counter numbered it: in a ring one to a single address goes past
@@ -49,8 +52,10 @@ impl Rule {
         ensures { result ≡ source_under self.now spans.now numbered time }
     {
         match self {
-            Rule::Groups if numbered.to_group => Some(numbered.src),
-            Rule::Groups => None,
+            Rule::ByFlow if numbered.to_group => None,
+            Rule::ByFlow => Some(flow_name(numbered.src, numbered.dst)),
+            Rule::Judged(flows) if flows.judges(numbered) => Some(numbered.src),
+            Rule::Judged(_) => None,
             Rule::Counters(redboxes) => Some(redboxes.counter_of(numbered.src)),
             Rule::InnerCounters(_) if is_outer(spans, time) => None,
             Rule::InnerCounters(redboxes) => Some(redboxes.counter_of(numbered.src)),

@@ -7,9 +7,9 @@ use crate::progress::Progress;
 use crate::script::{Opened, open_file, tell_ended};
 use sr_audit::{Audit, LISTED_AT_ONCE, MAX_SOURCES, Span, Spans};
 use sr_capture_audit::{
-    Counts, Format, Judgement, Network, Reason, RedBoxes, Report, Rule, SideCounts, Subject,
-    Summary, figures_of, hint_of, inner_spans, print_clocks, print_lists, print_picture_recorded,
-    redboxes_of, ruled_of, spans_of,
+    Counts, Flows, Format, Judgement, Network, Reason, RedBoxes, Report, Rule, SideCounts, Sight,
+    Subject, Summary, figures_of, flows_in, hint_of, inner_spans, print_clocks, print_lists,
+    print_picture_recorded, redboxes_of, ruled_of, sight_of, spans_of,
 };
 use sr_capture_script::{Captures, Inlet, ScriptFault};
 use sr_options::{AuditTask, Ports};
@@ -284,41 +284,74 @@ fn read_redboxes<R: AllocGlobal + Eprint + Files>(
     )?)
 }
 
-/// A report in which the frames to groups of a ring tell what was lost.
-fn judged_by_groups<R: AllocGlobal + Eprint + Files>(
+/// The flows of frames to single addresses, by a pass of its own.
+fn read_flows<R: AllocGlobal + Eprint + Files>(
     rt: &R,
     task: &AuditTask<'_>,
     keys: Keys,
     judged: Spans,
-    report: Report,
-) -> Result<Report, Ended> {
-    if network_of(task.network) == Network::Prp || !report.has_lost() {
-        return Ok(report);
-    }
-    let groups = read_ruled(rt, task, keys, judged, Rule::Groups)?;
-    Ok(report.with_groups(groups))
+) -> Result<Flows, Ended> {
+    let by_flow = read_ruled(rt, task, keys, judged, Rule::ByFlow)?;
+    Ok(flows_in(rt.alloc(), keys, &by_flow)?)
 }
 
-/// A report in which the counters of RedBoxes tell of numbers that no frame had, where supervision names some.
+/// A report in which frames to groups, and those of flows that both captures see, tell what was lost.
+fn judged_by_flows<R: AllocGlobal + Eprint + Files>(
+    rt: &R,
+    task: &AuditTask<'_>,
+    keys: Keys,
+    judged: Spans,
+    flows: Flows,
+    report: Report,
+) -> Result<Report, Ended> {
+    let ruled = read_ruled(rt, task, keys, judged, Rule::Judged(flows))?;
+    Ok(report.with_judged(ruled))
+}
+
+/// Which frames are audited by the counters that numbered them.
+fn counting_of(task: &AuditTask<'_>, judged: Spans, redboxes: RedBoxes) -> Rule {
+    let are_two = judged.a.is_some() && judged.b.is_some();
+    match network_of(task.network) {
+        Network::Hsr if are_two => Rule::InnerCounters(redboxes),
+        _ => Rule::Counters(redboxes),
+    }
+}
+
+/// The figures of the counters by which frames are numbered, by passes of their own.
+fn read_counters<R: AllocGlobal + Eprint + Files>(
+    rt: &R,
+    task: &AuditTask<'_>,
+    keys: Keys,
+    judged: Spans,
+) -> Result<Audit, Ended> {
+    let redboxes = read_redboxes(rt, task, keys)?;
+    read_ruled(rt, task, keys, judged, counting_of(task, judged, redboxes))
+}
+
+/// Whether the captures have all that was sent, but what was lost.
+fn sight_on(task: &AuditTask<'_>, flows: &Flows, counters: &Audit) -> Sight {
+    if task.is_complete {
+        Sight::All
+    } else {
+        sight_of(network_of(task.network), flows, counters)
+    }
+}
+
+/// A report in which the counters tell of numbers that no frame had, where there are some.
 fn judged_by_counters<R: AllocGlobal + Eprint + Files>(
     rt: &R,
     task: &AuditTask<'_>,
     keys: Keys,
     judged: Spans,
+    flows: &Flows,
     report: Report,
 ) -> Result<Report, Ended> {
     if !report.has_missing() {
         return Ok(report);
     }
-    let redboxes = read_redboxes(rt, task, keys)?;
-    let are_two = judged.a.is_some() && judged.b.is_some();
-    let rule = match network_of(task.network) {
-        Network::Hsr if are_two => Rule::InnerCounters(redboxes),
-        _ if redboxes.is_empty() => return Ok(report),
-        _ => Rule::Counters(redboxes),
-    };
-    let counters = read_ruled(rt, task, keys, judged, rule)?;
-    Ok(report.with_counters(counters))
+    let counters = read_counters(rt, task, keys, judged)?;
+    let sight = sight_on(task, flows, &counters);
+    Ok(report.with_counters(counters, sight))
 }
 
 /// Writes what is known of the clocks, unless a table or a picture is wanted in its place.
@@ -441,6 +474,23 @@ fn read_inner<R: AllocGlobal + Eprint + Files>(
     Ok((judged, report))
 }
 
+/// A report in which what tells of losses does, where frames came by one side alone, or numbers by none.
+fn judged_by_all<R: AllocGlobal + Eprint + Files>(
+    rt: &R,
+    task: &AuditTask<'_>,
+    keys: Keys,
+    judged: Spans,
+    report: Report,
+) -> Result<Report, Ended> {
+    if !report.has_lost() {
+        let flows = Flows::none(rt.alloc(), keys);
+        return judged_by_counters(rt, task, keys, judged, &flows, report);
+    }
+    let flows = read_flows(rt, task, keys, judged)?;
+    let report = judged_by_counters(rt, task, keys, judged, &flows, report)?;
+    judged_by_flows(rt, task, keys, judged, flows, report)
+}
+
 /// What is known of the captures before anything is written: when they begin and end, and their figures.
 fn read_all<R: AllocGlobal + Eprint + Files>(
     rt: &R,
@@ -450,8 +500,7 @@ fn read_all<R: AllocGlobal + Eprint + Files>(
 ) -> Result<(Times, Report), Ended> {
     let recorded = read_spans(rt, task, progress)?;
     let (judged, report) = read_inner(rt, task, keys, recorded)?;
-    let report = judged_by_groups(rt, task, keys, judged, report)?;
-    let report = judged_by_counters(rt, task, keys, judged, report)?;
+    let report = judged_by_all(rt, task, keys, judged, report)?;
     Ok((Times { recorded, judged }, report))
 }
 
@@ -511,6 +560,23 @@ pub fn run_audit<R: AllocGlobal + Print + Eprint + Files + RandomSource>(
     run_on_clocks(rt, &on_clocks(task, known), keys, known, progress)
 }
 
+/// A task of one of two captures alone, in the place of A.
+fn alone_at_a<'a>(task: &AuditTask<'a>, inlet: Inlet) -> AuditTask<'a> {
+    if inlet == Inlet::A {
+        return AuditTask { b: None, ..*task };
+    }
+    let mut options = task.options;
+    let mut interfaces = options.interfaces;
+    interfaces.a = interfaces.b;
+    options.interfaces = interfaces;
+    AuditTask {
+        a: task.b,
+        b: None,
+        options,
+        ..*task
+    }
+}
+
 /// Whether one of two captures of a ring has frames of both ways, by a pass of its own: as at a mirror port, frames name theirs.
 fn has_both_ways<R: AllocGlobal + Eprint + Files>(
     rt: &R,
@@ -518,12 +584,7 @@ fn has_both_ways<R: AllocGlobal + Eprint + Files>(
     keys: Keys,
     inlet: Inlet,
 ) -> Result<bool, Ended> {
-    let mut alone = AuditTask { b: None, ..*task };
-    if inlet == Inlet::B {
-        alone.a = task.b;
-        alone.options.interfaces.a = task.options.interfaces.b;
-    }
-    let mut captures = open(rt, &alone, Progress::Silent)?;
+    let mut captures = open(rt, &alone_at_a(task, inlet), Progress::Silent)?;
     let subject = Subject {
         ports: sr_capture_audit::Ports::Mirror,
         ..subject_of(task)

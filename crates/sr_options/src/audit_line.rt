@@ -85,6 +85,8 @@ pub struct AuditTask<'a> {
     pub format: Format,
     /// Whether the status tells of faults of the network.
     pub is_check: bool,
+    /// Whether the recorders see all frames of their LANs.
+    pub is_complete: bool,
     /// Whether the captures of A and B are one.
     pub is_same: bool,
 }
@@ -117,7 +119,11 @@ pub(crate) fn audit_command<'a>(
         .long("check")
         .action(ArgAction::SetTrue)
         .help("Ends with status 3 where a figure tells of a fault, 4 where nothing can be judged");
-    with_arg(command, check)
+    let complete = Arg::new(alloc, "complete")
+        .long("complete")
+        .action(ArgAction::SetTrue)
+        .help("Both recorders see all frames: a number that none of them has was lost");
+    with_arg(with_arg(command, check), complete)
 }
 
 /// The lists with one more, by its word.
@@ -234,6 +240,7 @@ pub(crate) fn audit_task<'a>(matches: &ArgMatches<'a>) -> Result<AuditTask<'a>, 
         lists,
         format,
         is_check: matches.get_flag("check"),
+        is_complete: matches.get_flag("complete"),
         is_same: is_same(matches),
     })
 }

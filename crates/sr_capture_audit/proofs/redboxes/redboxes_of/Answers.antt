@@ -1,4 +1,3 @@
-use Rattle.std.proofs.Common.{refl}
 use Rattle.sr_capture_script.specs.Merging.{feed_of}
 use Rattle.sr_capture_audit.proofs.Learned.{boxes_none, boxes_all}
 use Rattle.sr_capture_audit.proofs.redboxes.redboxes_of.Goals as goal

@@ -1,4 +1,3 @@
-use Rattle.std.proofs.Common.{refl}
 use Rattle.sr_capture_script.specs.Merging.{feed_of}
 use Rattle.sr_capture_audit.proofs.Ruled.{rule_begun, rule_all}
 use Rattle.sr_capture_audit.proofs.ruling.ruled_of.Goals as goal

@@ -1,0 +1,9 @@
+use Rattle.std.proofs.Common.{◌≡◌}
+use Rattle.std.specs.List.{list_any}
+use Rattle.sr_audit.specs.Shown.{figures_of}
+use Rattle.sr_capture_audit.specs.Flows.{lacks_many}
+use Rattle.sr_capture_audit.proofs.flows.have_lacking.Given as goal
+
+abbrev pub invariant-loop-source : goal.invariant-loop-source
+invariant-loop-source l = list_any (λ e. lacks_many (figures_of e.1)) l.counters.sources.entries
+    ≡ list_any (λ e. lacks_many (figures_of e.1)) l.source-iterator
