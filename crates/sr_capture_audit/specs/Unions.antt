@@ -1,5 +1,6 @@
 -- The RedBoxes that sources stand behind: the frames of all of these have the numbers of one counter.
-use Rattle.std.specs.Prelude.{◌≡◌, nat_eq, nat_le, Bool, ◌||◌, List, [], ◌∷◌, ◌++◌, length, Option, None, Some, is_some, fold, if◌then◌else◌}
+use Rattle.std.specs.Prelude.{◌≡◌, nat_eq, nat_le, Bool, ◌||◌, List, [], ◌∷◌, ◌++◌, length}
+use Rattle.std.specs.Prelude.{Option, None, Some, is_some, fold, if◌then◌else◌}
 use Rattle.std.specs.List.{flat_map}
 use Rattle.std.specs.Map.{lookup}
 use Rattle.sr_frame.specs.Addresses.{mac_eq}
