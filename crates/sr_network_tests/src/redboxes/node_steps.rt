@@ -43,6 +43,8 @@ pub enum Step {
     Send(Mac, u64, u16),
     /// Time passes, and so many are proxied no more.
     Tick(u64, usize),
+    /// So many such nodes are proxied, in the order in which they sent.
+    Proxies(u16),
     /// How many frames of the other LAN came in at a port.
     WrongLan(Port, u64),
 }
@@ -236,10 +238,30 @@ fn goes_out(alloc: Global, node: &mut Node, port: Port, sent: Sent) -> bool {
     }
 }
 
+// The address of a node without redundancy.
+fn san(number: u16) -> Mac {
+    let [high, low] = number.to_be_bytes();
+    Mac([4, 0, 0, 0, high, low])
+}
+
+// Whether these are the addresses of so many of them, in order.
+fn are_sans(addresses: &[(Mac, u64)], count: u16) -> bool {
+    addresses
+        .iter()
+        .map(|entry| entry.0)
+        .eq((0..count).map(san))
+}
+
+fn proxies(node: &Node, count: u16) -> bool {
+    match image_of(node) {
+        Some(image) => are_sans(image.role.proxied.addresses(), count),
+        None => false,
+    }
+}
+
 fn sans_send(node: &mut Node, count: u16) -> bool {
     (0..count).all(|number| {
-        let [high, low] = number.to_be_bytes();
-        let sent = Sent::Plain(GROUP, Mac([4, 0, 0, 0, high, low]));
+        let sent = Sent::Plain(GROUP, san(number));
         goes_to_of_many(node, Port::C, sent, &[Port::H, Port::A, Port::B])
             && node.take(Port::H).is_some()
             && node.take(Port::A).is_some()
@@ -254,6 +276,7 @@ fn holds(alloc: Global, node: &mut Node, step: Step) -> bool {
         Step::Sans(count) => sans_send(node, count),
         Step::Send(dst, now, number) => sends(alloc, node, dst, now, number),
         Step::Tick(now, count) => happens(node, &Event::Tick { now }, Wanted::Ticked(count)),
+        Step::Proxies(count) => proxies(node, count),
         Step::WrongLan(port, count) => node.wrong_lan(port) == count,
     }
 }

@@ -99,6 +99,7 @@ const SAN_FULL: &[Step] = &[
         &[Port::H, Port::A, Port::B],
     ),
     Step::Out(Port::B, Sent::Tagged(GROUP, M9, 1, 0xfcff)),
+    Step::Proxies(256),
     Step::In(Port::A, Sent::Tagged(M9, M2, 0, 5), 0, &[Port::B, Port::C]),
     Step::In(Port::B, Sent::Tagged(GROUP, M9, 0, 0xfcff), 0, &[]),
     Step::In(Port::A, Sent::Tagged(M9, M2, 0, 6), 0, &[Port::B]),
