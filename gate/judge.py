@@ -7,13 +7,11 @@ its own, masked where its function is not tried for a callee that is open, and h
 
 A refusal that the ledger has rests on this file as it stood (ledger.py): what only says which wrong bodies are tried together,
 and when, is in rounds.py."""
-import functools
 import re
-import subprocess
 from dataclasses import dataclass, field
 from pathlib import Path
 
-from workspace import closure, crates_below, how_to_build_below, is_library_old
+from workspace import crate_words, how_to_build_below, kit, old_below
 
 # What a wrong body comes to. The first is what is wanted; a masked one says nothing yet.
 REFUSED, MASKED, PROVED, BAD, UNKNOWN = "refused", "masked", "NOT REFUSED", "BAD EDIT", "NOT TRIED"
@@ -173,30 +171,14 @@ def edited(text, edits):
 # Asking.
 
 
-@functools.lru_cache(maxsize=None)
-def kit():
-    """Where the toolchain stands."""
-    said = subprocess.run(["rt", "doc"], capture_output=True, text=True, check=True).stdout
-    return Path(said.strip().split("\n")[-1]).parent
-
-
 def question(root, name, only):
     """The command that asks the prover for these functions of a crate and for what they call, of all where none is named, as rt
     asks it. It is given in a copy of the crate, over the libraries that stand built in the repository."""
-    at, below = kit(), crates_below(root)
-    ours = closure(below, [name])[:-1]
-    old = [it for it in ours if is_library_old(root, below, it)]
+    old = old_below(root, name)
     if old:
         raise Unusable(f"{' '.join(old)} is not built as it stands: {how_to_build_below(name)}")
-    library = {it: root / "crates" / it / "out" / "rlib" / f"{it}.rlib" for it in ours}
-    library |= {it: at / "rlibs" / f"{it}.rlib" for it in ("std", *below[name]) if it not in below}
-    root_file = next(it for it in ("src/lib.rt", "src/main.rt") if (root / "crates" / name / it).is_file())
-    words = ["--crate-name", name, root_file, "-L", f"dependency={at / 'rlibs'}"]
-    words += [word for it in ("std", *below[name]) for word in ("--extern", f"{it}={library[it]}")]
-    words += [word for it in ours for word in ("-L", f"dependency={library[it].parent}")]
-    words += ["--antt-project", at / "rattle" / "logic" / "antt-project.json", "--logic-built", at / "logic_built", "--links", f"{name}="]
-    words += ["--incremental", "kept", "--jobs", "1", *(word for it in only for word in ("--only", it))]
-    return [at / "bin" / "rattle", "check", *map(str, words)]
+    asked = ["--incremental", "kept", "--jobs", "1", *(word for it in only for word in ("--only", it))]
+    return [str(kit() / "bin" / "rattle"), "check", *crate_words(root, name), "--logic-built", str(kit() / "logic_built"), *asked]
 
 
 # Reading what the prover says.

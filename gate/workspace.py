@@ -1,6 +1,8 @@
 """The crates of the repository, as crates.txt has them, and what the machine has for a run."""
+import functools
 import os
 import re
+import subprocess
 from pathlib import Path
 
 PARTS = ("src", "specs", "proofs")
@@ -50,6 +52,33 @@ def is_library_old(root, below, name):
     made = library.stat().st_mtime_ns
     parts = (root / "crates" / lower / part for lower in closure(below, [name]) for part in PARTS)
     return any(it.stat().st_mtime_ns > made for part in parts if part.is_dir() for it in (part, *part.rglob("*")))
+
+
+@functools.lru_cache(maxsize=None)
+def kit():
+    """Where the toolchain stands."""
+    said = subprocess.run(["rt", "doc"], capture_output=True, text=True, check=True).stdout
+    return Path(said.strip().split("\n")[-1]).parent
+
+
+def old_below(root, name):
+    """The crates below one whose libraries are not built as they stand."""
+    below = crates_below(root)
+    return [it for it in closure(below, [name])[:-1] if is_library_old(root, below, it)]
+
+
+def crate_words(root, name):
+    """The words by which the prover is told of a crate and of the libraries below it as they stand built, as rt tells it. They are given in
+    the crate's folder or a copy of it."""
+    at, below = kit(), crates_below(root)
+    ours = closure(below, [name])[:-1]
+    library = {it: root / "crates" / it / "out" / "rlib" / f"{it}.rlib" for it in ours}
+    library |= {it: at / "rlibs" / f"{it}.rlib" for it in ("std", *below[name]) if it not in below}
+    root_file = next(it for it in ("src/lib.rt", "src/main.rt") if (root / "crates" / name / it).is_file())
+    words = ["--crate-name", name, root_file, "-L", f"dependency={at / 'rlibs'}"]
+    words += [word for it in ("std", *below[name]) for word in ("--extern", f"{it}={library[it]}")]
+    words += [word for it in ours for word in ("-L", f"dependency={library[it].parent}")]
+    return [*map(str, words), "--antt-project", str(at / "rattle" / "logic" / "antt-project.json"), "--links", f"{name}="]
 
 
 def how_to_build_below(name):

@@ -18,6 +18,8 @@ LIBRARY = b"an archive"
 TOOLCHAIN = """#!/bin/bash
 if [ "$1" = version ]; then
     echo kit-1
+elif [ "$1" = doc ]; then
+    echo "${0%/*}/kit/START-HERE.md"
 else
     mkdir -p out/rlib/x.rlib
     printf '#!/bin/sh\\n[ "$1" = --version ] && echo "seamless 1.1" || echo "built $*"\\n' >out/sr_cli
@@ -40,7 +42,7 @@ class Release(unittest.TestCase):
     def setUp(self):
         self.top = Path(tempfile.mkdtemp())
         self.addCleanup(shutil.rmtree, self.top)
-        for name in ("seamless", "install", "release/compare", "release/make", "gate/sources.sh", "gate/build.py", "gate/times.py", "gate/workspace.py"):
+        for name in ("seamless", "install", "release/compare", "release/make", "gate/sources.sh", "gate/archive.py", "gate/build.py", "gate/times.py", "gate/workspace.py"):
             self.copy(name)
         for name in ("clib/Makefile", "clib/processor.c", "clib/seamless.map", "clib/seamless.pc.in", "clib/include/seamless.h"):
             self.copy(name)
@@ -52,6 +54,8 @@ class Release(unittest.TestCase):
             self.write(f"crates/{name}/src/{'main' if name == 'sr_cli' else 'lib'}.rt", name)
         self.write("tools/rt", TOOLCHAIN)
         (self.top / "tools/rt").chmod(0o755)
+        # What proves and compiles the C library.
+        self.tool("kit/bin/rattle", "exit 0")
         # What a machine without the toolchain has: bash, coreutils and gzip.
         self.write("bare/gzip", '#!/bin/bash\nexec /bin/gzip "$@"\n')
         for name in ("bash", "gzip", "mktemp", "mkdir", "mv", "rm", "chmod", "sha256sum", "uname", "readlink", "dirname", "cat"):
