@@ -1,1 +1,4 @@
+pub mod OutcomeLemmas
+pub mod ShiftLemmas
+pub mod RecordLemmas
 pub mod SteadyLemmas

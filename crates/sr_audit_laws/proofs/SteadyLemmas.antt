@@ -73,6 +73,7 @@ use Rattle.sr_audit.proofs.ExtentLemmas.{no_empty}
 use Rattle.sr_audit.proofs.FitLemmas.{frames_split}
 use Rattle.sr_audit.proofs.FollowLemmas.{number_is}
 use Rattle.sr_audit.proofs.FrameLemmas.{count-cons, frames_with-more}
+use Rattle.sr_audit_laws.proofs.ShiftLemmas.{shifted, came_shifted, top_shifted, IsUnseen, start_unseen}
 use Rattle.sr_audit_laws.specs.Steady.{
   clock_step,
   IsNotedAs,
@@ -223,40 +224,6 @@ up_counted test src turns cs noted ups =
     ∙ ap (test (was_noted src n GotA xs)) (came_noted src B n cs xs noted)) (frames (run_copies src cs xs))
     ∙ ap (count_by (λ n. test (was_noted src n GotA xs) (was_noted src n GotB xs))) (sym ups)
 
--- a stretch under the whole numbers of the run
-abbrev shift : ℤ → Placed → Placed
-shift d y = record { side = y.side; number = y.number +ℤ d; time = y.time }
-
-abbrev shifted : ℤ → List Placed → List Placed
-shifted d [] = []
-shifted d (y ∷ s) = shift d y ∷ shifted d s
-
-int_eq_shift : (n k d : ℤ) → int_eq (n +ℤ d) (k +ℤ d) ≡ int_eq n k
-int_eq_shift n k d =
-    elim (cases_Bool (int_eq n k)) [
-      | inl same ↦ (Decides-int_eq (n +ℤ d) (k +ℤ d)).1 (ap (λ m. m +ℤ d) ((Decides-int_eq n k).0 same)) ∙ sym same
-      | inr other ↦ false_from_ne_true (int_eq (n +ℤ d) (k +ℤ d))
-          (λ e. let same : int_eq n k ≡ true = (Decides-int_eq n k).1 (cancel n k d ((Decides-int_eq (n +ℤ d) (k +ℤ d)).0 e)) in
-          let no_way : false ≡ true = sym other ∙ same in absurd cc) ∙ sym other
-    ]
-  where
-    cancel : (n k d : ℤ) → n +ℤ d ≡ k +ℤ d → n ≡ k
-    cancel n k d e = omega (arith, ints, e)
-
-came_shifted : (side : Side) (n d : ℤ) (s : List Placed) → came side (n +ℤ d) (shifted d s) ≡ came side n s
-came_shifted side n d [] = refl
-came_shifted side n d (y ∷ s) =
-    ap (λ b. (b && same_side side y.side) || came side (n +ℤ d) (shifted d s)) (int_eq_shift n y.number d)
-    ∙ ap (λ b. (int_eq n y.number && same_side side y.side) || b) (came_shifted side n d s)
-
-greater_shift : (m n d : ℤ) → greater (m +ℤ d) (n +ℤ d) ≡ greater m n +ℤ d
-greater_shift m n d = grind (arith, ints)
-
-top_shifted : (d : ℤ) (y : Placed) (s : List Placed) → top_number (shifted d (y ∷ s)) ≡ top_number (y ∷ s) +ℤ d
-top_shifted d y [] = refl
-top_shifted d y (z ∷ s) =
-    ap (λ g. greater g (y.number +ℤ d)) (top_shifted d z s) ∙ greater_shift (top_number (z ∷ s)) y.number d
-
 -- the epoch of a source has the numbers of its copies
 abbrev top_in : List ℤ → ℤ
 top_in [] = pos 0
@@ -361,25 +328,6 @@ more_alike test y p s t rest side by_a by_b e =
   where
     sums : (fy fp fs ft rest k k' l l' : ℕ) → fy + k ≡ fs + l → fp + k' ≡ ft + l' → k ≡ k' → l ≡ l' → fs + rest ≡ ft → fy + rest ≡ fp
     sums fy fp fs ft rest k k' l l' a b c d e = omega (arith, a, b, c, d, e)
-
--- whole numbers of the run that are those of an audit and a constant, which the wire does not show
-abbrev IsUnseen : ℤ → Type 0
-IsUnseen d = (n : ℤ) → wire (n +ℤ d) ≡ wire n
-
-wire_parts : (z : ℤ) → wire z ≡ (up z + 65535 * down z) % 65536
-wire_parts (pos n) = omega arith
-wire_parts (negsuc n) = omega arith
-
--- the constant of an epoch that begins
-start_unseen : (m : ℤ) (seq : ℕ) → wire m ≡ seq → IsUnseen (m -ℤ pos seq)
-start_unseen m seq is n =
-    let z = n +ℤ (m -ℤ pos seq) in
-    let parts : up z + down n + down m + seq ≡ down z + up n + up m = omega (arith, ints) in
-    wire_parts z ∙ rest (up z) (down z) (up n) (down n) (up m) (down m) seq parts (sym (wire_parts m) ∙ is) ∙ sym (wire_parts n)
-  where
-    rest : (uz dz un dn um dm seq : ℕ) → uz + dn + dm + seq ≡ dz + un + um → (um + 65535 * dm) % 65536 ≡ seq →
-        (uz + 65535 * dz) % 65536 ≡ (un + 65535 * dn) % 65536
-    rest uz dz un dn um dm seq e f = omega (arith, e, f)
 
 -- the current stretch has the newest copies of the source under a constant, and the newest of these are those of the epoch, with the greatest
 -- number of the stretch among them

@@ -1,1 +1,3 @@
 pub mod Steady
+pub mod Outcomes
+pub mod Records

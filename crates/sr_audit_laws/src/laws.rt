@@ -1,5 +1,7 @@
-//! Laws of audits beside runs of a table of duplicate records.
+//! Laws of audits: beside runs of a table of duplicate records, of each number of a source, and of the captures of a flawless network.
 
+ghost use Rattle.sr_audit_laws.specs.Outcomes.{EachNumberIsTold, EachBreakIsTold};
+ghost use Rattle.sr_audit_laws.specs.Records.{RecordsHaveNoRepeat, RecordsHaveNoLoss, RecordsLackNoNumber};
 ghost use Rattle.sr_audit_laws.specs.Steady.{SteadyAuditsCountWhatGoesUp};
 
 /// In every steady run from the empty table, of a source that makes no jump, the pairs, the frames that one side lost and those at the
@@ -12,4 +14,38 @@ ghost use Rattle.sr_audit_laws.specs.Steady.{SteadyAuditsCountWhatGoesUp};
 /// numbers it on too.
 pub fn steady_audits_count_what_goes_up()
     ensures { SteadyAuditsCountWhatGoesUp }
+{}
+
+/// Of whatever arrivals of a source, each number of a stretch, from the least to the greatest, has one outcome: its frame came by both
+/// sides, by one alone while the capture of the other side ran, by one alone while that did not, or by none. Each figure is how many
+/// numbers have its outcome, so that a number between the first and the last of a stretch, of which neither side has a copy, is counted.
+pub fn each_number_is_told()
+    ensures { EachNumberIsTold }
+{}
+
+/// Of whatever arrivals of a source, no figure counts what lies between two stretches; but the stretches behind the first one are as many
+/// as the jumps and the restarts that are told.
+pub fn each_break_is_told()
+    ensures { EachBreakIsTold }
+{}
+
+/// Of the copies of a source's frames that two recorders have, with a true numbering, no copy is told as a repeat, no pair as 400 ms
+/// apart, and no jump or restart.
+///
+/// The frames are sent in the order of their numbers, and pass a recorder less than 400 ms behind that. Each copy came once, in order of
+/// time, and its number lies less than 1024 from the greatest one that came before.
+pub fn records_have_no_repeat()
+    ensures { RecordsHaveNoRepeat }
+{}
+
+/// If moreover each recorder has each frame that passes it while it runs, and each frame goes past both, no frame is told as lost by a
+/// side, where the parts of the captures that are judged lie so far from what is not recorded as the frames pass behind their sending.
+pub fn records_have_no_loss()
+    ensures { RecordsHaveNoLoss }
+{}
+
+/// If moreover the source numbers its frames one apart, they pass each recorder in that order, and both run together for so long, no
+/// number is told as one of no frame.
+pub fn records_lack_no_number()
+    ensures { RecordsLackNoNumber }
 {}

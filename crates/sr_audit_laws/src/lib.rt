@@ -1,6 +1,9 @@
-//! What the figures of an audit say of a node that takes the same copies.
+//! What the figures of an audit say of a node that takes the same copies, of each number of a source, and of a flawless network.
 #![tactic(auto)]
 
 mod laws;
 
-pub use laws::steady_audits_count_what_goes_up;
+pub use laws::{
+    each_break_is_told, each_number_is_told, records_have_no_loss, records_have_no_repeat,
+    records_lack_no_number, steady_audits_count_what_goes_up,
+};
