@@ -1,4 +1,6 @@
 pub mod OutcomeLemmas
 pub mod ShiftLemmas
 pub mod RecordLemmas
+pub mod FollowedLemmas
+pub mod UnbrokenLemmas
 pub mod SteadyLemmas

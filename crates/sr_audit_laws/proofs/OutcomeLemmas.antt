@@ -124,7 +124,7 @@ once_within b m (suc k) over under =
         by_lt_z m (b +ℤ pos k) (λ lower. lower) (λ higher. absurd (apart (joined b m k under higher)))
 
 -- a copy came of a number
-abbrev some : List Placed → ℤ → Bool
+abbrev pub some : List Placed → ℤ → Bool
 some s n = came A n s || came B n s
 
 or_true : (b : Bool) → (b || true) ≡ true
@@ -137,7 +137,7 @@ came_more side n y s is = ap (λ b. (int_eq n y.number && same y.side) || b) is 
     same : Side → Bool
     same own = same_side side own
 
-some_more : (n : ℤ) (y : Placed) (s : List Placed) → some s n ≡ true → some (y ∷ s) n ≡ true
+pub some_more : (n : ℤ) (y : Placed) (s : List Placed) → some s n ≡ true → some (y ∷ s) n ≡ true
 some_more n y s is = by (came A n s) (came B n s) refl refl is
   where
     by : (a b : Bool) → came A n s ≡ a → came B n s ≡ b → (a || b) ≡ true → some (y ∷ s) n ≡ true
@@ -145,7 +145,7 @@ some_more n y s is = by (came A n s) (came B n s) refl refl is
     by false true is_a is_b or = ap (λ t. came A n (y ∷ s) || t) (came_more B n y s is_b) ∙ or_true (came A n (y ∷ s))
     by false false is_a is_b or = let none : false ≡ true = or in absurd cc
 
-some_own : (y : Placed) (s : List Placed) → some (y ∷ s) y.number ≡ true
+pub some_own : (y : Placed) (s : List Placed) → some (y ∷ s) y.number ≡ true
 some_own y s =
     let own : int_eq y.number y.number ≡ true = (Decides-int_eq y.number y.number).1 refl in
     rw (came-same A y.number y s own, came-same B y.number y s own) (by y.side (came A y.number s) (came B y.number s))
@@ -156,7 +156,7 @@ some_own y s =
     by B true b = refl
     by B false b = refl
 
-some_other : (n : ℤ) (y : Placed) (s : List Placed) → int_eq n y.number ≡ false → some (y ∷ s) n ≡ some s n
+pub some_other : (n : ℤ) (y : Placed) (s : List Placed) → int_eq n y.number ≡ false → some (y ∷ s) n ≡ some s n
 some_other n y s other = ap (λ b. b || came B n (y ∷ s)) (came-other A n y s other) ∙ ap (λ b. came A n s || b) (came-other B n y s other)
 
 -- frames that pass a test are the numbers that do of which a copy came

@@ -21,7 +21,7 @@ abbrev pub shifted : ℤ → List Placed → List Placed
 shifted d [] = []
 shifted d (y ∷ s) = shift d y ∷ shifted d s
 
-int_eq_shift : (n k d : ℤ) → int_eq (n +ℤ d) (k +ℤ d) ≡ int_eq n k
+pub int_eq_shift : (n k d : ℤ) → int_eq (n +ℤ d) (k +ℤ d) ≡ int_eq n k
 int_eq_shift n k d =
     elim (cases_Bool (int_eq n k)) [
       | inl same ↦ (Decides-int_eq (n +ℤ d) (k +ℤ d)).1 (ap (λ m. m +ℤ d) ((Decides-int_eq n k).0 same)) ∙ sym same
@@ -48,7 +48,7 @@ first_shifted n d (y ∷ s) =
     ∙ ap (λ b. cond (int_eq n y.number && not (came A n s || b)) y.time (first_time (n +ℤ d) (shifted d s))) (came_shifted B n d s)
     ∙ ap (λ t. cond (int_eq n y.number && not (came A n s || came B n s)) y.time t) (first_shifted n d s)
 
-greater_shift : (m n d : ℤ) → greater (m +ℤ d) (n +ℤ d) ≡ greater m n +ℤ d
+pub greater_shift : (m n d : ℤ) → greater (m +ℤ d) (n +ℤ d) ≡ greater m n +ℤ d
 greater_shift m n d = grind (arith, ints)
 
 pub top_shifted : (d : ℤ) (y : Placed) (s : List Placed) → top_number (shifted d (y ∷ s)) ≡ top_number (y ∷ s) +ℤ d

@@ -44,18 +44,20 @@ pub record Passage : Type 0 where
   pub sent : ℤ → ℕ
   pub passes : Side → ℤ → ℕ
 
--- frames are sent in the order of their numbers, and pass each recorder so many nanoseconds behind that at most, which are less than 400 ms
+-- frames are sent in the order of their numbers, and pass each recorder so many nanoseconds behind that at most, which are less than 400 ms;
+-- fewer than 1024 numbers are in flight: one that lies 1023 further is sent when the frame has passed
 pub record IsTimely (apart : ℕ) (p : Passage) : Type 0 where
   pub in_turn : (m n : ℤ) → m ≤ℤ n → p.sent m ≤ p.sent n
   pub not_early : (side : Side) (n : ℤ) → p.goes side n ≡ true → p.sent n ≤ p.passes side n
   pub not_late : (side : Side) (n : ℤ) → p.goes side n ≡ true → p.passes side n ≤ p.sent n + apart
   pub soon : apart < epoch_gap
+  pub few : (side other : Side) (m n : ℤ) → p.goes side m ≡ true → p.goes other n ≡ true → (m +ℤ pos 1023) ≤ℤ n → p.sent m + apart < p.sent n
   pub in_time : (side : Side) (n : ℤ) → p.goes side n ≡ true → p.passes side n < 2 ^ 64 - 1
 
--- a number lies less than 1024 from the greatest one that came before, if one did
-abbrev pub IsClose : ℤ → List Placed → Type 0
-IsClose n [] = Unit {0}
-IsClose n (y ∷ before) = ((top_number (y ∷ before) -ℤ pos kept_numbers) <ℤ n) × (n <ℤ (top_number (y ∷ before) +ℤ pos kept_numbers))
+-- a number lies less than 64513 ahead of the greatest one that came before, if one did: so many, and the window, have 16 bits of their own
+abbrev pub IsNotFar : ℤ → List Placed → Type 0
+IsNotFar n [] = Unit {0}
+IsNotFar n (y ∷ before) = n ≤ℤ (top_number (y ∷ before) +ℤ pos (65536 - kept_numbers))
 
 -- a copy is that of a frame that goes past the recorder of its side, came when it passes there, while that runs, and no copy of it came
 -- there before
@@ -65,7 +67,7 @@ pub record IsRecorded (p : Passage) (recorded : Spans) (y : Placed) (before : Li
   pub runs : is_beyond recorded y.side y.time ≡ false
   pub once : came y.side y.number before ≡ false
   pub later : newest_time before ≤ y.time
-  pub close : IsClose y.number before
+  pub not_far : IsNotFar y.number before
 
 -- so is each, newest first
 abbrev pub AreRecorded : Passage → Spans → List Placed → Type 0
@@ -102,13 +104,11 @@ Overlap apart (Some a) (Some b) = (a.first + apart ≤ b.last) × (b.first + apa
 Overlap apart (Some a) None = ⊥
 Overlap apart None b = ⊥
 
--- no copy is a repeat, no pair came 400 ms apart, and all copies are of one stretch
+-- no copy is a repeat, and no pair came 400 ms apart
 pub record TellsNoRepeat (xs : List Arrival) : Type 0 where
   pub repeats_a : (tally_of (stretches xs)).repeats.a ≡ 0
   pub repeats_b : (tally_of (stretches xs)).repeats.b ≡ 0
   pub late : count_in 6 (skews_of (stretches xs)) ≡ 0
-  pub jumps : jumps_of xs ≡ 0
-  pub restarts : restarts_of xs ≡ 0
 
 abbrev pub RecordsHaveNoRepeat : Type 0
 RecordsHaveNoRepeat = (apart : ℕ) (p : Passage) (recorded : Spans) (copies : List Placed) → IsTimely apart p →
@@ -124,8 +124,13 @@ RecordsHaveNoLoss = (apart : ℕ) (p : Passage) (recorded judged : Spans) (copie
     AreRecorded p recorded copies → HasAll p recorded copies → GoesPastBoth p → LeavesOut apart recorded judged →
     TellsNoLoss judged (arrivals_of copies)
 
--- no number was of no frame
+-- no number was of no frame, and all copies are of one stretch
+pub record LacksNoNumber (xs : List Arrival) : Type 0 where
+  pub neither : sum_by neither_of (stretches xs) ≡ 0
+  pub jumps : jumps_of xs ≡ 0
+  pub restarts : restarts_of xs ≡ 0
+
 abbrev pub RecordsLackNoNumber : Type 0
 RecordsLackNoNumber = (apart : ℕ) (p : Passage) (recorded : Spans) (copies : List Placed) → IsTimely apart p →
     AreRecorded p recorded copies → HasAll p recorded copies → GoesPastBoth p → IsInOrder p → Overlap apart recorded.a recorded.b →
-    sum_by neither_of (stretches (arrivals_of copies)) ≡ 0
+    LacksNoNumber (arrivals_of copies)

@@ -1,4 +1,4 @@
-use Rattle.sr_audit_laws.proofs.RecordLemmas.{no_loss}
+use Rattle.sr_audit_laws.proofs.FollowedLemmas.{no_loss}
 use Rattle.sr_audit_laws.proofs.laws.records_have_no_loss.Goals as goal
 
 pub returns : goal.returns

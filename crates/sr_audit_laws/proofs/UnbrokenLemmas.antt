@@ -1,0 +1,384 @@
+-- Where each frame of a source goes past both recorders, no number is of no frame.
+use Rattle.std.proofs.Common.{◌≡◌, ℕ, zero, suc, ◌+◌, ◌-◌, ◌<◌, ◌≤◌, Bool, true, false, cond, ◌||◌, ◌&&◌, not, ◌⊎◌, List, [], ◌∷◌, ◌++◌, length, Option, None, Some, ℤ, pos, negsuc, arith, refl, sym, ap, ◌∙◌, subst, inl, inr}
+use Rattle.std.specs.Prelude.{◌^◌, count_by, sum_by, nat_eq, nat_lt, nat_le, unsigned_abs, ◌+ℤ◌, ◌-ℤ◌, ◌<ℤ◌, ◌≤ℤ◌}
+use Rattle.std.specs.Ordering.{int_eq}
+use Rattle.std.proofs.lemmas.Bool.{cases_Bool, lt-ltb, lt-leb, ltb-true, ltb-false, or_parts, or_cases, and_parts}
+use Rattle.std.proofs.lemmas.Bool.Decides.{Decides-int_eq}
+use Rattle.std.proofs.lemmas.Int.{ints, by_lt_z}
+use Rattle.std.proofs.lemmas.List.Sums.{sum_by-cons}
+use Rattle.sr_sequence.specs.Numbers.{wire, IsNear}
+use Rattle.sr_sequence.specs.NumberLemmas.{wire-lt}
+use Rattle.sr_sequence.specs.Places.{number_at, IsTheOne}
+use Rattle.sr_sequence.specs.declared.Distance.{Distance}
+use Rattle.sr_sequence.specs.declared.Distance.TheVariants.{Behind, Ahead}
+use Rattle.sr_dup_window.specs.Families.{greater}
+use Rattle.sr_audit.specs.declared.arrival.Arrival.{Arrival}
+use Rattle.sr_audit.specs.declared.side.Side.{Side}
+use Rattle.sr_audit.specs.declared.side.Side.TheVariants.{A, B}
+use Rattle.sr_audit.specs.declared.span.Span.{Span}
+use Rattle.sr_audit.specs.declared.span.Spans.{Spans}
+use Rattle.sr_audit.specs.Edges.{first_time, is_outside, is_beyond, edges_of}
+use Rattle.sr_audit.specs.Extents.{lesser, bottom_number, size_of, length_of, neither_of, jumps_of, restarts_of}
+use Rattle.sr_audit.specs.Lanes.{other_side}
+use Rattle.sr_audit.specs.Limits.{epoch_gap, kept_numbers}
+use Rattle.sr_audit.specs.Skewing.{pairs_up, skew_by, skews_in, skews_of, class_of, count_in}
+use Rattle.sr_audit.specs.Stretches.{Placed, same_side, came, top_number, newest_time, lies_from, goes_to, goes_on, gone_on, stretch_begun, with_arrival, stretches}
+use Rattle.sr_audit.specs.Tallies.{repeats, tally_of}
+use Rattle.sr_audit.proofs.EdgeLemmas.{some_below}
+use Rattle.sr_audit.proofs.FollowLemmas.{number_is}
+use Rattle.sr_audit.proofs.FrameLemmas.{count-cons, came-other, first_other}
+use Rattle.sr_audit_laws.specs.Outcomes.{OnlyA, OnlyB, Neither, same_outcome, outcome_if, outcome_of, numbers_from, numbers_of, numbers_with}
+use Rattle.sr_audit_laws.specs.Records.{
+  Passage,
+  IsTimely,
+  IsRecorded,
+  AreRecorded,
+  HasAll,
+  arrivals_of,
+  GoesPastBoth,
+  LeavesOut,
+  IsInOrder,
+  Overlap,
+  TellsNoRepeat,
+  RecordsHaveNoRepeat,
+  TellsNoLoss,
+  LacksNoNumber,
+  RecordsHaveNoLoss,
+  RecordsLackNoNumber,
+}
+use Rattle.sr_audit_laws.proofs.OutcomeLemmas.{none_counted, some, some_own, some_other, each_number, each_break}
+use Rattle.sr_audit_laws.proofs.RecordLemmas.{greater_is, top_sent, Came, side_is, came_as, came_own, or_true, came_more, lesser_is, top_came, bottom_came, not_under, placed, arrival_of, begins, near_of, closer, near_time, goes_further, not_repeated, first_alone, skew_small, not_last, back_side, lone_is_outside, no_only_a, no_only_b, some_at, above_top}
+use Rattle.sr_audit_laws.proofs.ShiftLemmas.{shift, shifted, int_eq_shift, came_shifted, first_shifted, greater_shift, top_shifted, IsUnseen, begun_unseen}
+
+abbrev IsOneStretch : List Placed → ℤ → Type 0
+IsOneStretch copies d = IsUnseen d × (stretches (arrivals_of copies) ≡ shifted d copies ∷ [])
+
+-- each number lies less than 1024 ahead of the greatest one that came before
+abbrev AreClose : List Placed → Type 0
+AreClose [] = Unit {0}
+AreClose (y ∷ []) = Unit {0}
+AreClose (y ∷ z ∷ before) = (y.number <ℤ (top_number (z ∷ before) +ℤ pos kept_numbers)) × AreClose (z ∷ before)
+
+one_stretch : (apart : ℕ) (p : Passage) (recorded : Spans) (y : Placed) (before : List Placed) → IsTimely apart p →
+    AreRecorded p recorded (y ∷ before) → AreClose (y ∷ before) → (d : ℤ) × IsOneStretch (y ∷ before) d
+one_stretch apart p recorded y [] timely recs close = (
+  pos (wire y.number) -ℤ y.number,
+  (
+    begun_unseen y.number (wire y.number) refl,
+    ap (λ n. (placed y.side y.time n ∷ []) ∷ []) (begins y.number (wire y.number)),
+  ),
+)
+one_stretch apart p recorded y (z ∷ rest) timely (own, recs) close =
+    grown (one_stretch apart p recorded z rest timely recs close.1)
+  where
+    x : Arrival
+    x = arrival_of y
+
+    grown : ((d : ℤ) × IsOneStretch (z ∷ rest) d) → (d : ℤ) × IsOneStretch (y ∷ z ∷ rest) d
+    grown (d, (unseen, is)) =
+        let s = shifted d (z ∷ rest) in
+        let g = top_number s in
+        let t = top_number (z ∷ rest) in
+        let top : g ≡ t +ℤ d = top_shifted d z rest in
+        let place = lies_from s (wire y.number) in
+        let one : IsTheOne kept_numbers g (wire y.number) (number_at g place) = number_is g (wire y.number) (wire-lt y.number) in
+        let number : number_at g place ≡ y.number +ℤ d =
+        sym (one.alone (y.number +ℤ d) (near_of g t y.number d top (not_under apart p recorded y z rest timely (own, recs)) (closer t y.number close.0)) (unseen y.number)) in
+        let on : goes_on s x ≡ true =
+        goes_further g t y.number d (nat_lt (y.time - z.time) epoch_gap) place top number close.0
+        (near_time apart p recorded y z rest timely (own, recs)) in (
+          d,
+          (
+            unseen,
+            ap (λ ss. with_arrival ss x) is ∙ ap (λ b. cond b (gone_on s x ∷ []) (stretch_begun x ∷ s ∷ [])) on
+                ∙ ap (λ n. (placed y.side y.time n ∷ s) ∷ []) number,
+          ),
+        )
+
+sum_one : (f : List Placed → ℕ) (s : List Placed) (n : ℕ) → f s ≡ n → sum_by f (s ∷ []) ≡ n
+sum_one f s n e = omega (arith, sum_by-cons f s [], e)
+
+no_breaks : (len jumps restarts : ℕ) → len ≡ 1 + jumps + restarts → len ≡ 1 → (jumps ≡ 0) × (restarts ≡ 0)
+no_breaks len jumps restarts e f = (omega (arith, e, f), omega (arith, e, f))
+
+-- a number of a stretch is one of the copies
+back_again : (n d : ℤ) → (n -ℤ d) +ℤ d ≡ n
+back_again n d = omega (arith, ints)
+
+came_back : (side : Side) (n d : ℤ) (copies : List Placed) → came side n (shifted d copies) ≡ came side (n -ℤ d) copies
+came_back side n d copies = ap (λ k. came side k (shifted d copies)) (sym (back_again n d)) ∙ came_shifted side (n -ℤ d) d copies
+
+-- a time while a recorder runs, or after it or before
+inside : (span : Span) (t : ℕ) → is_outside (Some span) t ≡ false → (span.first ≤ t) × (t ≤ span.last)
+inside span t in_it =
+    let parts = or_parts (nat_lt t span.first) (nat_lt span.last t) in_it in
+    (ltb-false t span.first parts.0, ltb-false span.last t parts.1)
+
+outside : (span : Span) (t : ℕ) → is_outside (Some span) t ≡ true → (t < span.first) ⊎ (span.last < t)
+outside span t out =
+    elim (or_cases (nat_lt t span.first) (nat_lt span.last t) out) [
+      | inl early ↦ inl (ltb-true t span.first early)
+      | inr late ↦ inr (ltb-true span.last t late)
+    ]
+
+behind_it : (span : Span) (t : ℕ) → is_outside (Some span) t ≡ true → span.first ≤ t → span.last < t
+behind_it span t out after =
+    elim (outside span t out) [
+      | inl early ↦ absurd (omega (arith, early, after))
+      | inr late ↦ late
+    ]
+
+before_it : (span : Span) (t : ℕ) → is_outside (Some span) t ≡ true → t ≤ span.last → t < span.first
+before_it span t out before =
+    elim (outside span t out) [
+      | inl early ↦ early
+      | inr late ↦ absurd (omega (arith, late, before))
+    ]
+
+-- a frame between two that came passes one of two recorders while it runs
+between : (apart : ℕ) (a b : Span) (side far : Side) (low mid high : Side → ℕ) → (a.first + apart ≤ b.last) → (b.first + apart ≤ a.last) →
+    let outer : Side → ℕ → Bool = λ c t. is_beyond (record { a = Some a; b = Some b }) c t in
+    outer side (low side) ≡ false → outer far (high far) ≡ false → outer A (mid A) ≡ true → outer B (mid B) ≡ true →
+    ((c : Side) → low c ≤ mid c) → ((c : Side) → mid c ≤ high c) → mid A ≤ mid B + apart → mid B ≤ mid A + apart → ⊥
+between apart a b A A low mid high ab ba from to out_a out_b up down near_a near_b =
+    let late = behind_it a (mid A) out_a (omega (arith, (inside a (low A) from).0, up A)) in
+    omega (arith, late, (inside a (high A) to).1, down A)
+between apart a b A B low mid high ab ba from to out_a out_b up down near_a near_b =
+    let late = behind_it a (mid A) out_a (omega (arith, (inside a (low A) from).0, up A)) in
+    let early = before_it b (mid B) out_b (omega (arith, (inside b (high B) to).1, down B)) in
+    omega (arith, late, early, near_a, ba)
+between apart a b B A low mid high ab ba from to out_a out_b up down near_a near_b =
+    let late = behind_it b (mid B) out_b (omega (arith, (inside b (low B) from).0, up B)) in
+    let early = before_it a (mid A) out_a (omega (arith, (inside a (high A) to).1, down A)) in
+    omega (arith, late, early, near_b, ab)
+between apart a b B B low mid high ab ba from to out_a out_b up down near_a near_b =
+    let late = behind_it b (mid B) out_b (omega (arith, (inside b (low B) from).0, up B)) in
+    omega (arith, late, (inside b (high B) to).1, down B)
+
+-- numbers of which none passes a test
+none_within : (q : ℤ → Bool) (b : ℤ) (k : ℕ) → ((n : ℤ) → b ≤ℤ n → n <ℤ (b +ℤ pos k) → q n ≡ false) → count_by q (numbers_from b k) ≡ 0
+none_within q b zero none = refl
+none_within q b (suc k) none =
+    count-cons q (b +ℤ pos k) (numbers_from b k)
+    ∙ ap (λ t. cond t 1 0 + count_by q (numbers_from b k)) (none (b +ℤ pos k) (over b k) (under b k))
+    ∙ ap (λ c. 0 + c) (none_within q b k (λ n above below. none n above (wider b n k below)))
+  where
+    over : (b : ℤ) (k : ℕ) → b ≤ℤ (b +ℤ pos k)
+    over b k = omega (arith, ints)
+
+    under : (b : ℤ) (k : ℕ) → (b +ℤ pos k) <ℤ (b +ℤ pos (suc k))
+    under b k = omega (arith, ints)
+
+    wider : (b n : ℤ) (k : ℕ) → n <ℤ (b +ℤ pos k) → n <ℤ (b +ℤ pos (suc k))
+    wider b n k below = omega (arith, ints, below)
+
+no_higher : (d b t n : ℤ) → t -ℤ b ≡ d → b ≤ℤ t → n <ℤ (b +ℤ pos (size_of d + 1)) → n ≤ℤ t
+no_higher (pos k) b t n e le under = omega (arith, ints, e, under)
+no_higher (negsuc k) b t n e le under = absurd (no b t k e le)
+  where
+    no : (b t : ℤ) (k : ℕ) → t -ℤ b ≡ negsuc k → b ≤ℤ t → ⊥
+    no b t k e le = omega (arith, ints, e, le)
+
+no_neither : (a b u v : Bool) → (a ≡ false → b ≡ false → ⊥) → same_outcome Neither (outcome_if a b u v) ≡ false
+no_neither true true u v not_both = refl
+no_neither true false u true not_both = refl
+no_neither true false u false not_both = refl
+no_neither false true true v not_both = refl
+no_neither false true false v not_both = refl
+no_neither false false u v not_both = absurd (not_both refl refl)
+
+less_less : (m n d : ℤ) → m ≤ℤ n → (m -ℤ d) ≤ℤ (n -ℤ d)
+less_less m n d le = omega (arith, ints, le)
+
+each_side : (p : Passage) (n : ℤ) (side : Side) → GoesPastBoth p → p.goes side n ≡ true → (c : Side) → p.goes c n ≡ true
+each_side p n A both goes A = goes
+each_side p n A both goes B = both A n goes
+each_side p n B both goes A = both B n goes
+each_side p n B both goes B = goes
+
+-- no number between two that came passes both recorders while they do not run
+lacks_none : (apart : ℕ) (p : Passage) (a b : Span) (side far : Side) (low mid high : ℤ) → IsTimely apart p → IsInOrder p →
+    let spans : Spans = record { a = Some a; b = Some b } in
+    a.first + apart ≤ b.last → b.first + apart ≤ a.last → Came p spans side low → Came p spans far high → ((c : Side) → p.goes c low ≡ true) →
+    ((c : Side) → p.goes c mid ≡ true) → ((c : Side) → p.goes c high ≡ true) → low ≤ℤ mid → mid ≤ℤ high →
+    ((c : Side) → is_beyond spans c (p.passes c mid) ≡ true) → ⊥
+lacks_none apart p a b side far low mid high timely order ab ba from to low_goes mid_goes high_goes above below out =
+    between apart a b side far (λ c. p.passes c low) (λ c. p.passes c mid) (λ c. p.passes c high) ab ba from.runs to.runs
+    (out A) (out B) (λ c. order.in_order c low mid (low_goes c) (mid_goes c) above)
+    (λ c. order.in_order c mid high (mid_goes c) (high_goes c) below)
+    (omega (arith, timely.not_late A mid (mid_goes A), timely.not_early B mid (mid_goes B)))
+    (omega (arith, timely.not_late B mid (mid_goes B), timely.not_early A mid (mid_goes A)))
+
+-- some copies are all that passed before a time
+abbrev HasUpTo : Passage → Spans → ℕ → List Placed → Type 0
+HasUpTo p recorded bound copies = (side : Side) (n : ℤ) → p.goes side n ≡ true → is_beyond recorded side (p.passes side n) ≡ false →
+    p.passes side n < bound → came side n copies ≡ true
+
+up_to_before : (p : Passage) (recorded : Spans) (bound : ℕ) (y : Placed) (before : List Placed) → IsRecorded p recorded y before →
+    y.time ≤ bound → HasUpTo p recorded bound (y ∷ before) → HasUpTo p recorded y.time before
+up_to_before p recorded bound y before own le has side n goes runs lt =
+    elim (cases_Bool (int_eq n y.number && same_side side y.side)) [
+      | inl here ↦
+          let both = and_parts (int_eq n y.number) (same_side side y.side) here in
+          let number : n ≡ y.number = (Decides-int_eq n y.number).0 both.0 in
+          let at : side ≡ y.side = side_is side y.side both.1 in
+          let e : p.passes side n ≡ y.time = ap (λ c. p.passes c n) at ∙ ap (p.passes y.side) number ∙ sym own.time in
+          absurd (omega (arith, e, lt))
+      | inr elsewhere ↦ sym (ap (λ b. b || came side n before) elsewhere) ∙ has side n goes runs (omega (arith, lt, le))
+    ]
+
+runs_at : (p : Passage) (recorded : Spans) (y : Placed) (before : List Placed) → IsRecorded p recorded y before → Came p recorded y.side y.number
+runs_at p recorded y before own =
+    record { goes = own.goes; runs = ap (is_beyond recorded y.side) (sym own.time) ∙ own.runs }
+
+are_close : (apart : ℕ) (p : Passage) (a b : Span) (bound : ℕ) (copies : List Placed) → IsTimely apart p → IsInOrder p → GoesPastBoth p →
+    let spans : Spans = record { a = Some a; b = Some b } in
+    a.first + apart ≤ b.last → b.first + apart ≤ a.last → AreRecorded p spans copies → newest_time copies ≤ bound →
+    HasUpTo p spans bound copies → AreClose copies
+are_close apart p a b bound [] timely order both ab ba recs le has = tt
+are_close apart p a b bound (y ∷ []) timely order both ab ba recs le has = tt
+are_close apart p a b bound (y ∷ z ∷ rest) timely order both ab ba (own, recs) le has = (
+  by_lt_z n (t +ℤ pos kept_numbers) (λ close. close) (λ far. absurd (no far)),
+  are_close apart p a b y.time (z ∷ rest) timely order both ab ba recs own.later now,
+)
+  where
+    spans : Spans
+    spans = record { a = Some a; b = Some b }
+
+    before : List Placed
+    before = z ∷ rest
+
+    n : ℤ
+    n = y.number
+
+    t : ℤ
+    t = top_number before
+
+    now : HasUpTo p spans y.time before
+    now = up_to_before p spans bound y before own le has
+
+    done : (i j : ℤ) → (i +ℤ pos kept_numbers) ≤ℤ j → ((i +ℤ pos 1) +ℤ pos 1023) ≤ℤ j
+    done i j far = omega (arith, ints, far)
+
+    below : (i j : ℤ) → (i +ℤ pos kept_numbers) ≤ℤ j → (i +ℤ pos 1) ≤ℤ j
+    below i j far = omega (arith, ints, far)
+
+    over : (i : ℤ) → i ≤ℤ (i +ℤ pos 1)
+    over i = omega (arith, ints)
+
+    higher : (i : ℤ) → i <ℤ (i +ℤ pos 1)
+    higher i = omega (arith, ints)
+
+    there : (side : Side) × (came side t before ≡ true)
+    there = top_came z rest
+
+    low : Came p spans there.0 t
+    low = came_as p spans there.0 t before recs there.1
+
+    low_goes : (c : Side) → p.goes c t ≡ true
+    low_goes = each_side p t there.0 both low.goes
+
+    high_goes : (c : Side) → p.goes c n ≡ true
+    high_goes = each_side p n y.side both own.goes
+
+    no : (t +ℤ pos kept_numbers) ≤ℤ n → ⊥
+    no far =
+        let mid = t +ℤ pos 1 in
+        let mid_goes : (c : Side) → p.goes c mid ≡ true =
+        λ c. order.one_apart c t mid n (low_goes c) (high_goes c) (over t) (below t n far) in
+        lacks_none apart p a b there.0 y.side t mid n timely order ab ba low (runs_at p spans y before own) low_goes mid_goes high_goes
+        (over t) (below t n far)
+        (λ c. elim (cases_Bool (is_beyond spans c (p.passes c mid))) [
+          | inl beyond ↦ beyond
+          | inr runs ↦
+              let passed : p.passes c mid < y.time =
+              omega (arith, timely.not_late c mid (mid_goes c), timely.few c y.side mid n (mid_goes c) own.goes (done t n far),
+              timely.not_early y.side n own.goes, own.time) in
+              let none : false ≡ true = sym (above_top c before mid (higher t)) ∙ now c mid (mid_goes c) runs passed in absurd cc
+        ])
+
+no_number_lacks_by : (ra rb : Option Span) (apart : ℕ) (p : Passage) (copies : List Placed) → IsTimely apart p →
+    let recorded : Spans = record { a = ra; b = rb } in
+    AreRecorded p recorded copies → HasAll p recorded copies → GoesPastBoth p → IsInOrder p → Overlap apart ra rb →
+    LacksNoNumber (arrivals_of copies)
+no_number_lacks_by None rb apart p copies timely recs all both order overlap = absurd overlap
+no_number_lacks_by (Some a) None apart p copies timely recs all both order overlap = absurd overlap
+no_number_lacks_by (Some a) (Some b) apart p [] timely recs all both order overlap = record { neither = refl; jumps = refl; restarts = refl }
+no_number_lacks_by (Some a) (Some b) apart p (y ∷ before) timely recs all both order overlap =
+    record {
+      neither = (each_number spans (arrivals_of copies)).neither ∙ ap (sum_by (numbers_with spans Neither)) is
+          ∙ sum_one (numbers_with spans Neither) s 0
+          (none_within (λ n. same_outcome Neither (outcome_of spans s n)) (bottom_number s) (length_of s)
+          (λ n above below. no_neither (came A n s) (came B n s) (is_beyond spans A (first_time n s)) (is_beyond spans B (first_time n s))
+          (lacked n above below)));
+      jumps = none.0;
+      restarts = none.1;
+    }
+  where
+    spans : Spans
+    spans = record { a = Some a; b = Some b }
+
+    copies : List Placed
+    copies = y ∷ before
+
+    one : (d : ℤ) × IsOneStretch copies d
+    one = one_stretch apart p spans y before timely recs
+        (are_close apart p a b y.time copies timely order both overlap.0 overlap.1 recs (itself y.time) (λ c n goes runs lt. all c n goes runs))
+      where
+        itself : (n : ℕ) → n ≤ n
+        itself n = omega arith
+
+    d : ℤ
+    d = one.0
+
+    s : List Placed
+    s = shifted d copies
+
+    is : stretches (arrivals_of copies) ≡ s ∷ []
+    is = one.1.1
+
+    none : (jumps_of (arrivals_of copies) ≡ 0) × (restarts_of (arrivals_of copies) ≡ 0)
+    none = no_breaks (length (stretches (arrivals_of copies))) (jumps_of (arrivals_of copies)) (restarts_of (arrivals_of copies))
+        (each_break (arrival_of y) (arrivals_of before)) (ap length is)
+
+    low : (side : Side) × (came side (bottom_number s) s ≡ true)
+    low = bottom_came (shift d y) (shifted d before)
+
+    high : (side : Side) × (came side (top_number s) s ≡ true)
+    high = top_came (shift d y) (shifted d before)
+
+    level : bottom_number s ≤ℤ top_number s
+    level = some_below s (bottom_number s) (some_at low.0 (bottom_number s) s low.1)
+
+    was_low : Came p spans low.0 (bottom_number s -ℤ d)
+    was_low = came_as p spans low.0 (bottom_number s -ℤ d) copies recs (sym (came_back low.0 (bottom_number s) d copies) ∙ low.1)
+
+    was_high : Came p spans high.0 (top_number s -ℤ d)
+    was_high = came_as p spans high.0 (top_number s -ℤ d) copies recs (sym (came_back high.0 (top_number s) d copies) ∙ high.1)
+
+    low_goes : (c : Side) → p.goes c (bottom_number s -ℤ d) ≡ true
+    low_goes = each_side p (bottom_number s -ℤ d) low.0 both was_low.goes
+
+    high_goes : (c : Side) → p.goes c (top_number s -ℤ d) ≡ true
+    high_goes = each_side p (top_number s -ℤ d) high.0 both was_high.goes
+
+    lacked : (n : ℤ) → bottom_number s ≤ℤ n → n <ℤ (bottom_number s +ℤ pos (length_of s)) → came A n s ≡ false → came B n s ≡ false → ⊥
+    lacked n above below none_a none_b =
+        let over : (bottom_number s -ℤ d) ≤ℤ (n -ℤ d) = less_less (bottom_number s) n d above in
+        let under : (n -ℤ d) ≤ℤ (top_number s -ℤ d) =
+        less_less n (top_number s) d (no_higher (top_number s -ℤ bottom_number s) (bottom_number s) (top_number s) n refl level below) in
+        let mid_goes : (c : Side) → p.goes c (n -ℤ d) ≡ true =
+        λ c. order.one_apart c (bottom_number s -ℤ d) (n -ℤ d) (top_number s -ℤ d) (low_goes c) (high_goes c) over under in
+        lacks_none apart p a b low.0 high.0 (bottom_number s -ℤ d) (n -ℤ d) (top_number s -ℤ d) timely order overlap.0 overlap.1 was_low was_high
+        low_goes mid_goes high_goes over under
+        (λ c. elim (cases_Bool (is_beyond spans c (p.passes c (n -ℤ d)))) [
+          | inl beyond ↦ beyond
+          | inr runs ↦ let no : false ≡ true = sym (not_there c) ∙ all c (n -ℤ d) (mid_goes c) runs in absurd cc
+        ])
+      where
+        not_there : (c : Side) → came c (n -ℤ d) copies ≡ false
+        not_there A = sym (came_back A n d copies) ∙ none_a
+        not_there B = sym (came_back B n d copies) ∙ none_b
+
+pub no_number_lacks : RecordsLackNoNumber
+no_number_lacks apart p recorded = no_number_lacks_by recorded.a recorded.b apart p
