@@ -2,7 +2,7 @@
 use Rattle.std.proofs.Common.{◌≡◌, ℕ, zero, suc, ◌+◌, ◌-◌, ◌<◌, ◌≤◌, Bool, true, false, cond, ◌||◌, ◌&&◌, not, ◌⊎◌, List, [], ◌∷◌, ◌++◌, length, Option, None, Some, ℤ, pos, negsuc, arith, refl, sym, ap, ◌∙◌, subst, inl, inr}
 use Rattle.std.specs.Prelude.{◌^◌, count_by, sum_by, nat_eq, nat_lt, nat_le, unsigned_abs, ◌+ℤ◌, ◌-ℤ◌, ◌<ℤ◌, ◌≤ℤ◌}
 use Rattle.std.specs.Ordering.{int_eq}
-use Rattle.std.proofs.lemmas.Bool.{cases_Bool, lt-ltb, lt-leb, ltb-true, ltb-false, or_parts, or_cases, and_parts}
+use Rattle.std.proofs.lemmas.Bool.{cases_Bool, lt-ltb, lt-leb, ltb-true, ltb-false, le-ltb, or_from, or_parts, or_cases, and_parts}
 use Rattle.std.proofs.lemmas.Bool.Decides.{Decides-int_eq}
 use Rattle.std.proofs.lemmas.Int.{ints, by_lt_z}
 use Rattle.std.proofs.lemmas.List.Sums.{sum_by-cons}
@@ -39,12 +39,15 @@ use Rattle.sr_audit_laws.specs.Records.{
   LeavesOut,
   IsInOrder,
   Overlap,
+  GoesPastOne,
+  AreQuietEdges,
   TellsNoRepeat,
   RecordsHaveNoRepeat,
   TellsNoLoss,
   LacksNoNumber,
   RecordsHaveNoLoss,
   RecordsLackNoNumber,
+  RingRecordsLackNoNumber,
 }
 use Rattle.sr_audit_laws.proofs.OutcomeLemmas.{none_counted, some, some_own, some_other, each_number, each_break}
 use Rattle.sr_audit_laws.proofs.RecordLemmas.{greater_is, top_sent, Came, side_is, came_as, came_own, or_true, came_more, lesser_is, top_came, bottom_came, not_under, placed, arrival_of, begins, near_of, closer, near_time, goes_further, not_repeated, first_alone, skew_small, not_last, back_side, lone_is_outside, no_only_a, no_only_b, some_at, above_top}
@@ -209,6 +212,61 @@ lacks_none apart p a b side far low mid high timely order ab ba from to low_goes
     (omega (arith, timely.not_late A mid (mid_goes A), timely.not_early B mid (mid_goes B)))
     (omega (arith, timely.not_late B mid (mid_goes B), timely.not_early A mid (mid_goes A)))
 
+-- a number between two that came goes past a recorder that runs
+abbrev Reaches : Passage → Spans → Type 0
+Reaches p recorded = (side far : Side) (low mid high : ℤ) → Came p recorded side low → Came p recorded far high → low ≤ℤ mid → mid ≤ℤ high →
+    (c : Side) × Came p recorded c mid
+
+both_reach : (apart : ℕ) (p : Passage) (a b : Span) → IsTimely apart p → IsInOrder p → GoesPastBoth p → a.first + apart ≤ b.last →
+    b.first + apart ≤ a.last → Reaches p (record { a = Some a; b = Some b })
+both_reach apart p a b timely order both ab ba side far low mid high from to above below =
+    elim (cases_Bool (is_beyond spans A (p.passes A mid))) [
+      | inr runs ↦ (A, record { goes = mid_goes A; runs = runs })
+      | inl out_a ↦ elim (cases_Bool (is_beyond spans B (p.passes B mid))) [
+        | inr runs ↦ (B, record { goes = mid_goes B; runs = runs })
+        | inl out_b ↦ absurd (lacks_none apart p a b side far low mid high timely order ab ba from to low_goes mid_goes high_goes above below
+            (outs out_a out_b))
+      ]
+    ]
+  where
+    spans : Spans
+    spans = record { a = Some a; b = Some b }
+
+    low_goes : (c : Side) → p.goes c low ≡ true
+    low_goes = each_side p low side both from.goes
+
+    high_goes : (c : Side) → p.goes c high ≡ true
+    high_goes = each_side p high far both to.goes
+
+    mid_goes : (c : Side) → p.goes c mid ≡ true
+    mid_goes c = order.one_apart c low mid high (low_goes c) (high_goes c) above below
+
+    outs : is_beyond spans A (p.passes A mid) ≡ true → is_beyond spans B (p.passes B mid) ≡ true → (c : Side) →
+        is_beyond spans c (p.passes c mid) ≡ true
+    outs out_a out_b A = out_a
+    outs out_a out_b B = out_b
+
+in_span : (span : Span) (side : Side) (t : ℕ) → span.first ≤ t → t ≤ span.last → is_beyond (record { a = Some span; b = Some span }) side t ≡ false
+in_span span A t from to = or_from (nat_lt t span.first) (nat_lt span.last t) (le-ltb t span.first from) (le-ltb span.last t to)
+in_span span B t from to = or_from (nat_lt t span.first) (nat_lt span.last t) (le-ltb t span.first from) (le-ltb span.last t to)
+
+one_reaches : (apart : ℕ) (p : Passage) (recorded : Spans) (span : Span) → IsTimely apart p → GoesPastOne p →
+    AreQuietEdges apart p recorded span → Reaches p recorded
+one_reaches apart p recorded span timely one quiet side far low mid high from to above below =
+    let there = one side far low mid high from.goes to.goes above below in
+    let c = there.0 in
+    let begins = (quiet.1 side low from.goes from.runs).begins in
+    let ends = (quiet.1 far high to.goes to.runs).ends in
+    let early : p.sent low ≤ p.sent mid = timely.in_turn low mid above in
+    let late : p.sent mid ≤ p.sent high = timely.in_turn mid high below in
+    let after : span.first ≤ p.passes c mid =
+    omega (arith, begins, early, timely.not_late side low from.goes, timely.not_early c mid there.1) in
+    let before : p.passes c mid ≤ span.last =
+    omega (arith, ends, late, timely.not_early far high to.goes, timely.not_late c mid there.1) in (
+      c,
+      record { goes = there.1; runs = ap (λ r. is_beyond r c (p.passes c mid)) quiet.0 ∙ in_span span c (p.passes c mid) after before },
+    )
+
 -- some copies are all that passed before a time
 abbrev HasUpTo : Passage → Spans → ℕ → List Placed → Type 0
 HasUpTo p recorded bound copies = (side : Side) (n : ℤ) → p.goes side n ≡ true → is_beyond recorded side (p.passes side n) ≡ false →
@@ -231,20 +289,15 @@ runs_at : (p : Passage) (recorded : Spans) (y : Placed) (before : List Placed) �
 runs_at p recorded y before own =
     record { goes = own.goes; runs = ap (is_beyond recorded y.side) (sym own.time) ∙ own.runs }
 
-are_close : (apart : ℕ) (p : Passage) (a b : Span) (bound : ℕ) (copies : List Placed) → IsTimely apart p → IsInOrder p → GoesPastBoth p →
-    let spans : Spans = record { a = Some a; b = Some b } in
-    a.first + apart ≤ b.last → b.first + apart ≤ a.last → AreRecorded p spans copies → newest_time copies ≤ bound →
-    HasUpTo p spans bound copies → AreClose copies
-are_close apart p a b bound [] timely order both ab ba recs le has = tt
-are_close apart p a b bound (y ∷ []) timely order both ab ba recs le has = tt
-are_close apart p a b bound (y ∷ z ∷ rest) timely order both ab ba (own, recs) le has = (
+are_close : (apart : ℕ) (p : Passage) (recorded : Spans) (bound : ℕ) (copies : List Placed) → IsTimely apart p → Reaches p recorded →
+    AreRecorded p recorded copies → newest_time copies ≤ bound → HasUpTo p recorded bound copies → AreClose copies
+are_close apart p recorded bound [] timely reaches recs le has = tt
+are_close apart p recorded bound (y ∷ []) timely reaches recs le has = tt
+are_close apart p recorded bound (y ∷ z ∷ rest) timely reaches (own, recs) le has = (
   by_lt_z n (t +ℤ pos kept_numbers) (λ close. close) (λ far. absurd (no far)),
-  are_close apart p a b y.time (z ∷ rest) timely order both ab ba recs own.later now,
+  are_close apart p recorded y.time (z ∷ rest) timely reaches recs own.later now,
 )
   where
-    spans : Spans
-    spans = record { a = Some a; b = Some b }
-
     before : List Placed
     before = z ∷ rest
 
@@ -254,8 +307,8 @@ are_close apart p a b bound (y ∷ z ∷ rest) timely order both ab ba (own, rec
     t : ℤ
     t = top_number before
 
-    now : HasUpTo p spans y.time before
-    now = up_to_before p spans bound y before own le has
+    now : HasUpTo p recorded y.time before
+    now = up_to_before p recorded bound y before own le has
 
     done : (i j : ℤ) → (i +ℤ pos kept_numbers) ≤ℤ j → ((i +ℤ pos 1) +ℤ pos 1023) ≤ℤ j
     done i j far = omega (arith, ints, far)
@@ -272,58 +325,38 @@ are_close apart p a b bound (y ∷ z ∷ rest) timely order both ab ba (own, rec
     there : (side : Side) × (came side t before ≡ true)
     there = top_came z rest
 
-    low : Came p spans there.0 t
-    low = came_as p spans there.0 t before recs there.1
-
-    low_goes : (c : Side) → p.goes c t ≡ true
-    low_goes = each_side p t there.0 both low.goes
-
-    high_goes : (c : Side) → p.goes c n ≡ true
-    high_goes = each_side p n y.side both own.goes
-
     no : (t +ℤ pos kept_numbers) ≤ℤ n → ⊥
     no far =
         let mid = t +ℤ pos 1 in
-        let mid_goes : (c : Side) → p.goes c mid ≡ true =
-        λ c. order.one_apart c t mid n (low_goes c) (high_goes c) (over t) (below t n far) in
-        lacks_none apart p a b there.0 y.side t mid n timely order ab ba low (runs_at p spans y before own) low_goes mid_goes high_goes
-        (over t) (below t n far)
-        (λ c. elim (cases_Bool (is_beyond spans c (p.passes c mid))) [
-          | inl beyond ↦ beyond
-          | inr runs ↦
-              let passed : p.passes c mid < y.time =
-              omega (arith, timely.not_late c mid (mid_goes c), timely.few c y.side mid n (mid_goes c) own.goes (done t n far),
-              timely.not_early y.side n own.goes, own.time) in
-              let none : false ≡ true = sym (above_top c before mid (higher t)) ∙ now c mid (mid_goes c) runs passed in absurd cc
-        ])
+        let at = reaches there.0 y.side t mid n (came_as p recorded there.0 t before recs there.1) (runs_at p recorded y before own) (over t)
+        (below t n far) in
+        let c = at.0 in
+        let passed : p.passes c mid < y.time =
+        omega (arith, timely.not_late c mid at.1.goes, timely.few c y.side mid n at.1.goes own.goes (done t n far),
+        timely.not_early y.side n own.goes, own.time) in
+        let none : false ≡ true = sym (above_top c before mid (higher t)) ∙ now c mid at.1.goes at.1.runs passed in
+        cc
 
-no_number_lacks_by : (ra rb : Option Span) (apart : ℕ) (p : Passage) (copies : List Placed) → IsTimely apart p →
-    let recorded : Spans = record { a = ra; b = rb } in
-    AreRecorded p recorded copies → HasAll p recorded copies → GoesPastBoth p → IsInOrder p → Overlap apart ra rb →
-    LacksNoNumber (arrivals_of copies)
-no_number_lacks_by None rb apart p copies timely recs all both order overlap = absurd overlap
-no_number_lacks_by (Some a) None apart p copies timely recs all both order overlap = absurd overlap
-no_number_lacks_by (Some a) (Some b) apart p [] timely recs all both order overlap = record { neither = refl; jumps = refl; restarts = refl }
-no_number_lacks_by (Some a) (Some b) apart p (y ∷ before) timely recs all both order overlap =
+lacks_no_number : (apart : ℕ) (p : Passage) (recorded : Spans) (copies : List Placed) → IsTimely apart p → AreRecorded p recorded copies →
+    HasAll p recorded copies → Reaches p recorded → LacksNoNumber (arrivals_of copies)
+lacks_no_number apart p recorded [] timely recs all reaches = record { neither = refl; jumps = refl; restarts = refl }
+lacks_no_number apart p recorded (y ∷ before) timely recs all reaches =
     record {
-      neither = (each_number spans (arrivals_of copies)).neither ∙ ap (sum_by (numbers_with spans Neither)) is
-          ∙ sum_one (numbers_with spans Neither) s 0
-          (none_within (λ n. same_outcome Neither (outcome_of spans s n)) (bottom_number s) (length_of s)
-          (λ n above below. no_neither (came A n s) (came B n s) (is_beyond spans A (first_time n s)) (is_beyond spans B (first_time n s))
+      neither = (each_number recorded (arrivals_of copies)).neither ∙ ap (sum_by (numbers_with recorded Neither)) is
+          ∙ sum_one (numbers_with recorded Neither) s 0
+          (none_within (λ n. same_outcome Neither (outcome_of recorded s n)) (bottom_number s) (length_of s)
+          (λ n above below. no_neither (came A n s) (came B n s) (is_beyond recorded A (first_time n s)) (is_beyond recorded B (first_time n s))
           (lacked n above below)));
       jumps = none.0;
       restarts = none.1;
     }
   where
-    spans : Spans
-    spans = record { a = Some a; b = Some b }
-
     copies : List Placed
     copies = y ∷ before
 
     one : (d : ℤ) × IsOneStretch copies d
-    one = one_stretch apart p spans y before timely recs
-        (are_close apart p a b y.time copies timely order both overlap.0 overlap.1 recs (itself y.time) (λ c n goes runs lt. all c n goes runs))
+    one = one_stretch apart p recorded y before timely recs
+        (are_close apart p recorded y.time copies timely reaches recs (itself y.time) (λ c n goes runs lt. all c n goes runs))
       where
         itself : (n : ℕ) → n ≤ n
         itself n = omega arith
@@ -350,35 +383,35 @@ no_number_lacks_by (Some a) (Some b) apart p (y ∷ before) timely recs all both
     level : bottom_number s ≤ℤ top_number s
     level = some_below s (bottom_number s) (some_at low.0 (bottom_number s) s low.1)
 
-    was_low : Came p spans low.0 (bottom_number s -ℤ d)
-    was_low = came_as p spans low.0 (bottom_number s -ℤ d) copies recs (sym (came_back low.0 (bottom_number s) d copies) ∙ low.1)
+    was_low : Came p recorded low.0 (bottom_number s -ℤ d)
+    was_low = came_as p recorded low.0 (bottom_number s -ℤ d) copies recs (sym (came_back low.0 (bottom_number s) d copies) ∙ low.1)
 
-    was_high : Came p spans high.0 (top_number s -ℤ d)
-    was_high = came_as p spans high.0 (top_number s -ℤ d) copies recs (sym (came_back high.0 (top_number s) d copies) ∙ high.1)
-
-    low_goes : (c : Side) → p.goes c (bottom_number s -ℤ d) ≡ true
-    low_goes = each_side p (bottom_number s -ℤ d) low.0 both was_low.goes
-
-    high_goes : (c : Side) → p.goes c (top_number s -ℤ d) ≡ true
-    high_goes = each_side p (top_number s -ℤ d) high.0 both was_high.goes
+    was_high : Came p recorded high.0 (top_number s -ℤ d)
+    was_high = came_as p recorded high.0 (top_number s -ℤ d) copies recs (sym (came_back high.0 (top_number s) d copies) ∙ high.1)
 
     lacked : (n : ℤ) → bottom_number s ≤ℤ n → n <ℤ (bottom_number s +ℤ pos (length_of s)) → came A n s ≡ false → came B n s ≡ false → ⊥
     lacked n above below none_a none_b =
         let over : (bottom_number s -ℤ d) ≤ℤ (n -ℤ d) = less_less (bottom_number s) n d above in
         let under : (n -ℤ d) ≤ℤ (top_number s -ℤ d) =
         less_less n (top_number s) d (no_higher (top_number s -ℤ bottom_number s) (bottom_number s) (top_number s) n refl level below) in
-        let mid_goes : (c : Side) → p.goes c (n -ℤ d) ≡ true =
-        λ c. order.one_apart c (bottom_number s -ℤ d) (n -ℤ d) (top_number s -ℤ d) (low_goes c) (high_goes c) over under in
-        lacks_none apart p a b low.0 high.0 (bottom_number s -ℤ d) (n -ℤ d) (top_number s -ℤ d) timely order overlap.0 overlap.1 was_low was_high
-        low_goes mid_goes high_goes over under
-        (λ c. elim (cases_Bool (is_beyond spans c (p.passes c (n -ℤ d)))) [
-          | inl beyond ↦ beyond
-          | inr runs ↦ let no : false ≡ true = sym (not_there c) ∙ all c (n -ℤ d) (mid_goes c) runs in absurd cc
-        ])
+        let there = reaches low.0 high.0 (bottom_number s -ℤ d) (n -ℤ d) (top_number s -ℤ d) was_low was_high over under in
+        let no : false ≡ true = sym (not_there there.0) ∙ all there.0 (n -ℤ d) there.1.goes there.1.runs in
+        cc
       where
         not_there : (c : Side) → came c (n -ℤ d) copies ≡ false
         not_there A = sym (came_back A n d copies) ∙ none_a
         not_there B = sym (came_back B n d copies) ∙ none_b
 
+by_both : (ra rb : Option Span) (apart : ℕ) (p : Passage) → IsTimely apart p → GoesPastBoth p → IsInOrder p → Overlap apart ra rb →
+    Reaches p (record { a = ra; b = rb })
+by_both None rb apart p timely both order overlap = absurd overlap
+by_both (Some a) None apart p timely both order overlap = absurd overlap
+by_both (Some a) (Some b) apart p timely both order overlap = both_reach apart p a b timely order both overlap.0 overlap.1
+
 pub no_number_lacks : RecordsLackNoNumber
-no_number_lacks apart p recorded = no_number_lacks_by recorded.a recorded.b apart p
+no_number_lacks apart p recorded copies timely recs all both order overlap =
+    lacks_no_number apart p recorded copies timely recs all (by_both recorded.a recorded.b apart p timely both order overlap)
+
+pub no_ring_number_lacks : RingRecordsLackNoNumber
+no_ring_number_lacks apart p recorded span copies timely recs all one quiet =
+    lacks_no_number apart p recorded copies timely recs all (one_reaches apart p recorded span timely one quiet)

@@ -124,6 +124,20 @@ RecordsHaveNoLoss = (apart : ℕ) (p : Passage) (recorded judged : Spans) (copie
     AreRecorded p recorded copies → HasAll p recorded copies → GoesPastBoth p → LeavesOut apart recorded judged →
     TellsNoLoss judged (arrivals_of copies)
 
+-- each number from one that goes past a recorder to another goes past one
+abbrev pub GoesPastOne : Passage → Type 0
+GoesPastOne p = (side other : Side) (m k n : ℤ) → p.goes side m ≡ true → p.goes other n ≡ true → m ≤ℤ k → k ≤ℤ n →
+    (c : Side) × (p.goes c k ≡ true)
+
+-- both recorders run from one time to another, and no frame passes them so near these
+pub record IsQuietAt (apart : ℕ) (p : Passage) (span : Span) (side : Side) (n : ℤ) : Type 0 where
+  pub begins : span.first + apart ≤ p.passes side n
+  pub ends : p.passes side n + apart ≤ span.last
+
+abbrev pub AreQuietEdges : ℕ → Passage → Spans → Span → Type 0
+AreQuietEdges apart p recorded span = (recorded ≡ record { a = Some span; b = Some span })
+    × ((side : Side) (n : ℤ) → p.goes side n ≡ true → is_beyond recorded side (p.passes side n) ≡ false → IsQuietAt apart p span side n)
+
 -- no number was of no frame, and all copies are of one stretch
 pub record LacksNoNumber (xs : List Arrival) : Type 0 where
   pub neither : sum_by neither_of (stretches xs) ≡ 0
@@ -133,4 +147,9 @@ pub record LacksNoNumber (xs : List Arrival) : Type 0 where
 abbrev pub RecordsLackNoNumber : Type 0
 RecordsLackNoNumber = (apart : ℕ) (p : Passage) (recorded : Spans) (copies : List Placed) → IsTimely apart p →
     AreRecorded p recorded copies → HasAll p recorded copies → GoesPastBoth p → IsInOrder p → Overlap apart recorded.a recorded.b →
+    LacksNoNumber (arrivals_of copies)
+
+abbrev pub RingRecordsLackNoNumber : Type 0
+RingRecordsLackNoNumber = (apart : ℕ) (p : Passage) (recorded : Spans) (span : Span) (copies : List Placed) → IsTimely apart p →
+    AreRecorded p recorded copies → HasAll p recorded copies → GoesPastOne p → AreQuietEdges apart p recorded span →
     LacksNoNumber (arrivals_of copies)

@@ -1,7 +1,7 @@
 //! Laws of audits: beside runs of a table of duplicate records, of each number of a source, and of the captures of a flawless network.
 
 ghost use Rattle.sr_audit_laws.specs.Outcomes.{EachNumberIsTold, EachBreakIsTold};
-ghost use Rattle.sr_audit_laws.specs.Records.{RecordsHaveNoRepeat, RecordsHaveNoLoss, RecordsLackNoNumber};
+ghost use Rattle.sr_audit_laws.specs.Records.{RecordsHaveNoRepeat, RecordsHaveNoLoss, RecordsLackNoNumber, RingRecordsLackNoNumber};
 ghost use Rattle.sr_audit_laws.specs.Steady.{SteadyAuditsCountWhatGoesUp};
 
 /// In every steady run from the empty table, of a source that makes no jump, the pairs, the frames that one side lost and those at the
@@ -48,4 +48,10 @@ pub fn records_have_no_loss()
 /// number is told as one of no frame.
 pub fn records_lack_no_number()
     ensures { RecordsLackNoNumber }
+{}
+
+/// So it is where each frame goes past one recorder at least, as in a ring one to a single address does: if both run from one time to
+/// another, near which no frame passes them.
+pub fn ring_records_lack_no_number()
+    ensures { RingRecordsLackNoNumber }
 {}

@@ -5,5 +5,5 @@ mod laws;
 
 pub use laws::{
     each_break_is_told, each_number_is_told, records_have_no_loss, records_have_no_repeat,
-    records_lack_no_number, steady_audits_count_what_goes_up,
+    records_lack_no_number, ring_records_lack_no_number, steady_audits_count_what_goes_up,
 };
