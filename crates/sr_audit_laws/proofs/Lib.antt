@@ -3,4 +3,5 @@ pub mod ShiftLemmas
 pub mod RecordLemmas
 pub mod FollowedLemmas
 pub mod UnbrokenLemmas
+pub mod FigureLemmas
 pub mod SteadyLemmas

@@ -1,3 +1,4 @@
 pub mod Steady
 pub mod Outcomes
 pub mod Records
+pub mod Sources

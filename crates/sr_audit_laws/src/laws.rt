@@ -2,6 +2,7 @@
 
 ghost use Rattle.sr_audit_laws.specs.Outcomes.{EachNumberIsTold, EachBreakIsTold};
 ghost use Rattle.sr_audit_laws.specs.Records.{RecordsHaveNoRepeat, RecordsHaveNoLoss, RecordsLackNoNumber, RingRecordsLackNoNumber};
+ghost use Rattle.sr_audit_laws.specs.Sources.{AuditsCountEachNumber, WholeAuditsTellNoFault};
 ghost use Rattle.sr_audit_laws.specs.Steady.{SteadyAuditsCountWhatGoesUp};
 
 /// In every steady run from the empty table, of a source that makes no jump, the pairs, the frames that one side lost and those at the
@@ -54,4 +55,15 @@ pub fn records_lack_no_number()
 /// another, near which no frame passes them.
 pub fn ring_records_lack_no_number()
     ensures { RingRecordsLackNoNumber }
+{}
+
+/// The figures of each source that an audit has count each number of its stretches by its outcome, of up to 2^53 arrivals of the source.
+pub fn audits_count_each_number()
+    ensures { AuditsCountEachNumber }
+{}
+
+/// Where each source has a true numbering, each of its frames goes past both recorders, and each recorder has all that passes it while it
+/// runs, no figure of any source tells of a fault, where the captures are judged but for their edges.
+pub fn whole_audits_tell_no_fault()
+    ensures { WholeAuditsTellNoFault }
 {}

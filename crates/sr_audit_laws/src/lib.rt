@@ -1,9 +1,11 @@
-//! What the figures of an audit say of a node that takes the same copies, of each number of a source, and of a flawless network.
+//! What the figures of an audit say of a node that takes the same copies, of each number of a source, and of a network in which nothing
+//! is lost.
 #![tactic(auto)]
 
 mod laws;
 
 pub use laws::{
-    each_break_is_told, each_number_is_told, records_have_no_loss, records_have_no_repeat,
-    records_lack_no_number, ring_records_lack_no_number, steady_audits_count_what_goes_up,
+    audits_count_each_number, each_break_is_told, each_number_is_told, records_have_no_loss,
+    records_have_no_repeat, records_lack_no_number, ring_records_lack_no_number,
+    steady_audits_count_what_goes_up, whole_audits_tell_no_fault,
 };
