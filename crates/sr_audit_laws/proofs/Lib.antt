@@ -4,4 +4,5 @@ pub mod RecordLemmas
 pub mod FollowedLemmas
 pub mod UnbrokenLemmas
 pub mod FigureLemmas
+pub mod CaseLemmas
 pub mod SteadyLemmas

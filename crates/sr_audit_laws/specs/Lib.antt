@@ -2,3 +2,4 @@ pub mod Steady
 pub mod Outcomes
 pub mod Records
 pub mod Sources
+pub mod Cases

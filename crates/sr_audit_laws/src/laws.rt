@@ -1,5 +1,6 @@
 //! Laws of audits: beside runs of a table of duplicate records, of each number of a source, and of the captures of a flawless network.
 
+ghost use Rattle.sr_audit_laws.specs.Cases.{ThreeFramesMeetThePremises, TellsWhatIsLost};
 ghost use Rattle.sr_audit_laws.specs.Outcomes.{EachNumberIsTold, EachBreakIsTold};
 ghost use Rattle.sr_audit_laws.specs.Records.{RecordsHaveNoRepeat, RecordsHaveNoLoss, RecordsLackNoNumber, RingRecordsLackNoNumber};
 ghost use Rattle.sr_audit_laws.specs.Sources.{AuditsCountEachNumber, WholeAuditsTellNoFault};
@@ -66,4 +67,15 @@ pub fn audits_count_each_number()
 /// runs, no figure of any source tells of a fault, where the captures are judged but for their edges.
 pub fn whole_audits_tell_no_fault()
     ensures { WholeAuditsTellNoFault }
+{}
+
+/// Three frames that pass two recorders, of which one begins behind the first frame, meet all that the laws of records ask for.
+pub fn three_frames_meet_the_premises()
+    ensures { ThreeFramesMeetThePremises }
+{}
+
+/// Of the same copies without one of them, a frame is told as lost by a side; without both of a frame, a number as one of no frame; and
+/// with one that came twice, a repeat.
+pub fn what_is_lost_is_told()
+    ensures { TellsWhatIsLost }
 {}

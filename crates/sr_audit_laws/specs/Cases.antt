@@ -1,0 +1,90 @@
+-- Lists of copies worked out: the premises of the laws of records can be met, and what is lost or came twice is told.
+use Rattle.std.specs.Prelude.{◌≡◌, ℕ, ◌-◌, Bool, ◌||◌, List, [], ◌∷◌, Some, ℤ, pos, int_lt, sum_by, if◌then◌else◌}
+use Rattle.std.specs.Ordering.{int_eq}
+use Rattle.sr_audit.specs.declared.arrival.Arrival.{Arrival}
+use Rattle.sr_audit.specs.declared.side.Side.{Side}
+use Rattle.sr_audit.specs.declared.side.Side.TheVariants.{A, B}
+use Rattle.sr_audit.specs.declared.span.Spans.{Spans}
+use Rattle.sr_audit.specs.Edges.{edges_of}
+use Rattle.sr_audit.specs.Extents.{neither_of}
+use Rattle.sr_audit.specs.Stretches.{Placed, stretches}
+use Rattle.sr_audit.specs.Tallies.{tally_of}
+use Rattle.sr_audit_laws.specs.Records.{
+  Passage,
+  IsTimely,
+  AreRecorded,
+  HasAll,
+  arrivals_of,
+  GoesPastBoth,
+  LeavesOut,
+  IsInOrder,
+  Overlap,
+}
+
+-- a source sends the frames 7, 8 and 9, at 10, 20 and 30 ns; they pass A at once, and B 2 ns later
+abbrev pub three_sent : ℤ → ℕ
+three_sent n = if int_lt n (pos 8) then 10 else if int_lt n (pos 9) then 20 else 30
+
+abbrev pub three_pass : Side → ℤ → ℕ
+three_pass A n = if int_lt n (pos 8) then 10 else if int_lt n (pos 9) then 20 else 30
+three_pass B n = if int_lt n (pos 8) then 12 else if int_lt n (pos 9) then 22 else 32
+
+abbrev pub three_frames : Passage
+three_frames = record {
+  goes = λ side n. int_eq n (pos 7) || (int_eq n (pos 8) || int_eq n (pos 9));
+  sent = three_sent;
+  passes = three_pass;
+}
+
+-- the recorder of A runs from the first frame on, and that of B begins behind it; both end behind the last one
+abbrev pub three_recorded : Spans
+three_recorded = record { a = Some (record { first = 10; last = 36 }); b = Some (record { first = 16; last = 36 }) }
+
+-- what is judged lies 2 ns from both ends
+abbrev pub three_judged : Spans
+three_judged = record { a = Some (record { first = 12; last = 34 }); b = Some (record { first = 18; last = 34 }) }
+
+abbrev pub at : Side → ℤ → ℕ → Placed
+at side n time = record { side = side; number = n; time = time }
+
+-- what they have, newest first
+abbrev pub three_copies : List Placed
+three_copies = at B (pos 9) 32 ∷ at A (pos 9) 30 ∷ at B (pos 8) 22 ∷ at A (pos 8) 20 ∷ at A (pos 7) 10 ∷ []
+
+pub record MeetsThePremises (apart : ℕ) (p : Passage) (recorded judged : Spans) (copies : List Placed) : Type 0 where
+  pub timely : IsTimely apart p
+  pub are_recorded : AreRecorded p recorded copies
+  pub has_all : HasAll p recorded copies
+  pub past_both : GoesPastBoth p
+  pub in_order : IsInOrder p
+  pub overlap : Overlap apart recorded.a recorded.b
+  pub leaves_out : LeavesOut apart recorded judged
+
+abbrev pub ThreeFramesMeetThePremises : Type 0
+ThreeFramesMeetThePremises = MeetsThePremises 2 three_frames three_recorded three_judged three_copies
+
+-- frames that a figure tells as lost by B, and numbers that no frame had
+abbrev pub lost_by_b : List Placed → ℕ
+lost_by_b copies =
+    (tally_of (stretches (arrivals_of copies))).alone.a - (edges_of three_judged (stretches (arrivals_of copies))).a
+
+abbrev pub of_no_frame : List Placed → ℕ
+of_no_frame copies = sum_by neither_of (stretches (arrivals_of copies))
+
+-- the same without the copy of 8 at B, without both copies of it, and with a copy of 8 twice
+abbrev pub without_one : List Placed
+without_one = at B (pos 9) 32 ∷ at A (pos 9) 30 ∷ at A (pos 8) 20 ∷ at A (pos 7) 10 ∷ []
+
+abbrev pub without_both : List Placed
+without_both = at B (pos 9) 32 ∷ at A (pos 9) 30 ∷ at A (pos 7) 10 ∷ []
+
+abbrev pub with_one_twice : List Placed
+with_one_twice = at B (pos 9) 32 ∷ at A (pos 9) 30 ∷ at B (pos 8) 22 ∷ at A (pos 8) 21 ∷ at A (pos 8) 20 ∷ at A (pos 7) 10 ∷ []
+
+-- no such list has the figures of a network in which nothing is lost
+pub record TellsWhatIsLost : Type 0 where
+  pub all : lost_by_b three_copies ≡ 0
+  pub all_numbers : of_no_frame three_copies ≡ 0
+  pub one : lost_by_b without_one ≡ 1
+  pub both : of_no_frame without_both ≡ 1
+  pub twice : (tally_of (stretches (arrivals_of with_one_twice))).repeats.a ≡ 1
