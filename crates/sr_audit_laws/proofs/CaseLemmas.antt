@@ -1,16 +1,15 @@
 -- The lists of copies that are worked out.
-use Rattle.std.proofs.Common.{◌≡◌, ℕ, ◌+◌, ◌-◌, ◌<◌, ◌≤◌, Bool, true, false, cond, ◌||◌, ◌&&◌, ◌⊎◌, List, [], ◌∷◌, Some, ℤ, pos, arith, refl, sym, ap, ◌∙◌, subst, inl, inr}
-use Rattle.std.specs.Prelude.{◌^◌, nat_lt, int_lt, ◌+ℤ◌, ◌-ℤ◌, ◌<ℤ◌, ◌≤ℤ◌}
+use Rattle.std.proofs.Common.{◌≡◌, ℕ, ◌+◌, ◌-◌, ◌<◌, ◌≤◌, Bool, true, false, cond, ◌||◌, ◌⊎◌, ℤ, pos, arith, refl, sym, subst, inl, inr}
+use Rattle.std.specs.Prelude.{◌^◌, nat_lt, int_lt, ◌+ℤ◌, ◌<ℤ◌, ◌≤ℤ◌}
 use Rattle.std.specs.Ordering.{int_eq}
-use Rattle.std.proofs.lemmas.Bool.{cases_Bool, or_cases, ltb-true, lt-ltb, or_left, or_right}
+use Rattle.std.proofs.lemmas.Bool.{or_cases, ltb-true, lt-ltb, or_left, or_right}
 use Rattle.std.proofs.lemmas.Bool.Decides.{Decides-int_eq}
 use Rattle.std.proofs.lemmas.Int.{ints, by_lt_z}
 use Rattle.sr_audit.specs.declared.side.Side.{Side}
 use Rattle.sr_audit.specs.declared.side.Side.TheVariants.{A, B}
 use Rattle.sr_audit.specs.Edges.{is_beyond}
-use Rattle.sr_audit.specs.Lanes.{other_side}
 use Rattle.sr_audit.specs.Stretches.{came}
-use Rattle.sr_audit_laws.specs.Records.{Passage, IsTimely, AreRecorded, HasAll, GoesPastBoth, LeavesOut, IsInOrder}
+use Rattle.sr_audit_laws.specs.Records.{IsTimely, AreRecorded, HasAll, GoesPastBoth, LeavesOut, IsInOrder}
 use Rattle.sr_audit_laws.specs.Cases.{three_sent, three_pass, three_frames, three_recorded, three_judged, three_copies, ThreeFramesMeetThePremises, TellsWhatIsLost}
 
 

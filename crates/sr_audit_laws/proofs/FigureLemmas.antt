@@ -1,5 +1,5 @@
 -- The figures of a source of an audit, by its arrivals.
-use Rattle.std.proofs.Common.{◌≡◌, ℕ, ◌-◌, ◌≤◌, Bool, true, false, ◌||◌, List, [], ◌∷◌, length, Option, None, Some, arith, refl, sym, ap, ◌∙◌, subst, inl, inr}
+use Rattle.std.proofs.Common.{◌≡◌, ℕ, ◌-◌, ◌≤◌, Bool, false, ◌||◌, List, [], ◌∷◌, length, Option, None, Some, arith, refl, sym, ap, ◌∙◌, subst, inl, inr}
 use Rattle.std.specs.Prelude.{sum_by, nat_lt}
 use Rattle.std.specs.List.{IsDistinct, AllByRecursion, list_any}
 use Rattle.std.specs.Map.{lookup, keys_of}
@@ -12,22 +12,21 @@ use Rattle.sr_audit.specs.declared.numbers.Numbers.{Numbers}
 use Rattle.sr_audit.specs.declared.source.Figures.{Figures}
 use Rattle.sr_audit.specs.declared.source.Source.{Source}
 use Rattle.sr_audit.specs.declared.span.Spans.{Spans}
-use Rattle.sr_audit.specs.declared.tally.Tally.{Tally}
 use Rattle.sr_audit.specs.Audits.{Sent, of, IsEntryFor, Audits}
 use Rattle.sr_audit.specs.Edges.{edges_of}
 use Rattle.sr_audit.specs.Extents.{neither_of}
 use Rattle.sr_audit.specs.Faults.{last_class, tells_of_faults}
 use Rattle.sr_audit.specs.Limits.{exact_arrivals}
 use Rattle.sr_audit.specs.Shown.{tally_in, figures_of}
-use Rattle.sr_audit.specs.Skewing.{skews_of, skews_shown, count_in}
-use Rattle.sr_audit.specs.Stretches.{Placed, stretches}
+use Rattle.sr_audit.specs.Skewing.{skews_of, count_in}
+use Rattle.sr_audit.specs.Stretches.{stretches}
 use Rattle.sr_audit.specs.Taken.{IsKeptIn, HasTaken}
 use Rattle.sr_audit.specs.Tallies.{tally_of}
 use Rattle.sr_audit.proofs.FitLemmas.{neither_left}
 use Rattle.sr_audit.proofs.FollowLemmas.{length-stretches}
 use Rattle.sr_audit_laws.specs.Outcomes.{TellsEachNumber}
-use Rattle.sr_audit_laws.specs.Records.{LeavesOut, arrivals_of, TellsNoRepeat, TellsNoLoss, LacksNoNumber}
-use Rattle.sr_audit_laws.specs.Sources.{CountsEachNumber, AuditsCountEachNumber, IsNumbered, IsSeenByBoth, IsSeenWhole, WholeAuditsTellNoFault}
+use Rattle.sr_audit_laws.specs.Records.{LeavesOut, TellsNoRepeat, TellsNoLoss, LacksNoNumber}
+use Rattle.sr_audit_laws.specs.Sources.{AuditsCountEachNumber, IsNumbered, IsSeenByBoth, IsSeenWhole, WholeAuditsTellNoFault}
 use Rattle.sr_audit_laws.proofs.FollowedLemmas.{no_repeat, no_loss}
 use Rattle.sr_audit_laws.proofs.OutcomeLemmas.{each_number}
 use Rattle.sr_audit_laws.proofs.UnbrokenLemmas.{no_number_lacks}

@@ -1,5 +1,5 @@
 -- The figures of a source are how many numbers of its stretches have each outcome.
-use Rattle.std.proofs.Common.{◌≡◌, ℕ, zero, suc, ◌+◌, ◌-◌, ◌≤◌, Bool, true, false, cond, ◌||◌, ◌&&◌, not, List, [], ◌∷◌, length, ℤ, pos, negsuc, arith, refl, sym, ap, ◌∙◌, subst, inl, inr}
+use Rattle.std.proofs.Common.{◌≡◌, ℕ, zero, suc, ◌+◌, ◌-◌, Bool, true, false, cond, ◌||◌, ◌&&◌, not, List, [], ◌∷◌, length, ℤ, pos, negsuc, arith, refl, sym, ap, ◌∙◌, inl, inr}
 use Rattle.std.specs.Prelude.{count_by, sum_by, nat_lt, nat_le, ◌+ℤ◌, ◌-ℤ◌, ◌<ℤ◌, ◌≤ℤ◌}
 use Rattle.std.specs.Ordering.{int_eq}
 use Rattle.std.proofs.lemmas.Bool.{cases_Bool}
@@ -12,14 +12,14 @@ use Rattle.sr_audit.specs.declared.arrival.Arrival.{Arrival}
 use Rattle.sr_audit.specs.declared.side.Side.{Side}
 use Rattle.sr_audit.specs.declared.side.Side.TheVariants.{A, B}
 use Rattle.sr_audit.specs.declared.span.Spans.{Spans}
-use Rattle.sr_audit.specs.Edges.{first_time, frames_at, is_beyond, at_edge_a, at_edge_b, edges_of}
+use Rattle.sr_audit.specs.Edges.{first_time, frames_at, is_beyond, at_edge_a, at_edge_b}
 use Rattle.sr_audit.specs.Extents.{bottom_number, size_of, length_of, neither_of, is_jump, is_restart, jumps_of, restarts_of}
 use Rattle.sr_audit.specs.Limits.{epoch_gap, kept_numbers}
 use Rattle.sr_audit.specs.Stretches.{Placed, same_side, came, top_number, is_far, lies_from, goes_to, goes_on, gone_on, stretch_begun, with_arrival, stretches}
-use Rattle.sr_audit.specs.Tallies.{frames, frames_with, by_both, by_a_alone, by_b_alone, tally_of}
+use Rattle.sr_audit.specs.Tallies.{frames, frames_with, by_both, by_a_alone, by_b_alone}
 use Rattle.sr_audit.proofs.EdgeLemmas.{some_below}
 use Rattle.sr_audit.proofs.ExtentLemmas.{no_empty}
-use Rattle.sr_audit.proofs.FitLemmas.{frames_split, some_over}
+use Rattle.sr_audit.proofs.FitLemmas.{some_over}
 use Rattle.sr_audit.proofs.FrameLemmas.{count-cons, came-other, came-same}
 use Rattle.sr_audit_laws.specs.Outcomes.{Outcome, Paired, OnlyA, OnlyB, EdgeA, EdgeB, Neither, same_outcome, outcome_if, outcome_of, numbers_from, numbers_of, numbers_with, EachNumberIsTold, EachBreakIsTold}
 

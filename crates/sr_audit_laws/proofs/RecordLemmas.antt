@@ -1,52 +1,29 @@
 -- Of the captures of a network in which nothing is lost no figure tells of a fault.
-use Rattle.std.proofs.Common.{◌≡◌, ℕ, zero, suc, ◌+◌, ◌-◌, ◌<◌, ◌≤◌, Bool, true, false, cond, ◌||◌, ◌&&◌, not, ◌⊎◌, List, [], ◌∷◌, ◌++◌, length, Option, None, Some, ℤ, pos, negsuc, arith, refl, sym, ap, ◌∙◌, subst, inl, inr}
-use Rattle.std.specs.Prelude.{◌^◌, count_by, sum_by, nat_eq, nat_lt, nat_le, unsigned_abs, ◌+ℤ◌, ◌-ℤ◌, ◌<ℤ◌, ◌≤ℤ◌}
+use Rattle.std.proofs.Common.{◌≡◌, ℕ, ◌+◌, ◌-◌, ◌<◌, ◌≤◌, Bool, true, false, cond, ◌||◌, ◌&&◌, not, ◌⊎◌, List, [], ◌∷◌, ℤ, pos, arith, refl, sym, ap, ◌∙◌, inl, inr}
+use Rattle.std.specs.Prelude.{nat_eq, nat_lt, unsigned_abs, ◌+ℤ◌, ◌-ℤ◌, ◌<ℤ◌, ◌≤ℤ◌}
 use Rattle.std.specs.Ordering.{int_eq}
-use Rattle.std.proofs.lemmas.Bool.{cases_Bool, lt-ltb, lt-leb, ltb-true, ltb-false, or_parts, or_cases, and_parts}
+use Rattle.std.proofs.lemmas.Bool.{cases_Bool, lt-ltb, lt-leb, or_parts, and_parts}
 use Rattle.std.proofs.lemmas.Bool.Decides.{Decides-int_eq}
 use Rattle.std.proofs.lemmas.Int.{ints, by_lt_z}
-use Rattle.std.proofs.lemmas.List.Sums.{sum_by-cons}
 use Rattle.sr_sequence.specs.Numbers.{wire, IsNear}
-use Rattle.sr_sequence.specs.NumberLemmas.{wire-lt}
-use Rattle.sr_sequence.specs.Places.{number_at, IsTheOne}
+use Rattle.sr_sequence.specs.Places.{number_at}
 use Rattle.sr_sequence.specs.declared.Distance.{Distance}
 use Rattle.sr_sequence.specs.declared.Distance.TheVariants.{Behind, Ahead}
 use Rattle.sr_dup_window.specs.Families.{greater}
 use Rattle.sr_audit.specs.declared.arrival.Arrival.{Arrival}
 use Rattle.sr_audit.specs.declared.side.Side.{Side}
 use Rattle.sr_audit.specs.declared.side.Side.TheVariants.{A, B}
-use Rattle.sr_audit.specs.declared.span.Span.{Span}
 use Rattle.sr_audit.specs.declared.span.Spans.{Spans}
-use Rattle.sr_audit.specs.Edges.{first_time, is_outside, is_beyond, edges_of}
-use Rattle.sr_audit.specs.Extents.{lesser, bottom_number, size_of, length_of, neither_of, jumps_of, restarts_of}
+use Rattle.sr_audit.specs.Edges.{first_time, is_beyond}
+use Rattle.sr_audit.specs.Extents.{lesser, bottom_number}
 use Rattle.sr_audit.specs.Lanes.{other_side}
 use Rattle.sr_audit.specs.Limits.{epoch_gap, kept_numbers}
-use Rattle.sr_audit.specs.Skewing.{pairs_up, skew_by, skews_in, skews_of, class_of, count_in}
-use Rattle.sr_audit.specs.Stretches.{Placed, same_side, came, top_number, newest_time, lies_from, goes_to, goes_on, gone_on, stretch_begun, with_arrival, stretches}
-use Rattle.sr_audit.specs.Tallies.{repeats, tally_of}
+use Rattle.sr_audit.specs.Skewing.{skew_by, class_of}
+use Rattle.sr_audit.specs.Stretches.{Placed, same_side, came, top_number, goes_to}
 use Rattle.sr_audit.proofs.EdgeLemmas.{some_below}
-use Rattle.sr_audit.proofs.FollowLemmas.{number_is}
-use Rattle.sr_audit.proofs.FrameLemmas.{count-cons, came-other, first_other}
-use Rattle.sr_audit_laws.specs.Outcomes.{OnlyA, OnlyB, Neither, same_outcome, outcome_if, outcome_of, numbers_from, numbers_of, numbers_with}
-use Rattle.sr_audit_laws.specs.Records.{
-  Passage,
-  IsTimely,
-  IsRecorded,
-  AreRecorded,
-  HasAll,
-  arrivals_of,
-  GoesPastBoth,
-  LeavesOut,
-  IsInOrder,
-  Overlap,
-  TellsNoRepeat,
-  RecordsHaveNoRepeat,
-  TellsNoLoss,
-  RecordsHaveNoLoss,
-  RecordsLackNoNumber,
-}
-use Rattle.sr_audit_laws.proofs.OutcomeLemmas.{none_counted, each_number, each_break}
-use Rattle.sr_audit_laws.proofs.ShiftLemmas.{shift, shifted, came_shifted, first_shifted, top_shifted, IsUnseen, begun_unseen}
+use Rattle.sr_audit.proofs.FrameLemmas.{came-other, first_other}
+use Rattle.sr_audit_laws.specs.Outcomes.{OnlyA, OnlyB, same_outcome, outcome_if}
+use Rattle.sr_audit_laws.specs.Records.{Passage, IsTimely, AreRecorded, HasAll, GoesPastBoth, LeavesOut}
 
 -- the greatest number of some copies was sent before the newest one came
 pub greater_is : (m n : ℤ) → (greater m n ≡ m) ⊎ (greater m n ≡ n)

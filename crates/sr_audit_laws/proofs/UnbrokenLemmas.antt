@@ -1,57 +1,31 @@
 -- Where each frame of a source goes past both recorders, no number is of no frame.
-use Rattle.std.proofs.Common.{◌≡◌, ℕ, zero, suc, ◌+◌, ◌-◌, ◌<◌, ◌≤◌, Bool, true, false, cond, ◌||◌, ◌&&◌, not, ◌⊎◌, List, [], ◌∷◌, ◌++◌, length, Option, None, Some, ℤ, pos, negsuc, arith, refl, sym, ap, ◌∙◌, subst, inl, inr}
-use Rattle.std.specs.Prelude.{◌^◌, count_by, sum_by, nat_eq, nat_lt, nat_le, unsigned_abs, ◌+ℤ◌, ◌-ℤ◌, ◌<ℤ◌, ◌≤ℤ◌}
+use Rattle.std.proofs.Common.{◌≡◌, ℕ, zero, suc, ◌+◌, ◌-◌, ◌<◌, ◌≤◌, Bool, true, false, cond, ◌||◌, ◌&&◌, ◌⊎◌, List, [], ◌∷◌, length, Option, None, Some, ℤ, pos, negsuc, arith, refl, sym, ap, ◌∙◌, inl, inr}
+use Rattle.std.specs.Prelude.{count_by, sum_by, nat_lt, ◌+ℤ◌, ◌-ℤ◌, ◌<ℤ◌, ◌≤ℤ◌}
 use Rattle.std.specs.Ordering.{int_eq}
-use Rattle.std.proofs.lemmas.Bool.{cases_Bool, lt-ltb, lt-leb, ltb-true, ltb-false, le-ltb, or_from, or_parts, or_cases, and_parts}
+use Rattle.std.proofs.lemmas.Bool.{cases_Bool, ltb-true, ltb-false, le-ltb, or_from, or_parts, or_cases, and_parts}
 use Rattle.std.proofs.lemmas.Bool.Decides.{Decides-int_eq}
 use Rattle.std.proofs.lemmas.Int.{ints, by_lt_z}
 use Rattle.std.proofs.lemmas.List.Sums.{sum_by-cons}
-use Rattle.sr_sequence.specs.Numbers.{wire, IsNear}
+use Rattle.sr_sequence.specs.Numbers.{wire}
 use Rattle.sr_sequence.specs.NumberLemmas.{wire-lt}
 use Rattle.sr_sequence.specs.Places.{number_at, IsTheOne}
-use Rattle.sr_sequence.specs.declared.Distance.{Distance}
-use Rattle.sr_sequence.specs.declared.Distance.TheVariants.{Behind, Ahead}
-use Rattle.sr_dup_window.specs.Families.{greater}
 use Rattle.sr_audit.specs.declared.arrival.Arrival.{Arrival}
 use Rattle.sr_audit.specs.declared.side.Side.{Side}
 use Rattle.sr_audit.specs.declared.side.Side.TheVariants.{A, B}
 use Rattle.sr_audit.specs.declared.span.Span.{Span}
 use Rattle.sr_audit.specs.declared.span.Spans.{Spans}
-use Rattle.sr_audit.specs.Edges.{first_time, is_outside, is_beyond, edges_of}
-use Rattle.sr_audit.specs.Extents.{lesser, bottom_number, size_of, length_of, neither_of, jumps_of, restarts_of}
-use Rattle.sr_audit.specs.Lanes.{other_side}
+use Rattle.sr_audit.specs.Edges.{first_time, is_outside, is_beyond}
+use Rattle.sr_audit.specs.Extents.{bottom_number, size_of, length_of, jumps_of, restarts_of}
 use Rattle.sr_audit.specs.Limits.{epoch_gap, kept_numbers}
-use Rattle.sr_audit.specs.Skewing.{pairs_up, skew_by, skews_in, skews_of, class_of, count_in}
-use Rattle.sr_audit.specs.Stretches.{Placed, same_side, came, top_number, newest_time, lies_from, goes_to, goes_on, gone_on, stretch_begun, with_arrival, stretches}
-use Rattle.sr_audit.specs.Tallies.{repeats, tally_of}
+use Rattle.sr_audit.specs.Stretches.{Placed, same_side, came, top_number, newest_time, lies_from, goes_on, gone_on, stretch_begun, with_arrival, stretches}
 use Rattle.sr_audit.proofs.EdgeLemmas.{some_below}
 use Rattle.sr_audit.proofs.FollowLemmas.{number_is}
-use Rattle.sr_audit.proofs.FrameLemmas.{count-cons, came-other, first_other}
-use Rattle.sr_audit_laws.specs.Outcomes.{OnlyA, OnlyB, Neither, same_outcome, outcome_if, outcome_of, numbers_from, numbers_of, numbers_with}
-use Rattle.sr_audit_laws.specs.Records.{
-  Passage,
-  IsTimely,
-  IsRecorded,
-  AreRecorded,
-  HasAll,
-  arrivals_of,
-  GoesPastBoth,
-  LeavesOut,
-  IsInOrder,
-  Overlap,
-  GoesPastOne,
-  AreQuietEdges,
-  TellsNoRepeat,
-  RecordsHaveNoRepeat,
-  TellsNoLoss,
-  LacksNoNumber,
-  RecordsHaveNoLoss,
-  RecordsLackNoNumber,
-  RingRecordsLackNoNumber,
-}
-use Rattle.sr_audit_laws.proofs.OutcomeLemmas.{none_counted, some, some_own, some_other, each_number, each_break}
-use Rattle.sr_audit_laws.proofs.RecordLemmas.{greater_is, top_sent, Came, side_is, came_as, came_own, or_true, came_more, lesser_is, top_came, bottom_came, not_under, placed, arrival_of, begins, near_of, closer, near_time, goes_further, not_repeated, first_alone, skew_small, not_last, back_side, lone_is_outside, no_only_a, no_only_b, some_at, above_top}
-use Rattle.sr_audit_laws.proofs.ShiftLemmas.{shift, shifted, int_eq_shift, came_shifted, first_shifted, greater_shift, top_shifted, IsUnseen, begun_unseen}
+use Rattle.sr_audit.proofs.FrameLemmas.{count-cons}
+use Rattle.sr_audit_laws.specs.Outcomes.{Neither, same_outcome, outcome_if, outcome_of, numbers_from, numbers_with}
+use Rattle.sr_audit_laws.specs.Records.{Passage, IsTimely, IsRecorded, AreRecorded, HasAll, arrivals_of, GoesPastBoth, IsInOrder, Overlap, GoesPastOne, AreQuietEdges, LacksNoNumber, RecordsLackNoNumber, RingRecordsLackNoNumber}
+use Rattle.sr_audit_laws.proofs.OutcomeLemmas.{each_number, each_break}
+use Rattle.sr_audit_laws.proofs.RecordLemmas.{Came, side_is, came_as, top_came, bottom_came, not_under, placed, arrival_of, begins, near_of, closer, near_time, goes_further, some_at, above_top}
+use Rattle.sr_audit_laws.proofs.ShiftLemmas.{shift, shifted, came_shifted, top_shifted, IsUnseen, begun_unseen}
 
 abbrev IsOneStretch : List Placed → ℤ → Type 0
 IsOneStretch copies d = IsUnseen d × (stretches (arrivals_of copies) ≡ shifted d copies ∷ [])

@@ -1,7 +1,6 @@
 -- Lists of copies worked out: the premises of the laws of records can be met, and what is lost or came twice is told.
-use Rattle.std.specs.Prelude.{◌≡◌, ℕ, ◌-◌, Bool, ◌||◌, List, [], ◌∷◌, Some, ℤ, pos, int_lt, sum_by, if◌then◌else◌}
+use Rattle.std.specs.Prelude.{◌≡◌, ℕ, ◌-◌, ◌||◌, List, [], ◌∷◌, Some, ℤ, pos, int_lt, sum_by, if◌then◌else◌}
 use Rattle.std.specs.Ordering.{int_eq}
-use Rattle.sr_audit.specs.declared.arrival.Arrival.{Arrival}
 use Rattle.sr_audit.specs.declared.side.Side.{Side}
 use Rattle.sr_audit.specs.declared.side.Side.TheVariants.{A, B}
 use Rattle.sr_audit.specs.declared.span.Spans.{Spans}

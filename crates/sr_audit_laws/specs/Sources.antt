@@ -1,5 +1,5 @@
 -- The sources of an audit: what their figures count, and those of a network in which nothing is lost.
-use Rattle.std.specs.Prelude.{◌≡◌, ◌-◌, ◌≤◌, ℕ, false, List, [], length, Option, Some, sum_by}
+use Rattle.std.specs.Prelude.{◌≡◌, ◌-◌, ◌≤◌, ℕ, false, List, length, Some, sum_by}
 use Rattle.std.specs.List.{IsDistinct, list_any}
 use Rattle.std.specs.Map.{lookup, keys_of}
 use Rattle.sr_frame.specs.declared.fields.Mac.{Mac}
