@@ -4,5 +4,6 @@ pub mod RecordLemmas
 pub mod FollowedLemmas
 pub mod UnbrokenLemmas
 pub mod FigureLemmas
+pub mod ExactLemmas
 pub mod CaseLemmas
 pub mod SteadyLemmas

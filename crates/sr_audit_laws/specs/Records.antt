@@ -20,14 +20,15 @@ pub record Passage : Type 0 where
   pub sent : ℤ → ℕ
   pub passes : Side → ℤ → ℕ
 
--- frames are sent in the order of their numbers, and pass each recorder so many nanoseconds behind that at most, which are less than 400 ms;
--- fewer than 1024 numbers are in flight: one that lies 1023 further is sent when the frame has passed
+-- frames are sent in the order of their numbers, and pass each recorder so many nanoseconds behind that at most, which are less than
+-- 400 ms; fewer than 1024 numbers are in flight: one that lies 1023 further is sent when the frame has passed
 pub record IsTimely (apart : ℕ) (p : Passage) : Type 0 where
   pub in_turn : (m n : ℤ) → m ≤ℤ n → p.sent m ≤ p.sent n
   pub not_early : (side : Side) (n : ℤ) → p.goes side n ≡ true → p.sent n ≤ p.passes side n
   pub not_late : (side : Side) (n : ℤ) → p.goes side n ≡ true → p.passes side n ≤ p.sent n + apart
   pub soon : apart < epoch_gap
-  pub few : (side other : Side) (m n : ℤ) → p.goes side m ≡ true → p.goes other n ≡ true → (m +ℤ pos 1023) ≤ℤ n → p.sent m + apart < p.sent n
+  pub few : (side other : Side) (m n : ℤ) → p.goes side m ≡ true → p.goes other n ≡ true → (m +ℤ pos 1023) ≤ℤ n →
+      p.sent m + apart < p.sent n
   pub in_time : (side : Side) (n : ℤ) → p.goes side n ≡ true → p.passes side n < 2 ^ 64 - 1
 
 -- a number lies less than 64513 ahead of the greatest one that came before, if one did: so many, and the window, have 16 bits of their own

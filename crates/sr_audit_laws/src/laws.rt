@@ -1,6 +1,7 @@
 //! Laws of audits: beside runs of a table of duplicate records, of each number of a source, and of the captures of a flawless network.
 
 ghost use Rattle.sr_audit_laws.specs.Cases.{ThreeFramesMeetThePremises, TellsWhatIsLost};
+ghost use Rattle.sr_audit_laws.specs.Exactly.{FiguresAreByArrivals, TestsAreByArrivals};
 ghost use Rattle.sr_audit_laws.specs.Outcomes.{EachNumberIsTold, EachBreakIsTold};
 ghost use Rattle.sr_audit_laws.specs.Records.{RecordsHaveNoRepeat, RecordsHaveNoLoss, RecordsLackNoNumber, RingRecordsLackNoNumber};
 ghost use Rattle.sr_audit_laws.specs.Sources.{AuditsCountEachNumber, WholeAuditsTellNoFault};
@@ -78,4 +79,14 @@ pub fn three_frames_meet_the_premises()
 /// with one that came twice, a repeat.
 pub fn what_is_lost_is_told()
     ensures { TellsWhatIsLost }
+{}
+
+/// The figures of a source, of an audit that has each, are a function of its arrivals and of when the captures run.
+pub fn figures_are_by_arrivals()
+    ensures { FiguresAreByArrivals }
+{}
+
+/// Some source of such an audit passes a test of figures exactly where the source of some arrival does, by its arrivals alone.
+pub fn tests_are_by_arrivals()
+    ensures { TestsAreByArrivals }
 {}

@@ -1,0 +1,84 @@
+-- Reports of a network in which nothing is dropped, cut or sent astray, wherever the recorders are.
+use Rattle.std.specs.Prelude.{◌≡◌, ℕ, ◌<◌, ◌≤◌, true, false, ◌⊎◌, List, length, ◌^◌}
+use Rattle.std.specs.List.{IsDistinct}
+use Rattle.std.specs.Map.{keys_of}
+use Rattle.sr_frame.specs.declared.fields.Mac.{Mac}
+use Rattle.sr_frame.specs.Addresses.{mac_eq}
+use Rattle.sr_audit.specs.declared.arrival.Arrival.{Arrival}
+use Rattle.sr_audit.specs.declared.audit.Audit.{Audit}
+use Rattle.sr_audit.specs.declared.span.Span.{Span}
+use Rattle.sr_audit.specs.declared.span.Spans.{Spans}
+use Rattle.sr_audit.specs.Audits.{Sent, of}
+use Rattle.sr_audit.specs.Limits.{exact_arrivals}
+use Rattle.sr_audit_laws.specs.Records.{HasAll, GoesPastOne, AreQuietEdges, LeavesOut}
+use Rattle.sr_audit_laws.specs.Sources.{IsNumbered, IsSeenByBoth, IsSeenWhole}
+use Rattle.sr_capture_script.specs.Passing.{Handed}
+use Rattle.sr_capture_audit.specs.declared.figures.Report.{Report}
+use Rattle.sr_capture_audit.specs.declared.flows.Sight.{Sight}
+use Rattle.sr_capture_audit.specs.declared.flows.Sight.TheVariants.{Part}
+use Rattle.sr_capture_audit.specs.declared.network.Subject.{Subject}
+use Rattle.sr_capture_audit.specs.declared.ruling.Rule.{Rule}
+use Rattle.sr_capture_audit.specs.Auditing.{sent_in, IsReportOf}
+use Rattle.sr_capture_audit.specs.Edging.{inner_spans, tells_of_lost, tells_of_missing}
+use Rattle.sr_capture_audit.specs.Ruling.{ruled_in, IsRuledOf}
+use Rattle.sr_capture_laws.specs.Judged.{judged_report, IsOwn, have_astray, IsNotFaulty}
+
+-- an audit has each address once, and takes up to 2^53 arrivals
+pub record IsWithin (sent : List Sent) (audit : Audit) : Type 0 where
+  pub once : IsDistinct mac_eq (keys_of audit.sources.entries)
+  pub few : length sent ≤ exact_arrivals
+
+-- the report of packets of which none was sent astray, and whose sources have a true numbering
+pub record IsOfNumbered (apart : ℕ) (recorded judged : Spans) (subject : Subject) (xs : List Handed) (r : Report) : Type 0 where
+  pub told : IsReportOf subject judged xs r
+  pub own : IsOwn r
+  pub within : IsWithin (sent_in told.seen) r.audit
+  pub none_astray : have_astray told.seen ≡ false
+  pub numbered : (m : Mac) → IsNumbered apart recorded (of m (sent_in told.seen))
+
+-- an audit under a rule, of frames of which each goes past both recorders
+pub record IsOfBoth (apart : ℕ) (recorded judged : Spans) (rule : Rule) (subject : Subject) (xs : List Handed) (audit : Audit) : Type 0 where
+  pub told : IsRuledOf rule subject judged xs audit
+  pub within : IsWithin (ruled_in rule judged told.seen) audit
+  pub seen : (m : Mac) → IsSeenByBoth apart recorded (of m (ruled_in rule judged told.seen))
+
+-- the frames of a counter that came while both recorders ran, of a ring in which each goes past one of them at least, none near the edges
+pub record IsSeenInRing (apart : ℕ) (ran : Spans) (xs : List Arrival) : Type 0 where
+  pub numbered : IsNumbered apart ran xs
+  pub has_all : HasAll numbered.frames ran numbered.copies
+  pub past_one : GoesPastOne numbered.frames
+  pub span : Span
+  pub quiet : AreQuietEdges apart numbered.frames ran span
+
+-- an audit of counters, each of which is seen whole, by both recorders or in a ring
+pub record IsOfWhole (apart : ℕ) (recorded ran judged : Spans) (rule : Rule) (subject : Subject) (xs : List Handed) (audit : Audit) : Type 0
+  where
+    pub told : IsRuledOf rule subject judged xs audit
+    pub within : IsWithin (ruled_in rule judged told.seen) audit
+    pub seen : (m : Mac) → IsSeenWhole apart recorded (of m (ruled_in rule judged told.seen))
+        ⊎ IsSeenInRing apart ran (of m (ruled_in rule judged told.seen))
+
+-- parts of captures that lie so far from both ends of each leave out what was not recorded
+abbrev pub InnerSpansLeaveOut : Type 0
+InnerSpansLeaveOut = (apart width : ℕ) (recorded : Spans) → apart ≤ width → LeavesOut apart recorded (inner_spans width recorded)
+
+-- where both recorders see all frames of each source, the report by itself tells of no fault
+pub record IsSilent (r : Report) : Type 0 where
+  pub lost : tells_of_lost r ≡ false
+  pub missing : tells_of_missing r ≡ false
+  pub sound : IsNotFaulty r
+
+abbrev pub MirrorsTellNoFault : Type 0
+MirrorsTellNoFault = (apart : ℕ) (recorded judged : Spans) (subject : Subject) (xs : List Handed) (r : Report)
+    (of_numbered : IsOfNumbered apart recorded judged subject xs r) →
+    ((m : Mac) → IsSeenWhole apart recorded (of m (sent_in of_numbered.told.seen))) → LeavesOut apart recorded judged → IsSilent r
+
+-- wherever the recorders are: where frames came by one side alone, those that are judged go past both; where numbers are missing, the
+-- captures have but part of what was sent, or the counters are seen whole
+abbrev pub RecordersTellNoFault : Type 0
+RecordersTellNoFault = (apart : ℕ) (recorded ran judged : Spans) (subject : Subject) (xs : List Handed) (r : Report) (counters : Audit)
+    (sight : Sight) (frames : Audit) (by_counter by_flow : Rule) → IsOfNumbered apart recorded judged subject xs r →
+    LeavesOut apart recorded judged →
+    (tells_of_lost r ≡ true → IsOfBoth apart recorded judged by_flow subject xs frames) →
+    (tells_of_missing r ≡ true → (sight ≡ Part) ⊎ IsOfWhole apart recorded ran judged by_counter subject xs counters) →
+    IsNotFaulty (judged_report r counters sight frames)

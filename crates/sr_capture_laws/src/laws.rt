@@ -1,0 +1,34 @@
+//! Laws of the audit of captures.
+
+ghost use Rattle.sr_capture_laws.specs.Counted.{ReportsCountEachNumber, CountersCountEachNumber};
+ghost use Rattle.sr_capture_laws.specs.Lossless.{InnerSpansLeaveOut, MirrorsTellNoFault, RecordersTellNoFault};
+
+/// The parts of captures that lie so far from the beginning and the end of each leave out whatever lies as near to what was not recorded.
+pub fn inner_spans_leave_out()
+    ensures { InnerSpansLeaveOut }
+{}
+
+/// Where both recorders see all frames of each source, as two mirrors do, and nothing was dropped, cut or sent astray, the report tells
+/// of no frame that one side lost and of no number that no frame had. A check of it ends with 0, or with 4 for a reason that it gives.
+pub fn mirrors_tell_no_fault()
+    ensures { MirrorsTellNoFault }
+{}
+
+/// So does the report that the program judges, wherever the recorders are: if frames came by one side alone, those that are judged go past
+/// both; and if numbers of a source are missing, the captures have but part of what was sent, or each counter is seen whole, by both or in
+/// a ring.
+pub fn recorders_tell_no_fault()
+    ensures { RecordersTellNoFault }
+{}
+
+/// The figures of each source of a report count each of its numbers by its outcome; if some is of no frame, the report tells of missing
+/// numbers, for which the program asks the counters.
+pub fn reports_count_each_number()
+    ensures { ReportsCountEachNumber }
+{}
+
+/// So do the figures of each counter; if some number is of no frame, the audit of counters tells so, and a report by it of captures that
+/// have all that was sent tells of a fault.
+pub fn counters_count_each_number()
+    ensures { CountersCountEachNumber }
+{}

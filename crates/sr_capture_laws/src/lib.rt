@@ -1,0 +1,9 @@
+//! What the audit of captures says of a network in which nothing is lost, and of frames that no recorder has.
+#![tactic(auto)]
+
+mod laws;
+
+pub use laws::{
+    counters_count_each_number, inner_spans_leave_out, mirrors_tell_no_fault,
+    recorders_tell_no_fault, reports_count_each_number,
+};
