@@ -12,7 +12,6 @@ use Rattle.sr_capture_audit.specs.declared.flows.Sight.{Sight}
 use Rattle.sr_capture_audit.specs.declared.judgement.Judgement.{Judgement}
 use Rattle.sr_capture_audit.specs.declared.judgement.Judgement.TheVariants.{Sound, Faulty, Unjudged}
 use Rattle.sr_capture_audit.specs.declared.judgement.Reason.{Reason}
-use Rattle.sr_capture_audit.specs.declared.kind.Kind.{Kind}
 use Rattle.sr_capture_audit.specs.declared.network.Subject.{Subject}
 use Rattle.sr_capture_audit.specs.Counting.{Seen, names_other_lan, is_misfit_packet}
 use Rattle.sr_capture_audit.specs.Edging.{tells_of_lost, tells_of_missing}
