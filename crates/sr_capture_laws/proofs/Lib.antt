@@ -1,3 +1,4 @@
 pub mod JudgedLemmas
 pub mod LosslessLemmas
 pub mod CountedLemmas
+pub mod ExactLemmas

@@ -1,3 +1,4 @@
 pub mod Judged
 pub mod Lossless
 pub mod Counted
+pub mod Exact

@@ -1,6 +1,7 @@
 //! Laws of the audit of captures.
 
 ghost use Rattle.sr_capture_laws.specs.Counted.{ReportsCountEachNumber, CountersCountEachNumber};
+ghost use Rattle.sr_capture_laws.specs.Exact.{ChecksAreByArrivals};
 ghost use Rattle.sr_capture_laws.specs.Lossless.{InnerSpansLeaveOut, MirrorsTellNoFault, RecordersTellNoFault};
 
 /// The parts of captures that lie so far from the beginning and the end of each leave out whatever lies as near to what was not recorded.
@@ -31,4 +32,10 @@ pub fn reports_count_each_number()
 /// have all that was sent tells of a fault.
 pub fn counters_count_each_number()
     ensures { CountersCountEachNumber }
+{}
+
+/// What a check judges, and so whether it ends with 0, 3 or 4, is a function of the counts of all packets, of the arrivals of all sources,
+/// of those of the frames that are judged and of the counters', and of whether the captures have all that was sent.
+pub fn checks_are_by_arrivals()
+    ensures { ChecksAreByArrivals }
 {}

@@ -1,0 +1,86 @@
+-- What a check judges, as a function of the arrivals that its audits take.
+use Rattle.std.specs.Prelude.{◌≡◌, nat_lt, ℕ, Bool, true, false, not, ◌&&◌, ◌||◌, List, Option, None, Some, if◌then◌else◌}
+use Rattle.sr_audit.specs.declared.audit.Audit.{Audit}
+use Rattle.sr_audit.specs.declared.side.Side.TheVariants.{A, B}
+use Rattle.sr_audit.specs.declared.source.Figures.{Figures}
+use Rattle.sr_audit.specs.declared.span.Spans.{Spans}
+use Rattle.sr_audit.specs.Audits.{Sent}
+use Rattle.sr_audit.specs.Faults.{tells_of_faults}
+use Rattle.sr_audit_laws.specs.Exactly.{some_source, HasEachSource}
+use Rattle.sr_capture_script.specs.Passing.{Handed}
+use Rattle.sr_capture_audit.specs.declared.counts.Counts.{Counts}
+use Rattle.sr_capture_audit.specs.declared.figures.Report.{Report}
+use Rattle.sr_capture_audit.specs.declared.flows.Sight.{Sight}
+use Rattle.sr_capture_audit.specs.declared.flows.Sight.TheVariants.{All, Part}
+use Rattle.sr_capture_audit.specs.declared.judgement.Judgement.{Judgement}
+use Rattle.sr_capture_audit.specs.declared.judgement.Judgement.TheVariants.{Sound, Faulty, Unjudged}
+use Rattle.sr_capture_audit.specs.declared.judgement.Reason.{Reason}
+use Rattle.sr_capture_audit.specs.declared.judgement.Reason.TheVariants as reason
+use Rattle.sr_capture_audit.specs.declared.network.Subject.{Subject}
+use Rattle.sr_capture_audit.specs.Auditing.{sent_in, IsReportOf}
+use Rattle.sr_capture_audit.specs.Counting.{all_figures}
+use Rattle.sr_capture_audit.specs.Edging.{tells_of_lost, tells_of_missing}
+use Rattle.sr_capture_audit.specs.Faults.{shows_lost, shows_missing, have_faults}
+use Rattle.sr_capture_audit.specs.Hints.{are_swapped}
+use Rattle.sr_capture_audit.specs.Judging.{shows_pairs, are_cut, network_judgement, check_status}
+use Rattle.sr_capture_laws.specs.Judged.{judged_report, IsOwn}
+
+-- frames came by one side alone, numbers by none, and frames by both
+abbrev pub lost_by : Spans → List Sent → Bool
+lost_by spans sent = some_source shows_lost spans sent
+
+abbrev pub missing_by : Spans → List Sent → Bool
+missing_by spans sent = some_source shows_missing spans sent
+
+abbrev pub paired_by : Spans → List Sent → Bool
+paired_by spans sent = some_source shows_pairs spans sent
+
+-- the figures of a source, where other frames tell of those that one side lost, and counters of numbers of no frame
+abbrev pub without_lost : Bool → Figures → Figures
+without_lost true f = record f { tally = record f.tally { alone = f.edges } }
+without_lost false f = f
+
+abbrev pub without_missing : Bool → Figures → Figures
+without_missing true f = record f { neither = 0 }
+without_missing false f = f
+
+abbrev pub tells_beside : Bool → Bool → Figures → Bool
+tells_beside lost missing f = tells_of_faults (without_missing missing (without_lost lost f))
+
+abbrev pub has_all_sent : Sight → Bool
+has_all_sent All = true
+has_all_sent Part = false
+
+-- the arrivals of all sources, those that are judged, and those of the counters, tell of a fault
+abbrev pub faults_by : Counts → Spans → List Sent → List Sent → List Sent → Sight → Bool
+faults_by counts spans sent frames counters sight =
+    have_faults counts || ((lost_by spans sent && lost_by spans frames)
+    || ((missing_by spans sent && (has_all_sent sight && missing_by spans counters))
+    || some_source (tells_beside (lost_by spans sent) (missing_by spans sent)) spans sent))
+
+-- why nothing can be judged
+abbrev pub reason_by : Counts → Spans → List Sent → Option Reason
+reason_by counts spans sent =
+    if are_cut counts then Some reason.Cut
+    else if not (nat_lt 0 counts.a.numbered) then Some (reason.Unnumbered A)
+    else if not (nat_lt 0 counts.b.numbered) then Some (reason.Unnumbered B)
+    else if are_swapped counts then Some reason.Swapped
+    else if paired_by spans sent then None else Some reason.Unpaired
+
+abbrev pub judged_by : Option Reason → Bool → Judgement
+judged_by (Some why) faults = Unjudged why
+judged_by None faults = if faults then Faulty else Sound
+
+abbrev pub judgement_by : Counts → Spans → List Sent → List Sent → List Sent → Sight → Judgement
+judgement_by counts spans sent frames counters sight =
+    judged_by (reason_by counts spans sent) (faults_by counts spans sent frames counters sight)
+
+-- the report that the program judges is judged so, and a check ends with 0, 3 or 4 by it
+abbrev pub ChecksAreByArrivals : Type 0
+ChecksAreByArrivals = (judged : Spans) (subject : Subject) (xs : List Handed) (r : Report) (counters : Audit) (sight : Sight)
+    (frames : Audit) (by_counter by_flow : List Sent) (told : IsReportOf subject judged xs r) → IsOwn r →
+    HasEachSource judged (sent_in told.seen) r.audit.sources.entries →
+    (tells_of_lost r ≡ true → HasEachSource judged by_flow frames.sources.entries) →
+    (tells_of_missing r ≡ true → HasEachSource judged by_counter counters.sources.entries) →
+    check_status (network_judgement (judged_report r counters sight frames))
+    ≡ check_status (judgement_by (all_figures told.seen) judged (sent_in told.seen) by_flow by_counter sight)
