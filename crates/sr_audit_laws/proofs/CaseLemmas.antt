@@ -1,5 +1,5 @@
 -- The lists of copies that are worked out.
-use Rattle.std.proofs.Common.{◌≡◌, ℕ, ◌+◌, ◌-◌, ◌<◌, ◌≤◌, Bool, true, false, cond, ◌||◌, ◌⊎◌, ℤ, pos, arith, refl, sym, subst, inl, inr}
+use Rattle.std.proofs.Common.{ap, ◌≡◌, ℕ, ◌+◌, ◌-◌, ◌<◌, ◌≤◌, Bool, true, false, cond, ◌||◌, ◌⊎◌, ℤ, pos, arith, refl, sym, subst, inl, inr}
 use Rattle.std.specs.Prelude.{◌^◌, nat_lt, int_lt, ◌+ℤ◌, ◌<ℤ◌, ◌≤ℤ◌}
 use Rattle.std.specs.Ordering.{int_eq}
 use Rattle.std.proofs.lemmas.Bool.{or_cases, ltb-true, lt-ltb, or_left, or_right}
@@ -9,9 +9,8 @@ use Rattle.sr_audit.specs.declared.side.Side.{Side}
 use Rattle.sr_audit.specs.declared.side.Side.TheVariants.{A, B}
 use Rattle.sr_audit.specs.Edges.{is_beyond}
 use Rattle.sr_audit.specs.Stretches.{came}
-use Rattle.sr_audit_laws.specs.Records.{IsTimely, AreRecorded, HasAll, GoesPastBoth, LeavesOut, IsInOrder}
-use Rattle.sr_audit_laws.specs.Cases.{three_sent, three_pass, three_frames, three_recorded, three_judged, three_copies, ThreeFramesMeetThePremises, TellsWhatIsLost}
-
+use Rattle.sr_audit_laws.specs.Records.{Passage, PassesInTime, AreRecorded, HasAll, GoesPastBoth, LeavesOut, IsSequential, GoesPastOne, IsFarFromEnds, AreQuietEdges}
+use Rattle.sr_audit_laws.specs.Cases.{three_sent, three_pass, three_frames, three_recorded, three_judged, three_copies, ThreeFramesMeetThePremises, ring_goes, ring_frames, ring_span, ring_recorded, ring_copies, RingFramesMeetThePremises, TellsWhatIsLost}
 
 -- one of three numbers
 which : (n : ℤ) → (int_eq n (pos 7) || (int_eq n (pos 8) || int_eq n (pos 9))) ≡ true → (n ≡ pos 7) ⊎ ((n ≡ pos 8) ⊎ (n ≡ pos 9))
@@ -79,7 +78,7 @@ stepped a b c ab bc m n le =
     by false false false true f g h = let no : false ≡ true = g refl in absurd cc
     by false false false false f g h = omega arith
 
-timely : IsTimely 2 three_frames
+timely : PassesInTime 2 three_frames
 timely = record {
   in_turn = stepped 10 20 30 (omega arith) (omega arith);
   not_early = early;
@@ -128,7 +127,7 @@ past_both : GoesPastBoth three_frames
 past_both A n goes = goes
 past_both B n goes = goes
 
-ordered : IsInOrder three_frames
+ordered : IsSequential three_frames
 ordered = record {
   one_apart = λ side m k n goes_m goes_n from to. in_between k (first m k (bounded m goes_m).0 from) (last k n (bounded n goes_n).1 to);
   in_order = order;
@@ -167,3 +166,78 @@ three_meet = record {
 
 pub told : TellsWhatIsLost
 told = record { all = refl; all_numbers = refl; one = refl; both = refl; twice = refl }
+
+-- the ring
+two : (P : ℤ → Type 0) (a b : ℤ) → P a → P b → (n : ℤ) → (int_eq n a || int_eq n b) ≡ true → P n
+two P a b at_a at_b n is =
+    elim (or_cases (int_eq n a) (int_eq n b) is) [
+      | inl e ↦ subst P (sym ((Decides-int_eq n a).0 e)) at_a
+      | inr e ↦ subst P (sym ((Decides-int_eq n b).0 e)) at_b
+    ]
+
+among : (side : Side) (n : ℤ) → ring_goes side n ≡ true → (int_eq n (pos 7) || (int_eq n (pos 8) || int_eq n (pos 9))) ≡ true
+among A = two (λ n. (int_eq n (pos 7) || (int_eq n (pos 8) || int_eq n (pos 9))) ≡ true) (pos 7) (pos 9) refl refl
+among B = two (λ n. (int_eq n (pos 7) || (int_eq n (pos 8) || int_eq n (pos 9))) ≡ true) (pos 8) (pos 9) refl refl
+
+ring_timely : PassesInTime 2 ring_frames
+ring_timely = record {
+  in_turn = timely.in_turn;
+  not_early = λ side n goes. timely.not_early side n (among side n goes);
+  not_late = λ side n goes. timely.not_late side n (among side n goes);
+  soon = timely.soon;
+  few = λ side other m n goes_m goes_n. timely.few side other m n (among side m goes_m) (among other n goes_n);
+  in_time = λ side n goes. timely.in_time side n (among side n goes);
+}
+
+ring_are_recorded : AreRecorded ring_frames ring_recorded ring_copies
+ring_are_recorded = (
+  record { goes = refl; time = refl; runs = refl; once = refl; later = omega arith; not_far = omega (arith, ints) },
+  (
+    record { goes = refl; time = refl; runs = refl; once = refl; later = omega arith; not_far = omega (arith, ints) },
+    (
+      record { goes = refl; time = refl; runs = refl; once = refl; later = omega arith; not_far = omega (arith, ints) },
+      (record { goes = refl; time = refl; runs = refl; once = refl; later = omega arith; not_far = tt }, tt),
+    ),
+  ),
+)
+
+ring_all : HasAll ring_frames ring_recorded ring_copies
+ring_all A n goes runs = two (λ k. came A k ring_copies ≡ true) (pos 7) (pos 9) refl refl n goes
+ring_all B n goes runs = two (λ k. came B k ring_copies ≡ true) (pos 8) (pos 9) refl refl n goes
+
+ring_past_one : GoesPastOne ring_frames
+ring_past_one side other m k n goes_m goes_n from to =
+    let low = bounded m (among side m goes_m) in
+    let high = bounded n (among other n goes_n) in
+    elim (which k (in_between k (first m k low.0 from) (last k n high.1 to))) [
+      | inl seven ↦ (A, ap (ring_goes A) seven)
+      | inr later ↦ elim later [
+        | inl eight ↦ (B, ap (ring_goes B) eight)
+        | inr nine ↦ (A, ap (ring_goes A) nine)
+      ]
+    ]
+  where
+    first : (i j : ℤ) → pos 7 ≤ℤ i → i ≤ℤ j → pos 7 ≤ℤ j
+    first i j a b = omega (arith, ints, a, b)
+
+    last : (i j : ℤ) → j ≤ℤ pos 9 → i ≤ℤ j → i ≤ℤ pos 9
+    last i j a b = omega (arith, ints, a, b)
+
+ring_quiet : AreQuietEdges 2 ring_frames ring_recorded ring_span
+ring_quiet = (refl, by)
+  where
+    by : (side : Side) (n : ℤ) → ring_goes side n ≡ true → is_beyond ring_recorded side (three_pass side n) ≡ false →
+        IsFarFromEnds 2 ring_frames ring_span side n
+    by A n goes runs = two (IsFarFromEnds 2 ring_frames ring_span A) (pos 7) (pos 9) (record { begins = omega arith; ends = omega arith })
+        (record { begins = omega arith; ends = omega arith }) n goes
+    by B n goes runs = two (IsFarFromEnds 2 ring_frames ring_span B) (pos 8) (pos 9) (record { begins = omega arith; ends = omega arith })
+        (record { begins = omega arith; ends = omega arith }) n goes
+
+pub ring_meets : RingFramesMeetThePremises
+ring_meets = record {
+  timely = ring_timely;
+  are_recorded = ring_are_recorded;
+  has_all = ring_all;
+  past_one = ring_past_one;
+  quiet = ring_quiet;
+}

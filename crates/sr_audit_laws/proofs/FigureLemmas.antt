@@ -26,7 +26,7 @@ use Rattle.sr_audit.proofs.FitLemmas.{neither_left}
 use Rattle.sr_audit.proofs.FollowLemmas.{length-stretches}
 use Rattle.sr_audit_laws.specs.Outcomes.{TellsEachNumber}
 use Rattle.sr_audit_laws.specs.Records.{LeavesOut, TellsNoRepeat, TellsNoLoss, LacksNoNumber}
-use Rattle.sr_audit_laws.specs.Sources.{AuditsCountEachNumber, IsNumbered, IsSeenByBoth, IsSeenWhole, WholeAuditsTellNoFault}
+use Rattle.sr_audit_laws.specs.Sources.{AuditsCountEachNumber, HasTrueNumbering, IsSeenByBoth, IsSeenWhole, WholeAuditsTellNoFault}
 use Rattle.sr_audit_laws.proofs.FollowedLemmas.{no_repeat, no_loss}
 use Rattle.sr_audit_laws.proofs.OutcomeLemmas.{each_number}
 use Rattle.sr_audit_laws.proofs.UnbrokenLemmas.{no_number_lacks}
@@ -110,7 +110,7 @@ none_passes test (e ∷ es) unique each =
         ]
 
 -- arrivals with a true numbering
-pub numbered_no_repeat : (apart : ℕ) (recorded : Spans) (xs : List Arrival) → IsNumbered apart recorded xs → TellsNoRepeat xs
+pub numbered_no_repeat : (apart : ℕ) (recorded : Spans) (xs : List Arrival) → HasTrueNumbering apart recorded xs → TellsNoRepeat xs
 numbered_no_repeat apart recorded xs is =
     subst TellsNoRepeat is.arrivals (no_repeat apart is.frames recorded is.copies is.timely is.are_recorded)
 

@@ -25,12 +25,11 @@ use Rattle.sr_audit.specs.Tallies.{repeats}
 use Rattle.sr_audit.proofs.EdgeLemmas.{some_below}
 use Rattle.sr_audit.proofs.FollowLemmas.{number_is}
 use Rattle.sr_audit.proofs.FrameLemmas.{came-other, first_other}
-use Rattle.sr_audit_laws.specs.Outcomes.{OnlyA, OnlyB, same_outcome, outcome_of, numbers_of, numbers_with}
-use Rattle.sr_audit_laws.specs.Records.{Passage, IsTimely, AreRecorded, HasAll, arrivals_of, GoesPastBoth, LeavesOut, RecordsHaveNoRepeat, RecordsHaveNoLoss}
+use Rattle.sr_audit_laws.specs.Outcomes.{OnlyA, OnlyB, same_outcome, outcome_of, stretch_numbers, numbers_with}
+use Rattle.sr_audit_laws.specs.Records.{Passage, PassesInTime, AreRecorded, HasAll, arrivals_by, GoesPastBoth, LeavesOut, RecordsHaveNoRepeat, RecordsHaveNoLoss}
 use Rattle.sr_audit_laws.proofs.OutcomeLemmas.{none_counted, some, some_own, some_other, each_number}
 use Rattle.sr_audit_laws.proofs.RecordLemmas.{Came, came_as, not_under, placed, arrival_of, begins, near_of, closer, near_time, goes_further, not_repeated, first_alone, skew_small, not_last, back_side, lone_is_outside, no_only_a, no_only_b, some_at, above_top}
 use Rattle.sr_audit_laws.proofs.ShiftLemmas.{int_eq_shift, greater_shift, IsUnseen, begun_unseen}
-
 
 -- what a stretch that is over has of a number is what all copies have of one at most so great
 record Mirrored (copies : List Placed) (base : ℤ) (t : List Placed) (k : ℤ) : Type 0 where
@@ -165,7 +164,7 @@ greater_second t n le = grind (arith, ints)
 level_more : (b t n : ℤ) → b ≤ℤ (t -ℤ pos 1023) → b ≤ℤ (greater t n -ℤ pos 1023)
 level_more b t n le = grind (arith, ints)
 
-went_on : (apart : ℕ) (p : Passage) (recorded : Spans) (y z : Placed) (rest : List Placed) (ss : List (List Placed)) → IsTimely apart p →
+went_on : (apart : ℕ) (p : Passage) (recorded : Spans) (y z : Placed) (rest : List Placed) (ss : List (List Placed)) → PassesInTime apart p →
     AreRecorded p recorded (y ∷ z ∷ rest) → Follows (z ∷ rest) ss → y.number <ℤ (top_number (z ∷ rest) +ℤ pos kept_numbers) →
     Follows (y ∷ z ∷ rest) (with_arrival ss (arrival_of y))
 went_on apart p recorded y z rest ss timely (own, recs) f close =
@@ -277,7 +276,7 @@ went_on apart p recorded y z rest ss timely (own, recs) f close =
         ∙ ap (λ b. cond {A = ℕ} b 1 0 + count_in 6 (skews_in s ++ skews_of f.older)) small ∙ ap (λ k. 0 + k) f.late
 
 -- one that lies further ahead begins a stretch
-leapt : (apart : ℕ) (p : Passage) (recorded : Spans) (y z : Placed) (rest : List Placed) (ss : List (List Placed)) → IsTimely apart p →
+leapt : (apart : ℕ) (p : Passage) (recorded : Spans) (y z : Placed) (rest : List Placed) (ss : List (List Placed)) → PassesInTime apart p →
     AreRecorded p recorded (y ∷ z ∷ rest) → Follows (z ∷ rest) ss → (top_number (z ∷ rest) +ℤ pos kept_numbers) ≤ℤ y.number →
     Follows (y ∷ z ∷ rest) (with_arrival ss (arrival_of y))
 leapt apart p recorded y z rest ss timely (own, recs) f far =
@@ -365,14 +364,14 @@ leapt apart p recorded y z rest ss timely (own, recs) f far =
         again : (k d : ℤ) → (k -ℤ d) +ℤ d ≡ k
         again k d = omega (arith, ints)
 
-follows : (apart : ℕ) (p : Passage) (recorded : Spans) (y : Placed) (before : List Placed) → IsTimely apart p →
-    AreRecorded p recorded (y ∷ before) → Follows (y ∷ before) (stretches (arrivals_of (y ∷ before)))
+follows : (apart : ℕ) (p : Passage) (recorded : Spans) (y : Placed) (before : List Placed) → PassesInTime apart p →
+    AreRecorded p recorded (y ∷ before) → Follows (y ∷ before) (stretches (arrivals_by (y ∷ before)))
 follows apart p recorded y [] timely recs = begun y [] [] (stretch_begun (arrival_of y) ∷ []) refl refl (λ m above c. refl) tt (λ c. refl) refl
 follows apart p recorded y (z ∷ rest) timely (own, recs) =
     let f = follows apart p recorded z rest timely recs in
     by_lt_z y.number (top_number (z ∷ rest) +ℤ pos kept_numbers)
-    (λ close. went_on apart p recorded y z rest (stretches (arrivals_of (z ∷ rest))) timely (own, recs) f close)
-    (λ far. leapt apart p recorded y z rest (stretches (arrivals_of (z ∷ rest))) timely (own, recs) f far)
+    (λ close. went_on apart p recorded y z rest (stretches (arrivals_by (z ∷ rest))) timely (own, recs) f close)
+    (λ far. leapt apart p recorded y z rest (stretches (arrivals_by (z ∷ rest))) timely (own, recs) f far)
 
 pub no_repeat : RecordsHaveNoRepeat
 no_repeat apart p recorded [] timely recs = record { repeats_a = refl; repeats_b = refl; late = refl }
@@ -424,7 +423,7 @@ all_mirrored copies ss f = (mine, weaker f.older f.olds)
     )
 
 -- no number is one of a frame that one side lost
-none_only : (apart : ℕ) (p : Passage) (recorded judged : Spans) (copies : List Placed) → IsTimely apart p → AreRecorded p recorded copies →
+none_only : (apart : ℕ) (p : Passage) (recorded judged : Spans) (copies : List Placed) → PassesInTime apart p → AreRecorded p recorded copies →
     HasAll p recorded copies → GoesPastBoth p → LeavesOut apart recorded judged → (base : ℤ) (ts : List (List Placed)) →
     AreMirrored copies base ts → (sum_by (numbers_with judged OnlyA) ts ≡ 0) × (sum_by (numbers_with judged OnlyB) ts ≡ 0)
 none_only apart p recorded judged copies timely recs all both leaves base [] mirrored = (refl, refl)
@@ -432,10 +431,10 @@ none_only apart p recorded judged copies timely recs all both leaves base (t ∷
     let rest = none_only apart p recorded judged copies timely recs all both leaves base ts mirrored.1 in
     let none_a : numbers_with judged OnlyA t ≡ 0 =
     none_counted (λ k. same_outcome OnlyA (outcome_of judged t k))
-    (λ k. no_only_a (came A k t) (came B k t) (is_beyond judged A (first_time k t)) (is_beyond judged B (first_time k t)) (beyond A k)) (numbers_of t) in
+    (λ k. no_only_a (came A k t) (came B k t) (is_beyond judged A (first_time k t)) (is_beyond judged B (first_time k t)) (beyond A k)) (stretch_numbers t) in
     let none_b : numbers_with judged OnlyB t ≡ 0 =
     none_counted (λ k. same_outcome OnlyB (outcome_of judged t k))
-    (λ k. no_only_b (came A k t) (came B k t) (is_beyond judged A (first_time k t)) (is_beyond judged B (first_time k t)) (beyond B k)) (numbers_of t) in (
+    (λ k. no_only_b (came A k t) (came B k t) (is_beyond judged A (first_time k t)) (is_beyond judged B (first_time k t)) (beyond B k)) (stretch_numbers t) in (
       omega (arith, sum_by-cons (numbers_with judged OnlyA) t ts, none_a, rest.0),
       omega (arith, sum_by-cons (numbers_with judged OnlyB) t ts, none_b, rest.1),
     )
@@ -453,9 +452,9 @@ no_loss apart p recorded judged [] timely recs all both leaves = record { only_a
 no_loss apart p recorded judged (y ∷ before) timely recs all both leaves =
     let copies = y ∷ before in
     let f = follows apart p recorded y before timely recs in
-    let told = each_number judged (arrivals_of copies) in
+    let told = each_number judged (arrivals_by copies) in
     let none = none_only apart p recorded judged copies timely recs all both leaves (top_number copies) ((f.newest ∷ f.behind) ∷ f.older)
-    (all_mirrored copies (stretches (arrivals_of copies)) f) in
+    (all_mirrored copies (stretches (arrivals_by copies)) f) in
     record {
       only_a = told.only_a ∙ ap (sum_by (numbers_with judged OnlyA)) f.are ∙ none.0;
       only_b = told.only_b ∙ ap (sum_by (numbers_with judged OnlyB)) f.are ∙ none.1;

@@ -21,7 +21,7 @@ use Rattle.sr_audit.proofs.EdgeLemmas.{some_below}
 use Rattle.sr_audit.proofs.ExtentLemmas.{no_empty}
 use Rattle.sr_audit.proofs.FitLemmas.{some_over}
 use Rattle.sr_audit.proofs.FrameLemmas.{count-cons, came-other, came-same}
-use Rattle.sr_audit_laws.specs.Outcomes.{Outcome, Paired, OnlyA, OnlyB, EdgeA, EdgeB, Neither, same_outcome, outcome_if, outcome_of, numbers_from, numbers_of, numbers_with, EachNumberIsTold, EachBreakIsTold}
+use Rattle.sr_audit_laws.specs.Outcomes.{Outcome, Paired, OnlyA, OnlyB, EdgeA, EdgeB, Neither, same_outcome, outcome_if, outcome_of, numbers_from, stretch_numbers, numbers_with, EachNumberIsTold, EachBreakIsTold}
 
 -- tests that are alike count alike
 pub alike : (p q : ℤ → Bool) → ((n : ℤ) → p n ≡ q n) → (ns : List ℤ) → count_by p ns ≡ count_by q ns
@@ -211,7 +211,7 @@ all_within (y ∷ before) n is = (
       (some_over (y ∷ before) n is) (some_below (y ∷ before) n is),
 )
 
-pub stretch_counted : (p : ℤ → Bool) (s : List Placed) → count_by p (frames s) ≡ count_by (λ n. some s n && p n) (numbers_of s)
+pub stretch_counted : (p : ℤ → Bool) (s : List Placed) → count_by p (frames s) ≡ count_by (λ n. some s n && p n) (stretch_numbers s)
 stretch_counted p s = frames_counted p (bottom_number s) (length_of s) s (all_within s)
 
 -- a figure of one stretch, by a test that is that of an outcome
@@ -221,7 +221,7 @@ of_outcome : (spans : Spans) (o : Outcome) (test : Bool → Bool → ℕ → Boo
 of_outcome spans o test s same =
     stretch_counted (λ n. test (came A n s) (came B n s) (first_time n s)) s
     ∙ alike (λ n. some s n && test (came A n s) (came B n s) (first_time n s)) (λ n. same_outcome o (outcome_of spans s n))
-    (λ n. same (came A n s) (came B n s) (first_time n s)) (numbers_of s)
+    (λ n. same (came A n s) (came B n s) (first_time n s)) (stretch_numbers s)
 
 pairs_are : (spans : Spans) (s : List Placed) → frames_with by_both s ≡ numbers_with spans Paired s
 pairs_are spans s = of_outcome spans Paired (λ a b time. by_both a b) s by
@@ -332,13 +332,13 @@ and_true true = refl
 and_true false = refl
 
 -- those of which no copy came are what is left
-pub neither_counted : (s : List Placed) → neither_of s ≡ count_by (λ n. true && not (some s n)) (numbers_of s)
+pub neither_counted : (s : List Placed) → neither_of s ≡ count_by (λ n. true && not (some s n)) (stretch_numbers s)
 neither_counted s =
-    let came_ones : count_by (λ (n : ℤ). true) (frames s) ≡ count_by (λ n. true && some s n) (numbers_of s) =
-    stretch_counted (λ n. true) s ∙ alike (λ n. some s n && true) (λ n. true && some s n) (λ n. and_true (some s n)) (numbers_of s) in
-    left (length_of s) (length (frames s)) (count_by (λ n. true && some s n) (numbers_of s)) (count_by (λ n. true && not (some s n)) (numbers_of s))
+    let came_ones : count_by (λ (n : ℤ). true) (frames s) ≡ count_by (λ n. true && some s n) (stretch_numbers s) =
+    stretch_counted (λ n. true) s ∙ alike (λ n. some s n && true) (λ n. true && some s n) (λ n. and_true (some s n)) (stretch_numbers s) in
+    left (length_of s) (length (frames s)) (count_by (λ n. true && some s n) (stretch_numbers s)) (count_by (λ n. true && not (some s n)) (stretch_numbers s))
     (sym (all_counted (frames s)) ∙ came_ones)
-    (sym (length_numbers (bottom_number s) (length_of s)) ∙ sym (all_counted (numbers_of s)) ∙ count_cases (λ n. true) (some s) (numbers_of s))
+    (sym (length_numbers (bottom_number s) (length_of s)) ∙ sym (all_counted (stretch_numbers s)) ∙ count_cases (λ n. true) (some s) (stretch_numbers s))
   where
     left : (whole frames some none : ℕ) → frames ≡ some → whole ≡ some + none → whole - frames ≡ none
     left whole frames some none e f = omega (arith, e, f)
@@ -347,7 +347,7 @@ neither_is : (spans : Spans) (s : List Placed) → neither_of s ≡ numbers_with
 neither_is spans s =
     neither_counted s
     ∙ alike (λ n. true && not (some s n)) (λ n. same_outcome Neither (outcome_of spans s n))
-    (λ n. by (came A n s) (came B n s) (is_beyond spans A (first_time n s)) (is_beyond spans B (first_time n s))) (numbers_of s)
+    (λ n. by (came A n s) (came B n s) (is_beyond spans A (first_time n s)) (is_beyond spans B (first_time n s))) (stretch_numbers s)
   where
     by : (a b u v : Bool) → (true && not (a || b)) ≡ same_outcome Neither (outcome_if a b u v)
     by true true u v = refl

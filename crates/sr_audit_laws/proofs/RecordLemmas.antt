@@ -23,7 +23,7 @@ use Rattle.sr_audit.specs.Stretches.{Placed, same_side, came, top_number, goes_t
 use Rattle.sr_audit.proofs.EdgeLemmas.{some_below}
 use Rattle.sr_audit.proofs.FrameLemmas.{came-other, first_other}
 use Rattle.sr_audit_laws.specs.Outcomes.{OnlyA, OnlyB, same_outcome, outcome_if}
-use Rattle.sr_audit_laws.specs.Records.{Passage, IsTimely, AreRecorded, HasAll, GoesPastBoth, LeavesOut}
+use Rattle.sr_audit_laws.specs.Records.{Passage, PassesInTime, AreRecorded, HasAll, GoesPastBoth, LeavesOut}
 
 -- the greatest number of some copies was sent before the newest one came
 pub greater_is : (m n : ℤ) → (greater m n ≡ m) ⊎ (greater m n ≡ n)
@@ -35,7 +35,7 @@ greater_is m n = by_lt_z m n (λ lt. inr (upper m n lt)) (λ le. inl (lower m n 
     lower : (m n : ℤ) → n ≤ℤ m → greater m n ≡ m
     lower m n le = grind (arith, ints)
 
-pub top_sent : (apart : ℕ) (p : Passage) (recorded : Spans) (y : Placed) (before : List Placed) → IsTimely apart p →
+pub top_sent : (apart : ℕ) (p : Passage) (recorded : Spans) (y : Placed) (before : List Placed) → PassesInTime apart p →
     AreRecorded p recorded (y ∷ before) → p.sent (top_number (y ∷ before)) ≤ y.time
 top_sent apart p recorded y [] timely (own, rest) = omega (arith, timely.not_early y.side y.number own.goes, own.time)
 top_sent apart p recorded y (z ∷ before) timely (own, rest) =
@@ -126,11 +126,11 @@ bottom_came y (z ∷ s) =
     ]
 
 -- a frame that comes lies less than 1023 behind the greatest number that came
-pub own_sent : (apart : ℕ) (p : Passage) (recorded : Spans) (copies : List Placed) (side : Side) (n : ℤ) → IsTimely apart p →
+pub own_sent : (apart : ℕ) (p : Passage) (recorded : Spans) (copies : List Placed) (side : Side) (n : ℤ) → PassesInTime apart p →
     AreRecorded p recorded copies → came side n copies ≡ true → p.goes side n ≡ true
 own_sent apart p recorded copies side n timely recs is = (came_as p recorded side n copies recs is).goes
 
-pub not_under : (apart : ℕ) (p : Passage) (recorded : Spans) (y z : Placed) (before : List Placed) → IsTimely apart p →
+pub not_under : (apart : ℕ) (p : Passage) (recorded : Spans) (y z : Placed) (before : List Placed) → PassesInTime apart p →
     AreRecorded p recorded (y ∷ z ∷ before) → (top_number (z ∷ before) -ℤ pos 1023) <ℤ y.number
 not_under apart p recorded y z before timely (own, recs) =
     by_lt_z (top_number (z ∷ before) -ℤ pos 1023) y.number (λ above. above) (λ under. absurd (no under))
@@ -225,12 +225,18 @@ near_of g t n d e above below = record { above = omega (arith, ints, e, above); 
 pub closer : (t n : ℤ) → n <ℤ (t +ℤ pos kept_numbers) → n ≤ℤ (t +ℤ pos (65536 - kept_numbers))
 closer t n close = omega (arith, ints, close)
 
-pub near_time : (apart : ℕ) (p : Passage) (recorded : Spans) (y z : Placed) (rest : List Placed) → IsTimely apart p →
+pub near_time : (apart : ℕ) (p : Passage) (recorded : Spans) (y z : Placed) (rest : List Placed) → PassesInTime apart p →
     AreRecorded p recorded (y ∷ z ∷ rest) → y.number ≤ℤ top_number (z ∷ rest) → nat_lt (y.time - z.time) epoch_gap ≡ true
 near_time apart p recorded y z rest timely (own, recs) le =
     lt-ltb (y.time - z.time) epoch_gap
-    (omega (arith, own.time, timely.not_late y.side y.number own.goes, timely.in_turn y.number (top_number (z ∷ rest)) le,
-    top_sent apart p recorded z rest timely recs, timely.soon))
+    (omega (
+      arith,
+      own.time,
+      timely.not_late y.side y.number own.goes,
+      timely.in_turn y.number (top_number (z ∷ rest)) le,
+      top_sent apart p recorded z rest timely recs,
+      timely.soon,
+    ))
 
 pub goes_further : (g t n d : ℤ) (soon : Bool) (place : Distance) → g ≡ t +ℤ d → number_at g place ≡ n +ℤ d → n <ℤ (t +ℤ pos kept_numbers) →
     (n ≤ℤ t → soon ≡ true) → goes_to soon place ≡ true
@@ -238,7 +244,7 @@ goes_further g t n d soon (Behind k) e at below then = then (omega (arith, ints,
 goes_further g t n d soon (Ahead k) e at below then = ap not (lt-leb kept_numbers k (omega (arith, ints, e, at, below)))
 
 -- a frame that one side alone has passed the other one while that did not run
-pub lone_is_outside : (apart : ℕ) (p : Passage) (recorded judged : Spans) (copies : List Placed) (side : Side) (n : ℤ) → IsTimely apart p →
+pub lone_is_outside : (apart : ℕ) (p : Passage) (recorded judged : Spans) (copies : List Placed) (side : Side) (n : ℤ) → PassesInTime apart p →
     AreRecorded p recorded copies → HasAll p recorded copies → GoesPastBoth p → LeavesOut apart recorded judged →
     came side n copies ≡ true → came (other_side side) n copies ≡ false → is_beyond judged (other_side side) (first_time n copies) ≡ true
 lone_is_outside apart p recorded judged copies side n timely recs all both leaves is other =

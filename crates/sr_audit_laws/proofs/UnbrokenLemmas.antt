@@ -22,13 +22,13 @@ use Rattle.sr_audit.proofs.EdgeLemmas.{some_below}
 use Rattle.sr_audit.proofs.FollowLemmas.{number_is}
 use Rattle.sr_audit.proofs.FrameLemmas.{count-cons}
 use Rattle.sr_audit_laws.specs.Outcomes.{Neither, same_outcome, outcome_if, outcome_of, numbers_from, numbers_with}
-use Rattle.sr_audit_laws.specs.Records.{Passage, IsTimely, IsRecorded, AreRecorded, HasAll, arrivals_of, GoesPastBoth, IsInOrder, Overlap, GoesPastOne, AreQuietEdges, LacksNoNumber, RecordsLackNoNumber, RingRecordsLackNoNumber}
+use Rattle.sr_audit_laws.specs.Records.{Passage, PassesInTime, IsRecorded, AreRecorded, HasAll, arrivals_by, GoesPastBoth, IsSequential, Overlap, GoesPastOne, AreQuietEdges, LacksNoNumber, RecordsLackNoNumber, RingRecordsLackNoNumber}
 use Rattle.sr_audit_laws.proofs.OutcomeLemmas.{each_number, each_break}
 use Rattle.sr_audit_laws.proofs.RecordLemmas.{Came, side_is, came_as, top_came, bottom_came, not_under, placed, arrival_of, begins, near_of, closer, near_time, goes_further, some_at, above_top}
 use Rattle.sr_audit_laws.proofs.ShiftLemmas.{shift, shifted, came_shifted, top_shifted, IsUnseen, begun_unseen}
 
 abbrev IsOneStretch : List Placed → ℤ → Type 0
-IsOneStretch copies d = IsUnseen d × (stretches (arrivals_of copies) ≡ shifted d copies ∷ [])
+IsOneStretch copies d = IsUnseen d × (stretches (arrivals_by copies) ≡ shifted d copies ∷ [])
 
 -- each number lies less than 1024 ahead of the greatest one that came before
 abbrev AreClose : List Placed → Type 0
@@ -36,7 +36,7 @@ AreClose [] = Unit {0}
 AreClose (y ∷ []) = Unit {0}
 AreClose (y ∷ z ∷ before) = (y.number <ℤ (top_number (z ∷ before) +ℤ pos kept_numbers)) × AreClose (z ∷ before)
 
-one_stretch : (apart : ℕ) (p : Passage) (recorded : Spans) (y : Placed) (before : List Placed) → IsTimely apart p →
+one_stretch : (apart : ℕ) (p : Passage) (recorded : Spans) (y : Placed) (before : List Placed) → PassesInTime apart p →
     AreRecorded p recorded (y ∷ before) → AreClose (y ∷ before) → (d : ℤ) × IsOneStretch (y ∷ before) d
 one_stretch apart p recorded y [] timely recs close = (
   pos (wire y.number) -ℤ y.number,
@@ -174,7 +174,7 @@ each_side p n B both goes A = both B n goes
 each_side p n B both goes B = goes
 
 -- no number between two that came passes both recorders while they do not run
-lacks_none : (apart : ℕ) (p : Passage) (a b : Span) (side far : Side) (low mid high : ℤ) → IsTimely apart p → IsInOrder p →
+lacks_none : (apart : ℕ) (p : Passage) (a b : Span) (side far : Side) (low mid high : ℤ) → PassesInTime apart p → IsSequential p →
     let spans : Spans = record { a = Some a; b = Some b } in
     a.first + apart ≤ b.last → b.first + apart ≤ a.last → Came p spans side low → Came p spans far high → ((c : Side) → p.goes c low ≡ true) →
     ((c : Side) → p.goes c mid ≡ true) → ((c : Side) → p.goes c high ≡ true) → low ≤ℤ mid → mid ≤ℤ high →
@@ -191,7 +191,7 @@ abbrev Reaches : Passage → Spans → Type 0
 Reaches p recorded = (side far : Side) (low mid high : ℤ) → Came p recorded side low → Came p recorded far high → low ≤ℤ mid → mid ≤ℤ high →
     (c : Side) × Came p recorded c mid
 
-both_reach : (apart : ℕ) (p : Passage) (a b : Span) → IsTimely apart p → IsInOrder p → GoesPastBoth p → a.first + apart ≤ b.last →
+both_reach : (apart : ℕ) (p : Passage) (a b : Span) → PassesInTime apart p → IsSequential p → GoesPastBoth p → a.first + apart ≤ b.last →
     b.first + apart ≤ a.last → Reaches p (record { a = Some a; b = Some b })
 both_reach apart p a b timely order both ab ba side far low mid high from to above below =
     elim (cases_Bool (is_beyond spans A (p.passes A mid))) [
@@ -224,7 +224,7 @@ in_span : (span : Span) (side : Side) (t : ℕ) → span.first ≤ t → t ≤ s
 in_span span A t from to = or_from (nat_lt t span.first) (nat_lt span.last t) (le-ltb t span.first from) (le-ltb span.last t to)
 in_span span B t from to = or_from (nat_lt t span.first) (nat_lt span.last t) (le-ltb t span.first from) (le-ltb span.last t to)
 
-one_reaches : (apart : ℕ) (p : Passage) (recorded : Spans) (span : Span) → IsTimely apart p → GoesPastOne p →
+one_reaches : (apart : ℕ) (p : Passage) (recorded : Spans) (span : Span) → PassesInTime apart p → GoesPastOne p →
     AreQuietEdges apart p recorded span → Reaches p recorded
 one_reaches apart p recorded span timely one quiet side far low mid high from to above below =
     let there = one side far low mid high from.goes to.goes above below in
@@ -263,7 +263,7 @@ runs_at : (p : Passage) (recorded : Spans) (y : Placed) (before : List Placed) �
 runs_at p recorded y before own =
     record { goes = own.goes; runs = ap (is_beyond recorded y.side) (sym own.time) ∙ own.runs }
 
-are_close : (apart : ℕ) (p : Passage) (recorded : Spans) (bound : ℕ) (copies : List Placed) → IsTimely apart p → Reaches p recorded →
+are_close : (apart : ℕ) (p : Passage) (recorded : Spans) (bound : ℕ) (copies : List Placed) → PassesInTime apart p → Reaches p recorded →
     AreRecorded p recorded copies → newest_time copies ≤ bound → HasUpTo p recorded bound copies → AreClose copies
 are_close apart p recorded bound [] timely reaches recs le has = tt
 are_close apart p recorded bound (y ∷ []) timely reaches recs le has = tt
@@ -306,17 +306,22 @@ are_close apart p recorded bound (y ∷ z ∷ rest) timely reaches (own, recs) l
         (below t n far) in
         let c = at.0 in
         let passed : p.passes c mid < y.time =
-        omega (arith, timely.not_late c mid at.1.goes, timely.few c y.side mid n at.1.goes own.goes (done t n far),
-        timely.not_early y.side n own.goes, own.time) in
+        omega (
+          arith,
+          timely.not_late c mid at.1.goes,
+          timely.few c y.side mid n at.1.goes own.goes (done t n far),
+          timely.not_early y.side n own.goes,
+          own.time,
+        ) in
         let none : false ≡ true = sym (above_top c before mid (higher t)) ∙ now c mid at.1.goes at.1.runs passed in
         cc
 
-lacks_no_number : (apart : ℕ) (p : Passage) (recorded : Spans) (copies : List Placed) → IsTimely apart p → AreRecorded p recorded copies →
-    HasAll p recorded copies → Reaches p recorded → LacksNoNumber (arrivals_of copies)
+lacks_no_number : (apart : ℕ) (p : Passage) (recorded : Spans) (copies : List Placed) → PassesInTime apart p → AreRecorded p recorded copies →
+    HasAll p recorded copies → Reaches p recorded → LacksNoNumber (arrivals_by copies)
 lacks_no_number apart p recorded [] timely recs all reaches = record { neither = refl; jumps = refl; restarts = refl }
 lacks_no_number apart p recorded (y ∷ before) timely recs all reaches =
     record {
-      neither = (each_number recorded (arrivals_of copies)).neither ∙ ap (sum_by (numbers_with recorded Neither)) is
+      neither = (each_number recorded (arrivals_by copies)).neither ∙ ap (sum_by (numbers_with recorded Neither)) is
           ∙ sum_one (numbers_with recorded Neither) s 0
           (none_within (λ n. same_outcome Neither (outcome_of recorded s n)) (bottom_number s) (length_of s)
           (λ n above below. no_neither (came A n s) (came B n s) (is_beyond recorded A (first_time n s)) (is_beyond recorded B (first_time n s))
@@ -341,12 +346,12 @@ lacks_no_number apart p recorded (y ∷ before) timely recs all reaches =
     s : List Placed
     s = shifted d copies
 
-    is : stretches (arrivals_of copies) ≡ s ∷ []
+    is : stretches (arrivals_by copies) ≡ s ∷ []
     is = one.1.1
 
-    none : (jumps_of (arrivals_of copies) ≡ 0) × (restarts_of (arrivals_of copies) ≡ 0)
-    none = no_breaks (length (stretches (arrivals_of copies))) (jumps_of (arrivals_of copies)) (restarts_of (arrivals_of copies))
-        (each_break (arrival_of y) (arrivals_of before)) (ap length is)
+    none : (jumps_of (arrivals_by copies) ≡ 0) × (restarts_of (arrivals_by copies) ≡ 0)
+    none = no_breaks (length (stretches (arrivals_by copies))) (jumps_of (arrivals_by copies)) (restarts_of (arrivals_by copies))
+        (each_break (arrival_of y) (arrivals_by before)) (ap length is)
 
     low : (side : Side) × (came side (bottom_number s) s ≡ true)
     low = bottom_came (shift d y) (shifted d before)
@@ -376,7 +381,7 @@ lacks_no_number apart p recorded (y ∷ before) timely recs all reaches =
         not_there A = sym (came_back A n d copies) ∙ none_a
         not_there B = sym (came_back B n d copies) ∙ none_b
 
-by_both : (ra rb : Option Span) (apart : ℕ) (p : Passage) → IsTimely apart p → GoesPastBoth p → IsInOrder p → Overlap apart ra rb →
+by_both : (ra rb : Option Span) (apart : ℕ) (p : Passage) → PassesInTime apart p → GoesPastBoth p → IsSequential p → Overlap apart ra rb →
     Reaches p (record { a = ra; b = rb })
 by_both None rb apart p timely both order overlap = absurd overlap
 by_both (Some a) None apart p timely both order overlap = absurd overlap

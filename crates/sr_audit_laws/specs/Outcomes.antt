@@ -64,11 +64,11 @@ numbers_from least zero = []
 numbers_from least (suc k) = (least +ℤ pos k) ∷ numbers_from least k
 
 -- all numbers of a stretch, and how many of them have an outcome
-abbrev pub numbers_of : List Placed → List ℤ
-numbers_of s = numbers_from (bottom_number s) (length_of s)
+abbrev pub stretch_numbers : List Placed → List ℤ
+stretch_numbers s = numbers_from (bottom_number s) (length_of s)
 
 abbrev pub numbers_with : Spans → Outcome → List Placed → ℕ
-numbers_with spans o s = count_by (λ n. same_outcome o (outcome_of spans s n)) (numbers_of s)
+numbers_with spans o s = count_by (λ n. same_outcome o (outcome_of spans s n)) (stretch_numbers s)
 
 -- each figure of these arrivals is how many numbers have its outcome
 pub record TellsEachNumber (spans : Spans) (xs : List Arrival) : Type 0 where

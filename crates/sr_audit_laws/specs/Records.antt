@@ -22,12 +22,12 @@ pub record Passage : Type 0 where
 
 -- frames are sent in the order of their numbers, and pass each recorder so many nanoseconds behind that at most, which are less than
 -- 400 ms; fewer than 1024 numbers are in flight: one that lies 1023 further is sent when the frame has passed
-pub record IsTimely (apart : ℕ) (p : Passage) : Type 0 where
+pub record PassesInTime (apart : ℕ) (p : Passage) : Type 0 where
   pub in_turn : (m n : ℤ) → m ≤ℤ n → p.sent m ≤ p.sent n
   pub not_early : (side : Side) (n : ℤ) → p.goes side n ≡ true → p.sent n ≤ p.passes side n
   pub not_late : (side : Side) (n : ℤ) → p.goes side n ≡ true → p.passes side n ≤ p.sent n + apart
   pub soon : apart < epoch_gap
-  pub few : (side other : Side) (m n : ℤ) → p.goes side m ≡ true → p.goes other n ≡ true → (m +ℤ pos 1023) ≤ℤ n →
+  pub few : (side other : Side) (m n : ℤ) → p.goes side m ≡ true → p.goes other n ≡ true → (m +ℤ pos (kept_numbers - 1)) ≤ℤ n →
       p.sent m + apart < p.sent n
   pub in_time : (side : Side) (n : ℤ) → p.goes side n ≡ true → p.passes side n < 2 ^ 64 - 1
 
@@ -57,9 +57,9 @@ HasAll p recorded copies = (side : Side) (n : ℤ) → p.goes side n ≡ true �
     came side n copies ≡ true
 
 -- what the audit takes of copies: of each number the 16 bits that the frame carries
-abbrev pub arrivals_of : List Placed → List Arrival
-arrivals_of [] = []
-arrivals_of (y ∷ before) = record { side = y.side; seq = record { 0 = wire y.number }; time = y.time } ∷ arrivals_of before
+abbrev pub arrivals_by : List Placed → List Arrival
+arrivals_by [] = []
+arrivals_by (y ∷ before) = record { side = y.side; seq = record { 0 = wire y.number }; time = y.time } ∷ arrivals_by before
 
 -- each frame goes past both recorders
 abbrev pub GoesPastBoth : Passage → Type 0
@@ -71,7 +71,7 @@ LeavesOut apart recorded judged = (side : Side) (t u : ℕ) → t < 2 ^ 64 - 1 �
     u ≤ t + apart → is_beyond judged side t ≡ true
 
 -- the source numbers its frames one apart, and they pass a recorder in the order of their numbers
-pub record IsInOrder (p : Passage) : Type 0 where
+pub record IsSequential (p : Passage) : Type 0 where
   pub one_apart : (side : Side) (m k n : ℤ) → p.goes side m ≡ true → p.goes side n ≡ true → m ≤ℤ k → k ≤ℤ n → p.goes side k ≡ true
   pub in_order : (side : Side) (m n : ℤ) → p.goes side m ≡ true → p.goes side n ≡ true → m ≤ℤ n → p.passes side m ≤ p.passes side n
 
@@ -88,8 +88,8 @@ pub record TellsNoRepeat (xs : List Arrival) : Type 0 where
   pub late : count_in 6 (skews_of (stretches xs)) ≡ 0
 
 abbrev pub RecordsHaveNoRepeat : Type 0
-RecordsHaveNoRepeat = (apart : ℕ) (p : Passage) (recorded : Spans) (copies : List Placed) → IsTimely apart p →
-    AreRecorded p recorded copies → TellsNoRepeat (arrivals_of copies)
+RecordsHaveNoRepeat = (apart : ℕ) (p : Passage) (recorded : Spans) (copies : List Placed) → PassesInTime apart p →
+    AreRecorded p recorded copies → TellsNoRepeat (arrivals_by copies)
 
 -- no frame came by one side alone where the capture of the other side is judged
 pub record TellsNoLoss (judged : Spans) (xs : List Arrival) : Type 0 where
@@ -97,9 +97,9 @@ pub record TellsNoLoss (judged : Spans) (xs : List Arrival) : Type 0 where
   pub only_b : (tally_of (stretches xs)).alone.b - (edges_of judged (stretches xs)).b ≡ 0
 
 abbrev pub RecordsHaveNoLoss : Type 0
-RecordsHaveNoLoss = (apart : ℕ) (p : Passage) (recorded judged : Spans) (copies : List Placed) → IsTimely apart p →
+RecordsHaveNoLoss = (apart : ℕ) (p : Passage) (recorded judged : Spans) (copies : List Placed) → PassesInTime apart p →
     AreRecorded p recorded copies → HasAll p recorded copies → GoesPastBoth p → LeavesOut apart recorded judged →
-    TellsNoLoss judged (arrivals_of copies)
+    TellsNoLoss judged (arrivals_by copies)
 
 -- each number from one that goes past a recorder to another goes past one
 abbrev pub GoesPastOne : Passage → Type 0
@@ -107,13 +107,13 @@ GoesPastOne p = (side other : Side) (m k n : ℤ) → p.goes side m ≡ true →
     (c : Side) × (p.goes c k ≡ true)
 
 -- both recorders run from one time to another, and no frame passes them so near these
-pub record IsQuietAt (apart : ℕ) (p : Passage) (span : Span) (side : Side) (n : ℤ) : Type 0 where
+pub record IsFarFromEnds (apart : ℕ) (p : Passage) (span : Span) (side : Side) (n : ℤ) : Type 0 where
   pub begins : span.first + apart ≤ p.passes side n
   pub ends : p.passes side n + apart ≤ span.last
 
 abbrev pub AreQuietEdges : ℕ → Passage → Spans → Span → Type 0
 AreQuietEdges apart p recorded span = (recorded ≡ record { a = Some span; b = Some span })
-    × ((side : Side) (n : ℤ) → p.goes side n ≡ true → is_beyond recorded side (p.passes side n) ≡ false → IsQuietAt apart p span side n)
+    × ((side : Side) (n : ℤ) → p.goes side n ≡ true → is_beyond recorded side (p.passes side n) ≡ false → IsFarFromEnds apart p span side n)
 
 -- no number was of no frame, and all copies are of one stretch
 pub record LacksNoNumber (xs : List Arrival) : Type 0 where
@@ -122,11 +122,11 @@ pub record LacksNoNumber (xs : List Arrival) : Type 0 where
   pub restarts : restarts_of xs ≡ 0
 
 abbrev pub RecordsLackNoNumber : Type 0
-RecordsLackNoNumber = (apart : ℕ) (p : Passage) (recorded : Spans) (copies : List Placed) → IsTimely apart p →
-    AreRecorded p recorded copies → HasAll p recorded copies → GoesPastBoth p → IsInOrder p → Overlap apart recorded.a recorded.b →
-    LacksNoNumber (arrivals_of copies)
+RecordsLackNoNumber = (apart : ℕ) (p : Passage) (recorded : Spans) (copies : List Placed) → PassesInTime apart p →
+    AreRecorded p recorded copies → HasAll p recorded copies → GoesPastBoth p → IsSequential p → Overlap apart recorded.a recorded.b →
+    LacksNoNumber (arrivals_by copies)
 
 abbrev pub RingRecordsLackNoNumber : Type 0
-RingRecordsLackNoNumber = (apart : ℕ) (p : Passage) (recorded : Spans) (span : Span) (copies : List Placed) → IsTimely apart p →
+RingRecordsLackNoNumber = (apart : ℕ) (p : Passage) (recorded : Spans) (span : Span) (copies : List Placed) → PassesInTime apart p →
     AreRecorded p recorded copies → HasAll p recorded copies → GoesPastOne p → AreQuietEdges apart p recorded span →
-    LacksNoNumber (arrivals_of copies)
+    LacksNoNumber (arrivals_by copies)

@@ -16,13 +16,13 @@ use Rattle.sr_audit.specs.Stretches.{Placed, stretches}
 use Rattle.sr_audit_laws.specs.Outcomes.{Paired, OnlyA, OnlyB, EdgeA, EdgeB, Neither, numbers_with}
 use Rattle.sr_audit_laws.specs.Records.{
   Passage,
-  IsTimely,
+  PassesInTime,
   AreRecorded,
   HasAll,
-  arrivals_of,
+  arrivals_by,
   GoesPastBoth,
   LeavesOut,
-  IsInOrder,
+  IsSequential,
   Overlap,
 }
 
@@ -42,23 +42,23 @@ AuditsCountEachNumber = (spans : Spans) (sent : List Sent) (entries : List (Mac 
     CountsEachNumber spans (of m sent) (figures_of s)
 
 -- arrivals of a source have a true numbering: they are copies of frames that pass the recorders in time
-pub record IsNumbered (apart : ℕ) (recorded : Spans) (xs : List Arrival) : Type 0 where
+pub record HasTrueNumbering (apart : ℕ) (recorded : Spans) (xs : List Arrival) : Type 0 where
   pub frames : Passage
   pub copies : List Placed
-  pub arrivals : arrivals_of copies ≡ xs
-  pub timely : IsTimely apart frames
+  pub arrivals : arrivals_by copies ≡ xs
+  pub timely : PassesInTime apart frames
   pub are_recorded : AreRecorded frames recorded copies
 
 -- each frame goes past both recorders, and each of these has all that passes it while it runs
 pub record IsSeenByBoth (apart : ℕ) (recorded : Spans) (xs : List Arrival) : Type 0 where
-  pub numbered : IsNumbered apart recorded xs
+  pub numbered : HasTrueNumbering apart recorded xs
   pub has_all : HasAll numbered.frames recorded numbered.copies
   pub past_both : GoesPastBoth numbered.frames
 
--- and the source numbers them one apart
+-- beside that the source numbers them one apart, and both recorders run together
 pub record IsSeenWhole (apart : ℕ) (recorded : Spans) (xs : List Arrival) : Type 0 where
   pub seen : IsSeenByBoth apart recorded xs
-  pub in_order : IsInOrder seen.numbered.frames
+  pub in_order : IsSequential seen.numbered.frames
   pub overlap : Overlap apart recorded.a recorded.b
 
 -- where each source is seen whole, no figure of any tells of a fault

@@ -1,6 +1,6 @@
 //! Laws of audits: beside runs of a table of duplicate records, of each number of a source, and of the captures of a flawless network.
 
-ghost use Rattle.sr_audit_laws.specs.Cases.{ThreeFramesMeetThePremises, TellsWhatIsLost};
+ghost use Rattle.sr_audit_laws.specs.Cases.{ThreeFramesMeetThePremises, RingFramesMeetThePremises, TellsWhatIsLost};
 ghost use Rattle.sr_audit_laws.specs.Exactly.{FiguresAreByArrivals, TestsAreByArrivals};
 ghost use Rattle.sr_audit_laws.specs.Outcomes.{EachNumberIsTold, EachBreakIsTold};
 ghost use Rattle.sr_audit_laws.specs.Records.{RecordsHaveNoRepeat, RecordsHaveNoLoss, RecordsLackNoNumber, RingRecordsLackNoNumber};
@@ -75,7 +75,12 @@ pub fn three_frames_meet_the_premises()
     ensures { ThreeFramesMeetThePremises }
 {}
 
-/// Of the same copies without one of them, a frame is told as lost by a side; without both of a frame, a number as one of no frame; and
+/// Three frames of a ring, two of which pass one recorder alone, meet what the law of rings asks for.
+pub fn ring_frames_meet_the_premises()
+    ensures { RingFramesMeetThePremises }
+{}
+
+/// Of the copies of the first three without one of them, a frame is told as lost by a side; without both of a frame, a number as one of no frame; and
 /// with one that came twice, a repeat.
 pub fn what_is_lost_is_told()
     ensures { TellsWhatIsLost }

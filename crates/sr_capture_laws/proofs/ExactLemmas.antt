@@ -27,8 +27,8 @@ use Rattle.sr_capture_audit.specs.Edging.{tells_of_lost, tells_of_missing}
 use Rattle.sr_capture_audit.specs.Faults.{shows_lost, have_lost, shows_missing, have_missing, lost_told, missing_told, have_faults, judged_have_lost, counters_have_missing, has_faults}
 use Rattle.sr_capture_audit.specs.Hints.{are_swapped}
 use Rattle.sr_capture_audit.specs.Judging.{shows_pairs, has_pairs, are_cut, reason_of, judged, network_judgement, check_status}
-use Rattle.sr_capture_laws.specs.Exact.{lost_by, missing_by, paired_by, without_lost, without_missing, tells_beside, has_all_sent, faults_by, reason_by, judged_by, judgement_by, ChecksAreByArrivals}
-use Rattle.sr_capture_laws.specs.Judged.{with_counters_if, with_judged_if, judged_report, IsOwn}
+use Rattle.sr_capture_laws.specs.Exact.{lost_among, missing_among, paired_among, without_lost, without_missing, tells_beside, has_all_sent, faults_by, reason_by, judged_by, judgement_by, ChecksAreByArrivals}
+use Rattle.sr_capture_laws.specs.Judged.{with_counters_if, with_judged_if, judged_report, IsByItself}
 
 -- no arrival tells of anything
 beside_none : (spans : Spans) (lost missing : Bool) → tells_beside lost missing (figures_by spans []) ≡ false
@@ -68,19 +68,19 @@ checks_are judged_spans subject xs r counters sight frames by_counter by_flow to
         list_any (λ e. test (figures_of e.1)) r.audit.sources.entries ≡ some_source test judged_spans sent
     tested test none = tests_are test judged_spans sent r.audit.sources.entries has none
 
-    lost_is : tells_of_lost r ≡ lost_by judged_spans sent
+    lost_is : tells_of_lost r ≡ lost_among judged_spans sent
     lost_is = tested shows_lost refl
 
-    missing_is : tells_of_missing r ≡ missing_by judged_spans sent
+    missing_is : tells_of_missing r ≡ missing_among judged_spans sent
     missing_is = tested shows_missing refl
 
-    pairs_is : has_pairs r ≡ paired_by judged_spans sent
+    pairs_is : has_pairs r ≡ paired_among judged_spans sent
     pairs_is = tested shows_pairs refl
 
-    frames_is : tells_of_lost r ≡ true → have_lost frames ≡ lost_by judged_spans by_flow
+    frames_is : tells_of_lost r ≡ true → have_lost frames ≡ lost_among judged_spans by_flow
     frames_is e = tests_are shows_lost judged_spans by_flow frames.sources.entries (has_frames e) refl
 
-    counters_is : tells_of_missing r ≡ true → have_missing counters ≡ missing_by judged_spans by_counter
+    counters_is : tells_of_missing r ≡ true → have_missing counters ≡ missing_among judged_spans by_counter
     counters_is e = tests_are shows_missing judged_spans by_counter counters.sources.entries (has_counters e) refl
 
     beside : (l m : Bool) → list_any (λ e. tells_beside l m (figures_of e.1)) r.audit.sources.entries
@@ -89,7 +89,7 @@ checks_are judged_spans subject xs r counters sight frames by_counter by_flow to
 
     -- the same by whether frames were lost, and numbers missing
     faults_if : Bool → Bool → Bool
-    faults_if l m = have_faults counts || ((l && lost_by judged_spans by_flow) || ((m && (has_all_sent sight && missing_by judged_spans by_counter))
+    faults_if l m = have_faults counts || ((l && lost_among judged_spans by_flow) || ((m && (has_all_sent sight && missing_among judged_spans by_counter))
         || some_source (tells_beside l m) judged_spans sent))
 
     with_own : (j : Option Audit) (s : Sight) (c : Option Audit) (b d l m : Bool) → judged_have_lost j ≡ b → counters_have_missing s c ≡ d →
@@ -102,12 +102,12 @@ checks_are judged_spans subject xs r counters sight frames by_counter by_flow to
     faults : (l m : Bool) → tells_of_lost r ≡ l → tells_of_missing r ≡ m →
         has_faults (with_judged_if l frames (with_counters_if m counters sight r)) ≡ faults_if l m
     faults true true is_l is_m = with_own (Some frames) sight (Some counters) _ _ true true (frames_is is_l)
-        (some_with sight counters (missing_by judged_spans by_counter) (counters_is is_m)) refl
+        (some_with sight counters (missing_among judged_spans by_counter) (counters_is is_m)) refl
     faults true false is_l is_m = ap (faults_with r (Some frames) r.sight) own.no_counters
         ∙ with_own (Some frames) r.sight None _ _ true false (frames_is is_l) (none_with r.sight) refl
     faults false true is_l is_m = ap (λ j. faults_with r j sight (Some counters)) own.no_judged
         ∙ with_own None sight (Some counters) _ _ false true refl
-        (some_with sight counters (missing_by judged_spans by_counter) (counters_is is_m)) refl
+        (some_with sight counters (missing_among judged_spans by_counter) (counters_is is_m)) refl
     faults false false is_l is_m = ap (λ j. faults_with r j r.sight r.counters) own.no_judged
         ∙ ap (faults_with r None r.sight) own.no_counters
         ∙ with_own None r.sight None _ _ false false refl (none_with r.sight) refl
@@ -141,4 +141,4 @@ checks_are judged_spans subject xs r counters sight frames by_counter by_flow to
         (judged_is (reason_of q) q (faults_if l m) (faults l m is_l is_m)
         ∙ ap (λ o. judged_by o (faults_if l m)) (same_reason l m ∙ reason_is)
         ∙ ap (λ b. judged_by (reason_by counts judged_spans sent) (faults_if b m)) (sym is_l ∙ lost_is)
-        ∙ ap (λ b. judged_by (reason_by counts judged_spans sent) (faults_if (lost_by judged_spans sent) b)) (sym is_m ∙ missing_is))
+        ∙ ap (λ b. judged_by (reason_by counts judged_spans sent) (faults_if (lost_among judged_spans sent) b)) (sym is_m ∙ missing_is))

@@ -22,7 +22,7 @@ use Rattle.sr_audit.specs.Shown.{figures_of}
 use Rattle.sr_audit.specs.Stretches.{stretches}
 use Rattle.sr_audit.specs.Taken.{HasTaken}
 use Rattle.sr_audit_laws.specs.Records.{LeavesOut, TellsNoRepeat, TellsNoLoss, LacksNoNumber}
-use Rattle.sr_audit_laws.specs.Sources.{IsNumbered, IsSeenByBoth, IsSeenWhole}
+use Rattle.sr_audit_laws.specs.Sources.{HasTrueNumbering, IsSeenByBoth, IsSeenWhole}
 use Rattle.sr_audit_laws.proofs.ExactLemmas.{few_of, found_passes}
 use Rattle.sr_audit_laws.proofs.FigureLemmas.{tally_is, neither_is, late_is, entry_taken, none_passes, numbered_no_repeat, both_no_loss, whole_lacks_none, figures_lost, repeats_none}
 use Rattle.sr_audit_laws.proofs.UnbrokenLemmas.{no_ring_number_lacks}
@@ -38,7 +38,7 @@ use Rattle.sr_capture_audit.specs.Faults.{shows_lost, have_lost, shows_missing, 
 use Rattle.sr_capture_audit.specs.Ruling.{ruled_in, IsRuledOf}
 use Rattle.sr_capture_laws.specs.Judged.{with_counters_if, with_judged_if, judged_report, IsNotFaulty}
 use Rattle.sr_capture_laws.specs.Lossless.{
-  IsWithin,
+  IsExactAudit,
   IsOfNumbered,
   IsOfBoth,
   IsSeenInRing,
@@ -83,7 +83,7 @@ few_sent : (n : ℕ) → n ≤ exact_arrivals → n < 2 ^ 64
 few_sent n le = omega (arith, le)
 
 -- what an audit of frames that both recorders see tells
-both_lost_none : (apart : ℕ) (recorded judged : Spans) (sent : List Sent) (audit : Audit) → IsWithin sent audit →
+both_lost_none : (apart : ℕ) (recorded judged : Spans) (sent : List Sent) (audit : Audit) → IsExactAudit sent audit →
     Audits judged sent audit.sources.entries → ((m : Mac) → IsSeenByBoth apart recorded (of m sent)) → LeavesOut apart recorded judged →
     have_lost audit ≡ false
 both_lost_none apart recorded judged sent audit within audits seen leaves =
@@ -91,7 +91,7 @@ both_lost_none apart recorded judged sent audit within audits seen leaves =
     (λ m s found. figures_lost judged (of m sent) s (entry_taken judged sent audit.sources.entries m s audits found)
     (both_no_loss apart recorded judged (of m sent) (seen m) leaves))
 
-whole_missing_none : (judged : Spans) (sent : List Sent) (audit : Audit) → IsWithin sent audit → Audits judged sent audit.sources.entries →
+whole_missing_none : (judged : Spans) (sent : List Sent) (audit : Audit) → IsExactAudit sent audit → Audits judged sent audit.sources.entries →
     ((m : Mac) → LacksNoNumber (of m sent)) → have_missing audit ≡ false
 whole_missing_none judged sent audit within audits lacks =
     none_passes (λ s. shows_missing (figures_of s)) audit.sources.entries within.once
@@ -141,8 +141,8 @@ silent apart recorded judged subject xs r lost missing frames counters sight is 
         let repeats = repeats_none judged mine s taken none in
         own_quiet (figures_of s) j c
         (λ e. let parts = or_parts (nat_lt 0 ((figures_of s).tally.alone.a - (figures_of s).edges.a))
-            (nat_lt 0 ((figures_of s).tally.alone.b - (figures_of s).edges.b)) (none_lost e m s found) in
-            (no_more _ parts.0, no_more _ parts.1))
+        (nat_lt 0 ((figures_of s).tally.alone.b - (figures_of s).edges.b)) (none_lost e m s found) in
+        (no_more _ parts.0, no_more _ parts.1))
         (λ e. no_more _ (none_missing e m s found)) repeats.0 repeats.1 (late_is judged mine s exact taken ∙ none.late)
 
     no_some : (a : Audit) (o : Option Audit) → o ≡ Some a → o ≡ None → ⊥

@@ -23,17 +23,17 @@ use Rattle.sr_capture_audit.specs.Edging.{tells_of_lost, tells_of_missing}
 use Rattle.sr_capture_audit.specs.Faults.{shows_lost, shows_missing, have_faults}
 use Rattle.sr_capture_audit.specs.Hints.{are_swapped}
 use Rattle.sr_capture_audit.specs.Judging.{shows_pairs, are_cut, network_judgement, check_status}
-use Rattle.sr_capture_laws.specs.Judged.{judged_report, IsOwn}
+use Rattle.sr_capture_laws.specs.Judged.{judged_report, IsByItself}
 
 -- frames came by one side alone, numbers by none, and frames by both
-abbrev pub lost_by : Spans → List Sent → Bool
-lost_by spans sent = some_source shows_lost spans sent
+abbrev pub lost_among : Spans → List Sent → Bool
+lost_among spans sent = some_source shows_lost spans sent
 
-abbrev pub missing_by : Spans → List Sent → Bool
-missing_by spans sent = some_source shows_missing spans sent
+abbrev pub missing_among : Spans → List Sent → Bool
+missing_among spans sent = some_source shows_missing spans sent
 
-abbrev pub paired_by : Spans → List Sent → Bool
-paired_by spans sent = some_source shows_pairs spans sent
+abbrev pub paired_among : Spans → List Sent → Bool
+paired_among spans sent = some_source shows_pairs spans sent
 
 -- the figures of a source, where other frames tell of those that one side lost, and counters of numbers of no frame
 abbrev pub without_lost : Bool → Figures → Figures
@@ -54,9 +54,9 @@ has_all_sent Part = false
 -- the arrivals of all sources, those that are judged, and those of the counters, tell of a fault
 abbrev pub faults_by : Counts → Spans → List Sent → List Sent → List Sent → Sight → Bool
 faults_by counts spans sent frames counters sight =
-    have_faults counts || ((lost_by spans sent && lost_by spans frames)
-    || ((missing_by spans sent && (has_all_sent sight && missing_by spans counters))
-    || some_source (tells_beside (lost_by spans sent) (missing_by spans sent)) spans sent))
+    have_faults counts || ((lost_among spans sent && lost_among spans frames)
+    || ((missing_among spans sent && (has_all_sent sight && missing_among spans counters))
+    || some_source (tells_beside (lost_among spans sent) (missing_among spans sent)) spans sent))
 
 -- why nothing can be judged
 abbrev pub reason_by : Counts → Spans → List Sent → Option Reason
@@ -65,7 +65,7 @@ reason_by counts spans sent =
     else if not (nat_lt 0 counts.a.numbered) then Some (reason.Unnumbered A)
     else if not (nat_lt 0 counts.b.numbered) then Some (reason.Unnumbered B)
     else if are_swapped counts then Some reason.Swapped
-    else if paired_by spans sent then None else Some reason.Unpaired
+    else if paired_among spans sent then None else Some reason.Unpaired
 
 abbrev pub judged_by : Option Reason → Bool → Judgement
 judged_by (Some why) faults = Unjudged why
@@ -78,7 +78,7 @@ judgement_by counts spans sent frames counters sight =
 -- the report that the program judges is judged so, and a check ends with 0, 3 or 4 by it
 abbrev pub ChecksAreByArrivals : Type 0
 ChecksAreByArrivals = (judged : Spans) (subject : Subject) (xs : List Handed) (r : Report) (counters : Audit) (sight : Sight)
-    (frames : Audit) (by_counter by_flow : List Sent) (told : IsReportOf subject judged xs r) → IsOwn r →
+    (frames : Audit) (by_counter by_flow : List Sent) (told : IsReportOf subject judged xs r) → IsByItself r →
     HasEachSource judged (sent_in told.seen) r.audit.sources.entries →
     (tells_of_lost r ≡ true → HasEachSource judged by_flow frames.sources.entries) →
     (tells_of_missing r ≡ true → HasEachSource judged by_counter counters.sources.entries) →

@@ -33,7 +33,7 @@ judged_report r counters sight judged =
     with_judged_if (tells_of_lost r) judged (with_counters_if (tells_of_missing r) counters sight r)
 
 -- a report with no other audit yet
-pub record IsOwn (r : Report) : Type 0 where
+pub record IsByItself (r : Report) : Type 0 where
   pub no_judged : r.judged ≡ None
   pub no_counters : r.counters ≡ None
 

@@ -11,7 +11,7 @@ use Rattle.sr_audit.specs.declared.span.Spans.{Spans}
 use Rattle.sr_audit.specs.Audits.{Sent, of}
 use Rattle.sr_audit.specs.Limits.{exact_arrivals}
 use Rattle.sr_audit_laws.specs.Records.{HasAll, GoesPastOne, AreQuietEdges, LeavesOut}
-use Rattle.sr_audit_laws.specs.Sources.{IsNumbered, IsSeenByBoth, IsSeenWhole}
+use Rattle.sr_audit_laws.specs.Sources.{HasTrueNumbering, IsSeenByBoth, IsSeenWhole}
 use Rattle.sr_capture_script.specs.Passing.{Handed}
 use Rattle.sr_capture_audit.specs.declared.figures.Report.{Report}
 use Rattle.sr_capture_audit.specs.declared.flows.Sight.{Sight}
@@ -21,30 +21,31 @@ use Rattle.sr_capture_audit.specs.declared.ruling.Rule.{Rule}
 use Rattle.sr_capture_audit.specs.Auditing.{sent_in, IsReportOf}
 use Rattle.sr_capture_audit.specs.Edging.{inner_spans, tells_of_lost, tells_of_missing}
 use Rattle.sr_capture_audit.specs.Ruling.{ruled_in, IsRuledOf}
-use Rattle.sr_capture_laws.specs.Judged.{judged_report, IsOwn, have_astray, IsNotFaulty}
+use Rattle.sr_capture_laws.specs.Judged.{judged_report, IsByItself, have_astray, IsNotFaulty}
 
 -- an audit has each address once, and takes up to 2^53 arrivals
-pub record IsWithin (sent : List Sent) (audit : Audit) : Type 0 where
+pub record IsExactAudit (sent : List Sent) (audit : Audit) : Type 0 where
   pub once : IsDistinct mac_eq (keys_of audit.sources.entries)
   pub few : length sent ≤ exact_arrivals
 
 -- the report of packets of which none was sent astray, and whose sources have a true numbering
 pub record IsOfNumbered (apart : ℕ) (recorded judged : Spans) (subject : Subject) (xs : List Handed) (r : Report) : Type 0 where
   pub told : IsReportOf subject judged xs r
-  pub own : IsOwn r
-  pub within : IsWithin (sent_in told.seen) r.audit
+  pub own : IsByItself r
+  pub within : IsExactAudit (sent_in told.seen) r.audit
   pub none_astray : have_astray told.seen ≡ false
-  pub numbered : (m : Mac) → IsNumbered apart recorded (of m (sent_in told.seen))
+  pub numbered : (m : Mac) → HasTrueNumbering apart recorded (of m (sent_in told.seen))
 
 -- an audit under a rule, of frames of which each goes past both recorders
-pub record IsOfBoth (apart : ℕ) (recorded judged : Spans) (rule : Rule) (subject : Subject) (xs : List Handed) (audit : Audit) : Type 0 where
-  pub told : IsRuledOf rule subject judged xs audit
-  pub within : IsWithin (ruled_in rule judged told.seen) audit
-  pub seen : (m : Mac) → IsSeenByBoth apart recorded (of m (ruled_in rule judged told.seen))
+pub record IsOfBoth (apart : ℕ) (recorded judged : Spans) (rule : Rule) (subject : Subject) (xs : List Handed) (audit : Audit) : Type 0
+  where
+    pub told : IsRuledOf rule subject judged xs audit
+    pub within : IsExactAudit (ruled_in rule judged told.seen) audit
+    pub seen : (m : Mac) → IsSeenByBoth apart recorded (of m (ruled_in rule judged told.seen))
 
 -- the frames of a counter that came while both recorders ran, of a ring in which each goes past one of them at least, none near the edges
 pub record IsSeenInRing (apart : ℕ) (ran : Spans) (xs : List Arrival) : Type 0 where
-  pub numbered : IsNumbered apart ran xs
+  pub numbered : HasTrueNumbering apart ran xs
   pub has_all : HasAll numbered.frames ran numbered.copies
   pub past_one : GoesPastOne numbered.frames
   pub span : Span
@@ -54,7 +55,7 @@ pub record IsSeenInRing (apart : ℕ) (ran : Spans) (xs : List Arrival) : Type 0
 pub record IsOfWhole (apart : ℕ) (recorded ran judged : Spans) (rule : Rule) (subject : Subject) (xs : List Handed) (audit : Audit) : Type 0
   where
     pub told : IsRuledOf rule subject judged xs audit
-    pub within : IsWithin (ruled_in rule judged told.seen) audit
+    pub within : IsExactAudit (ruled_in rule judged told.seen) audit
     pub seen : (m : Mac) → IsSeenWhole apart recorded (of m (ruled_in rule judged told.seen))
         ⊎ IsSeenInRing apart ran (of m (ruled_in rule judged told.seen))
 
