@@ -9,7 +9,7 @@ use Rattle.sr_audit.specs.declared.side.Side.{Side}
 use Rattle.sr_audit.specs.declared.side.Side.TheVariants.{A, B}
 use Rattle.sr_audit.specs.Edges.{is_beyond}
 use Rattle.sr_audit.specs.Stretches.{came}
-use Rattle.sr_audit_laws.specs.Records.{Passage, PassesInTime, AreRecorded, HasAll, GoesPastBoth, LeavesOut, IsSequential, GoesPastOne, IsFarFromEnds, AreQuietEdges}
+use Rattle.sr_audit_laws.specs.Records.{PassesInTime, AreRecorded, HasAll, GoesPastBoth, LeavesOut, IsSequential, GoesPastOne, IsFarFromEnds, AreQuietEdges}
 use Rattle.sr_audit_laws.specs.Cases.{three_sent, three_pass, three_frames, three_recorded, three_judged, three_copies, ThreeFramesMeetThePremises, ring_goes, ring_frames, ring_span, ring_recorded, ring_copies, RingFramesMeetThePremises, TellsWhatIsLost}
 
 -- one of three numbers

@@ -51,7 +51,8 @@ placed_at side n time = record { side = side; number = n; time = time }
 
 -- what they have, newest first
 abbrev pub three_copies : List Placed
-three_copies = placed_at B (pos 9) 32 ∷ placed_at A (pos 9) 30 ∷ placed_at B (pos 8) 22 ∷ placed_at A (pos 8) 20 ∷ placed_at A (pos 7) 10 ∷ []
+three_copies =
+    placed_at B (pos 9) 32 ∷ placed_at A (pos 9) 30 ∷ placed_at B (pos 8) 22 ∷ placed_at A (pos 8) 20 ∷ placed_at A (pos 7) 10 ∷ []
 
 pub record MeetsThePremises (apart : ℕ) (p : Passage) (recorded judged : Spans) (copies : List Placed) : Type 0 where
   pub timely : PassesInTime apart p

@@ -1,6 +1,6 @@
 -- Frames that no recorder has are counted.
-use Rattle.std.proofs.Common.{◌≡◌, ℕ, ◌<◌, ◌≤◌, ◌^◌, Bool, true, false, ◌||◌, List, length, Option, None, Some, arith, refl, sym, ap, ◌∙◌}
-use Rattle.std.specs.Prelude.{nat_lt, sum_by}
+use Rattle.std.proofs.Common.{◌≡◌, ℕ, ◌<◌, ◌≤◌, ◌^◌, Bool, true, false, ◌||◌, List, length, Some, arith, refl, ap, ◌∙◌}
+use Rattle.std.specs.Prelude.{sum_by}
 use Rattle.std.specs.List.{list_any}
 use Rattle.std.specs.Map.{lookup}
 use Rattle.std.proofs.lemmas.Bool.{lt-ltb}
@@ -19,8 +19,7 @@ use Rattle.sr_audit_laws.specs.Sources.{CountsEachNumber}
 use Rattle.sr_audit_laws.proofs.ExactLemmas.{few_of, found_passes}
 use Rattle.sr_audit_laws.proofs.FigureLemmas.{counts_each}
 use Rattle.sr_capture_audit.specs.declared.figures.Report.{Report}
-use Rattle.sr_capture_audit.specs.declared.flows.Sight.{Sight}
-use Rattle.sr_capture_audit.specs.declared.flows.Sight.TheVariants.{All, Part}
+use Rattle.sr_capture_audit.specs.declared.flows.Sight.TheVariants.{All}
 use Rattle.sr_capture_audit.specs.Auditing.{sent_in}
 use Rattle.sr_capture_audit.specs.Faults.{shows_missing, have_missing, have_faults, judged_have_lost, counters_have_missing, own_figures, has_faults}
 use Rattle.sr_capture_audit.specs.Ruling.{ruled_in}

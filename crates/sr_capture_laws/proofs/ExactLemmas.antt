@@ -1,5 +1,5 @@
 -- A check is judged by arrivals.
-use Rattle.std.proofs.Common.{◌≡◌, ℕ, Bool, true, false, cond, not, ◌&&◌, ◌||◌, List, [], Option, None, Some, refl, sym, ap, ◌∙◌}
+use Rattle.std.proofs.Common.{◌≡◌, Bool, true, false, cond, not, ◌&&◌, ◌||◌, List, [], Option, None, Some, refl, sym, ap, ◌∙◌}
 use Rattle.std.specs.Prelude.{nat_lt}
 use Rattle.std.specs.List.{list_any}
 use Rattle.sr_audit.specs.declared.audit.Audit.{Audit}
@@ -9,26 +9,23 @@ use Rattle.sr_audit.specs.declared.span.Spans.{Spans}
 use Rattle.sr_audit.specs.Audits.{Sent}
 use Rattle.sr_audit.specs.Faults.{tells_of_faults}
 use Rattle.sr_audit.specs.Shown.{figures_of}
-use Rattle.sr_audit_laws.specs.Exactly.{figures_by, some_source, HasEachSource}
+use Rattle.sr_audit_laws.specs.Exactly.{figures_by, some_source}
 use Rattle.sr_audit_laws.proofs.ExactLemmas.{tests_are}
-use Rattle.sr_capture_script.specs.Passing.{Handed}
 use Rattle.sr_capture_audit.specs.declared.counts.Counts.{Counts}
 use Rattle.sr_capture_audit.specs.declared.figures.Report.{Report}
 use Rattle.sr_capture_audit.specs.declared.flows.Sight.{Sight}
 use Rattle.sr_capture_audit.specs.declared.flows.Sight.TheVariants.{All, Part}
-use Rattle.sr_capture_audit.specs.declared.judgement.Judgement.{Judgement}
 use Rattle.sr_capture_audit.specs.declared.judgement.Judgement.TheVariants.{Sound, Faulty}
 use Rattle.sr_capture_audit.specs.declared.judgement.Reason.{Reason}
 use Rattle.sr_capture_audit.specs.declared.judgement.Reason.TheVariants as reason
-use Rattle.sr_capture_audit.specs.declared.network.Subject.{Subject}
-use Rattle.sr_capture_audit.specs.Auditing.{sent_in, IsReportOf}
+use Rattle.sr_capture_audit.specs.Auditing.{sent_in}
 use Rattle.sr_capture_audit.specs.Counting.{all_figures}
 use Rattle.sr_capture_audit.specs.Edging.{tells_of_lost, tells_of_missing}
 use Rattle.sr_capture_audit.specs.Faults.{shows_lost, have_lost, shows_missing, have_missing, lost_told, missing_told, have_faults, judged_have_lost, counters_have_missing, has_faults}
 use Rattle.sr_capture_audit.specs.Hints.{are_swapped}
 use Rattle.sr_capture_audit.specs.Judging.{shows_pairs, has_pairs, are_cut, reason_of, judged, network_judgement, check_status}
-use Rattle.sr_capture_laws.specs.Exact.{lost_among, missing_among, paired_among, without_lost, without_missing, tells_beside, has_all_sent, faults_by, reason_by, judged_by, judgement_by, ChecksAreByArrivals}
-use Rattle.sr_capture_laws.specs.Judged.{with_counters_if, with_judged_if, judged_report, IsByItself}
+use Rattle.sr_capture_laws.specs.Exact.{lost_among, missing_among, paired_among, tells_beside, has_all_sent, reason_by, judged_by, judgement_by, ChecksAreByArrivals}
+use Rattle.sr_capture_laws.specs.Judged.{with_counters_if, with_judged_if}
 
 -- no arrival tells of anything
 beside_none : (spans : Spans) (lost missing : Bool) → tells_beside lost missing (figures_by spans []) ≡ false

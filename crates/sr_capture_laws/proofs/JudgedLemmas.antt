@@ -1,15 +1,13 @@
 -- What a report is judged by.
-use Rattle.std.proofs.Common.{◌≡◌, ℕ, ◌+◌, ◌-◌, ◌^◌, Bool, true, false, cond, not, ◌||◌, ◌⊎◌, List, [], ◌∷◌, Option, None, Some, min, arith, refl, sym, ap, ◌∙◌, inl, inr}
-use Rattle.std.specs.Prelude.{nat_lt, filter, count_by, sum_by}
-use Rattle.std.specs.List.{IsDistinct, list_any}
+use Rattle.std.proofs.Common.{◌≡◌, ℕ, ◌-◌, Bool, false, cond, not, ◌||◌, ◌⊎◌, List, [], ◌∷◌, Option, None, Some, arith, refl, ap, ◌∙◌, inl, inr}
+use Rattle.std.specs.Prelude.{nat_lt, filter, count_by}
+use Rattle.std.specs.List.{IsDistinct}
 use Rattle.std.specs.Map.{lookup, keys_of}
 use Rattle.std.proofs.lemmas.Bool.{or_parts}
 use Rattle.std.proofs.lemmas.List.Filters.{sum_by-filter_both}
 use Rattle.std.proofs.lemmas.List.Sums.{sum_by-cons}
 use Rattle.sr_frame.specs.declared.fields.Mac.{Mac}
 use Rattle.sr_frame.specs.Addresses.{mac_eq}
-use Rattle.sr_audit.specs.declared.side.Side.{Side}
-use Rattle.sr_audit.specs.declared.side.Side.TheVariants.{A, B}
 use Rattle.sr_audit.specs.declared.audit.Audit.{Audit}
 use Rattle.sr_audit.specs.declared.source.Figures.{Figures}
 use Rattle.sr_audit.specs.declared.source.Source.{Source}
@@ -18,10 +16,9 @@ use Rattle.sr_audit.specs.Shown.{figures_of}
 use Rattle.sr_audit_laws.proofs.FigureLemmas.{none_passes, quiet}
 use Rattle.sr_capture_audit.specs.declared.counts.Counts.{Counts}
 use Rattle.sr_capture_audit.specs.declared.figures.Report.{Report}
-use Rattle.sr_capture_audit.specs.declared.judgement.Judgement.{Judgement}
-use Rattle.sr_capture_audit.specs.declared.judgement.Judgement.TheVariants.{Sound, Faulty, Unjudged}
+use Rattle.sr_capture_audit.specs.declared.judgement.Judgement.TheVariants.{Sound, Faulty}
 use Rattle.sr_capture_audit.specs.declared.judgement.Reason.{Reason}
-use Rattle.sr_capture_audit.specs.Counting.{Seen, names_other_lan, is_misfit_packet, number_with, seen_at, all_figures}
+use Rattle.sr_capture_audit.specs.Counting.{Seen, names_other_lan, is_misfit_packet, number_with, all_figures}
 use Rattle.sr_capture_audit.specs.Faults.{have_faults, lost_told, missing_told, own_figures, judged_have_lost, counters_have_missing, has_faults}
 use Rattle.sr_capture_audit.specs.Judging.{reason_of, judged, network_judgement, check_status}
 use Rattle.sr_capture_laws.specs.Judged.{is_astray, have_astray, IsNotFaulty}

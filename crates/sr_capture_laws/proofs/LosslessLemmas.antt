@@ -1,53 +1,39 @@
 -- Reports of a network in which nothing is lost.
-use Rattle.std.proofs.Common.{◌≡◌, ℕ, ◌+◌, ◌-◌, ◌^◌, ◌<◌, ◌≤◌, Bool, true, false, cond, ◌||◌, ◌⊎◌, List, [], ◌∷◌, length, Option, None, Some, min, arith, refl, sym, ap, ◌∙◌, subst, inl, inr}
-use Rattle.std.specs.Prelude.{nat_lt, sum_by}
-use Rattle.std.specs.List.{IsDistinct, list_any}
-use Rattle.std.specs.Map.{lookup, keys_of}
+use Rattle.std.proofs.Common.{◌≡◌, ℕ, ◌+◌, ◌-◌, ◌^◌, ◌<◌, ◌≤◌, Bool, true, false, ◌⊎◌, List, length, Option, None, Some, min, arith, refl, sym, ap, ◌∙◌, subst, inl, inr}
+use Rattle.std.specs.Prelude.{nat_lt}
+use Rattle.std.specs.List.{list_any}
+use Rattle.std.specs.Map.{lookup}
 use Rattle.std.proofs.lemmas.Bool.{cases_Bool, cases_lt, lt-ltb, ltb-true, ltb-false, or_cases, or_parts, or_left, or_right}
 use Rattle.sr_frame.specs.declared.fields.Mac.{Mac}
 use Rattle.sr_frame.specs.Addresses.{mac_eq}
 use Rattle.sr_audit.specs.declared.arrival.Arrival.{Arrival}
 use Rattle.sr_audit.specs.declared.audit.Audit.{Audit}
-use Rattle.sr_audit.specs.declared.side.Side.{Side}
 use Rattle.sr_audit.specs.declared.side.Side.TheVariants.{A, B}
 use Rattle.sr_audit.specs.declared.source.Source.{Source}
 use Rattle.sr_audit.specs.declared.span.Span.{Span}
 use Rattle.sr_audit.specs.declared.span.Spans.{Spans}
 use Rattle.sr_audit.specs.Audits.{Sent, of, Audits}
-use Rattle.sr_audit.specs.Edges.{is_outside, is_beyond}
-use Rattle.sr_audit.specs.Extents.{neither_of}
+use Rattle.sr_audit.specs.Edges.{is_outside}
 use Rattle.sr_audit.specs.Faults.{tells_of_faults}
 use Rattle.sr_audit.specs.Limits.{exact_arrivals}
 use Rattle.sr_audit.specs.Shown.{figures_of}
-use Rattle.sr_audit.specs.Stretches.{stretches}
 use Rattle.sr_audit.specs.Taken.{HasTaken}
-use Rattle.sr_audit_laws.specs.Records.{LeavesOut, TellsNoRepeat, TellsNoLoss, LacksNoNumber}
-use Rattle.sr_audit_laws.specs.Sources.{HasTrueNumbering, IsSeenByBoth, IsSeenWhole}
+use Rattle.sr_audit_laws.specs.Records.{LeavesOut, LacksNoNumber}
+use Rattle.sr_audit_laws.specs.Sources.{IsSeenByBoth, IsSeenWhole}
 use Rattle.sr_audit_laws.proofs.ExactLemmas.{few_of, found_passes}
-use Rattle.sr_audit_laws.proofs.FigureLemmas.{tally_is, neither_is, late_is, entry_taken, none_passes, numbered_no_repeat, both_no_loss, whole_lacks_none, figures_lost, repeats_none}
+use Rattle.sr_audit_laws.proofs.FigureLemmas.{neither_is, late_is, entry_taken, none_passes, numbered_no_repeat, both_no_loss, whole_lacks_none, figures_lost, repeats_none}
 use Rattle.sr_audit_laws.proofs.UnbrokenLemmas.{no_ring_number_lacks}
 use Rattle.sr_capture_script.specs.Passing.{Handed}
 use Rattle.sr_capture_audit.specs.declared.figures.Report.{Report}
 use Rattle.sr_capture_audit.specs.declared.flows.Sight.{Sight}
 use Rattle.sr_capture_audit.specs.declared.flows.Sight.TheVariants.{All, Part}
 use Rattle.sr_capture_audit.specs.declared.network.Subject.{Subject}
-use Rattle.sr_capture_audit.specs.declared.ruling.Rule.{Rule}
-use Rattle.sr_capture_audit.specs.Auditing.{sent_in, IsReportOf}
-use Rattle.sr_capture_audit.specs.Edging.{inner_span, inner_spans, tells_of_lost, tells_of_missing}
-use Rattle.sr_capture_audit.specs.Faults.{shows_lost, have_lost, shows_missing, have_missing, have_faults, own_figures, lost_told, missing_told, judged_have_lost, counters_have_missing, has_faults}
-use Rattle.sr_capture_audit.specs.Ruling.{ruled_in, IsRuledOf}
-use Rattle.sr_capture_laws.specs.Judged.{with_counters_if, with_judged_if, judged_report, IsNotFaulty}
-use Rattle.sr_capture_laws.specs.Lossless.{
-  IsExactAudit,
-  IsOfNumbered,
-  IsOfBoth,
-  IsSeenInRing,
-  IsOfWhole,
-  InnerSpansLeaveOut,
-  IsSilent,
-  MirrorsTellNoFault,
-  RecordersTellNoFault,
-}
+use Rattle.sr_capture_audit.specs.Auditing.{sent_in}
+use Rattle.sr_capture_audit.specs.Edging.{inner_span, tells_of_lost, tells_of_missing}
+use Rattle.sr_capture_audit.specs.Faults.{shows_lost, have_lost, shows_missing, have_missing, have_faults, lost_told, missing_told, judged_have_lost, counters_have_missing, has_faults}
+use Rattle.sr_capture_audit.specs.Ruling.{ruled_in}
+use Rattle.sr_capture_laws.specs.Judged.{with_counters_if, with_judged_if, judged_report}
+use Rattle.sr_capture_laws.specs.Lossless.{IsExactAudit, IsOfNumbered, IsSeenInRing, IsOfWhole, InnerSpansLeaveOut, MirrorsTellNoFault, RecordersTellNoFault}
 use Rattle.sr_capture_laws.proofs.JudgedLemmas.{counts_quiet, own_quiet, faultless, not_faulty}
 
 -- the parts that lie far from both ends
@@ -194,13 +180,13 @@ mirrors_silent apart recorded judged subject xs r is whole leaves =
     }
 
 pub recorders_silent : RecordersTellNoFault
-recorders_silent apart recorded ran judged subject xs r counters sight frames by_counter by_flow is leaves both whole =
+recorders_silent apart recorded ran judged subject xs r counters sight frames by_counter by_flow is both whole =
     not_faulty (judged_report r counters sight frames)
     (silent apart recorded judged subject xs r (tells_of_lost r) (tells_of_missing r) frames counters sight is (record {
       frames_lost = λ e.
-          let b = both e in
+          let b = (both e).1 in
           both_lost_none apart recorded judged (ruled_in by_flow judged b.told.seen) frames b.within
-          (b.told.audits (few_sent (length (ruled_in by_flow judged b.told.seen)) b.within.few)) b.seen leaves;
+          (b.told.audits (few_sent (length (ruled_in by_flow judged b.told.seen)) b.within.few)) b.seen (both e).0;
       none_lost = λ e. none_of (λ s. shows_lost (figures_of s)) r.audit.sources.entries e;
       none_counted = λ e. counted (whole e);
       none_missing = λ e. none_of (λ s. shows_missing (figures_of s)) r.audit.sources.entries e;

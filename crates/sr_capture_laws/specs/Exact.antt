@@ -1,5 +1,5 @@
 -- What a check judges, as a function of the arrivals that its audits take.
-use Rattle.std.specs.Prelude.{◌≡◌, nat_lt, ℕ, Bool, true, false, not, ◌&&◌, ◌||◌, List, Option, None, Some, if◌then◌else◌}
+use Rattle.std.specs.Prelude.{◌≡◌, nat_lt, Bool, true, false, not, ◌&&◌, ◌||◌, List, Option, None, Some, if◌then◌else◌}
 use Rattle.sr_audit.specs.declared.audit.Audit.{Audit}
 use Rattle.sr_audit.specs.declared.side.Side.TheVariants.{A, B}
 use Rattle.sr_audit.specs.declared.source.Figures.{Figures}

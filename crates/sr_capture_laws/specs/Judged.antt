@@ -1,18 +1,10 @@
 -- The report that a check judges, as the program puts it together from audits of the same packets.
-use Rattle.std.specs.Prelude.{◌≡◌, Bool, true, false, ◌||◌, List, Option, None, Some, ◌⊎◌}
-use Rattle.std.specs.List.{list_any, IsDistinct}
-use Rattle.std.specs.Map.{keys_of}
-use Rattle.sr_frame.specs.declared.fields.Mac.{Mac}
-use Rattle.sr_frame.specs.Addresses.{mac_eq}
+use Rattle.std.specs.Prelude.{◌≡◌, Bool, true, false, ◌||◌, List, None, Some, ◌⊎◌}
+use Rattle.std.specs.List.{list_any}
 use Rattle.sr_audit.specs.declared.audit.Audit.{Audit}
-use Rattle.sr_audit.specs.declared.span.Spans.{Spans}
-use Rattle.sr_capture_script.specs.Passing.{Handed}
 use Rattle.sr_capture_audit.specs.declared.figures.Report.{Report}
 use Rattle.sr_capture_audit.specs.declared.flows.Sight.{Sight}
-use Rattle.sr_capture_audit.specs.declared.judgement.Judgement.{Judgement}
-use Rattle.sr_capture_audit.specs.declared.judgement.Judgement.TheVariants.{Sound, Faulty, Unjudged}
 use Rattle.sr_capture_audit.specs.declared.judgement.Reason.{Reason}
-use Rattle.sr_capture_audit.specs.declared.network.Subject.{Subject}
 use Rattle.sr_capture_audit.specs.Counting.{Seen, names_other_lan, is_misfit_packet}
 use Rattle.sr_capture_audit.specs.Edging.{tells_of_lost, tells_of_missing}
 use Rattle.sr_capture_audit.specs.Judging.{reason_of, network_judgement, check_status}

@@ -1,5 +1,5 @@
 -- Reports of a network in which nothing is dropped, cut or sent astray, wherever the recorders are.
-use Rattle.std.specs.Prelude.{◌≡◌, ℕ, ◌<◌, ◌≤◌, true, false, ◌⊎◌, List, length, ◌^◌}
+use Rattle.std.specs.Prelude.{◌≡◌, ℕ, ◌≤◌, true, false, ◌⊎◌, List, length}
 use Rattle.std.specs.List.{IsDistinct}
 use Rattle.std.specs.Map.{keys_of}
 use Rattle.sr_frame.specs.declared.fields.Mac.{Mac}
@@ -74,12 +74,11 @@ MirrorsTellNoFault = (apart : ℕ) (recorded judged : Spans) (subject : Subject)
     (of_numbered : IsOfNumbered apart recorded judged subject xs r) →
     ((m : Mac) → IsSeenWhole apart recorded (of m (sent_in of_numbered.told.seen))) → LeavesOut apart recorded judged → IsSilent r
 
--- wherever the recorders are: where frames came by one side alone, those that are judged go past both; where numbers are missing, the
--- captures have but part of what was sent, or the counters are seen whole
+-- wherever the recorders are: where frames came by one side alone, the edges are left out, and the frames that are judged go past both;
+-- where numbers are missing, the captures have but part of what was sent, or the counters are seen whole
 abbrev pub RecordersTellNoFault : Type 0
 RecordersTellNoFault = (apart : ℕ) (recorded ran judged : Spans) (subject : Subject) (xs : List Handed) (r : Report) (counters : Audit)
     (sight : Sight) (frames : Audit) (by_counter by_flow : Rule) → IsOfNumbered apart recorded judged subject xs r →
-    LeavesOut apart recorded judged →
-    (tells_of_lost r ≡ true → IsOfBoth apart recorded judged by_flow subject xs frames) →
+    (tells_of_lost r ≡ true → LeavesOut apart recorded judged × IsOfBoth apart recorded judged by_flow subject xs frames) →
     (tells_of_missing r ≡ true → (sight ≡ Part) ⊎ IsOfWhole apart recorded ran judged by_counter subject xs counters) →
     IsNotFaulty (judged_report r counters sight frames)
