@@ -90,13 +90,13 @@ not_there : (m : Mac) (entries : List (Mac × Source)) → AllByRecursion (λ y.
 not_there m [] apart = refl
 not_there m (e ∷ es) apart = rw apart.0 (not_there m es apart.1)
 
-pub none_passes : (test : Source → Bool) (entries : List (Mac × Source)) → IsDistinct mac_eq (keys_of entries) →
-    ((m : Mac) (s : Source) → lookup (mac_eq m) entries ≡ Some s → test s ≡ false) → list_any (λ e. test e.1) entries ≡ false
+pub none_at : (test : Mac → Source → Bool) (entries : List (Mac × Source)) → IsDistinct mac_eq (keys_of entries) →
+    ((m : Mac) (s : Source) → lookup (mac_eq m) entries ≡ Some s → test m s ≡ false) → list_any (λ e. test e.0 e.1) entries ≡ false
 unfolding IsDistinct
-none_passes test [] unique each = refl
-none_passes test (e ∷ es) unique each =
-    ap (λ b. b || list_any (λ f. test f.1) es) (each e.0 e.1 (rw (mac_refl e.0) refl))
-    ∙ none_passes test es unique.1 (λ m s found. each m s (later m s found))
+none_at test [] unique each = refl
+none_at test (e ∷ es) unique each =
+    ap (λ b. b || list_any (λ f. test f.0 f.1) es) (each e.0 e.1 (rw (mac_refl e.0) refl))
+    ∙ none_at test es unique.1 (λ m s found. each m s (later m s found))
   where
     gone : lookup (mac_eq e.0) es ≡ None
     gone = not_there e.0 es unique.0
@@ -108,6 +108,10 @@ none_passes test (e ∷ es) unique each =
               let no : None ≡ Some s = sym gone ∙ ap (λ k. lookup (mac_eq k) es) (sym (mac_same m e.0 same)) ∙ found in absurd cc
           | inr other ↦ rw other found
         ]
+
+pub none_passes : (test : Source → Bool) (entries : List (Mac × Source)) → IsDistinct mac_eq (keys_of entries) →
+    ((m : Mac) (s : Source) → lookup (mac_eq m) entries ≡ Some s → test s ≡ false) → list_any (λ e. test e.1) entries ≡ false
+none_passes test entries unique each = none_at (λ m s. test s) entries unique each
 
 -- arrivals with a true numbering
 pub numbered_no_repeat : (apart : ℕ) (recorded : Spans) (xs : List Arrival) → HasTrueNumbering apart recorded xs → TellsNoRepeat xs

@@ -2,3 +2,4 @@ pub mod JudgedLemmas
 pub mod LosslessLemmas
 pub mod CountedLemmas
 pub mod ExactLemmas
+pub mod SeeingLemmas

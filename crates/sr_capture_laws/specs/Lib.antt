@@ -2,3 +2,4 @@ pub mod Judged
 pub mod Lossless
 pub mod Counted
 pub mod Exact
+pub mod Seeing

@@ -3,6 +3,7 @@
 ghost use Rattle.sr_capture_laws.specs.Counted.{ReportsCountEachNumber, CountersCountEachNumber};
 ghost use Rattle.sr_capture_laws.specs.Exact.{ChecksAreByArrivals};
 ghost use Rattle.sr_capture_laws.specs.Lossless.{InnerSpansLeaveOut, MirrorsTellNoFault, RecordersTellNoFault};
+ghost use Rattle.sr_capture_laws.specs.Seeing.{FlowsAreByArrivals, SightIsByArrivals};
 
 /// The parts of captures that lie so far from the beginning and the end of each leave out whatever lies as near to what was not recorded.
 pub fn inner_spans_leave_out()
@@ -38,4 +39,15 @@ pub fn counters_count_each_number()
 /// of those of the frames that are judged and of the counters', and of whether the captures have all that was sent.
 pub fn checks_are_by_arrivals()
     ensures { ChecksAreByArrivals }
+{}
+
+/// Which flows both captures see, whether both recorders are mirrors, and whether frames of a flow came by one side alone, is a function of
+/// the arrivals of each flow, in whatever order flows were heard.
+pub fn flows_are_by_arrivals()
+    ensures { FlowsAreByArrivals }
+{}
+
+/// Whether captures have all that was sent is a function of that and of the arrivals of the counters.
+pub fn sight_is_by_arrivals()
+    ensures { SightIsByArrivals }
 {}
