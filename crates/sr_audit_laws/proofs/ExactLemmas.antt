@@ -14,7 +14,7 @@ use Rattle.sr_audit.specs.Audits.{Sent, of, IsEntryFor}
 use Rattle.sr_audit.specs.Limits.{exact_arrivals}
 use Rattle.sr_audit.specs.Shown.{figures_of}
 use Rattle.sr_audit.specs.Taken.{HasTaken}
-use Rattle.sr_audit_laws.specs.Exactly.{figures_by, some_source, HasEachSource, FiguresAreByArrivals, TestsAreByArrivals}
+use Rattle.sr_audit_laws.specs.Exactly.{figures_by, HasEachSource, FiguresAreByArrivals, TestsAreByArrivals}
 use Rattle.sr_audit_laws.proofs.FigureLemmas.{tally_is, edges_are, neither_is, entry_taken, none_at}
 
 -- the arrivals of one source are no more than all

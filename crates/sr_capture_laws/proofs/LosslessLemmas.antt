@@ -1,6 +1,6 @@
 -- Reports of a network in which nothing is lost.
-use Rattle.std.proofs.Common.{◌≡◌, ℕ, ◌+◌, ◌-◌, ◌^◌, ◌<◌, ◌≤◌, Bool, true, false, ◌⊎◌, List, length, Option, None, Some, min, arith, refl, sym, ap, ◌∙◌, subst, inl, inr}
-use Rattle.std.specs.Prelude.{nat_lt}
+use Rattle.std.proofs.Common.{◌∷◌, [], ◌≡◌, ℕ, ◌+◌, ◌-◌, ◌^◌, ◌<◌, ◌≤◌, Bool, true, false, ◌⊎◌, List, length, Option, None, Some, min, arith, refl, sym, ap, ◌∙◌, subst, inl, inr, max}
+use Rattle.std.specs.Prelude.{nat_lt, fold}
 use Rattle.std.specs.List.{list_any}
 use Rattle.std.specs.Map.{lookup}
 use Rattle.std.proofs.lemmas.Bool.{cases_Bool, cases_lt, lt-ltb, ltb-true, ltb-false, or_cases, or_parts, or_left, or_right}
@@ -29,11 +29,11 @@ use Rattle.sr_capture_audit.specs.declared.flows.Sight.{Sight}
 use Rattle.sr_capture_audit.specs.declared.flows.Sight.TheVariants.{All, Part}
 use Rattle.sr_capture_audit.specs.declared.network.Subject.{Subject}
 use Rattle.sr_capture_audit.specs.Auditing.{sent_in}
-use Rattle.sr_capture_audit.specs.Edging.{inner_span, tells_of_lost, tells_of_missing}
+use Rattle.sr_capture_audit.specs.Edging.{least_edge, most_edge, widest, edge_width, inner_span, tells_of_lost, tells_of_missing}
 use Rattle.sr_capture_audit.specs.Faults.{shows_lost, have_lost, shows_missing, have_missing, have_faults, lost_told, missing_told, judged_have_lost, counters_have_missing, has_faults}
 use Rattle.sr_capture_audit.specs.Ruling.{ruled_in}
 use Rattle.sr_capture_laws.specs.Judged.{with_counters_if, with_judged_if, judged_report}
-use Rattle.sr_capture_laws.specs.Lossless.{IsExactAudit, IsOfNumbered, IsSeenInRing, IsOfWhole, InnerSpansLeaveOut, MirrorsTellNoFault, RecordersTellNoFault}
+use Rattle.sr_capture_laws.specs.Lossless.{EdgesAreWideEnough, IsExactAudit, IsOfNumbered, IsSeenInRing, IsOfWhole, InnerSpansLeaveOut, MirrorsTellNoFault, RecordersTellNoFault}
 use Rattle.sr_capture_laws.proofs.JudgedLemmas.{counts_quiet, own_quiet, faultless, not_faulty}
 
 -- the parts that lie far from both ends
@@ -55,6 +55,23 @@ span_leaves apart width (Some span) t u wide small out near_t near_u =
 pub inner_leave : InnerSpansLeaveOut
 inner_leave apart width recorded wide A t u small out near_t near_u = span_leaves apart width recorded.a t u wide small out near_t near_u
 inner_leave apart width recorded wide B t u small out near_t near_u = span_leaves apart width recorded.b t u wide small out near_t near_u
+
+-- an edge is no less wide than the least one
+no_less : (entries : List (Mac × Source)) (least : ℕ) → least ≤ fold (λ width e. max width (widest (figures_of e.1).skews)) least entries
+no_less [] least = omega arith
+no_less (e ∷ es) least = by (max least (widest (figures_of e.1).skews)) (omega arith) (no_less es (max least (widest (figures_of e.1).skews)))
+  where
+    by : (more : ℕ) → least ≤ more → more ≤ fold (λ width f. max width (widest (figures_of f.1).skews)) more es →
+        least ≤ fold (λ width f. max width (widest (figures_of f.1).skews)) more es
+    by more g h = omega (arith, g, h)
+
+pub wide_enough : EdgesAreWideEnough
+wide_enough apart recorded r small =
+    inner_leave apart (edge_width r) recorded (wide (fold (λ width e. max width (widest (figures_of e.1).skews)) least_edge r.audit.sources.entries)
+    (no_less r.audit.sources.entries least_edge))
+  where
+    wide : (width : ℕ) → least_edge ≤ width → apart ≤ min width most_edge
+    wide width le = omega (arith, small, le)
 
 -- entries that do not pass a test which none of the list passes
 none_of : (test : Source → Bool) (entries : List (Mac × Source)) → list_any (λ e. test e.1) entries ≡ false → (m : Mac) (s : Source) →

@@ -1,5 +1,5 @@
 -- Flows by the arrivals of an audit by flow, in whatever order they were heard.
-use Rattle.std.proofs.Common.{◌≡◌, ℕ, ◌≤◌, Bool, true, false, cond, not, ◌||◌, ◌&&◌, List, [], ◌∷◌, ◌++◌, length, Option, None, Some, is_some, arith, refl, sym, ap, ◌∙◌, subst, inl, inr, ◌⊎◌}
+use Rattle.std.proofs.Common.{◌≡◌, Bool, true, false, cond, not, ◌||◌, ◌&&◌, List, [], ◌∷◌, ◌++◌, length, Option, None, Some, is_some, refl, sym, ap, ◌∙◌, subst, inl, inr, ◌⊎◌}
 use Rattle.std.specs.Prelude.{nat_le, map, filter, fold}
 use Rattle.std.specs.List.{IsDistinct, list_any}
 use Rattle.std.specs.Map.{lookup, keys_of}
@@ -9,20 +9,17 @@ use Rattle.std.proofs.lemmas.Map.Entries.{length-keys_of}
 use Rattle.std.proofs.lemmas.Map.Made.{is_some-lookup, length-from_keys}
 use Rattle.sr_frame.specs.declared.fields.Mac.{Mac}
 use Rattle.sr_frame.specs.Addresses.{mac_eq}
-use Rattle.sr_frame.specs.AddressLemmas.{mac_same, mac_refl, mac_symm, mac_laws}
+use Rattle.sr_frame.specs.AddressLemmas.{mac_same, mac_symm, mac_laws}
 use Rattle.sr_slots.specs.EntryLemmas.{lookup-push, distinct-push}
-use Rattle.sr_audit.specs.declared.audit.Audit.{Audit}
-use Rattle.sr_audit.specs.declared.source.Figures.{Figures}
 use Rattle.sr_audit.specs.declared.source.Source.{Source}
 use Rattle.sr_audit.specs.declared.span.Spans.{Spans}
 use Rattle.sr_audit.specs.Audits.{Sent, of}
 use Rattle.sr_audit.specs.Shown.{figures_of}
-use Rattle.sr_audit_laws.specs.Exactly.{figures_by, some_source, HasEachSource}
-use Rattle.sr_audit_laws.proofs.ExactLemmas.{figures_are, tests_are, tests_by}
-use Rattle.sr_capture_audit.specs.declared.flows.Flows.{Flows}
+use Rattle.sr_audit_laws.specs.Exactly.{figures_by, HasEachSource}
+use Rattle.sr_audit_laws.proofs.ExactLemmas.{tests_are, tests_by}
 use Rattle.sr_capture_audit.specs.declared.flows.Sight.TheVariants.{All, Part}
-use Rattle.sr_capture_audit.specs.Flows.{flow_end, is_paired, is_unpaired, is_single, with_name, paired_in, ends_in, are_mirrors, lacks_many, shows_part, AreFlowsIn}
-use Rattle.sr_capture_laws.specs.Seeing.{ends_by, mirrors_by, single_by, AreFlowsBy, FlowsAreByArrivals, SightIsByArrivals}
+use Rattle.sr_capture_audit.specs.Flows.{flow_end, is_paired, is_unpaired, is_single, with_name, paired_in, ends_in, are_mirrors, lacks_many, shows_part}
+use Rattle.sr_capture_laws.specs.Seeing.{ends_by, mirrors_by, FlowsAreByArrivals, SightIsByArrivals}
 
 -- a table that takes a name more, unless it is there
 record Takes {X : Type 0} (g : List (Mac × X) → Mac × Mac → List (Mac × X)) : Type 0 where

@@ -19,7 +19,7 @@ use Rattle.sr_capture_audit.specs.declared.flows.Sight.TheVariants.{Part}
 use Rattle.sr_capture_audit.specs.declared.network.Subject.{Subject}
 use Rattle.sr_capture_audit.specs.declared.ruling.Rule.{Rule}
 use Rattle.sr_capture_audit.specs.Auditing.{sent_in, IsReportOf}
-use Rattle.sr_capture_audit.specs.Edging.{inner_spans, tells_of_lost, tells_of_missing}
+use Rattle.sr_capture_audit.specs.Edging.{least_edge, edge_width, inner_spans, tells_of_lost, tells_of_missing}
 use Rattle.sr_capture_audit.specs.Ruling.{ruled_in, IsRuledOf}
 use Rattle.sr_capture_laws.specs.Judged.{judged_report, IsByItself, have_astray, IsNotFaulty}
 
@@ -62,6 +62,11 @@ pub record IsOfWhole (apart : ℕ) (recorded ran judged : Spans) (rule : Rule) (
 -- parts of captures that lie so far from both ends of each leave out what was not recorded
 abbrev pub InnerSpansLeaveOut : Type 0
 InnerSpansLeaveOut = (apart width : ℕ) (recorded : Spans) → apart ≤ width → LeavesOut apart recorded (inner_spans width recorded)
+
+-- an edge is a millisecond wide at least: where no frame takes longer to pass, the edges of a report leave out what was not recorded
+abbrev pub EdgesAreWideEnough : Type 0
+EdgesAreWideEnough = (apart : ℕ) (recorded : Spans) (r : Report) → apart ≤ least_edge →
+    LeavesOut apart recorded (inner_spans (edge_width r) recorded)
 
 -- where both recorders see all frames of each source, the report by itself tells of no fault
 pub record IsSilent (r : Report) : Type 0 where

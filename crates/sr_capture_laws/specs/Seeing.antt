@@ -1,5 +1,5 @@
 -- What flows tell of where recorders are, as functions of the arrivals by flow.
-use Rattle.std.specs.Prelude.{◌≡◌, nat_le, Bool, not, ◌&&◌, ◌||◌, List, length, map, filter, is_some, if◌then◌else◌}
+use Rattle.std.specs.Prelude.{◌≡◌, nat_le, Bool, not, ◌&&◌, ◌||◌, List, map, filter, is_some, if◌then◌else◌}
 use Rattle.std.specs.Map.{lookup}
 use Rattle.std.specs.Set.{distinct_count}
 use Rattle.sr_frame.specs.declared.fields.Mac.{Mac}
@@ -10,7 +10,6 @@ use Rattle.sr_audit.specs.declared.span.Spans.{Spans}
 use Rattle.sr_audit.specs.Audits.{Sent, of}
 use Rattle.sr_audit_laws.specs.Exactly.{figures_by, some_source, HasEachSource}
 use Rattle.sr_capture_audit.specs.declared.flows.Flows.{Flows}
-use Rattle.sr_capture_audit.specs.declared.flows.Sight.{Sight}
 use Rattle.sr_capture_audit.specs.declared.flows.Sight.TheVariants.{All, Part}
 use Rattle.sr_capture_audit.specs.declared.network.Network.{Network}
 use Rattle.sr_capture_audit.specs.Flows.{flow_end, is_paired, is_unpaired, is_single, lacks_many, shows_part, sight_of, AreFlowsIn}

@@ -2,12 +2,17 @@
 
 ghost use Rattle.sr_capture_laws.specs.Counted.{ReportsCountEachNumber, CountersCountEachNumber};
 ghost use Rattle.sr_capture_laws.specs.Exact.{ChecksAreByArrivals};
-ghost use Rattle.sr_capture_laws.specs.Lossless.{InnerSpansLeaveOut, MirrorsTellNoFault, RecordersTellNoFault};
+ghost use Rattle.sr_capture_laws.specs.Lossless.{InnerSpansLeaveOut, EdgesAreWideEnough, MirrorsTellNoFault, RecordersTellNoFault};
 ghost use Rattle.sr_capture_laws.specs.Seeing.{FlowsAreByArrivals, SightIsByArrivals};
 
 /// The parts of captures that lie so far from the beginning and the end of each leave out whatever lies as near to what was not recorded.
 pub fn inner_spans_leave_out()
     ensures { InnerSpansLeaveOut }
+{}
+
+/// Where frames take at most a millisecond to pass, the edges that a report has are as wide as that asks for.
+pub fn edges_are_wide_enough()
+    ensures { EdgesAreWideEnough }
 {}
 
 /// Where both recorders see all frames of each source, as two mirrors do, and nothing was dropped, cut or sent astray, the report tells
