@@ -29,11 +29,11 @@ use Rattle.sr_capture_audit.specs.declared.flows.Sight.{Sight}
 use Rattle.sr_capture_audit.specs.declared.flows.Sight.TheVariants.{All, Part}
 use Rattle.sr_capture_audit.specs.declared.network.Subject.{Subject}
 use Rattle.sr_capture_audit.specs.Auditing.{sent_in}
-use Rattle.sr_capture_audit.specs.Edging.{least_edge, most_edge, widest, edge_width, inner_span, tells_of_lost, tells_of_missing}
+use Rattle.sr_capture_audit.specs.Edging.{inner_spans, least_edge, most_edge, widest, edge_width, inner_span, tells_of_lost, tells_of_missing}
 use Rattle.sr_capture_audit.specs.Faults.{shows_lost, have_lost, shows_missing, have_missing, have_faults, lost_told, missing_told, judged_have_lost, counters_have_missing, has_faults}
 use Rattle.sr_capture_audit.specs.Ruling.{ruled_in}
 use Rattle.sr_capture_laws.specs.Judged.{with_counters_if, with_judged_if, judged_report}
-use Rattle.sr_capture_laws.specs.Lossless.{EdgesAreWideEnough, IsExactAudit, IsOfNumbered, IsSeenInRing, IsOfWhole, InnerSpansLeaveOut, MirrorsTellNoFault, RecordersTellNoFault}
+use Rattle.sr_capture_laws.specs.Lossless.{IsSilent, TwoReadingsTellNoFault, read_twice_if, EdgesAreWideEnough, IsExactAudit, IsOfNumbered, IsSeenInRing, IsOfWhole, InnerSpansLeaveOut, MirrorsTellNoFault, RecordersTellNoFault}
 use Rattle.sr_capture_laws.proofs.JudgedLemmas.{counts_quiet, own_quiet, faultless, not_faulty}
 
 -- the parts that lie far from both ends
@@ -178,13 +178,9 @@ silent apart recorded judged subject xs r lost missing frames counters sight is 
         no_counters All = refl
         no_counters Part = refl
 
-pub mirrors_silent : MirrorsTellNoFault
-mirrors_silent apart recorded judged subject xs r is whole leaves =
-    let sent = sent_in is.told.seen in
-    let audits : Audits judged sent r.audit.sources.entries = is.told.audits (few_sent (length sent) is.within.few) in
-    let lost : tells_of_lost r ≡ false = both_lost_none apart recorded judged sent r.audit is.within audits (λ m. (whole m).seen) leaves in
-    let missing : tells_of_missing r ≡ false =
-    whole_missing_none judged sent r.audit is.within audits (λ m. whole_lacks_none apart recorded (of m sent) (whole m)) in
+alone_silent : (apart : ℕ) (recorded judged : Spans) (subject : Subject) (xs : List Handed) (r : Report) →
+    IsOfNumbered apart recorded judged subject xs r → tells_of_lost r ≡ false → tells_of_missing r ≡ false → IsSilent r
+alone_silent apart recorded judged subject xs r is lost missing =
     record {
       lost = lost;
       missing = missing;
@@ -195,6 +191,34 @@ mirrors_silent apart recorded judged subject xs r is whole leaves =
         none_missing = λ e. none_of (λ s. shows_missing (figures_of s)) r.audit.sources.entries missing;
       }));
     }
+
+whole_missing : (apart : ℕ) (recorded judged : Spans) (subject : Subject) (xs : List Handed) (r : Report)
+    (is : IsOfNumbered apart recorded judged subject xs r) → ((m : Mac) → IsSeenWhole apart recorded (of m (sent_in is.told.seen))) →
+    tells_of_missing r ≡ false
+whole_missing apart recorded judged subject xs r is whole =
+    let sent = sent_in is.told.seen in
+    whole_missing_none judged sent r.audit is.within (is.told.audits (few_sent (length sent) is.within.few))
+    (λ m. whole_lacks_none apart recorded (of m sent) (whole m))
+
+pub mirrors_silent : MirrorsTellNoFault
+mirrors_silent apart recorded judged subject xs r is whole leaves =
+    let sent = sent_in is.told.seen in
+    let audits : Audits judged sent r.audit.sources.entries = is.told.audits (few_sent (length sent) is.within.few) in
+    alone_silent apart recorded judged subject xs r is
+    (both_lost_none apart recorded judged sent r.audit is.within audits (λ m. (whole m).seen) leaves)
+    (whole_missing apart recorded judged subject xs r is whole)
+
+pub two_readings : TwoReadingsTellNoFault
+two_readings apart recorded subject xs first second at_first at_second = by (tells_of_lost first) refl
+  where
+    by : (b : Bool) → tells_of_lost first ≡ b → IsSilent (read_twice_if b first second)
+    by true e =
+        let s = at_second e in
+        mirrors_silent apart recorded (inner_spans (edge_width first) recorded) subject xs second s.1.of_numbered s.1.whole
+        (inner_leave apart (edge_width first) recorded s.0)
+    by false e =
+        alone_silent apart recorded recorded subject xs first at_first.of_numbered e
+        (whole_missing apart recorded recorded subject xs first at_first.of_numbered at_first.whole)
 
 pub recorders_silent : RecordersTellNoFault
 recorders_silent apart recorded ran judged subject xs r counters sight frames by_counter by_flow is both whole =

@@ -1,5 +1,5 @@
 -- Reports of a network in which nothing is dropped, cut or sent astray, wherever the recorders are.
-use Rattle.std.specs.Prelude.{◌≡◌, ℕ, ◌≤◌, true, false, ◌⊎◌, List, length}
+use Rattle.std.specs.Prelude.{Bool, ◌≡◌, ℕ, ◌≤◌, true, false, ◌⊎◌, List, length}
 use Rattle.std.specs.List.{IsDistinct}
 use Rattle.std.specs.Map.{keys_of}
 use Rattle.sr_frame.specs.declared.fields.Mac.{Mac}
@@ -78,6 +78,23 @@ abbrev pub MirrorsTellNoFault : Type 0
 MirrorsTellNoFault = (apart : ℕ) (recorded judged : Spans) (subject : Subject) (xs : List Handed) (r : Report)
     (of_numbered : IsOfNumbered apart recorded judged subject xs r) →
     ((m : Mac) → IsSeenWhole apart recorded (of m (sent_in of_numbered.told.seen))) → LeavesOut apart recorded judged → IsSilent r
+
+-- a report whose sources are all seen whole
+pub record IsOfWholeSources (apart : ℕ) (recorded judged : Spans) (subject : Subject) (xs : List Handed) (r : Report) : Type 0 where
+  pub of_numbered : IsOfNumbered apart recorded judged subject xs r
+  pub whole : (m : Mac) → IsSeenWhole apart recorded (of m (sent_in of_numbered.told.seen))
+
+-- a report of all that was recorded; where that tells of frames by one side alone, one without the edges that it has
+abbrev pub read_twice_if : Bool → Report → Report → Report
+read_twice_if true first second = second
+read_twice_if false first second = first
+
+abbrev pub TwoReadingsTellNoFault : Type 0
+TwoReadingsTellNoFault = (apart : ℕ) (recorded : Spans) (subject : Subject) (xs : List Handed) (first second : Report) →
+    IsOfWholeSources apart recorded recorded subject xs first →
+    (tells_of_lost first ≡ true → (apart ≤ edge_width first)
+    × IsOfWholeSources apart recorded (inner_spans (edge_width first) recorded) subject xs second) →
+    IsSilent (read_twice_if (tells_of_lost first) first second)
 
 -- wherever the recorders are: where frames came by one side alone, the edges are left out, and the frames that are judged go past both;
 -- where numbers are missing, the captures have but part of what was sent, or the counters are seen whole

@@ -2,7 +2,7 @@
 
 ghost use Rattle.sr_capture_laws.specs.Counted.{ReportsCountEachNumber, CountersCountEachNumber};
 ghost use Rattle.sr_capture_laws.specs.Exact.{ChecksAreByArrivals};
-ghost use Rattle.sr_capture_laws.specs.Lossless.{InnerSpansLeaveOut, EdgesAreWideEnough, MirrorsTellNoFault, RecordersTellNoFault};
+ghost use Rattle.sr_capture_laws.specs.Lossless.{InnerSpansLeaveOut, EdgesAreWideEnough, MirrorsTellNoFault, RecordersTellNoFault, TwoReadingsTellNoFault};
 ghost use Rattle.sr_capture_laws.specs.Seeing.{FlowsAreByArrivals, SightIsByArrivals};
 
 /// The parts of captures that lie so far from the beginning and the end of each leave out whatever lies as near to what was not recorded.
@@ -19,6 +19,11 @@ pub fn edges_are_wide_enough()
 /// of no frame that one side lost and of no number that no frame had. A check of it ends with 0, or with 4 for a reason that it gives.
 pub fn mirrors_tell_no_fault()
     ensures { MirrorsTellNoFault }
+{}
+
+/// So it is where the captures are read once, and again without their edges if that tells of frames by one side alone, as the program does.
+pub fn two_readings_tell_no_fault()
+    ensures { TwoReadingsTellNoFault }
 {}
 
 /// So does the report that the program judges, wherever the recorders are: if frames came by one side alone, those that are judged go past

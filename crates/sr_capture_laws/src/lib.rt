@@ -6,5 +6,5 @@ mod laws;
 pub use laws::{
     checks_are_by_arrivals, counters_count_each_number, edges_are_wide_enough,
     flows_are_by_arrivals, inner_spans_leave_out, mirrors_tell_no_fault, recorders_tell_no_fault,
-    reports_count_each_number, sight_is_by_arrivals,
+    reports_count_each_number, sight_is_by_arrivals, two_readings_tell_no_fault,
 };
