@@ -14,7 +14,8 @@ of its frames go to one node, and pass the link on one way. A ring loses frames 
 Of each twelve networks one has access ports in place of mirrors, at one LAN or both, which see frames to single addresses only where a
 switch floods them; in one sources talk to each other past two mirrors; in one a RedBox numbers the frames of two devices by one counter and
 never tells of them; and in one the recorders of a ring's node see what it sends on too, where there is nothing to judge. A merge of a network
-that can be judged has each frame that a recorder has once, at the time of a copy by the clock of A. A line tells each network of which the
+that can be judged has each frame that a recorder has once, at the time of a copy by the clock of A. The verdicts that stand first are compared with what happened: what each LAN lost,
+which sources came by one LAN alone at last and since when, numbers that both lost, and restarts. A line tells each network of which the
 audit says something else, or the merge has. The last line is `N passed, M failed`.
 """
 import argparse
@@ -50,6 +51,10 @@ EDGE = SECOND // 1000
 END = 40 * SECOND
 # A restart is told from a gap where its number lies further ahead.
 NEAR = 1024
+# How many frames at the end by one LAN alone are told as a port that is dead, or a ring that is cut.
+LEAST_ROW = 3
+# How far off the time is told at most from which on that is so.
+SINCE_LEFT = 2 * OFFSET_LEFT
 
 
 class Source:
@@ -114,6 +119,10 @@ class Source:
         """What an audit is to say of its addresses."""
         return [(self.mac, self.figures())]
 
+    def runs(self):
+        """The frames of its addresses, of each those behind its last restart."""
+        return [(self.mac, self.frames[self.restarted or 0:])]
+
 
 class RedBox(Source):
     """A RedBox with two devices, whose frames it numbers by one counter. It tells of both each 2 s at most, unless it is silent."""
@@ -151,6 +160,9 @@ class RedBox(Source):
             if wanted["rx_a"] or wanted["rx_b"]:
                 found.append((mac, wanted))
         return found
+
+    def runs(self):
+        return [(mac, [frame for frame in self.frames if frame["mac"] == mac]) for mac in [self.mac, *self.devices]]
 
 
 class Network:
@@ -200,6 +212,22 @@ class Network:
     def can_lose(self, frame):
         """Whether the captures show it where this frame is lost."""
         return True
+
+    def rows(self):
+        """The frames at the end of an address's frames that one LAN alone brought: the address, that LAN, how many, and when the first came."""
+        found = []
+        for source in self.sources:
+            for mac, frames in source.runs():
+                row = []
+                for frame in reversed([one for one in frames if one["seen"] and one["ways"] == {0, 1} and self.can_lose(one)]):
+                    if len(frame["seen"]) == 2 or row and frame["lans"] != row[0]["lans"] and len(frame["lans"]) == 1:
+                        break
+                    if len(frame["lans"]) == 1:
+                        row.append(frame)
+                if len(row) >= LEAST_ROW:
+                    lan = min(row[0]["lans"])
+                    found.append((mac.hex(":"), lan, len(row), row[-1]["time"] + source.delays[lan]))
+        return found
 
     def put(self, rng, fault):
         """Has a fault happen, where there is room for it: each source keeps its first and its last frame."""
@@ -458,6 +486,79 @@ def differences(network, status, lines):
     return found
 
 
+def verdict_differences(network, status, lines):
+    """Where the block of faults and notices, which stands first, is not what happened."""
+    words = ["verdict", "unjudged", "fault", "notice"]
+    block = [line for line in lines if line["line"] in words]
+    by_word = [[line for line in block if line["line"] == word] for word in words]
+    whole = {"line": "verdict", "verdict": {0: "sound", 3: "faulty", 4: "unjudged"}[status],
+             "faults": len(by_word[2]), "notices": len(by_word[3])}
+    if block != lines[:len(block)] or block != sum(by_word, []) or by_word[0] != [whole]:
+        return [f"the verdicts are {block}, and not first, or not in order"]
+    if status == 4:
+        return [] if len(by_word[1]) == 1 and len(block) == 2 else [f"the verdicts are {block}, where nothing can be judged"]
+    told = [line for line in block if line["line"] != "verdict"]
+    return loss_differences(network, told) + row_differences(network, told) + source_differences(network, told)
+
+
+def losses(network):
+    """How many frames each LAN lost, besides those of the rows of sources at their end, and of how many sources."""
+    found = []
+    for lan, name in enumerate(("only_b", "only_a")):
+        rows = {mac: frames for mac, side, frames, _ in network.rows() if side != lan}
+        lost = [figures[name] - rows.get(mac.hex(":"), 0) for source in network.sources for mac, figures in source.reports()]
+        found.append((sum(lost), sum(one > 0 for one in lost)))
+    return found
+
+
+def loss_differences(network, told):
+    """Where what each LAN is told to have lost is not what it lost."""
+    wanted = losses(network)
+    said = {line["lan"]: (line["frames"], line["sources"], line["other_lan"]) for line in told if line["kind"] == "loss"}
+    found = []
+    for lan, letter in enumerate("AB"):
+        own = (*wanted[lan], wanted[1 - lan][0]) if wanted[lan][0] else None
+        if said.get(letter) != own:
+            found.append(f"the loss of {letter} is {said.get(letter)}, and not {own}")
+    return found
+
+
+def row_differences(network, told):
+    """Where the ports that are told to be dead, or the cut of a ring, are not those."""
+    rows, begin = network.rows(), min(begin for begin, _ in network.runs)
+    if network.protocol == "hsr":
+        said = [(line["sided_a"], line["sided_b"], line["frames"]) for line in told if line["kind"] == "cut_ring"]
+        sides = [side for _, side, _, _ in rows]
+        wanted = [(sides.count(0), sides.count(1), sum(frames for _, _, frames, _ in rows))] if rows else []
+        since = [(line["since_ms"], min(time for _, _, _, time in rows)) for line in told if line["kind"] == "cut_ring" and rows]
+    else:
+        ports = {line["source"]: line for line in told if line["kind"] == "dead_port"}
+        said = sorted((mac, line["lan"], line["frames"]) for mac, line in ports.items())
+        wanted = sorted((mac, "BA"[side], frames) for mac, side, frames, _ in rows)
+        since = [(ports[mac]["since_ms"], time) for mac, _, _, time in rows if mac in ports]
+    if said != wanted:
+        return [f"rows are told as {said}, and not {wanted}"]
+    return [f"a row is told since {told_ms} ms, and not {time - begin} ns" for told_ms, time in since
+            if abs(told_ms * 1_000_000 - (time - begin)) > SINCE_LEFT]
+
+
+def source_differences(network, told):
+    """Where the numbers that are told to be lost by both LANs, and those that may be, or restarts, are not those of the sources."""
+    found = []
+    wanted = {mac.hex(":"): figures for source in network.sources for mac, figures in source.reports()}
+    said = {kind: {line["source"]: line for line in told if line["kind"] == kind} for kind in ("both_lost", "unseen", "restart")}
+    for mac, figures in wanted.items():
+        lost, unseen = (said[kind].get(mac, {}).get("numbers", 0) for kind in ("both_lost", "unseen"))
+        if "cut" in network.faults:
+            lost, unseen = lost + unseen, 0
+        if "neither" in figures and (lost, unseen) != (figures["neither"], figures["unseen"]):
+            found.append(f"{mac} has {lost} numbers lost by both and {unseen} unseen, and not {figures['neither']} and {figures['unseen']}")
+        times = said["restart"].get(mac, {}).get("times", 0)
+        if "restarts" in figures and not said["unseen"] and times != figures["restarts"]:
+            found.append(f"{mac} began anew {times} times, and not {figures['restarts']}")
+    return found
+
+
 def clock_differences(network, lines):
     """How far the clock of B is told to be ahead, where that is not so."""
     told = [line for line in lines if line["line"] == "clocks"]
@@ -518,6 +619,7 @@ def judge(program, seed, room):
     run = subprocess.run([program, "audit", *args, "--format", "json", "--check"], capture_output=True, text=True, timeout=60, check=False)
     lines = [json.loads(line) for line in run.stdout.splitlines()]
     found = differences(network, run.returncode, lines)
+    found = found or verdict_differences(network, run.returncode, lines)
     if not UNJUDGED & set(network.faults) and network.has_pairs():
         run = subprocess.run([program, "merge", *args, "--keep", "-w", "-"], capture_output=True, timeout=60, check=False)
         found += merge_differences(network, packets_of(run.stdout)) if run.returncode == 0 else [f"a merge ends with status {run.returncode}"]

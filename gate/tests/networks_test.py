@@ -42,7 +42,56 @@ def said_of(network):
     return lines
 
 
+def verdicts_of(network):
+    """The verdicts on a network that can be judged, as they are."""
+    faults, notices = [], []
+    for mac, figures in (report for source in network.sources for report in source.reports()):
+        for kind, name, number, where in (("both_lost", "neither", "numbers", faults), ("restart", "restarts", "times", notices),
+                                          ("unseen", "unseen", "numbers", notices)):
+            if figures.get(name):
+                where.append({"line": "notice", "kind": kind, "source": mac.hex(":"), number: figures[name]})
+    for mac, side, frames, time in network.rows():
+        faults.append({"kind": "dead_port", "source": mac, "lan": "BA"[side], "frames": frames, "since_ms": time / 10**6})
+    for lan, (frames, sources) in enumerate(networks.losses(network)):
+        if frames:
+            faults.append({"kind": "loss", "lan": "AB"[lan], "frames": frames, "sources": sources, "other_lan": networks.losses(network)[1 - lan][0]})
+    whole = {"line": "verdict", "verdict": "faulty" if faults else "sound", "faults": len(faults), "notices": len(notices)}
+    return [whole, *({**fault, "line": "fault"} for fault in faults), *notices]
+
+
 class NetworksTest(unittest.TestCase):
+    def test_true_verdicts_pass_and_each_that_is_wrong_is_found(self):
+        for faults in [(), ("loss",), ("row",), ("both",), ("restart",), ("loss", "restart")]:
+            network = network_where(lambda one: type(one) is networks.Network and sorted(one.faults) == sorted(faults) and one.has_pairs())
+            lines = verdicts_of(network)
+            self.assertEqual(networks.verdict_differences(network, network.status(), lines), [], faults)
+            for at, line in enumerate(lines):
+                self.assertTrue(networks.verdict_differences(network, network.status(), lines[:at] + lines[at + 1:]), line)
+                for name in {"faults", "frames", "sources", "other_lan", "numbers", "times"} & set(line):
+                    wrong = lines[:at] + [{**line, name: line[name] + 1}] + lines[at + 1:]
+                    self.assertTrue(networks.verdict_differences(network, network.status(), wrong), (line, name))
+
+    def test_a_row_at_the_end_is_told_with_its_time(self):
+        network = network_where(lambda one: type(one) is networks.Network and not one.faults and not one.clock and len(one.sources[0].frames) > 20
+                                and one.runs == [(0, networks.END)] * 2 and one.sources[0].period < 10**9)
+        for frame in network.sources[0].frames[-5:]:
+            frame["lans"].discard(1)
+            frame["seen"].discard(1)
+        network_of.cache_clear()
+        row = network.rows()
+        self.assertEqual([(side, frames) for _, side, frames, _ in row], [(0, 5)])
+        lines = verdicts_of(network)
+        self.assertEqual(networks.verdict_differences(network, 3, lines), [])
+        lines[1]["since_ms"] += 20
+        self.assertTrue(networks.verdict_differences(network, 3, lines))
+
+    def test_where_nothing_can_be_judged_that_alone_is_told(self):
+        network = network_with("dead")
+        lines = [{"line": "verdict", "verdict": "unjudged", "faults": 0, "notices": 0}, {"line": "unjudged", "kind": "unnumbered"}]
+        self.assertEqual(networks.verdict_differences(network, 4, lines), [])
+        self.assertTrue(networks.verdict_differences(network, 4, lines[:1]))
+        self.assertTrue(networks.verdict_differences(network, 4, lines + [{"line": "notice", "kind": "clock"}]))
+
     def test_what_captures_have_of_each_kind_of_network(self):
         for kind in (networks.Access, networks.Talking, networks.Untold, networks.InAndOut):
             network = network_where(lambda one: type(one) is kind and not one.faults and one.has_pairs())

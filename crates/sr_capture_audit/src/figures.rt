@@ -32,18 +32,22 @@ use std::io::{BufRead, Write};
 /// The figures of the captures.
 #[derive(Drop)]
 pub struct Report {
-    subject: Subject,
-    spans: Spans,
+    /// What is audited.
+    pub subject: Subject,
+    /// When the captures run, as it is judged by.
+    pub spans: Spans,
     /// When the first and the last packet came, by whichever capture.
     whole: Option<Span>,
-    counts: Counts,
-    audit: Audit,
+    /// How many packets of each kind the captures have.
+    pub counts: Counts,
+    /// The figures of all frames, by their sources.
+    pub audit: Audit,
     /// The figures of the frames that tell what was lost, where not all do.
-    judged: Option<Audit>,
+    pub judged: Option<Audit>,
     /// The figures of the counters by which frames are numbered, where sources stand behind RedBoxes.
-    counters: Option<Audit>,
+    pub counters: Option<Audit>,
     /// Whether those tell of numbers that were lost, or went past no recorder.
-    sight: Sight,
+    pub sight: Sight,
 }
 
 /// Whether a frame came by one side alone, while the capture of the other side ran.

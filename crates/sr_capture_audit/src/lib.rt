@@ -33,6 +33,6 @@ pub use lists::{Lists, print_lists};
 pub use network::{Network, Ports, Subject};
 pub use picture::{print_picture, print_picture_recorded};
 pub use redboxes::{RedBoxes, redboxes_of};
-pub use rows::Format;
+pub use rows::{Field, Format, Value, print_row};
 pub use ruling::{Rule, ruled_of};
 pub use spanning::spans_of;

@@ -19,7 +19,7 @@ pub enum Format {
 
 /// A value of a line.
 #[derive(Clone, Copy)]
-pub(crate) enum Value {
+pub enum Value {
     /// A word or letter.
     Word(&'static str),
     /// An address.
@@ -34,10 +34,13 @@ pub(crate) enum Value {
 
 /// A value, and its names in text and elsewhere. Text has no name for some.
 #[derive(Clone, Copy)]
-pub(crate) struct Field {
-    label: &'static str,
-    key: &'static str,
-    value: Value,
+pub struct Field {
+    /// Its name in text. Empty: it has none there.
+    pub label: &'static str,
+    /// Its name elsewhere.
+    pub key: &'static str,
+    /// The value.
+    pub value: Value,
 }
 
 /// A value with a name in text, and one elsewhere.
@@ -162,7 +165,7 @@ fn print_words<W: Write>(
 ///
 /// # Errors
 /// `Write` where the writer fails.
-pub(crate) fn print_row<W: Write>(
+pub fn print_row<W: Write>(
     writer: &mut W,
     format: Format,
     word: &'static str,

@@ -24,7 +24,7 @@ use Rattle.sr_capture_audit.specs.Edging.{tells_of_lost, tells_of_missing}
 use Rattle.sr_capture_audit.specs.Faults.{shows_lost, have_lost, shows_missing, have_missing, lost_told, missing_told, have_faults, judged_have_lost, counters_have_missing, has_faults}
 use Rattle.sr_capture_audit.specs.Hints.{are_swapped}
 use Rattle.sr_capture_audit.specs.Judging.{shows_pairs, has_pairs, are_cut, reason_of, judged, network_judgement, check_status}
-use Rattle.sr_capture_laws.specs.Exact.{lost_among, missing_among, paired_among, tells_beside, has_all_sent, reason_by, judged_by, judgement_by, ChecksAreByArrivals}
+use Rattle.sr_capture_laws.specs.Exact.{lost_among, missing_among, paired_among, tells_beside, sees_all, reason_by, judged_by, judgement_by, ChecksAreByArrivals}
 use Rattle.sr_capture_laws.specs.Judged.{with_counters_if, with_judged_if}
 
 -- no arrival tells of anything
@@ -47,7 +47,7 @@ none_with : (s : Sight) → counters_have_missing s None ≡ false
 none_with All = refl
 none_with Part = refl
 
-some_with : (s : Sight) (c : Audit) (b : Bool) → have_missing c ≡ b → counters_have_missing s (Some c) ≡ (has_all_sent s && b)
+some_with : (s : Sight) (c : Audit) (b : Bool) → have_missing c ≡ b → counters_have_missing s (Some c) ≡ (sees_all s && b)
 some_with All c b e = e
 some_with Part c b e = refl
 
@@ -86,7 +86,7 @@ checks_are judged_spans subject xs r counters sight frames by_counter by_flow to
 
     -- the same by whether frames were lost, and numbers missing
     faults_if : Bool → Bool → Bool
-    faults_if l m = have_faults counts || ((l && lost_among judged_spans by_flow) || ((m && (has_all_sent sight && missing_among judged_spans by_counter))
+    faults_if l m = have_faults counts || ((l && lost_among judged_spans by_flow) || ((m && (sees_all sight && missing_among judged_spans by_counter))
         || some_source (tells_beside l m) judged_spans sent))
 
     with_own : (j : Option Audit) (s : Sight) (c : Option Audit) (b d l m : Bool) → judged_have_lost j ≡ b → counters_have_missing s c ≡ d →

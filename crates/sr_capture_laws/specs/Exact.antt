@@ -47,15 +47,15 @@ without_missing false f = f
 abbrev pub tells_beside : Bool → Bool → Figures → Bool
 tells_beside lost missing f = tells_of_faults (without_missing missing (without_lost lost f))
 
-abbrev pub has_all_sent : Sight → Bool
-has_all_sent All = true
-has_all_sent Part = false
+abbrev pub sees_all : Sight → Bool
+sees_all All = true
+sees_all Part = false
 
 -- the arrivals of all sources, those that are judged, and those of the counters, tell of a fault
 abbrev pub faults_by : Counts → Spans → List Sent → List Sent → List Sent → Sight → Bool
 faults_by counts spans sent frames counters sight =
     have_faults counts || ((lost_among spans sent && lost_among spans frames)
-    || ((missing_among spans sent && (has_all_sent sight && missing_among spans counters))
+    || ((missing_among spans sent && (sees_all sight && missing_among spans counters))
     || some_source (tells_beside (lost_among spans sent) (missing_among spans sent)) spans sent))
 
 -- why nothing can be judged

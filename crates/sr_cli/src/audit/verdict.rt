@@ -1,0 +1,51 @@
+//! What is told of a network by the figures of its captures, and how a check ends.
+
+use crate::audit::Ended;
+use crate::clocks::Known;
+use sr_capture_audit::{Judgement, Reason, Report};
+use sr_capture_script::ScriptFault;
+use sr_verdict::{Outside, Verdict, reason_in, status_of, verdicts_of};
+
+/// Why nothing can be judged of captures whose clocks can't be told, or of a ring where each has both ways.
+fn reason_outside(known: Known, are_both_ways: bool) -> Option<Reason> {
+    match known {
+        Known::Unjudged(Judgement::Unjudged(reason)) => Some(reason),
+        _ if are_both_ways => Some(Reason::BothWays),
+        _ => None,
+    }
+}
+
+/// What is known of the captures besides their figures.
+fn outside_of(known: Known, are_both_ways: bool) -> Outside {
+    Outside {
+        reason: reason_outside(known, are_both_ways),
+        ahead: match known {
+            Known::Ahead(_, ahead, _) => Some(ahead),
+            Known::Nothing | Known::Unjudged(_) => None,
+        },
+    }
+}
+
+/// What is told of the network.
+pub fn judge<R: AllocGlobal>(
+    rt: &R,
+    report: &Report,
+    known: Known,
+    are_both_ways: bool,
+) -> Result<Vec<Verdict>, Ended> {
+    match verdicts_of(rt.alloc(), report, outside_of(known, are_both_ways)) {
+        Ok(verdicts) => Ok(verdicts),
+        Err(_) => Err(Ended::By(ScriptFault::NoMemory)),
+    }
+}
+
+/// Says why nothing can be judged, where that is so. An error is the exit status of a check that does not pass.
+pub fn check<R: Eprint>(rt: &R, verdicts: &[Verdict]) -> Result<(), u8> {
+    if let Some(reason) = reason_in(verdicts) {
+        let _ = eprintln!(rt; "nothing to judge: {reason}");
+    }
+    match status_of(verdicts) {
+        0 => Ok(()),
+        status => Err(status),
+    }
+}

@@ -1,0 +1,3 @@
+pub mod Heards
+pub mod Shared
+pub mod Verdicts

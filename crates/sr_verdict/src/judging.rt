@@ -1,0 +1,325 @@
+//! The verdicts on a network, by the figures of its captures.
+
+ghost use Rattle.std.specs.Prelude.{◌≡◌, [], ◌∷◌, ◌++◌, IfOk, OnOk};
+ghost use Rattle.sr_verdict.specs.Heards.{AreHeard};
+ghost use Rattle.sr_verdict.specs.Verdicts.{
+  as_list,
+  verdicts_on,
+  verdicts_where,
+  sided_verdicts,
+  cut_told,
+  loss_by,
+  loss_at,
+  are_crossed,
+  wrong_at,
+  misfit_at,
+  id_verdicts,
+  other_id_verdicts,
+  has_all_sent,
+  telling_entries,
+  fault_verdicts,
+  notice_verdicts,
+  clock_told,
+  why_of,
+  why_told,
+  AreHeardIn,
+  AreVerdictsOf,
+};
+
+use crate::heard::{Heard, heard_in};
+use crate::kinds::{Kind, verdict_on, when_counted};
+use crate::shared::{Cut, Share, cut_in, share_by};
+use crate::verdict::Verdict;
+use sr_audit::{Audit, Side, Sides, Spans};
+use sr_capture_audit::{Counts, Judgement, Network, Reason, Report, Sight};
+use sr_frame::NoMemory;
+use std::alloc::{AllocError, Global};
+
+/// How many copies at each side have the id of the other LAN where cables are crossed (choice of this project): one is a stray.
+const LEAST_CROSSED: u64 = 3;
+
+/// What is known of captures besides their figures.
+#[derive(Clone, Copy, Debug, PartialEq, Eq)]
+pub struct Outside {
+    /// Why nothing can be judged by the figures. None: they judge.
+    pub reason: Option<Reason>,
+    /// How far the clock of B was ahead, in nanoseconds, where it was put right.
+    pub ahead: Option<i128>,
+}
+
+/// What is heard of sources, by all frames, by those that tell what was lost, and by the counters.
+#[derive(Drop)]
+struct Hearing {
+    own: Vec<Heard>,
+    telling: Vec<Heard>,
+    counters: Vec<Heard>,
+}
+
+/// Takes a verdict.
+fn note(verdicts: &mut Vec<Verdict>, verdict: Verdict) -> Result<(), NoMemory>
+    ensures { OnOk result (verdicts.new.items ≡ verdicts.old.items ++ verdict ∷ []) }
+{
+    match verdicts.push(verdict) {
+        Ok(()) => Ok(()),
+        Err(refused) => Err(AllocError::from(refused).into()),
+    }
+}
+
+/// Takes a verdict, if there is one.
+fn note_one(verdicts: &mut Vec<Verdict>, verdict: Option<Verdict>) -> Result<(), NoMemory>
+    ensures { OnOk result (verdicts.new.items ≡ verdicts.old.items ++ as_list verdict) }
+{
+    if let Some(verdict) = verdict {
+        note(verdicts, verdict)?;
+    }
+    Ok(())
+}
+
+/// Takes the verdicts of a kind on sources.
+fn note_each(verdicts: &mut Vec<Verdict>, kind: Kind, heard: &[Heard]) -> Result<(), NoMemory>
+    ensures { OnOk result (verdicts.new.items ≡ verdicts.old.items ++ verdicts_on kind heard.now) }
+{
+    for own in heard {
+        note_one(verdicts, verdict_on(kind, own))?;
+    }
+    Ok(())
+}
+
+/// Takes the verdicts of a kind on sources, where a test holds.
+fn note_where(
+    verdicts: &mut Vec<Verdict>,
+    holds: bool,
+    kind: Kind,
+    heard: &[Heard],
+) -> Result<(), NoMemory>
+    ensures { OnOk result
+        (verdicts.new.items ≡ verdicts.old.items ++ verdicts_where holds kind heard.now) }
+{
+    if holds {
+        note_each(verdicts, kind, heard)?;
+    }
+    Ok(())
+}
+
+/// The verdict of a cut, if there is one.
+fn cut_told(cut: Option<Cut>) -> Option<Verdict>
+    ensures { result ≡ cut_told cut }
+{
+    match cut {
+        Some(cut) => Some(Verdict::CutRing(cut)),
+        None => None,
+    }
+}
+
+/// Takes what is told of sources that are heard by one side alone at last.
+fn note_sided(
+    verdicts: &mut Vec<Verdict>,
+    network: Network,
+    telling: &[Heard],
+) -> Result<(), NoMemory>
+    ensures { OnOk result
+        (verdicts.new.items ≡ verdicts.old.items ++ sided_verdicts network telling.now) }
+{
+    match network {
+        Network::Prp => note_each(verdicts, Kind::DeadPort, telling),
+        Network::Hsr => note_one(verdicts, cut_told(cut_in(telling))),
+    }
+}
+
+/// The verdict of the frames that a LAN lost, and the other one.
+fn loss_by(lan: Side, own: Share, other: Share) -> Option<Verdict>
+    ensures { result ≡ loss_by lan own other }
+{
+    when_counted(own.sources, Verdict::Loss(lan, own, other.frames))
+}
+
+/// Takes what is told of the frames that a LAN lost.
+fn note_loss(verdicts: &mut Vec<Verdict>, lan: Side, telling: &[Heard]) -> Result<(), NoMemory>
+    ensures { OnOk result (verdicts.new.items ≡ verdicts.old.items ++ loss_at lan telling.now) }
+{
+    let own = share_by(lan.other(), telling);
+    let other = share_by(lan, telling);
+    note_one(verdicts, loss_by(lan, own, other))
+}
+
+/// Whether copies at both sides have the id of the other LAN.
+fn are_crossed(counts: &Counts) -> bool
+    ensures { result ≡ are_crossed counts.now }
+{
+    counts.a.wrong_lan >= LEAST_CROSSED && counts.b.wrong_lan >= LEAST_CROSSED
+}
+
+/// Takes what is told of copies at a side that have the id of the other LAN.
+fn note_wrong(verdicts: &mut Vec<Verdict>, side: Option<Side>, copies: u64) -> Result<(), NoMemory>
+    ensures { OnOk result (verdicts.new.items ≡ verdicts.old.items ++ wrong_at side copies) }
+{
+    note_one(
+        verdicts,
+        when_counted(copies, Verdict::WrongLan(side, copies)),
+    )
+}
+
+/// Takes what is told of frames at a side whose trailer is none.
+fn note_misfits(
+    verdicts: &mut Vec<Verdict>,
+    side: Option<Side>,
+    frames: u64,
+) -> Result<(), NoMemory>
+    ensures { OnOk result (verdicts.new.items ≡ verdicts.old.items ++ misfit_at side frames) }
+{
+    note_one(
+        verdicts,
+        when_counted(frames, Verdict::Misfit(side, frames)),
+    )
+}
+
+/// Takes what is told of the ids of copies at both sides.
+fn note_ids(verdicts: &mut Vec<Verdict>, counts: &Counts) -> Result<(), NoMemory>
+    ensures { OnOk result (verdicts.new.items ≡ verdicts.old.items ++ id_verdicts counts.now) }
+{
+    let (a, b) = (counts.a.wrong_lan, counts.b.wrong_lan);
+    if are_crossed(counts) {
+        return note_one(verdicts, Some(Verdict::Crossed(Sides { a, b })));
+    }
+    note_wrong(verdicts, Some(Side::A), a)?;
+    note_wrong(verdicts, Some(Side::B), b)
+}
+
+/// Takes what is told of the ids of frames at a mirror port, and of trailers that are none.
+fn note_other_ids(verdicts: &mut Vec<Verdict>, counts: &Counts) -> Result<(), NoMemory>
+    ensures { OnOk result
+        (verdicts.new.items ≡ verdicts.old.items ++ other_id_verdicts counts.now) }
+{
+    note_wrong(verdicts, None, counts.neither.wrong_lan)?;
+    note_misfits(verdicts, Some(Side::A), counts.a.misfit)?;
+    note_misfits(verdicts, Some(Side::B), counts.b.misfit)?;
+    note_misfits(verdicts, None, counts.neither.misfit)
+}
+
+/// Whether the captures have all that was sent, but what was lost.
+fn has_all_sent(report: &Report) -> bool
+    ensures { result ≡ has_all_sent report.now.sight report.now.counters }
+{
+    report.sight == Sight::All || report.counters.is_none()
+}
+
+/// Takes the faults that the figures tell of.
+fn note_faults(
+    verdicts: &mut Vec<Verdict>,
+    report: &Report,
+    hearing: &Hearing,
+) -> Result<(), NoMemory>
+    ensures { OnOk result (verdicts.new.items ≡ verdicts.old.items ++ fault_verdicts report.now
+        hearing.now.own.items hearing.now.telling.items hearing.now.counters.items) }
+{
+    let Hearing {
+        own,
+        telling,
+        counters,
+    } = hearing;
+    note_where(verdicts, has_all_sent(report), Kind::BothLost, counters)?;
+    note_sided(verdicts, report.subject.network, telling)?;
+    note_ids(verdicts, &report.counts)?;
+    note_loss(verdicts, Side::A, telling)?;
+    note_loss(verdicts, Side::B, telling)?;
+    note_other_ids(verdicts, &report.counts)?;
+    note_each(verdicts, Kind::Repeated, own)?;
+    note_each(verdicts, Kind::Late, own)
+}
+
+/// The verdict of a clock that was put right, if it was.
+fn clock_told(ahead: Option<i128>) -> Option<Verdict>
+    ensures { result ≡ clock_told ahead }
+{
+    match ahead {
+        Some(ahead) => Some(Verdict::Clock(ahead)),
+        None => None,
+    }
+}
+
+/// Takes the notices that the figures give.
+fn note_notices(
+    verdicts: &mut Vec<Verdict>,
+    report: &Report,
+    ahead: Option<i128>,
+    counters: &[Heard],
+) -> Result<(), NoMemory>
+    ensures { OnOk result (verdicts.new.items ≡ verdicts.old.items
+        ++ notice_verdicts report.now ahead counters.now) }
+{
+    let has_all_sent = has_all_sent(report);
+    note_where(verdicts, has_all_sent, Kind::Restart, counters)?;
+    note_where(verdicts, !has_all_sent, Kind::Unseen, counters)?;
+    note_one(verdicts, clock_told(ahead))
+}
+
+/// What is heard of the sources of an audit of its own, or else of the one of all frames.
+fn heard_by(
+    alloc: Global,
+    own: &Option<Audit>,
+    audit: &Audit,
+    spans: &Spans,
+) -> Result<Vec<Heard>, NoMemory>
+    ensures { IfOk result (λ heard.
+        AreHeard spans.now (telling_entries own.now audit.now) heard.items) }
+{
+    match own {
+        Some(own) => heard_in(alloc, own, spans),
+        None => heard_in(alloc, audit, spans),
+    }
+}
+
+/// What is heard of the sources of a report.
+fn hearing_of(alloc: Global, report: &Report) -> Result<Hearing, NoMemory>
+    ensures { IfOk result (λ hearing. AreHeardIn report.now hearing.own.items
+        hearing.telling.items hearing.counters.items) }
+{
+    let Report {
+        audit,
+        judged,
+        counters,
+        spans,
+        ..
+    } = report;
+    Ok(Hearing {
+        own: heard_in(alloc, audit, spans)?,
+        telling: heard_by(alloc, judged, audit, spans)?,
+        counters: heard_by(alloc, counters, audit, spans)?,
+    })
+}
+
+/// Why nothing can be judged.
+fn why_told(outside: Option<Reason>, report: &Report) -> Option<Reason>
+    ensures { result ≡ why_told outside report.now }
+{
+    if outside.is_some() {
+        return outside;
+    }
+    match report.summary().judgement {
+        Judgement::Unjudged(reason) => Some(reason),
+        Judgement::Sound | Judgement::Faulty => None,
+    }
+}
+
+/// The verdicts on a network, the most severe kind first, and of a kind those on sources in their order: each stands exactly where the
+/// figures say so. Where nothing can be judged, that is the only one.
+///
+/// # Errors
+/// `NoMemory` where an allocation failed.
+pub fn verdicts_of(
+    alloc: Global,
+    report: &Report,
+    outside: Outside,
+) -> Result<Vec<Verdict>, NoMemory>
+    ensures { IfOk result (λ verdicts. AreVerdictsOf report.now outside verdicts.items) }
+{
+    let hearing = hearing_of(alloc, report)?;
+    let mut verdicts = Vec::new(alloc);
+    if let Some(reason) = why_told(outside.reason, report) {
+        note(&mut verdicts, Verdict::Unjudged(reason))?;
+        return Ok(verdicts);
+    }
+    note_faults(&mut verdicts, report, &hearing)?;
+    note_notices(&mut verdicts, report, outside.ahead, &hearing.counters)?;
+    Ok(verdicts)
+}
