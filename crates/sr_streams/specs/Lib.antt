@@ -1,3 +1,6 @@
 pub mod Elements
 pub mod Messages
 pub mod Views
+pub mod Spots
+pub mod Courses
+pub mod Sums

@@ -3,8 +3,13 @@
 
 mod elements;
 mod message;
+mod numbers;
 mod reading;
+mod spot;
+mod sums;
 
 pub use elements::MAX_NAME_LEN;
 pub use message::{Counter, Message};
+pub use numbers::{Arrival, Numbers};
 pub use reading::{GOOSE_ETHERTYPE, SV_ETHERTYPE, read};
+pub use sums::Kind;
