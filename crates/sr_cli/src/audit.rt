@@ -5,6 +5,7 @@ use crate::meanings::{lines_of, lists_of, network_of, subject_of};
 use crate::pipes::Pipe;
 use crate::progress::Progress;
 use crate::script::{Opened, open_file, tell_ended};
+use crate::streams::write_streams;
 use sr_audit::{Audit, LISTED_AT_ONCE, MAX_SOURCES, Span, Spans};
 use sr_capture_audit::{
     Counts, Flows, Format, Judgement, Network, Reason, RedBoxes, Report, Rule, SideCounts, Sight,
@@ -45,7 +46,7 @@ impl From<ScriptFault> for Ended {
 }
 
 /// Opens the captures for a pass.
-fn open<'a, R: AllocGlobal + Eprint + Files>(
+pub fn open<'a, R: AllocGlobal + Eprint + Files>(
     rt: &'a R,
     task: &AuditTask<'_>,
     progress: Progress,
@@ -437,6 +438,7 @@ fn write_all<R: AllocGlobal + Eprint + Files, W: Write>(
 ) -> Result<(), Ended> {
     write_clocks(task, known, writer)?;
     write_figures(task, times, report, writer)?;
+    write_streams(rt, task, writer)?;
     write_rest(rt, task, keys, times, summary, writer)?;
     match writer.flush() {
         Ok(()) => Ok(()),

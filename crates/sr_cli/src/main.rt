@@ -9,6 +9,7 @@ mod pipes;
 mod progress;
 mod running;
 mod script;
+mod streams;
 
 use audit::run_audit;
 use merge::run_merge;

@@ -4,3 +4,4 @@ pub mod Views
 pub mod Spots
 pub mod Courses
 pub mod Sums
+pub mod Tables

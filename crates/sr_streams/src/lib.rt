@@ -7,9 +7,11 @@ mod numbers;
 mod reading;
 mod spot;
 mod sums;
+mod table;
 
 pub use elements::MAX_NAME_LEN;
 pub use message::{Counter, Message};
 pub use numbers::{Arrival, Numbers};
 pub use reading::{GOOSE_ETHERTYPE, SV_ETHERTYPE, read};
 pub use sums::Kind;
+pub use table::{MAX_STREAMS, Stream, Streams};

@@ -1,0 +1,79 @@
+-- The streams of the messages that came (choice of this project).
+use Rattle.std.specs.Prelude.{ℕ, ◌≡◌, ◌<◌, ◌≤◌, ◌&&◌, ◌||◌, not, nat_eq, Bool, true, false, List, [], ◌∷◌, length, map, filter, slice_get, Some}
+use Rattle.std.specs.Cmp.Lexicographic.{pointwise}
+use Rattle.sr_frame.specs.Addresses.{mac_eq}
+use Rattle.sr_frame.specs.declared.fields.Mac.{Mac}
+use Rattle.sr_streams.specs.declared.message.Counter.{Counter}
+use Rattle.sr_streams.specs.declared.message.Counter.TheVariants as counter
+use Rattle.sr_streams.specs.declared.numbers.Arrival.{Arrival}
+use Rattle.sr_streams.specs.declared.sums.Kind.{Kind}
+use Rattle.sr_streams.specs.declared.sums.Kind.TheVariants.{Goose, Sampled}
+use Rattle.sr_streams.specs.declared.table.Stream.{Stream}
+use Rattle.sr_streams.specs.declared.table.Streams.{Streams}
+use Rattle.sr_streams.specs.Courses.{course_of}
+use Rattle.sr_streams.specs.Messages.{Said}
+use Rattle.sr_streams.specs.Sums.{Keeps}
+
+-- a message that came: its source address, what it says, and when
+pub record Sent : Type 0 where
+  pub src : Mac
+  pub says : Said
+  pub time : ℕ
+
+-- what a stream is known by: the source address, of what it is, and its name
+pub record Key : Type 0 where
+  pub src : Mac
+  pub kind : Kind
+  pub name : List ℕ
+
+-- of what a stream with such numbers is
+abbrev pub kind_of : Counter → Kind
+kind_of (counter.Goose st_num sq_num) = Goose
+kind_of (counter.Sampled smp_cnt asdus) = Sampled
+
+abbrev pub kind_eq : Kind → Kind → Bool
+kind_eq Goose Goose = true
+kind_eq Goose Sampled = false
+kind_eq Sampled Goose = false
+kind_eq Sampled Sampled = true
+
+abbrev pub key_eq : Key → Key → Bool
+key_eq k l = mac_eq k.src l.src && (kind_eq k.kind l.kind && pointwise nat_eq k.name l.name)
+
+abbrev pub key_sent : Sent → Key
+key_sent x = record { src = x.src; kind = kind_of x.says.counter; name = x.says.name }
+
+abbrev pub key_of : Stream → Key
+key_of stream = record { src = stream.src; kind = stream.kind; name = stream.name.items }
+
+abbrev pub keys_of : List Stream → List Key
+keys_of streams = map key_of streams
+
+-- whether a stream is among some
+abbrev pub has_key : Key → List Key → Bool
+has_key key [] = false
+has_key key (own ∷ keys) = key_eq own key || has_key key keys
+
+-- when a message came, and its number
+abbrev pub arrival_of : Sent → Arrival
+arrival_of x = record { time = x.time; counter = x.says.counter }
+
+-- the messages of a stream, in the order in which they are given: the last one first
+abbrev pub arrivals_of : Key → List Sent → List Arrival
+arrivals_of key xs = map arrival_of (filter (λ x. key_eq key (key_sent x)) xs)
+
+-- how many streams are kept
+abbrev pub max_streams : ℕ
+max_streams = 1024
+
+-- what is kept is of the messages that came, the last one first
+pub record AreStreamsOf (xs : List Sent) (streams : Streams) : Type 0 where
+  pub few : length streams.streams.items ≤ max_streams
+  -- each stream is kept once, with what all of its messages tell
+  pub each : (at : ℕ) (stream : Stream) → slice_get streams.streams.items at ≡ Some stream → Keeps (course_of (arrivals_of (key_of stream) xs)) stream.numbers
+  pub once : (i j : ℕ) (key : Key) → slice_get (keys_of streams.streams.items) i ≡ Some key → slice_get (keys_of streams.streams.items) j ≡ Some key → i ≡ j
+  -- while there is room, no other stream sent, and no message was left out
+  pub all : length streams.streams.items < max_streams → (key : Key) → has_key key (keys_of streams.streams.items) ≡ false → arrivals_of key xs ≡ []
+  pub none_out : length streams.streams.items < max_streams → streams.left_out ≡ 0
+  -- the messages of other streams are counted
+  pub left_out : streams.left_out ≡ length (filter (λ x. not (has_key (key_sent x) (keys_of streams.streams.items))) xs)
