@@ -1,5 +1,5 @@
 -- Streams that are one, and those that are not.
-use Rattle.std.proofs.Common.{◌≡◌, ℕ, Bool, true, false, nat_eq, ◌&&◌, List, refl, sym, ◌∙◌, eqb-true, eq-eqb}
+use Rattle.std.proofs.Common.{◌≡◌, ℕ, true, nat_eq, ◌&&◌, List, refl, sym, ◌∙◌, eqb-true, eq-eqb}
 use Rattle.std.proofs.lemmas.Bool.{and_parts, and_from}
 use lib.Pointwise.{pointwise, pointwise_decides}
 use Rattle.sr_frame.specs.declared.fields.Mac.{Mac}

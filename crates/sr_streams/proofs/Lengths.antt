@@ -1,9 +1,9 @@
 -- A message adds one spot at most to a course.
-use Rattle.std.proofs.Common.{◌≡◌, ℕ, ◌+◌, ◌<◌, ◌≤◌, ◌^◌, Bool, true, false, List, [], ◌∷◌, length, Option, Some, None, Result, Ok, Err, arith, cond, take}
+use Rattle.std.proofs.Common.{ℕ, ◌+◌, ◌≤◌, Bool, true, false, List, [], ◌∷◌, length, Option, Some, None, Result, Ok, Err, arith, cond, take}
 use Rattle.std.specs.Prelude.{insert, slice_get, OnOk}
 use Rattle.sr_streams.specs.declared.numbers.Arrival.{Arrival}
 use Rattle.sr_streams.specs.declared.spot.Spot.{Spot}
-use Rattle.sr_streams.specs.Courses.{course_of, taken_at, seated, seat, has_rank, entered, top_of}
+use Rattle.sr_streams.specs.Courses.{course_of, taken_at, seated, seat, has_rank, top_of}
 use Rattle.sr_streams.specs.Spots.{rank, spot_of}
 use Rattle.sr_streams.proofs.Entering.{length_insert}
 

@@ -9,7 +9,6 @@ use Rattle.std.proofs.lemmas.Option.{slice_get_read, slice_get-map}
 use Rattle.std.proofs.Math.Seq.{map-set_same}
 use Rattle.std.proofs.Math.ListN.{set}
 use Rattle.sr_streams.specs.declared.numbers.Arrival.{Arrival}
-use Rattle.sr_streams.specs.declared.numbers.Numbers.{Numbers}
 use Rattle.sr_streams.specs.declared.table.Stream.{Stream}
 use Rattle.sr_streams.specs.declared.table.Streams.{Streams}
 use Rattle.sr_streams.specs.Courses.{course_of}
@@ -76,6 +75,7 @@ not_found key streams e =
   where
     nothing : (n : ℕ) → ◌≡◌ {A = Option ℕ} (Some n) None → ⊥
     nothing n h = cc
+
     some_none : (n m : ℕ) → n < m → ◌≡◌ {A = Option ℕ} (cond (nat_lt n m) (Some n) None) None → ⊥
     some_none n m less h = nothing n (sym (ap (λ b. cond b (Some n) None) (lt-ltb n m less)) ∙ h)
 
@@ -276,13 +276,13 @@ pushed xs m old new own grown own_key same_out placed room keeps h =
       ];
       once = λ i j key e f. elim (get_more (keys_of old.streams.items) (key_sent m) key i (subst (λ l. slice_get l i ≡ Some key) keys e)) [
         | inl a ↦ elim (get_more (keys_of old.streams.items) (key_sent m) key j (subst (λ l. slice_get l j ≡ Some key) keys f)) [
-            | inl b ↦ h.once i j key a b
-            | inr b ↦ absurd (lone i key a b.1)
-          ]
+          | inl b ↦ h.once i j key a b
+          | inr b ↦ absurd (lone i key a b.1)
+        ]
         | inr a ↦ elim (get_more (keys_of old.streams.items) (key_sent m) key j (subst (λ l. slice_get l j ≡ Some key) keys f)) [
-            | inl b ↦ absurd (lone j key b a.1)
-            | inr b ↦ a.0 ∙ sym b.0
-          ]
+          | inl b ↦ absurd (lone j key b a.1)
+          | inr b ↦ a.0 ∙ sym b.0
+        ]
       ];
       all = λ room' key out. let both = or_parts (has_key key (keys_of old.streams.items)) (key_eq (key_sent m) key) (sym (has_more key (key_sent m) (keys_of old.streams.items)) ∙ subst (λ l. has_key key l ≡ false) keys out) in
           other_more key m xs (λ e. true_false (sym (subst (λ k. key_eq k key ≡ true) e (key_refl key)) ∙ both.1)) ∙ h.all room key both.0;

@@ -1,8 +1,7 @@
 -- The messages of a stream: which came, and which are missing between them (choice of this project).
-use Rattle.std.specs.Prelude.{ℕ, ◌≡◌, ◌+◌, ◌-◌, ◌*◌, ◌^◌, ◌≤◌, max, nat_le, nat_lt, ◌==◌, ◌&&◌, Bool, false, List, [], ◌∷◌, length, take, insert, position, slice_get, Option, Some, None, if◌then◌else◌}
+use Rattle.std.specs.Prelude.{ℕ, ◌+◌, ◌-◌, max, nat_le, nat_lt, ◌==◌, ◌&&◌, Bool, false, List, [], ◌∷◌, take, insert, position, slice_get, Option, Some, None, if◌then◌else◌}
 use Rattle.sr_streams.specs.declared.numbers.Arrival.{Arrival}
 use Rattle.sr_streams.specs.declared.spot.Spot.{Spot}
-use Rattle.sr_streams.specs.declared.spot.Heard.{Heard}
 use Rattle.sr_streams.specs.declared.sums.Kind.{Kind}
 use Rattle.sr_streams.specs.declared.sums.Kind.TheVariants.{Goose, Sampled}
 use Rattle.sr_streams.specs.Spots.{rank, begun, spot_of}

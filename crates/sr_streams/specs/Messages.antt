@@ -1,22 +1,5 @@
 -- What a message of GOOSE (IEC 61850-8-1) or of sampled values (IEC 61850-9-2) says of its stream, as functions over the octets of a frame.
-use Rattle.std.specs.Prelude.{
-  ℕ,
-  ◌+◌,
-  ◌*◌,
-  ◌^◌,
-  List,
-  drop,
-  nat_le,
-  nat_lt,
-  ◌==◌,
-  ◌&&◌,
-  if◌then◌else◌,
-  Option,
-  Some,
-  None,
-  option_map,
-  option_and_then,
-}
+use Rattle.std.specs.Prelude.{ℕ, ◌^◌, List, drop, nat_le, nat_lt, ◌==◌, ◌&&◌, if◌then◌else◌, Option, Some, None, option_map, option_and_then}
 use Rattle.sr_frame.specs.Frame.{Fields}
 use Rattle.sr_streams.specs.declared.message.Counter.{Counter}
 use Rattle.sr_streams.specs.declared.message.Counter.TheVariants.{Goose, Sampled}

@@ -1,5 +1,5 @@
 -- Where a message stands in its stream, told by those before it (choice of this project).
-use Rattle.std.specs.Prelude.{ℕ, ◌+◌, ◌-◌, ◌*◌, ◌/◌, ◌^◌, min, max, nat_le, nat_lt, ◌==◌, ◌&&◌, ◌||◌, Bool, List, [], ◌∷◌, if◌then◌else◌}
+use Rattle.std.specs.Prelude.{ℕ, ◌+◌, ◌-◌, ◌*◌, ◌/◌, ◌^◌, min, max, nat_le, nat_lt, ◌&&◌, ◌||◌, Bool, if◌then◌else◌}
 use Rattle.sr_streams.specs.declared.message.Counter.{Counter}
 use Rattle.sr_streams.specs.declared.message.Counter.TheVariants.{Goose, Sampled}
 use Rattle.sr_streams.specs.declared.spot.Spot.{Spot}

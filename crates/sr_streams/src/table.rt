@@ -141,12 +141,7 @@ impl Streams {
     ///
     /// # Errors
     /// `NoMemory` where an allocation failed.
-    pub fn note(
-        &mut self,
-        src: Mac,
-        time: u64,
-        message: &Message<'_>,
-    ) -> Result<(), NoMemory>
+    pub fn note(&mut self, src: Mac, time: u64, message: &Message<'_>) -> Result<(), NoMemory>
         ensures { OnOk result ((xs : List Sent) → length xs + 1 < 2 ^ 64 → AreStreamsOf xs self.old
             → AreStreamsOf (record { src = src; says = said message.now; time = time } ∷ xs) self.new) }
     {

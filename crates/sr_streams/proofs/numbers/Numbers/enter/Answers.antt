@@ -1,4 +1,4 @@
-use Rattle.std.proofs.Common.{◌≡◌, ◌∙◌, sym, ap, subst, arith, Some, ℕ, cond, take}
+use Rattle.std.proofs.Common.{◌≡◌, ◌∙◌, sym, ap, arith, Some, cond, take}
 use Rattle.std.specs.Prelude.{insert}
 use Rattle.sr_streams.specs.Courses.{seat}
 use Rattle.sr_streams.specs.Spots.{rank}

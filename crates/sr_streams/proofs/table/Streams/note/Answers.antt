@@ -1,7 +1,6 @@
-use Rattle.std.proofs.Common.{◌≡◌, ◌∙◌, sym, ap, refl, arith, Some, None}
+use Rattle.std.proofs.Common.{◌∙◌, sym, ap, refl, arith}
 use Rattle.std.specs.Prelude.{position}
-use Rattle.sr_streams.specs.Tables.{Sent, key_eq, key_of, key_sent}
-use Rattle.sr_streams.specs.Views.{said}
+use Rattle.sr_streams.specs.Tables.{key_eq, key_of}
 use Rattle.sr_streams.proofs.Lengths.{on_ok}
 use Rattle.sr_streams.proofs.table.Streams.note.Goals as goal
 
