@@ -31,11 +31,7 @@ fn digit_of(value: u8) -> char {
 }
 
 /// Writes an octet that stands for no character.
-fn escape<W: fmt::Write>(
-    f: &mut fmt::Formatter<W>,
-    octet: u8,
-    spelling: Spelling,
-) -> fmt::Result {
+fn escape<W: fmt::Write>(f: &mut fmt::Formatter<W>, octet: u8, spelling: Spelling) -> fmt::Result {
     f.write_str(match spelling {
         Spelling::Word => "\\x",
         Spelling::Quoted => "\\u00",

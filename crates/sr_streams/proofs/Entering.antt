@@ -5,11 +5,11 @@ use Rattle.std.proofs.lemmas.Bool.{false_from_ne_true}
 use Rattle.std.proofs.lemmas.List.Quantifiers.{position-Some}
 use Rattle.std.proofs.lemmas.Option.{slice_get_read}
 use Rattle.sr_streams.specs.declared.spot.Spot.{Spot}
-use Rattle.sr_streams.specs.Courses.{pairs, between, turned, turned_at, parted, made, top_of, seat, seated, has_rank, entered}
-use Rattle.sr_streams.specs.Spots.{rank}
+use Rattle.sr_streams.specs.Courses.{pair_sum, between, turned, turned_at, parted, pairs_made, greatest_number, seat, seated, has_rank, spot_entered}
+use Rattle.sr_streams.specs.Spots.{spot_rank}
 use Rattle.sr_streams.specs.declared.numbers.Numbers.{Numbers}
 use Rattle.sr_streams.specs.declared.sums.Sums.{Sums}
-use Rattle.sr_streams.specs.Sums.{before, AreSumsWith, AreSumsOf, KeepsSpots}
+use Rattle.sr_streams.specs.Sums.{spot_before, AreSumsWith, AreSumsOf, KeepsSpots}
 
 none_some : (y : Spot) → None ≡ Some y → ⊥
 none_some y e = cc
@@ -19,7 +19,7 @@ some_same x y e = cc
 
 -- what the pairs tell, with a spot more
 pub pairs_insert : (f : Spot → Spot → ℕ) (spot older : Spot) (xs : List Spot) (at : ℕ) → slice_get xs at ≡ Some older →
-    pairs f (insert xs at spot) + parted f (before at xs) older ≡ pairs f xs + made f (before at xs) spot older
+    pair_sum f (insert xs at spot) + parted f (spot_before at xs) older ≡ pair_sum f xs + pairs_made f (spot_before at xs) spot older
 pairs_insert f spot older [] zero e = cc
 pairs_insert f spot older [] (suc at) e = cc
 pairs_insert f spot older (y ∷ []) zero e = omega (arith, ap (f spot) (some_same y older e))
@@ -33,7 +33,7 @@ pairs_insert f spot older (y ∷ z ∷ zs) (suc (suc at)) e =
     omega (arith, less)
 
 -- the greatest number, with a spot more
-pub top_insert : (spot : Spot) (xs : List Spot) (at : ℕ) → top_of (insert xs at spot) ≡ max (top_of xs) spot.number
+pub top_insert : (spot : Spot) (xs : List Spot) (at : ℕ) → greatest_number (insert xs at spot) ≡ max (greatest_number xs) spot.number
 top_insert spot [] zero = omega arith
 top_insert spot [] (suc at) = omega arith
 top_insert spot (y ∷ ys) zero = omega arith
@@ -66,7 +66,7 @@ get_below (suc n) [] at y e = refl
 get_below (suc n) (x ∷ xs) zero y e = refl
 get_below (suc n) (x ∷ xs) (suc at) y e = get_below n xs at y e
 
-before_taken : (n : ℕ) (xs : List Spot) (at : ℕ) (y : Spot) → slice_get (take n xs) at ≡ Some y → before at (take n xs) ≡ before at xs
+before_taken : (n : ℕ) (xs : List Spot) (at : ℕ) (y : Spot) → slice_get (take n xs) at ≡ Some y → spot_before at (take n xs) ≡ spot_before at xs
 before_taken n xs zero y e = refl
 before_taken n xs (suc at) y e = get_below n xs at y e
 
@@ -79,40 +79,40 @@ length_insert spot (x ∷ xs) (suc at) = omega (arith, length_insert spot xs at)
 -- what is found among the spots that are kept
 found : (recent : List Spot) (own at : ℕ) (older : Spot) → seat own recent ≡ Some at → older ≡ get_or recent at older → slice_get recent at ≡ Some older
 found recent own at older seats e =
-    slice_get_read recent (length recent) at older refl (position-Some (λ (spot : Spot). nat_le (rank spot) own) recent at older seats).0 e
+    slice_get_read recent (length recent) at older refl (position-Some (λ (spot : Spot). nat_le (spot_rank spot) own) recent at older seats).0 e
 
 -- a spot that is there stays once
-pub entered_there : (spots recent : List Spot) (spot older : Spot) (at : ℕ) → recent ≡ take 256 spots → seat (rank spot) recent ≡ Some at →
-    older ≡ get_or recent at older → rank older ≡ rank spot → entered spot spots ≡ spots
+pub entered_there : (spots recent : List Spot) (spot older : Spot) (at : ℕ) → recent ≡ take 256 spots → seat (spot_rank spot) recent ≡ Some at →
+    older ≡ get_or recent at older → spot_rank older ≡ spot_rank spot → spot_entered spot spots ≡ spots
 entered_there spots recent spot older at kept seats e same =
-    let there : slice_get spots at ≡ Some older = get_taken 256 spots at older (subst (λ r. slice_get r at ≡ Some older) kept (found recent (rank spot) at older seats e)) in
-    let seats' : seat (rank spot) (take 256 spots) ≡ Some at = subst (λ r. seat (rank spot) r ≡ Some at) kept seats in
+    let there : slice_get spots at ≡ Some older = get_taken 256 spots at older (subst (λ r. slice_get r at ≡ Some older) kept (found recent (spot_rank spot) at older seats e)) in
+    let seats' : seat (spot_rank spot) (take 256 spots) ≡ Some at = subst (λ r. seat (spot_rank spot) r ≡ Some at) kept seats in
     ap (λ o. seated spot o spots) seats'
-    ∙ ap (λ g. cond (has_rank (rank spot) g) spots (insert spots at spot)) there
-    ∙ ap (λ b. cond b spots (insert spots at spot)) (eq-eqb (rank older) (rank spot) same)
+    ∙ ap (λ g. cond (has_rank (spot_rank spot) g) spots (insert spots at spot)) there
+    ∙ ap (λ b. cond b spots (insert spots at spot)) (eq-eqb (spot_rank older) (spot_rank spot) same)
 
 -- another one stands before the one that is not ahead of it
-pub entered_in : (spots recent : List Spot) (spot older : Spot) (at : ℕ) → recent ≡ take 256 spots → seat (rank spot) recent ≡ Some at →
-    older ≡ get_or recent at older → rank older ≢ rank spot → entered spot spots ≡ insert spots at spot
+pub entered_in : (spots recent : List Spot) (spot older : Spot) (at : ℕ) → recent ≡ take 256 spots → seat (spot_rank spot) recent ≡ Some at →
+    older ≡ get_or recent at older → spot_rank older ≢ spot_rank spot → spot_entered spot spots ≡ insert spots at spot
 entered_in spots recent spot older at kept seats e other =
-    let there : slice_get spots at ≡ Some older = get_taken 256 spots at older (subst (λ r. slice_get r at ≡ Some older) kept (found recent (rank spot) at older seats e)) in
-    let seats' : seat (rank spot) (take 256 spots) ≡ Some at = subst (λ r. seat (rank spot) r ≡ Some at) kept seats in
+    let there : slice_get spots at ≡ Some older = get_taken 256 spots at older (subst (λ r. slice_get r at ≡ Some older) kept (found recent (spot_rank spot) at older seats e)) in
+    let seats' : seat (spot_rank spot) (take 256 spots) ≡ Some at = subst (λ r. seat (spot_rank spot) r ≡ Some at) kept seats in
     ap (λ o. seated spot o spots) seats'
-    ∙ ap (λ g. cond (has_rank (rank spot) g) spots (insert spots at spot)) there
-    ∙ ap (λ b. cond b spots (insert spots at spot)) (false_from_ne_true (eqb (rank older) (rank spot)) (λ t. other (eqb-true (rank older) (rank spot) t)))
+    ∙ ap (λ g. cond (has_rank (spot_rank spot) g) spots (insert spots at spot)) there
+    ∙ ap (λ b. cond b spots (insert spots at spot)) (false_from_ne_true (eqb (spot_rank older) (spot_rank spot)) (λ t. other (eqb-true (spot_rank older) (spot_rank spot) t)))
 
 -- what is kept, where the spot is there
-pub kept_there : (spots : List Spot) (spot older : Spot) (at : ℕ) (numbers : Numbers) → seat (rank spot) numbers.recent.items ≡ Some at →
-    older ≡ get_or numbers.recent.items at older → rank older ≡ rank spot → KeepsSpots spots numbers → KeepsSpots (entered spot spots) numbers
+pub kept_there : (spots : List Spot) (spot older : Spot) (at : ℕ) (numbers : Numbers) → seat (spot_rank spot) numbers.recent.items ≡ Some at →
+    older ≡ get_or numbers.recent.items at older → spot_rank older ≡ spot_rank spot → KeepsSpots spots numbers → KeepsSpots (spot_entered spot spots) numbers
 kept_there spots spot older at numbers seats e same keeps =
     subst (λ s. KeepsSpots s numbers) (sym (entered_there spots numbers.recent.items spot older at keeps.recent seats e same)) keeps
 
-changed_by : (f : Spot → Spot → ℕ) (spots : List Spot) (spot older : Spot) (at old new : ℕ) → slice_get spots at ≡ Some older → old ≡ pairs f spots →
-    new ≡ old + made f (before at spots) spot older - parted f (before at spots) older → new ≡ pairs f (insert spots at spot)
+changed_by : (f : Spot → Spot → ℕ) (spots : List Spot) (spot older : Spot) (at old new : ℕ) → slice_get spots at ≡ Some older → old ≡ pair_sum f spots →
+    new ≡ old + pairs_made f (spot_before at spots) spot older - parted f (spot_before at spots) older → new ≡ pair_sum f (insert spots at spot)
 changed_by f spots spot older at old new there kept grown = omega (arith, pairs_insert f spot older spots at there)
 
 sums_insert : (spots : List Spot) (spot older : Spot) (at : ℕ) (old new : Sums) → slice_get spots at ≡ Some older → AreSumsOf spots old →
-    AreSumsWith (before at spots) spot older old new → AreSumsOf (insert spots at spot) new
+    AreSumsWith (spot_before at spots) spot older old new → AreSumsOf (insert spots at spot) new
 sums_insert spots spot older at old new there kept grown = record {
   came = grown.came ∙ ap (λ n. n + 1) kept.came ∙ sym (length_insert spot spots at);
   between = changed_by between spots spot older at old.between new.between there kept.between grown.between;
@@ -121,14 +121,14 @@ sums_insert spots spot older at old new there kept grown = record {
 }
 
 -- what is kept, where the spot is another one
-pub kept_in : (spots : List Spot) (spot older : Spot) (newer : Option Spot) (at : ℕ) (old new : Numbers) → seat (rank spot) old.recent.items ≡ Some at →
-    older ≡ get_or old.recent.items at older → rank older ≢ rank spot → newer ≡ before at old.recent.items →
+pub kept_in : (spots : List Spot) (spot older : Spot) (newer : Option Spot) (at : ℕ) (old new : Numbers) → seat (spot_rank spot) old.recent.items ≡ Some at →
+    older ≡ get_or old.recent.items at older → spot_rank older ≢ spot_rank spot → newer ≡ spot_before at old.recent.items →
     new.recent.items ≡ take 256 (insert old.recent.items at spot) → new.top ≡ max old.top spot.number →
-    AreSumsWith newer spot older old.sums new.sums → KeepsSpots spots old → KeepsSpots (entered spot spots) new
+    AreSumsWith newer spot older old.sums new.sums → KeepsSpots spots old → KeepsSpots (spot_entered spot spots) new
 kept_in spots spot older newer at old new seats e other is_before recent top sums keeps =
-    let among : slice_get (take 256 spots) at ≡ Some older = subst (λ r. slice_get r at ≡ Some older) keeps.recent (found old.recent.items (rank spot) at older seats e) in
+    let among : slice_get (take 256 spots) at ≡ Some older = subst (λ r. slice_get r at ≡ Some older) keeps.recent (found old.recent.items (spot_rank spot) at older seats e) in
     let there = get_taken 256 spots at older among in
-    let same : newer ≡ before at spots = is_before ∙ ap (before at) keeps.recent ∙ before_taken 256 spots at older among in
+    let same : newer ≡ spot_before at spots = is_before ∙ ap (spot_before at) keeps.recent ∙ before_taken 256 spots at older among in
     subst (λ s. KeepsSpots s new) (sym (entered_in spots old.recent.items spot older at keeps.recent seats e other)) (record {
       recent = recent ∙ ap (λ r. take 256 (insert r at spot)) keeps.recent ∙ take_insert spot 256 spots at;
       top = top ∙ ap (λ n. max n spot.number) keeps.top ∙ sym (top_insert spot spots at);

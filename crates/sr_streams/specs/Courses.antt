@@ -4,7 +4,7 @@ use Rattle.sr_streams.specs.declared.numbers.Arrival.{Arrival}
 use Rattle.sr_streams.specs.declared.spot.Spot.{Spot}
 use Rattle.sr_streams.specs.declared.sums.Kind.{Kind}
 use Rattle.sr_streams.specs.declared.sums.Kind.TheVariants.{Goose, Sampled}
-use Rattle.sr_streams.specs.Spots.{rank, begun, spot_of}
+use Rattle.sr_streams.specs.Spots.{spot_rank, run_begun, spot_of}
 
 -- the spots of the messages of a stream, each once, the one furthest ahead first, and when that one came
 pub record Course : Type 0 where
@@ -17,49 +17,49 @@ kept_spots = 256
 
 -- the first of some spots that is not ahead of this rank
 abbrev pub seat : ℕ → List Spot → Option ℕ
-seat own spots = position (λ spot. nat_le (rank spot) own) spots
+seat own spots = position (λ spot. nat_le (spot_rank spot) own) spots
 
 -- whether the spot there has this rank
 abbrev pub has_rank : ℕ → Option Spot → Bool
 has_rank own None = false
-has_rank own (Some spot) = rank spot == own
+has_rank own (Some spot) = spot_rank spot == own
 
 -- the spot, put in where it stands, unless it is there already, or behind all that are looked at
 abbrev pub seated : Spot → Option ℕ → List Spot → List Spot
 seated spot None spots = spots
-seated spot (Some at) spots = if has_rank (rank spot) (slice_get spots at) then spots else insert spots at spot
+seated spot (Some at) spots = if has_rank (spot_rank spot) (slice_get spots at) then spots else insert spots at spot
 
-abbrev pub entered : Spot → List Spot → List Spot
-entered spot spots = seated spot (seat (rank spot) (take kept_spots spots)) spots
+abbrev pub spot_entered : Spot → List Spot → List Spot
+spot_entered spot spots = seated spot (seat (spot_rank spot) (take kept_spots spots)) spots
 
 -- the greatest number
-abbrev pub top_of : List Spot → ℕ
-top_of [] = 0
-top_of (spot ∷ spots) = max spot.number (top_of spots)
+abbrev pub greatest_number : List Spot → ℕ
+greatest_number [] = 0
+greatest_number (spot ∷ spots) = max spot.number (greatest_number spots)
 
 -- the course with one message more: the first one begins it, and each other stands where those before it tell
-abbrev pub taken_at : Arrival → ℕ → List Spot → Course
-taken_at x time [] = record { spots = begun 0 x.counter ∷ []; time = x.time }
-taken_at x time (latest ∷ spots) =
-    let spot = spot_of (record { latest = latest; time = time; top = top_of (latest ∷ spots) }) x.time x.counter in
+abbrev pub taken_at_time : Arrival → ℕ → List Spot → Course
+taken_at_time x time [] = record { spots = run_begun 0 x.counter ∷ []; time = x.time }
+taken_at_time x time (latest ∷ spots) =
+    let spot = spot_of (record { latest = latest; time = time; top = greatest_number (latest ∷ spots) }) x.time x.counter in
     record {
-      spots = entered spot (latest ∷ spots);
-      time = if nat_lt (rank latest) (rank spot) then x.time else time;
+      spots = spot_entered spot (latest ∷ spots);
+      time = if nat_lt (spot_rank latest) (spot_rank spot) then x.time else time;
     }
 
-abbrev pub taken : Arrival → Course → Course
-taken x course = taken_at x course.time course.spots
+abbrev pub message_taken : Arrival → Course → Course
+message_taken x course = taken_at_time x course.time course.spots
 
 -- the course of the messages that came, the last one first
 abbrev pub course_of : List Arrival → Course
 course_of [] = record { spots = []; time = 0 }
-course_of (x ∷ xs) = taken x (course_of xs)
+course_of (x ∷ xs) = message_taken x (course_of xs)
 
 -- the sum of what is told of each spot and the one behind it
-abbrev pub pairs : (Spot → Spot → ℕ) → List Spot → ℕ
-pairs f [] = 0
-pairs f (spot ∷ []) = 0
-pairs f (spot ∷ older ∷ spots) = f spot older + pairs f (older ∷ spots)
+abbrev pub pair_sum : (Spot → Spot → ℕ) → List Spot → ℕ
+pair_sum f [] = 0
+pair_sum f (spot ∷ []) = 0
+pair_sum f (spot ∷ older ∷ spots) = f spot older + pair_sum f (older ∷ spots)
 
 -- whether two spots are of one run, and of different states or seconds
 abbrev pub is_turn : Spot → Spot → Bool
@@ -74,18 +74,18 @@ between later older =
     else 0
 
 -- how many are missing of the rest of the older one's second, of so many
-abbrev pub rest_of : ℕ → Spot → Spot → ℕ
-rest_of whole later older = if is_turn later older then whole - (older.number + 1) else 0
+abbrev pub rest_of_second : ℕ → Spot → Spot → ℕ
+rest_of_second whole later older = if is_turn later older then whole - (older.number + 1) else 0
 
 -- How many messages are missing. How many a state has is not known, but a second has as many in each: the greatest number, and one.
 abbrev pub missing_of : Kind → List Spot → ℕ
-missing_of Goose spots = pairs between spots
-missing_of Sampled spots = pairs (λ later older. between later older + rest_of (top_of spots + 1) later older) spots
+missing_of Goose spots = pair_sum between spots
+missing_of Sampled spots = pair_sum (λ later older. between later older + rest_of_second (greatest_number spots + 1) later older) spots
 
 -- how often the sender began anew
-abbrev pub restarts_of : List Spot → ℕ
-restarts_of [] = 0
-restarts_of (latest ∷ spots) = latest.run
+abbrev pub run_restarts : List Spot → ℕ
+run_restarts [] = 0
+run_restarts (latest ∷ spots) = latest.run
 
 -- one for each turn
 abbrev pub turned : Spot → Spot → ℕ
@@ -100,6 +100,6 @@ abbrev pub parted : (Spot → Spot → ℕ) → Option Spot → Spot → ℕ
 parted f None older = 0
 parted f (Some newer) older = f newer older
 
-abbrev pub made : (Spot → Spot → ℕ) → Option Spot → Spot → Spot → ℕ
-made f None spot older = f spot older
-made f (Some newer) spot older = f newer spot + f spot older
+abbrev pub pairs_made : (Spot → Spot → ℕ) → Option Spot → Spot → Spot → ℕ
+pairs_made f None spot older = f spot older
+pairs_made f (Some newer) spot older = f newer spot + f spot older

@@ -53,31 +53,31 @@ element tag [] = None
 element tag (own ∷ behind) = if own == tag then option_and_then split (len_front behind) else None
 
 -- what stands behind such an element
-abbrev pub behind : ℕ → List ℕ → Option (List ℕ)
-behind tag octets = option_map (λ found. found.1) (element tag octets)
+abbrev pub past_element : ℕ → List ℕ → Option (List ℕ)
+past_element tag octets = option_map (λ found. found.1) (element tag octets)
 
 -- what stands behind an element that may be left out
 abbrev pub behind_any : ℕ → List ℕ → Option (List ℕ)
-behind_any tag octets = if has_tag tag octets then behind tag octets else Some octets
+behind_any tag octets = if has_tag tag octets then past_element tag octets else Some octets
 
 -- the number that four octets spell, the greatest first
 abbrev pub in_four : ℕ → ℕ → ℕ → ℕ → ℕ
 in_four a b c d = 256 * (256 * (256 * a + b) + c) + d
 
 -- a number in one to four octets, or in five of which the first is zero
-abbrev pub number_of : List ℕ → Option ℕ
-number_of [] = None
-number_of (a ∷ []) = Some a
-number_of (a ∷ b ∷ []) = Some (256 * a + b)
-number_of (a ∷ b ∷ c ∷ []) = Some (256 * (256 * a + b) + c)
-number_of (a ∷ b ∷ c ∷ d ∷ []) = Some (in_four a b c d)
-number_of (zero_octet ∷ a ∷ b ∷ c ∷ d ∷ []) = if zero_octet == 0 then Some (in_four a b c d) else None
-number_of (zero_octet ∷ a ∷ b ∷ c ∷ d ∷ e ∷ more) = None
+abbrev pub ber_number : List ℕ → Option ℕ
+ber_number [] = None
+ber_number (a ∷ []) = Some a
+ber_number (a ∷ b ∷ []) = Some (256 * a + b)
+ber_number (a ∷ b ∷ c ∷ []) = Some (256 * (256 * a + b) + c)
+ber_number (a ∷ b ∷ c ∷ d ∷ []) = Some (in_four a b c d)
+ber_number (zero_octet ∷ a ∷ b ∷ c ∷ d ∷ []) = if zero_octet == 0 then Some (in_four a b c d) else None
+ber_number (zero_octet ∷ a ∷ b ∷ c ∷ d ∷ e ∷ more) = None
 
 -- an element that is such a number, and what stands behind it
 abbrev pub number_front : ℕ → List ℕ → Option (ℕ × List ℕ)
 number_front tag octets =
-    option_and_then (λ found. option_map (λ number. (number, found.1)) (number_of found.0)) (element tag octets)
+    option_and_then (λ found. option_map (λ number. (number, found.1)) (ber_number found.0)) (element tag octets)
 
 -- an element that is a name, of at most 129 octets, and what stands behind it
 abbrev pub name_front : ℕ → List ℕ → Option (List ℕ × List ℕ)

@@ -3,7 +3,7 @@ use Rattle.std.specs.Prelude.{ℕ, ◌^◌, List, drop, nat_le, nat_lt, ◌==◌
 use Rattle.sr_frame.specs.Frame.{Fields}
 use Rattle.sr_streams.specs.declared.message.Counter.{Counter}
 use Rattle.sr_streams.specs.declared.message.Counter.TheVariants.{Goose, Sampled}
-use Rattle.sr_streams.specs.Elements.{two_octets, element, behind, behind_any, number_front, name_front}
+use Rattle.sr_streams.specs.Elements.{two_octets, element, past_element, behind_any, number_front, name_front}
 
 -- the name of the stream, and the number of the message in it
 pub record Said : Type 0 where
@@ -17,7 +17,7 @@ apdu tag payload = option_map (λ found. found.0) (element tag (drop 8 payload))
 -- behind the name of a GOOSE: past timeAllowedtoLive, datSet, goID, which may be left out, and t
 abbrev pub to_numbers : List ℕ → Option (List ℕ)
 to_numbers octets =
-    option_and_then (behind 0x84) (option_and_then (behind_any 0x83) (option_and_then (behind 0x82) (behind 0x81 octets)))
+    option_and_then (past_element 0x84) (option_and_then (behind_any 0x83) (option_and_then (past_element 0x82) (past_element 0x81 octets)))
 
 -- stNum, and sqNum behind it
 abbrev pub goose_counter : List ℕ → Option Counter

@@ -5,31 +5,31 @@ use Rattle.sr_streams.specs.declared.spot.Spot.{Spot}
 use Rattle.sr_streams.specs.declared.sums.Kind.{Kind}
 use Rattle.sr_streams.specs.declared.sums.Kind.TheVariants.{Goose, Sampled}
 use Rattle.sr_streams.specs.declared.sums.Sums.{Sums}
-use Rattle.sr_streams.specs.Courses.{Course, kept_spots, top_of, pairs, between, turned, turned_at, parted, made}
+use Rattle.sr_streams.specs.Courses.{Course, kept_spots, greatest_number, pair_sum, between, turned, turned_at, parted, pairs_made}
 
 -- the spot before this place
-abbrev pub before : ℕ → List Spot → Option Spot
-before zero spots = None
-before (suc at) spots = slice_get spots at
+abbrev pub spot_before : ℕ → List Spot → Option Spot
+spot_before zero spots = None
+spot_before (suc at) spots = slice_get spots at
 
 -- the sums with a spot between two
 pub record AreSumsWith (newer : Option Spot) (spot older : Spot) (old new : Sums) : Type 0 where
   pub came : new.came ≡ old.came + 1
-  pub between : new.between ≡ old.between + made between newer spot older - parted between newer older
-  pub turned : new.turned ≡ old.turned + made turned newer spot older - parted turned newer older
-  pub turned_at : new.turned_at ≡ old.turned_at + made turned_at newer spot older - parted turned_at newer older
+  pub between : new.between ≡ old.between + pairs_made between newer spot older - parted between newer older
+  pub turned : new.turned ≡ old.turned + pairs_made turned newer spot older - parted turned newer older
+  pub turned_at : new.turned_at ≡ old.turned_at + pairs_made turned_at newer spot older - parted turned_at newer older
 
 -- the sums are those of these spots
 pub record AreSumsOf (spots : List Spot) (sums : Sums) : Type 0 where
   pub came : sums.came ≡ length spots
-  pub between : sums.between ≡ pairs between spots
-  pub turned : sums.turned ≡ pairs turned spots
-  pub turned_at : sums.turned_at ≡ pairs turned_at spots
+  pub between : sums.between ≡ pair_sum between spots
+  pub turned : sums.turned ≡ pair_sum turned spots
+  pub turned_at : sums.turned_at ≡ pair_sum turned_at spots
 
 -- what is kept is of these spots
 pub record KeepsSpots (spots : List Spot) (numbers : Numbers) : Type 0 where
   pub recent : numbers.recent.items ≡ take kept_spots spots
-  pub top : numbers.top ≡ top_of spots
+  pub top : numbers.top ≡ greatest_number spots
   pub sums : AreSumsOf spots numbers.sums
 
 -- what is kept is of this course

@@ -27,9 +27,9 @@ pub record Key : Type 0 where
   pub name : List ℕ
 
 -- of what a stream with such numbers is
-abbrev pub kind_of : Counter → Kind
-kind_of (counter.Goose st_num sq_num) = Goose
-kind_of (counter.Sampled smp_cnt asdus) = Sampled
+abbrev pub counter_kind : Counter → Kind
+counter_kind (counter.Goose st_num sq_num) = Goose
+counter_kind (counter.Sampled smp_cnt asdus) = Sampled
 
 abbrev pub kind_eq : Kind → Kind → Bool
 kind_eq Goose Goose = true
@@ -41,26 +41,26 @@ abbrev pub key_eq : Key → Key → Bool
 key_eq k l = mac_eq k.src l.src && (kind_eq k.kind l.kind && pointwise nat_eq k.name l.name)
 
 abbrev pub key_sent : Sent → Key
-key_sent x = record { src = x.src; kind = kind_of x.says.counter; name = x.says.name }
+key_sent x = record { src = x.src; kind = counter_kind x.says.counter; name = x.says.name }
 
-abbrev pub key_of : Stream → Key
-key_of stream = record { src = stream.src; kind = stream.kind; name = stream.name.items }
+abbrev pub stream_key : Stream → Key
+stream_key stream = record { src = stream.src; kind = stream.kind; name = stream.name.items }
 
 abbrev pub keys_of : List Stream → List Key
-keys_of streams = map key_of streams
+keys_of streams = map stream_key streams
 
 -- whether a stream is among some
-abbrev pub has_key : Key → List Key → Bool
-has_key key [] = false
-has_key key (own ∷ keys) = key_eq own key || has_key key keys
+abbrev pub has_stream : Key → List Key → Bool
+has_stream key [] = false
+has_stream key (own ∷ keys) = key_eq own key || has_stream key keys
 
 -- when a message came, and its number
-abbrev pub arrival_of : Sent → Arrival
-arrival_of x = record { time = x.time; counter = x.says.counter }
+abbrev pub arrival_sent : Sent → Arrival
+arrival_sent x = record { time = x.time; counter = x.says.counter }
 
 -- the messages of a stream, in the order in which they are given: the last one first
-abbrev pub arrivals_of : Key → List Sent → List Arrival
-arrivals_of key xs = map arrival_of (filter (λ x. key_eq key (key_sent x)) xs)
+abbrev pub stream_arrivals : Key → List Sent → List Arrival
+stream_arrivals key xs = map arrival_sent (filter (λ x. key_eq key (key_sent x)) xs)
 
 -- how many streams are kept
 abbrev pub max_streams : ℕ
@@ -70,10 +70,10 @@ max_streams = 1024
 pub record AreStreamsOf (xs : List Sent) (streams : Streams) : Type 0 where
   pub few : length streams.streams.items ≤ max_streams
   -- each stream is kept once, with what all of its messages tell
-  pub each : (at : ℕ) (stream : Stream) → slice_get streams.streams.items at ≡ Some stream → Keeps (course_of (arrivals_of (key_of stream) xs)) stream.numbers
+  pub each : (at : ℕ) (stream : Stream) → slice_get streams.streams.items at ≡ Some stream → Keeps (course_of (stream_arrivals (stream_key stream) xs)) stream.numbers
   pub once : (i j : ℕ) (key : Key) → slice_get (keys_of streams.streams.items) i ≡ Some key → slice_get (keys_of streams.streams.items) j ≡ Some key → i ≡ j
   -- while there is room, no other stream sent, and no message was left out
-  pub all : length streams.streams.items < max_streams → (key : Key) → has_key key (keys_of streams.streams.items) ≡ false → arrivals_of key xs ≡ []
+  pub all : length streams.streams.items < max_streams → (key : Key) → has_stream key (keys_of streams.streams.items) ≡ false → stream_arrivals key xs ≡ []
   pub none_out : length streams.streams.items < max_streams → streams.left_out ≡ 0
   -- the messages of other streams are counted
-  pub left_out : streams.left_out ≡ length (filter (λ x. not (has_key (key_sent x) (keys_of streams.streams.items))) xs)
+  pub left_out : streams.left_out ≡ length (filter (λ x. not (has_stream (key_sent x) (keys_of streams.streams.items))) xs)

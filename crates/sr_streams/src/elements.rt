@@ -1,7 +1,7 @@
 //! Elements of BER: a tag, a length and a value.
 
 ghost use Rattle.std.specs.Prelude.{◌≡◌, ◌≤◌, length, Some, None, MatchOption, IfSome, slice_index};
-ghost use Rattle.sr_streams.specs.Elements.{one_octet, two_octets, len_front, has_tag, element, behind, behind_any, in_four, number_of, number_front, name_front};
+ghost use Rattle.sr_streams.specs.Elements.{one_octet, two_octets, len_front, has_tag, element, past_element, behind_any, in_four, ber_number, number_front, name_front};
 
 /// The greatest length that is spelled in one octet, by itself.
 const SHORT_LEN: u8 = 0x7F;
@@ -66,8 +66,8 @@ pub(crate) fn element(octets: &[u8], tag: u8) -> Option<(&[u8], &[u8])>
 
 /// What stands behind the element at the front, which has this tag.
 pub(crate) fn behind(octets: &[u8], tag: u8) -> Option<&[u8]>
-    ensures { MatchOption result (behind tag octets.now ≡ None)
-        (λ r. behind tag octets.now ≡ Some r.now) }
+    ensures { MatchOption result (past_element tag octets.now ≡ None)
+        (λ r. past_element tag octets.now ≡ Some r.now) }
 {
     let (_, behind) = element(octets, tag)?;
     Some(behind)
@@ -104,7 +104,7 @@ fn number_in_four(octets: [u8; 4]) -> u32
 
 /// A number in one to four octets, or in five of which the first is zero.
 fn number_of(octets: &[u8]) -> Option<u32>
-    ensures { result ≡ number_of octets.now }
+    ensures { result ≡ ber_number octets.now }
 {
     match *octets {
         [a] => Some(u32::from(a)),

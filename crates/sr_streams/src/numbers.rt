@@ -38,8 +38,8 @@ fn capped(told: u128) -> u64
 
 impl Numbers {
     ghost use Rattle.std.specs.Prelude.{◌≡◌, ◌+◌, ◌-◌, ◌^◌, slice_get, Some, ◌<◌, List, [], ◌∷◌, length, min, OnOk, OnErr};
-    ghost use Rattle.sr_streams.specs.Courses.{Course, course_of, taken, missing_of, restarts_of, seat, entered};
-    ghost use Rattle.sr_streams.specs.Sums.{before, KeepsSpots, Keeps};
+    ghost use Rattle.sr_streams.specs.Courses.{Course, course_of, message_taken, missing_of, run_restarts, seat, spot_entered};
+    ghost use Rattle.sr_streams.specs.Sums.{spot_before, KeepsSpots, Keeps};
 
     /// Of no message. Takes no memory.
     pub fn new(alloc: Global) -> Numbers
@@ -62,7 +62,7 @@ impl Numbers {
 
     /// The spot before this place.
     fn before(&self, at: usize) -> Option<Spot>
-        ensures { result ≡ before at self.now.recent.items }
+        ensures { result ≡ spot_before at self.now.recent.items }
     {
         let at = at.checked_sub(1)?;
         self.recent.get(at).copied()
@@ -71,7 +71,7 @@ impl Numbers {
     /// Takes a spot that stands by those before it. `NoMemory` where the one allocation failed; nothing is changed then.
     fn enter(&mut self, spot: Spot) -> Result<(), NoMemory>
         ensures ok { OnOk result ((spots : List Spot) → length spots + 1 < 2 ^ 64
-            → KeepsSpots spots self.old → KeepsSpots (entered spot spots) self.new) }
+            → KeepsSpots spots self.old → KeepsSpots (spot_entered spot spots) self.new) }
         ensures err { OnErr result ((spots : List Spot) → KeepsSpots spots self.old
             → KeepsSpots spots self.new) }
         ensures time { self.new.time ≡ self.old.time }
@@ -84,9 +84,9 @@ impl Numbers {
             return Ok(());
         }
         let newer = self.before(at);
-        if self.recent.insert(at, spot).is_err() {
+        let Ok(()) = self.recent.insert(at, spot) else {
             return Err(NoMemory);
-        }
+        };
         self.recent.truncate(KEPT_SPOTS);
         self.top = self.top.max(spot.number);
         self.sums = self.sums.with(newer, spot, older);
@@ -97,14 +97,14 @@ impl Numbers {
     fn begin(&mut self, x: Arrival) -> Result<(), NoMemory>
         requires { self.old.recent.items ≡ [] }
         ensures ok { OnOk result ((course : Course) → Keeps course self.old
-            → Keeps (taken x course) self.new) }
+            → Keeps (message_taken x course) self.new) }
         ensures err { OnErr result ((course : Course) → Keeps course self.old
             → Keeps course self.new) }
     {
         let spot = begun(0, x.counter);
-        if self.recent.push(spot).is_err() {
+        let Ok(()) = self.recent.push(spot) else {
             return Err(NoMemory);
-        }
+        };
         self.time = x.time;
         self.top = spot.number;
         self.sums = Sums::one(spot);
@@ -115,7 +115,7 @@ impl Numbers {
     fn go_on(&mut self, latest: Spot, x: Arrival) -> Result<(), NoMemory>
         requires { slice_get self.old.recent.items 0 ≡ Some latest }
         ensures ok { OnOk result ((course : Course) → length course.spots + 1 < 2 ^ 64
-            → Keeps course self.old → Keeps (taken x course) self.new) }
+            → Keeps course self.old → Keeps (message_taken x course) self.new) }
         ensures err { OnErr result ((course : Course) → Keeps course self.old
             → Keeps course self.new) }
     {
@@ -165,7 +165,7 @@ impl Numbers {
 
     /// How often the sender began anew.
     pub fn restarts(&self) -> u32
-        ensures { (course : Course) → Keeps course self.now → result ≡ restarts_of course.spots }
+        ensures { (course : Course) → Keeps course self.now → result ≡ run_restarts course.spots }
     {
         match self.recent.first() {
             Some(latest) => latest.run,

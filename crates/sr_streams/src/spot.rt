@@ -1,7 +1,7 @@
 //! Where a message stands in its stream.
 
 ghost use Rattle.std.specs.Prelude.{◌≡◌, ◌-◌};
-ghost use Rattle.sr_streams.specs.Spots.{rank, next, number_in, begun, apart, is_far, nearest, following, goose_spot, sampled_spot, spot_of};
+ghost use Rattle.sr_streams.specs.Spots.{spot_rank, next, number_in, run_begun, numbers_apart, is_other_second, nearest, following, goose_spot, sampled_spot, spot_of};
 
 use crate::message::Counter;
 
@@ -45,14 +45,14 @@ fn number_in(smp_cnt: u16, asdus: u16) -> u32
 
 /// How far two numbers are apart.
 fn apart(m: u32, n: u32) -> u32
-    ensures { result ≡ apart m n }
+    ensures { result ≡ numbers_apart m n }
 {
     m.abs_diff(n)
 }
 
 /// Whether two numbers are of different seconds.
 fn is_far(top: u32, m: u32, n: u32) -> bool
-    ensures { result ≡ is_far top m n }
+    ensures { result ≡ is_other_second top m n }
 {
     let apart = apart(m, n);
     FAR <= apart && u64::from(top.max(m)) < 2 * u64::from(apart)
@@ -60,7 +60,7 @@ fn is_far(top: u32, m: u32, n: u32) -> bool
 
 /// Where a sender begins anew.
 pub(crate) fn begun(run: u32, counter: Counter) -> Spot
-    ensures { result ≡ begun run counter }
+    ensures { result ≡ run_begun run counter }
 {
     match counter {
         Counter::Goose { st_num, sq_num } => Spot {
@@ -78,11 +78,11 @@ pub(crate) fn begun(run: u32, counter: Counter) -> Spot
 
 impl Spot {
     ghost use Rattle.std.specs.Prelude.{◌≡◌};
-    ghost use Rattle.sr_streams.specs.Spots.{rank, following};
+    ghost use Rattle.sr_streams.specs.Spots.{spot_rank, following};
 
     /// The order in a stream.
     pub(crate) fn rank(self) -> u128
-        ensures { result ≡ rank self }
+        ensures { result ≡ spot_rank self }
     {
         (u128::from(self.run) * (1 << 32) + u128::from(self.state)) * (1 << 32)
             + u128::from(self.number)

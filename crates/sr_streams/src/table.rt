@@ -1,7 +1,7 @@
 //! The streams of the messages that came.
 
 ghost use Rattle.std.specs.Prelude.{◌≡◌};
-ghost use Rattle.sr_streams.specs.Tables.{kind_of};
+ghost use Rattle.sr_streams.specs.Tables.{counter_kind};
 
 use crate::message::{Counter, Message};
 use crate::numbers::{Arrival, Numbers};
@@ -35,7 +35,7 @@ pub struct Streams {
 
 /// Of what a stream with such numbers is.
 fn kind_of(counter: Counter) -> Kind
-    ensures { result ≡ kind_of counter }
+    ensures { result ≡ counter_kind counter }
 {
     match counter {
         Counter::Goose { .. } => Kind::Goose,
@@ -45,11 +45,11 @@ fn kind_of(counter: Counter) -> Kind
 
 impl Stream {
     ghost use Rattle.std.specs.Prelude.{◌≡◌};
-    ghost use Rattle.sr_streams.specs.Tables.{kind_of, key_eq, key_of};
+    ghost use Rattle.sr_streams.specs.Tables.{counter_kind, key_eq, stream_key};
 
     /// Whether it is the one of this source, kind and name.
     fn is_of(&self, src: Mac, kind: Kind, name: &[u8]) -> bool
-        ensures { result ≡ key_eq (key_of self.now) (record { src = src; kind = kind; name = name.now }) }
+        ensures { result ≡ key_eq (stream_key self.now) (record { src = src; kind = kind; name = name.now }) }
     {
         self.src == src && self.kind == kind && self.name.as_slice() == name
     }
@@ -57,7 +57,7 @@ impl Stream {
 
 impl Streams {
     ghost use Rattle.std.specs.Prelude.{◌≡◌, ◌+◌, ◌^◌, ◌<◌, List, [], ◌∷◌, ◌≤◌, length, position, Some, None, OnOk};
-    ghost use Rattle.sr_streams.specs.Tables.{Sent, AreStreamsOf, arrival_of, key_eq, key_of, key_sent, max_streams};
+    ghost use Rattle.sr_streams.specs.Tables.{Sent, AreStreamsOf, arrival_sent, key_eq, stream_key, key_sent, max_streams};
     ghost use Rattle.sr_streams.specs.Views.{said};
 
     /// Of no message. Takes no memory.
@@ -73,7 +73,7 @@ impl Streams {
 
     /// Where a stream is kept.
     fn place(&self, src: Mac, kind: Kind, name: &[u8]) -> Option<usize>
-        ensures { result ≡ position (λ stream. key_eq (key_of stream) (record { src = src; kind = kind; name = name.now }))
+        ensures { result ≡ position (λ stream. key_eq (stream_key stream) (record { src = src; kind = kind; name = name.now }))
             self.now.streams.items }
     {
         self.streams
@@ -98,8 +98,8 @@ impl Streams {
     /// Takes a message of a stream that is kept.
     fn go_on(&mut self, at: usize, x: Arrival) -> Result<(), NoMemory>
         requires { at < length self.old.streams.items }
-        ensures { OnOk result ((xs : List Sent) (m : Sent) → x ≡ arrival_of m
-            → position (λ stream. key_eq (key_of stream) (key_sent m)) self.old.streams.items ≡ Some at
+        ensures { OnOk result ((xs : List Sent) (m : Sent) → x ≡ arrival_sent m
+            → position (λ stream. key_eq (stream_key stream) (key_sent m)) self.old.streams.items ≡ Some at
             → length xs + 1 < 2 ^ 64 → AreStreamsOf xs self.old → AreStreamsOf (m ∷ xs) self.new) }
     {
         self.streams[at].numbers.note(x)
@@ -108,9 +108,9 @@ impl Streams {
     /// Takes the first message of a stream, where there is room for it.
     fn begin(&mut self, src: Mac, kind: Kind, name: &[u8], x: Arrival) -> Result<(), NoMemory>
         requires { length self.old.streams.items < max_streams }
-        ensures { OnOk result ((xs : List Sent) (m : Sent) → x ≡ arrival_of m
+        ensures { OnOk result ((xs : List Sent) (m : Sent) → x ≡ arrival_sent m
             → key_sent m ≡ record { src = src; kind = kind; name = name.now }
-            → position (λ stream. key_eq (key_of stream) (key_sent m)) self.old.streams.items ≡ None
+            → position (λ stream. key_eq (stream_key stream) (key_sent m)) self.old.streams.items ≡ None
             → AreStreamsOf xs self.old → AreStreamsOf (m ∷ xs) self.new) }
     {
         let mut numbers = Numbers::new(self.alloc);
@@ -122,16 +122,16 @@ impl Streams {
             name,
             numbers,
         };
-        if self.streams.push(stream).is_err() {
+        let Ok(()) = self.streams.push(stream) else {
             return Err(NoMemory);
-        }
+        };
         Ok(())
     }
 
     /// Counts a message of a stream for which there is no room.
     fn leave_out(&mut self)
         ensures { (xs : List Sent) (m : Sent) → max_streams ≤ length self.old.streams.items
-            → position (λ stream. key_eq (key_of stream) (key_sent m)) self.old.streams.items ≡ None
+            → position (λ stream. key_eq (stream_key stream) (key_sent m)) self.old.streams.items ≡ None
             → length xs + 1 < 2 ^ 64 → AreStreamsOf xs self.old → AreStreamsOf (m ∷ xs) self.new }
     {
         self.left_out = self.left_out.saturating_add(1);
