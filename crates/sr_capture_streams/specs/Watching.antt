@@ -10,11 +10,11 @@ use Rattle.sr_frame.specs.Frame.{Fields, IsFrame}
 use Rattle.sr_frame.specs.declared.fields.Mac.{Mac}
 use Rattle.sr_streams.specs.declared.table.Streams.{Streams}
 use Rattle.sr_streams.specs.Messages.{Said, frame_says}
-use Rattle.sr_streams.specs.Tables.{Sent, AreStreamsOf}
+use Rattle.sr_streams.specs.Tables.{MessageSent, AreStreamsOf}
 use Rattle.sr_capture_streams.specs.declared.watching.Watch.{Watch}
 
 -- a packet is a frame from this source that says this
-pub record Says (packet : Captured) (src : Mac) (says : Said) : Type 0 where
+pub record SaysOfStream (packet : Captured) (src : Mac) (says : Said) : Type 0 where
   pub fields : Fields
   pub frame : IsFrame packet.octets fields
   pub from : src.0 ≡ fields.src
@@ -25,25 +25,28 @@ abbrev pub SaysNothing : Captured → Type 0
 SaysNothing packet = (fields : Fields) → IsFrame packet.octets fields → frame_says fields ≡ None
 
 -- what a packet sent: one message, or none
-pub data IsSentIn (x : Handed) (sent : List Sent) : Type 0 where
-  message : (src : Mac) (says : Said) → Says x.packet src says → sent ≡ record { src = src; says = says; time = x.time } ∷ [] → IsSentIn x sent
+pub data IsSentIn (x : Handed) (sent : List MessageSent) : Type 0 where
+  message : (src : Mac) (says : Said) → SaysOfStream x.packet src says →
+      sent ≡ record { src = src; says = says; time = x.time } ∷ [] → IsSentIn x sent
   no_message : SaysNothing x.packet → sent ≡ [] → IsSentIn x sent
 
 -- what packets sent, the last message first
-abbrev pub AreSentIn : List Handed → List Sent → Type 0
+abbrev pub AreSentIn : List Handed → List MessageSent → Type 0
 AreSentIn [] sent = sent ≡ []
-AreSentIn (x ∷ xs) sent = (own : List Sent) × (later : List Sent) × (sent ≡ later ++ own) × IsSentIn x own × AreSentIn xs later
+AreSentIn (x ∷ xs) sent =
+    (own : List MessageSent) × (later : List MessageSent) × (sent ≡ later ++ own) × IsSentIn x own × AreSentIn xs later
 
 -- the streams of one packet more
 pub record WatchesMore (x : Handed) (old new : Watch) : Type 0 where
-  pub own : List Sent
+  pub own : List MessageSent
   pub is_own : IsSentIn x own
-  pub takes : (sent : List Sent) → length (own ++ sent) < 2 ^ 64 → AreStreamsOf sent old.streams → AreStreamsOf (own ++ sent) new.streams
+  pub takes : (sent : List MessageSent) → length (own ++ sent) < 2 ^ 64 →
+      AreStreamsOf sent old.streams → AreStreamsOf (own ++ sent) new.streams
 
 -- the streams of three files: of all their packets that are wanted
 pub record AreStreamsOfAll (choice : Choice) (x y z : Feed) (streams : Streams) : Type 0 where
   pub merged : List Item
   pub came : AllCame x y z merged
-  pub sent : List Sent
+  pub sent : List MessageSent
   pub are_sent : AreSentIn (wanted choice merged) sent
   pub of_all : length sent < 2 ^ 64 → AreStreamsOf sent streams

@@ -7,7 +7,7 @@ ghost use Rattle.sr_capture_script.specs.Merging.{feed_of};
 ghost use Rattle.sr_capture_script.specs.Passing.{EndsFor};
 ghost use Rattle.sr_capture_script.specs.SourceViews.{IsFed};
 ghost use Rattle.sr_streams.specs.Views.{said};
-ghost use Rattle.sr_capture_streams.specs.Watching.{Says, SaysNothing, AreStreamsOfAll};
+ghost use Rattle.sr_capture_streams.specs.Watching.{SaysOfStream, SaysNothing, AreStreamsOfAll};
 
 use sr_capture::{MAX_KEPT, Packet};
 use sr_capture_script::{Captures, Choice, Pass, Place, ScriptFault, pass_over};
@@ -25,7 +25,7 @@ struct Watch {
 /// The source of a packet that is a message of a stream, and what it says.
 fn message_in(packet: &Packet) -> Option<(Mac, Message<'_>)>
     ensures { (captured : Captured) → Shows packet.now captured
-        → MatchOption result (SaysNothing captured) (λ r. Says captured r.0 (said r.1)) }
+        → MatchOption result (SaysNothing captured) (λ r. SaysOfStream captured r.0 (said r.1)) }
 {
     if packet.len > MAX_KEPT as u64 {
         return None;

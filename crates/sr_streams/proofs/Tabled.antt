@@ -12,17 +12,17 @@ use Rattle.sr_streams.specs.declared.numbers.Arrival.{Arrival}
 use Rattle.sr_streams.specs.declared.table.Stream.{Stream}
 use Rattle.sr_streams.specs.declared.table.Streams.{Streams}
 use Rattle.sr_streams.specs.Courses.{course_of}
-use Rattle.sr_streams.specs.Sums.{Keeps}
-use Rattle.sr_streams.specs.Tables.{Sent, Key, key_eq, key_sent, stream_key, keys_of, has_stream, arrival_sent, stream_arrivals, AreStreamsOf}
+use Rattle.sr_streams.specs.Sums.{KeepsCourse}
+use Rattle.sr_streams.specs.Tables.{MessageSent, Key, key_eq, key_sent, stream_key, keys_of, has_stream, arrival_sent, stream_arrivals, AreStreamsOf}
 use Rattle.sr_streams.proofs.Keys.{key_same, key_refl}
 
 -- the messages of a stream, with one of it, and with one of another
-own_more : (key : Key) (m : Sent) (xs : List Sent) → key ≡ key_sent m → stream_arrivals key (m ∷ xs) ≡ arrival_sent m ∷ stream_arrivals key xs
+own_more : (key : Key) (m : MessageSent) (xs : List MessageSent) → key ≡ key_sent m → stream_arrivals key (m ∷ xs) ≡ arrival_sent m ∷ stream_arrivals key xs
 own_more key m xs same =
     ap (λ b. map arrival_sent (cond b (m ∷ filter (λ x. key_eq key (key_sent x)) xs) (filter (λ x. key_eq key (key_sent x)) xs)))
     (subst (λ k. key_eq key k ≡ true) same (key_refl key))
 
-other_more : (key : Key) (m : Sent) (xs : List Sent) → key ≢ key_sent m → stream_arrivals key (m ∷ xs) ≡ stream_arrivals key xs
+other_more : (key : Key) (m : MessageSent) (xs : List MessageSent) → key ≢ key_sent m → stream_arrivals key (m ∷ xs) ≡ stream_arrivals key xs
 other_more key m xs other =
     ap (λ b. map arrival_sent (cond b (m ∷ filter (λ x. key_eq key (key_sent x)) xs) (filter (λ x. key_eq key (key_sent x)) xs)))
     (false_from_ne_true (key_eq key (key_sent m)) (λ t. other (key_same key (key_sent m) t)))
@@ -132,35 +132,35 @@ get_more (x ∷ xs) y s (suc i) e =
       | inr h ↦ inr (omega (arith, h.0), h.1)
     ]
 
-one_len : (b : Bool) (x : Sent) (rest : List Sent) (n : ℕ) → length (map arrival_sent rest) ≤ n → length (map arrival_sent (cond b (x ∷ rest) rest)) ≤ n + 1
+one_len : (b : Bool) (x : MessageSent) (rest : List MessageSent) (n : ℕ) → length (map arrival_sent rest) ≤ n → length (map arrival_sent (cond b (x ∷ rest) rest)) ≤ n + 1
 one_len true x rest n h = omega (arith, h)
 one_len false x rest n h = omega (arith, h)
 
-arrivals_len : (key : Key) (xs : List Sent) → length (stream_arrivals key xs) ≤ length xs
+arrivals_len : (key : Key) (xs : List MessageSent) → length (stream_arrivals key xs) ≤ length xs
 arrivals_len key [] = omega arith
 arrivals_len key (x ∷ xs) =
     let more = one_len (key_eq key (key_sent x)) x (filter (λ y. key_eq key (key_sent y)) xs) (length xs) (arrivals_len key xs) in
     omega (arith, more)
 
-abbrev outside : List Key → List Sent → ℕ
+abbrev outside : List Key → List MessageSent → ℕ
 outside keys xs = length (filter (λ x. not (has_stream (key_sent x) keys)) xs)
 
-share : List Key → Sent → ℕ
+share : List Key → MessageSent → ℕ
 share keys x = cond (not (has_stream (key_sent x) keys)) 1 0
 
-outside_more : (keys : List Key) (m : Sent) (xs : List Sent) → outside keys (m ∷ xs) ≡ share keys m + outside keys xs
+outside_more : (keys : List Key) (m : MessageSent) (xs : List MessageSent) → outside keys (m ∷ xs) ≡ share keys m + outside keys xs
 unfolding share
 outside_more keys m xs = kept (not (has_stream (key_sent m) keys)) m (filter (λ x. not (has_stream (key_sent x) keys)) xs)
   where
-    kept : (b : Bool) (x : Sent) (rest : List Sent) → length (cond b (x ∷ rest) rest) ≡ cond {A = ℕ} b 1 0 + length rest
+    kept : (b : Bool) (x : MessageSent) (rest : List MessageSent) → length (cond b (x ∷ rest) rest) ≡ cond {A = ℕ} b 1 0 + length rest
     kept true x rest = omega arith
     kept false x rest = omega arith
 
-share_in : (keys : List Key) (m : Sent) → has_stream (key_sent m) keys ≡ true → share keys m ≡ 0
+share_in : (keys : List Key) (m : MessageSent) → has_stream (key_sent m) keys ≡ true → share keys m ≡ 0
 unfolding share
 share_in keys m h = ap (λ b. cond {A = ℕ} (not b) 1 0) h
 
-share_out : (keys : List Key) (m : Sent) → has_stream (key_sent m) keys ≡ false → share keys m ≡ 1
+share_out : (keys : List Key) (m : MessageSent) → has_stream (key_sent m) keys ≡ false → share keys m ≡ 1
 unfolding share
 share_out keys m h = ap (λ b. cond {A = ℕ} (not b) 1 0) h
 
@@ -173,33 +173,33 @@ cond_one : (b : Bool) → cond {A = ℕ} (not b) 1 0 ≤ 1
 cond_one true = omega arith
 cond_one false = omega arith
 
-share_one : (keys : List Key) (m : Sent) → share keys m ≤ 1
+share_one : (keys : List Key) (m : MessageSent) → share keys m ≤ 1
 unfolding share
 share_one keys m = cond_one (has_stream (key_sent m) keys)
 
-share_less : (keys : List Key) (own : Key) (m : Sent) → share (keys ++ own ∷ []) m ≤ share keys m
+share_less : (keys : List Key) (own : Key) (m : MessageSent) → share (keys ++ own ∷ []) m ≤ share keys m
 unfolding share
 share_less keys own m =
     subst (λ b. cond {A = ℕ} (not b) 1 0 ≤ cond {A = ℕ} (not (has_stream (key_sent m) keys)) 1 0) (sym (has_more (key_sent m) own keys))
     (cond_less (has_stream (key_sent m) keys) (key_eq own (key_sent m)))
 
-outside_in : (keys : List Key) (m : Sent) (xs : List Sent) → has_stream (key_sent m) keys ≡ true → outside keys (m ∷ xs) ≡ outside keys xs
+outside_in : (keys : List Key) (m : MessageSent) (xs : List MessageSent) → has_stream (key_sent m) keys ≡ true → outside keys (m ∷ xs) ≡ outside keys xs
 outside_in keys m xs h = outside_more keys m xs ∙ ap (λ n. n + outside keys xs) (share_in keys m h) ∙ zero_plus (outside keys xs)
   where
     zero_plus : (n : ℕ) → 0 + n ≡ n
     zero_plus n = omega arith
 
-outside_out : (keys : List Key) (m : Sent) (xs : List Sent) → has_stream (key_sent m) keys ≡ false → outside keys (m ∷ xs) ≡ outside keys xs + 1
+outside_out : (keys : List Key) (m : MessageSent) (xs : List MessageSent) → has_stream (key_sent m) keys ≡ false → outside keys (m ∷ xs) ≡ outside keys xs + 1
 outside_out keys m xs h = outside_more keys m xs ∙ ap (λ n. n + outside keys xs) (share_out keys m h) ∙ one_plus (outside keys xs)
   where
     one_plus : (n : ℕ) → 1 + n ≡ n + 1
     one_plus n = omega arith
 
-outside_len : (keys : List Key) (xs : List Sent) → outside keys xs ≤ length xs
+outside_len : (keys : List Key) (xs : List MessageSent) → outside keys xs ≤ length xs
 outside_len keys [] = omega arith
 outside_len keys (x ∷ xs) = omega (arith, outside_more keys x xs, share_one keys x, outside_len keys xs)
 
-outside_less : (keys : List Key) (own : Key) (xs : List Sent) → outside (keys ++ own ∷ []) xs ≤ outside keys xs
+outside_less : (keys : List Key) (own : Key) (xs : List MessageSent) → outside (keys ++ own ∷ []) xs ≤ outside keys xs
 outside_less keys own [] = omega arith
 outside_less keys own (x ∷ xs) =
     omega (arith, outside_more keys x xs, outside_more (keys ++ own ∷ []) x xs, share_less keys own x, outside_less keys own xs)
@@ -209,10 +209,10 @@ at_key : (streams : List Stream) (i : ℕ) (s : Stream) → slice_get streams i 
 at_key streams i s e = slice_get-map stream_key streams i ∙ ap (option_map stream_key) e
 
 -- a message of a stream that is kept
-pub updated : (xs : List Sent) (m : Sent) (old new : Streams) (at : ℕ) (own changed : Stream) → own ≡ get_or old.streams.items at own →
+pub updated : (xs : List MessageSent) (m : MessageSent) (old new : Streams) (at : ℕ) (own changed : Stream) → own ≡ get_or old.streams.items at own →
     new.streams.items ≡ set old.streams.items at changed → stream_key changed ≡ stream_key own → new.left_out ≡ old.left_out →
     position (λ stream. key_eq (stream_key stream) (key_sent m)) old.streams.items ≡ Some at →
-    ((ys : List Arrival) → length ys + 1 < 2 ^ 64 → Keeps (course_of ys) own.numbers → Keeps (course_of (arrival_sent m ∷ ys)) changed.numbers) →
+    ((ys : List Arrival) → length ys + 1 < 2 ^ 64 → KeepsCourse (course_of ys) own.numbers → KeepsCourse (course_of (arrival_sent m ∷ ys)) changed.numbers) →
     length xs + 1 < 2 ^ 64 → AreStreamsOf xs old → AreStreamsOf (m ∷ xs) new
 updated xs m old new at own changed is grown same_key same_out placed step less h =
     let p = position-Some (λ (s : Stream). key_eq (stream_key s) (key_sent m)) old.streams.items at own placed in
@@ -224,8 +224,8 @@ updated xs m old new at own changed is grown same_key same_out placed step less 
     sym (length-map new.streams.items stream_key) ∙ ap length keys ∙ length-map old.streams.items stream_key in
     let among : has_stream (key_sent m) (keys_of old.streams.items) ≡ true =
     has_at (key_sent m) (keys_of old.streams.items) at (at_key old.streams.items at own there ∙ ap (λ k. Some k) own_key) in
-    let of_own : Keeps (course_of (stream_arrivals (stream_key changed) (m ∷ xs))) changed.numbers =
-    subst (λ l. Keeps (course_of l) changed.numbers)
+    let of_own : KeepsCourse (course_of (stream_arrivals (stream_key changed) (m ∷ xs))) changed.numbers =
+    subst (λ l. KeepsCourse (course_of l) changed.numbers)
     (ap (λ k. arrival_sent m ∷ stream_arrivals k xs) (sym same_key) ∙ sym (own_more (stream_key changed) m xs (same_key ∙ own_key)))
     (step (stream_arrivals (stream_key own) xs) (omega (arith, arrivals_len (stream_key own) xs, less)) (h.each at own there)) in
     record {
@@ -234,12 +234,12 @@ updated xs m old new at own changed is grown same_key same_out placed step less 
           elim (cases_Bool (eqb i at)) [
             | inl t ↦ let same = eqb-true i at t in
                 let is_s : changed ≡ s = get_set_same old.streams.items at changed s (subst (λ n. slice_get (set old.streams.items at changed) n ≡ Some s) same e') in
-                subst (λ (v : Stream). Keeps (course_of (stream_arrivals (stream_key v) (m ∷ xs))) v.numbers) is_s of_own
+                subst (λ (v : Stream). KeepsCourse (course_of (stream_arrivals (stream_key v) (m ∷ xs))) v.numbers) is_s of_own
             | inr f ↦ let other : i ≢ at = λ e2. true_false (sym (eq-eqb i at e2) ∙ f) in
                 let spot_before : slice_get old.streams.items i ≡ Some s = sym (get_set_other old.streams.items at i changed other) ∙ e' in
                 let not_own : stream_key s ≢ key_sent m = λ k.
                 other (h.once i at (stream_key s) (at_key old.streams.items i s spot_before) (at_key old.streams.items at own there ∙ ap (λ q. Some q) (own_key ∙ sym k))) in
-                subst (λ l. Keeps (course_of l) s.numbers) (sym (other_more (stream_key s) m xs not_own)) (h.each i s spot_before)
+                subst (λ l. KeepsCourse (course_of l) s.numbers) (sym (other_more (stream_key s) m xs not_own)) (h.each i s spot_before)
           ];
       once = subst (λ ks. (i j : ℕ) (key : Key) → slice_get ks i ≡ Some key → slice_get ks j ≡ Some key → i ≡ j) (sym keys) h.once;
       all = λ room key none. let none' : has_stream key (keys_of old.streams.items) ≡ false = subst (λ ks. has_stream key ks ≡ false) keys none in
@@ -250,9 +250,9 @@ updated xs m old new at own changed is grown same_key same_out placed step less 
     }
 
 -- the first message of a stream
-pub pushed : (xs : List Sent) (m : Sent) (old new : Streams) (own : Stream) → new.streams.items ≡ old.streams.items ++ own ∷ [] → stream_key own ≡ key_sent m →
+pub pushed : (xs : List MessageSent) (m : MessageSent) (old new : Streams) (own : Stream) → new.streams.items ≡ old.streams.items ++ own ∷ [] → stream_key own ≡ key_sent m →
     new.left_out ≡ old.left_out → position (λ stream. key_eq (stream_key stream) (key_sent m)) old.streams.items ≡ None → length old.streams.items < 1024 →
-    Keeps (course_of (arrival_sent m ∷ [])) own.numbers → AreStreamsOf xs old → AreStreamsOf (m ∷ xs) new
+    KeepsCourse (course_of (arrival_sent m ∷ [])) own.numbers → AreStreamsOf xs old → AreStreamsOf (m ∷ xs) new
 pushed xs m old new own grown own_key same_out placed room keeps h =
     let none = not_found (key_sent m) old.streams.items placed in
     let ks : List Key = keys_of old.streams.items in
@@ -260,8 +260,8 @@ pushed xs m old new own grown own_key same_out placed room keeps h =
     ap keys_of grown ∙ map-append stream_key old.streams.items (own ∷ []) ∙ ap (λ k. keys_of old.streams.items ++ k ∷ []) own_key in
     let size : length new.streams.items ≡ length old.streams.items + 1 = ap length grown ∙ length-append old.streams.items (own ∷ []) in
     let nothing : stream_arrivals (stream_key own) xs ≡ [] = h.all room (stream_key own) (subst (λ k. has_stream k (keys_of old.streams.items) ≡ false) (sym own_key) none) in
-    let of_own : Keeps (course_of (stream_arrivals (stream_key own) (m ∷ xs))) own.numbers =
-    subst (λ l. Keeps (course_of l) own.numbers) (ap (λ l. arrival_sent m ∷ l) (sym nothing) ∙ sym (own_more (stream_key own) m xs own_key)) keeps in
+    let of_own : KeepsCourse (course_of (stream_arrivals (stream_key own) (m ∷ xs))) own.numbers =
+    subst (λ l. KeepsCourse (course_of l) own.numbers) (ap (λ l. arrival_sent m ∷ l) (sym nothing) ∙ sym (own_more (stream_key own) m xs own_key)) keeps in
     let lone : (i : ℕ) (key : Key) → slice_get (keys_of old.streams.items) i ≡ Some key → key_sent m ≡ key → ⊥ =
     λ i key e same. other_than (key_sent m) key (keys_of old.streams.items) i none e (sym same) in
     let among : has_stream (key_sent m) (keys_of old.streams.items ++ key_sent m ∷ []) ≡ true =
@@ -269,10 +269,10 @@ pushed xs m old new own grown own_key same_out placed room keeps h =
     record {
       few = omega (arith, size, room);
       each = λ i s e. elim (get_more old.streams.items own s i (subst (λ l. slice_get l i ≡ Some s) grown e)) [
-        | inl spot_before ↦ subst (λ l. Keeps (course_of l) s.numbers)
+        | inl spot_before ↦ subst (λ l. KeepsCourse (course_of l) s.numbers)
             (sym (other_more (stream_key s) m xs (other_than (key_sent m) (stream_key s) (keys_of old.streams.items) i none (at_key old.streams.items i s spot_before))))
             (h.each i s spot_before)
-        | inr last ↦ subst (λ (v : Stream). Keeps (course_of (stream_arrivals (stream_key v) (m ∷ xs))) v.numbers) last.1 of_own
+        | inr last ↦ subst (λ (v : Stream). KeepsCourse (course_of (stream_arrivals (stream_key v) (m ∷ xs))) v.numbers) last.1 of_own
       ];
       once = λ i j key e f. elim (get_more (keys_of old.streams.items) (key_sent m) key i (subst (λ l. slice_get l i ≡ Some key) keys e)) [
         | inl a ↦ elim (get_more (keys_of old.streams.items) (key_sent m) key j (subst (λ l. slice_get l j ≡ Some key) keys f)) [
@@ -296,7 +296,7 @@ pushed xs m old new own grown own_key same_out placed room keeps h =
     }
 
 -- a message of a stream for which there is no room
-pub left : (xs : List Sent) (m : Sent) (old new : Streams) → new.streams ≡ old.streams → new.left_out ≡ min (old.left_out + 1) (2 ^ 64 - 1) →
+pub left : (xs : List MessageSent) (m : MessageSent) (old new : Streams) → new.streams ≡ old.streams → new.left_out ≡ min (old.left_out + 1) (2 ^ 64 - 1) →
     1024 ≤ length old.streams.items → position (λ stream. key_eq (stream_key stream) (key_sent m)) old.streams.items ≡ None → length xs + 1 < 2 ^ 64 →
     AreStreamsOf xs old → AreStreamsOf (m ∷ xs) new
 left xs m old new same out full placed less h =
@@ -306,7 +306,7 @@ left xs m old new same out full placed less h =
     record {
       few = omega (arith, ap length items, h.few);
       each = λ i s e. let spot_before : slice_get old.streams.items i ≡ Some s = subst (λ l. slice_get l i ≡ Some s) items e in
-          subst (λ l. Keeps (course_of l) s.numbers)
+          subst (λ l. KeepsCourse (course_of l) s.numbers)
           (sym (other_more (stream_key s) m xs (other_than (key_sent m) (stream_key s) (keys_of old.streams.items) i none (at_key old.streams.items i s spot_before))))
           (h.each i s spot_before);
       once = subst (λ l. (i j : ℕ) (key : Key) → slice_get (keys_of l) i ≡ Some key → slice_get (keys_of l) j ≡ Some key → i ≡ j) (sym items) h.once;

@@ -1,19 +1,38 @@
 -- The messages of a stream: which came, and which are missing between them (choice of this project).
-use Rattle.std.specs.Prelude.{ℕ, ◌+◌, ◌-◌, max, nat_le, nat_lt, ◌==◌, ◌&&◌, Bool, false, List, [], ◌∷◌, take, insert, position, slice_get, Option, Some, None, if◌then◌else◌}
+use Rattle.std.specs.Prelude.{
+  ℕ,
+  ◌+◌,
+  ◌-◌,
+  max,
+  nat_le,
+  nat_lt,
+  ◌==◌,
+  ◌&&◌,
+  Bool,
+  false,
+  List,
+  [],
+  ◌∷◌,
+  take,
+  insert,
+  position,
+  slice_get,
+  Option,
+  Some,
+  None,
+  if◌then◌else◌,
+}
 use Rattle.sr_streams.specs.declared.numbers.Arrival.{Arrival}
 use Rattle.sr_streams.specs.declared.spot.Spot.{Spot}
 use Rattle.sr_streams.specs.declared.sums.Kind.{Kind}
 use Rattle.sr_streams.specs.declared.sums.Kind.TheVariants.{Goose, Sampled}
+use Rattle.sr_streams.specs.Limits.{kept_spots}
 use Rattle.sr_streams.specs.Spots.{spot_rank, run_begun, spot_of}
 
 -- the spots of the messages of a stream, each once, the one furthest ahead first, and when that one came
 pub record Course : Type 0 where
   pub spots : List Spot
   pub time : ℕ
-
--- how many spots are looked at, from the one furthest ahead on
-abbrev pub kept_spots : ℕ
-kept_spots = 256
 
 -- the first of some spots that is not ahead of this rank
 abbrev pub seat : ℕ → List Spot → Option ℕ
@@ -65,7 +84,8 @@ pair_sum f (spot ∷ older ∷ spots) = f spot older + pair_sum f (older ∷ spo
 abbrev pub is_turn : Spot → Spot → Bool
 is_turn later older = (later.run == older.run) && nat_lt older.state later.state
 
--- How many messages are missing between two neighbours: within a state or second the numbers between them, else those before the number of the
+-- How many messages are missing between two neighbours: within a state or second the numbers between them, else those before the
+-- number of the
 -- later one, and one of each state between. Between two runs none is.
 abbrev pub between : Spot → Spot → ℕ
 between later older =
@@ -80,7 +100,8 @@ rest_of_second whole later older = if is_turn later older then whole - (older.nu
 -- How many messages are missing. How many a state has is not known, but a second has as many in each: the greatest number, and one.
 abbrev pub missing_of : Kind → List Spot → ℕ
 missing_of Goose spots = pair_sum between spots
-missing_of Sampled spots = pair_sum (λ later older. between later older + rest_of_second (greatest_number spots + 1) later older) spots
+missing_of Sampled spots =
+    pair_sum (λ later older. between later older + rest_of_second (greatest_number spots + 1) later older) spots
 
 -- how often the sender began anew
 abbrev pub run_restarts : List Spot → ℕ

@@ -21,6 +21,7 @@ use Rattle.std.specs.Prelude.{
   option_map,
   option_and_then,
 }
+use Rattle.sr_streams.specs.Limits.{longest_name}
 
 -- a number in one octet, or in two, the greater first, and what stands behind it
 abbrev pub one_octet : List ℕ → Option (ℕ × List ℕ)
@@ -36,7 +37,10 @@ two_octets (high ∷ low ∷ behind) = Some (256 * high + low, behind)
 abbrev pub len_front : List ℕ → Option (ℕ × List ℕ)
 len_front [] = None
 len_front (form ∷ behind) =
-    if nat_lt form 0x80 then Some (form, behind) else if form == 0x81 then one_octet behind else if form == 0x82 then two_octets behind else None
+    if nat_lt form 0x80 then Some (form, behind)
+    else if form == 0x81 then one_octet behind
+    else if form == 0x82 then two_octets behind
+    else None
 
 -- the first octets, so many, and the others
 abbrev pub split : ℕ × List ℕ → Option (List ℕ × List ℕ)
@@ -82,4 +86,4 @@ number_front tag octets =
 -- an element that is a name, of at most 129 octets, and what stands behind it
 abbrev pub name_front : ℕ → List ℕ → Option (List ℕ × List ℕ)
 name_front tag octets =
-    option_and_then (λ found. if nat_le (length found.0) 129 then Some found else None) (element tag octets)
+    option_and_then (λ found. if nat_le (length found.0) longest_name then Some found else None) (element tag octets)

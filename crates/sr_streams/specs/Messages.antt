@@ -1,5 +1,20 @@
 -- What a message of GOOSE (IEC 61850-8-1) or of sampled values (IEC 61850-9-2) says of its stream, as functions over the octets of a frame.
-use Rattle.std.specs.Prelude.{ℕ, ◌^◌, List, drop, nat_le, nat_lt, ◌==◌, ◌&&◌, if◌then◌else◌, Option, Some, None, option_map, option_and_then}
+use Rattle.std.specs.Prelude.{
+  ℕ,
+  ◌^◌,
+  List,
+  drop,
+  nat_le,
+  nat_lt,
+  ◌==◌,
+  ◌&&◌,
+  if◌then◌else◌,
+  Option,
+  Some,
+  None,
+  option_map,
+  option_and_then,
+}
 use Rattle.sr_frame.specs.Frame.{Fields}
 use Rattle.sr_streams.specs.declared.message.Counter.{Counter}
 use Rattle.sr_streams.specs.declared.message.Counter.TheVariants.{Goose, Sampled}
@@ -51,7 +66,8 @@ first_asdu octets =
 -- noASDU, which is 1 at least, and what the first ASDU says
 abbrev pub sampled : List ℕ → Option Said
 sampled octets =
-    option_and_then (λ asdus. if nat_le 1 asdus.0 && nat_lt asdus.0 (2 ^ 16) then option_and_then (asdu asdus.0) (first_asdu asdus.1) else None)
+    option_and_then (λ asdus. if nat_le 1 asdus.0 && nat_lt asdus.0 (2 ^ 16)
+    then option_and_then (asdu asdus.0) (first_asdu asdus.1) else None)
     (number_front 0x80 octets)
 
 -- what a payload of this type says

@@ -4,14 +4,7 @@ use Rattle.sr_streams.specs.declared.message.Counter.{Counter}
 use Rattle.sr_streams.specs.declared.message.Counter.TheVariants.{Goose, Sampled}
 use Rattle.sr_streams.specs.declared.spot.Spot.{Spot}
 use Rattle.sr_streams.specs.declared.spot.Heard.{Heard}
-
--- how long a copy is known as one: EntryForgetTime, 400 ms, in nanoseconds (IEC 62439-3 clauses 4 and 5)
-abbrev pub copy_time : ℕ
-copy_time = 400000000
-
--- how long the numbers of samples tell a step: they begin anew each second
-abbrev pub second : ℕ
-second = 1000000000
+use Rattle.sr_streams.specs.Limits.{soon_time, sample_second, least_far}
 
 -- the order in a stream: by restarts, then by states or seconds, then by numbers
 abbrev pub spot_rank : Spot → ℕ
@@ -34,9 +27,10 @@ run_begun run (Sampled smp_cnt asdus) = record { run = run; state = 1; number = 
 abbrev pub numbers_apart : ℕ → ℕ → ℕ
 numbers_apart m n = (m - n) + (n - m)
 
--- Two numbers are of different seconds if they are 512 apart or more, and more than half of a second, of which at least the greatest number so far is known.
+-- Two numbers are of different seconds if they are 512 apart or more, and more than half of a second, of which at least the greatest
+-- number so far is known.
 abbrev pub is_other_second : ℕ → ℕ → ℕ → Bool
-is_other_second top m n = nat_le 512 (numbers_apart m n) && nat_lt (max top m) (2 * numbers_apart m n)
+is_other_second top m n = nat_le least_far (numbers_apart m n) && nat_lt (max top m) (2 * numbers_apart m n)
 
 -- the second of a number that comes soon behind the latest one: the nearest
 abbrev pub nearest : Heard → ℕ → ℕ
@@ -52,14 +46,14 @@ following latest number = if nat_lt number latest.number then next latest.state 
 -- A GOOSE that is ahead goes on, and one that comes soon is a copy or late; any other is of a sender that began anew.
 abbrev pub goose_spot : Heard → ℕ → Spot → Spot
 goose_spot heard time same =
-    if nat_lt (spot_rank heard.latest) (spot_rank same) || nat_lt (time - heard.time) copy_time then same
+    if nat_lt (spot_rank heard.latest) (spot_rank same) || nat_lt (time - heard.time) soon_time then same
     else record same { run = next heard.latest.run }
 
 -- Samples that come within a second go on, unless the number is the same too late for a copy; others are of a sender that began anew.
 abbrev pub sampled_spot : Heard → ℕ → ℕ → Spot
 sampled_spot heard silence number =
-    if nat_lt silence copy_time then record { run = heard.latest.run; state = nearest heard number; number = number }
-    else if nat_lt silence second && nat_lt 0 (numbers_apart number heard.latest.number)
+    if nat_lt silence soon_time then record { run = heard.latest.run; state = nearest heard number; number = number }
+    else if nat_lt silence sample_second && nat_lt 0 (numbers_apart number heard.latest.number)
     then record { run = heard.latest.run; state = following heard.latest number; number = number }
     else record { run = next heard.latest.run; state = 1; number = number }
 

@@ -5,7 +5,8 @@ use Rattle.sr_streams.specs.declared.spot.Spot.{Spot}
 use Rattle.sr_streams.specs.declared.sums.Kind.{Kind}
 use Rattle.sr_streams.specs.declared.sums.Kind.TheVariants.{Goose, Sampled}
 use Rattle.sr_streams.specs.declared.sums.Sums.{Sums}
-use Rattle.sr_streams.specs.Courses.{Course, kept_spots, greatest_number, pair_sum, between, turned, turned_at, parted, pairs_made}
+use Rattle.sr_streams.specs.Limits.{kept_spots}
+use Rattle.sr_streams.specs.Courses.{Course, greatest_number, pair_sum, between, turned, turned_at, parted, pairs_made}
 
 -- the spot before this place
 abbrev pub spot_before : ℕ → List Spot → Option Spot
@@ -33,7 +34,7 @@ pub record KeepsSpots (spots : List Spot) (numbers : Numbers) : Type 0 where
   pub sums : AreSumsOf spots numbers.sums
 
 -- what is kept is of this course
-pub record Keeps (course : Course) (numbers : Numbers) : Type 0 where
+pub record KeepsCourse (course : Course) (numbers : Numbers) : Type 0 where
   pub spots : KeepsSpots course.spots numbers
   pub time : numbers.time ≡ course.time
 

@@ -1,5 +1,25 @@
 -- The streams of the messages that came (choice of this project).
-use Rattle.std.specs.Prelude.{ℕ, ◌≡◌, ◌<◌, ◌≤◌, ◌&&◌, ◌||◌, not, nat_eq, Bool, true, false, List, [], ◌∷◌, length, map, filter, slice_get, Some}
+use Rattle.std.specs.Prelude.{
+  ℕ,
+  ◌≡◌,
+  ◌<◌,
+  ◌≤◌,
+  ◌&&◌,
+  ◌||◌,
+  not,
+  nat_eq,
+  Bool,
+  true,
+  false,
+  List,
+  [],
+  ◌∷◌,
+  length,
+  map,
+  filter,
+  slice_get,
+  Some,
+}
 use Rattle.std.specs.Cmp.Lexicographic.{pointwise}
 use Rattle.sr_frame.specs.Addresses.{mac_eq}
 use Rattle.sr_frame.specs.declared.fields.Mac.{Mac}
@@ -11,11 +31,12 @@ use Rattle.sr_streams.specs.declared.sums.Kind.TheVariants.{Goose, Sampled}
 use Rattle.sr_streams.specs.declared.table.Stream.{Stream}
 use Rattle.sr_streams.specs.declared.table.Streams.{Streams}
 use Rattle.sr_streams.specs.Courses.{course_of}
+use Rattle.sr_streams.specs.Limits.{max_streams}
 use Rattle.sr_streams.specs.Messages.{Said}
-use Rattle.sr_streams.specs.Sums.{Keeps}
+use Rattle.sr_streams.specs.Sums.{KeepsCourse}
 
 -- a message that came: its source address, what it says, and when
-pub record Sent : Type 0 where
+pub record MessageSent : Type 0 where
   pub src : Mac
   pub says : Said
   pub time : ℕ
@@ -40,7 +61,7 @@ kind_eq Sampled Sampled = true
 abbrev pub key_eq : Key → Key → Bool
 key_eq k l = mac_eq k.src l.src && (kind_eq k.kind l.kind && pointwise nat_eq k.name l.name)
 
-abbrev pub key_sent : Sent → Key
+abbrev pub key_sent : MessageSent → Key
 key_sent x = record { src = x.src; kind = counter_kind x.says.counter; name = x.says.name }
 
 abbrev pub stream_key : Stream → Key
@@ -55,25 +76,24 @@ has_stream key [] = false
 has_stream key (own ∷ keys) = key_eq own key || has_stream key keys
 
 -- when a message came, and its number
-abbrev pub arrival_sent : Sent → Arrival
+abbrev pub arrival_sent : MessageSent → Arrival
 arrival_sent x = record { time = x.time; counter = x.says.counter }
 
 -- the messages of a stream, in the order in which they are given: the last one first
-abbrev pub stream_arrivals : Key → List Sent → List Arrival
+abbrev pub stream_arrivals : Key → List MessageSent → List Arrival
 stream_arrivals key xs = map arrival_sent (filter (λ x. key_eq key (key_sent x)) xs)
 
--- how many streams are kept
-abbrev pub max_streams : ℕ
-max_streams = 1024
-
 -- what is kept is of the messages that came, the last one first
-pub record AreStreamsOf (xs : List Sent) (streams : Streams) : Type 0 where
+pub record AreStreamsOf (xs : List MessageSent) (streams : Streams) : Type 0 where
   pub few : length streams.streams.items ≤ max_streams
   -- each stream is kept once, with what all of its messages tell
-  pub each : (at : ℕ) (stream : Stream) → slice_get streams.streams.items at ≡ Some stream → Keeps (course_of (stream_arrivals (stream_key stream) xs)) stream.numbers
-  pub once : (i j : ℕ) (key : Key) → slice_get (keys_of streams.streams.items) i ≡ Some key → slice_get (keys_of streams.streams.items) j ≡ Some key → i ≡ j
+  pub each : (at : ℕ) (stream : Stream) → slice_get streams.streams.items at ≡ Some stream →
+      KeepsCourse (course_of (stream_arrivals (stream_key stream) xs)) stream.numbers
+  pub once : (i j : ℕ) (key : Key) → slice_get (keys_of streams.streams.items) i ≡ Some key →
+      slice_get (keys_of streams.streams.items) j ≡ Some key → i ≡ j
   -- while there is room, no other stream sent, and no message was left out
-  pub all : length streams.streams.items < max_streams → (key : Key) → has_stream key (keys_of streams.streams.items) ≡ false → stream_arrivals key xs ≡ []
+  pub all : length streams.streams.items < max_streams → (key : Key) → has_stream key (keys_of streams.streams.items) ≡ false →
+      stream_arrivals key xs ≡ []
   pub none_out : length streams.streams.items < max_streams → streams.left_out ≡ 0
   -- the messages of other streams are counted
   pub left_out : streams.left_out ≡ length (filter (λ x. not (has_stream (key_sent x) (keys_of streams.streams.items))) xs)

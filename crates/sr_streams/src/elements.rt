@@ -96,7 +96,8 @@ pub(crate) fn behind_any(octets: &[u8], tag: u8) -> Option<&[u8]>
 
 /// The number that four octets spell.
 fn number_in_four(octets: [u8; 4]) -> u32
-    ensures { result ≡ in_four (slice_index octets 0) (slice_index octets 1) (slice_index octets 2) (slice_index octets 3) }
+    ensures { result ≡ in_four (slice_index octets 0) (slice_index octets 1)
+        (slice_index octets 2) (slice_index octets 3) }
 {
     let [a, b, c, d] = octets;
     256 * (256 * (256 * u32::from(a) + u32::from(b)) + u32::from(c)) + u32::from(d)

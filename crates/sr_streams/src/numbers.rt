@@ -39,11 +39,11 @@ fn capped(told: u128) -> u64
 impl Numbers {
     ghost use Rattle.std.specs.Prelude.{◌≡◌, ◌+◌, ◌-◌, ◌^◌, slice_get, Some, ◌<◌, List, [], ◌∷◌, length, min, OnOk, OnErr};
     ghost use Rattle.sr_streams.specs.Courses.{Course, course_of, message_taken, missing_of, run_restarts, seat, spot_entered};
-    ghost use Rattle.sr_streams.specs.Sums.{spot_before, KeepsSpots, Keeps};
+    ghost use Rattle.sr_streams.specs.Sums.{spot_before, KeepsSpots, KeepsCourse};
 
     /// Of no message. Takes no memory.
     pub fn new(alloc: Global) -> Numbers
-        ensures { Keeps (course_of []) result }
+        ensures { KeepsCourse (course_of []) result }
     {
         Numbers {
             recent: Vec::new(alloc),
@@ -96,10 +96,10 @@ impl Numbers {
     /// Takes the first message.
     fn begin(&mut self, x: Arrival) -> Result<(), NoMemory>
         requires { self.old.recent.items ≡ [] }
-        ensures ok { OnOk result ((course : Course) → Keeps course self.old
-            → Keeps (message_taken x course) self.new) }
-        ensures err { OnErr result ((course : Course) → Keeps course self.old
-            → Keeps course self.new) }
+        ensures ok { OnOk result ((course : Course) → KeepsCourse course self.old
+            → KeepsCourse (message_taken x course) self.new) }
+        ensures err { OnErr result ((course : Course) → KeepsCourse course self.old
+            → KeepsCourse course self.new) }
     {
         let spot = begun(0, x.counter);
         let Ok(()) = self.recent.push(spot) else {
@@ -115,9 +115,9 @@ impl Numbers {
     fn go_on(&mut self, latest: Spot, x: Arrival) -> Result<(), NoMemory>
         requires { slice_get self.old.recent.items 0 ≡ Some latest }
         ensures ok { OnOk result ((course : Course) → length course.spots + 1 < 2 ^ 64
-            → Keeps course self.old → Keeps (message_taken x course) self.new) }
-        ensures err { OnErr result ((course : Course) → Keeps course self.old
-            → Keeps course self.new) }
+            → KeepsCourse course self.old → KeepsCourse (message_taken x course) self.new) }
+        ensures err { OnErr result ((course : Course) → KeepsCourse course self.old
+            → KeepsCourse course self.new) }
     {
         let heard = Heard {
             latest,
@@ -138,9 +138,9 @@ impl Numbers {
     /// `NoMemory` where the one allocation failed: nothing is changed then.
     pub fn note(&mut self, x: Arrival) -> Result<(), NoMemory>
         ensures ok { OnOk result ((xs : List Arrival) → length xs + 1 < 2 ^ 64
-            → Keeps (course_of xs) self.old → Keeps (course_of (x ∷ xs)) self.new) }
-        ensures err { OnErr result ((course : Course) → Keeps course self.old
-            → Keeps course self.new) }
+            → KeepsCourse (course_of xs) self.old → KeepsCourse (course_of (x ∷ xs)) self.new) }
+        ensures err { OnErr result ((course : Course) → KeepsCourse course self.old
+            → KeepsCourse course self.new) }
     {
         match self.recent.first().copied() {
             Some(latest) => self.go_on(latest, x),
@@ -150,14 +150,14 @@ impl Numbers {
 
     /// How many messages came, copies left out.
     pub fn came(&self) -> u64
-        ensures { (course : Course) → Keeps course self.now → result ≡ length course.spots }
+        ensures { (course : Course) → KeepsCourse course self.now → result ≡ length course.spots }
     {
         self.sums.came
     }
 
     /// How many messages are missing, as far as 64 bits count.
     pub fn missing(&self, kind: Kind) -> u64
-        ensures { (course : Course) → Keeps course self.now
+        ensures { (course : Course) → KeepsCourse course self.now
             → result ≡ min (missing_of kind course.spots) (2 ^ 64 - 1) }
     {
         capped(self.sums.missing(kind, self.top))
@@ -165,7 +165,8 @@ impl Numbers {
 
     /// How often the sender began anew.
     pub fn restarts(&self) -> u32
-        ensures { (course : Course) → Keeps course self.now → result ≡ run_restarts course.spots }
+        ensures { (course : Course) → KeepsCourse course self.now
+            → result ≡ run_restarts course.spots }
     {
         match self.recent.first() {
             Some(latest) => latest.run,

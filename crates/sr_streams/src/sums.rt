@@ -150,9 +150,12 @@ impl Sums {
     fn grown(self, first: Pair, second: Pair, less: Pair) -> Sums
         requires { self.came + 1 < 2 ^ 64 }
         ensures came { result.came ≡ self.came + 1 }
-        ensures between { result.between ≡ self.between + (first.between + second.between) - less.between }
-        ensures turned { result.turned ≡ self.turned + (first.turned + second.turned) - less.turned }
-        ensures turned_at { result.turned_at ≡ self.turned_at + (first.turned_at + second.turned_at) - less.turned_at }
+        ensures between { result.between
+            ≡ self.between + (first.between + second.between) - less.between }
+        ensures turned { result.turned
+            ≡ self.turned + (first.turned + second.turned) - less.turned }
+        ensures turned_at { result.turned_at
+            ≡ self.turned_at + (first.turned_at + second.turned_at) - less.turned_at }
     {
         Sums {
             came: self.came + 1,

@@ -49,7 +49,8 @@ impl Stream {
 
     /// Whether it is the one of this source, kind and name.
     fn is_of(&self, src: Mac, kind: Kind, name: &[u8]) -> bool
-        ensures { result ≡ key_eq (stream_key self.now) (record { src = src; kind = kind; name = name.now }) }
+        ensures { result ≡ key_eq (stream_key self.now)
+            (record { src = src; kind = kind; name = name.now }) }
     {
         self.src == src && self.kind == kind && self.name.as_slice() == name
     }
@@ -57,7 +58,8 @@ impl Stream {
 
 impl Streams {
     ghost use Rattle.std.specs.Prelude.{◌≡◌, ◌+◌, ◌^◌, ◌<◌, List, [], ◌∷◌, ◌≤◌, length, position, Some, None, OnOk};
-    ghost use Rattle.sr_streams.specs.Tables.{Sent, AreStreamsOf, arrival_sent, key_eq, stream_key, key_sent, max_streams};
+    ghost use Rattle.sr_streams.specs.Tables.{MessageSent, AreStreamsOf, arrival_sent, key_eq, stream_key, key_sent};
+    ghost use Rattle.sr_streams.specs.Limits.{max_streams};
     ghost use Rattle.sr_streams.specs.Views.{said};
 
     /// Of no message. Takes no memory.
@@ -73,8 +75,8 @@ impl Streams {
 
     /// Where a stream is kept.
     fn place(&self, src: Mac, kind: Kind, name: &[u8]) -> Option<usize>
-        ensures { result ≡ position (λ stream. key_eq (stream_key stream) (record { src = src; kind = kind; name = name.now }))
-            self.now.streams.items }
+        ensures { result ≡ position (λ own. key_eq (stream_key own)
+            (record { src = src; kind = kind; name = name.now })) self.now.streams.items }
     {
         self.streams
             .iter()
@@ -98,9 +100,11 @@ impl Streams {
     /// Takes a message of a stream that is kept.
     fn go_on(&mut self, at: usize, x: Arrival) -> Result<(), NoMemory>
         requires { at < length self.old.streams.items }
-        ensures { OnOk result ((xs : List Sent) (m : Sent) → x ≡ arrival_sent m
-            → position (λ stream. key_eq (stream_key stream) (key_sent m)) self.old.streams.items ≡ Some at
-            → length xs + 1 < 2 ^ 64 → AreStreamsOf xs self.old → AreStreamsOf (m ∷ xs) self.new) }
+        ensures { OnOk result ((xs : List MessageSent) (m : MessageSent) → x ≡ arrival_sent m
+            → position (λ own. key_eq (stream_key own) (key_sent m)) self.old.streams.items
+            ≡ Some at
+            → length xs + 1 < 2 ^ 64 → AreStreamsOf xs self.old
+            → AreStreamsOf (m ∷ xs) self.new) }
     {
         self.streams[at].numbers.note(x)
     }
@@ -108,9 +112,10 @@ impl Streams {
     /// Takes the first message of a stream, where there is room for it.
     fn begin(&mut self, src: Mac, kind: Kind, name: &[u8], x: Arrival) -> Result<(), NoMemory>
         requires { length self.old.streams.items < max_streams }
-        ensures { OnOk result ((xs : List Sent) (m : Sent) → x ≡ arrival_sent m
+        ensures { OnOk result ((xs : List MessageSent) (m : MessageSent) → x ≡ arrival_sent m
             → key_sent m ≡ record { src = src; kind = kind; name = name.now }
-            → position (λ stream. key_eq (stream_key stream) (key_sent m)) self.old.streams.items ≡ None
+            → position (λ own. key_eq (stream_key own) (key_sent m)) self.old.streams.items
+            ≡ None
             → AreStreamsOf xs self.old → AreStreamsOf (m ∷ xs) self.new) }
     {
         let mut numbers = Numbers::new(self.alloc);
@@ -130,9 +135,12 @@ impl Streams {
 
     /// Counts a message of a stream for which there is no room.
     fn leave_out(&mut self)
-        ensures { (xs : List Sent) (m : Sent) → max_streams ≤ length self.old.streams.items
-            → position (λ stream. key_eq (stream_key stream) (key_sent m)) self.old.streams.items ≡ None
-            → length xs + 1 < 2 ^ 64 → AreStreamsOf xs self.old → AreStreamsOf (m ∷ xs) self.new }
+        ensures { (xs : List MessageSent) (m : MessageSent)
+            → max_streams ≤ length self.old.streams.items
+            → position (λ own. key_eq (stream_key own) (key_sent m)) self.old.streams.items
+            ≡ None
+            → length xs + 1 < 2 ^ 64 → AreStreamsOf xs self.old
+            → AreStreamsOf (m ∷ xs) self.new }
     {
         self.left_out = self.left_out.saturating_add(1);
     }
@@ -142,8 +150,9 @@ impl Streams {
     /// # Errors
     /// `NoMemory` where an allocation failed.
     pub fn note(&mut self, src: Mac, time: u64, message: &Message<'_>) -> Result<(), NoMemory>
-        ensures { OnOk result ((xs : List Sent) → length xs + 1 < 2 ^ 64 → AreStreamsOf xs self.old
-            → AreStreamsOf (record { src = src; says = said message.now; time = time } ∷ xs) self.new) }
+        ensures { OnOk result ((xs : List MessageSent) → length xs + 1 < 2 ^ 64
+            → AreStreamsOf xs self.old → AreStreamsOf
+            (record { src = src; says = said message.now; time = time } ∷ xs) self.new) }
     {
         let kind = kind_of(message.counter);
         let x = Arrival {
