@@ -2,17 +2,19 @@
 
 mod hints;
 mod passes;
+mod streams;
 mod verdict;
 mod ways;
 mod writing;
 
-use crate::clocks::{Known, on_clocks, read_clocks, recorders_of_audit};
+use crate::clocks::{Known, on_clocks, read_clocks, read_once, recorders_of_audit};
 use crate::pipes::Pipe;
 use crate::progress::Progress;
 use crate::script::tell_ended;
 use hints::tell_odd;
 use passes::{Read, read_all};
-use sr_capture_script::ScriptFault;
+use sr_advice::letter_of;
+use sr_capture_script::{Inlet, ScriptFault};
 use sr_options::AuditTask;
 use sr_slots::Keys;
 use sr_verdict::Verdict;
@@ -98,6 +100,21 @@ fn run_on_clocks<R: AllocGlobal + Print + Eprint + Files>(
     Ok(())
 }
 
+/// Refuses a capture that is none of a file, as a pipe, since an audit reads it more than once. The error is the exit status.
+fn refuse_read_once<R: Eprint + Files>(
+    rt: &R,
+    inlet: Inlet,
+    path: Option<&str>,
+) -> Result<(), u8> {
+    let Some(path) = read_once(rt, path) else {
+        return Ok(());
+    };
+    let letter = letter_of(inlet);
+    let _ = eprintln!(rt; "fault {letter} open 0");
+    let _ = eprintln!(rt; "{path} is no file, and an audit reads its captures more than once");
+    Err(RUN_FAILED)
+}
+
 /// Writes what captures tell of a network to standard output. A fault is told on standard error, and so is what looks wrong. An error is the
 /// exit status.
 pub fn run_audit<R: AllocGlobal + Print + Eprint + Files + RandomSource>(
@@ -105,6 +122,8 @@ pub fn run_audit<R: AllocGlobal + Print + Eprint + Files + RandomSource>(
     task: &AuditTask<'_>,
     progress: Progress,
 ) -> Result<(), u8> {
+    refuse_read_once(rt, Inlet::A, task.a)?;
+    refuse_read_once(rt, Inlet::B, task.b)?;
     let Ok(keys) = Keys::new(rt) else {
         let _ = eprintln!(rt; "fault read");
         return Err(RUN_FAILED);

@@ -200,7 +200,7 @@ pub fn on_clocks<'a>(task: &AuditTask<'a>, known: Known) -> AuditTask<'a> {
 }
 
 /// The path, where what it names can be read once alone, as a pipe.
-fn read_once<'a, R: Files>(rt: &R, path: Option<&'a str>) -> Option<&'a str> {
+pub fn read_once<'a, R: Files>(rt: &R, path: Option<&'a str>) -> Option<&'a str> {
     let path = path?;
     let metadata = std::fs::metadata(rt, path).ok()?;
     if metadata.is_file() || metadata.is_dir() {

@@ -2,6 +2,7 @@
 
 use crate::audit::Ended;
 use crate::audit::passes::{Times, open};
+use crate::audit::streams::write_streams;
 use crate::clocks::Known;
 use crate::meanings::{lines_of, lists_of, subject_of};
 use crate::progress::Progress;
@@ -162,6 +163,7 @@ pub fn write_all<R: AllocGlobal + Eprint + Files, W: Write>(
     write_verdicts(task, verdicts, writer)?;
     write_clocks(task, known, writer)?;
     write_figures(task, times, report, writer)?;
+    write_streams(rt, task, writer)?;
     write_rest(rt, task, keys, times, summary, writer)?;
     match writer.flush() {
         Ok(()) => Ok(()),

@@ -1,0 +1,5 @@
+pub mod Entering
+pub mod Missing
+pub mod Lengths
+pub mod Keys
+pub mod Tabled
