@@ -51,19 +51,23 @@ _seamless() {
     "merge --only") words="lost" ;;
     "ring --nodes") ;;
     "ring --turns") ;;
+    "ring --format") words="text json svg" ;;
     "ring --mode") words="h x" ;;
     "ring --window") words="1024 2048" ;;
     "lan --nodes") ;;
     "lan --turns") ;;
+    "lan --format") words="text json svg" ;;
     "lan --mode") words="h x" ;;
     "lan --window") words="1024 2048" ;;
     "ring-lan --ring") ;;
     "ring-lan --lan") ;;
+    "ring-lan --format") words="text json svg" ;;
     "ring-lan --mode") words="h x" ;;
     "ring-lan --window") words="1024 2048" ;;
     "two-rings --left") ;;
     "two-rings --right") ;;
     "two-rings --joins") ;;
+    "two-rings --format") words="text json svg" ;;
     "two-rings --mode") words="h x" ;;
     "two-rings --window") words="1024 2048" ;;
     *)
@@ -74,10 +78,10 @@ _seamless() {
         *" script") words="--a --b --c --network --shift-a --shift-b --shift-c --shift --fcs --from --to --tick --help" ;;
         *" audit") words="--a --b --mirror --network --shift-a --shift-b --fcs --from --to --shift --list --format --check --complete --help" ;;
         *" merge") words="--a --b --write --network --shift-a --shift-b --fcs --from --to --shift --keep --only --help" ;;
-        *" ring") words="--nodes --turns --mode --window --help" ;;
-        *" lan") words="--nodes --turns --mode --window --help" ;;
-        *" ring-lan") words="--ring --lan --mode --window --help" ;;
-        *" two-rings") words="--left --right --joins --mode --window --help" ;;
+        *" ring") words="--nodes --turns --format --mode --window --help" ;;
+        *" lan") words="--nodes --turns --format --mode --window --help" ;;
+        *" ring-lan") words="--ring --lan --format --mode --window --help" ;;
+        *" two-rings") words="--left --right --joins --format --mode --window --help" ;;
         esac
         ;;
     esac

@@ -51,19 +51,23 @@ _seamless() {
     "merge --only") compadd -- lost ;;
     "ring --nodes") ;;
     "ring --turns") ;;
+    "ring --format") compadd -- text json svg ;;
     "ring --mode") compadd -- h x ;;
     "ring --window") compadd -- 1024 2048 ;;
     "lan --nodes") ;;
     "lan --turns") ;;
+    "lan --format") compadd -- text json svg ;;
     "lan --mode") compadd -- h x ;;
     "lan --window") compadd -- 1024 2048 ;;
     "ring-lan --ring") ;;
     "ring-lan --lan") ;;
+    "ring-lan --format") compadd -- text json svg ;;
     "ring-lan --mode") compadd -- h x ;;
     "ring-lan --window") compadd -- 1024 2048 ;;
     "two-rings --left") ;;
     "two-rings --right") ;;
     "two-rings --joins") ;;
+    "two-rings --format") compadd -- text json svg ;;
     "two-rings --mode") compadd -- h x ;;
     "two-rings --window") compadd -- 1024 2048 ;;
     *)
@@ -74,10 +78,10 @@ _seamless() {
         *" script") compadd -- --a --b --c --network --shift-a --shift-b --shift-c --shift --fcs --from --to --tick --help ;;
         *" audit") compadd -- --a --b --mirror --network --shift-a --shift-b --fcs --from --to --shift --list --format --check --complete --help ;;
         *" merge") compadd -- --a --b --write --network --shift-a --shift-b --fcs --from --to --shift --keep --only --help ;;
-        *" ring") compadd -- --nodes --turns --mode --window --help ;;
-        *" lan") compadd -- --nodes --turns --mode --window --help ;;
-        *" ring-lan") compadd -- --ring --lan --mode --window --help ;;
-        *" two-rings") compadd -- --left --right --joins --mode --window --help ;;
+        *" ring") compadd -- --nodes --turns --format --mode --window --help ;;
+        *" lan") compadd -- --nodes --turns --format --mode --window --help ;;
+        *" ring-lan") compadd -- --ring --lan --format --mode --window --help ;;
+        *" two-rings") compadd -- --left --right --joins --format --mode --window --help ;;
         esac
         ;;
     esac

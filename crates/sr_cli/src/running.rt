@@ -5,8 +5,10 @@ use crate::meanings::{plant_of, setup_of, threads_of};
 use crate::pipes::{Kept, MAX_KEPT, Pipe};
 use sr_advice::{Flaw, ScriptKind, found_in, is_capture, tail_advice};
 use sr_forwarding::RoleKind;
-use sr_options::{NodeTask, PlantTask, ThreadsTask};
-use sr_plant_script::run_plant;
+use sr_json_lines::JsonLines;
+use sr_options::{LineFormat, NodeTask, PlantFormat, PlantTask, ThreadsTask};
+use sr_plant_picture::run_picture;
+use sr_plant_script::{PlantSetup, run_plant};
 use sr_script::{Report, Setup, run_leaving};
 use sr_session::{Fault, FaultKind, NOT_BEGUN};
 use sr_slots::Keys;
@@ -228,6 +230,27 @@ pub fn run_node<R: AllocGlobal + Print + Eprint + Input + RandomSource>(
     }
 }
 
+/// Runs a script on a new plant, and writes what comes of it as it is to be told.
+fn run_told<R: Read + Drop, W: Write>(
+    alloc: Global,
+    setup: &PlantSetup,
+    format: PlantFormat,
+    script: &mut Script<R>,
+    writer: &mut W,
+) -> Result<(), Fault> {
+    match format {
+        PlantFormat::Lines(LineFormat::Text) => run_plant(alloc, setup, script, writer),
+        PlantFormat::Lines(LineFormat::Json) => {
+            let mut lines = JsonLines::new(alloc, writer);
+            match run_plant(alloc, setup, script, &mut lines) {
+                Ok(()) => Ok(()),
+                Err(fault) => Err(lines.fault_of(fault)),
+            }
+        }
+        PlantFormat::Svg => run_picture(alloc, setup, script, writer),
+    }
+}
+
 /// Runs the script on standard input on a new plant, and writes what comes of it to standard output. What ends it early is told.
 pub fn play<R: AllocGlobal + Print + Eprint + Input>(rt: &R, task: &PlantTask) -> Result<(), ()> {
     let alloc = rt.alloc();
@@ -237,7 +260,7 @@ pub fn play<R: AllocGlobal + Print + Eprint + Input>(rt: &R, task: &PlantTask) -
         return Err(());
     };
     let mut writer = Pipe::new(io::writer(rt));
-    let Err(fault) = run_plant(alloc, &setup, &mut script, &mut writer) else {
+    let Err(fault) = run_told(alloc, &setup, task.format, &mut script, &mut writer) else {
         return Ok(());
     };
     let Ok(ends) = ends_of(alloc, &mut script) else {
@@ -284,6 +307,29 @@ fn tell_threaded<R: Eprint>(
     }
 }
 
+/// Runs what a script sends, on a new plant whose nodes run on threads, and writes what comes of it as it is to be told.
+fn run_threaded_told<S: Read + Drop, W: Write, R: Threads + Wait + Sync>(
+    rt: &R,
+    alloc: Global,
+    task: &ThreadsTask,
+    script: &mut Script<S>,
+    writer: &mut W,
+) -> Result<(), ThreadedFault> {
+    let setup = threads_of(task);
+    match task.format {
+        LineFormat::Text => run_threaded(rt, alloc, &setup, task.turns, script, writer),
+        LineFormat::Json => {
+            let mut lines = JsonLines::new(alloc, writer);
+            match run_threaded(rt, alloc, &setup, task.turns, script, &mut lines) {
+                Err(ThreadedFault::Script(fault)) => {
+                    Err(ThreadedFault::Script(lines.fault_of(fault)))
+                }
+                outcome => outcome,
+            }
+        }
+    }
+}
+
 /// Runs what the script on standard input sends, on a new plant whose nodes run on threads, and writes what comes of it to
 /// standard output. What ends it early is told.
 pub fn play_threaded<R: AllocGlobal + Print + Eprint + Input + Threads + Wait + Sync>(
@@ -291,13 +337,12 @@ pub fn play_threaded<R: AllocGlobal + Print + Eprint + Input + Threads + Wait + 
     task: &ThreadsTask,
 ) -> Result<(), ()> {
     let alloc = rt.alloc();
-    let setup = threads_of(task);
     let Ok(mut script) = script_of(alloc, rt.reader()) else {
         let _ = eprintln!(rt; "{NOT_BEGUN}");
         return Err(());
     };
     let mut writer = Pipe::new(io::writer(rt));
-    let Err(fault) = run_threaded(rt, alloc, &setup, task.turns, &mut script, &mut writer) else {
+    let Err(fault) = run_threaded_told(rt, alloc, task, &mut script, &mut writer) else {
         return Ok(());
     };
     let Ok(ends) = ends_of(alloc, &mut script) else {

@@ -1,7 +1,6 @@
 -- The rules that options keep together.
 use Rattle.std.specs.Prelude.{◌≡◌, ◌≢◌, ℕ, ◌+◌, ◌^◌, ◌≤◌, ℤ, Bool, true, false, Option, Some, None, ⊤, ◌⊎◌}
 use Rattle.sr_capture_script.specs.declared.choice.Delays.{Delays}
-use Rattle.sr_capture_script.specs.declared.choice.Options.{Options}
 use Rattle.sr_options.specs.Shifts.{others_longer, AreSetBack, AreSetBackTooFar}
 use Rattle.sr_options.specs.declared.audit_line.AuditTask.{AuditTask}
 use Rattle.sr_options.specs.declared.audit_line.Format.{Format}
@@ -9,7 +8,6 @@ use Rattle.sr_options.specs.declared.audit_line.Format.TheVariants as format
 use Rattle.sr_options.specs.declared.audit_line.Lists.{Lists}
 use Rattle.sr_options.specs.declared.audit_line.Ports.{Ports}
 use Rattle.sr_options.specs.declared.audit_line.Ports.TheVariants as ports
-use Rattle.sr_options.specs.declared.coupled_line.Joins.{Joins}
 use Rattle.sr_options.specs.declared.coupled_line.Joins.TheVariants as joins
 use Rattle.sr_options.specs.declared.merge_line.MergeTask.{MergeTask}
 use Rattle.sr_options.specs.declared.plant_line.Shape.{Shape}

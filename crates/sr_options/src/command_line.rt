@@ -140,10 +140,16 @@ fn network_task_in<'a>(matches: &ArgMatches<'a>) -> Result<Option<Task<'a>>, Opt
     ensures { IfOk result (λ found. IfSome found (λ task. KeepsRules task)) }
 {
     if let Some(ring) = matches.subcommand_matches("ring") {
-        return Ok(Some(network_task(Net::Ring, ring)));
+        return match network_task(Net::Ring, ring) {
+            Ok(task) => Ok(Some(task)),
+            Err(fault) => Err(fault),
+        };
     }
     if let Some(lan) = matches.subcommand_matches("lan") {
-        return Ok(Some(network_task(Net::TwinLan, lan)));
+        return match network_task(Net::TwinLan, lan) {
+            Ok(task) => Ok(Some(task)),
+            Err(fault) => Err(fault),
+        };
     }
     if let Some(ring_lan) = matches.subcommand_matches("ring-lan") {
         return Ok(Some(Task::Plant(ring_lan_of(ring_lan))));

@@ -8,6 +8,7 @@ use crate::counts::{boxed_nodes_in, lan_nodes_in, nodes_in};
 use crate::examples;
 use crate::fault::OptionFault;
 use crate::node_options::{node_options_of, with_node_options};
+use crate::plant_format::{format_of, format_option};
 use crate::plant_line::{PlantTask, Shape};
 use crate::words::Words;
 use clap::{Arg, ArgMatches, Command};
@@ -22,7 +23,7 @@ pub enum Joins {
     Two,
 }
 
-/// What the parser knows of `ring-lan`: `--ring 3..16 --lan 1..14`.
+/// What the parser knows of `ring-lan`: `--ring 3..16 --lan 1..14 [--format FORMAT]`.
 pub(crate) fn ring_lan_command<'a>(
     alloc: Global,
     words: &'a Words<'a>,
@@ -43,10 +44,11 @@ pub(crate) fn ring_lan_command<'a>(
         .about("Runs a script on a ring and two LANs that RedBoxes join with it")
         .after_help(examples::RING_LAN)
         .arg(ring);
-    with_node_options(alloc, with_arg(command, lan), words)
+    let command = with_arg(with_arg(command, lan), format_option(alloc));
+    with_node_options(alloc, command, words)
 }
 
-/// What the parser knows of `two-rings`: `--left 2..16 --right 2..16 --joins 1..2`.
+/// What the parser knows of `two-rings`: `--left 2..16 --right 2..16 --joins 1..2 [--format FORMAT]`.
 pub(crate) fn two_rings_command<'a>(
     alloc: Global,
     words: &'a Words<'a>,
@@ -74,6 +76,7 @@ pub(crate) fn two_rings_command<'a>(
         .after_help(examples::TWO_RINGS)
         .arg(left);
     let command = with_arg(with_arg(command, right), joins);
+    let command = with_arg(command, format_option(alloc));
     with_node_options(alloc, command, words)
 }
 
@@ -84,6 +87,7 @@ pub(crate) fn ring_lan_of(matches: &ArgMatches<'_>) -> PlantTask
     PlantTask {
         shape: Shape::RingLan(boxed_nodes_in(matches), lan_nodes_in(matches)),
         options: node_options_of(matches),
+        format: format_of(matches),
     }
 }
 
@@ -103,5 +107,6 @@ pub(crate) fn two_rings_of(matches: &ArgMatches<'_>) -> Result<PlantTask, Option
     Ok(PlantTask {
         shape: Shape::TwoRings(left, right, joins),
         options: node_options_of(matches),
+        format: format_of(matches),
     })
 }

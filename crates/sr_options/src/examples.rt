@@ -46,8 +46,8 @@ pub(crate) const MERGE: &str = "Examples:
 pub(crate) const RING: &str = "Examples:
   A ring of four nodes, of which a link is cut:
     seamless ring --nodes 4 < examples/cut-ring.script
-  What node 0 sends to all, where no node sends a copy back:
-    printf 'send 0 all 01\\nflow\\n' | seamless ring --nodes 4 --mode x";
+  The same run as a picture:
+    seamless ring --nodes 4 --format svg < examples/cut-ring.script > cut-ring.svg";
 
 /// Of `lan`.
 pub(crate) const LAN: &str = "Examples:

@@ -31,6 +31,8 @@ pub enum OptionFault {
     Picture,
     /// More joins than a ring has nodes less one.
     Joins,
+    /// A picture of a run on threads.
+    Drawn,
 }
 
 impl OptionFault {
@@ -51,6 +53,7 @@ impl OptionFault {
             OptionFault::Table => "table",
             OptionFault::Picture => "picture",
             OptionFault::Joins => "joins",
+            OptionFault::Drawn => "format",
         }
     }
 
@@ -72,6 +75,7 @@ impl OptionFault {
             OptionFault::Picture => "--format svg draws a picture: it takes no list",
             OptionFault::Joins =>
                 "a link joins a box of each ring, and a ring has more nodes than boxes: --joins is less than --left and --right",
+            OptionFault::Drawn => "--format svg draws a run by steps: it takes no --turns",
         }
     }
 }

@@ -1,11 +1,14 @@
 //! The words behind `seamless ring` and `seamless lan`.
 
+ghost use Rattle.std.specs.Prelude.{IfOk};
 ghost use Rattle.sr_options.specs.Tasks.{KeepsRules};
 
 use crate::command_line::with_arg;
 use crate::counts::{BoxedNodes, LanNodes, Nodes, nodes_in};
 use crate::coupled_line::Joins;
+use crate::fault::OptionFault;
 use crate::node_options::{NodeOptions, node_options_of, with_node_options};
+use crate::plant_format::{LineFormat, PlantFormat, format_of, format_option};
 use crate::task::Task;
 use crate::words::Words;
 use clap::{Arg, ArgMatches, Command};
@@ -38,6 +41,8 @@ pub struct PlantTask {
     pub shape: Shape,
     /// How its nodes work.
     pub options: NodeOptions,
+    /// How the run is told.
+    pub format: PlantFormat,
 }
 
 /// The network that a script is run on, with each node on threads.
@@ -51,9 +56,11 @@ pub struct ThreadsTask {
     pub options: NodeOptions,
     /// For how many turns each worker runs, 1 to 50,000.
     pub turns: u64,
+    /// How the lines of the run are spelled.
+    pub format: LineFormat,
 }
 
-/// What the parser knows of a subcommand for a plant: `--nodes 2..16 [--turns 1..50000]`.
+/// What the parser knows of a subcommand for a plant: `--nodes 2..16 [--turns 1..50000] [--format FORMAT]`.
 pub(crate) fn plant_command<'a>(
     alloc: Global,
     words: &'a Words<'a>,
@@ -72,6 +79,7 @@ pub(crate) fn plant_command<'a>(
         .after_help(examples)
         .arg(nodes);
     let command = with_arg(command, turns_option(alloc));
+    let command = with_arg(command, format_option(alloc));
     with_node_options(alloc, command, words)
 }
 
@@ -89,22 +97,26 @@ fn turns_of(word: &str) -> Option<u64> {
     word.parse::<u64>().ok()
 }
 
-/// What `ring` or `lan` asks for: to run the network by steps, or on threads.
-pub(crate) fn network_task<'a>(net: Net, matches: &ArgMatches<'a>) -> Task<'a>
-    ensures { KeepsRules result }
+/// What `ring` or `lan` asks for: to run the network by steps, or on threads. A fault where a run on threads is to be drawn.
+pub(crate) fn network_task<'a>(net: Net, matches: &ArgMatches<'a>) -> Result<Task<'a>, OptionFault>
+    ensures { IfOk result (λ task. KeepsRules task) }
 {
     let nodes = nodes_in(matches, "nodes");
     let options = node_options_of(matches);
-    match matches.get_str("turns").and_then(turns_of) {
-        Some(turns) => Task::Threads(ThreadsTask {
+    let format = format_of(matches);
+    match (matches.get_str("turns").and_then(turns_of), format) {
+        (Some(turns), PlantFormat::Lines(format)) => Ok(Task::Threads(ThreadsTask {
             net,
             nodes,
             options,
             turns,
-        }),
-        None => Task::Plant(PlantTask {
+            format,
+        })),
+        (Some(_), PlantFormat::Svg) => Err(OptionFault::Drawn),
+        (None, format) => Ok(Task::Plant(PlantTask {
             shape: Shape::Single(net, nodes),
             options,
-        }),
+            format,
+        })),
     }
 }
