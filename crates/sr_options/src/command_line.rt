@@ -19,7 +19,7 @@ use clap::{Arg, ArgGroup, ArgMatches, Command, Error};
 use std::alloc::{AllocError, Global};
 
 /// The version of the program, that of CHANGELOG.md.
-const VERSION: &str = "0.4.0";
+const VERSION: &str = "0.5.0";
 
 /// The group of the options that name captures.
 const CAPTURES: &str = "captures";
