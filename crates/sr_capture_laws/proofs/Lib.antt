@@ -3,3 +3,5 @@ pub mod LosslessLemmas
 pub mod CountedLemmas
 pub mod ExactLemmas
 pub mod SeeingLemmas
+pub mod ToldLemmas
+pub mod EndingLemmas

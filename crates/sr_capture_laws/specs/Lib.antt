@@ -3,3 +3,4 @@ pub mod Lossless
 pub mod Counted
 pub mod Exact
 pub mod Seeing
+pub mod Ending

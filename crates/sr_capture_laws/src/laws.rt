@@ -1,6 +1,7 @@
 //! Laws of the audit of captures.
 
 ghost use Rattle.sr_capture_laws.specs.Counted.{ReportsCountEachNumber, CountersCountEachNumber};
+ghost use Rattle.sr_capture_laws.specs.Ending.{VerdictsEndAsJudged};
 ghost use Rattle.sr_capture_laws.specs.Exact.{ChecksAreByArrivals};
 ghost use Rattle.sr_capture_laws.specs.Lossless.{InnerSpansLeaveOut, EdgesAreWideEnough, MirrorsTellNoFault, RecordersTellNoFault, TwoReadingsTellNoFault};
 ghost use Rattle.sr_capture_laws.specs.Seeing.{FlowsAreByArrivals, SightIsByArrivals};
@@ -49,6 +50,13 @@ pub fn counters_count_each_number()
 /// of those of the frames that are judged and of the counters', and of whether the captures have all that was sent.
 pub fn checks_are_by_arrivals()
     ensures { ChecksAreByArrivals }
+{}
+
+/// The verdicts on a report end a check as its figures judge: with 4, and for the same reason, where nothing can be judged, else with 3 where
+/// the figures tell of a fault, else with 0. Where something besides the figures says that nothing can be judged they end it with 4. So what
+/// these laws say of how a check ends holds of the status of its verdicts.
+pub fn verdicts_end_as_judged()
+    ensures { VerdictsEndAsJudged }
 {}
 
 /// Which flows both captures see, whether both recorders are mirrors, and whether frames of a flow came by one side alone, is a function of

@@ -1,4 +1,4 @@
-//! What the audit of captures says of a network in which nothing is lost, and of frames that no recorder has.
+//! What the audit of captures says of a network in which nothing is lost, and of frames that no recorder has, and how a check ends.
 #![tactic(auto)]
 
 mod laws;
@@ -7,4 +7,5 @@ pub use laws::{
     checks_are_by_arrivals, counters_count_each_number, edges_are_wide_enough,
     flows_are_by_arrivals, inner_spans_leave_out, mirrors_tell_no_fault, recorders_tell_no_fault,
     reports_count_each_number, sight_is_by_arrivals, two_readings_tell_no_fault,
+    verdicts_end_as_judged,
 };

@@ -1,0 +1,260 @@
+-- Verdicts end a check as the figures judge.
+use Rattle.std.proofs.Common.{◌≡◌, ℕ, ◌-◌, Bool, true, false, cond, ◌&&◌, ◌||◌, is_some, List, [], ◌∷◌, ◌++◌, Option, None, Some, arith, refl, sym, ap, ap₂, ◌∙◌, subst}
+use Rattle.std.specs.Prelude.{nat_lt}
+use Rattle.std.specs.List.{list_any}
+use Rattle.std.proofs.lemmas.Bool.{or_left, or_right}
+use Rattle.sr_frame.specs.declared.fields.Mac.{Mac}
+use Rattle.sr_audit.specs.declared.audit.Audit.{Audit}
+use Rattle.sr_audit.specs.declared.row.Row.{Row}
+use Rattle.sr_audit.specs.declared.side.Side.{Side}
+use Rattle.sr_audit.specs.declared.side.Side.TheVariants.{A, B}
+use Rattle.sr_audit.specs.declared.source.Figures.{Figures}
+use Rattle.sr_audit.specs.declared.source.Source.{Source}
+use Rattle.sr_audit.specs.declared.span.Spans.{Spans}
+use Rattle.sr_audit.specs.Faults.{tells_of_faults}
+use Rattle.sr_audit.specs.Shown.{figures_of}
+use Rattle.sr_capture_audit.specs.declared.figures.Report.{Report}
+use Rattle.sr_capture_audit.specs.declared.flows.Sight.{Sight}
+use Rattle.sr_capture_audit.specs.declared.flows.Sight.TheVariants.{All, Part}
+use Rattle.sr_capture_audit.specs.declared.judgement.Judgement.{Judgement}
+use Rattle.sr_capture_audit.specs.declared.judgement.Judgement.TheVariants.{Sound, Faulty}
+use Rattle.sr_capture_audit.specs.declared.judgement.Reason.{Reason}
+use Rattle.sr_capture_audit.specs.Faults.{shows_lost, have_lost, shows_missing, have_missing, lost_told, missing_told, have_faults, judged_have_lost, counters_have_missing, has_faults}
+use Rattle.sr_capture_audit.specs.Judging.{reason_of, judged, network_judgement, check_status}
+use Rattle.sr_verdict.specs.declared.heard.Heard.{Heard}
+use Rattle.sr_verdict.specs.declared.verdict.Verdict.{Verdict}
+use Rattle.sr_verdict.specs.Heards.{AreHeard, only_at, lone_row, row_frames}
+use Rattle.sr_verdict.specs.Verdicts.{has_all_sent, telling_entries, AreHeardIn, fault_verdicts, notice_verdicts, why_of, why_told, verdicts_for, is_a_fault}
+use Rattle.sr_capture_laws.specs.Ending.{judged_beside, EndAs, VerdictsEndAsJudged}
+use Rattle.sr_capture_laws.specs.Exact.{judged_by}
+use Rattle.sr_capture_laws.proofs.ToldLemmas.{Tells, tells_both, is_sided, has_rest, shows_repeated, shows_late, told_faulty, tells_faults, tells_notices}
+
+-- tests of lists
+same_tests : {X : Type 0} (p q : X → Bool) → ((x : X) → p x ≡ q x) → (xs : List X) → list_any p xs ≡ list_any q xs
+same_tests p q same [] = refl
+same_tests p q same (x ∷ xs) = ap₂ (λ a b. a || b) (same x) (same_tests p q same xs)
+
+interchanged : (a b c d : Bool) → ((a || b) || (c || d)) ≡ ((a || c) || (b || d))
+interchanged true b c d = refl
+interchanged false true true d = refl
+interchanged false true false d = refl
+interchanged false false c d = refl
+
+any_either : {X : Type 0} (p q : X → Bool) (xs : List X) → list_any (λ x. p x || q x) xs ≡ (list_any p xs || list_any q xs)
+any_either p q [] = refl
+any_either p q (x ∷ xs) = ap (λ b. (p x || q x) || b) (any_either p q xs) ∙ interchanged (p x) (q x) (list_any p xs) (list_any q xs)
+
+any_none : {X : Type 0} (p : X → Bool) → ((x : X) → p x ≡ false) → (xs : List X) → list_any p xs ≡ false
+any_none p none [] = refl
+any_none p none (x ∷ xs) = ap₂ (λ a b. a || b) (none x) (any_none p none xs)
+
+or_none : (b c : Bool) → c ≡ false → (b || c) ≡ b
+or_none true c e = refl
+or_none false c e = e
+
+-- what is heard of sources has the figures of these
+heard_any : (test : Figures → Bool) (spans : Spans) (es : List (Mac × Source)) (hs : List Heard) → AreHeard spans es hs →
+    list_any (λ h. test h.figures) hs ≡ list_any (λ e. test (figures_of e.1)) es
+heard_any test spans [] hs are = ap (list_any (λ h. test h.figures)) are
+heard_any test spans (e ∷ es) hs are =
+    ap (list_any (λ h. test h.figures)) are.3 ∙ ap (λ b. test (figures_of e.1) || b) (heard_any test spans es are.1 are.4)
+
+-- a source has a row, or frames by a side alone besides it, exactly where it has frames by a side alone
+abbrev row_or_rest : Figures → Option Row → Bool
+row_or_rest f row = is_some row || (nat_lt 0 (only_at A f - row_frames A row) || nat_lt 0 (only_at B f - row_frames B row))
+
+lone_or_rest : (f : Figures) (o : Option Row) → row_or_rest f (lone_row f o) ≡ shows_lost f
+lone_or_rest f o = by o
+  where
+    less_none : (n : ℕ) → n - 0 ≡ n
+    less_none n = omega arith
+
+    no_row : row_or_rest f None ≡ shows_lost f
+    no_row = ap₂ (λ n m. nat_lt 0 n || nat_lt 0 m) (less_none (only_at A f)) (less_none (only_at B f))
+
+    at_side : (side : Side) → nat_lt 0 (only_at side f) ≡ true → shows_lost f ≡ true
+    at_side A e = or_left (nat_lt 0 (only_at A f)) (nat_lt 0 (only_at B f)) e
+    at_side B e = or_right (nat_lt 0 (only_at A f)) (nat_lt 0 (only_at B f)) e
+
+    if_lone : (row : Row) (b : Bool) → nat_lt 0 (only_at row.side f) ≡ b → row_or_rest f (cond b (Some row) None) ≡ shows_lost f
+    if_lone row true e = sym (at_side row.side e)
+    if_lone row false e = no_row
+
+    by : (o : Option Row) → row_or_rest f (lone_row f o) ≡ shows_lost f
+    by None = no_row
+    by (Some row) = if_lone row (nat_lt 0 (only_at row.side f)) refl
+
+pub lost_heard : (hs : List Heard) →
+    (list_any is_sided hs || (list_any (has_rest A) hs || list_any (has_rest B) hs)) ≡ list_any (λ h. shows_lost h.figures) hs
+lost_heard hs =
+    ap (λ b. list_any is_sided hs || b) (sym (any_either (has_rest A) (has_rest B) hs))
+    ∙ sym (any_either is_sided (λ h. has_rest A h || has_rest B h) hs)
+    ∙ same_tests (λ h. is_sided h || (has_rest A h || has_rest B h)) (λ h. shows_lost h.figures)
+    (λ h. lone_or_rest h.figures h.sided) hs
+
+-- the faults that figures tell of by themselves
+five_ways : (a b ra rb n l : Bool) → (a || (b || (ra || (rb || (n || l))))) ≡ ((a || b) || (n || ((ra || rb) || l)))
+five_ways true b ra rb n l = refl
+five_ways false true ra rb n l = refl
+five_ways false false true rb true l = refl
+five_ways false false true rb false l = refl
+five_ways false false false true true l = refl
+five_ways false false false true false l = refl
+five_ways false false false false n l = refl
+
+by_kind : (f : Figures) → tells_of_faults f ≡ (shows_lost f || (shows_missing f || (shows_repeated f || shows_late f)))
+by_kind f = five_ways (nat_lt 0 (f.tally.alone.a - f.edges.a)) (nat_lt 0 (f.tally.alone.b - f.edges.b)) (nat_lt 0 f.tally.repeats.a)
+    (nat_lt 0 f.tally.repeats.b) (shows_missing f) (shows_late f)
+
+own_tells : (j c : Option Audit) (f : Figures) → tells_of_faults (missing_told c (lost_told j f))
+    ≡ (shows_lost (lost_told j f) || (shows_missing (missing_told c f) || (shows_repeated f || shows_late f)))
+own_tells None None f = by_kind f
+own_tells None (Some c) f = by_kind (missing_told (Some c) f)
+own_tells (Some j) None f = by_kind (lost_told (Some j) f)
+own_tells (Some j) (Some c) f = by_kind (missing_told (Some c) (lost_told (Some j) f))
+
+pub own_faults : (j c : Option Audit) (es : List (Mac × Source)) →
+    list_any (λ e. tells_of_faults (missing_told c (lost_told j (figures_of e.1)))) es
+    ≡ (list_any (λ e. shows_lost (lost_told j (figures_of e.1))) es || (list_any (λ e. shows_missing (missing_told c (figures_of e.1))) es
+    || (list_any (λ e. shows_repeated (figures_of e.1)) es || list_any (λ e. shows_late (figures_of e.1)) es)))
+own_faults j c es =
+    same_tests (λ e. tells_of_faults (missing_told c (lost_told j (figures_of e.1)))) (λ e. lost e || (missing e || (repeated e || late e)))
+    (λ e. own_tells j c (figures_of e.1)) es
+    ∙ any_either lost (λ e. missing e || (repeated e || late e)) es
+    ∙ ap (λ b. list_any lost es || b) (any_either missing (λ e. repeated e || late e) es
+    ∙ ap (λ b. list_any missing es || b) (any_either repeated late es))
+  where
+    lost : Mac × Source → Bool
+    lost e = shows_lost (lost_told j (figures_of e.1))
+
+    missing : Mac × Source → Bool
+    missing e = shows_missing (missing_told c (figures_of e.1))
+
+    repeated : Mac × Source → Bool
+    repeated e = shows_repeated (figures_of e.1)
+
+    late : Mac × Source → Bool
+    late e = shows_late (figures_of e.1)
+
+-- frames by a side alone: of an audit of its own, or of all frames
+pub lost_in : (j : Option Audit) (audit : Audit) →
+    (judged_have_lost j || list_any (λ e. shows_lost (lost_told j (figures_of e.1))) audit.sources.entries)
+    ≡ list_any (λ e. shows_lost (figures_of e.1)) (telling_entries j audit)
+lost_in None audit = refl
+lost_in (Some j) audit = or_none (have_lost j) _ (any_none (λ e. shows_lost (lost_told (Some j) (figures_of e.1)))
+    (λ e. none_left (figures_of e.1).edges.a (figures_of e.1).edges.b) audit.sources.entries)
+  where
+    itself : (n : ℕ) → n - n ≡ 0
+    itself n = omega arith
+
+    none_left : (n m : ℕ) → (nat_lt 0 (n - n) || nat_lt 0 (m - m)) ≡ false
+    none_left n m = ap₂ (λ k l. nat_lt 0 k || nat_lt 0 l) (itself n) (itself m)
+
+-- numbers of no frame: of an audit of its own, where captures have all that was sent, or of all frames
+pub missing_in : (s : Sight) (c : Option Audit) (audit : Audit) →
+    (counters_have_missing s c || list_any (λ e. shows_missing (missing_told c (figures_of e.1))) audit.sources.entries)
+    ≡ (has_all_sent s c && list_any (λ e. shows_missing (figures_of e.1)) (telling_entries c audit))
+missing_in All None audit = refl
+missing_in Part None audit = refl
+missing_in All (Some c) audit = or_none (have_missing c) _
+    (any_none (λ e. shows_missing (missing_told (Some c) (figures_of e.1))) (λ e. refl) audit.sources.entries)
+missing_in Part (Some c) audit = any_none (λ e. shows_missing (missing_told (Some c) (figures_of e.1))) (λ e. refl) audit.sources.entries
+
+-- by whichever order they are asked
+same_by : (a b : Bool) → (a ≡ false → b ≡ false) → (b ≡ false → a ≡ false) → a ≡ b
+same_by true true to from = refl
+same_by true false to from = from refl
+same_by false true to from = sym (to refl)
+same_by false false to from = refl
+
+in_order : (m s wa wb rb ra wn ma mb mn p l : Bool) →
+    (((((((m || s) || (wa || wb)) || rb) || ra) || (((wn || ma) || mb) || mn)) || p) || l)
+    ≡ (((wa || ma) || ((wb || mb) || (wn || mn))) || ((s || (ra || rb)) || (m || (p || l))))
+in_order m s wa wb rb ra wn ma mb mn p l = grind arith
+
+-- a fault is told exactly where the report tells of one
+pub told_is : (r : Report) (own telling counters : List Heard) → AreHeardIn r own telling counters → told_faulty r own telling counters ≡ has_faults r
+told_is r own telling counters heard =
+    in_order m (list_any is_sided telling) (nat_lt 0 r.counts.a.wrong_lan) (nat_lt 0 r.counts.b.wrong_lan) (list_any (has_rest B) telling)
+    (list_any (has_rest A) telling) (nat_lt 0 r.counts.neither.wrong_lan) (nat_lt 0 r.counts.a.misfit) (nat_lt 0 r.counts.b.misfit)
+    (nat_lt 0 r.counts.neither.misfit) p l
+    ∙ ap (λ b. have_faults r.counts || b)
+    (ap₂ (λ x y. x || y) (lost_heard telling ∙ heard_any shows_lost r.spans (telling_entries r.judged r.audit) telling heard.are_telling
+    ∙ sym (lost_in r.judged r.audit))
+    (ap₂ (λ x y. x || y) (ap (λ b. has_all_sent r.sight r.counters && b)
+    (heard_any shows_missing r.spans (telling_entries r.counters r.audit) counters heard.are_counters)
+    ∙ sym (missing_in r.sight r.counters r.audit))
+    (ap₂ (λ x y. x || y) (heard_any shows_repeated r.spans es own heard.are_own) (heard_any shows_late r.spans es own heard.are_own)))
+    ∙ apart (judged_have_lost r.judged) lost (counters_have_missing r.sight r.counters) missing later
+    ∙ ap (λ b. judged_have_lost r.judged || (counters_have_missing r.sight r.counters || b)) (sym (own_faults r.judged r.counters es)))
+  where
+    es : List (Mac × Source)
+    es = r.audit.sources.entries
+
+    m : Bool
+    m = has_all_sent r.sight r.counters && list_any (λ h. shows_missing h.figures) counters
+
+    p : Bool
+    p = list_any (λ h. shows_repeated h.figures) own
+
+    l : Bool
+    l = list_any (λ h. shows_late h.figures) own
+
+    lost : Bool
+    lost = list_any (λ e. shows_lost (lost_told r.judged (figures_of e.1))) es
+
+    missing : Bool
+    missing = list_any (λ e. shows_missing (missing_told r.counters (figures_of e.1))) es
+
+    later : Bool
+    later = list_any (λ e. shows_repeated (figures_of e.1)) es || list_any (λ e. shows_late (figures_of e.1)) es
+
+    apart : (j a k b c : Bool) → ((j || a) || ((k || b) || c)) ≡ (j || (k || (a || (b || c))))
+    apart true a k b c = refl
+    apart false true true b c = refl
+    apart false true false true c = refl
+    apart false true false false c = refl
+    apart false false true b c = refl
+    apart false false false b c = refl
+
+-- so verdicts end as a judgement by that does
+ends_for : (why : Option Reason) (vs : List Verdict) (faulty : Bool) → Tells faulty vs → EndAs (judged_by why faulty) (verdicts_for why vs)
+ends_for (Some why) vs faulty told = record { status = refl; reason = refl }
+ends_for None vs faulty told = record {
+  status = ap (λ (o : Option Reason). cond {A = ℕ} (is_some o) 4 (cond {A = ℕ} (list_any is_a_fault vs) 3 0)) told.judging
+      ∙ ap (λ b. cond {A = ℕ} b 3 0) told.faults ∙ status_by faulty;
+  reason = told.judging ∙ reason_by faulty;
+}
+  where
+    status_by : (b : Bool) → cond {A = ℕ} b 3 0 ≡ check_status (cond b Faulty Sound)
+    status_by true = refl
+    status_by false = refl
+
+    reason_by : (b : Bool) → None ≡ why_of (cond b Faulty Sound)
+    reason_by true = refl
+    reason_by false = refl
+
+joins : (r : Report) (outside : Option Reason) → judged_by (why_told outside r) (has_faults r) ≡ judged_beside outside (network_judgement r)
+joins r (Some why) = refl
+joins r None = by (reason_of r)
+  where
+    by_faults : (b : Bool) → judged_by (why_of (cond b Faulty Sound)) b ≡ cond b Faulty Sound
+    by_faults true = refl
+    by_faults false = refl
+
+    by : (o : Option Reason) → judged_by (why_of (judged o r)) (has_faults r) ≡ judged o r
+    by (Some why) = refl
+    by None = by_faults (has_faults r)
+
+pub verdicts_end : VerdictsEndAsJudged
+verdicts_end r outside vs are =
+    let faults = fault_verdicts r are.own are.telling are.counters in
+    let notices = notice_verdicts r outside.ahead are.counters in
+    let told : Tells (has_faults r) (faults ++ notices) =
+    subst (λ (b : Bool). Tells b (faults ++ notices))
+    (or_none (told_faulty r are.own are.telling are.counters) false refl ∙ told_is r are.own are.telling are.counters are.are_heard)
+    (tells_both (told_faulty r are.own are.telling are.counters) false faults notices (tells_faults r are.own are.telling are.counters)
+    (tells_notices r outside.ahead are.counters)) in
+    subst (λ (l : List Verdict). EndAs (judged_beside outside.reason (network_judgement r)) l) (sym are.verdicts)
+    (subst (λ (j : Judgement). EndAs j (verdicts_for (why_told outside.reason r) (faults ++ notices))) (joins r outside.reason)
+    (ends_for (why_told outside.reason r) (faults ++ notices) (has_faults r) told))

@@ -1,0 +1,261 @@
+-- What lists of verdicts tell.
+use Rattle.std.proofs.Common.{◌≡◌, ℕ, Bool, true, false, cond, ◌&&◌, ◌||◌, is_some, List, [], ◌∷◌, ◌++◌, Option, None, Some, arith, refl, sym, ap, ap₂, ◌∙◌, subst}
+use Rattle.std.specs.Prelude.{ℤ, nat_lt, fold}
+use Rattle.std.specs.List.{cons_option, filter_map, list_any}
+use Rattle.std.proofs.lemmas.Bool.{and_parts, leb-true, lt-ltb, or_left, or_right}
+use Rattle.std.proofs.lemmas.List.Folds.{list_any-append}
+use Rattle.sr_audit.specs.declared.row.Row.{Row}
+use Rattle.sr_audit.specs.declared.side.Side.{Side}
+use Rattle.sr_audit.specs.declared.side.Side.TheVariants.{A, B}
+use Rattle.sr_audit.specs.declared.source.Figures.{Figures}
+use Rattle.sr_audit.specs.Faults.{last_class}
+use Rattle.sr_audit.specs.Lanes.{other_side}
+use Rattle.sr_audit.specs.Shown.{bounded_sum}
+use Rattle.sr_capture_audit.specs.declared.counts.Counts.{Counts}
+use Rattle.sr_capture_audit.specs.declared.figures.Report.{Report}
+use Rattle.sr_capture_audit.specs.declared.network.Network.{Network}
+use Rattle.sr_capture_audit.specs.declared.network.Network.TheVariants.{Prp, Hsr}
+use Rattle.sr_capture_audit.specs.Faults.{shows_missing}
+use Rattle.sr_verdict.specs.declared.heard.Heard.{Heard}
+use Rattle.sr_verdict.specs.declared.shared.Cut.{Cut}
+use Rattle.sr_verdict.specs.declared.shared.Share.{Share}
+use Rattle.sr_verdict.specs.declared.verdict.Verdict.{Verdict}
+use Rattle.sr_verdict.specs.declared.verdict.Verdict.TheVariants.{Unjudged, BothLost, CutRing, DeadPort, Crossed, Loss, WrongLan, Misfit, Repeated, Late, Restart, Unseen, Clock}
+use Rattle.sr_verdict.specs.Heards.{row_in, rest_at}
+use Rattle.sr_verdict.specs.Shared.{no_share, share_with, share_by, cut_by_row, cut_with, cut_in}
+use Rattle.sr_verdict.specs.Verdicts.{when_counted, when_either, dead_by, verdict_on, verdicts_where, as_list, cut_told, sided_verdicts, loss_at, are_crossed, wrong_at, misfit_at, id_verdicts, other_id_verdicts, has_all_sent, has_part, fault_verdicts, clock_told, notice_verdicts, is_a_fault, reason_in}
+
+-- the first one does not say that nothing can be judged, and some is a fault or none is
+pub record Tells (faulty : Bool) (vs : List Verdict) : Type 0 where
+  pub judging : reason_in vs ≡ None
+  pub faults : list_any is_a_fault vs ≡ faulty
+
+pub tells_none : Tells false []
+tells_none = record { judging = refl; faults = refl }
+
+same_first : (v : Verdict) (xs ys : List Verdict) → reason_in (v ∷ xs) ≡ None → reason_in (v ∷ ys) ≡ None
+same_first (Unjudged why) xs ys e = e
+same_first (BothLost mac numbers) xs ys e = refl
+same_first (CutRing cut) xs ys e = refl
+same_first (DeadPort mac row) xs ys e = refl
+same_first (Crossed copies) xs ys e = refl
+same_first (Loss lan share other) xs ys e = refl
+same_first (WrongLan side copies) xs ys e = refl
+same_first (Misfit side frames) xs ys e = refl
+same_first (Repeated mac copies) xs ys e = refl
+same_first (Late mac pairs) xs ys e = refl
+same_first (Restart mac times) xs ys e = refl
+same_first (Unseen mac numbers) xs ys e = refl
+same_first (Clock ahead) xs ys e = refl
+
+first_of : (xs ys : List Verdict) → reason_in xs ≡ None → reason_in ys ≡ None → reason_in (xs ++ ys) ≡ None
+first_of [] ys e f = f
+first_of (x ∷ xs) ys e f = same_first x xs (xs ++ ys) e
+
+-- of two lists
+pub tells_both : (b c : Bool) (xs ys : List Verdict) → Tells b xs → Tells c ys → Tells (b || c) (xs ++ ys)
+tells_both b c xs ys t u = record {
+  judging = first_of xs ys t.judging u.judging;
+  faults = list_any-append is_a_fault xs ys ∙ ap₂ (λ x y. x || y) t.faults u.faults;
+}
+
+-- of a verdict for each of the sources that have one
+put_first : (o : Option Verdict) (vs : List Verdict) → as_list o ++ vs ≡ cons_option o vs
+put_first None vs = refl
+put_first (Some v) vs = refl
+
+tells_each : (on : Heard → Option Verdict) (test : Heard → Bool) → ((h : Heard) → Tells (test h) (as_list (on h))) → (hs : List Heard) →
+    Tells (list_any test hs) (filter_map on hs)
+tells_each on test each [] = tells_none
+tells_each on test each (h ∷ hs) =
+    subst (λ (vs : List Verdict). Tells (test h || list_any test hs) vs) (put_first (on h) (filter_map on hs))
+    (tells_both (test h) (list_any test hs) (as_list (on h)) (filter_map on hs) (each h) (tells_each on test each hs))
+
+none_each : (on : Heard → Option Verdict) → ((h : Heard) → Tells false (as_list (on h))) → (hs : List Heard) → Tells false (filter_map on hs)
+none_each on each [] = tells_none
+none_each on each (h ∷ hs) =
+    subst (λ (vs : List Verdict). Tells false vs) (put_first (on h) (filter_map on hs))
+    (tells_both false false (as_list (on h)) (filter_map on hs) (each h) (none_each on each hs))
+
+-- of a count
+counted : (n : ℕ) (v : Verdict) → Tells true (v ∷ []) → Tells (nat_lt 0 n) (as_list (when_counted n v))
+counted n v told = by (nat_lt 0 n)
+  where
+    by : (b : Bool) → Tells b (as_list (cond b (Some v) None))
+    by true = told
+    by false = tells_none
+
+uncounted : (n : ℕ) (v : Verdict) → Tells false (v ∷ []) → Tells false (as_list (when_counted n v))
+uncounted n v told = by (nat_lt 0 n)
+  where
+    by : (b : Bool) → Tells false (as_list (cond b (Some v) None))
+    by true = told
+    by false = tells_none
+
+either : (n m : ℕ) (v : Verdict) → Tells true (v ∷ []) → Tells (nat_lt 0 n || nat_lt 0 m) (as_list (when_either n m v))
+either n m v told = by (nat_lt 0 n)
+  where
+    by : (b : Bool) → Tells (b || nat_lt 0 m) (as_list (cond b (Some v) (when_counted m v)))
+    by true = told
+    by false = counted m v told
+
+a_fault : (v : Verdict) → reason_in (v ∷ []) ≡ None → is_a_fault v ≡ true → Tells true (v ∷ [])
+a_fault v e f = record { judging = e; faults = ap (λ b. b || false) f }
+
+a_notice : (v : Verdict) → reason_in (v ∷ []) ≡ None → is_a_fault v ≡ false → Tells false (v ∷ [])
+a_notice v e f = record { judging = e; faults = ap (λ b. b || false) f }
+
+-- of a kind of verdicts on sources, where a test holds
+tells_where : (k : _) (test : Heard → Bool) → ((h : Heard) → Tells (test h) (as_list (verdict_on k h))) → (b : Bool) (hs : List Heard) →
+    Tells (b && list_any test hs) (verdicts_where b k hs)
+tells_where k test each false hs = tells_none
+tells_where k test each true hs = tells_each (verdict_on k) test each hs
+
+none_where : (k : _) → ((h : Heard) → Tells false (as_list (verdict_on k h))) → (b : Bool) (hs : List Heard) →
+    Tells false (verdicts_where b k hs)
+none_where k each false hs = tells_none
+none_where k each true hs = none_each (verdict_on k) each hs
+
+-- of one source
+abbrev pub is_sided : Heard → Bool
+is_sided h = is_some (row_in h)
+
+tells_dead : (h : Heard) → Tells (is_sided h) (as_list (dead_by h.mac (row_in h)))
+tells_dead h = by (row_in h)
+  where
+    by : (o : Option Row) → Tells (is_some o) (as_list (dead_by h.mac o))
+    by None = tells_none
+    by (Some row) = a_fault (DeadPort h.mac row) refl refl
+
+abbrev pub shows_repeated : Figures → Bool
+shows_repeated f = nat_lt 0 f.tally.repeats.a || nat_lt 0 f.tally.repeats.b
+
+abbrev pub shows_late : Figures → Bool
+shows_late f = nat_lt 0 (last_class f.skews.classes)
+
+-- of the notices
+tells_clock : (ahead : Option ℤ) → Tells false (as_list (clock_told ahead))
+tells_clock None = tells_none
+tells_clock (Some ahead) = a_notice (Clock ahead) refl refl
+
+pub tells_notices : (r : Report) (ahead : Option ℤ) (hs : List Heard) → Tells false (notice_verdicts r ahead hs)
+tells_notices r ahead hs =
+    tells_both false false _ _
+    (tells_both false false _ _ (none_where _ (λ h. uncounted h.figures.restarts (Restart h.mac h.figures.restarts)
+    (a_notice (Restart h.mac h.figures.restarts) refl refl)) (has_all_sent r.sight r.counters) hs)
+    (none_where _ (λ h. uncounted h.figures.neither (Unseen h.mac h.figures.neither)
+    (a_notice (Unseen h.mac h.figures.neither) refl refl)) (has_part r.sight r.counters) hs)) (tells_clock ahead)
+
+-- of the cut of a ring
+cut_more : (c : Option Cut) (hs : List Heard) → is_some (fold cut_with c hs) ≡ (is_some c || list_any is_sided hs)
+cut_more None [] = refl
+cut_more (Some c) [] = refl
+cut_more c (h ∷ hs) = cut_more (cut_with c h) hs ∙ by c (row_in h)
+  where
+    by : (c : Option Cut) (o : Option Row) → (is_some (cut_by_row c o) || list_any is_sided hs) ≡ (is_some c || (is_some o || list_any is_sided hs))
+    by None None = refl
+    by None (Some row) = refl
+    by (Some c) None = refl
+    by (Some c) (Some row) = refl
+
+tells_cut : (c : Option Cut) → Tells (is_some c) (as_list (cut_told c))
+tells_cut None = tells_none
+tells_cut (Some c) = a_fault (CutRing c) refl refl
+
+pub tells_sided : (network : Network) (hs : List Heard) → Tells (list_any is_sided hs) (sided_verdicts network hs)
+tells_sided Prp hs = tells_each (λ h. dead_by h.mac (row_in h)) is_sided tells_dead hs
+tells_sided Hsr hs = subst (λ (b : Bool). Tells b (as_list (cut_told (cut_in hs)))) (cut_more None hs) (tells_cut (cut_in hs))
+
+-- of the frames that a LAN lost
+abbrev pub has_rest : Side → Heard → Bool
+has_rest side h = nat_lt 0 (rest_at side h)
+
+share_more : (side : Side) (s : Share) (hs : List Heard) →
+    nat_lt 0 (fold (share_with side) s hs).sources ≡ (nat_lt 0 s.sources || list_any (has_rest side) hs)
+share_more side s [] = by (nat_lt 0 s.sources)
+  where
+    by : (b : Bool) → b ≡ (b || false)
+    by true = refl
+    by false = refl
+share_more side s (h ∷ hs) = share_more side (share_with side s h) hs ∙ by (has_rest side h)
+  where
+    one_more : (n : ℕ) → nat_lt 0 (bounded_sum n 1) ≡ true
+    one_more n = lt-ltb 0 (bounded_sum n 1) (omega arith)
+
+    with_one : Share
+    with_one = record {
+      frames = bounded_sum s.frames (rest_at side h);
+      brought = bounded_sum s.brought (bounded_sum h.figures.tally.pairs (rest_at side h));
+      sources = bounded_sum s.sources 1;
+    }
+
+    by : (b : Bool) → (nat_lt 0 (cond {A = Share} b with_one s).sources || list_any (has_rest side) hs)
+        ≡ (nat_lt 0 s.sources || (b || list_any (has_rest side) hs))
+    by true = ap (λ t. t || list_any (has_rest side) hs) (one_more s.sources) ∙ sym (or_right (nat_lt 0 s.sources) true refl)
+    by false = refl
+
+pub tells_loss : (lan : Side) (hs : List Heard) → Tells (list_any (has_rest (other_side lan)) hs) (loss_at lan hs)
+tells_loss lan hs =
+    let own = share_by (other_side lan) hs in
+    let other = share_by lan hs in
+    subst (λ (b : Bool). Tells b (loss_at lan hs)) (share_more (other_side lan) no_share hs)
+    (counted own.sources (Loss lan own other.frames) (a_fault (Loss lan own other.frames) refl refl))
+
+-- of ids of the other LAN, and of trailers that are none
+tells_wrong : (side : Option Side) (n : ℕ) → Tells (nat_lt 0 n) (wrong_at side n)
+tells_wrong side n = counted n (WrongLan side n) (a_fault (WrongLan side n) refl refl)
+
+tells_misfit : (side : Option Side) (n : ℕ) → Tells (nat_lt 0 n) (misfit_at side n)
+tells_misfit side n = counted n (Misfit side n) (a_fault (Misfit side n) refl refl)
+
+pub tells_ids : (c : Counts) → Tells (nat_lt 0 c.a.wrong_lan || nat_lt 0 c.b.wrong_lan) (id_verdicts c)
+tells_ids c = by (are_crossed c) refl
+  where
+    crossed : Verdict
+    crossed = Crossed (record { a = c.a.wrong_lan; b = c.b.wrong_lan })
+
+    some_wrong : are_crossed c ≡ true → nat_lt 0 c.a.wrong_lan ≡ true
+    some_wrong e = lt-ltb 0 c.a.wrong_lan (omega (arith, leb-true 3 c.a.wrong_lan (and_parts _ _ e).0))
+
+    by : (b : Bool) → are_crossed c ≡ b → Tells (nat_lt 0 c.a.wrong_lan || nat_lt 0 c.b.wrong_lan)
+        (cond b (crossed ∷ []) (wrong_at (Some A) c.a.wrong_lan ++ wrong_at (Some B) c.b.wrong_lan))
+    by true e = subst (λ (b : Bool). Tells b (crossed ∷ [])) (sym (or_left (nat_lt 0 c.a.wrong_lan) (nat_lt 0 c.b.wrong_lan) (some_wrong e)))
+        (a_fault crossed refl refl)
+    by false e = tells_both (nat_lt 0 c.a.wrong_lan) (nat_lt 0 c.b.wrong_lan) _ _ (tells_wrong (Some A) c.a.wrong_lan)
+        (tells_wrong (Some B) c.b.wrong_lan)
+
+pub tells_other_ids : (c : Counts) →
+    Tells (((nat_lt 0 c.neither.wrong_lan || nat_lt 0 c.a.misfit) || nat_lt 0 c.b.misfit) || nat_lt 0 c.neither.misfit) (other_id_verdicts c)
+tells_other_ids c =
+    tells_both _ (nat_lt 0 c.neither.misfit) _ _
+    (tells_both _ (nat_lt 0 c.b.misfit) _ _
+    (tells_both (nat_lt 0 c.neither.wrong_lan) (nat_lt 0 c.a.misfit) _ _ (tells_wrong None c.neither.wrong_lan) (tells_misfit (Some A) c.a.misfit))
+    (tells_misfit (Some B) c.b.misfit)) (tells_misfit None c.neither.misfit)
+
+-- of all faults
+abbrev pub wrong_told : Report → Bool
+wrong_told r = nat_lt 0 r.counts.a.wrong_lan || nat_lt 0 r.counts.b.wrong_lan
+
+abbrev pub others_told : Report → Bool
+others_told r =
+    ((nat_lt 0 r.counts.neither.wrong_lan || nat_lt 0 r.counts.a.misfit) || nat_lt 0 r.counts.b.misfit) || nat_lt 0 r.counts.neither.misfit
+
+abbrev pub told_faulty : Report → List Heard → List Heard → List Heard → Bool
+told_faulty r own telling counters =
+    (((((((has_all_sent r.sight r.counters && list_any (λ h. shows_missing h.figures) counters) || list_any is_sided telling) || wrong_told r)
+    || list_any (has_rest B) telling) || list_any (has_rest A) telling) || others_told r) || list_any (λ h. shows_repeated h.figures) own)
+    || list_any (λ h. shows_late h.figures) own
+
+pub tells_faults : (r : Report) (own telling counters : List Heard) →
+    Tells (told_faulty r own telling counters) (fault_verdicts r own telling counters)
+tells_faults r own telling counters =
+    tells_both _ _ _ _ (tells_both _ _ _ _ (tells_both _ _ _ _ (tells_both _ _ _ _ (tells_both _ _ _ _ (tells_both _ _ _ _ (tells_both _ _ _ _
+    (tells_where _ (λ h. shows_missing h.figures) (λ h. counted h.figures.neither (BothLost h.mac h.figures.neither)
+    (a_fault (BothLost h.mac h.figures.neither) refl refl)) (has_all_sent r.sight r.counters) counters)
+    (tells_sided r.subject.network telling)) (tells_ids r.counts)) (tells_loss A telling)) (tells_loss B telling)) (tells_other_ids r.counts))
+    (tells_each (λ h. when_either h.figures.tally.repeats.a h.figures.tally.repeats.b (Repeated h.mac h.figures.tally.repeats))
+    (λ h. shows_repeated h.figures) (λ h. either h.figures.tally.repeats.a h.figures.tally.repeats.b (Repeated h.mac h.figures.tally.repeats)
+    (a_fault (Repeated h.mac h.figures.tally.repeats) refl refl)) own))
+    (tells_each (λ h. when_counted (last_class h.figures.skews.classes) (Late h.mac (last_class h.figures.skews.classes)))
+    (λ h. shows_late h.figures) (λ h. counted (last_class h.figures.skews.classes) (Late h.mac (last_class h.figures.skews.classes))
+    (a_fault (Late h.mac (last_class h.figures.skews.classes)) refl refl)) own)
