@@ -13,10 +13,10 @@ the frames of two devices by one counter, and every third one is an HSR ring of 
 of its frames go to one node, and pass the link on one way. A ring loses frames of a way, or both, or it is cut.
 Of each twelve networks one has access ports in place of mirrors, at one LAN or both, which see frames to single addresses only where a
 switch floods them; in one sources talk to each other past two mirrors; in one a RedBox numbers the frames of two devices by one counter and
-never tells of them; and in one the recorders of a ring's node see what it sends on too, where there is nothing to judge. A merge of a network
-that can be judged has each frame that a recorder has once, at the time of a copy by the clock of A. The verdicts that stand first are compared with what happened: what each LAN lost,
-which sources came by one LAN alone at last and since when, numbers that both lost, and restarts. A line tells each network of which the
-audit says something else, or the merge has. The last line is `N passed, M failed`.
+never tells of them; and in one the recorders of a ring's node see what it sends on too, where there is nothing to judge. A merge of
+a network that can be judged has each frame that a recorder has once, at the time of a copy by the clock of A. The verdicts that stand
+first are compared with what happened: what each LAN lost, which sources came by one LAN alone at last and since when, numbers that both
+lost, and restarts. A line tells each network of which the audit says something else, or the merge has. The last line is `N passed, M failed`.
 """
 import argparse
 import json

@@ -101,11 +101,7 @@ fn run_on_clocks<R: AllocGlobal + Print + Eprint + Files>(
 }
 
 /// Refuses a capture that is none of a file, as a pipe, since an audit reads it more than once. The error is the exit status.
-fn refuse_read_once<R: Eprint + Files>(
-    rt: &R,
-    inlet: Inlet,
-    path: Option<&str>,
-) -> Result<(), u8> {
+fn refuse_read_once<R: Eprint + Files>(rt: &R, inlet: Inlet, path: Option<&str>) -> Result<(), u8> {
     let Some(path) = read_once(rt, path) else {
         return Ok(());
     };
