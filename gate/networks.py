@@ -62,6 +62,8 @@ class Source:
 
     # Whether numbers of its network go past no recorder.
     hides = False
+    # Whether both recorders see its flows to single addresses, but for one that a switch floods now and then.
+    shows_flows = True
 
     def __init__(self, rng, index, seconds):
         self.mac = bytes([2, 0, 0, 0, 1, index])
@@ -88,6 +90,10 @@ class Source:
             number = (number + 1) % 65536
         self.restarted = at
 
+    def is_judged(self, frame):
+        """Whether a frame tells of losses where one recorder alone has it."""
+        return frame["ways"] == {0, 1} and (self.shows_flows or "to" not in frame)
+
     def figures(self):
         """What an audit is to say of it."""
         seen = [frame for frame in self.frames if frame["seen"]]
@@ -96,13 +102,13 @@ class Source:
         wanted["rx_a"] = sum(0 in frame["seen"] for frame in seen)
         wanted["rx_b"] = sum(1 in frame["seen"] for frame in seen)
         wanted["pairs"] = sum(len(frame["seen"]) == 2 for frame in seen)
-        both = [frame for frame in seen if frame["ways"] == {0, 1}]
+        both = [frame for frame in seen if self.is_judged(frame)]
         wanted["only_a"] = sum(frame["seen"] == {0} and 1 not in frame["lans"] for frame in both)
         wanted["only_b"] = sum(frame["seen"] == {1} and 0 not in frame["lans"] for frame in both)
         wanted["edge_a"] = sum(frame["seen"] == {0} and 1 in frame["lans"] for frame in both)
         wanted["edge_b"] = sum(frame["seen"] == {1} and 0 in frame["lans"] for frame in both)
-        wanted["single_a"] = sum(frame["ways"] == {0} for frame in seen)
-        wanted["single_b"] = sum(frame["ways"] == {1} for frame in seen)
+        wanted["single_a"] = sum(frame["seen"] == {0} and not self.is_judged(frame) for frame in seen)
+        wanted["single_b"] = sum(frame["seen"] == {1} and not self.is_judged(frame) for frame in seen)
         cut = len(self.frames) if self.restarted is None else self.restarted
         missing = "unseen" if self.hides else "neither"
         wanted[missing] = sum(self.missing(run) for run in (self.frames[:cut], self.frames[cut:]))
@@ -355,7 +361,8 @@ class Access(Network):
         mirrors = rng.choice([set(), {0}, {1}])
         flood = rng.choice([0, 0, 0.01])
         for index, source in enumerate(sources):
-            source.hides = not mirrors
+            # A mirror too has but a part, where it does not run and the access port does.
+            source.hides, source.shows_flows = True, False
             for frame in source.frames[1:-1]:
                 if rng.random() < 0.5:
                     frame["to"] = sources[rng.choice([other for other in range(len(sources)) if other != index])].mac
