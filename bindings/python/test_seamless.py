@@ -1,8 +1,11 @@
 """Worked frames by the Python binding: python3 -m unittest, with SEAMLESS_LIBRARY."""
+import re
 import unittest
+from pathlib import Path
 
 from seamless import OWN, Alarm, AlarmsSince, Code, Fault, Node, Port, Proxied, Role, version
 
+HEADER = Path(__file__).resolve().parents[2] / "clib" / "include" / "seamless.h"
 M1, M2 = bytes.fromhex("020000000001"), bytes.fromhex("020000000002")
 PLAIN = M1 + M2 + bytes.fromhex("0800") + bytes(46)
 
@@ -83,7 +86,8 @@ class Nodes(unittest.TestCase):
             self.expect(Code.SNAPSHOT, lambda: Node(Role.DANP, M1, snapshot=snapshot[1:]))
 
     def test_the_version(self) -> None:
-        self.assertEqual(version(), (0, 4, 0))
+        told = re.findall(r'SEAMLESS_VERSION_TEXT "(.*)"', HEADER.read_text())
+        self.assertEqual(told, [".".join(map(str, version()))])
 
 
 if __name__ == "__main__":
