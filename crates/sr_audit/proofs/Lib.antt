@@ -15,3 +15,5 @@ pub mod PendingLemmas
 pub mod RowLemmas
 pub mod SkewLemmas
 pub mod SourceLemmas
+pub mod WaitingLemmas
+pub mod CallLemmas

@@ -199,7 +199,7 @@ pub wire_up : (z : ℤ) → wire z ≡ (up z + 65535 * down z) % 65536
 wire_up (pos n) = omega arith
 wire_up (negsuc n) = omega arith
 
-kept_is : (t : ℤ) (k : ℕ) → wire ((t -ℤ pos 1023) +ℤ pos k) ≡ kept_number (wire t) k
+pub kept_is : (t : ℤ) (k : ℕ) → wire ((t -ℤ pos 1023) +ℤ pos k) ≡ kept_number (wire t) k
 kept_is t k = go (t -ℤ pos 1023 +ℤ pos k) (wire_up t) (wire_up (t -ℤ pos 1023 +ℤ pos k)) (apart t k)
   where
     apart : (t : ℤ) (k : ℕ) → up (t -ℤ pos 1023 +ℤ pos k) + 1023 + down t ≡ up t + k + down (t -ℤ pos 1023 +ℤ pos k)
@@ -213,10 +213,10 @@ kept_is t k = go (t -ℤ pos 1023 +ℤ pos k) (wire_up t) (wire_up (t -ℤ pos 1
         up z + 1023 + down t ≡ up t + k + down z → wire z ≡ (wire t + 64513 + k) % 65536
     go z e f g = mods (up t) (down t) (up z) (down z) (wire t) (wire z) k e f g
 
-near_low : (t : ℤ) (k : ℕ) → k < 1024 → (t -ℤ pos 1024) <ℤ ((t -ℤ pos 1023) +ℤ pos k)
+pub near_low : (t : ℤ) (k : ℕ) → k < 1024 → (t -ℤ pos 1024) <ℤ ((t -ℤ pos 1023) +ℤ pos k)
 near_low t k lt = omega (arith, ints, lt)
 
-near_high : (t : ℤ) (k : ℕ) → k < 1024 → ((t -ℤ pos 1023) +ℤ pos k) ≤ℤ (t +ℤ pos 64512)
+pub near_high : (t : ℤ) (k : ℕ) → k < 1024 → ((t -ℤ pos 1023) +ℤ pos k) ≤ℤ (t +ℤ pos 64512)
 near_high t k lt = omega (arith, ints, lt)
 
 -- where no copy came, the time says nothing

@@ -20,3 +20,5 @@ pub mod Spans
 pub mod Stretches
 pub mod Taken
 pub mod Tallies
+pub mod Waiting
+pub mod Calls

@@ -1,5 +1,6 @@
 //! Laws of the figures of sources.
 
+ghost use Rattle.sr_audit.specs.Calls.{CallsAddUp, NoCallIsTakenBack};
 ghost use Rattle.sr_audit.specs.Laws.{CopiesAddUp, LostCopiesAddUp, NumbersAddUp, SourcesAddUp};
 
 /// Of whatever arrivals, the copies that came in at a side are as many as the pairs, the frames that came by this side alone and the
@@ -23,4 +24,15 @@ pub fn numbers_add_up()
 /// The copies of a side, of all sources that have figures, are as many as the arrivals of these sources at that side.
 pub fn sources_add_up()
     ensures { SourcesAddUp }
+{}
+
+/// Of whatever numbers of a stretch, up to whatever mark: the frames that came by a side alone, and those whose copy by the other side
+/// came 400 ms or more behind, are those that wait and those that the other side is called to have lost, together.
+pub fn calls_add_up()
+    ensures { CallsAddUp }
+{}
+
+/// What is called lost stays so while the mark goes on, and with an arrival more at the mark or behind it.
+pub fn no_call_is_taken_back()
+    ensures { NoCallIsTakenBack }
 {}

@@ -18,11 +18,15 @@ mod skew;
 mod source;
 mod span;
 mod tally;
+mod waiting;
 
 pub use alive::{Alive, Lives};
 pub use arrival::Arrival;
 pub use audit::{Audit, MAX_SOURCES};
-pub use laws::{copies_add_up, lost_copies_add_up, numbers_add_up, sources_add_up};
+pub use laws::{
+    calls_add_up, copies_add_up, lost_copies_add_up, no_call_is_taken_back, numbers_add_up,
+    sources_add_up,
+};
 pub use listing::{Copied, LISTED_AT_ONCE, Listed, Listing};
 pub use numbers::Numbers;
 pub use row::Row;

@@ -15,6 +15,7 @@ use crate::side::Side;
 use crate::skew::{Skews, skew_by};
 use crate::span::Spans;
 use crate::tally::{Came, Sides, Tally};
+use crate::waiting::waits_over;
 use sr_frame::NoMemory;
 use sr_sequence::Distance;
 use sr_slots::Ranked;
@@ -127,6 +128,7 @@ impl Source {
     ghost use Rattle.sr_audit.specs.Skewing.{skew_by, skews_of, skews_shown, skews_with, skews_taken};
     ghost use Rattle.sr_audit.specs.Rows.{row_of, row_passed, row_before, shown_row};
     ghost use Rattle.sr_audit.specs.Hearing.{Sign, sign_of, HasHeard, HearsSign, alive_of};
+    ghost use Rattle.sr_audit.specs.Waiting.{waits_of};
 
     /// A source of which nothing came.
     ///
@@ -337,5 +339,17 @@ impl Source {
             → result ≡ shown_row (row_of spans.now (current (stretches xs))) }
     {
         shown_row(self.row(spans))
+    }
+
+    /// How many frames of the last stretch came by one side alone so far, the first copy less than 400 ms before a mark up to which all
+    /// arrivals came: the other copy may still come in time. Of numbers 1024 or more below the greatest one no copy is waited for.
+    pub fn waits(&self, mark: u64) -> Sides
+        ensures { (spans : Spans) (xs : List Arrival) → HasTaken spans xs self.now
+            → result ≡ waits_of mark (current (stretches xs)) }
+    {
+        match &self.numbers {
+            Some(numbers) => waits_over(numbers, &self.moments, mark, KEPT_NUMBERS),
+            None => Sides::NONE,
+        }
     }
 }

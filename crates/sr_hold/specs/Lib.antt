@@ -1,0 +1,9 @@
+pub mod Limits
+pub mod Marks
+pub mod Paces
+pub mod Pacing
+pub mod Order
+pub mod Holding
+pub mod Turns
+pub mod Laws
+pub mod Cases
