@@ -3,3 +3,4 @@ pub mod Windows
 pub mod Lines
 pub mod Seen
 pub mod Telling
+pub mod Rests

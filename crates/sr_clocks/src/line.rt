@@ -1,7 +1,7 @@
 //! The line by which one clock is ahead of the other.
 
-ghost use Rattle.std.specs.Prelude.{◌≡◌, ◌<◌, ◌≤◌, ◌^◌, pos, ◌-ℤ◌, ◌*ℤ◌, unsigned_abs, IfOk};
-ghost use Rattle.std.specs.Int.{int_div_euclid};
+ghost use Rattle.std.specs.Prelude.{◌≡◌, ◌<◌, ◌≤◌, ◌^◌, pos, ◌-ℤ◌, ◌*ℤ◌, unsigned_abs, FitsSigned, IfOk, IfSome, IfNone};
+ghost use Rattle.std.specs.Int.{w64, int_div_euclid};
 ghost use Rattle.sr_clocks.specs.Lines.{bounded, drift_of, clamped_time, ahead_scaled, corrected_scaled, level, slope, IsLevel, IsSlope, IsClockLine};
 
 use crate::median::{Middle, early, late, middle_of};
@@ -112,9 +112,19 @@ fn corrected_scaled(line: &Line, time: u64) -> i128
     own - gained(line.drift, line.at, time)
 }
 
+/// How far a clock is ahead, less so many nanoseconds. None: that takes more than 64 bits.
+fn less(ahead: i64, nanoseconds: i128) -> Option<i64>
+    ensures some { IfSome result (λ own. own ≡ ahead -ℤ nanoseconds) }
+    ensures none { IfNone result (FitsSigned w64 (ahead -ℤ nanoseconds) → ⊥) }
+{
+    let own = i128::from(ahead).checked_sub(nanoseconds)?;
+    i64::try_from(own).ok()
+}
+
 impl Line {
-    ghost use Rattle.std.specs.Prelude.{◌≡◌};
+    ghost use Rattle.std.specs.Prelude.{◌≡◌, IfSome, IfNone};
     ghost use Rattle.sr_clocks.specs.Lines.{ahead_at, corrected};
+    ghost use Rattle.sr_clocks.specs.Rests.{IsRest, HasNoRest};
 
     /// How far the second clock is ahead at a time of its own, in nanoseconds, rounded down.
     pub fn ahead_at(&self, time: u64) -> i128
@@ -128,6 +138,21 @@ impl Line {
         ensures { result ≡ corrected self.now time }
     {
         clamped_time(whole(corrected_scaled(self, time)))
+    }
+
+    /// What is left of it where the times of the second clock are put off by a delay and counted from a start, and those of the first one by
+    /// so many nanoseconds more. None: that can't be told in 64 bits.
+    pub fn rest(&self, ahead: i128, delay: u64, start: u64) -> Option<Line>
+        ensures some { IfSome result (IsRest self.now ahead delay start) }
+        ensures none { IfNone result (HasNoRest self.now ahead delay start) }
+    {
+        let at = self.at.checked_add(delay)?.checked_sub(start)?;
+        let ahead = less(self.ahead, ahead)?;
+        Some(Line {
+            at,
+            ahead,
+            drift: self.drift,
+        })
     }
 }
 
