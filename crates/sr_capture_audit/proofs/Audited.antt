@@ -2,7 +2,6 @@
 use Rattle.std.proofs.Common.{◌≡◌, ℕ, ◌+◌, ◌^◌, ◌<◌, List, [], ◌∷◌, ◌++◌, length, Option, None, Some, refl, sym, ap, ◌∙◌, subst, arith, length-append}
 use Rattle.std.specs.Prelude.{map}
 use Rattle.std.specs.List.{flat_map}
-use Rattle.std.proofs.lemmas.Fn.{chained_keeps}
 use Rattle.std.proofs.lemmas.List.{append-nil, append_assoc, map-append, reverse-append}
 use Rattle.sr_audit.specs.declared.audit.Audit.{Audit}
 use Rattle.sr_audit.specs.declared.span.Spans.{Spans}
@@ -11,10 +10,8 @@ use Rattle.sr_audit.specs.Hearing.{Reported, Hears}
 use Rattle.sr_audit.specs.Spans.{span_of, span_with}
 use Rattle.sr_capture.specs.Records.{Captured, Shows}
 use Rattle.sr_capture.specs.declared.packet.Packet.{Packet}
-use Rattle.sr_capture_script.specs.declared.choice.Choice.{Choice}
 use Rattle.sr_capture_script.specs.declared.passing.Place.{Place}
-use Rattle.sr_capture_script.specs.Merging.{Feed}
-use Rattle.sr_capture_script.specs.Passing.{Handed, wanted, IsHandedAs, TakesWanted}
+use Rattle.sr_capture_script.specs.Passing.{Handed, IsHandedAs}
 use Rattle.sr_capture_audit.specs.declared.counts.Counts.{Counts}
 use Rattle.sr_capture_audit.specs.declared.figures.Report.{Report}
 use Rattle.sr_capture_audit.specs.declared.flows.Sight.TheVariants.{All}
@@ -25,7 +22,7 @@ use Rattle.sr_capture_audit.specs.declared.network.Subject.{Subject}
 use Rattle.sr_capture_audit.specs.declared.network.Tap.{Tap}
 use Rattle.sr_capture_audit.specs.Counting.{Seen, all_figures, CountsOne}
 use Rattle.sr_capture_audit.specs.Kinds.{IsKind}
-use Rattle.sr_capture_audit.specs.Auditing.{tap_at, AreSeenAt, AreSeen, sent_by, sent_in, sign_with, signs_by, signs_in, IsReportOf, ReportsMore, TakesKind, IsAuditOf}
+use Rattle.sr_capture_audit.specs.Auditing.{tap_at, AreSeenAt, AreSeen, sent_by, sent_in, sign_with, signs_by, signs_in, IsReportOf, ReportsMore, TakesKind}
 use Rattle.sr_capture_audit.proofs.Spanned.{span_more}
 
 -- one packet more
@@ -153,14 +150,4 @@ begun subject spans counts audit none audits hears same left = record {
   audits = λ few. audits;
   hears = hears;
   left_out = λ few. left;
-}
-
--- all packets were taken
-pub audited : (choice : Choice) (subject : Subject) (spans : Spans) (x y z : Feed) (old new : Report) → IsReportOf subject spans [] old →
-    TakesWanted (λ o h n. ReportsMore h o n) choice x y z old new → IsAuditOf choice subject spans x y z new
-audited choice subject spans x y z old new none all = record {
-  merged = all.merged;
-  came = all.came;
-  report = chained_keeps (λ o h n. ReportsMore h o n) (λ xs r. IsReportOf subject spans xs r) (λ xs q h v is took. took.takes subject spans xs is)
-      (wanted choice all.merged) old new none all.taken;
 }

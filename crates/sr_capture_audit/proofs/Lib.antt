@@ -2,5 +2,8 @@ pub mod Counted
 pub mod Audited
 pub mod Learned
 pub mod Ruled
+pub mod GatheringLemmas
+pub mod JudgedAll
 pub mod Spanned
 pub mod Mirrored
+pub mod Timings

@@ -1,17 +1,14 @@
 -- The audit of the packets of captures under a rule, one by one.
 use Rattle.std.proofs.Common.{◌≡◌, ◌^◌, ◌<◌, List, [], ◌∷◌, ◌++◌, length, Option, None, Some, refl, sym, ap, ◌∙◌, subst, arith, length-append}
 use Rattle.std.specs.List.{flat_map}
-use Rattle.std.proofs.lemmas.Fn.{chained_keeps}
 use Rattle.std.proofs.lemmas.List.{append-nil, reverse-append}
 use Rattle.sr_audit.specs.declared.audit.Audit.{Audit}
 use Rattle.sr_audit.specs.declared.span.Spans.{Spans}
 use Rattle.sr_audit.specs.Audits.{Audits}
 use Rattle.sr_capture.specs.Records.{Captured, Shows}
 use Rattle.sr_capture.specs.declared.packet.Packet.{Packet}
-use Rattle.sr_capture_script.specs.declared.choice.Choice.{Choice}
 use Rattle.sr_capture_script.specs.declared.passing.Place.{Place}
-use Rattle.sr_capture_script.specs.Merging.{Feed}
-use Rattle.sr_capture_script.specs.Passing.{Handed, wanted, IsHandedAs, TakesWanted}
+use Rattle.sr_capture_script.specs.Passing.{Handed, IsHandedAs}
 use Rattle.sr_capture_audit.specs.declared.kind.Kind.{Kind}
 use Rattle.sr_capture_audit.specs.declared.network.Subject.{Subject}
 use Rattle.sr_capture_audit.specs.declared.network.Tap.{Tap}
@@ -20,7 +17,7 @@ use Rattle.sr_capture_audit.specs.declared.ruling.Ruling.{Ruling}
 use Rattle.sr_capture_audit.specs.Counting.{Seen}
 use Rattle.sr_capture_audit.specs.Kinds.{IsKind}
 use Rattle.sr_capture_audit.specs.Auditing.{tap_at, AreSeenAt, AreSeen}
-use Rattle.sr_capture_audit.specs.Ruling.{sent_under, ruled_in, IsRuledOf, RulesMore, TakesRuled, IsRuledAuditOf}
+use Rattle.sr_capture_audit.specs.Ruling.{sent_under, ruled_in, IsRuledOf, RulesMore, TakesRuled}
 use Rattle.sr_capture_audit.proofs.Audited.{seen_more}
 
 ruled_more : (rule : Rule) (spans : Spans) (seen : List Seen) (s : Seen) → ruled_in rule spans (seen ++ s ∷ []) ≡ sent_under rule spans s.kind s.time ++ ruled_in rule spans seen
@@ -78,23 +75,3 @@ rule_taken place shown x old new o own k is told some kinds taken same same_rule
 pub rule_begun : (rule : Rule) (subject : Subject) (spans : Spans) (audit : Audit) → Audits spans [] audit.sources.entries → audit.spans ≡ spans →
     IsRuledOf rule subject spans [] audit
 rule_begun rule subject spans audit audits same = record { own_spans = same; seen = []; are_seen = refl; audits = λ few. audits }
-
--- all packets were taken
-pub rule_all : (choice : Choice) (x y z : Feed) (old new : Ruling) → IsRuledOf old.rule old.subject old.spans [] old.audit →
-    TakesWanted (λ o h n. RulesMore h o n) choice x y z old new → IsRuledAuditOf old.rule choice old.subject old.spans x y z new.audit
-rule_all choice x y z old new none all =
-    let end = chained_keeps (λ o h n. RulesMore h o n)
-    (λ xs g. (g.subject ≡ old.subject) × (g.rule ≡ old.rule) × (g.spans ≡ old.spans) × IsRuledOf old.rule old.subject old.spans xs g.audit)
-    (λ xs q h v is took. (
-      took.subject ∙ is.0,
-      took.rule ∙ is.1,
-      took.spans ∙ is.2,
-      subst (λ p. IsRuledOf old.rule old.subject p (xs ++ h ∷ []) v.audit) is.2
-          (subst (λ r. IsRuledOf r old.subject q.spans (xs ++ h ∷ []) v.audit) is.1
-          (subst (λ s. IsRuledOf q.rule s q.spans (xs ++ h ∷ []) v.audit) is.0
-          (took.takes xs (subst (λ p. IsRuledOf q.rule q.subject p xs q.audit) (sym is.2)
-          (subst (λ r. IsRuledOf r q.subject old.spans xs q.audit) (sym is.1)
-          (subst (λ s. IsRuledOf old.rule s old.spans xs q.audit) (sym is.0) is.3)))))),
-    ))
-    (wanted choice all.merged) old new (refl, refl, refl, none) all.taken in
-    record { merged = all.merged; came = all.came; of_all = end.3 }

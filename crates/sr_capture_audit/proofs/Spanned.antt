@@ -13,7 +13,11 @@ use Rattle.sr_capture.specs.declared.packet.Packet.{Packet}
 use Rattle.sr_capture_script.specs.declared.choice.Choice.{Choice}
 use Rattle.sr_capture_script.specs.declared.passing.Place.{Place}
 use Rattle.sr_capture_script.specs.Merging.{Feed}
-use Rattle.sr_capture_script.specs.Passing.{Handed, wanted, IsHandedAs, TakesWanted}
+use Rattle.std.specs.List.{FoldsTo}
+use Rattle.sr_capture_script.specs.Coming.{AllCame}
+use Rattle.sr_capture_script.specs.Items.{Item}
+use Rattle.sr_capture_script.specs.Passing.{Handed, wanted, IsHandedAs}
+use Rattle.sr_capture_audit.specs.Timing.{all_put_right}
 use Rattle.sr_capture_audit.specs.declared.network.Subject.{Subject}
 use Rattle.sr_capture_audit.specs.declared.network.Tap.{Tap}
 use Rattle.sr_capture_audit.specs.declared.spanning.Spanning.{Spanning}
@@ -130,14 +134,14 @@ pub spans_none : (subject : Subject) (spans : Spans) → spans.a ≡ None → sp
 spans_none subject spans a b = record { timed = []; are_timed = refl; a = a; b = b }
 
 -- all packets were noted
-pub spans_all : (choice : Choice) (x y z : Feed) (old new : Spanning) → AreSpansOf old.subject [] old.spans →
-    TakesWanted (λ o h n. SpansMore h o n) choice x y z old new → AreSpansOfAll choice old.subject x y z new.spans
-spans_all choice x y z old new none all =
+pub spans_all : (choice : Choice) (x y z : Feed) (old new : Spanning) (merged : List Item) → AllCame x y z merged → AreSpansOf old.subject [] old.spans →
+    FoldsTo (λ o h n. SpansMore h o n) old (all_put_right old.subject.clock (wanted choice merged)) new → AreSpansOfAll choice old.subject x y z new.spans
+spans_all choice x y z old new merged came none all =
     let end = chained_keeps (λ o h n. SpansMore h o n) (λ xs s. (s.subject ≡ old.subject) × AreSpansOf old.subject xs s.spans)
     (λ xs q h v is took. (
       took.subject ∙ is.0,
       subst (λ s. AreSpansOf s (xs ++ h ∷ []) v.spans) is.0
           (took.spans xs (subst (λ s. AreSpansOf s xs q.spans) (sym is.0) is.1)),
     ))
-    (wanted choice all.merged) old new (refl, none) all.taken in
-    record { merged = all.merged; came = all.came; of_all = end.1 }
+    (all_put_right old.subject.clock (wanted choice merged)) old new (refl, none) all in
+    record { merged = merged; came = came; of_all = end.1 }

@@ -27,6 +27,7 @@ use Rattle.sr_capture_audit.specs.declared.network.Tap.{Tap}
 use Rattle.sr_capture_audit.specs.declared.network.Tap.TheVariants as tap
 use Rattle.sr_capture_audit.specs.Counting.{Seen, all_figures}
 use Rattle.sr_capture_audit.specs.Kinds.{IsKind}
+use Rattle.sr_capture_audit.specs.Timing.{all_put_right}
 
 -- where the capture of an inlet was made, if it is one of the audit: one at each side, or one at a mirror port
 abbrev pub tap_at : Ports → Inlet → Option Tap
@@ -103,4 +104,4 @@ pub record TakesKind (k : Kind) (time : ℕ) (old new : Audit) : Type 0 where
 pub record IsAuditOf (choice : Choice) (subject : Subject) (spans : Spans) (x y z : Feed) (r : Report) : Type 0 where
   pub merged : List Item
   pub came : AllCame x y z merged
-  pub report : IsReportOf subject spans (wanted choice merged) r
+  pub report : IsReportOf subject spans (all_put_right subject.clock (wanted choice merged)) r

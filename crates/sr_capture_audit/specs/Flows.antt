@@ -6,6 +6,7 @@ use Rattle.std.specs.Prelude.{
   ◌-◌,
   nat_lt,
   nat_le,
+  nat_eq,
   Bool,
   false,
   not,
@@ -105,3 +106,7 @@ shows_part Hsr f = false
 abbrev pub sight_of : Network → Flows → Audit → Sight
 sight_of network f counters =
     if shows_part network f || list_any (λ e. lacks_many (figures_of e.1)) counters.sources.entries then Part else All
+
+-- all frames tell of losses: both recorders are mirrors, or an audit by flow has no flow
+abbrev pub judges_all : Flows → Audit → Bool
+judges_all f by_flow = f.are_mirrors || nat_eq (length by_flow.sources.entries) 0

@@ -7,6 +7,9 @@ pub mod Edging
 pub mod Unions
 pub mod Flows
 pub mod Ruling
+pub mod Gathering
+pub mod Laws
 pub mod Clocking
 pub mod Spanning
 pub mod Judging
+pub mod Timing

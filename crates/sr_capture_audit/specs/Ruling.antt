@@ -24,6 +24,7 @@ use Rattle.sr_capture_audit.specs.Auditing.{AreSeen}
 use Rattle.sr_capture_audit.specs.Counting.{Seen}
 use Rattle.sr_capture_audit.specs.Flows.{flow_name, judges}
 use Rattle.sr_capture_audit.specs.Unions.{counter_of}
+use Rattle.sr_capture_audit.specs.Timing.{all_put_right}
 
 -- the source of a frame under a rule, that came at a time: its flow if it was sent to a single address; its own if it tells of losses; or
 -- that whose counter numbered it, of all frames, or of those that came while both captures ran
@@ -72,4 +73,4 @@ pub record TakesRuled (rule : Rule) (spans : Spans) (k : Kind) (time : ℕ) (old
 pub record IsRuledAuditOf (rule : Rule) (choice : Choice) (subject : Subject) (spans : Spans) (x y z : Feed) (audit : Audit) : Type 0 where
   pub merged : List Item
   pub came : AllCame x y z merged
-  pub of_all : IsRuledOf rule subject spans (wanted choice merged) audit
+  pub of_all : IsRuledOf rule subject spans (all_put_right subject.clock (wanted choice merged)) audit

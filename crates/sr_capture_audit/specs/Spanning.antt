@@ -19,6 +19,7 @@ use Rattle.sr_capture_audit.specs.declared.network.Tap.TheVariants as tap
 use Rattle.sr_capture_audit.specs.declared.spanning.Spanning.{Spanning}
 use Rattle.sr_capture_audit.specs.Auditing.{tap_at}
 use Rattle.sr_capture_audit.specs.Kinds.{IsKind}
+use Rattle.sr_capture_audit.specs.Timing.{all_put_right}
 
 -- the side that a frame with a number came in by; other packets name none
 abbrev pub side_named : Kind → Option Side
@@ -66,4 +67,4 @@ pub record SpansMore (x : Handed) (old new : Spanning) : Type 0 where
 pub record AreSpansOfAll (choice : Choice) (subject : Subject) (x y z : Feed) (spans : Spans) : Type 0 where
   pub merged : List Item
   pub came : AllCame x y z merged
-  pub of_all : AreSpansOf subject (wanted choice merged) spans
+  pub of_all : AreSpansOf subject (all_put_right subject.clock (wanted choice merged)) spans

@@ -6,18 +6,13 @@ use Rattle.std.specs.Map.{lookup}
 use Rattle.sr_frame.specs.Addresses.{mac_eq}
 use Rattle.sr_frame.specs.declared.fields.Mac.{Mac}
 use Rattle.sr_audit.specs.Limits.{most_audited}
-use Rattle.sr_capture_script.specs.declared.choice.Choice.{Choice}
-use Rattle.sr_capture_script.specs.Coming.{AllCame}
-use Rattle.sr_capture_script.specs.Items.{Item}
-use Rattle.sr_capture_script.specs.Merging.{Feed}
-use Rattle.sr_capture_script.specs.Passing.{Handed, wanted}
+use Rattle.sr_capture_script.specs.Passing.{Handed}
 use Rattle.sr_capture_audit.specs.declared.kind.Kind.{Kind}
 use Rattle.sr_capture_audit.specs.declared.kind.Kind.TheVariants.{Numbered}
 use Rattle.sr_capture_audit.specs.declared.kind.Sign.{Sign}
 use Rattle.sr_capture_audit.specs.declared.network.Subject.{Subject}
 use Rattle.sr_capture_audit.specs.declared.redboxes.RedBox.{RedBox}
 use Rattle.sr_capture_audit.specs.declared.redboxes.RedBoxes.{RedBoxes}
-use Rattle.sr_capture_audit.specs.declared.redboxes.Learning.{Learning}
 use Rattle.sr_capture_audit.specs.Auditing.{AreSeen}
 use Rattle.sr_capture_audit.specs.Counting.{Seen}
 
@@ -60,14 +55,3 @@ pub record AreBoxesOf (subject : Subject) (xs : List Handed) (b : RedBoxes) : Ty
   pub seen : List Seen
   pub are_seen : AreSeen subject xs seen
   pub boxes : b.boxes.entries ≡ boxes_in seen
-
--- those of a packet more
-pub record BoxesMore (x : Handed) (old new : Learning) : Type 0 where
-  pub subject : new.subject ≡ old.subject
-  pub takes : (xs : List Handed) → AreBoxesOf old.subject xs old.redboxes → AreBoxesOf old.subject (xs ++ x ∷ []) new.redboxes
-
--- those of three files: of all their packets that are wanted
-pub record AreBoxesOfAll (choice : Choice) (subject : Subject) (x y z : Feed) (b : RedBoxes) : Type 0 where
-  pub merged : List Item
-  pub came : AllCame x y z merged
-  pub of_all : AreBoxesOf subject (wanted choice merged) b

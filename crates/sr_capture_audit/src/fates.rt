@@ -1,19 +1,27 @@
-//! What became of frames, where the frames to groups of a ring alone tell what was lost.
+//! What became of frames, where some of them alone tell what was lost.
 
-use crate::network::Network;
+use crate::flows::Flows;
+use crate::kind::Numbered;
 use sr_audit::{Copied, Listed, Listing, Spans};
 use sr_capture_script::ScriptFault;
 use sr_frame::Mac;
 use sr_slots::Keys;
 use std::alloc::{AllocError, Global};
 
-/// The listing of all frames, and in a ring that of the frames to groups, from which the lost ones are taken.
+/// The listing of all frames, and where not all tell what was lost, that of those that do, from which the lost ones are taken.
 #[derive(Drop)]
 pub(crate) struct Fates {
     all: Listing,
-    groups: Option<Listing>,
+    judged: Option<Judged>,
     /// What one of both decided.
     decided: Vec<Listed>,
+}
+
+/// The frames that tell what was lost.
+#[derive(Drop)]
+struct Judged {
+    flows: Flows,
+    listing: Listing,
 }
 
 /// Whether it is the line of a lost frame.
@@ -50,21 +58,25 @@ fn push(list: &mut Vec<Listed>, listed: Listed) -> Result<(), ScriptFault> {
 }
 
 impl Fates {
-    /// No packet came. The sources are those from one on, by the order of first hearing.
+    /// No packet came. The sources are those from one on, by the order of first hearing. Frames to groups, and those of the flows that both
+    /// captures see, tell what was lost, or all where none are given.
     pub(crate) fn new(
         alloc: Global,
         keys: Keys,
         spans: Spans,
-        network: Network,
+        flows: Option<Flows>,
         first: usize,
     ) -> Fates {
-        let groups = match network {
-            Network::Prp => None,
-            Network::Hsr => Some(Listing::new(alloc, keys, spans, first)),
+        let judged = match flows {
+            Some(flows) => Some(Judged {
+                flows,
+                listing: Listing::new(alloc, keys, spans, first),
+            }),
+            None => None,
         };
         Fates {
             all: Listing::new(alloc, keys, spans, first),
-            groups,
+            judged,
             decided: Vec::new(alloc),
         }
     }
@@ -73,17 +85,17 @@ impl Fates {
     pub(crate) fn note(
         &mut self,
         copy: Copied,
-        to_group: bool,
+        numbered: Numbered,
         decided: &mut Vec<Listed>,
     ) -> Result<(), ScriptFault> {
-        let Some(groups) = self.groups.as_mut() else {
+        let Some(judged) = self.judged.as_mut() else {
             self.all.note(copy, decided)?;
             return Ok(());
         };
         self.all.note(copy, &mut self.decided)?;
         move_those(&mut self.decided, false, decided)?;
-        if to_group {
-            groups.note(copy, &mut self.decided)?;
+        if judged.flows.judges(numbered) {
+            judged.listing.note(copy, &mut self.decided)?;
             move_those(&mut self.decided, true, decided)?;
         }
         Ok(())
@@ -95,13 +107,13 @@ impl Fates {
         src: Mac,
         decided: &mut Vec<Listed>,
     ) -> Result<(), ScriptFault> {
-        let Some(groups) = self.groups.as_mut() else {
+        let Some(judged) = self.judged.as_mut() else {
             self.all.finish(src, decided)?;
             return Ok(());
         };
         self.all.finish(src, &mut self.decided)?;
         move_those(&mut self.decided, false, decided)?;
-        groups.finish(src, &mut self.decided)?;
+        judged.listing.finish(src, &mut self.decided)?;
         move_those(&mut self.decided, true, decided)
     }
 

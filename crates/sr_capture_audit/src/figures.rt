@@ -1,13 +1,6 @@
-//! The figures of captures, and the report of them.
+//! The figures of captures, the report of them, and what it says of the network.
 
-ghost use Rattle.std.specs.Prelude.{◌≡◌, ◌++◌, [], List, ℕ, Option, OnOk, IfOk, IfErr};
-ghost use Rattle.sr_audit.specs.Audits.{Sent, Audits, IsLeftOut};
-ghost use Rattle.sr_audit.specs.Hearing.{Reported, Hears};
-ghost use Rattle.sr_capture_script.specs.declared.choice.Inlet.TheVariants.{A as AtA, B as AtB, C as AtC};
-ghost use Rattle.sr_capture_script.specs.Merging.{feed_of};
-ghost use Rattle.sr_capture_script.specs.Passing.{EndsFor};
-ghost use Rattle.sr_capture_script.specs.SourceViews.{IsFed};
-ghost use Rattle.sr_capture_audit.specs.Auditing.{sign_with, TakesKind, IsAuditOf};
+ghost use Rattle.std.specs.Prelude.{◌≡◌};
 ghost use Rattle.sr_capture_audit.specs.Faults.{shows_lost, have_lost, have_missing};
 ghost use Rattle.sr_capture_audit.specs.Judging.{are_repeated};
 
@@ -15,19 +8,10 @@ use crate::counts::Counts;
 use crate::edges::{LEAST_EDGE, bounded_edge, widest};
 use crate::flows::Sight;
 use crate::judgement::{Judgement, Reason};
-use crate::kind::{Kind, Sign, kind_of};
-use crate::lines::{
-    Lost, Missing, print_capture, print_source, print_table_names, print_table_row,
-};
-use crate::network::{Ports, Subject};
-use crate::rows::{Format, count, print_row};
-use sr_audit::{Arrival, Audit, Figures, Side, Source, Span, Spans};
-use sr_capture::Packet;
-use sr_capture_script::{Captures, Choice, Pass, Place, ScriptFault, pass_over};
-use sr_frame::Mac;
+use crate::network::Subject;
+use sr_audit::{Audit, Figures, Side, Span, Spans};
 use sr_slots::Keys;
 use std::alloc::Global;
-use std::io::{BufRead, Write};
 
 /// The figures of the captures.
 #[derive(Drop)]
@@ -37,7 +21,7 @@ pub struct Report {
     /// When the captures run, as it is judged by.
     pub spans: Spans,
     /// When the first and the last packet came, by whichever capture.
-    whole: Option<Span>,
+    pub(crate) whole: Option<Span>,
     /// How many packets of each kind the captures have.
     pub counts: Counts,
     /// The figures of all frames, by their sources.
@@ -90,79 +74,6 @@ fn are_repeated(figures: &Figures) -> bool
     rx.a / 10 < repeats.a && rx.b / 10 < repeats.b
 }
 
-/// What an audit has of a source.
-fn source_in(audit: &Audit, mac: Mac) -> Option<&Source> {
-    for (own, source) in audit.sources() {
-        if own == mac {
-            return Some(source);
-        }
-    }
-    None
-}
-
-/// Has an audit take a sign of life, if there is one.
-fn hear_sign(
-    audit: &mut Audit,
-    sign: Option<Sign>,
-    side: Side,
-    time: u64,
-) -> Result<(), ScriptFault>
-    ensures audits { (spans : Spans) (xs : List Sent)
-        → Audits spans xs audit.old.sources.entries → Audits spans xs audit.new.sources.entries }
-    ensures hears { OnOk result ((signs : List Reported)
-        → Hears signs audit.old.sources.entries
-        → Hears (sign_with sign side time ++ signs) audit.new.sources.entries) }
-    ensures spans { audit.new.spans ≡ audit.old.spans }
-    ensures left_out { (spans : Spans) (xs : List Sent)
-        → Audits spans xs audit.old.sources.entries
-        → IsLeftOut audit.old.sources.entries xs audit.old.left_out
-        → IsLeftOut audit.new.sources.entries xs audit.new.left_out }
-    ensures refused { IfErr result (λ fault. fault ≡ ScriptFault.NoMemory) }
-{
-    let Some(sign) = sign else {
-        return Ok(());
-    };
-    audit.hear(sign.mac, sign.kind, side, time)?;
-    Ok(())
-}
-
-/// Has an audit take a packet, if it is a frame with a number.
-fn note_kind(audit: &mut Audit, kind: Kind, time: u64) -> Result<(), ScriptFault>
-    ensures taken { OnOk result (TakesKind kind time audit.old audit.new) }
-    ensures refused { IfErr result (λ fault. fault ≡ ScriptFault.NoMemory) }
-{
-    let Kind::Numbered(numbered) = kind else {
-        return Ok(());
-    };
-    let arrival = Arrival {
-        side: numbered.side,
-        seq: numbered.seq,
-        time,
-    };
-    audit.note(numbered.src, arrival)?;
-    hear_sign(audit, numbered.sign, numbered.side, time)
-}
-
-impl Pass for Report {
-    ghost use Rattle.std.specs.Prelude.{◌≡◌};
-    ghost use Rattle.sr_capture_script.specs.declared.fault.ScriptFault.TheVariants.{NoMemory as OutOfMemory};
-    ghost use Rattle.sr_capture_audit.specs.Auditing.{ReportsMore};
-
-    ghost takes = { λ old x new. ReportsMore x old new };
-
-    ghost refuses = { λ fault. fault ≡ OutOfMemory };
-
-    fn take(&mut self, place: Place, packet: &Packet) -> Result<(), ScriptFault> {
-        let Some(tap) = self.subject.tap_at(place.inlet) else {
-            return Ok(());
-        };
-        let kind = kind_of(self.subject.network, tap, packet);
-        self.counts.note(tap, kind, packet.octets.as_slice());
-        self.whole = Span::lengthened(self.whole, place.time);
-        note_kind(&mut self.audit, kind, place.time)
-    }
-}
-
 /// What is known of the captures as a whole, once the figures of the sources are let go.
 #[derive(Clone, Copy, Debug, PartialEq, Eq)]
 pub struct Summary {
@@ -176,117 +87,28 @@ pub struct Summary {
     pub judgement: Judgement,
 }
 
-impl Summary {
-    /// Prints how many packets were of sources that have no lines, if any were. A table has no place for it.
-    ///
-    /// # Errors
-    /// `Write` where the writer fails.
-    pub fn print_end<W: Write>(&self, writer: &mut W, format: Format) -> Result<(), ScriptFault> {
-        if self.left_out == 0 || format == Format::Csv {
-            return Ok(());
-        }
-        print_row(
-            writer,
-            format,
-            "sources_left_out",
-            &[count("packets", self.left_out)],
-        )
-    }
-}
-
-/// The figures of captures whose spans are known.
-///
-/// # Errors
-/// The fault of a file, `NoMemory` or `Endless`.
-pub fn figures_of<R: BufRead + Drop>(
-    alloc: Global,
-    keys: Keys,
-    captures: &mut Captures<R>,
-    choice: &Choice,
-    subject: Subject,
-    spans: Spans,
-) -> Result<Report, ScriptFault>
-    // The report is that of all packets of all captures that are wanted, each once, in order of time.
-    ensures audits { IfOk result (λ report. (start_a start_b start_c : Option (List ℕ))
-        → IsFed R.remaining AtA start_a captures.old.a []
-        → IsFed R.remaining AtB start_b captures.old.b []
-        → IsFed R.remaining AtC start_c captures.old.c []
-        → IsAuditOf choice.now subject spans (feed_of captures.old.a start_a)
-        (feed_of captures.old.b start_b) (feed_of captures.old.c start_c) report) }
-
-    // What ends it early is a fault of a file, behind all of its packets that came, more packets than are counted, or memory.
-    ensures ends { IfErr result (λ fault. (start_a start_b start_c : Option (List ℕ))
-        → IsFed R.remaining AtA start_a captures.old.a []
-        → IsFed R.remaining AtB start_b captures.old.b []
-        → IsFed R.remaining AtC start_c captures.old.c []
-        → EndsFor (λ own. own ≡ ScriptFault.NoMemory) (feed_of captures.old.a start_a)
-        (feed_of captures.old.b start_b) (feed_of captures.old.c start_c) fault) }
-{
-    let mut report = Report {
-        subject,
-        spans,
-        whole: None,
-        counts: Counts::NONE,
-        audit: Audit::new(alloc, keys, spans),
-        judged: None,
-        counters: None,
-        sight: Sight::All,
-    };
-    pass_over(captures, choice, &mut report)?;
-    Ok(report)
-}
-
 impl Report {
-    ghost use Rattle.std.specs.Prelude.{◌≡◌, ◌||◌, length, Some};
+    ghost use Rattle.std.specs.Prelude.{◌≡◌, ◌||◌, [], length, Some};
     ghost use Rattle.sr_audit.specs.declared.audit.Audit.{Audit};
+    ghost use Rattle.sr_capture_audit.specs.Auditing.{IsReportOf};
     ghost use Rattle.sr_capture_audit.specs.Edging.{edge_width, tells_of_lost, tells_of_missing};
     ghost use Rattle.sr_capture_audit.specs.Faults.{has_faults, own_figures, judged_have_lost, counters_have_missing};
     ghost use Rattle.sr_capture_audit.specs.Judging.{has_pairs, has_repeated, reason_of, network_judgement};
 
-    /// Prints the lines of the captures. At a mirror port they are those of each side, and of the packets without a number.
-    ///
-    /// # Errors
-    /// `Write` where the writer fails.
-    fn print_captures<W: Write>(
-        &self,
-        writer: &mut W,
-        format: Format,
-        recorded: &Spans,
-    ) -> Result<(), ScriptFault> {
-        print_capture(writer, format, "A", &self.counts.a, recorded.a)?;
-        print_capture(writer, format, "B", &self.counts.b, recorded.b)?;
-        match self.subject.ports {
-            Ports::Two => Ok(()),
-            Ports::Mirror => {
-                print_capture(writer, format, "none", &self.counts.neither, self.whole)
-            }
+    /// The report of no packet.
+    pub(crate) fn new(alloc: Global, keys: Keys, subject: Subject, spans: Spans) -> Report
+        ensures { IsReportOf subject spans [] result }
+    {
+        Report {
+            subject,
+            spans,
+            whole: None,
+            counts: Counts::NONE,
+            audit: Audit::new(alloc, keys, spans),
+            judged: None,
+            counters: None,
+            sight: Sight::All,
         }
-    }
-
-    /// Prints the lines of the captures and of the sources.
-    ///
-    /// # Errors
-    /// `Write` where the writer fails.
-    fn print_lines<W: Write>(
-        &self,
-        writer: &mut W,
-        format: Format,
-        recorded: &Spans,
-    ) -> Result<(), ScriptFault> {
-        self.print_captures(writer, format, recorded)?;
-        for (mac, source) in self.audit.sources() {
-            print_source(writer, format, mac, source, &self.lost_of(mac, source))?;
-        }
-        Ok(())
-    }
-
-    /// Prints the table of the sources.
-    fn print_table<W: Write>(&self, writer: &mut W) -> Result<(), ScriptFault> {
-        print_table_names(writer)?;
-        for (mac, source) in self.audit.sources() {
-            print_table_row(writer, mac, source, &self.lost_of(mac, source))?;
-        }
-        Ok(())
     }
 
     /// This report with an audit of the frames that tell what was lost, which alone does.
@@ -307,54 +129,6 @@ impl Report {
             counters,
             sight,
             ..self
-        }
-    }
-
-    /// How many numbers of a source no frame had. One behind a RedBox has none of its own.
-    fn missing_of(&self, mac: Mac, source: &Source) -> Missing {
-        let numbers = match &self.counters {
-            None => source.figures().neither,
-            Some(counters) => match source_in(counters, mac) {
-                Some(counter) => counter.figures().neither,
-                None => 0,
-            },
-        };
-        Missing::by(self.sight, numbers)
-    }
-
-    /// What is lost of a source.
-    fn lost_of(&self, mac: Mac, source: &Source) -> Lost {
-        let missing = self.missing_of(mac, source);
-        match &self.judged {
-            None => Lost::of(source, &self.spans, missing),
-            Some(judged) => match source_in(judged, mac) {
-                Some(own) => Lost::of(own, &self.spans, missing).beside(source),
-                None => Lost::none(missing).beside(source),
-            },
-        }
-    }
-
-    /// Prints the lines of the captures and of the sources, or the table of the sources.
-    ///
-    /// # Errors
-    /// `Write` where the writer fails.
-    pub fn print<W: Write>(&self, writer: &mut W, format: Format) -> Result<(), ScriptFault> {
-        self.print_recorded(writer, format, &self.spans)
-    }
-
-    /// Prints the lines or the table, where the captures have these spans, and the figures are of the parts of them that are judged.
-    ///
-    /// # Errors
-    /// `Write` where the writer fails.
-    pub fn print_recorded<W: Write>(
-        &self,
-        writer: &mut W,
-        format: Format,
-        recorded: &Spans,
-    ) -> Result<(), ScriptFault> {
-        match format {
-            Format::Text | Format::Json => self.print_lines(writer, format, recorded),
-            Format::Csv => self.print_table(writer),
         }
     }
 

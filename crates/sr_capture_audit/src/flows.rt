@@ -3,7 +3,7 @@
 ghost use Rattle.std.specs.Prelude.{◌≡◌, ℕ, OnOk, IfOk, IfErr, fold};
 ghost use Rattle.std.specs.List.{list_any};
 ghost use Rattle.sr_audit.specs.Shown.{figures_of, frames_in};
-ghost use Rattle.sr_capture_audit.specs.Flows.{flow_name, flow_end, lone_frames, is_paired, is_unpaired, is_single, with_name, paired_in, ends_in, AreFlowsIn, lacks_many, shows_part, sight_of};
+ghost use Rattle.sr_capture_audit.specs.Flows.{flow_name, flow_end, lone_frames, is_paired, is_unpaired, is_single, with_name, paired_in, ends_in, AreFlowsIn, lacks_many, shows_part, sight_of, judges_all};
 
 use crate::figures::shows_lost;
 use crate::kind::Numbered;
@@ -262,6 +262,14 @@ impl Flows {
             Network::Hsr => false,
         }
     }
+}
+
+/// Whether all frames tell of losses: both recorders are mirrors, or no frame was sent to a single address, as an audit by flow tells. Then
+/// an audit of the frames that do is one of all frames.
+pub fn judges_all(flows: &Flows, by_flow: &Audit) -> bool
+    ensures { result ≡ judges_all flows.now by_flow.now }
+{
+    flows.are_mirrors || by_flow.len() == 0
 }
 
 /// Whether captures have all that was sent, but what was lost, or a part.

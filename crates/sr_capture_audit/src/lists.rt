@@ -1,9 +1,11 @@
 //! Lists of single frames and copies.
 
 use crate::fates::Fates;
+use crate::flows::Flows;
 use crate::kind::{Kind, kind_of};
 use crate::network::{Ports, Subject, letter_of};
 use crate::rows::{Field, Format, Value, bare, count, named, print_names, print_row};
+use crate::timing::put_right;
 use sr_audit::{Arrival, Copied, Listed, Side, Spans};
 use sr_capture::Packet;
 use sr_capture_script::{Captures, Choice, Pass, Place, ScriptFault, pass_over};
@@ -177,6 +179,7 @@ impl<W: Write> Pass for Listings<'_, W> {
         let Kind::Numbered(numbered) = kind_of(self.subject.network, tap, packet) else {
             return Ok(());
         };
+        let place = put_right(self.subject.clock, place);
         let copy = Copied {
             src: numbered.src,
             arrival: Arrival {
@@ -190,13 +193,14 @@ impl<W: Write> Pass for Listings<'_, W> {
             let fields = copy_fields(self.style, numbered.side, copy);
             print_row(self.writer, self.style.format, "wrong_lan", &fields)?;
         }
-        self.fates.note(copy, numbered.to_group, &mut self.decided)?;
+        self.fates.note(copy, numbered, &mut self.decided)?;
         self.print()
     }
 }
 
 /// Prints the lists of captures whose spans are known, each line as it is decided: the frames of the sources from one on, and with the
-/// first source all copies with the other LAN's id.
+/// first source all copies with the other LAN's id. Where flows are given, frames to groups and those of flows that both captures see tell
+/// what was lost, as they do in the figures; else all frames do.
 ///
 /// # Errors
 /// The fault of a file, `Write`, `NoMemory` or `Endless`.
@@ -207,6 +211,7 @@ pub fn print_lists<R: BufRead + Drop, W: Write>(
     choice: &Choice,
     subject: Subject,
     spans: Spans,
+    flows: Option<Flows>,
     first: usize,
     lists: Lists,
     format: Format,
@@ -222,7 +227,7 @@ pub fn print_lists<R: BufRead + Drop, W: Write>(
     let mut listings = Listings {
         subject,
         style,
-        fates: Fates::new(alloc, keys, spans, subject.network, first),
+        fates: Fates::new(alloc, keys, spans, flows, first),
         decided: Vec::new(alloc),
         writer,
     };

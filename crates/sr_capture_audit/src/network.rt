@@ -2,6 +2,7 @@
 
 use sr_audit::Side;
 use sr_capture_script::Inlet;
+use sr_clocks::Line;
 
 /// How frames of a network have their numbers.
 #[derive(Clone, Copy, Debug, PartialEq, Eq)]
@@ -37,6 +38,8 @@ pub struct Subject {
     pub network: Network,
     /// Where the captures were made.
     pub ports: Ports,
+    /// By how much times of B, as they are read, still differ from those of A's clock: where the clock of B drifts. None: not at all.
+    pub clock: Option<Line>,
 }
 
 impl Subject {

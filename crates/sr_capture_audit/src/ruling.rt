@@ -13,6 +13,7 @@ use crate::flows::{Flows, flow_name};
 use crate::kind::{Kind, Numbered, kind_of};
 use crate::network::Subject;
 use crate::redboxes::RedBoxes;
+use crate::timing::Timed;
 use sr_audit::{Arrival, Audit, Side, Spans};
 use sr_capture::Packet;
 use sr_capture_script::{Captures, Choice, Pass, Place, ScriptFault, pass_over};
@@ -63,13 +64,14 @@ impl Rule {
     }
 }
 
-/// The figures so far.
+/// An audit under a rule, of captures whose spans are known.
 #[derive(Drop)]
-struct Ruling {
+pub struct Ruling {
     subject: Subject,
     rule: Rule,
     spans: Spans,
-    audit: Audit,
+    /// The figures.
+    pub audit: Audit,
 }
 
 /// Has an audit take a packet, if it is a frame with a number that is audited.
@@ -96,6 +98,37 @@ fn note_ruled(
     };
     audit.note(src, arrival)?;
     Ok(())
+}
+
+impl Ruling {
+    ghost use Rattle.std.specs.Prelude.{◌≡◌, [], OnOk, IfErr};
+    ghost use Rattle.sr_capture_audit.specs.Gathering.{IsRulingOf, TakesOwn};
+
+    /// No packet came.
+    pub(crate) fn new(
+        alloc: Global,
+        keys: Keys,
+        subject: Subject,
+        spans: Spans,
+        rule: Rule,
+    ) -> Ruling
+        ensures { IsRulingOf rule subject spans [] result }
+    {
+        Ruling {
+            subject,
+            rule,
+            spans,
+            audit: Audit::new(alloc, keys, spans),
+        }
+    }
+
+    /// Takes a packet, if it is a frame with a number that is audited.
+    pub(crate) fn note(&mut self, kind: Kind, time: u64) -> Result<(), ScriptFault>
+        ensures taken { OnOk result (TakesOwn kind time self.old self.new) }
+        ensures refused { IfErr result (λ fault. fault ≡ ScriptFault.NoMemory) }
+    {
+        note_ruled(&mut self.audit, &self.rule, &self.spans, kind, time)
+    }
 }
 
 impl Pass for Ruling {
@@ -144,12 +177,10 @@ pub fn ruled_of<R: BufRead + Drop>(
         → EndsFor (λ own. own ≡ ScriptFault.NoMemory) (feed_of captures.old.a start_a)
         (feed_of captures.old.b start_b) (feed_of captures.old.c start_c) fault) }
 {
-    let mut ruling = Ruling {
-        subject,
-        rule,
-        spans,
-        audit: Audit::new(alloc, keys, spans),
+    let mut timed = Timed {
+        clock: subject.clock,
+        pass: Ruling::new(alloc, keys, subject, spans, rule),
     };
-    pass_over(captures, choice, &mut ruling)?;
-    Ok(ruling.audit)
+    pass_over(captures, choice, &mut timed)?;
+    Ok(timed.pass.audit)
 }

@@ -10,6 +10,7 @@ ghost use Rattle.sr_capture_audit.specs.Spanning.{IsSideOf, AreSpansOfAll};
 
 use crate::kind::{Kind, kind_of};
 use crate::network::{Network, Subject, Tap};
+use crate::timing::Timed;
 use sr_audit::{Side, Spans};
 use sr_capture::Packet;
 use sr_capture_script::{Captures, Choice, Pass, Place, ScriptFault, pass_over};
@@ -81,10 +82,13 @@ pub fn spans_of<R: BufRead + Drop>(
         → EndsFor (λ _. ⊥) (feed_of captures.old.a start_a)
         (feed_of captures.old.b start_b) (feed_of captures.old.c start_c) fault) }
 {
-    let mut spanning = Spanning {
-        subject,
-        spans: Spans::NONE,
+    let mut timed = Timed {
+        clock: subject.clock,
+        pass: Spanning {
+            subject,
+            spans: Spans::NONE,
+        },
     };
-    pass_over(captures, choice, &mut spanning)?;
-    Ok(spanning.spans)
+    pass_over(captures, choice, &mut timed)?;
+    Ok(timed.pass.spans)
 }

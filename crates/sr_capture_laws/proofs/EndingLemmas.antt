@@ -1,9 +1,14 @@
 -- Verdicts end a check as the figures judge.
 use Rattle.std.proofs.Common.{◌≡◌, ℕ, ◌-◌, Bool, true, false, cond, ◌&&◌, ◌||◌, is_some, List, [], ◌∷◌, ◌++◌, Option, None, Some, arith, refl, sym, ap, ap₂, ◌∙◌, subst}
-use Rattle.std.specs.Prelude.{nat_lt}
+use Rattle.std.specs.Prelude.{nat_lt, not, filter}
 use Rattle.std.specs.List.{list_any}
+use Rattle.std.specs.Map.{lookup}
 use Rattle.std.proofs.lemmas.Bool.{or_left, or_right}
+use Rattle.sr_frame.specs.Addresses.{mac_eq}
 use Rattle.sr_frame.specs.declared.fields.Mac.{Mac}
+use Rattle.sr_sources.specs.declared.source.Source.{Source as Node}
+use Rattle.sr_sources.specs.declared.table.Sources.{Sources}
+use Rattle.sr_sources.specs.Kinds.{doubled_since}
 use Rattle.sr_audit.specs.declared.audit.Audit.{Audit}
 use Rattle.sr_audit.specs.declared.row.Row.{Row}
 use Rattle.sr_audit.specs.declared.side.Side.{Side}
@@ -17,17 +22,17 @@ use Rattle.sr_capture_audit.specs.declared.figures.Report.{Report}
 use Rattle.sr_capture_audit.specs.declared.flows.Sight.{Sight}
 use Rattle.sr_capture_audit.specs.declared.flows.Sight.TheVariants.{All, Part}
 use Rattle.sr_capture_audit.specs.declared.judgement.Judgement.{Judgement}
-use Rattle.sr_capture_audit.specs.declared.judgement.Judgement.TheVariants.{Sound, Faulty}
+use Rattle.sr_capture_audit.specs.declared.judgement.Judgement.TheVariants.{Sound, Faulty, Unjudged}
 use Rattle.sr_capture_audit.specs.declared.judgement.Reason.{Reason}
 use Rattle.sr_capture_audit.specs.Faults.{shows_lost, have_lost, shows_missing, have_missing, lost_told, missing_told, have_faults, judged_have_lost, counters_have_missing, has_faults}
 use Rattle.sr_capture_audit.specs.Judging.{reason_of, judged, network_judgement, check_status}
 use Rattle.sr_verdict.specs.declared.heard.Heard.{Heard}
 use Rattle.sr_verdict.specs.declared.verdict.Verdict.{Verdict}
 use Rattle.sr_verdict.specs.Heards.{AreHeard, only_at, lone_row, row_frames}
-use Rattle.sr_verdict.specs.Verdicts.{has_all_sent, telling_entries, AreHeardIn, fault_verdicts, notice_verdicts, why_of, why_told, verdicts_for, is_a_fault}
-use Rattle.sr_capture_laws.specs.Ending.{judged_beside, EndAs, VerdictsEndAsJudged}
+use Rattle.sr_verdict.specs.Verdicts.{is_doubled_at, is_doubled, single_in, IsSingleHearing, has_all_sent, telling_entries, AreHeardIn, fault_verdicts, notice_verdicts, why_of, why_told, verdicts_for, is_a_fault}
+use Rattle.sr_capture_laws.specs.Ending.{nodes_tell, judged_with, judged_beside, EndAs, VerdictsEndAsJudged}
 use Rattle.sr_capture_laws.specs.Exact.{judged_by}
-use Rattle.sr_capture_laws.proofs.ToldLemmas.{Tells, tells_both, is_sided, has_rest, shows_repeated, shows_late, told_faulty, tells_faults, tells_notices}
+use Rattle.sr_capture_laws.proofs.ToldLemmas.{Tells, tells_both, is_sided, has_rest, shows_repeated, shows_late, told_by_figures, two_told, lost_told_in, wrong_told, others_told, told_faulty, tells_faults, tells_notices}
 
 -- tests of lists
 same_tests : {X : Type 0} (p q : X → Bool) → ((x : X) → p x ≡ q x) → (xs : List X) → list_any p xs ≡ list_any q xs
@@ -173,7 +178,7 @@ in_order : (m s wa wb rb ra wn ma mb mn p l : Bool) →
 in_order m s wa wb rb ra wn ma mb mn p l = grind arith
 
 -- a fault is told exactly where the report tells of one
-pub told_is : (r : Report) (own telling counters : List Heard) → AreHeardIn r own telling counters → told_faulty r own telling counters ≡ has_faults r
+pub told_is : (r : Report) (own telling counters : List Heard) → AreHeardIn r own telling counters → told_by_figures r own telling counters ≡ has_faults r
 told_is r own telling counters heard =
     in_order m (list_any is_sided telling) (nat_lt 0 r.counts.a.wrong_lan) (nat_lt 0 r.counts.b.wrong_lan) (list_any (has_rest B) telling)
     (list_any (has_rest A) telling) (nat_lt 0 r.counts.neither.wrong_lan) (nat_lt 0 r.counts.a.misfit) (nat_lt 0 r.counts.b.misfit)
@@ -234,27 +239,101 @@ ends_for None vs faulty told = record {
     reason_by true = refl
     reason_by false = refl
 
-joins : (r : Report) (outside : Option Reason) → judged_by (why_told outside r) (has_faults r) ≡ judged_beside outside (network_judgement r)
-joins r (Some why) = refl
-joins r None = by (reason_of r)
+joins : (r : Report) (told : Bool) (outside : Option Reason) →
+    judged_by (why_told outside r) (told || has_faults r) ≡ judged_with told (judged_beside outside (network_judgement r))
+joins r told (Some why) = unjudged told
   where
-    by_faults : (b : Bool) → judged_by (why_of (cond b Faulty Sound)) b ≡ cond b Faulty Sound
-    by_faults true = refl
-    by_faults false = refl
+    unjudged : (b : Bool) → Unjudged why ≡ judged_with b (Unjudged why)
+    unjudged true = refl
+    unjudged false = refl
+joins r told None = by (reason_of r)
+  where
+    unjudged : (why : Reason) (b : Bool) → Unjudged why ≡ judged_with b (Unjudged why)
+    unjudged why true = refl
+    unjudged why false = refl
 
-    by : (o : Option Reason) → judged_by (why_of (judged o r)) (has_faults r) ≡ judged o r
-    by (Some why) = refl
-    by None = by_faults (has_faults r)
+    by_faults : (t b : Bool) → judged_by (why_of (cond b Faulty Sound)) (t || b) ≡ judged_with t (cond b Faulty Sound)
+    by_faults true true = refl
+    by_faults true false = refl
+    by_faults false true = refl
+    by_faults false false = refl
+
+    by : (o : Option Reason) → judged_by (why_of (judged o r)) (told || has_faults r) ≡ judged_with told (judged o r)
+    by (Some why) = unjudged why told
+    by None = by_faults told (has_faults r)
+
+-- where no source has two senders none is left out
+none_left : (a b : Bool) → (a || b) ≡ false → a ≡ false
+none_left true b e = e
+none_left false b e = refl
+
+none_right : (a b : Bool) → (a || b) ≡ false → b ≡ false
+none_right true b e = absurd cc
+none_right false b e = e
+
+none_doubled : (nodes : List (Mac × Node)) → two_told nodes ≡ false → (mac : Mac) → is_doubled nodes mac ≡ false
+none_doubled [] none mac = refl
+none_doubled (e ∷ es) none mac =
+    by (mac_eq mac e.0) (none_doubled es (none_right (is_some (doubled_since e.1)) (two_told es) none) mac)
+  where
+    by : (t : Bool) → is_doubled es mac ≡ false → is_doubled_at (cond {A = Option Node} t (Some e.1) (lookup (mac_eq mac) es)) ≡ false
+    by true later = none_left (is_some (doubled_since e.1)) (two_told es) none
+    by false later = later
+
+kept_all : {X : Type 0} (p : X → Bool) → ((x : X) → p x ≡ true) → (xs : List X) → filter p xs ≡ xs
+kept_all p all [] = refl
+kept_all p all (x ∷ xs) =
+    ap (λ b. cond b (x ∷ filter p xs) (filter p xs)) (all x) ∙ ap (λ ys. x ∷ ys) (kept_all p all xs)
+
+all_single : (nodes : List (Mac × Node)) → two_told nodes ≡ false → (hs : List Heard) → single_in nodes hs ≡ hs
+all_single nodes none hs = kept_all (λ (h : Heard). not (is_doubled nodes h.mac)) (λ h. ap not (none_doubled nodes none h.mac)) hs
+
+-- a fault is told exactly where the frames of sources tell of one, or the figures
+apart_from : (m t s w l rb ra o p q : Bool) →
+    (((((((((m || t) || s) || w) || l) || rb) || ra) || o) || p) || q) ≡ ((t || l) || (((((((m || s) || w) || rb) || ra) || o) || p) || q))
+apart_from m t s w l rb ra o p q = grind arith
+
+told_apart : (r : Report) (nodes : List (Mac × Node)) (own telling counters : List Heard) →
+    told_faulty r nodes own telling counters ≡ (nodes_tell r.subject nodes || told_by_figures r own telling counters)
+told_apart r nodes own telling counters =
+    apart_from (has_all_sent r.sight r.counters && list_any (λ h. shows_missing h.figures) counters) (two_told nodes)
+    (list_any is_sided telling) (wrong_told r) (lost_told_in r.subject nodes) (list_any (has_rest B) telling)
+    (list_any (has_rest A) telling) (others_told r) (list_any (λ h. shows_repeated h.figures) own) (list_any (λ h. shows_late h.figures) own)
+
+told_of_single : (r : Report) (nodes : List (Mac × Node)) (own telling counters : List Heard) → IsSingleHearing r nodes own telling counters →
+    told_faulty r nodes own telling counters ≡ (nodes_tell r.subject nodes || has_faults r)
+told_of_single r nodes own telling counters heard = told_apart r nodes own telling counters ∙ by (two_told nodes) refl
+  where
+    same : (hs all : List Heard) → two_told nodes ≡ false → hs ≡ single_in nodes all → hs ≡ all
+    same hs all none is = is ∙ all_single nodes none all
+
+    figures : two_told nodes ≡ false → told_by_figures r own telling counters ≡ has_faults r
+    figures none =
+        ap (λ (l : List Heard). told_by_figures r l telling counters) (same own heard.all_own none heard.own_is)
+        ∙ ap (λ (l : List Heard). told_by_figures r heard.all_own l counters) (same telling heard.all_telling none heard.telling_is)
+        ∙ ap (λ (l : List Heard). told_by_figures r heard.all_own heard.all_telling l)
+        (same counters heard.all_counters none heard.counters_is)
+        ∙ told_is r heard.all_own heard.all_telling heard.all_counters heard.are_heard
+
+    by : (t : Bool) → two_told nodes ≡ t →
+        ((t || lost_told_in r.subject nodes) || told_by_figures r own telling counters) ≡ ((t || lost_told_in r.subject nodes) || has_faults r)
+    by true e = refl
+    by false e = ap (λ b. lost_told_in r.subject nodes || b) (figures e)
 
 pub verdicts_end : VerdictsEndAsJudged
-verdicts_end r outside vs are =
-    let faults = fault_verdicts r are.own are.telling are.counters in
-    let notices = notice_verdicts r outside.ahead are.counters in
-    let told : Tells (has_faults r) (faults ++ notices) =
+verdicts_end r sources outside vs are =
+    let nodes = sources.sources.entries in
+    let faults = fault_verdicts r nodes are.own are.telling are.counters in
+    let notices = notice_verdicts r nodes outside.ahead are.counters in
+    let faulty = nodes_tell r.subject nodes || has_faults r in
+    let told : Tells faulty (faults ++ notices) =
     subst (λ (b : Bool). Tells b (faults ++ notices))
-    (or_none (told_faulty r are.own are.telling are.counters) false refl ∙ told_is r are.own are.telling are.counters are.are_heard)
-    (tells_both (told_faulty r are.own are.telling are.counters) false faults notices (tells_faults r are.own are.telling are.counters)
-    (tells_notices r outside.ahead are.counters)) in
-    subst (λ (l : List Verdict). EndAs (judged_beside outside.reason (network_judgement r)) l) (sym are.verdicts)
-    (subst (λ (j : Judgement). EndAs j (verdicts_for (why_told outside.reason r) (faults ++ notices))) (joins r outside.reason)
-    (ends_for (why_told outside.reason r) (faults ++ notices) (has_faults r) told))
+    (or_none (told_faulty r nodes are.own are.telling are.counters) false refl
+    ∙ told_of_single r nodes are.own are.telling are.counters are.are_heard)
+    (tells_both (told_faulty r nodes are.own are.telling are.counters) false faults notices
+    (tells_faults r nodes are.own are.telling are.counters) (tells_notices r nodes outside.ahead are.counters)) in
+    subst (λ (l : List Verdict). EndAs (judged_with (nodes_tell r.subject nodes) (judged_beside outside.reason (network_judgement r))) l)
+    (sym are.verdicts)
+    (subst (λ (j : Judgement). EndAs j (verdicts_for (why_told outside.reason r) (faults ++ notices)))
+    (joins r (nodes_tell r.subject nodes) outside.reason)
+    (ends_for (why_told outside.reason r) (faults ++ notices) faulty told))

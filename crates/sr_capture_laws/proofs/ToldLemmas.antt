@@ -4,6 +4,14 @@ use Rattle.std.specs.Prelude.{ℤ, nat_lt, fold}
 use Rattle.std.specs.List.{cons_option, filter_map, list_any}
 use Rattle.std.proofs.lemmas.Bool.{and_parts, leb-true, lt-ltb, or_left, or_right}
 use Rattle.std.proofs.lemmas.List.Folds.{list_any-append}
+use Rattle.sr_frame.specs.declared.fields.Mac.{Mac}
+use Rattle.sr_prp_trailer.specs.declared.trailer.Lan.{Lan}
+use Rattle.sr_prp_trailer.specs.declared.trailer.Lan.TheVariants as lan
+use Rattle.sr_sources.specs.declared.lane.Tail.{Tail}
+use Rattle.sr_sources.specs.declared.rates.Second.{Second}
+use Rattle.sr_sources.specs.declared.source.Source.{Source as Node}
+use Rattle.sr_sources.specs.Kinds.{doubled_since, lost_redundancy, san_of, babbling, end_at}
+use Rattle.sr_capture_laws.specs.Ending.{of_prp}
 use Rattle.sr_audit.specs.declared.row.Row.{Row}
 use Rattle.sr_audit.specs.declared.side.Side.{Side}
 use Rattle.sr_audit.specs.declared.side.Side.TheVariants.{A, B}
@@ -15,15 +23,20 @@ use Rattle.sr_capture_audit.specs.declared.counts.Counts.{Counts}
 use Rattle.sr_capture_audit.specs.declared.figures.Report.{Report}
 use Rattle.sr_capture_audit.specs.declared.network.Network.{Network}
 use Rattle.sr_capture_audit.specs.declared.network.Network.TheVariants.{Prp, Hsr}
+use Rattle.sr_capture_audit.specs.declared.network.Ports.{Ports}
+use Rattle.sr_capture_audit.specs.declared.network.Subject.{Subject}
 use Rattle.sr_capture_audit.specs.Faults.{shows_missing}
 use Rattle.sr_verdict.specs.declared.heard.Heard.{Heard}
+use Rattle.sr_verdict.specs.declared.place.Place.{Place}
 use Rattle.sr_verdict.specs.declared.shared.Cut.{Cut}
 use Rattle.sr_verdict.specs.declared.shared.Share.{Share}
 use Rattle.sr_verdict.specs.declared.verdict.Verdict.{Verdict}
-use Rattle.sr_verdict.specs.declared.verdict.Verdict.TheVariants.{Unjudged, BothLost, CutRing, DeadPort, Crossed, Loss, WrongLan, Misfit, Repeated, Late, Restart, Unseen, Clock}
+use Rattle.sr_verdict.specs.declared.verdict.Verdict.TheVariants.{Unjudged, BothLost, TwoSenders, CutRing, DeadPort, Crossed, LostRedundancy, Loss, WrongLan, Misfit, Repeated, Late, Restart, Babbling, Unseen, San, Clock}
 use Rattle.sr_verdict.specs.Heards.{row_in, rest_at}
+use Rattle.sr_verdict.specs.Places.{cut_place}
 use Rattle.sr_verdict.specs.Shared.{no_share, share_with, share_by, cut_by_row, cut_with, cut_in}
-use Rattle.sr_verdict.specs.Verdicts.{when_counted, when_either, dead_by, verdict_on, verdicts_where, as_list, cut_told, sided_verdicts, loss_at, are_crossed, wrong_at, misfit_at, id_verdicts, other_id_verdicts, has_all_sent, has_part, fault_verdicts, clock_told, notice_verdicts, is_a_fault, reason_in}
+use Rattle.sr_verdict.specs.Names.{names_with}
+use Rattle.sr_verdict.specs.Verdicts.{two_senders_told, lost_told, babbling_told, san_told, told_lan, in_prp, astray_names, when_counted, when_either, dead_by, verdict_on, verdicts_where, as_list, cut_told, sided_verdicts, loss_at, are_crossed, wrong_at, misfit_at, id_verdicts, other_id_verdicts, has_all_sent, has_part, fault_verdicts, clock_told, notice_verdicts, is_a_fault, reason_in}
 
 -- the first one does not say that nothing can be judged, and some is a fault or none is
 pub record Tells (faulty : Bool) (vs : List Verdict) : Type 0 where
@@ -36,16 +49,20 @@ tells_none = record { judging = refl; faults = refl }
 same_first : (v : Verdict) (xs ys : List Verdict) → reason_in (v ∷ xs) ≡ None → reason_in (v ∷ ys) ≡ None
 same_first (Unjudged why) xs ys e = e
 same_first (BothLost mac numbers) xs ys e = refl
-same_first (CutRing cut) xs ys e = refl
+same_first (TwoSenders mac since) xs ys e = refl
+same_first (CutRing cut place) xs ys e = refl
 same_first (DeadPort mac row) xs ys e = refl
-same_first (Crossed copies) xs ys e = refl
+same_first (Crossed copies names) xs ys e = refl
+same_first (LostRedundancy mac lan tail) xs ys e = refl
 same_first (Loss lan share other) xs ys e = refl
-same_first (WrongLan side copies) xs ys e = refl
+same_first (WrongLan side copies names) xs ys e = refl
 same_first (Misfit side frames) xs ys e = refl
 same_first (Repeated mac copies) xs ys e = refl
 same_first (Late mac pairs) xs ys e = refl
 same_first (Restart mac times) xs ys e = refl
+same_first (Babbling mac second) xs ys e = refl
 same_first (Unseen mac numbers) xs ys e = refl
+same_first (San mac lan frames) xs ys e = refl
 same_first (Clock ahead) xs ys e = refl
 
 first_of : (xs ys : List Verdict) → reason_in xs ≡ None → reason_in ys ≡ None → reason_in (xs ++ ys) ≡ None
@@ -64,14 +81,14 @@ put_first : (o : Option Verdict) (vs : List Verdict) → as_list o ++ vs ≡ con
 put_first None vs = refl
 put_first (Some v) vs = refl
 
-tells_each : (on : Heard → Option Verdict) (test : Heard → Bool) → ((h : Heard) → Tells (test h) (as_list (on h))) → (hs : List Heard) →
+tells_each : {X : Type 0} (on : X → Option Verdict) (test : X → Bool) → ((h : X) → Tells (test h) (as_list (on h))) → (hs : List X) →
     Tells (list_any test hs) (filter_map on hs)
 tells_each on test each [] = tells_none
 tells_each on test each (h ∷ hs) =
     subst (λ (vs : List Verdict). Tells (test h || list_any test hs) vs) (put_first (on h) (filter_map on hs))
     (tells_both (test h) (list_any test hs) (as_list (on h)) (filter_map on hs) (each h) (tells_each on test each hs))
 
-none_each : (on : Heard → Option Verdict) → ((h : Heard) → Tells false (as_list (on h))) → (hs : List Heard) → Tells false (filter_map on hs)
+none_each : {X : Type 0} (on : X → Option Verdict) → ((h : X) → Tells false (as_list (on h))) → (hs : List X) → Tells false (filter_map on hs)
 none_each on each [] = tells_none
 none_each on each (h ∷ hs) =
     subst (λ (vs : List Verdict). Tells false vs) (put_first (on h) (filter_map on hs))
@@ -138,13 +155,57 @@ tells_clock : (ahead : Option ℤ) → Tells false (as_list (clock_told ahead))
 tells_clock None = tells_none
 tells_clock (Some ahead) = a_notice (Clock ahead) refl refl
 
-pub tells_notices : (r : Report) (ahead : Option ℤ) (hs : List Heard) → Tells false (notice_verdicts r ahead hs)
-tells_notices r ahead hs =
-    tells_both false false _ _
-    (tells_both false false _ _ (none_where _ (λ h. uncounted h.figures.restarts (Restart h.mac h.figures.restarts)
+-- of sources by their frames
+tells_two : (ports : Ports) (nodes : List (Mac × Node)) →
+    Tells (list_any (λ e. is_some (doubled_since e.1)) nodes) (filter_map (λ (e : Mac × Node). two_senders_told e.0 (doubled_since e.1)) nodes)
+tells_two ports nodes =
+    tells_each (λ e. two_senders_told e.0 (doubled_since e.1)) (λ e. is_some (doubled_since e.1)) (λ e. by e.0 (doubled_since e.1)) nodes
+  where
+    by : (mac : Mac) (o : Option ℕ) → Tells (is_some o) (as_list (two_senders_told mac o))
+    by mac None = tells_none
+    by mac (Some since) = a_fault (TwoSenders mac since) refl refl
+
+tells_lost : (subject : Subject) (nodes : List (Mac × Node)) →
+    Tells (of_prp subject.network (list_any (λ e. is_some (lost_redundancy e.1)) nodes)) (in_prp subject.network (filter_map (λ (e : Mac × Node). lost_told subject.ports e.0 (lost_redundancy e.1)) nodes))
+tells_lost subject nodes = by_network subject.network
+  where
+    by : (mac : Mac) (o : Option (Lan × Tail)) → Tells (is_some o) (as_list (lost_told subject.ports mac o))
+    by mac None = tells_none
+    by mac (Some lost) = a_fault (LostRedundancy mac (told_lan subject.ports lost.0) lost.1) refl refl
+
+    by_network : (network : Network) → Tells (of_prp network (list_any (λ e. is_some (lost_redundancy e.1)) nodes))
+        (in_prp network (filter_map (λ (e : Mac × Node). lost_told subject.ports e.0 (lost_redundancy e.1)) nodes))
+    by_network Prp = tells_each (λ e. lost_told subject.ports e.0 (lost_redundancy e.1)) (λ e. is_some (lost_redundancy e.1))
+        (λ e. by e.0 (lost_redundancy e.1)) nodes
+    by_network Hsr = tells_none
+
+none_babbling : (ports : Ports) (nodes : List (Mac × Node)) → Tells false (filter_map (λ (e : Mac × Node). babbling_told e.0 (babbling (end_at lan.A nodes) (end_at lan.B nodes) e.1)) nodes)
+none_babbling ports nodes =
+    none_each (λ e. babbling_told e.0 (babbling (end_at lan.A nodes) (end_at lan.B nodes) e.1)) (λ e. by e.0 (babbling (end_at lan.A nodes) (end_at lan.B nodes) e.1)) nodes
+  where
+    by : (mac : Mac) (o : Option Second) → Tells false (as_list (babbling_told mac o))
+    by mac None = tells_none
+    by mac (Some second) = a_notice (Babbling mac second) refl refl
+
+none_san : (subject : Subject) (nodes : List (Mac × Node)) → Tells false (in_prp subject.network (filter_map (λ (e : Mac × Node). san_told subject.ports e.0 (san_of e.1)) nodes))
+none_san subject nodes = by_network subject.network
+  where
+    by : (mac : Mac) (o : Option (Lan × ℕ)) → Tells false (as_list (san_told subject.ports mac o))
+    by mac None = tells_none
+    by mac (Some san) = a_notice (San mac (told_lan subject.ports san.0) san.1) refl refl
+
+    by_network : (network : Network) → Tells false (in_prp network (filter_map (λ (e : Mac × Node). san_told subject.ports e.0 (san_of e.1)) nodes))
+    by_network Prp = none_each (λ e. san_told subject.ports e.0 (san_of e.1)) (λ e. by e.0 (san_of e.1)) nodes
+    by_network Hsr = tells_none
+
+pub tells_notices : (r : Report) (nodes : List (Mac × Node)) (ahead : Option ℤ) (hs : List Heard) → Tells false (notice_verdicts r nodes ahead hs)
+tells_notices r nodes ahead hs =
+    tells_both false false _ _ (tells_both false false _ _
+    (tells_both false false _ _ (tells_both false false _ _ (none_where _ (λ h. uncounted h.figures.restarts (Restart h.mac h.figures.restarts)
     (a_notice (Restart h.mac h.figures.restarts) refl refl)) (has_all_sent r.sight r.counters) hs)
+    (none_babbling r.subject.ports nodes))
     (none_where _ (λ h. uncounted h.figures.neither (Unseen h.mac h.figures.neither)
-    (a_notice (Unseen h.mac h.figures.neither) refl refl)) (has_part r.sight r.counters) hs)) (tells_clock ahead)
+    (a_notice (Unseen h.mac h.figures.neither) refl refl)) (has_part r.sight r.counters) hs)) (none_san r.subject nodes)) (tells_clock ahead)
 
 -- of the cut of a ring
 cut_more : (c : Option Cut) (hs : List Heard) → is_some (fold cut_with c hs) ≡ (is_some c || list_any is_sided hs)
@@ -158,13 +219,14 @@ cut_more c (h ∷ hs) = cut_more (cut_with c h) hs ∙ by c (row_in h)
     by (Some c) None = refl
     by (Some c) (Some row) = refl
 
-tells_cut : (c : Option Cut) → Tells (is_some c) (as_list (cut_told c))
-tells_cut None = tells_none
-tells_cut (Some c) = a_fault (CutRing c) refl refl
+tells_cut : (place : Place) (c : Option Cut) → Tells (is_some c) (as_list (cut_told place c))
+tells_cut place None = tells_none
+tells_cut place (Some c) = a_fault (CutRing c place) refl refl
 
 pub tells_sided : (network : Network) (hs : List Heard) → Tells (list_any is_sided hs) (sided_verdicts network hs)
 tells_sided Prp hs = tells_each (λ h. dead_by h.mac (row_in h)) is_sided tells_dead hs
-tells_sided Hsr hs = subst (λ (b : Bool). Tells b (as_list (cut_told (cut_in hs)))) (cut_more None hs) (tells_cut (cut_in hs))
+tells_sided Hsr hs = subst (λ (b : Bool). Tells b (as_list (cut_told (cut_place hs) (cut_in hs)))) (cut_more None hs)
+    (tells_cut (cut_place hs) (cut_in hs))
 
 -- of the frames that a LAN lost
 abbrev pub has_rest : Side → Heard → Bool
@@ -187,6 +249,7 @@ share_more side s (h ∷ hs) = share_more side (share_with side s h) hs ∙ by (
       frames = bounded_sum s.frames (rest_at side h);
       brought = bounded_sum s.brought (bounded_sum h.figures.tally.pairs (rest_at side h));
       sources = bounded_sum s.sources 1;
+      names = names_with h.mac s.names;
     }
 
     by : (b : Bool) → (nat_lt 0 (cond {A = Share} b with_one s).sources || list_any (has_rest side) hs)
@@ -202,34 +265,36 @@ tells_loss lan hs =
     (counted own.sources (Loss lan own other.frames) (a_fault (Loss lan own other.frames) refl refl))
 
 -- of ids of the other LAN, and of trailers that are none
-tells_wrong : (side : Option Side) (n : ℕ) → Tells (nat_lt 0 n) (wrong_at side n)
-tells_wrong side n = counted n (WrongLan side n) (a_fault (WrongLan side n) refl refl)
+tells_wrong : (side : Option Side) (n : ℕ) (nodes : List (Mac × Node)) → Tells (nat_lt 0 n) (wrong_at side n nodes)
+tells_wrong side n nodes =
+    counted n (WrongLan side n (astray_names side nodes)) (a_fault (WrongLan side n (astray_names side nodes)) refl refl)
 
 tells_misfit : (side : Option Side) (n : ℕ) → Tells (nat_lt 0 n) (misfit_at side n)
 tells_misfit side n = counted n (Misfit side n) (a_fault (Misfit side n) refl refl)
 
-pub tells_ids : (c : Counts) → Tells (nat_lt 0 c.a.wrong_lan || nat_lt 0 c.b.wrong_lan) (id_verdicts c)
-tells_ids c = by (are_crossed c) refl
+pub tells_ids : (c : Counts) (nodes : List (Mac × Node)) → Tells (nat_lt 0 c.a.wrong_lan || nat_lt 0 c.b.wrong_lan) (id_verdicts c nodes)
+tells_ids c nodes = by (are_crossed c) refl
   where
     crossed : Verdict
-    crossed = Crossed (record { a = c.a.wrong_lan; b = c.b.wrong_lan })
+    crossed = Crossed (record { a = c.a.wrong_lan; b = c.b.wrong_lan }) (astray_names None nodes)
 
     some_wrong : are_crossed c ≡ true → nat_lt 0 c.a.wrong_lan ≡ true
     some_wrong e = lt-ltb 0 c.a.wrong_lan (omega (arith, leb-true 3 c.a.wrong_lan (and_parts _ _ e).0))
 
     by : (b : Bool) → are_crossed c ≡ b → Tells (nat_lt 0 c.a.wrong_lan || nat_lt 0 c.b.wrong_lan)
-        (cond b (crossed ∷ []) (wrong_at (Some A) c.a.wrong_lan ++ wrong_at (Some B) c.b.wrong_lan))
+        (cond b (crossed ∷ []) (wrong_at (Some A) c.a.wrong_lan nodes ++ wrong_at (Some B) c.b.wrong_lan nodes))
     by true e = subst (λ (b : Bool). Tells b (crossed ∷ [])) (sym (or_left (nat_lt 0 c.a.wrong_lan) (nat_lt 0 c.b.wrong_lan) (some_wrong e)))
         (a_fault crossed refl refl)
-    by false e = tells_both (nat_lt 0 c.a.wrong_lan) (nat_lt 0 c.b.wrong_lan) _ _ (tells_wrong (Some A) c.a.wrong_lan)
-        (tells_wrong (Some B) c.b.wrong_lan)
+    by false e = tells_both (nat_lt 0 c.a.wrong_lan) (nat_lt 0 c.b.wrong_lan) _ _ (tells_wrong (Some A) c.a.wrong_lan nodes)
+        (tells_wrong (Some B) c.b.wrong_lan nodes)
 
-pub tells_other_ids : (c : Counts) →
-    Tells (((nat_lt 0 c.neither.wrong_lan || nat_lt 0 c.a.misfit) || nat_lt 0 c.b.misfit) || nat_lt 0 c.neither.misfit) (other_id_verdicts c)
-tells_other_ids c =
+pub tells_other_ids : (c : Counts) (nodes : List (Mac × Node)) →
+    Tells (((nat_lt 0 c.neither.wrong_lan || nat_lt 0 c.a.misfit) || nat_lt 0 c.b.misfit) || nat_lt 0 c.neither.misfit)
+    (other_id_verdicts c nodes)
+tells_other_ids c nodes =
     tells_both _ (nat_lt 0 c.neither.misfit) _ _
     (tells_both _ (nat_lt 0 c.b.misfit) _ _
-    (tells_both (nat_lt 0 c.neither.wrong_lan) (nat_lt 0 c.a.misfit) _ _ (tells_wrong None c.neither.wrong_lan) (tells_misfit (Some A) c.a.misfit))
+    (tells_both (nat_lt 0 c.neither.wrong_lan) (nat_lt 0 c.a.misfit) _ _ (tells_wrong None c.neither.wrong_lan nodes) (tells_misfit (Some A) c.a.misfit))
     (tells_misfit (Some B) c.b.misfit)) (tells_misfit None c.neither.misfit)
 
 -- of all faults
@@ -240,19 +305,35 @@ abbrev pub others_told : Report → Bool
 others_told r =
     ((nat_lt 0 r.counts.neither.wrong_lan || nat_lt 0 r.counts.a.misfit) || nat_lt 0 r.counts.b.misfit) || nat_lt 0 r.counts.neither.misfit
 
-abbrev pub told_faulty : Report → List Heard → List Heard → List Heard → Bool
-told_faulty r own telling counters =
+abbrev pub told_by_figures : Report → List Heard → List Heard → List Heard → Bool
+told_by_figures r own telling counters =
     (((((((has_all_sent r.sight r.counters && list_any (λ h. shows_missing h.figures) counters) || list_any is_sided telling) || wrong_told r)
     || list_any (has_rest B) telling) || list_any (has_rest A) telling) || others_told r) || list_any (λ h. shows_repeated h.figures) own)
     || list_any (λ h. shows_late h.figures) own
 
-pub tells_faults : (r : Report) (own telling counters : List Heard) →
-    Tells (told_faulty r own telling counters) (fault_verdicts r own telling counters)
-tells_faults r own telling counters =
+-- with what the frames of sources tell
+abbrev pub two_told : List (Mac × Node) → Bool
+two_told nodes = list_any (λ e. is_some (doubled_since e.1)) nodes
+
+abbrev pub lost_told_in : Subject → List (Mac × Node) → Bool
+lost_told_in subject nodes = of_prp subject.network (list_any (λ e. is_some (lost_redundancy e.1)) nodes)
+
+abbrev pub told_faulty : Report → List (Mac × Node) → List Heard → List Heard → List Heard → Bool
+told_faulty r nodes own telling counters =
+    (((((((((has_all_sent r.sight r.counters && list_any (λ h. shows_missing h.figures) counters) || two_told nodes)
+    || list_any is_sided telling) || wrong_told r) || lost_told_in r.subject nodes)
+    || list_any (has_rest B) telling) || list_any (has_rest A) telling) || others_told r) || list_any (λ h. shows_repeated h.figures) own)
+    || list_any (λ h. shows_late h.figures) own
+
+pub tells_faults : (r : Report) (nodes : List (Mac × Node)) (own telling counters : List Heard) →
+    Tells (told_faulty r nodes own telling counters) (fault_verdicts r nodes own telling counters)
+tells_faults r nodes own telling counters =
     tells_both _ _ _ _ (tells_both _ _ _ _ (tells_both _ _ _ _ (tells_both _ _ _ _ (tells_both _ _ _ _ (tells_both _ _ _ _ (tells_both _ _ _ _
+    (tells_both _ _ _ _ (tells_both _ _ _ _
     (tells_where _ (λ h. shows_missing h.figures) (λ h. counted h.figures.neither (BothLost h.mac h.figures.neither)
     (a_fault (BothLost h.mac h.figures.neither) refl refl)) (has_all_sent r.sight r.counters) counters)
-    (tells_sided r.subject.network telling)) (tells_ids r.counts)) (tells_loss A telling)) (tells_loss B telling)) (tells_other_ids r.counts))
+    (tells_two r.subject.ports nodes)) (tells_sided r.subject.network telling)) (tells_ids r.counts nodes)) (tells_lost r.subject nodes))
+    (tells_loss A telling)) (tells_loss B telling)) (tells_other_ids r.counts nodes))
     (tells_each (λ h. when_either h.figures.tally.repeats.a h.figures.tally.repeats.b (Repeated h.mac h.figures.tally.repeats))
     (λ h. shows_repeated h.figures) (λ h. either h.figures.tally.repeats.a h.figures.tally.repeats.b (Repeated h.mac h.figures.tally.repeats)
     (a_fault (Repeated h.mac h.figures.tally.repeats) refl refl)) own))

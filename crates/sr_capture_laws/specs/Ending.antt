@@ -1,10 +1,18 @@
 -- How a check ends, by what is told of a network and by the figures that it is told by.
-use Rattle.std.specs.Prelude.{◌≡◌, List, Option, None, Some}
+use Rattle.std.specs.Prelude.{◌≡◌, Bool, true, false, ◌||◌, is_some, List, Option, None, Some}
+use Rattle.std.specs.List.{list_any}
+use Rattle.sr_frame.specs.declared.fields.Mac.{Mac}
 use Rattle.sr_capture_audit.specs.declared.figures.Report.{Report}
 use Rattle.sr_capture_audit.specs.declared.judgement.Judgement.{Judgement}
-use Rattle.sr_capture_audit.specs.declared.judgement.Judgement.TheVariants.{Unjudged}
+use Rattle.sr_capture_audit.specs.declared.judgement.Judgement.TheVariants.{Sound, Faulty, Unjudged}
 use Rattle.sr_capture_audit.specs.declared.judgement.Reason.{Reason}
+use Rattle.sr_capture_audit.specs.declared.network.Network.{Network}
+use Rattle.sr_capture_audit.specs.declared.network.Network.TheVariants.{Prp, Hsr}
+use Rattle.sr_capture_audit.specs.declared.network.Subject.{Subject}
 use Rattle.sr_capture_audit.specs.Judging.{network_judgement, check_status}
+use Rattle.sr_sources.specs.declared.source.Source.{Source as Node}
+use Rattle.sr_sources.specs.declared.table.Sources.{Sources}
+use Rattle.sr_sources.specs.Kinds.{doubled_since, lost_redundancy}
 use Rattle.sr_verdict.specs.declared.judging.Outside.{Outside}
 use Rattle.sr_verdict.specs.declared.verdict.Verdict.{Verdict}
 use Rattle.sr_verdict.specs.Verdicts.{why_of, AreVerdictsOf, reason_in, block_status}
@@ -14,12 +22,29 @@ abbrev pub judged_beside : Option Reason → Judgement → Judgement
 judged_beside (Some why) j = Unjudged why
 judged_beside None j = j
 
+-- whether the frames of sources tell of a fault: of two senders, or in a PRP network of a redundancy that is lost
+abbrev pub of_prp : Network → Bool → Bool
+of_prp Prp told = told
+of_prp Hsr told = false
+
+abbrev pub nodes_tell : Subject → List (Mac × Node) → Bool
+nodes_tell subject nodes =
+    list_any (λ e. is_some (doubled_since e.1)) nodes || of_prp subject.network (list_any (λ e. is_some (lost_redundancy e.1)) nodes)
+
+-- what is judged with that
+abbrev pub judged_with : Bool → Judgement → Judgement
+judged_with true Sound = Faulty
+judged_with true Faulty = Faulty
+judged_with true (Unjudged why) = Unjudged why
+judged_with false j = j
+
 -- verdicts end a check as a judgement does, and tell the same reason why nothing can be judged
 pub record EndAs (j : Judgement) (vs : List Verdict) : Type 0 where
   pub status : block_status vs ≡ check_status j
   pub reason : reason_in vs ≡ why_of j
 
--- the verdicts on any report end a check as its figures judge; with 4 where something besides them says that nothing can be judged
+-- The verdicts on any report end a check as its figures judge, or with a fault where the frames of sources tell of one; with 4 where
+-- nothing can be judged, by the figures or for something besides them.
 abbrev pub VerdictsEndAsJudged : Type 0
-VerdictsEndAsJudged = (r : Report) (outside : Outside) (vs : List Verdict) → AreVerdictsOf r outside vs →
-    EndAs (judged_beside outside.reason (network_judgement r)) vs
+VerdictsEndAsJudged = (r : Report) (sources : Sources) (outside : Outside) (vs : List Verdict) → AreVerdictsOf r sources outside vs →
+    EndAs (judged_with (nodes_tell r.subject sources.sources.entries) (judged_beside outside.reason (network_judgement r))) vs

@@ -84,9 +84,8 @@ pair_sum f (spot ∷ older ∷ spots) = f spot older + pair_sum f (older ∷ spo
 abbrev pub is_turn : Spot → Spot → Bool
 is_turn later older = (later.run == older.run) && nat_lt older.state later.state
 
--- How many messages are missing between two neighbours: within a state or second the numbers between them, else those before the
--- number of the
--- later one, and one of each state between. Between two runs none is.
+-- How many messages are missing between two neighbours: within a state or second the numbers between them; of two states those before the
+-- number of the later one, and one of each state between. Between two runs none is.
 abbrev pub between : Spot → Spot → ℕ
 between later older =
     if is_turn later older then (later.state - older.state - 1) + later.number

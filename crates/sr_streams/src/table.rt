@@ -148,7 +148,7 @@ impl Streams {
     /// Takes the next message that came.
     ///
     /// # Errors
-    /// `NoMemory` where an allocation failed.
+    /// `NoMemory` where an allocation failed: what is kept is then of no use, and nothing is said of it.
     pub fn note(&mut self, src: Mac, time: u64, message: &Message<'_>) -> Result<(), NoMemory>
         ensures { OnOk result ((xs : List MessageSent) → length xs + 1 < 2 ^ 64
             → AreStreamsOf xs self.old → AreStreamsOf

@@ -2,7 +2,7 @@ use Rattle.std.proofs.Common.{sym, subst}
 use Rattle.std.proofs.lemmas.Result.{on_ok_weaker}
 use Rattle.sr_capture_audit.specs.Auditing.{TakesKind}
 use Rattle.sr_capture_audit.proofs.Audited.{takes_numbered}
-use Rattle.sr_capture_audit.proofs.figures.note_kind.Goals as goal
+use Rattle.sr_capture_audit.proofs.gathering.note_kind.Goals as goal
 
 pub returns-clause-taken : goal.returns-clause-taken
 returns-clause-taken c = on_ok_weaker c.hear_sign.result (λ heard.
