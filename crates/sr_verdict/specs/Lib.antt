@@ -1,3 +1,5 @@
+pub mod Names
 pub mod Heards
 pub mod Shared
+pub mod Places
 pub mod Verdicts

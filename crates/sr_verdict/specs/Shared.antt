@@ -9,10 +9,11 @@ use Rattle.sr_verdict.specs.declared.heard.Heard.{Heard}
 use Rattle.sr_verdict.specs.declared.shared.Cut.{Cut}
 use Rattle.sr_verdict.specs.declared.shared.Share.{Share}
 use Rattle.sr_verdict.specs.Heards.{row_in, rest_at}
+use Rattle.sr_verdict.specs.Names.{no_names, names_with}
 
 -- what the sources share that have frames by a side alone, besides those of their rows
 abbrev pub no_share : Share
-no_share = record { frames = 0; brought = 0; sources = 0 }
+no_share = record { frames = 0; brought = 0; sources = 0; names = no_names }
 
 abbrev pub share_with : Side → Share → Heard → Share
 share_with side s h =
@@ -20,6 +21,7 @@ share_with side s h =
       frames = bounded_sum s.frames (rest_at side h);
       brought = bounded_sum s.brought (bounded_sum h.figures.tally.pairs (rest_at side h));
       sources = bounded_sum s.sources 1;
+      names = names_with h.mac s.names;
     }
     else s
 

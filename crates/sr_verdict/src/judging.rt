@@ -1,7 +1,6 @@
 //! The verdicts on a network, by the figures of its captures.
 
 ghost use Rattle.std.specs.Prelude.{◌≡◌, [], ◌∷◌, ◌++◌, IfOk, OnOk};
-ghost use Rattle.sr_verdict.specs.Heards.{AreHeard};
 ghost use Rattle.sr_verdict.specs.Verdicts.{
   as_list,
   verdicts_on,
@@ -15,24 +14,30 @@ ghost use Rattle.sr_verdict.specs.Verdicts.{
   misfit_at,
   id_verdicts,
   other_id_verdicts,
+  in_prp,
+  node_verdicts,
+  prp_verdicts,
   has_all_sent,
-  telling_entries,
   fault_verdicts,
   notice_verdicts,
   clock_told,
   why_of,
   why_told,
-  AreHeardIn,
   AreVerdictsOf,
 };
 
-use crate::heard::{Heard, heard_in};
+use crate::heard::Heard;
+use crate::hearing::{Hearing, single_hearing};
 use crate::kinds::{Kind, verdict_on, when_counted};
+use crate::nodes::{NodeVerdict, astray_names, node_verdict};
+use crate::place::{Place, cut_place};
 use crate::shared::{Cut, Share, cut_in, share_by};
 use crate::verdict::Verdict;
-use sr_audit::{Audit, Side, Sides, Spans};
-use sr_capture_audit::{Counts, Judgement, Network, Reason, Report, Sight};
+use sr_audit::{Side, Sides};
+use sr_capture_audit::{Counts, Judgement, Network, Ports, Reason, Report, Sight, Subject};
 use sr_frame::NoMemory;
+use sr_prp_trailer::Lan;
+use sr_sources::Sources;
 use std::alloc::{AllocError, Global};
 
 /// How many copies at each side have the id of the other LAN where cables are crossed (choice of this project): one is a stray.
@@ -45,14 +50,6 @@ pub struct Outside {
     pub reason: Option<Reason>,
     /// How far the clock of B was ahead, in nanoseconds, where it was put right.
     pub ahead: Option<i128>,
-}
-
-/// What is heard of sources, by all frames, by those that tell what was lost, and by the counters.
-#[derive(Drop)]
-struct Hearing {
-    own: Vec<Heard>,
-    telling: Vec<Heard>,
-    counters: Vec<Heard>,
 }
 
 /// Takes a verdict.
@@ -101,12 +98,48 @@ fn note_where(
     Ok(())
 }
 
-/// The verdict of a cut, if there is one.
-fn cut_told(cut: Option<Cut>) -> Option<Verdict>
-    ensures { result ≡ cut_told cut }
+/// Takes the verdicts of a kind on sources by their frames.
+fn note_nodes(
+    verdicts: &mut Vec<Verdict>,
+    kind: NodeVerdict,
+    ports: Ports,
+    sources: &Sources,
+) -> Result<(), NoMemory>
+    ensures { OnOk result (verdicts.new.items
+        ≡ verdicts.old.items ++ node_verdicts kind ports sources.now.sources.entries) }
+{
+    let (end_a, end_b) = (sources.end_at(Lan::A), sources.end_at(Lan::B));
+    for (mac, source) in sources.sources() {
+        note_one(
+            verdicts,
+            node_verdict(kind, ports, end_a, end_b, mac, source),
+        )?;
+    }
+    Ok(())
+}
+
+/// Takes those of a kind that is told in a PRP network alone.
+fn note_prp(
+    verdicts: &mut Vec<Verdict>,
+    kind: NodeVerdict,
+    subject: Subject,
+    sources: &Sources,
+) -> Result<(), NoMemory>
+    ensures { OnOk result (verdicts.new.items
+        ≡ verdicts.old.items ++ prp_verdicts kind subject sources.now.sources.entries) }
+{
+    match subject.network {
+        Network::Prp => note_nodes(verdicts, kind, subject.ports, sources),
+        Network::Hsr => Ok(()),
+    }
+}
+
+/// The verdict of a cut at this place, if there is one.
+fn cut_told(place: Place, cut: Option<Cut>) -> Option<Verdict>
+    ensures { result ≡ cut_told place cut }
 {
     match cut {
-        Some(cut) => Some(Verdict::CutRing(cut)),
+        Some(cut) => Some(Verdict::CutRing(cut, place)),
         None => None,
     }
 }
@@ -122,7 +155,7 @@ fn note_sided(
 {
     match network {
         Network::Prp => note_each(verdicts, Kind::DeadPort, telling),
-        Network::Hsr => note_one(verdicts, cut_told(cut_in(telling))),
+        Network::Hsr => note_one(verdicts, cut_told(cut_place(telling), cut_in(telling))),
     }
 }
 
@@ -150,12 +183,19 @@ fn are_crossed(counts: &Counts) -> bool
 }
 
 /// Takes what is told of copies at a side that have the id of the other LAN.
-fn note_wrong(verdicts: &mut Vec<Verdict>, side: Option<Side>, copies: u64) -> Result<(), NoMemory>
-    ensures { OnOk result (verdicts.new.items ≡ verdicts.old.items ++ wrong_at side copies) }
+fn note_wrong(
+    verdicts: &mut Vec<Verdict>,
+    side: Option<Side>,
+    copies: u64,
+    sources: &Sources,
+) -> Result<(), NoMemory>
+    ensures { OnOk result (verdicts.new.items
+        ≡ verdicts.old.items ++ wrong_at side copies sources.now.sources.entries) }
 {
+    let names = astray_names(side, sources);
     note_one(
         verdicts,
-        when_counted(copies, Verdict::WrongLan(side, copies)),
+        when_counted(copies, Verdict::WrongLan(side, copies, names)),
     )
 }
 
@@ -174,23 +214,29 @@ fn note_misfits(
 }
 
 /// Takes what is told of the ids of copies at both sides.
-fn note_ids(verdicts: &mut Vec<Verdict>, counts: &Counts) -> Result<(), NoMemory>
-    ensures { OnOk result (verdicts.new.items ≡ verdicts.old.items ++ id_verdicts counts.now) }
+fn note_ids(verdicts: &mut Vec<Verdict>, counts: &Counts, sources: &Sources) -> Result<(), NoMemory>
+    ensures { OnOk result (verdicts.new.items
+        ≡ verdicts.old.items ++ id_verdicts counts.now sources.now.sources.entries) }
 {
     let (a, b) = (counts.a.wrong_lan, counts.b.wrong_lan);
     if are_crossed(counts) {
-        return note_one(verdicts, Some(Verdict::Crossed(Sides { a, b })));
+        let names = astray_names(None, sources);
+        return note_one(verdicts, Some(Verdict::Crossed(Sides { a, b }, names)));
     }
-    note_wrong(verdicts, Some(Side::A), a)?;
-    note_wrong(verdicts, Some(Side::B), b)
+    note_wrong(verdicts, Some(Side::A), a, sources)?;
+    note_wrong(verdicts, Some(Side::B), b, sources)
 }
 
 /// Takes what is told of the ids of frames at a mirror port, and of trailers that are none.
-fn note_other_ids(verdicts: &mut Vec<Verdict>, counts: &Counts) -> Result<(), NoMemory>
-    ensures { OnOk result
-        (verdicts.new.items ≡ verdicts.old.items ++ other_id_verdicts counts.now) }
+fn note_other_ids(
+    verdicts: &mut Vec<Verdict>,
+    counts: &Counts,
+    sources: &Sources,
+) -> Result<(), NoMemory>
+    ensures { OnOk result (verdicts.new.items
+        ≡ verdicts.old.items ++ other_id_verdicts counts.now sources.now.sources.entries) }
 {
-    note_wrong(verdicts, None, counts.neither.wrong_lan)?;
+    note_wrong(verdicts, None, counts.neither.wrong_lan, sources)?;
     note_misfits(verdicts, Some(Side::A), counts.a.misfit)?;
     note_misfits(verdicts, Some(Side::B), counts.b.misfit)?;
     note_misfits(verdicts, None, counts.neither.misfit)
@@ -207,9 +253,11 @@ fn has_all_sent(report: &Report) -> bool
 fn note_faults(
     verdicts: &mut Vec<Verdict>,
     report: &Report,
+    sources: &Sources,
     hearing: &Hearing,
 ) -> Result<(), NoMemory>
-    ensures { OnOk result (verdicts.new.items ≡ verdicts.old.items ++ fault_verdicts report.now
+    ensures { OnOk result (verdicts.new.items ≡ verdicts.old.items
+        ++ fault_verdicts report.now sources.now.sources.entries
         hearing.now.own.items hearing.now.telling.items hearing.now.counters.items) }
 {
     let Hearing {
@@ -217,12 +265,15 @@ fn note_faults(
         telling,
         counters,
     } = hearing;
+    let subject = report.subject;
     note_where(verdicts, has_all_sent(report), Kind::BothLost, counters)?;
-    note_sided(verdicts, report.subject.network, telling)?;
-    note_ids(verdicts, &report.counts)?;
+    note_nodes(verdicts, NodeVerdict::TwoSenders, subject.ports, sources)?;
+    note_sided(verdicts, subject.network, telling)?;
+    note_ids(verdicts, &report.counts, sources)?;
+    note_prp(verdicts, NodeVerdict::LostRedundancy, subject, sources)?;
     note_loss(verdicts, Side::A, telling)?;
     note_loss(verdicts, Side::B, telling)?;
-    note_other_ids(verdicts, &report.counts)?;
+    note_other_ids(verdicts, &report.counts, sources)?;
     note_each(verdicts, Kind::Repeated, own)?;
     note_each(verdicts, Kind::Late, own)
 }
@@ -241,51 +292,19 @@ fn clock_told(ahead: Option<i128>) -> Option<Verdict>
 fn note_notices(
     verdicts: &mut Vec<Verdict>,
     report: &Report,
+    sources: &Sources,
     ahead: Option<i128>,
     counters: &[Heard],
 ) -> Result<(), NoMemory>
     ensures { OnOk result (verdicts.new.items ≡ verdicts.old.items
-        ++ notice_verdicts report.now ahead counters.now) }
+        ++ notice_verdicts report.now sources.now.sources.entries ahead counters.now) }
 {
-    let has_all_sent = has_all_sent(report);
+    let (has_all_sent, subject) = (has_all_sent(report), report.subject);
     note_where(verdicts, has_all_sent, Kind::Restart, counters)?;
+    note_nodes(verdicts, NodeVerdict::Babbling, subject.ports, sources)?;
     note_where(verdicts, !has_all_sent, Kind::Unseen, counters)?;
+    note_prp(verdicts, NodeVerdict::San, subject, sources)?;
     note_one(verdicts, clock_told(ahead))
-}
-
-/// What is heard of the sources of an audit of its own, or else of the one of all frames.
-fn heard_by(
-    alloc: Global,
-    own: &Option<Audit>,
-    audit: &Audit,
-    spans: &Spans,
-) -> Result<Vec<Heard>, NoMemory>
-    ensures { IfOk result (λ heard.
-        AreHeard spans.now (telling_entries own.now audit.now) heard.items) }
-{
-    match own {
-        Some(own) => heard_in(alloc, own, spans),
-        None => heard_in(alloc, audit, spans),
-    }
-}
-
-/// What is heard of the sources of a report.
-fn hearing_of(alloc: Global, report: &Report) -> Result<Hearing, NoMemory>
-    ensures { IfOk result (λ hearing. AreHeardIn report.now hearing.own.items
-        hearing.telling.items hearing.counters.items) }
-{
-    let Report {
-        audit,
-        judged,
-        counters,
-        spans,
-        ..
-    } = report;
-    Ok(Hearing {
-        own: heard_in(alloc, audit, spans)?,
-        telling: heard_by(alloc, judged, audit, spans)?,
-        counters: heard_by(alloc, counters, audit, spans)?,
-    })
 }
 
 /// Why nothing can be judged.
@@ -309,17 +328,25 @@ fn why_told(outside: Option<Reason>, report: &Report) -> Option<Reason>
 pub fn verdicts_of(
     alloc: Global,
     report: &Report,
+    sources: &Sources,
     outside: Outside,
 ) -> Result<Vec<Verdict>, NoMemory>
-    ensures { IfOk result (λ verdicts. AreVerdictsOf report.now outside verdicts.items) }
+    ensures { IfOk result (λ verdicts.
+        AreVerdictsOf report.now sources.now outside verdicts.items) }
 {
-    let hearing = hearing_of(alloc, report)?;
+    let hearing = single_hearing(alloc, report, sources)?;
     let mut verdicts = Vec::new(alloc);
     if let Some(reason) = why_told(outside.reason, report) {
         note(&mut verdicts, Verdict::Unjudged(reason))?;
         return Ok(verdicts);
     }
-    note_faults(&mut verdicts, report, &hearing)?;
-    note_notices(&mut verdicts, report, outside.ahead, &hearing.counters)?;
+    note_faults(&mut verdicts, report, sources, &hearing)?;
+    note_notices(
+        &mut verdicts,
+        report,
+        sources,
+        outside.ahead,
+        &hearing.counters,
+    )?;
     Ok(verdicts)
 }

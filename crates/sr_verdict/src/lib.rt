@@ -1,16 +1,24 @@
 //! What an engineer is told of a network: the figures of an audit as a list of faults and notices, the most severe first.
 #![tactic(auto)]
 
+mod cutting;
 mod heard;
+mod hearing;
 mod judging;
 mod kinds;
 mod lines;
+mod names;
+mod nodes;
+mod place;
 mod shared;
+mod sharing;
 mod verdict;
 mod words;
 
 pub use heard::Heard;
 pub use judging::{Outside, verdicts_of};
 pub use lines::print_verdicts;
+pub use names::Names;
+pub use place::{Neighbour, Place};
 pub use shared::{Cut, Share};
 pub use verdict::{Verdict, reason_in, status_of};

@@ -1,6 +1,7 @@
 //! The lines of verdicts. A kind has so many lines at most, and one that tells how many more it has.
 
-use crate::shared::{Cut, Share};
+use crate::cutting::print_cut;
+use crate::sharing::print_names;
 use crate::verdict::{FAULTY, SOUND, Verdict, status_of};
 use crate::words::{advice_on, kind_word, lan_word, severity_word};
 use sr_audit::{Row, Side, Sides};
@@ -13,7 +14,7 @@ use std::io::Write;
 const MOST_LINES: u64 = 24;
 
 /// A value that has no name in text.
-const fn bare(key: &'static str, value: Value) -> Field {
+pub(crate) const fn bare(key: &'static str, value: Value) -> Field {
     Field {
         label: "",
         key,
@@ -22,7 +23,7 @@ const fn bare(key: &'static str, value: Value) -> Field {
 }
 
 /// A number under a name.
-const fn count(key: &'static str, number: u64) -> Field {
+pub(crate) const fn count(key: &'static str, number: u64) -> Field {
     Field {
         label: key,
         key,
@@ -31,31 +32,42 @@ const fn count(key: &'static str, number: u64) -> Field {
 }
 
 /// The LAN of a verdict.
-fn at_lan(lan: Option<Side>) -> Field {
+pub(crate) fn at_lan(lan: Option<Side>) -> Field {
     bare("lan", Value::Word(lan_word(lan)))
 }
 
 /// The source of a verdict.
-fn at_source(mac: Mac) -> Field {
+pub(crate) fn at_source(mac: Mac) -> Field {
     bare("source", Value::Mac(mac))
 }
 
 /// When what a verdict tells of began.
-fn since(time: u64) -> Field {
+pub(crate) fn since(time: Option<u64>) -> Field {
     Field {
         label: "since",
         key: "since_ms",
-        value: Value::Time(Some(time)),
+        value: Value::Time(time),
+    }
+}
+
+/// How far the clock of B was ahead.
+fn b_ahead(ahead: i128) -> Field {
+    Field {
+        label: "b_ahead_us",
+        key: "b_ahead_us",
+        value: Value::Skew(Some(ahead)),
     }
 }
 
 /// What each line of a verdict has.
 #[derive(Clone, Copy)]
-struct Frame {
-    severity: &'static str,
-    kind: Field,
+pub(crate) struct Frame {
+    /// How severe it is.
+    pub severity: &'static str,
+    /// The kind of it.
+    pub kind: Field,
     /// What to do.
-    advice: Field,
+    pub advice: Field,
 }
 
 /// What the line of a verdict has, whatever it tells.
@@ -71,23 +83,80 @@ fn frame_of(verdict: &Verdict) -> Frame {
     }
 }
 
-/// Prints why nothing can be judged.
-fn print_unjudged<W: Write>(
+/// Prints the line of a verdict on the network as a whole.
+fn print_whole<W: Write>(
     writer: &mut W,
     format: Format,
     frame: Frame,
-    reason: Reason,
+    verdict: &Verdict,
 ) -> Result<(), ScriptFault> {
-    match reason {
-        Reason::Unnumbered(side) => {
+    let Frame {
+        severity,
+        kind,
+        advice,
+    } = frame;
+    match *verdict {
+        Verdict::Unjudged(Reason::Unnumbered(side)) => {
             print_row(
                 writer,
                 format,
-                frame.severity,
-                &[frame.kind, at_lan(Some(side)), frame.advice],
+                severity,
+                &[kind, at_lan(Some(side)), advice],
             )
         }
-        _ => print_row(writer, format, frame.severity, &[frame.kind, frame.advice]),
+        Verdict::Clock(ahead) => {
+            print_row(writer, format, severity, &[kind, b_ahead(ahead), advice])
+        }
+        Verdict::CutRing(cut, place) => print_cut(writer, format, frame, cut, place),
+        _ => print_row(writer, format, severity, &[kind, advice]),
+    }
+}
+
+/// Prints the line of a verdict on a LAN: what it lost of how many frames, of how many sources, and how many the other one lost; or how many
+/// copies or frames of it are wrong.
+fn print_on_lan<W: Write>(
+    writer: &mut W,
+    format: Format,
+    frame: Frame,
+    verdict: &Verdict,
+) -> Result<(), ScriptFault> {
+    let Frame {
+        severity,
+        kind,
+        advice,
+    } = frame;
+    match *verdict {
+        Verdict::Loss(lan, share, other) => {
+            let (frames, of) = (count("frames", share.frames), count("of", share.brought));
+            let (sources, other) = (count("sources", share.sources), count("other_lan", other));
+            print_row(
+                writer,
+                format,
+                severity,
+                &[kind, at_lan(Some(lan)), frames, of, sources, other, advice],
+            )
+        }
+        Verdict::Crossed(sides, _) => {
+            let (a, b) = (count("copies_a", sides.a), count("copies_b", sides.b));
+            print_row(writer, format, severity, &[kind, a, b, advice])
+        }
+        Verdict::WrongLan(lan, copies, _) => {
+            print_row(
+                writer,
+                format,
+                severity,
+                &[kind, at_lan(lan), count("copies", copies), advice],
+            )
+        }
+        Verdict::Misfit(lan, frames) => {
+            print_row(
+                writer,
+                format,
+                severity,
+                &[kind, at_lan(lan), count("frames", frames), advice],
+            )
+        }
+        _ => print_whole(writer, format, frame, verdict),
     }
 }
 
@@ -99,43 +168,84 @@ fn print_counted<W: Write>(
     mac: Mac,
     counted: Field,
 ) -> Result<(), ScriptFault> {
+    let Frame {
+        severity,
+        kind,
+        advice,
+    } = frame;
     print_row(
         writer,
         format,
-        frame.severity,
-        &[frame.kind, at_source(mac), counted, frame.advice],
+        severity,
+        &[kind, at_source(mac), counted, advice],
     )
 }
 
-/// Prints a count of a LAN.
-fn print_at<W: Write>(
+/// Prints the line of a verdict on the frames of a source.
+fn print_on_node<W: Write>(
     writer: &mut W,
     format: Format,
     frame: Frame,
-    lan: Option<Side>,
-    counted: Field,
+    verdict: &Verdict,
 ) -> Result<(), ScriptFault> {
-    print_row(
-        writer,
-        format,
-        frame.severity,
-        &[frame.kind, at_lan(lan), counted, frame.advice],
-    )
+    let Frame {
+        severity,
+        kind,
+        advice,
+    } = frame;
+    match *verdict {
+        Verdict::TwoSenders(mac, time) => {
+            print_counted(writer, format, frame, mac, since(Some(time)))
+        }
+        Verdict::LostRedundancy(mac, lan, tail) => {
+            let (source, frames) = (at_source(mac), count("frames", tail.frames));
+            let begin = since(tail.since);
+            print_row(
+                writer,
+                format,
+                severity,
+                &[kind, at_lan(lan), source, frames, begin, advice],
+            )
+        }
+        Verdict::Babbling(mac, second) => {
+            let (source, frames) = (at_source(mac), count("in_a_second", second.frames));
+            let begin = since(Some(second.since));
+            print_row(
+                writer,
+                format,
+                severity,
+                &[kind, source, frames, begin, advice],
+            )
+        }
+        Verdict::San(mac, lan, frames) => {
+            let (source, frames) = (at_source(mac), count("frames", frames));
+            print_row(
+                writer,
+                format,
+                severity,
+                &[kind, at_lan(lan), source, frames, advice],
+            )
+        }
+        _ => print_on_lan(writer, format, frame, verdict),
+    }
 }
 
-/// Prints how many copies each LAN brought.
-fn print_sides<W: Write>(
+/// Prints which LAN does not bring a source any more: the one by which its last frames did not come.
+fn print_dead<W: Write>(
     writer: &mut W,
     format: Format,
     frame: Frame,
-    sides: Sides,
+    mac: Mac,
+    row: Row,
 ) -> Result<(), ScriptFault> {
-    let (a, b) = (count("copies_a", sides.a), count("copies_b", sides.b));
+    let lan = at_lan(Some(row.side.other()));
+    let (source, frames) = (at_source(mac), count("frames", row.frames));
+    let begin = since(Some(row.since));
     print_row(
         writer,
         format,
         frame.severity,
-        &[frame.kind, a, b, frame.advice],
+        &[frame.kind, lan, source, frames, begin, frame.advice],
     )
 }
 
@@ -156,96 +266,6 @@ fn print_repeated<W: Write>(
     )
 }
 
-/// Prints where a ring is cut: how many sources stand on each side of the cut.
-fn print_cut<W: Write>(
-    writer: &mut W,
-    format: Format,
-    frame: Frame,
-    cut: Cut,
-) -> Result<(), ScriptFault> {
-    print_row(
-        writer,
-        format,
-        frame.severity,
-        &[
-            frame.kind,
-            count("sided_a", cut.at_a),
-            count("sided_b", cut.at_b),
-            count("frames", cut.frames),
-            since(cut.since),
-            frame.advice,
-        ],
-    )
-}
-
-/// Prints which LAN does not bring a source any more: the one by which its last frames did not come.
-fn print_dead<W: Write>(
-    writer: &mut W,
-    format: Format,
-    frame: Frame,
-    mac: Mac,
-    row: Row,
-) -> Result<(), ScriptFault> {
-    print_row(
-        writer,
-        format,
-        frame.severity,
-        &[
-            frame.kind,
-            at_lan(Some(row.side.other())),
-            at_source(mac),
-            count("frames", row.frames),
-            since(row.since),
-            frame.advice,
-        ],
-    )
-}
-
-/// Prints what a LAN lost of how many frames, of how many sources, and how many frames the other one lost.
-fn print_loss<W: Write>(
-    writer: &mut W,
-    format: Format,
-    frame: Frame,
-    lan: Side,
-    share: Share,
-    other: u64,
-) -> Result<(), ScriptFault> {
-    print_row(
-        writer,
-        format,
-        frame.severity,
-        &[
-            frame.kind,
-            at_lan(Some(lan)),
-            count("frames", share.frames),
-            count("of", share.brought),
-            count("sources", share.sources),
-            count("other_lan", other),
-            frame.advice,
-        ],
-    )
-}
-
-/// Prints how far the clock of B was ahead.
-fn print_clock<W: Write>(
-    writer: &mut W,
-    format: Format,
-    frame: Frame,
-    ahead: i128,
-) -> Result<(), ScriptFault> {
-    let ahead = Field {
-        label: "b_ahead_us",
-        key: "b_ahead_us",
-        value: Value::Skew(Some(ahead)),
-    };
-    print_row(
-        writer,
-        format,
-        frame.severity,
-        &[frame.kind, ahead, frame.advice],
-    )
-}
-
 /// Prints the line of a verdict.
 fn print_verdict<W: Write>(
     writer: &mut W,
@@ -254,11 +274,7 @@ fn print_verdict<W: Write>(
 ) -> Result<(), ScriptFault> {
     let frame = frame_of(verdict);
     match *verdict {
-        Verdict::Unjudged(reason) => print_unjudged(writer, format, frame, reason),
-        Verdict::CutRing(cut) => print_cut(writer, format, frame, cut),
         Verdict::DeadPort(mac, row) => print_dead(writer, format, frame, mac, row),
-        Verdict::Crossed(sides) => print_sides(writer, format, frame, sides),
-        Verdict::Loss(lan, share, other) => { print_loss(writer, format, frame, lan, share, other) }
         Verdict::Repeated(mac, sides) => print_repeated(writer, format, frame, mac, sides),
         Verdict::BothLost(mac, numbers) | Verdict::Unseen(mac, numbers) => {
             print_counted(writer, format, frame, mac, count("numbers", numbers))
@@ -269,13 +285,7 @@ fn print_verdict<W: Write>(
         Verdict::Restart(mac, times) => {
             print_counted(writer, format, frame, mac, count("times", times))
         }
-        Verdict::WrongLan(lan, copies) => {
-            print_at(writer, format, frame, lan, count("copies", copies))
-        }
-        Verdict::Misfit(lan, frames) => {
-            print_at(writer, format, frame, lan, count("frames", frames))
-        }
-        Verdict::Clock(ahead) => print_clock(writer, format, frame, ahead),
+        _ => print_on_node(writer, format, frame, verdict),
     }
 }
 
@@ -329,6 +339,7 @@ fn print_each<W: Write>(
         kind = own;
         if of_kind <= MOST_LINES {
             print_verdict(writer, format, verdict)?;
+            print_names(writer, format, verdict)?;
         } else if of_kind == MOST_LINES + 1 {
             print_more(writer, format, frame_of(verdict), alike(verdicts, own))?;
         }

@@ -4,6 +4,7 @@ ghost use Rattle.std.specs.Prelude.{◌≡◌};
 ghost use Rattle.sr_verdict.specs.Shared.{no_share, share_with, share_by, one_at, cut_from, cut_and, cut_with, cut_in};
 
 use crate::heard::{Heard, rest_at, row_in};
+use crate::names::Names;
 use sr_audit::{Row, Side};
 
 /// The frames of several sources that one LAN lost, besides those of sources that it does not bring any more.
@@ -15,6 +16,8 @@ pub struct Share {
     pub brought: u64,
     /// How many sources these are.
     pub sources: u64,
+    /// Which they are.
+    pub names: Names,
 }
 
 impl Share {
@@ -23,6 +26,7 @@ impl Share {
         frames: 0,
         brought: 0,
         sources: 0,
+        names: Names::NONE,
     };
 }
 
@@ -52,6 +56,7 @@ fn share_with(side: Side, share: Share, heard: &Heard) -> Share
         frames: share.frames.saturating_add(rest),
         brought: share.brought.saturating_add(brought),
         sources: share.sources.saturating_add(1),
+        names: share.names.with(heard.mac),
     }
 }
 

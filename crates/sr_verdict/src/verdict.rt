@@ -4,10 +4,13 @@ ghost use Rattle.std.specs.Prelude.{◌≡◌, true, false};
 ghost use Rattle.std.specs.List.{list_any};
 ghost use Rattle.sr_verdict.specs.Verdicts.{is_a_fault, reason_in, block_status};
 
+use crate::names::Names;
+use crate::place::Place;
 use crate::shared::{Cut, Share};
 use sr_audit::{Row, Side, Sides};
 use sr_capture_audit::Reason;
 use sr_frame::Mac;
+use sr_sources::{Second, Tail};
 
 /// The exit status of a check that finds no fault.
 pub(crate) const SOUND: u8 = 0;
@@ -25,16 +28,20 @@ pub enum Verdict {
     Unjudged(Reason),
     /// Fault: of so many numbers of a source, or of a RedBox's counter, no frame came by either LAN.
     BothLost(Mac, u64),
-    /// Fault: a ring is cut.
-    CutRing(Cut),
+    /// Fault: the numbers of a source are those of two senders, since this time.
+    TwoSenders(Mac, u64),
+    /// Fault: a ring is cut, at this place.
+    CutRing(Cut, Place),
     /// Fault: a source of a PRP network is heard by one LAN alone since then.
     DeadPort(Mac, Row),
-    /// Fault: so many copies by each LAN have the id of the other one.
-    Crossed(Sides),
+    /// Fault: so many copies by each LAN, of these sources, have the id of the other one.
+    Crossed(Sides, Names),
+    /// Fault: a source had frames with a number in a LAN, or at a mirror port, and since then has some without.
+    LostRedundancy(Mac, Option<Side>, Tail),
     /// Fault: a LAN lost frames that came by the other one, which lost so many.
     Loss(Side, Share, u64),
-    /// Fault: so many copies by a LAN have the id of the other one.
-    WrongLan(Option<Side>, u64),
+    /// Fault: so many copies by a LAN, of these sources, have the id of the other one.
+    WrongLan(Option<Side>, u64, Names),
     /// Fault: so many frames of a LAN, or of a mirror port, end as one with a trailer, and the trailer is none.
     Misfit(Option<Side>, u64),
     /// Fault: so many copies of a source came behind an earlier one by the same LAN.
@@ -43,8 +50,12 @@ pub enum Verdict {
     Late(Mac, u64),
     /// Notice: the numbers of a source began anew, so many times.
     Restart(Mac, u64),
+    /// Notice: a source has many frames in a second, so many at most, which is not what it has in most of them.
+    Babbling(Mac, Second),
     /// Notice: so many numbers of a source may have gone past no recorder.
     Unseen(Mac, u64),
+    /// Notice: a source has so many frames in one LAN alone, or at a mirror port, and none of them has a number.
+    San(Mac, Option<Side>, u64),
     /// Notice: the clock of B was put right, which was so many nanoseconds ahead.
     Clock(i128),
 }
@@ -59,17 +70,21 @@ impl Verdict {
     {
         match *self {
             Verdict::BothLost(_, _)
-            | Verdict::CutRing(_)
+            | Verdict::TwoSenders(_, _)
+            | Verdict::CutRing(_, _)
             | Verdict::DeadPort(_, _)
-            | Verdict::Crossed(_)
+            | Verdict::Crossed(_, _)
+            | Verdict::LostRedundancy(_, _, _)
             | Verdict::Loss(_, _, _)
-            | Verdict::WrongLan(_, _)
+            | Verdict::WrongLan(_, _, _)
             | Verdict::Misfit(_, _)
             | Verdict::Repeated(_, _)
             | Verdict::Late(_, _) => true,
             Verdict::Unjudged(_)
             | Verdict::Restart(_, _)
+            | Verdict::Babbling(_, _)
             | Verdict::Unseen(_, _)
+            | Verdict::San(_, _, _)
             | Verdict::Clock(_) => false,
         }
     }
