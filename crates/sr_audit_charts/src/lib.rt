@@ -1,0 +1,28 @@
+//! What is kept of an audit for drawing, in columns of time, and the picture that is drawn of it.
+#![tactic(auto)]
+
+mod cards;
+mod drawing;
+mod histogram;
+mod kept;
+mod lists;
+mod losses;
+mod paths;
+mod picture;
+mod ranges;
+mod ranking;
+mod sources;
+mod strips;
+mod times;
+
+pub use cards::{BINS, Card, bin_floor};
+pub use histogram::Histogram;
+pub use kept::{Astray, Kept, MAX_CARDS, MAX_STRIPS, MAX_TRACED, Traced};
+pub use losses::{Losses, Packets, Stretch};
+pub use paths::{Shape, draw_lane, draw_path};
+pub use picture::{MAX_CHARTS, print_picture};
+pub use ranges::{Range, Ranges};
+pub use ranking::rank;
+pub use sources::{SourceLine, lines_in};
+pub use strips::Strip;
+pub use times::{COLUMNS, Times, times_of};

@@ -1,0 +1,19 @@
+//! The page that tells of an audit, for who has ordered the test of a network: its figures and what is told of it, in HTML.
+#![tactic(auto)]
+
+mod faults;
+mod findings;
+mod given;
+mod grounds;
+mod page;
+mod remarks;
+mod rows;
+mod sources;
+mod sums;
+mod told;
+
+pub use given::Given;
+pub use grounds::{Grounds, grounds_of};
+pub use page::{Page, write_page};
+pub use rows::counts_at;
+pub use sums::sums_of;

@@ -1,0 +1,144 @@
+//! Faults of sources, in words.
+
+use crate::faults::put_lans;
+use crate::told::{begin, end, end_since, lan_of};
+use sr_audit::{Row, Side, Sides};
+use sr_frame::Mac;
+use sr_page::{Count, NodeName, Weight, word_for};
+use sr_sources::Tail;
+use sr_verdict::Verdict;
+use std::io::{self, Write};
+
+/// Tells of frames that no LAN brought.
+fn put_both_lost<W: Write>(
+    writer: &mut W,
+    names: &[NodeName],
+    mac: Mac,
+    frames: u64,
+) -> io::Result<()> {
+    let (count, word) = (Count(frames), word_for(frames, "frame", "frames"));
+    begin(writer, names, Weight::Grave, "lost on both", mac)?;
+    write!(
+        writer,
+        "{count} {word} came by neither LAN, and reached no receiver"
+    )?;
+    end(
+        writer,
+        mac,
+        "Look at what both paths share: the sender, its power, a switch",
+    )
+}
+
+/// Tells of a source that has two senders.
+fn put_two_senders<W: Write>(
+    writer: &mut W,
+    names: &[NodeName],
+    mac: Mac,
+    time: u64,
+) -> io::Result<()> {
+    begin(writer, names, Weight::Grave, "two senders", mac)?;
+    write!(writer, "its numbers are those of two senders")?;
+    end_since(
+        writer,
+        mac,
+        time,
+        "Give one of the two nodes an address of its own",
+    )
+}
+
+/// Tells of a source that one LAN does not bring any more.
+fn put_dead_port<W: Write>(
+    writer: &mut W,
+    names: &[NodeName],
+    mac: Mac,
+    row: Row,
+) -> io::Result<()> {
+    let frames = Count(row.frames);
+    let (own, other) = (lan_of(Some(row.side)), lan_of(Some(row.side.other())));
+    begin(writer, names, Weight::Fault, "one LAN", mac)?;
+    write!(
+        writer,
+        "it is heard by {own} alone; {frames} frames in a row were lost on {other}"
+    )?;
+    end_since(
+        writer,
+        mac,
+        row.since,
+        "Look at its port and cable at the LAN that does not bring it",
+    )
+}
+
+/// Tells of a source that has lost its redundancy.
+fn put_lost_redundancy<W: Write>(
+    writer: &mut W,
+    names: &[NodeName],
+    mac: Mac,
+    lan: Option<Side>,
+    tail: Tail,
+) -> io::Result<()> {
+    let (frames, at) = (Count(tail.frames), lan_of(lan));
+    begin(writer, names, Weight::Fault, "no redundancy", mac)?;
+    write!(
+        writer,
+        "its frames at {at} had numbers, and then {frames} had none"
+    )?;
+    let advice = "Ask what changed at it: its mode, or what stands in its place";
+    match tail.since {
+        Some(time) => end_since(writer, mac, time, advice),
+        None => end(writer, mac, advice),
+    }
+}
+
+/// Tells of copies that came before.
+fn put_repeated<W: Write>(
+    writer: &mut W,
+    names: &[NodeName],
+    mac: Mac,
+    sides: Sides,
+) -> io::Result<()> {
+    let (a, b) = (Count(sides.a), Count(sides.b));
+    begin(writer, names, Weight::Fault, "repeated", mac)?;
+    write!(
+        writer,
+        "{a} copies by LAN A and {b} by LAN B came behind an earlier one"
+    )?;
+    end(
+        writer,
+        mac,
+        "Look for a loop, or a recorder that sees a frame twice",
+    )
+}
+
+/// Tells of copies that came far apart.
+fn put_late<W: Write>(writer: &mut W, names: &[NodeName], mac: Mac, pairs: u64) -> io::Result<()> {
+    let (count, word) = (Count(pairs), word_for(pairs, "pair", "pairs"));
+    begin(writer, names, Weight::Fault, "too late", mac)?;
+    write!(
+        writer,
+        "{count} {word} 400 ms or more apart: a receiver takes the second copy for a new frame"
+    )?;
+    end(
+        writer,
+        mac,
+        "Look at queues on one path, and at the recorders' clocks",
+    )
+}
+
+/// Tells of a fault.
+pub(crate) fn put_fault<W: Write>(
+    writer: &mut W,
+    names: &[NodeName],
+    verdict: &Verdict,
+) -> io::Result<()> {
+    match *verdict {
+        Verdict::BothLost(mac, frames) => put_both_lost(writer, names, mac, frames),
+        Verdict::TwoSenders(mac, time) => put_two_senders(writer, names, mac, time),
+        Verdict::DeadPort(mac, row) => put_dead_port(writer, names, mac, row),
+        Verdict::LostRedundancy(mac, lan, tail) => {
+            put_lost_redundancy(writer, names, mac, lan, tail)
+        }
+        Verdict::Repeated(mac, sides) => put_repeated(writer, names, mac, sides),
+        Verdict::Late(mac, pairs) => put_late(writer, names, mac, pairs),
+        _ => put_lans(writer, names, verdict),
+    }
+}
