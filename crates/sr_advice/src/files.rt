@@ -91,6 +91,25 @@ pub struct Unopened<'a> {
     pub kind: ErrorKind,
 }
 
+/// A pcap file of which an interface is wanted that it does not have.
+#[derive(Clone, Copy, Debug)]
+pub struct NoInterface<'a> {
+    /// The name of the file.
+    pub path: &'a str,
+    /// The number of the interface.
+    pub number: u32,
+}
+
+impl fmt::Display for NoInterface<'_> {
+    fn fmt<W: fmt::Write>(&self, f: &mut fmt::Formatter<W>) -> fmt::Result {
+        let NoInterface { path, number } = *self;
+        write!(
+            f,
+            "{path}: a pcap file has one interface, number 0, and no interface {number} (a file whose name ends so is named {path}:{number}:0)"
+        )
+    }
+}
+
 /// Why a file can't be opened.
 fn reason_of(kind: ErrorKind) -> &'static str {
     match kind {

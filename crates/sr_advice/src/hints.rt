@@ -3,7 +3,7 @@
 use crate::files::letter_of;
 use crate::survey::Seen;
 use sr_capture_script::{Choice, Inlet};
-use sr_options::ScriptTask;
+use sr_options::{Paths, ScriptTask};
 use sr_pcapng::Wanted;
 use std::fmt;
 
@@ -91,12 +91,12 @@ fn write_frames<W: fmt::Write>(
 /// Says what looks wrong in the capture of an inlet, if there is one.
 fn write_capture<W: fmt::Write>(
     inlet: Inlet,
-    path: Option<&str>,
+    paths: Option<Paths<'_>>,
     wanted: Wanted,
     seen: &Seen,
     f: &mut fmt::Formatter<W>,
 ) -> fmt::Result {
-    if path.is_none() {
+    if paths.is_none() {
         return Ok(());
     }
     write_recording(inlet, wanted, seen, f)?;

@@ -10,7 +10,7 @@ mod survey;
 mod tails;
 mod word_flaws;
 
-pub use files::{FileFault, FileReason, Unopened, letter_of};
+pub use files::{FileFault, FileReason, NoInterface, Unopened, letter_of};
 pub use flaws::{Flaw, Found};
 pub use forms::ScriptKind;
 pub use hints::ScriptAdvice;

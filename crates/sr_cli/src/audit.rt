@@ -1,26 +1,40 @@
 //! The subcommand `audit`: reads the captures pass by pass, judges them, and writes what they tell.
 
+mod cuts;
+mod drawn;
 mod hints;
+mod names;
+mod nodes;
+mod page;
 mod passes;
 mod streams;
+mod subjects;
 mod verdict;
 mod ways;
 mod writing;
 
 use crate::clocks::{Known, on_clocks, read_clocks, read_once, recorders_of_audit};
+use crate::dated::{Dated, Dating};
+use crate::dates::Moment;
+use crate::files::Sides;
+use crate::order::check_order;
 use crate::pipes::Pipe;
 use crate::progress::Progress;
 use crate::script::tell_ended;
+use cuts::Cuts;
 use hints::tell_odd;
-use passes::{Read, read_all};
+use nodes::read_nodes;
+use passes::{Read, open, read_all};
 use sr_advice::letter_of;
 use sr_capture_script::{Inlet, ScriptFault};
-use sr_options::AuditTask;
+use sr_options::{AuditTask, Format, Paths, Times};
 use sr_slots::Keys;
+use sr_sources::Sources;
 use sr_verdict::Verdict;
 use std::io::{self, BufWriter};
 use std::random::RandomSource;
 use std::rt::Files;
+use subjects::subject_on;
 use verdict::{check, judge};
 use writing::write_all;
 
@@ -42,10 +56,34 @@ impl From<ScriptFault> for Ended {
     }
 }
 
+/// What ended a run over captures.
+#[derive(Clone, Copy)]
+enum Stop {
+    /// This, before anything was written.
+    Early(Ended),
+    /// What standard error has been told of: the exit status.
+    Told(u8),
+}
+
+impl From<u8> for Stop {
+    fn from(status: u8) -> Stop {
+        Stop::Told(status)
+    }
+}
+
+/// The files of an audit.
+fn sides_of<'a>(task: &AuditTask<'a>) -> Sides<'a> {
+    Sides {
+        a: task.a,
+        b: task.b,
+        c: None,
+    }
+}
+
 /// Says what ended an audit early, but where nobody reads any more what is written. The answer is the exit status.
-fn tell<R: Eprint>(rt: &R, ended: Ended, is_closed: bool) -> u8 {
+fn tell<R: Eprint + Files>(rt: &R, task: &AuditTask<'_>, ended: Ended, is_closed: bool) -> u8 {
     if let Ended::By(fault) = ended {
-        tell_ended(rt, fault, is_closed);
+        tell_ended(rt, &sides_of(task), fault, is_closed);
     }
     RUN_FAILED
 }
@@ -57,27 +95,54 @@ fn read_and_judge<R: AllocGlobal + Eprint + Files>(
     keys: Keys,
     known: Known,
     progress: Progress,
-) -> Result<(Read, Vec<Verdict>), Ended> {
-    let read = read_all(rt, task, keys, progress)?;
-    let verdicts = judge(rt, &read.report, known, read.are_both_ways)?;
-    Ok((read, verdicts))
+) -> Result<(Read, Sources, Vec<Verdict>), Ended> {
+    let subject = subject_on(rt, task, known)?;
+    let read = read_all(rt, task, subject, keys, progress)?;
+    let sources = read_nodes(rt, task, keys)?;
+    let verdicts = judge(rt, &read.report, &sources, known, read.are_both_ways)?;
+    Ok((read, sources, verdicts))
 }
 
-/// Audits the captures on the clocks that are known.
+/// How times are told. That of the earliest packet is by the clock of its recorder, or by that of A where B's was put right.
+fn dating_of<R: AllocGlobal + Eprint + Files>(
+    rt: &R,
+    task: &AuditTask<'_>,
+) -> Result<Dating, Ended> {
+    if task.times == Times::Relative {
+        return Ok(Dating::Relative);
+    }
+    let captures = open(rt, task, Progress::Silent)?;
+    let Some(front) = captures.front() else {
+        return Ok(Dating::Relative);
+    };
+    let first = Moment(front.moment.saturating_sub(task.early));
+    match task.format {
+        Format::Json => Ok(Dating::Objects(first)),
+        _ => Ok(Dating::Words(first)),
+    }
+}
+
+/// Audits the captures on the clocks that are known: those that end within a packet up to there, of which is told at the end.
 fn run_on_clocks<R: AllocGlobal + Print + Eprint + Files>(
     rt: &R,
     task: &AuditTask<'_>,
     keys: Keys,
     known: Known,
+    cuts: Cuts,
     progress: Progress,
-) -> Result<(), u8> {
-    let (read, verdicts) = match read_and_judge(rt, task, keys, known, progress) {
+) -> Result<(), Stop> {
+    let (read, sources, verdicts) = match read_and_judge(rt, task, keys, known, progress) {
         Ok(judged) => judged,
-        Err(ended) => return Err(tell(rt, ended, false)),
+        Err(ended) => return Err(Stop::Early(ended)),
     };
-    let Ok(mut writer) = BufWriter::new(rt.alloc(), Pipe::new(io::writer(rt))) else {
-        return Err(tell(rt, Ended::By(ScriptFault::NoMemory), false));
+    let dating = match dating_of(rt, task) {
+        Ok(dating) => dating,
+        Err(ended) => return Err(Stop::Early(ended)),
     };
+    let Ok(buffered) = BufWriter::new(rt.alloc(), Pipe::new(io::writer(rt))) else {
+        return Err(Stop::Early(Ended::By(ScriptFault::NoMemory)));
+    };
+    let mut writer = Dated::new(rt.alloc(), buffered, dating);
     let Read { times, report, .. } = read;
     let summary = report.summary();
     if let Err(ended) = write_all(
@@ -88,27 +153,58 @@ fn run_on_clocks<R: AllocGlobal + Print + Eprint + Files>(
         times,
         report,
         &summary,
+        &sources,
         &verdicts,
         &mut writer,
     ) {
-        return Err(tell(rt, ended, writer.get_ref().is_closed()));
+        let is_closed = writer.get_ref().get_ref().is_closed();
+        return Err(Stop::Told(tell(rt, task, ended, is_closed)));
     }
     tell_odd(rt, task, &times.recorded, &summary);
+    cuts.tell(rt, task)?;
     if task.is_check {
         check(rt, &verdicts)?;
     }
     Ok(())
 }
 
-/// Refuses a capture that is none of a file, as a pipe, since an audit reads it more than once. The error is the exit status.
-fn refuse_read_once<R: Eprint + Files>(rt: &R, inlet: Inlet, path: Option<&str>) -> Result<(), u8> {
-    let Some(path) = read_once(rt, path) else {
+/// Refuses a capture that is none of files, as a pipe, since an audit reads it more than once. The error is the exit status.
+fn refuse_read_once<R: Eprint + Files>(
+    rt: &R,
+    inlet: Inlet,
+    paths: Option<Paths<'_>>,
+) -> Result<(), u8> {
+    let Some(path) = read_once(rt, paths) else {
         return Ok(());
     };
     let letter = letter_of(inlet);
     let _ = eprintln!(rt; "fault {letter} open 0");
     let _ = eprintln!(rt; "{path} is no file, and an audit reads its captures more than once");
     Err(RUN_FAILED)
+}
+
+/// Says where the files of a capture are not named in the order of their times, which may be a fault. The error is the exit status.
+fn check_orders<R: AllocGlobal + Eprint + Files>(rt: &R, task: &AuditTask<'_>) -> Result<(), u8> {
+    let options = &task.options;
+    let interfaces = options.interfaces;
+    check_order(rt, Inlet::A, task.a, interfaces.a, options).map_err(|()| RUN_FAILED)?;
+    check_order(rt, Inlet::B, task.b, interfaces.b, options).map_err(|()| RUN_FAILED)
+}
+
+/// Audits the captures up to where they end within a packet.
+fn run_up_to<R: AllocGlobal + Print + Eprint + Files>(
+    rt: &R,
+    task: &AuditTask<'_>,
+    keys: Keys,
+    cuts: Cuts,
+    progress: Progress,
+) -> Result<(), Stop> {
+    let whole = cuts.applied(task);
+    let known = match read_clocks(rt, &recorders_of_audit(&whole), progress) {
+        Ok(known) => known,
+        Err(ended) => return Err(Stop::Early(ended)),
+    };
+    run_on_clocks(rt, &on_clocks(&whole, known), keys, known, cuts, progress)
 }
 
 /// Writes what captures tell of a network to standard output. A fault is told on standard error, and so is what looks wrong. An error is the
@@ -120,13 +216,22 @@ pub fn run_audit<R: AllocGlobal + Print + Eprint + Files + RandomSource>(
 ) -> Result<(), u8> {
     refuse_read_once(rt, Inlet::A, task.a)?;
     refuse_read_once(rt, Inlet::B, task.b)?;
+    check_orders(rt, task)?;
     let Ok(keys) = Keys::new(rt) else {
         let _ = eprintln!(rt; "fault read");
         return Err(RUN_FAILED);
     };
-    let known = match read_clocks(rt, &recorders_of_audit(task), progress) {
-        Ok(known) => known,
-        Err(ended) => return Err(tell(rt, ended, false)),
-    };
-    run_on_clocks(rt, &on_clocks(task, known), keys, known, progress)
+    let mut cuts = Cuts::NONE;
+    for _ in 0..3 {
+        let ended = match run_up_to(rt, task, keys, cuts, progress) {
+            Ok(()) => return Ok(()),
+            Err(Stop::Told(status)) => return Err(status),
+            Err(Stop::Early(ended)) => ended,
+        };
+        match cuts.and(ended) {
+            Some(more) => cuts = more,
+            None => return Err(tell(rt, task, ended, false)),
+        }
+    }
+    Err(RUN_FAILED)
 }

@@ -1,14 +1,15 @@
 //! The clocks of the recorders of two captures: read ahead of all else, by passes of their own.
 
 use crate::audit::Ended;
+use crate::files::{Opened, open_file};
 use crate::meanings::network_of;
 use crate::progress::Progress;
-use crate::script::{Opened, open_file, tell_ended};
+use crate::script::tell_other;
 use sr_advice::letter_of;
 use sr_capture_audit::{Format, Judgement, Reason, clocks_between, delays_by, print_clocks};
 use sr_capture_script::{Captures, Inlet, Options, ScriptFault};
 use sr_clocks::{Clocks, Line};
-use sr_options::{AuditTask, MergeTask, Network, Ports, ScriptTask, Shift};
+use sr_options::{AuditTask, MergeTask, Network, Paths, Ports, ScriptTask, Shift};
 use std::fmt;
 use std::rt::Files;
 
@@ -60,8 +61,8 @@ impl fmt::Display for Untold<'_> {
 /// The captures whose clocks are asked for.
 #[derive(Clone, Copy)]
 pub struct Recorders<'a> {
-    a: Option<&'a str>,
-    b: Option<&'a str>,
+    a: Option<Paths<'a>>,
+    b: Option<Paths<'a>>,
     options: Options,
     network: Network,
     shift: Shift,
@@ -192,6 +193,8 @@ pub fn on_clocks<'a>(task: &AuditTask<'a>, known: Known) -> AuditTask<'a> {
     let (mut own, mut options) = (*task, task.options);
     if let Known::Ahead(_, ahead, _) = known {
         if let Some(delays) = delays_by(options.delays, ahead) {
+            let longer = delays.a.saturating_sub(options.delays.a);
+            own.early = own.early.saturating_add(longer);
             options.delays = delays;
             own.options = options;
         }
@@ -199,15 +202,24 @@ pub fn on_clocks<'a>(task: &AuditTask<'a>, known: Known) -> AuditTask<'a> {
     own
 }
 
-/// The path, where what it names can be read once alone, as a pipe.
-pub fn read_once<'a, R: Files>(rt: &R, path: Option<&'a str>) -> Option<&'a str> {
-    let path = path?;
-    let metadata = std::fs::metadata(rt, path).ok()?;
-    if metadata.is_file() || metadata.is_dir() {
-        None
-    } else {
-        Some(path)
+/// Whether what a path names can be read once alone, as a pipe.
+fn is_read_once<R: Files>(rt: &R, path: &str) -> bool {
+    match std::fs::metadata(rt, path) {
+        Ok(metadata) => !(metadata.is_file() || metadata.is_dir()),
+        Err(_) => false,
     }
+}
+
+/// The path of a file of a capture that can be read once alone, if there is one.
+pub fn read_once<'a, R: Files>(rt: &R, paths: Option<Paths<'a>>) -> Option<&'a str> {
+    let paths = paths?;
+    for place in 0..paths.count {
+        let path = paths.path(place)?;
+        if is_read_once(rt, path) {
+            return Some(path);
+        }
+    }
+    None
 }
 
 /// Why clocks that were asked for are not known.
@@ -239,7 +251,7 @@ pub fn tell_ahead<R: AllocGlobal + Eprint>(
 ) -> Result<(), Unknown> {
     let mut text = Vec::new(rt.alloc());
     if print_clocks(&mut text, Format::Text, line, ahead, pairs).is_err() {
-        tell_ended(rt, ScriptFault::NoMemory, false);
+        tell_other(rt, ScriptFault::NoMemory, false);
         return Err(Unknown::Fault);
     }
     if let Ok(told) = str::from_utf8(text.as_slice()) {
@@ -259,7 +271,7 @@ fn open_front<'a, R: AllocGlobal + Eprint + Files>(
         Ok(captures) => Ok(Some(captures)),
         Err(Ended::By(ScriptFault::File(_, _))) => Ok(None),
         Err(Ended::By(fault)) => {
-            tell_ended(rt, fault, false);
+            tell_other(rt, fault, false);
             Err(Unknown::Fault)
         }
         Err(Ended::Unopened) => Err(Unknown::Fault),
@@ -280,7 +292,7 @@ fn read_opened<'a, R: AllocGlobal + Eprint + Files>(
             Ok(Known::Nothing)
         }
         Err(fault) => {
-            tell_ended(rt, fault, false);
+            tell_other(rt, fault, false);
             Err(Unknown::Fault)
         }
     }

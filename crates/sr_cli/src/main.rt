@@ -1,15 +1,23 @@
 //! The program `seamless`: runs a script of events on a redundancy node.
 #![tactic(auto)]
 
+mod arguments;
 mod audit;
+mod bounds;
 mod clocks;
+mod dated;
+mod dates;
+mod files;
+mod joined;
 mod meanings;
 mod merge;
+mod order;
 mod pipes;
 mod progress;
 mod running;
 mod script;
 
+use arguments::tell_unread;
 use audit::run_audit;
 use merge::run_merge;
 use progress::Progress;
@@ -75,8 +83,12 @@ fn obey<R: AllocGlobal + Print + Eprint + Input + Files + RandomSource + Threads
 fn start<
     R: AllocGlobal + Print + Eprint + Input + Env + Files + RandomSource + Threads + Wait + Sync,
 >(rt: &R, progress: Progress) -> Result<(), u8> {
-    let Ok(args) = std::env::args(rt) else {
-        return Err(NOT_STARTED);
+    let args = match std::env::args(rt) {
+        Ok(args) => args,
+        Err(error) => {
+            tell_unread(rt, error.kind());
+            return Err(NOT_STARTED);
+        }
     };
     let Ok(words) = args.collect::<Vec<String>>(rt.alloc()) else {
         return Err(NOT_STARTED);

@@ -75,7 +75,7 @@ pub fn network_of(network: sr_options::Network) -> Network {
     }
 }
 
-/// What is audited.
+/// What is audited, at the times that are read.
 pub fn subject_of(task: &AuditTask<'_>) -> Subject {
     Subject {
         network: network_of(task.network),
@@ -83,6 +83,7 @@ pub fn subject_of(task: &AuditTask<'_>) -> Subject {
             sr_options::Ports::Two => Ports::Two,
             sr_options::Ports::Mirror => Ports::Mirror,
         },
+        clock: None,
     }
 }
 
@@ -95,13 +96,13 @@ pub fn lists_of(task: &AuditTask<'_>) -> Lists {
     }
 }
 
-/// How the lines of an audit are printed. None: a picture is drawn in their place.
+/// How the lines of an audit are printed. None: a picture is drawn, or a page written, in their place.
 pub fn lines_of(task: &AuditTask<'_>) -> Option<Format> {
     match task.format {
         sr_options::Format::Text => Some(Format::Text),
         sr_options::Format::Json => Some(Format::Json),
         sr_options::Format::Csv => Some(Format::Csv),
-        sr_options::Format::Svg => None,
+        sr_options::Format::Svg | sr_options::Format::Html => None,
     }
 }
 

@@ -3,14 +3,16 @@
 use crate::clocks::{
     Known, Unknown, Untold, recorders_of_merge, seek_clocks, tell_ahead, tell_untold,
 };
+use crate::files::{Opened, Sides, open_file};
 use crate::meanings::plan_of;
+use crate::order::check_order;
 use crate::pipes::Pipe;
 use crate::progress::Progress;
-use crate::script::{Opened, open_file, tell_ended};
+use crate::script::{tell_ended, tell_other};
 use sr_advice::letter_of;
 use sr_capture_merge::{Counts, merge};
 use sr_capture_script::{Captures, Inlet, ScriptFault};
-use sr_options::{MergeTask, Scope};
+use sr_options::{MergeTask, Paths, Scope};
 use sr_slots::Keys;
 use std::fs::File;
 use std::io::{self, BufWriter, Write};
@@ -29,18 +31,45 @@ fn is_one_file<R: Files>(rt: &R, path: &str, other: &str) -> bool {
     }
 }
 
-/// Whether the file that is to be written is the capture of an inlet, which is told then.
-fn is_capture<R: Eprint + Files>(rt: &R, inlet: Inlet, path: Option<&str>, out: &str) -> bool {
-    let Some(path) = path else {
+/// Whether a path leads to one of the files of a capture.
+fn is_one_of<R: Files>(rt: &R, paths: Paths<'_>, other: &str) -> bool {
+    for place in 0..paths.count {
+        if paths
+            .path(place)
+            .is_some_and(|path| is_one_file(rt, path, other))
+        {
+            return true;
+        }
+    }
+    false
+}
+
+/// Whether the file that is to be written is one of the capture of an inlet, which is told then.
+fn is_capture<R: Eprint + Files>(
+    rt: &R,
+    inlet: Inlet,
+    paths: Option<Paths<'_>>,
+    out: &str,
+) -> bool {
+    let Some(paths) = paths else {
         return false;
     };
-    if out == "-" || !is_one_file(rt, path, out) {
+    if out == "-" || !is_one_of(rt, paths, out) {
         return false;
     }
     let letter = letter_of(inlet);
     let _ = eprintln!(rt; "fault write");
     let _ = eprintln!(rt; "{out} is the capture of {letter}");
     true
+}
+
+/// The files of a merge.
+fn sides_of<'a>(task: &MergeTask<'a>) -> Sides<'a> {
+    Sides {
+        a: task.a,
+        b: task.b,
+        c: None,
+    }
 }
 
 /// Opens the captures. Standard error is told where that fails.
@@ -59,7 +88,7 @@ fn open<'a, R: AllocGlobal + Eprint + Files>(
     match Captures::open(rt.alloc(), a, b, None, &task.options) {
         Ok(captures) => Ok(captures),
         Err(fault) => {
-            tell_ended(rt, fault, false);
+            tell_ended(rt, &sides_of(task), fault, false);
             Err(())
         }
     }
@@ -110,7 +139,7 @@ fn merge_into<'a, R: AllocGlobal + Eprint + Files, W: Write + Drop>(
 ) -> Result<(), ()> {
     let Ok(mut writer) = BufWriter::with_capacity(rt.alloc(), WRITTEN_AT_ONCE, Pipe::new(out))
     else {
-        tell_ended(rt, ScriptFault::NoMemory, false);
+        tell_other(rt, ScriptFault::NoMemory, false);
         return Err(());
     };
     let choice = task.options.choice;
@@ -137,7 +166,7 @@ fn merge_into<'a, R: AllocGlobal + Eprint + Files, W: Write + Drop>(
             if let ScriptFault::File(_, _) = fault {
                 tell_counts(rt, task.scope, &counts);
             }
-            tell_ended(rt, fault, is_closed);
+            tell_ended(rt, &sides_of(task), fault, is_closed);
             Err(())
         }
     }
@@ -174,6 +203,9 @@ pub fn run_merge<R: AllocGlobal + Print + Eprint + Files + RandomSource>(
     if is_capture(rt, Inlet::A, task.a, task.out) || is_capture(rt, Inlet::B, task.b, task.out) {
         return Err(());
     }
+    let interfaces = task.options.interfaces;
+    check_order(rt, Inlet::A, task.a, interfaces.a, &task.options)?;
+    check_order(rt, Inlet::B, task.b, interfaces.b, &task.options)?;
     let Ok(task) = &on_known_clocks(rt, task, progress) else {
         return Err(());
     };

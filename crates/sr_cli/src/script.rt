@@ -3,80 +3,29 @@
 use crate::clocks::{
     Known, Unknown, Untold, recorders_of_script, seek_clocks, tell_ahead, tell_untold,
 };
+use crate::files::{Opened, Sides, open_file, shown_of, tell_file};
+use crate::order::check_order;
 use crate::pipes::{Pipe, Surveyed};
-use crate::progress::{Metered, Progress};
-use sr_advice::{FileFault, FileReason, Unopened, letter_of};
-use sr_capture::CaptureFault;
+use crate::progress::Progress;
+use sr_advice::{FileFault, letter_of};
 use sr_capture_script::{Inlet, ScriptFault, script};
-use sr_options::ScriptTask;
+use sr_options::{Paths, ScriptTask};
 use sr_pcapng::Wanted;
-use std::fs::File;
-use std::io::{self, BufReader, BufWriter, Write};
+use std::io::{self, BufWriter, Write};
 use std::rt::Files;
 
 /// The most lines that `replay` takes.
 const MAX_LINES: u64 = 1_000_000;
 
-/// Says what is wrong with a file: a line with the inlet, the word and the octet, and one that explains it.
-fn tell_file<R: Eprint>(rt: &R, inlet: Inlet, fault: CaptureFault) {
-    let told = FileFault { inlet, fault };
-    let reason = FileReason(fault.reason);
-    let _ = eprintln!(rt; "{told}");
-    let _ = eprintln!(rt; "{reason}");
-}
-
-/// Says why a file can't be opened.
-fn tell_unopened<R: Eprint>(rt: &R, letter: &str, unopened: Unopened<'_>) {
-    let _ = eprintln!(rt; "fault {letter} open 0");
-    let _ = eprintln!(rt; "{unopened}");
-}
-
-/// A file that is read ahead, and tells how far it was read.
-pub type Opened<'a, R> = BufReader<Metered<'a, <R as Files>::File, R>>;
-
-/// Opens the file of an inlet, if there is one. The error is the word for the fault, which standard error tells.
-pub fn open_file<'a, R: AllocGlobal + Eprint + Files>(
-    rt: &'a R,
-    inlet: Inlet,
-    path: Option<&str>,
-    wanted: Wanted,
-    progress: Progress,
-) -> Result<Option<Opened<'a, R>>, &'static str> {
-    let Some(path) = path else {
-        return Ok(None);
-    };
-    let letter = letter_of(inlet);
-    let file = match File::open(rt, path) {
-        Ok(file) => file,
-        Err(error) => {
-            let unopened = Unopened {
-                path,
-                wanted,
-                kind: error.kind(),
-            };
-            tell_unopened(rt, letter, unopened);
-            return Err("open");
-        }
-    };
-    let len = std::fs::metadata(rt, path).map_or(0, |metadata| metadata.len());
-    match BufReader::new(rt.alloc(), Metered::new(rt, file, letter, len, progress)) {
-        Ok(reader) => Ok(Some(reader)),
-        Err(_) => {
-            let _ = eprintln!(rt; "fault {letter} memory 0");
-            Err("memory")
-        }
-    }
-}
-
-/// Opens the file of an inlet for a script. Where that fails, the script is a comment that tells of it.
+/// Opens the files of an inlet for a script. Where that fails, the script is a comment that tells of it.
 fn open_for_script<'a, R: AllocGlobal + Print + Eprint + Files>(
     rt: &'a R,
     inlet: Inlet,
-    path: Option<&str>,
+    paths: Option<Paths<'_>>,
     wanted: Wanted,
     progress: Progress,
 ) -> Result<Option<Opened<'a, R>>, ()> {
-    match open_file(rt, inlet, path, wanted, progress) {
+    match open_file(rt, inlet, paths, wanted, progress) {
         Ok(opened) => Ok(opened),
         Err(word) => {
             let letter = letter_of(inlet);
@@ -95,10 +44,13 @@ fn tell_lines<R: Eprint>(rt: &R, lines: u64) {
     }
 }
 
-/// Says what ended going over captures early, but where nobody reads any more what is written.
-pub fn tell_ended<R: Eprint>(rt: &R, fault: ScriptFault, is_closed: bool) {
+/// Says what ended going over captures early, but where nobody reads any more what is written. It is no fault of a file.
+pub fn tell_other<R: Eprint>(rt: &R, fault: ScriptFault, is_closed: bool) {
     match fault {
-        ScriptFault::File(inlet, fault) => tell_file(rt, inlet, fault),
+        ScriptFault::File(inlet, fault) => {
+            let told = FileFault { inlet, fault };
+            let _ = eprintln!(rt; "{told}");
+        }
         ScriptFault::NoMemory => {
             let _ = eprintln!(rt; "fault memory");
         }
@@ -110,15 +62,51 @@ pub fn tell_ended<R: Eprint>(rt: &R, fault: ScriptFault, is_closed: bool) {
     }
 }
 
+/// Says what ended going over captures early, but where nobody reads any more what is written.
+pub fn tell_ended<R: Eprint + Files>(
+    rt: &R,
+    sides: &Sides<'_>,
+    fault: ScriptFault,
+    is_closed: bool,
+) {
+    match fault {
+        ScriptFault::File(inlet, fault) => tell_file(rt, sides.at(inlet), inlet, fault),
+        other => tell_other(rt, other, is_closed),
+    }
+}
+
 /// Says what ended a script early, but where nobody reads it any more. The fault of a file has a comment behind the lines that
 /// come before it, so that who reads the script knows of it.
-fn tell_fault<R: Eprint, W: Write>(rt: &R, fault: ScriptFault, is_closed: bool, writer: &mut W) {
+fn tell_fault<R: Eprint + Files, W: Write>(
+    rt: &R,
+    sides: &Sides<'_>,
+    fault: ScriptFault,
+    is_closed: bool,
+    writer: &mut W,
+) {
     if let ScriptFault::File(inlet, fault) = fault {
-        let told = FileFault { inlet, fault };
+        let told = shown_of(rt, sides.at(inlet), inlet, fault);
         let _ = writeln!(writer, "# {told}");
         let _ = writer.flush();
     }
-    tell_ended(rt, fault, is_closed);
+    tell_ended(rt, sides, fault, is_closed);
+}
+
+/// The files of a script.
+fn sides_of<'a>(task: &ScriptTask<'a>) -> Sides<'a> {
+    Sides {
+        a: task.a,
+        b: task.b,
+        c: task.c,
+    }
+}
+
+/// Says where the files of a capture are not named in the order of their times, which may be a fault.
+fn check_orders<R: AllocGlobal + Eprint + Files>(rt: &R, task: &ScriptTask<'_>) -> Result<(), ()> {
+    let interfaces = task.options.interfaces;
+    check_order(rt, Inlet::A, task.a, interfaces.a, &task.options)?;
+    check_order(rt, Inlet::B, task.b, interfaces.b, &task.options)?;
+    check_order(rt, Inlet::C, task.c, interfaces.c, &task.options)
 }
 
 /// The task by the clocks that are known, of which standard error is told.
@@ -156,6 +144,10 @@ pub fn run_script<R: AllocGlobal + Print + Eprint + Files>(
     task: &ScriptTask<'_>,
     progress: Progress,
 ) -> Result<(), ()> {
+    if check_orders(rt, task).is_err() {
+        let _ = println!(rt; "# fault order");
+        return Err(());
+    }
     let interfaces = task.options.interfaces;
     let a = open_for_script(rt, Inlet::A, task.a, interfaces.a, progress)?;
     let b = open_for_script(rt, Inlet::B, task.b, interfaces.b, progress)?;
@@ -187,6 +179,6 @@ pub fn run_script<R: AllocGlobal + Print + Eprint + Files>(
         Ok(()) => ScriptFault::Write,
         Err(fault) => fault,
     };
-    tell_fault(rt, fault, is_closed, &mut writer);
+    tell_fault(rt, &sides_of(task), fault, is_closed, &mut writer);
     Err(())
 }

@@ -10,6 +10,7 @@ use Rattle.sr_options.specs.declared.audit_line.Ports.{Ports}
 use Rattle.sr_options.specs.declared.audit_line.Ports.TheVariants as ports
 use Rattle.sr_options.specs.declared.coupled_line.Joins.TheVariants as joins
 use Rattle.sr_options.specs.declared.merge_line.MergeTask.{MergeTask}
+use Rattle.sr_options.specs.declared.page_words.PageWords.{PageWords}
 use Rattle.sr_options.specs.declared.plant_line.Shape.{Shape}
 use Rattle.sr_options.specs.declared.plant_line.Shape.TheVariants as shape
 use Rattle.sr_options.specs.declared.script_line.ScriptTask.{ScriptTask}
@@ -25,21 +26,31 @@ count_list false = 0
 abbrev pub count_lists : Lists → ℕ
 count_lists lists = count_list lists.lost + count_list lists.wrong + count_list lists.pairs
 
--- a table has place for one list, and a picture for none
+-- a table has place for one list, a picture and a page for none
 abbrev pub FitsFormat : Format → Lists → Type 0
 FitsFormat format.Text lists = ⊤
 FitsFormat format.Json lists = ⊤
 FitsFormat format.Csv lists = count_lists lists ≤ 1
 FitsFormat format.Svg lists = count_lists lists ≡ 0
+FitsFormat format.Html lists = count_lists lists ≡ 0
 
 -- the capture of a mirror port stands alone
 abbrev pub StandsAlone : {A : Type 0} → Ports → Option A → Type 0
 StandsAlone ports.Two b = ⊤
 StandsAlone ports.Mirror b = b ≡ None
 
+-- no words of a page are given
+abbrev pub AreNone : PageWords → Type 0
+AreNone words = (words.title ≡ None) × (words.note ≡ None) × (words.names ≡ None)
+
+-- a page alone has a place for them
+abbrev pub HasPlaceFor : Format → PageWords → Type 0
+HasPlaceFor format.Html words = ⊤
+HasPlaceFor other words = AreNone words
+
 -- what an audit keeps
 abbrev pub AuditKeepsRules : AuditTask → Type 0
-AuditKeepsRules t = FitsFormat t.format t.lists × StandsAlone t.ports t.b
+AuditKeepsRules t = FitsFormat t.format t.lists × StandsAlone t.ports t.b × HasPlaceFor t.format t.page
 
 -- ticks are at least a millisecond apart
 abbrev pub ScriptKeepsRules : ScriptTask → Type 0

@@ -29,7 +29,7 @@ fn from_pairs(text: &[u8], sign: u8) -> Option<Mac> {
 }
 
 /// The address that a word spells: 12 hexadecimal digits, or six pairs of them with colons or hyphens between them.
-pub(crate) fn mac_of(word: &str) -> Option<Mac> {
+pub fn mac_of(word: &str) -> Option<Mac> {
     let text = word.as_bytes();
     from_digits(text)
         .or_else(|| from_pairs(text, b':'))

@@ -1,13 +1,18 @@
 //! The words behind `seamless audit`.
 
 ghost use Rattle.std.specs.Prelude.{◌≡◌, IfOk, OnOk, Ok};
-ghost use Rattle.sr_options.specs.Tasks.{count_lists, FitsFormat, StandsAlone, AuditKeepsRules};
+ghost use Rattle.sr_options.specs.Tasks.{count_lists, FitsFormat, StandsAlone, HasPlaceFor, AuditKeepsRules};
 
 use crate::captures_line::{Network, network_of, options_of, with_reading};
 use crate::command_line::with_arg;
 use crate::examples;
 use crate::fault::OptionFault;
-use crate::script_line::{Capture, capture_of, is_same, option, with_option};
+use crate::merge_line::early_of;
+use crate::page_words::{PageWords, page_words_of, with_page_words};
+use crate::paths::Paths;
+use crate::script_line::{
+    Capture, capture_of, is_same, option, shift_a_of, shift_b_of, with_files, with_option,
+};
 use crate::shifts::{Shift, shift_in, with_clocks};
 use crate::words::Words;
 use clap::{Arg, ArgAction, ArgMatches, Command};
@@ -35,6 +40,17 @@ pub enum Format {
     Csv,
     /// A picture.
     Svg,
+    /// A page.
+    Html,
+}
+
+/// How times are told.
+#[derive(Clone, Copy, Debug, PartialEq, Eq)]
+pub enum Times {
+    /// In milliseconds from the earliest packet on.
+    Relative,
+    /// As times of day (UTC).
+    Utc,
 }
 
 /// Which lists of single frames are wanted.
@@ -64,13 +80,13 @@ impl Lists {
     }
 }
 
-/// What `seamless audit` is to do: a path for each side that has a capture, or that of a mirror port for A, and how.
+/// What `seamless audit` is to do: the files of each side that has a capture, or those of a mirror port for A, and how.
 #[derive(Clone, Copy, Debug)]
 pub struct AuditTask<'a> {
     /// The capture of LAN A, or of the mirror port.
-    pub a: Option<&'a str>,
+    pub a: Option<Paths<'a>>,
     /// The capture of LAN B.
-    pub b: Option<&'a str>,
+    pub b: Option<Paths<'a>>,
     /// How they are read.
     pub options: Options,
     /// How frames have their numbers.
@@ -83,6 +99,12 @@ pub struct AuditTask<'a> {
     pub lists: Lists,
     /// How it is printed.
     pub format: Format,
+    /// How times are told.
+    pub times: Times,
+    /// What a page has besides what the captures tell.
+    pub page: PageWords<'a>,
+    /// How much less than nothing the least shift is, in nanoseconds: so much the times of all packets are put off.
+    pub early: u64,
     /// Whether the status tells of faults of the network.
     pub is_check: bool,
     /// Whether the recorders see all frames of their LANs.
@@ -102,11 +124,11 @@ pub(crate) fn audit_command<'a>(
             .about(about)
             .after_help(examples::AUDIT),
     );
-    let a = "The capture of LAN A; FILE:N is interface N of a pcapng file";
-    let command = with_option(alloc, command, "a", "FILE[:N]", a);
-    let command = with_option(alloc, command, "b", "FILE[:N]", "The capture of LAN B");
+    let a = "The capture of LAN A, in one file or several; FILE:N is interface N of a pcapng file";
+    let command = with_files(alloc, command, "a", a);
+    let command = with_files(alloc, command, "b", "The capture of LAN B");
     let mirror = "The capture of a mirror port, which sees both LANs";
-    let command = with_option(alloc, command, "mirror", "FILE[:N]", mirror);
+    let command = with_files(alloc, command, "mirror", mirror);
     let command = with_reading(alloc, command, words);
     let command = with_clocks(alloc, command);
     let list = "Lists single frames: lost, wrong, pairs, or several, joined by commas";
@@ -115,6 +137,15 @@ pub(crate) fn audit_command<'a>(
         .default_value("text")
         .value_parser(words.formats.as_slice());
     let command = with_arg(command, format);
+    let time = option(
+        alloc,
+        "time",
+        "HOW",
+        "How times are told, where not from the earliest packet on",
+    )
+    .value_parser(words.times.as_slice());
+    let command = with_arg(command, time);
+    let command = with_page_words(alloc, command);
     let check = Arg::new(alloc, "check")
         .long("check")
         .action(ArgAction::SetTrue)
@@ -169,7 +200,17 @@ fn format_of(matches: &ArgMatches<'_>) -> Format {
         Some("json") => Format::Json,
         Some("csv") => Format::Csv,
         Some("svg") => Format::Svg,
+        Some("html") => Format::Html,
         _ => Format::Text,
+    }
+}
+
+/// How times are told, which a table and a picture have no place for.
+fn times_of(matches: &ArgMatches<'_>, format: Format) -> Result<Times, OptionFault> {
+    match (matches.get_str("time"), format) {
+        (None, _) => Ok(Times::Relative),
+        (Some(_), Format::Text | Format::Json) => Ok(Times::Utc),
+        _ => Err(OptionFault::Time),
     }
 }
 
@@ -185,20 +226,28 @@ fn ports_of(matches: &ArgMatches<'_>) -> Result<Ports, OptionFault> {
 }
 
 /// The capture of side A, or of the mirror port.
-fn first_capture_of<'a>(matches: &ArgMatches<'a>, ports: Ports) -> Capture<'a> {
+fn first_capture_of<'a>(
+    matches: &ArgMatches<'a>,
+    words: &'a [String],
+    ports: Ports,
+) -> Result<Capture<'a>, OptionFault> {
     match ports {
-        Ports::Two => capture_of(matches, "a"),
-        Ports::Mirror => capture_of(matches, "mirror"),
+        Ports::Two => capture_of(matches, words, "a", "--a"),
+        Ports::Mirror => capture_of(matches, words, "mirror", "--mirror"),
     }
 }
 
 /// The capture of side B. A mirror port has none.
-fn second_capture_of<'a>(matches: &ArgMatches<'a>, ports: Ports) -> Capture<'a>
-    ensures { StandsAlone ports result.path }
+fn second_capture_of<'a>(
+    matches: &ArgMatches<'a>,
+    words: &'a [String],
+    ports: Ports,
+) -> Result<Capture<'a>, OptionFault>
+    ensures { IfOk result (λ capture. StandsAlone ports capture.paths) }
 {
     match ports {
-        Ports::Two => capture_of(matches, "b"),
-        Ports::Mirror => Capture::none(),
+        Ports::Two => capture_of(matches, words, "b", "--b"),
+        Ports::Mirror => Ok(Capture::none()),
     }
 }
 
@@ -210,17 +259,21 @@ fn place(format: Format, lists: Lists) -> Result<(), OptionFault>
     match format {
         Format::Csv if lists.count() > 1 => Err(OptionFault::Table),
         Format::Svg if lists.count() > 0 => Err(OptionFault::Picture),
+        Format::Html if lists.count() > 0 => Err(OptionFault::Listed),
         _ => Ok(()),
     }
 }
 
 /// What the subcommand is to do.
-pub(crate) fn audit_task<'a>(matches: &ArgMatches<'a>) -> Result<AuditTask<'a>, OptionFault>
+pub(crate) fn audit_task<'a>(
+    matches: &ArgMatches<'a>,
+    words: &'a [String],
+) -> Result<AuditTask<'a>, OptionFault>
     ensures { IfOk result (λ task. AuditKeepsRules task) }
 {
     let ports = ports_of(matches)?;
-    let a = first_capture_of(matches, ports);
-    let b = second_capture_of(matches, ports);
+    let a = first_capture_of(matches, words, ports)?;
+    let b = second_capture_of(matches, words, ports)?;
     let interfaces = Interfaces {
         a: a.wanted,
         b: b.wanted,
@@ -230,15 +283,21 @@ pub(crate) fn audit_task<'a>(matches: &ArgMatches<'a>) -> Result<AuditTask<'a>, 
     let format = format_of(matches);
     let lists = lists_of(matches)?;
     place(format, lists)?;
+    let times = times_of(matches, format)?;
+    let page = page_words_of(matches, format)?;
+    let early = early_of(shift_a_of(matches)?, shift_b_of(matches)?);
     Ok(AuditTask {
-        a: a.path,
-        b: b.path,
+        a: a.paths,
+        b: b.paths,
         options,
         network: network_of(matches),
         ports,
         shift: shift_in(matches),
         lists,
         format,
+        times,
+        page,
+        early,
         is_check: matches.get_flag("check"),
         is_complete: matches.get_flag("complete"),
         is_same: is_same(matches),

@@ -19,7 +19,10 @@ use clap::{Arg, ArgGroup, ArgMatches, Command, Error};
 use std::alloc::{AllocError, Global};
 
 /// The version of the program, that of CHANGELOG.md.
-const VERSION: &str = "0.5.0";
+const VERSION: &str = "0.6.0";
+
+/// The version of the program.
+pub const PROGRAM_VERSION: &str = VERSION;
 
 /// The group of the options that name captures.
 const CAPTURES: &str = "captures";
@@ -111,23 +114,26 @@ fn command<'a>(alloc: Global, words: &'a Words<'a>) -> Result<Command<'a>, Alloc
 }
 
 /// What a subcommand over captures asks for, if these are the words of one.
-fn captures_task_in<'a>(matches: &ArgMatches<'a>) -> Result<Option<Task<'a>>, OptionFault>
+fn captures_task_in<'a>(
+    matches: &ArgMatches<'a>,
+    words: &'a [String],
+) -> Result<Option<Task<'a>>, OptionFault>
     ensures { IfOk result (λ found. IfSome found (λ task. KeepsRules task)) }
 {
     if let Some(script) = matches.subcommand_matches("script") {
-        return match script_task(script) {
+        return match script_task(script, words) {
             Ok(task) => Ok(Some(Task::Script(task))),
             Err(fault) => Err(fault),
         };
     }
     if let Some(audit) = matches.subcommand_matches("audit") {
-        return match audit_task(audit) {
+        return match audit_task(audit, words) {
             Ok(task) => Ok(Some(Task::Audit(task))),
             Err(fault) => Err(fault),
         };
     }
     if let Some(merge) = matches.subcommand_matches("merge") {
-        return match merge_task(merge) {
+        return match merge_task(merge, words) {
             Ok(task) => Ok(Some(Task::Merge(task))),
             Err(fault) => Err(fault),
         };
@@ -180,10 +186,10 @@ fn node_task_in<'a>(matches: &ArgMatches<'a>) -> Option<Task<'a>>
 }
 
 /// What the words that the parser let through ask for.
-fn task_in<'a>(matches: &ArgMatches<'a>) -> Result<Task<'a>, Refused>
+fn task_in<'a>(matches: &ArgMatches<'a>, words: &'a [String]) -> Result<Task<'a>, Refused>
     ensures { IfOk result (λ task. KeepsRules task) }
 {
-    match captures_task_in(matches) {
+    match captures_task_in(matches, words) {
         Ok(Some(task)) => return Ok(task),
         Ok(None) => {}
         Err(fault) => return Err(Refused::Option(fault)),
@@ -222,7 +228,7 @@ pub fn task_of<'a>(
     ensures { IfOk result (λ task. KeepsRules task) }
 {
     match command(alloc, known)?.try_get_matches_from(words) {
-        Ok(matches) => task_in(&matches),
+        Ok(matches) => task_in(&matches, words),
         Err(error) => Err(refused_by(words, error)),
     }
 }

@@ -23,12 +23,20 @@ pub enum OptionFault {
     NoCaptures,
     /// The capture of a mirror port beside those of LANs.
     Mirror,
+    /// The files of a capture are of several interfaces.
+    Interfaces,
+    /// Times of day in a table or a picture.
+    Time,
     /// A word of `--list` is the name of no list, or there are too many.
     List,
     /// More than one list in one table.
     Table,
     /// A list where a picture is drawn.
     Picture,
+    /// A list where a page is written.
+    Listed,
+    /// Words of a page in another format.
+    Page,
     /// More joins than a ring has nodes less one.
     Joins,
     /// A picture of a run on threads.
@@ -49,9 +57,13 @@ impl OptionFault {
             OptionFault::NoFiles => "files",
             OptionFault::NoCaptures => "captures",
             OptionFault::Mirror => "mirror",
+            OptionFault::Interfaces => "interface",
+            OptionFault::Time => "time",
             OptionFault::List => "list",
             OptionFault::Table => "table",
             OptionFault::Picture => "picture",
+            OptionFault::Listed => "list",
+            OptionFault::Page => "page",
             OptionFault::Joins => "joins",
             OptionFault::Drawn => "format",
         }
@@ -70,9 +82,14 @@ impl OptionFault {
             OptionFault::NoCaptures =>
                 "give a capture at least: --a FILE or --b FILE, or --mirror FILE",
             OptionFault::Mirror => "--mirror FILE stands alone: without --a and --b",
+            OptionFault::Interfaces =>
+                "the files of a capture are read as one: name the same interface of each, as FILE:N",
+            OptionFault::Time => "--time utc is for --format text and json",
             OptionFault::List => "--list takes lost, wrong and pairs, joined by commas",
             OptionFault::Table => "--format csv prints one table: name one list",
             OptionFault::Picture => "--format svg draws a picture: it takes no list",
+            OptionFault::Listed => "--format html writes a page: it takes no list",
+            OptionFault::Page => "--title, --note and --names are for --format html",
             OptionFault::Joins =>
                 "a link joins a box of each ring, and a ring has more nodes than boxes: --joins is less than --left and --right",
             OptionFault::Drawn => "--format svg draws a run by steps: it takes no --turns",

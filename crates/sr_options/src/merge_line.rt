@@ -7,6 +7,7 @@ use crate::captures_line::{Network, network_of, options_of, with_reading};
 use crate::command_line::with_arg;
 use crate::examples;
 use crate::fault::OptionFault;
+use crate::paths::Paths;
 use crate::script_line::{capture_of, option, shift_a_of, shift_b_of};
 use crate::shifts::{Shift, set_back, shift_in, with_clocks};
 use crate::words::Words;
@@ -33,13 +34,13 @@ pub enum Scope {
     Lost,
 }
 
-/// What `seamless merge` is to do: a path for each side, that of the file that is written, and how.
+/// What `seamless merge` is to do: the files of each side, that of the file that is written, and how.
 #[derive(Clone, Copy, Debug)]
 pub struct MergeTask<'a> {
     /// The capture of LAN A.
-    pub a: Option<&'a str>,
+    pub a: Option<Paths<'a>>,
     /// The capture of LAN B.
-    pub b: Option<&'a str>,
+    pub b: Option<Paths<'a>>,
     /// The file that is written; `-` is standard output.
     pub out: &'a str,
     /// How the captures are read.
@@ -93,10 +94,11 @@ pub(crate) fn merge_command<'a>(
             .about(about)
             .after_help(examples::MERGE),
     );
-    let a = "The capture of LAN A; FILE:N is interface N of a pcapng file";
-    let command = with_arg(command, required(alloc, "a", "FILE[:N]", a));
-    let b = "The capture of LAN B";
-    let command = with_arg(command, required(alloc, "b", "FILE[:N]", b));
+    let a = "The capture of LAN A, in one file or several; FILE:N is interface N of a pcapng file";
+    let a = required(alloc, "a", "FILE[:N]", a).action(ArgAction::Append);
+    let command = with_arg(command, a);
+    let b = required(alloc, "b", "FILE[:N]", "The capture of LAN B").action(ArgAction::Append);
+    let command = with_arg(command, b);
     let write = "The pcapng file that is written; - is standard output";
     let write = required(alloc, "write", "FILE", write).short('w');
     let command = with_arg(command, write);
@@ -114,7 +116,7 @@ pub(crate) fn merge_command<'a>(
 }
 
 /// What is shifted back: how much less than nothing the least shift is, in nanoseconds.
-fn early_of(shift_a: i64, shift_b: i64) -> u64 {
+pub(crate) fn early_of(shift_a: i64, shift_b: i64) -> u64 {
     shift_a.min(shift_b).saturating_neg().max(0).unsigned_abs()
 }
 
@@ -137,9 +139,12 @@ fn scope_of(matches: &ArgMatches<'_>) -> Scope {
 }
 
 /// What the subcommand is to do.
-pub(crate) fn merge_task<'a>(matches: &ArgMatches<'a>) -> Result<MergeTask<'a>, OptionFault> {
-    let a = capture_of(matches, "a");
-    let b = capture_of(matches, "b");
+pub(crate) fn merge_task<'a>(
+    matches: &ArgMatches<'a>,
+    words: &'a [String],
+) -> Result<MergeTask<'a>, OptionFault> {
+    let a = capture_of(matches, words, "a", "--a")?;
+    let b = capture_of(matches, words, "b", "--b")?;
     let interfaces = Interfaces {
         a: a.wanted,
         b: b.wanted,
@@ -148,8 +153,8 @@ pub(crate) fn merge_task<'a>(matches: &ArgMatches<'a>) -> Result<MergeTask<'a>, 
     let options = options_of(matches, interfaces)?;
     let early = early_of(shift_a_of(matches)?, shift_b_of(matches)?);
     Ok(MergeTask {
-        a: a.path,
-        b: b.path,
+        a: a.paths,
+        b: b.paths,
         out: matches.get_str("write").unwrap_or("-"),
         options,
         network: network_of(matches),

@@ -8,22 +8,23 @@ use crate::captures_line::{Network, network_of, with_network};
 use crate::command_line::{with_arg, with_captures};
 use crate::examples;
 use crate::fault::OptionFault;
+use crate::paths::Paths;
 use crate::shifts::{Shift, delays_in, nanoseconds_of, set_back, shift_in, with_clocks};
 use crate::words::Words;
-use clap::{Arg, ArgMatches, Command};
+use clap::{Arg, ArgAction, ArgMatches, Command};
 use sr_capture_script::{Choice, Delays, Interfaces, Options};
 use sr_pcapng::Wanted;
 use std::alloc::{AllocError, Global};
 
-/// What `seamless script` is to do: a path for each inlet that has a file, and how.
+/// What `seamless script` is to do: the files of each inlet that has some, and how.
 #[derive(Clone, Copy, Debug)]
 pub struct ScriptTask<'a> {
-    /// The file of inlet A.
-    pub a: Option<&'a str>,
-    /// That of inlet B.
-    pub b: Option<&'a str>,
-    /// That of inlet C.
-    pub c: Option<&'a str>,
+    /// The files of inlet A.
+    pub a: Option<Paths<'a>>,
+    /// Those of inlet B.
+    pub b: Option<Paths<'a>>,
+    /// Those of inlet C.
+    pub c: Option<Paths<'a>>,
     /// How the script is made.
     pub options: Options,
     /// How frames have their numbers, by which clocks are told.
@@ -71,6 +72,17 @@ pub(crate) fn with_option<'a>(
     with_arg(command, option(alloc, name, value, help))
 }
 
+/// A command with one more option that names the files of a capture, if it was made. It may stand several times.
+pub(crate) fn with_files<'a>(
+    alloc: Global,
+    command: Result<Command<'a>, AllocError>,
+    name: &'a str,
+    help: &'a str,
+) -> Result<Command<'a>, AllocError> {
+    let files = option(alloc, name, "FILE[:N]", help).action(ArgAction::Append);
+    with_arg(command, files)
+}
+
 /// A command with the shift of a file more, if it was made. One that is negative may have a unit.
 pub(crate) fn with_shift<'a>(
     alloc: Global,
@@ -95,16 +107,10 @@ pub(crate) fn script_command<'a>(
             .about(about)
             .after_help(examples::SCRIPT),
     );
-    let a = "The capture of LAN A; FILE:N is interface N of a pcapng file";
-    let command = with_option(alloc, command, "a", "FILE[:N]", a);
-    let command = with_option(alloc, command, "b", "FILE[:N]", "The capture of LAN B");
-    let command = with_option(
-        alloc,
-        command,
-        "c",
-        "FILE[:N]",
-        "The capture of the interlink",
-    );
+    let a = "The capture of LAN A, in one file or several; FILE:N is interface N of a pcapng file";
+    let command = with_files(alloc, command, "a", a);
+    let command = with_files(alloc, command, "b", "The capture of LAN B");
+    let command = with_files(alloc, command, "c", "The capture of the interlink");
     let command = with_network(alloc, command, words);
     let shift = "What is added to the times of A: milliseconds, or 0.3ms, 300us, 5s";
     let command = with_shift(alloc, command, "shift-a", shift);
@@ -125,52 +131,44 @@ pub(crate) fn script_command<'a>(
     with_captures(alloc, command, ["a", "b", "c"].as_slice())
 }
 
-/// A file, and which of its interfaces is wanted.
+/// The files of a capture, and which of their interfaces is wanted.
 #[derive(Clone, Copy)]
 pub(crate) struct Capture<'a> {
-    pub path: Option<&'a str>,
+    pub paths: Option<Paths<'a>>,
     pub wanted: Wanted,
 }
 
 impl<'a> Capture<'a> {
     /// None is given.
     pub(crate) fn none() -> Capture<'a>
-        ensures { result.path ≡ None }
+        ensures { result.paths ≡ None }
     {
         Capture {
-            path: None,
+            paths: None,
             wanted: Wanted::Only,
         }
     }
 }
 
-/// The file and the interface that a word names: a colon and digits at its end are an interface's number.
-fn capture_named(word: &str) -> Capture<'_> {
-    let whole = Capture {
-        path: Some(word),
-        wanted: Wanted::Only,
-    };
-    let Some((path, digits)) = word.rsplit_once(':') else {
-        return whole;
-    };
-    if !digits.bytes().all(|octet| octet.is_ascii_digit()) {
-        return whole;
+/// The files of an option that may be left out. It is named with and without its hyphens.
+///
+/// # Errors
+/// `Interfaces` where they are not of one interface.
+pub(crate) fn capture_of<'a>(
+    matches: &ArgMatches<'a>,
+    words: &'a [String],
+    name: &'static str,
+    option: &'static str,
+) -> Result<Capture<'a>, OptionFault> {
+    let count = matches.get_strs(name).map_or(0, |values| values.len());
+    if count == 0 {
+        return Ok(Capture::none());
     }
-    match digits.parse::<u32>() {
-        Ok(number) => Capture {
-            path: Some(path),
-            wanted: Wanted::Number(number),
-        },
-        Err(_) => whole,
-    }
-}
-
-/// The file of an option that may be left out.
-pub(crate) fn capture_of<'a>(matches: &ArgMatches<'a>, name: &'static str) -> Capture<'a> {
-    match matches.get_str(name) {
-        Some(word) => capture_named(word),
-        None => Capture::none(),
-    }
+    let paths = Paths::new(words, option, count);
+    Ok(Capture {
+        paths: Some(paths),
+        wanted: paths.wanted()?,
+    })
 }
 
 /// The number of an option that may be left out; else this fault.
@@ -259,25 +257,28 @@ fn script_options_of(
 
 /// Whether A and B have one capture.
 pub(crate) fn is_same(matches: &ArgMatches<'_>) -> bool {
-    matches.contains_id("a") && matches.get_str("a") == matches.get_str("b")
+    matches.contains_id("a") && matches.get_strs("a") == matches.get_strs("b")
 }
 
 /// What the subcommand is to do.
-pub(crate) fn script_task<'a>(matches: &ArgMatches<'a>) -> Result<ScriptTask<'a>, OptionFault>
+pub(crate) fn script_task<'a>(
+    matches: &ArgMatches<'a>,
+    words: &'a [String],
+) -> Result<ScriptTask<'a>, OptionFault>
     ensures { IfOk result (λ task. ScriptKeepsRules task) }
 {
-    let a = capture_of(matches, "a");
-    let b = capture_of(matches, "b");
-    let c = capture_of(matches, "c");
+    let a = capture_of(matches, words, "a", "--a")?;
+    let b = capture_of(matches, words, "b", "--b")?;
+    let c = capture_of(matches, words, "c", "--c")?;
     let interfaces = Interfaces {
         a: a.wanted,
         b: b.wanted,
         c: c.wanted,
     };
     Ok(ScriptTask {
-        a: a.path,
-        b: b.path,
-        c: c.path,
+        a: a.paths,
+        b: b.paths,
+        c: c.paths,
         options: script_options_of(matches, interfaces)?,
         network: network_of(matches),
         shift: shift_in(matches),

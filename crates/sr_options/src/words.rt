@@ -10,8 +10,9 @@ pub struct Words<'a> {
     pub(crate) modes: [PossibleValue<'a>; 2],
     pub(crate) windows: [PossibleValue<'a>; 2],
     pub(crate) networks: [PossibleValue<'a>; 2],
-    pub(crate) formats: [PossibleValue<'a>; 4],
+    pub(crate) formats: [PossibleValue<'a>; 5],
     pub(crate) scopes: [PossibleValue<'a>; 1],
+    pub(crate) times: [PossibleValue<'a>; 1],
 }
 
 /// The words of `--role`.
@@ -50,12 +51,15 @@ fn network_words<'a>() -> [PossibleValue<'a>; 2] {
 }
 
 /// The words of `--format`.
-fn format_words<'a>() -> [PossibleValue<'a>; 4] {
+fn format_words<'a>() -> [PossibleValue<'a>; 5] {
     [
         PossibleValue::new("text").help("a line for each capture and source: words and numbers"),
         PossibleValue::new("json").help("the same lines, each an object"),
         PossibleValue::new("csv").help("a table of the sources, or of what --list names"),
         PossibleValue::new("svg").help("a picture: skew against time, and what was lost"),
+        PossibleValue::new("html").help(
+            "a page to hand in: the verdict, what it stands on, and all figures",
+        ),
     ]
 }
 
@@ -73,6 +77,9 @@ impl<'a> Words<'a> {
             networks: network_words(),
             formats: format_words(),
             scopes: [PossibleValue::new("lost").help("those that have a comment")],
+            times: [PossibleValue::new("utc").help(
+                "by times of day, as 2026-11-30T00:52:13.123456Z",
+            )],
         }
     }
 }

@@ -4,6 +4,7 @@ use crate::audit::Ended;
 use crate::clocks::Known;
 use sr_capture_audit::{Judgement, Reason, Report};
 use sr_capture_script::ScriptFault;
+use sr_sources::Sources;
 use sr_verdict::{Outside, Verdict, reason_in, status_of, verdicts_of};
 
 /// Why nothing can be judged of captures whose clocks can't be told, or of a ring where each has both ways.
@@ -30,10 +31,12 @@ fn outside_of(known: Known, are_both_ways: bool) -> Outside {
 pub fn judge<R: AllocGlobal>(
     rt: &R,
     report: &Report,
+    sources: &Sources,
     known: Known,
     are_both_ways: bool,
 ) -> Result<Vec<Verdict>, Ended> {
-    match verdicts_of(rt.alloc(), report, outside_of(known, are_both_ways)) {
+    let outside = outside_of(known, are_both_ways);
+    match verdicts_of(rt.alloc(), report, sources, outside) {
         Ok(verdicts) => Ok(verdicts),
         Err(_) => Err(Ended::By(ScriptFault::NoMemory)),
     }

@@ -1,18 +1,21 @@
-//! What an audit writes to standard output: what is told of the network, the figures, and lists or a picture.
+//! What an audit writes to standard output: what is told of the network, the figures, and lists, or a picture or a page.
 
 use crate::audit::Ended;
-use crate::audit::passes::{Times, open};
+use crate::audit::drawn::draw;
+use crate::audit::page::print_page;
+use crate::audit::passes::{Times, open, read_flows};
 use crate::audit::streams::write_streams;
+use crate::audit::subjects::subject_at;
 use crate::clocks::Known;
-use crate::meanings::{lines_of, lists_of, subject_of};
+use crate::meanings::{lines_of, lists_of};
 use crate::progress::Progress;
-use sr_audit::{LISTED_AT_ONCE, MAX_SOURCES, Spans};
-use sr_capture_audit::{
-    Format, Report, Summary, print_clocks, print_lists, print_picture_recorded,
-};
+use sr_audit::{LISTED_AT_ONCE, MAX_SOURCES};
+use sr_capture_audit::{Format, Report, Summary, print_clocks, print_lists};
 use sr_capture_script::ScriptFault;
+use sr_capture_sources::print_nodes;
 use sr_options::AuditTask;
 use sr_slots::Keys;
+use sr_sources::Sources;
 use sr_verdict::{Verdict, print_verdicts};
 use std::io::Write;
 use std::rt::Files;
@@ -22,19 +25,21 @@ fn print_lists_from<R: AllocGlobal + Eprint + Files, W: Write>(
     rt: &R,
     task: &AuditTask<'_>,
     keys: Keys,
-    spans: Spans,
+    times: Times,
     first: usize,
     format: Format,
     writer: &mut W,
 ) -> Result<(), Ended> {
+    let flows = read_flows(rt, task, keys, times)?;
     let mut captures = open(rt, task, Progress::Silent)?;
     print_lists(
         rt.alloc(),
         keys,
         &mut captures,
         &task.options.choice,
-        subject_of(task),
-        spans,
+        subject_at(task, times),
+        times.judged,
+        flows,
         first,
         lists_of(task),
         format,
@@ -48,7 +53,7 @@ fn print_all_lists<R: AllocGlobal + Eprint + Files, W: Write>(
     rt: &R,
     task: &AuditTask<'_>,
     keys: Keys,
-    spans: Spans,
+    times: Times,
     sources: usize,
     format: Format,
     writer: &mut W,
@@ -59,96 +64,60 @@ fn print_all_lists<R: AllocGlobal + Eprint + Files, W: Write>(
     for part in 0..MAX_SOURCES / LISTED_AT_ONCE {
         let first = part * LISTED_AT_ONCE;
         if first == 0 || first < sources {
-            print_lists_from(rt, task, keys, spans, first, format, writer)?;
+            print_lists_from(rt, task, keys, times, first, format, writer)?;
         }
     }
     Ok(())
 }
 
-/// Writes what is known of the clocks, unless a table or a picture is wanted in its place.
-fn write_clocks<W: Write>(task: &AuditTask<'_>, known: Known, writer: &mut W) -> Result<(), Ended> {
-    if let (Known::Ahead(line, ahead, pairs), Some(format)) = (known, lines_of(task)) {
+/// Writes what is known of the clocks.
+fn write_clocks<W: Write>(format: Format, known: Known, writer: &mut W) -> Result<(), Ended> {
+    if let Known::Ahead(line, ahead, pairs) = known {
         print_clocks(writer, format, line, ahead, pairs)?;
     }
     Ok(())
 }
 
-/// Writes what is told of the network, unless a table or a picture is wanted in its place.
-fn write_verdicts<W: Write>(
-    task: &AuditTask<'_>,
-    verdicts: &[Verdict],
-    writer: &mut W,
-) -> Result<(), Ended> {
-    if let Some(format) = lines_of(task) {
-        print_verdicts(writer, format, verdicts)?;
-    }
-    Ok(())
-}
-
-/// Writes the figures, unless a table or a picture is wanted in their place, and lets them go, so that lists find room.
+/// Writes the figures, unless a table of a list is wanted in their place, and lets them go, so that lists find room.
 fn write_figures<W: Write>(
     task: &AuditTask<'_>,
+    format: Format,
     times: Times,
     report: Report,
     writer: &mut W,
 ) -> Result<(), Ended> {
-    match lines_of(task) {
-        Some(Format::Csv) if lists_of(task).is_some() => {}
-        Some(format) => report.print_recorded(writer, format, &times.recorded)?,
-        None => {}
+    if format != Format::Csv || !lists_of(task).is_some() {
+        report.print_recorded(writer, format, &times.recorded)?;
     }
     Ok(())
 }
 
-/// Draws the captures, by a pass of its own.
-fn draw<R: AllocGlobal + Eprint + Files, W: Write>(
+/// Writes what is told of the network, the clocks, the streams and the sources, figures and lists. A table is that of the list that is wanted, if one
+/// is.
+fn write_lines<R: AllocGlobal + Eprint + Files, W: Write>(
     rt: &R,
     task: &AuditTask<'_>,
     keys: Keys,
+    known: Known,
     times: Times,
-    writer: &mut W,
-) -> Result<(), Ended> {
-    let mut captures = open(rt, task, Progress::Silent)?;
-    print_picture_recorded(
-        rt.alloc(),
-        keys,
-        &mut captures,
-        &task.options.choice,
-        subject_of(task),
-        times.recorded,
-        times.judged,
-        writer,
-    )?;
-    Ok(())
-}
-
-/// Writes the lists and the end of the figures, or the picture.
-fn write_rest<R: AllocGlobal + Eprint + Files, W: Write>(
-    rt: &R,
-    task: &AuditTask<'_>,
-    keys: Keys,
-    times: Times,
+    report: Report,
     summary: &Summary,
+    sources: &Sources,
+    verdicts: &[Verdict],
+    format: Format,
     writer: &mut W,
 ) -> Result<(), Ended> {
-    let Some(format) = lines_of(task) else {
-        return draw(rt, task, keys, times, writer);
-    };
-    print_all_lists(
-        rt,
-        task,
-        keys,
-        times.judged,
-        summary.sources,
-        format,
-        writer,
-    )?;
+    print_verdicts(writer, format, verdicts)?;
+    write_clocks(format, known, writer)?;
+    write_figures(task, format, times, report, writer)?;
+    write_streams(rt, task, writer)?;
+    print_nodes(writer, format, sources)?;
+    print_all_lists(rt, task, keys, times, summary.sources, format, writer)?;
     summary.print_end(writer, format)?;
     Ok(())
 }
 
-/// Writes all that is wanted: what is told of the network, figures and lists, or a picture. A table is that of the list that is wanted, if
-/// one is.
+/// Writes all that is wanted: lines, or a picture or a page in their place.
 pub fn write_all<R: AllocGlobal + Eprint + Files, W: Write>(
     rt: &R,
     task: &AuditTask<'_>,
@@ -157,14 +126,19 @@ pub fn write_all<R: AllocGlobal + Eprint + Files, W: Write>(
     times: Times,
     report: Report,
     summary: &Summary,
+    sources: &Sources,
     verdicts: &[Verdict],
     writer: &mut W,
 ) -> Result<(), Ended> {
-    write_verdicts(task, verdicts, writer)?;
-    write_clocks(task, known, writer)?;
-    write_figures(task, times, report, writer)?;
-    write_streams(rt, task, writer)?;
-    write_rest(rt, task, keys, times, summary, writer)?;
+    match lines_of(task) {
+        Some(format) => write_lines(
+            rt, task, keys, known, times, report, summary, sources, verdicts, format, writer,
+        )?,
+        None if task.format == sr_options::Format::Html => print_page(
+            rt, task, known, times, report, summary, verdicts, writer,
+        )?,
+        None => draw(rt, task, keys, times, report, writer)?,
+    }
     match writer.flush() {
         Ok(()) => Ok(()),
         Err(_) => Err(Ended::By(ScriptFault::Write)),

@@ -1,0 +1,91 @@
+//! What an audit draws in place of lines: a picture.
+
+use crate::audit::Ended;
+use crate::audit::passes::{Times, open, read_flows};
+use crate::audit::subjects::subject_at;
+use crate::progress::Progress;
+use sr_audit::LISTED_AT_ONCE;
+use sr_audit_charts::{Kept, MAX_CHARTS, SourceLine, lines_in, print_picture, rank, times_of};
+use sr_capture_audit::{Report, tell_fates};
+use sr_capture_script::ScriptFault;
+use sr_options::AuditTask;
+use sr_slots::Keys;
+use std::io::Write;
+use std::rt::Files;
+
+/// Has what is kept take the frames of the sources from one on, by a pass of its own. The answer is how many sources there are.
+fn trace_from<R: AllocGlobal + Eprint + Files>(
+    rt: &R,
+    task: &AuditTask<'_>,
+    keys: Keys,
+    times: Times,
+    first: usize,
+    kept: &mut Kept,
+) -> Result<usize, Ended> {
+    let flows = read_flows(rt, task, keys, times)?;
+    let mut captures = open(rt, task, Progress::Silent)?;
+    Ok(tell_fates(
+        rt.alloc(),
+        keys,
+        &mut captures,
+        &task.options.choice,
+        subject_at(task, times),
+        times.judged,
+        flows,
+        first,
+        kept,
+    )?)
+}
+
+/// Has what is kept take the frames of all sources: those of so many at a time as memory allows.
+pub fn trace<R: AllocGlobal + Eprint + Files>(
+    rt: &R,
+    task: &AuditTask<'_>,
+    keys: Keys,
+    times: Times,
+    kept: &mut Kept,
+) -> Result<(), Ended> {
+    let sources = trace_from(rt, task, keys, times, 0, kept)?;
+    if sources > LISTED_AT_ONCE {
+        trace_from(rt, task, keys, times, LISTED_AT_ONCE, kept)?;
+    }
+    kept.close()?;
+    Ok(())
+}
+
+/// What is told of the sources, the worst first. The figures are let go, so that what is drawn finds room.
+pub fn ranked<R: AllocGlobal>(rt: &R, report: Report) -> Result<Vec<SourceLine>, Ended> {
+    let lines = match lines_in(rt.alloc(), &report) {
+        Ok(lines) => lines,
+        Err(_) => return Err(Ended::By(ScriptFault::NoMemory)),
+    };
+    let mut lines = lines;
+    match rank(&mut lines) {
+        Ok(()) => Ok(lines),
+        Err(_) => Err(Ended::By(ScriptFault::NoMemory)),
+    }
+}
+
+/// Draws the picture of the worst sources.
+pub fn draw<R: AllocGlobal + Eprint + Files, W: Write>(
+    rt: &R,
+    task: &AuditTask<'_>,
+    keys: Keys,
+    times: Times,
+    report: Report,
+    writer: &mut W,
+) -> Result<(), Ended> {
+    let lines = ranked(rt, report)?;
+    let mut kept = match Kept::new(
+        rt.alloc(),
+        times_of(times.recorded),
+        lines.as_slice(),
+        MAX_CHARTS,
+    ) {
+        Ok(kept) => kept,
+        Err(_) => return Err(Ended::By(ScriptFault::NoMemory)),
+    };
+    trace(rt, task, keys, times, &mut kept)?;
+    print_picture(writer, lines.as_slice(), &kept)?;
+    Ok(())
+}

@@ -1,0 +1,27 @@
+//! The sources in the captures of an audit, by their frames.
+
+use crate::audit::Ended;
+use crate::audit::passes::open;
+use crate::meanings::subject_of;
+use crate::progress::Progress;
+use sr_capture_sources::sources_of;
+use sr_options::AuditTask;
+use sr_slots::Keys;
+use sr_sources::Sources;
+use std::rt::Files;
+
+/// What frames and supervision tell of the sources, by a pass of its own.
+pub fn read_nodes<R: AllocGlobal + Eprint + Files>(
+    rt: &R,
+    task: &AuditTask<'_>,
+    keys: Keys,
+) -> Result<Sources, Ended> {
+    let mut captures = open(rt, task, Progress::Silent)?;
+    Ok(sources_of(
+        rt.alloc(),
+        keys,
+        &mut captures,
+        &task.options.choice,
+        subject_of(task),
+    )?)
+}

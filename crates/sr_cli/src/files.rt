@@ -1,0 +1,308 @@
+//! The files of captures: opened as one, and what is wrong with one of them.
+
+use crate::bounds::{HEAD_LEN, Kind, compression_of, kind_of};
+use crate::joined::{Joined, Part, flaw_of};
+use crate::progress::{Metered, Progress};
+use sr_advice::{FileFault, FileReason, NoInterface, Unopened, letter_of};
+use sr_capture::{CaptureFault, Reason};
+use sr_capture_script::Inlet;
+use sr_options::Paths;
+use sr_pcapng::Wanted;
+use std::fs::File;
+use std::io::{BufReader, Read};
+use std::rt::Files;
+
+/// The files of a capture, read ahead as one, which tell how far they were read.
+pub type Opened<'a, R> = BufReader<Metered<'a, Joined<<R as Files>::File>, R>>;
+
+/// Opens a file. The error is the word for the fault, which standard error tells.
+fn open_path<R: Eprint + Files>(
+    rt: &R,
+    letter: &'static str,
+    path: &str,
+    wanted: Wanted,
+) -> Result<Part<R::File>, &'static str> {
+    match File::open(rt, path) {
+        Ok(file) => Ok(Part::new(file)),
+        Err(error) => {
+            let unopened = Unopened {
+                path,
+                wanted,
+                kind: error.kind(),
+            };
+            let _ = eprintln!(rt; "fault {letter} open 0");
+            let _ = eprintln!(rt; "{unopened}");
+            Err("open")
+        }
+    }
+}
+
+/// Reads the front of one of several files, which has to go on where that before it ends. The error is the word for the fault, which
+/// standard error tells.
+fn look_at<R: Eprint + Files>(
+    rt: &R,
+    letter: &'static str,
+    path: &str,
+    joined: &Joined<R::File>,
+    part: &mut Part<R::File>,
+) -> Result<(), &'static str> {
+    if part.look().is_err() {
+        let _ = eprintln!(rt; "fault {letter} read 0");
+        let _ = eprintln!(rt; "{path}: the file can not be read");
+        return Err("read");
+    }
+    let Some(first) = joined.first_head() else {
+        return Ok(());
+    };
+    match flaw_of(first, part.head()) {
+        None => Ok(()),
+        Some(flaw) => {
+            let _ = eprintln!(rt; "fault {letter} format 0");
+            let _ = eprintln!(rt; "{path}: {flaw}");
+            Err("format")
+        }
+    }
+}
+
+/// Whether a file is a pcap file, which has one interface, as its front is read ahead. Where it can't be read that is told later.
+fn is_pcap<F: Read>(part: &mut Part<F>) -> bool {
+    match part.look() {
+        Ok(()) => matches!(kind_of(part.head()), Kind::LittlePcap | Kind::BigPcap),
+        Err(_) => false,
+    }
+}
+
+/// Refuses the number of an interface that a pcap file does not have. The error is the word for the fault, which standard error tells.
+fn check_interface<R: Eprint, F: Read>(
+    rt: &R,
+    letter: &'static str,
+    path: &str,
+    wanted: Wanted,
+    part: &mut Part<F>,
+) -> Result<(), &'static str> {
+    let Wanted::Number(number) = wanted else {
+        return Ok(());
+    };
+    if number == 0 || !is_pcap(part) {
+        return Ok(());
+    }
+    let unknown = NoInterface { path, number };
+    let _ = eprintln!(rt; "fault {letter} format 0");
+    let _ = eprintln!(rt; "{unknown}");
+    Err("format")
+}
+
+/// Says that an allocation failed for a capture. The answer is the word for it.
+fn tell_no_memory<R: Eprint>(rt: &R, letter: &str) -> &'static str {
+    let _ = eprintln!(rt; "fault {letter} memory 0");
+    "memory"
+}
+
+/// Opens the files of a capture, one behind the other. The error is the word for the fault, which standard error tells.
+fn open_all<R: AllocGlobal + Eprint + Files>(
+    rt: &R,
+    letter: &'static str,
+    paths: Paths<'_>,
+    wanted: Wanted,
+) -> Result<Joined<R::File>, &'static str> {
+    let mut joined = Joined::new(rt.alloc(), paths.most);
+    for place in 0..paths.count {
+        let Some(path) = paths.path(place) else {
+            break;
+        };
+        let mut part = open_path(rt, letter, path, wanted)?;
+        check_interface(rt, letter, path, wanted, &mut part)?;
+        if paths.count > 1 {
+            look_at(rt, letter, path, &joined, &mut part)?;
+        }
+        if joined.push(part).is_err() {
+            return Err(tell_no_memory(rt, letter));
+        }
+    }
+    Ok(joined)
+}
+
+/// How many octets a file has. None: that can't be told.
+pub fn size_of<R: Files>(rt: &R, path: &str) -> Option<u64> {
+    match std::fs::metadata(rt, path) {
+        Ok(metadata) => Some(metadata.len()),
+        Err(_) => None,
+    }
+}
+
+/// How many octets a file has, as far as can be told.
+fn len_of<R: Files>(rt: &R, path: &str) -> u64 {
+    std::fs::metadata(rt, path).map_or(0, |metadata| metadata.len())
+}
+
+/// How many octets the files of a capture have.
+fn total_of<R: Files>(rt: &R, paths: Paths<'_>) -> u64 {
+    let mut total: u64 = 0;
+    for place in 0..paths.count {
+        if let Some(path) = paths.path(place) {
+            total = total.saturating_add(len_of(rt, path));
+        }
+    }
+    total.min(paths.most)
+}
+
+/// Opens the files of an inlet, if there are some. The error is the word for the fault, which standard error tells.
+pub fn open_file<'a, R: AllocGlobal + Eprint + Files>(
+    rt: &'a R,
+    inlet: Inlet,
+    paths: Option<Paths<'_>>,
+    wanted: Wanted,
+    progress: Progress,
+) -> Result<Option<Opened<'a, R>>, &'static str> {
+    let Some(paths) = paths else {
+        return Ok(None);
+    };
+    let letter = letter_of(inlet);
+    let joined = open_all(rt, letter, paths, wanted)?;
+    let metered = Metered::new(rt, joined, letter, total_of(rt, paths), progress);
+    match BufReader::new(rt.alloc(), metered) {
+        Ok(reader) => Ok(Some(reader)),
+        Err(_) => Err(tell_no_memory(rt, letter)),
+    }
+}
+
+/// The front of a file, as far as it can be read.
+fn front_of<R: Files>(rt: &R, path: &str) -> ([u8; HEAD_LEN], usize) {
+    let mut front = [0; HEAD_LEN];
+    if let Ok(file) = File::open(rt, path) {
+        let mut part = Part::new(file);
+        if part.look().is_ok() {
+            let len = part.head().len();
+            for (place, octet) in front.iter_mut().zip(part.head().iter()) {
+                *place = *octet;
+            }
+            return (front, len);
+        }
+    }
+    (front, 0)
+}
+
+/// The files of the captures, by their inlets.
+#[derive(Clone, Copy)]
+pub struct Sides<'a> {
+    /// Those of inlet A.
+    pub a: Option<Paths<'a>>,
+    /// Those of inlet B.
+    pub b: Option<Paths<'a>>,
+    /// Those of inlet C.
+    pub c: Option<Paths<'a>>,
+}
+
+impl<'a> Sides<'a> {
+    /// Those of an inlet.
+    pub fn at(&self, inlet: Inlet) -> Option<Paths<'a>> {
+        match inlet {
+            Inlet::A => self.a,
+            Inlet::B => self.b,
+            Inlet::C => self.c,
+        }
+    }
+}
+
+/// Where an octet of a capture is: the file of it, and the octet there.
+#[derive(Clone, Copy)]
+struct Spot<'a> {
+    path: &'a str,
+    at: u64,
+}
+
+/// Where an octet of a capture of several files is. None: it is in one of which can't be told how long it is.
+fn spot_of<'a, R: Files>(rt: &R, paths: Paths<'a>, at: u64) -> Option<Spot<'a>> {
+    let again = match kind_of(front_of(rt, paths.path(0)?).0.as_slice()) {
+        Kind::Other => 0,
+        kind => kind.again_len() as u64,
+    };
+    let mut left = at;
+    for place in 0..paths.count {
+        let path = paths.path(place)?;
+        let skipped = if place == 0 { 0 } else { again };
+        let metadata = std::fs::metadata(rt, path).ok()?;
+        if !metadata.is_file() {
+            return None;
+        }
+        let len = metadata.len().saturating_sub(skipped);
+        if left < len || place.saturating_add(1) == paths.count {
+            return Some(Spot {
+                path,
+                at: left.saturating_add(skipped),
+            });
+        }
+        left -= len;
+    }
+    None
+}
+
+/// What a file has to be done to, where it is no capture since a tool compressed it.
+fn compression_in<R: Files>(
+    rt: &R,
+    path: Option<&str>,
+    fault: CaptureFault,
+) -> Option<&'static str> {
+    if fault.reason != Reason::Unknown || fault.at > 0 {
+        return None;
+    }
+    let (front, _) = front_of(rt, path?);
+    compression_of(front.as_slice())
+}
+
+/// The fault of a capture as it is told: at an octet of one of its files, which has a name where there are several.
+fn told_of<'a, R: Files>(
+    rt: &R,
+    paths: Option<Paths<'a>>,
+    fault: CaptureFault,
+) -> (CaptureFault, Option<&'a str>) {
+    let Some(paths) = paths else {
+        return (fault, None);
+    };
+    if paths.count < 2 {
+        return (fault, None);
+    }
+    match spot_of(rt, paths, fault.at) {
+        Some(spot) => (
+            CaptureFault {
+                at: spot.at,
+                ..fault
+            },
+            Some(spot.path),
+        ),
+        None => (fault, None),
+    }
+}
+
+/// The fault of the files of an inlet, as it is shown: at an octet of one of them.
+pub fn shown_of<R: Files>(
+    rt: &R,
+    paths: Option<Paths<'_>>,
+    inlet: Inlet,
+    fault: CaptureFault,
+) -> FileFault {
+    let (fault, _) = told_of(rt, paths, fault);
+    FileFault { inlet, fault }
+}
+
+/// Says what is wrong with the files of an inlet: a line with the inlet, the word and the octet, and one that explains it.
+pub fn tell_file<R: Eprint + Files>(
+    rt: &R,
+    paths: Option<Paths<'_>>,
+    inlet: Inlet,
+    fault: CaptureFault,
+) {
+    let (fault, name) = told_of(rt, paths, fault);
+    let told = FileFault { inlet, fault };
+    let _ = eprintln!(rt; "{told}");
+    if let Some(path) = name {
+        let _ = eprint!(rt; "{path}: ");
+    }
+    let path = name.or(paths.and_then(|paths| paths.path(0)));
+    if let Some(compression) = compression_in(rt, path, fault) {
+        let _ = eprintln!(rt; "{compression}");
+    } else {
+        let reason = FileReason(fault.reason);
+        let _ = eprintln!(rt; "{reason}");
+    }
+}
