@@ -22,12 +22,12 @@ pub extern "C" fn seamless_abi() -> u32
 }
 
 /// The version of the library: 10000 for the first number, 100 for the second, 1 for the third.
-const VERSION: u32 = 500;
+const VERSION: u32 = 600;
 
 /// The version of the library.
 #[unsafe(no_mangle)]
 pub extern "C" fn seamless_version() -> u32
-    ensures { result ≡ 500 }
+    ensures { result ≡ 600 }
 {
     VERSION
 }

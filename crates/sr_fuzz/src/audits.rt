@@ -4,9 +4,10 @@ use crate::digest::Digest;
 use crate::files::{Files, digest_of, files_of, options_of};
 use crate::sink::Sink;
 use sr_audit::Spans;
+use sr_audit_charts::{Kept, MAX_CHARTS, lines_in, print_picture, rank, times_of};
 use sr_capture_audit::{
     Format, Lists, Network, Ports, Report, Subject, Summary, figures_of, hint_of, print_lists,
-    print_picture, spans_of,
+    spans_of, tell_fates,
 };
 use sr_capture_script::{Captures, Options, ScriptFault};
 use sr_slots::Keys;
@@ -98,23 +99,31 @@ fn put_summary(digest: &mut Digest, audited: &Audited<'_>, summary: &Summary) {
     digest.put_octet(u8::from(hint_of(network, &counts.of_mirror()).is_some()));
 }
 
-/// Draws the picture.
+/// Draws the picture of the first sources that are listed at once.
 fn draw(
     alloc: Global,
     audited: &Audited<'_>,
     spans: Spans,
+    report: Report,
     sink: &mut Sink,
 ) -> Result<(), ScriptFault> {
+    let mut lines = lines_in(alloc, &report)?;
+    rank(&mut lines)?;
+    let mut kept = Kept::new(alloc, times_of(spans), lines.as_slice(), MAX_CHARTS)?;
     let mut captures = open(alloc, audited)?;
-    print_picture(
+    tell_fates(
         alloc,
         audited.keys,
         &mut captures,
         &audited.options.choice,
         audited.subject,
         spans,
-        sink,
-    )
+        None,
+        0,
+        &mut kept,
+    )?;
+    kept.close()?;
+    print_picture(sink, lines.as_slice(), &kept)
 }
 
 /// Prints the lists of the first sources.
@@ -133,6 +142,7 @@ fn list(
         &audited.options.choice,
         audited.subject,
         spans,
+        None,
         0,
         audited.lists,
         format,
@@ -147,7 +157,7 @@ fn tell(alloc: Global, audited: &Audited<'_>, sink: &mut Sink) -> Result<(), Scr
     let summary = report.summary();
     put_summary(&mut sink.digest, audited, &summary);
     let Some(format) = audited.format else {
-        return draw(alloc, audited, spans, sink);
+        return draw(alloc, audited, spans, report, sink);
     };
     report.print(sink, format)?;
     if audited.lists.is_some() {
@@ -164,6 +174,7 @@ impl<'a> Audited<'a> {
             options: options_of(choice),
             keys: Keys::FIXED,
             subject: Subject {
+                clock: None,
                 network: network_of(kind),
                 ports: ports_of(kind),
             },

@@ -1,27 +1,27 @@
 //! The table.
-ghost use Rattle.std.specs.Prelude.{◌≡◌, ◌↔◌, ◌&&◌, ◌+◌, ◌≤◌, ◌⊎◌, [], ◌++◌, ◌∷◌, true, false, Some, None, length, is_some, IsOk, OnOk, OnErr, IfOk, IfSome, IfNone, unwrap_or};
+
+mod hearing;
+
+ghost use Rattle.std.specs.Prelude.{◌≡◌, ◌↔◌, ◌&&◌, ◌+◌, ◌≤◌, [], ◌++◌, true, length, is_some, IsOk, OnOk, OnErr, IfOk, IfSome, unwrap_or};
 ghost use Rattle.std.specs.Option.{option_copied};
 ghost use Rattle.std.specs.List.{cons_option};
 ghost use Rattle.std.specs.Map.{lookup};
 ghost use Rattle.sr_frame.specs.Addresses.{mac_eq};
 ghost use Rattle.sr_slots.specs.Places.{KeepsHeld, KeepsHeldBut};
 ghost use Rattle.sr_node_table.specs.Limits.{most_nodes};
-ghost use Rattle.sr_node_table.specs.Nodes.{hearing_of, entry_after, learnt_again, live_others, downs_of, raised, is_held, answer_to, after_hearing, announcement, empty_table};
-ghost use Rattle.sr_node_table.specs.Observing.{ObservesNode};
+ghost use Rattle.sr_node_table.specs.Nodes.{live_others, is_held, empty_table};
 ghost use Rattle.sr_node_table.specs.Watching.{after_prune};
 ghost use Rattle.sr_node_table.specs.Stating.{live_entry, has_at, status_at, listed_at, live_mac};
 
 use crate::alarm::{Alarm, copy_of};
 use crate::late::LatePorts;
-use crate::node::{Announced, Node, Told, begun, is_live, observe};
+use crate::node::{Node, is_live};
 use crate::status::{Status, status_of};
-use crate::watching::{finds_same, raise_downs, watch};
+use crate::watching::{finds_same, watch};
 use circular_buffer::HeapCircularBuffer;
 use sr_aged_slots::{Aged, AgedSlots};
-use sr_frame::{LearnOutcome, Mac, NoMemory, Port};
-use sr_sequence::Seq;
+use sr_frame::{Mac, NoMemory};
 use sr_slots::{Hint, Iter, Keys};
-use sr_supervision::Supervision;
 use std::alloc::{AllocError, Global};
 use std::marker::Model;
 use std::mem;
@@ -265,166 +265,6 @@ impl NodeTable {
         ensures held { self.new.held ≡ [] }
     {
         self.nodes.release();
-    }
-
-    /// Hears a numbered frame of a node at a ring port, A or B. Full: 1024 other nodes are live, and nothing is kept.
-    /// NoMemory: an allocation for a new node failed. Either way nothing changes.
-    pub fn heard(
-        &mut self,
-        mac: Mac,
-        port: Port,
-        seq: Seq,
-        now: u64,
-    ) -> Result<LearnOutcome, NoMemory>
-        requires ring { (port ≡ Port.A) ⊎ (port ≡ Port.B) }
-        ensures { ObservesNode self.old (hearing_of mac port (Told.Numbered seq) now) result
-            self.new }
-    {
-        self.heard_at(None, mac, port, seq, now)
-    }
-
-    /// What `heard` does, where the entry of the node is looked for first where a hint says. It hears a numbered frame of a node at a
-    /// ring port, A or B. Full and NoMemory: as `heard`.
-    // speed: D-node-one-look
-    #[inline(always)]
-    pub fn heard_at(
-        &mut self,
-        hint: Option<Hint>,
-        mac: Mac,
-        port: Port,
-        seq: Seq,
-        now: u64,
-    ) -> Result<LearnOutcome, NoMemory>
-        requires ring { (port ≡ Port.A) ⊎ (port ≡ Port.B) }
-        ensures { ObservesNode self.old (hearing_of mac port (Told.Numbered seq) now) result
-            self.new }
-    {
-        self.observe(hint, mac, port, Told::Numbered(seq), now)
-    }
-
-    /// Takes up what a supervision frame that came in at a ring port, A or B, says of a node.
-    /// Full and NoMemory: as `heard`.
-    pub fn announce(
-        &mut self,
-        supervision: &Supervision,
-        port: Port,
-        now: u64,
-    ) -> Result<LearnOutcome, NoMemory>
-        requires ring { (port ≡ Port.A) ⊎ (port ≡ Port.B) }
-        ensures { ObservesNode self.old (announcement supervision.now port now) result self.new }
-    {
-        self.announce_at(None, supervision, port, now)
-    }
-
-    /// What `announce` does, where the entry of the node is looked for first where a hint says. It takes up what a supervision frame
-    /// that came in at a ring port, A or B, says of a node. Full and NoMemory: as `heard`.
-    pub fn announce_at(
-        &mut self,
-        hint: Option<Hint>,
-        supervision: &Supervision,
-        port: Port,
-        now: u64,
-    ) -> Result<LearnOutcome, NoMemory>
-        requires ring { (port ≡ Port.A) ⊎ (port ≡ Port.B) }
-        ensures { ObservesNode self.old (announcement supervision.now port now) result self.new }
-    {
-        let announced = Announced {
-            life: supervision.life,
-            redbox: supervision.redbox,
-        };
-        self.observe(hint, supervision.mac, port, Told::Announces(announced), now)
-    }
-
-    // A hearing of a node at a ring port.
-    fn observe(
-        &mut self,
-        hint: Option<Hint>,
-        mac: Mac,
-        port: Port,
-        told: Told,
-        now: u64,
-    ) -> Result<LearnOutcome, NoMemory>
-        ensures { ObservesNode self.old (hearing_of mac port told now) result self.new }
-    {
-        match self.observe_again(hint, mac, port, told, now) {
-            Some(answer) => Ok(answer),
-            None => self.begin(mac, port, told, now),
-        }
-    }
-
-    // A hearing of a node that has an entry, forgotten or not.
-    fn observe_again(
-        &mut self,
-        hint: Option<Hint>,
-        mac: Mac,
-        port: Port,
-        told: Told,
-        now: u64,
-    ) -> Option<LearnOutcome>
-        ensures few { length self.old.table.entries ≤ most_nodes }
-        ensures found { is_some result ≡ is_some (lookup (mac_eq mac) self.old.table.entries) }
-        ensures answer { IfSome result (λ learnt.
-            learnt ≡ answer_to self.old.table (hearing_of mac port told now)) }
-        ensures after { IfSome result (λ learnt.
-            self.new.table ≡ after_hearing self.old.table (hearing_of mac port told now)) }
-        ensures others { IfSome result (λ learnt. KeepsHeld self.old.held self.new.held mac) }
-        ensures used { IfSome result (λ learnt. is_held self.new mac ≡ false) }
-        ensures none { IfNone result (self.new ≡ self.old) }
-    {
-        let answer = self.nodes.update_at(
-            hint,
-            mac,
-            |entry: &mut Aged<Node>| -> LearnOutcome
-                ensures after { entry.new ≡ entry_after entry.old port told now }
-                ensures answer { result ≡ learnt_again now entry.old }
-            { observe(entry, port, told, now) },
-        )?;
-        Some(answer)
-    }
-
-    // The first hearing of a node that has no entry.
-    fn begin(
-        &mut self,
-        mac: Mac,
-        port: Port,
-        told: Told,
-        now: u64,
-    ) -> Result<LearnOutcome, NoMemory>
-        requires absent { lookup (mac_eq mac) self.old.table.entries ≡ None }
-        ensures answer { IfOk result (λ learnt.
-            learnt ≡ answer_to self.old.table (hearing_of mac port told now)) }
-        ensures after { OnOk result (self.new.table
-            ≡ after_hearing self.old.table (hearing_of mac port told now)) }
-        ensures full { answer_to self.old.table (hearing_of mac port told now) ≡ LearnOutcome.Full
-            → result ≡ Ok LearnOutcome.Full }
-        ensures nothing { result ≡ Ok LearnOutcome.Full → self.new ≡ self.old }
-        ensures reserved { is_held self.old mac ≡ true → IsOk result }
-        ensures held { OnOk result (KeepsHeld self.old.held self.new.held mac) }
-        ensures used { IfOk result (λ learnt.
-            ¬ (learnt ≡ LearnOutcome.Full) → is_held self.new mac ≡ false) }
-        ensures err { OnErr result (self.new ≡ self.old) }
-    {
-        if self.nodes.is_full_now(now) {
-            return Ok(LearnOutcome::Full);
-        }
-        self.nodes.hold(mac)?;
-        self.raise_downs(now);
-        self.nodes.append(mac, begun(port, told, now), now)?;
-        Ok(LearnOutcome::New)
-    }
-
-    // Raises the alarms of the nodes that a full table is about to let go.
-    fn raise_downs(&mut self, now: u64)
-        ensures table { self.new.table ≡ record self.old.table {
-          alarms = raised
-              self.old.table.alarms (downs_of now self.old.table.entries);
-        } }
-        ensures held { self.new.held ≡ self.old.held }
-    {
-        let _room = self.alarms.capacity();
-        if self.nodes.len() >= MAX_NODES {
-            raise_downs(&self.nodes, &mut self.alarms, now);
-        }
     }
 
     /// Takes the nodes out that were silent for 60000 ms or more, and answers how many. Raises the alarms, entry by entry, and

@@ -3,10 +3,11 @@
 
 ghost use Rattle.std.specs.Prelude.{◌≡◌};
 
+use super::flood_tally::{NOTHING, Tally};
 use super::frames::{EVERYONE, OWN, plain_from, tagged_from};
 use sr_forwarding::{Framing, HsrFraming, Parcel, PlainFraming, ReadFault, Role};
 use sr_frame::{Frame, Mac, Port};
-use sr_node::{Answer, Event, NodeOf, StepFault};
+use sr_node::{Answer, Event, NodeOf};
 use sr_ports::{EnterFault, Log, Pass, Passes, Settlement, SharedNode, Worker, enter, settle};
 use sr_redbox::SanBox;
 use std::alloc::Global;
@@ -65,48 +66,6 @@ fn parcel_of(alloc: Global, port: Port, kind: Kind, seq: u16) -> Result<Parcel, 
         Port::B => HsrFraming { path: 1 }.decode(alloc, &tagged_from(source, OWN, 1, seq)),
         Port::C => PlainFraming.decode(alloc, &plain_from(source, OWN)),
         _ => HsrFraming { path: 0 }.decode(alloc, &tagged_from(source, OWN, 0, seq)),
-    }
-}
-
-// What came of the frames of a flood.
-#[derive(Clone, Copy)]
-struct Tally {
-    entered: u64,
-    table_full: u64,
-    host_full: u64,
-    // Other refusals, a failed allocation apart.
-    other: u64,
-    // Parcels that were taken out.
-    taken: u64,
-}
-
-const NOTHING: Tally = Tally {
-    entered: 0,
-    table_full: 0,
-    host_full: 0,
-    other: 0,
-    taken: 0,
-};
-
-fn more(count: &mut u64) {
-    *count = count.saturating_add(1);
-}
-
-impl Tally {
-    // Whether the flood was one: frames were refused, for want of a place in the table and of one at the host alone.
-    fn is_flood(&self) -> bool {
-        self.table_full > 0 && self.host_full > 0 && self.other == 0
-    }
-
-    fn note(&mut self, outcome: Result<bool, EnterFault>) {
-        match outcome {
-            Ok(true) => more(&mut self.taken),
-            Ok(false) => more(&mut self.entered),
-            Err(EnterFault::Step(StepFault::TableFull)) => more(&mut self.table_full),
-            Err(EnterFault::Step(StepFault::OutboxFull(Port::H))) => more(&mut self.host_full),
-            Err(EnterFault::Step(StepFault::NoMemory)) => {}
-            Err(_) => more(&mut self.other),
-        }
     }
 }
 

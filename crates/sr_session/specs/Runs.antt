@@ -78,15 +78,16 @@ WritesPart d t number left held now =
 
 -- What is held grew by the whole text that is next, which is not empty, and was not passed on. Of the lines that the reader gave it is the
 -- last that has a text.
-abbrev pub WritesLast : {S : Type 0} → Dialogue S → S → ℕ → List (List ℕ) → Option (List ℕ) → Option (List ℕ) → Option (List ℕ) → Type 0
+abbrev pub WritesLast : {S : Type 0} → Dialogue S → S → ℕ → List (List ℕ)
+    → Option (List ℕ) → Option (List ℕ) → Option (List ℕ) → Type 0
 WritesLast d t number [] rest held now = (text : List ℕ) × Appends held now text × (text ≢ []) × d.Ends t text
 WritesLast d t number (line ∷ lines) rest held now = (text : List ℕ) × (u : _) × Appends held now text × (text ≢ [])
     × d.Replied t number line text u × AreSilent d u (number + 1) lines rest
 
 -- What is held stays. Where a write failed it grew by a part of what was to be written next; or by all of it, where all that waited was
 -- taken, and the writer could not pass it on.
-abbrev pub HeldSince : {S : Type 0} → Dialogue S → S → ℕ → FaultKind → List (List ℕ) → Option (List ℕ) → Option (List ℕ) → Option (List ℕ)
-    → Type 0
+abbrev pub HeldSince : {S : Type 0} → Dialogue S → S → ℕ → FaultKind → List (List ℕ)
+    → Option (List ℕ) → Option (List ℕ) → Option (List ℕ) → Type 0
 HeldSince d t number kind.Line left rest held now = Keeps held now
 HeldSince d t number kind.Long left rest held now = Keeps held now
 HeldSince d t number kind.Read left rest held now = Keeps held now
@@ -108,7 +109,8 @@ pub record EndsFrom {S : Type 0} (d : Dialogue S) (start : S) (first : ℕ) (lin
   pub reason : HasFault d reached fault.line fault.kind left rest
 
 -- the same of a whole run, whose first line is line 1
-abbrev pub EndsAt : {S : Type 0} → Dialogue S → S → List (List ℕ) → Fault → Option (List ℕ) → Option (List ℕ) → Option (List ℕ) → Type 0
+abbrev pub EndsAt : {S : Type 0} → Dialogue S → S → List (List ℕ) → Fault
+    → Option (List ℕ) → Option (List ℕ) → Option (List ℕ) → Type 0
 EndsAt d start lines fault rest held now = EndsFrom d start 1 lines fault rest held now
 
 -- an allocation failed before the first line was read

@@ -6,7 +6,7 @@ use Rattle.sr_session.specs.declared.fault.Fault.{Fault}
 use Rattle.sr_session.specs.declared.fault.FaultKind.{FaultKind}
 use Rattle.sr_session.specs.declared.fault.FaultKind.TheVariants as kind
 use Rattle.sr_session.specs.declared.waiting.Mark.{Mark}
-use Rattle.sr_session.specs.declared.running.Front.{Front}
+use Rattle.sr_session.specs.declared.fronts.Front.{Front}
 use Rattle.sr_session.specs.Limits.{most_lines}
 use Rattle.sr_session.specs.Lines.{lines_of, IsOneOf, TakesLine}
 use Rattle.sr_session.specs.Runs.{Dialogue, HasPlace, Replies}
@@ -71,15 +71,15 @@ pub record IsFront {S : Type 0} (d : Dialogue S) (s : S) (first : ℕ) (octets t
   pub stops : StopsSo d reached front.next (drop front.used octets) line front.fault t
 
 -- lines, of which the first has this number, were taken and answered, and n is the number behind them
-abbrev pub AreObeyed : {S : Type 0} → Dialogue S → S → ℕ → ℕ → Option (List ℕ) → Option (List ℕ) → Option (List ℕ) → Option (List ℕ) → S →
-    Type 0
+abbrev pub AreObeyed : {S : Type 0} → Dialogue S → S → ℕ → ℕ
+    → Option (List ℕ) → Option (List ℕ) → Option (List ℕ) → Option (List ℕ) → S → Type 0
 AreObeyed d s first n left rest held now t = (lines : List (List ℕ)) × (text : List ℕ) × TakesLines lines left rest
     × Replies d s first lines text t
     × (n ≡ first + length lines) × Appends held now text
 
 -- a line was read and answered, or none was left
-abbrev pub Turned : {S : Type 0} → Dialogue S → Bool → ℕ → Option (List ℕ) → Option (List ℕ) → Option (List ℕ) → Option (List ℕ) → S → S →
-    Type 0
+abbrev pub Turned : {S : Type 0} → Dialogue S → Bool → ℕ
+    → Option (List ℕ) → Option (List ℕ) → Option (List ℕ) → Option (List ℕ) → S → S → Type 0
 Turned d true number left rest held now s t = AreObeyed d s number (number + 1) left rest held now t
 Turned d false number left rest held now s t = (line : List ℕ) × TakesLine false line left rest × Keeps held now × (t ≡ s)
 

@@ -2,6 +2,7 @@
 #![tactic(auto)]
 
 mod fault;
+mod fronts;
 mod lines;
 mod running;
 mod session;

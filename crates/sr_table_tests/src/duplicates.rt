@@ -1,26 +1,12 @@
 //! Duplicate records by source: times, edges and limits.
 
-ghost use Rattle.std.specs.Prelude.{◌≡◌, false};
-ghost use Rattle.sr_dup_window.specs.LaneSets.{is_empty};
-
+use super::steps::{handed_up, mac};
 use sr_dup_table::{DupFault, DupTable, Look, MAX_SOURCES, TableFull};
 use sr_dup_window::Lanes;
 use sr_frame::Mac;
 use sr_sequence::Seq;
 use sr_slots::Hint;
 use std::alloc::Global;
-
-fn mac(number: u16) -> Mac {
-    let [high, low] = number.to_be_bytes();
-    Mac([2, 0, 0, 0, high, low])
-}
-
-// Handed up, and received at port A.
-fn handed_up() -> Lanes
-    ensures { is_empty result ≡ false }
-{
-    Lanes::H.union(Lanes::GOT_A)
-}
 
 /// What becomes of number 5 of a source.
 #[derive(Clone, Copy, PartialEq, Eq)]

@@ -9,20 +9,22 @@ mod duplicates;
 #[cfg(test)]
 mod joins;
 #[cfg(test)]
+mod node_steps;
+#[cfg(test)]
 mod nodes;
 #[cfg(test)]
 mod places;
 #[cfg(test)]
 mod proxied;
 #[cfg(test)]
+mod random_records;
+#[cfg(test)]
 mod records;
 #[cfg(test)]
 mod slots;
 #[cfg(test)]
-mod slow_record;
+mod snapshot_steps;
 #[cfg(test)]
 mod snapshots;
 #[cfg(test)]
 mod steps;
-#[cfg(test)]
-mod widths;

@@ -1,5 +1,6 @@
 //! The addresses that a RedBox stands for.
 
+use super::steps::mac;
 use sr_frame::{LearnOutcome, Mac};
 use sr_proxy_table::ProxyTable;
 use std::alloc::Global;
@@ -15,11 +16,6 @@ enum Step {
     Lists(u64, &'static [u16]),
     // So many addresses from this one on are listed, in order.
     ListsFrom(u64, u16, u16),
-}
-
-fn mac(number: u16) -> Mac {
-    let [high, low] = number.to_be_bytes();
-    Mac([2, 0, 0, 0, high, low])
 }
 
 // All that a table has, asked for again where an allocation fails.

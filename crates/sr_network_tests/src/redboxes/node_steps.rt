@@ -1,7 +1,7 @@
 //! One driver for all nodes: it makes a node over a box, takes it through a table of steps, and answers at which step it differs.
 
 use bitflags::Flags;
-use sr_forwarding::{Danh, Framing, Parcel, Port, Role, RoleKind, framing_at};
+use sr_forwarding::{Framing, Parcel, Port, Role, RoleKind, framing_at};
 use sr_frame::{Frame, Mac};
 use sr_node::{Answer, Event, Node, NodeImage, StepFault};
 use sr_prp_trailer::Lan;
@@ -9,7 +9,7 @@ use sr_redbox::{HsrBox, PrpBox, SanBox};
 use std::alloc::Global;
 
 /// The node.
-const OWN: Mac = Mac([2, 0, 0, 0, 0, 1]);
+pub const OWN: Mac = Mac([2, 0, 0, 0, 0, 1]);
 
 /// The role of a node; a box at a LAN is one of network 1.
 #[derive(Clone, Copy)]
@@ -49,7 +49,8 @@ pub enum Step {
     WrongLan(Port, u64),
 }
 
-const GROUP: Mac = Mac([0xff; 6]);
+/// All nodes.
+pub const GROUP: Mac = Mac([0xff; 6]);
 
 // A plain frame, and six zeros behind it.
 fn plain(dst: Mac, src: Mac) -> [u8; 66] {
@@ -281,7 +282,8 @@ fn holds(alloc: Global, node: &mut Node, step: Step) -> bool {
     }
 }
 
-fn differs(alloc: Global, node: &mut Node, steps: &[Step]) -> Option<usize> {
+/// The place of the first step at which a node differs.
+pub fn differs(alloc: Global, node: &mut Node, steps: &[Step]) -> Option<usize> {
     for (place, step) in steps.iter().enumerate() {
         if !holds(alloc, node, *step) {
             return Some(place);
@@ -338,74 +340,4 @@ pub fn first_wrong(alloc: Global, kind: Kind, steps: &[Step]) -> Option<usize> {
         }
     }
     Some(steps.len())
-}
-
-// Whether the node takes this role, and hands back that of a ring.
-fn takes_box(node: &mut Node, role: Box<dyn Role + Send>) -> bool {
-    match node.replace_role(role) {
-        Ok(old) => old.kind() == RoleKind::Danh && old.mac() == OWN && node.kind() == RoleKind::San,
-        Err(_) => false,
-    }
-}
-
-// Whether the node hands back a role of another address.
-fn hands_back(node: &mut Node, role: Box<dyn Role + Send>) -> bool {
-    match node.replace_role(role) {
-        Ok(_) => false,
-        Err(given) => given.kind() == RoleKind::San && node.kind() == RoleKind::Danh,
-    }
-}
-
-fn becomes_box(alloc: Global, node: &mut Node) -> bool {
-    match Box::new(alloc, SanBox::new(alloc, OWN)) {
-        Ok(role) => takes_box(node, role),
-        Err(_) => false,
-    }
-}
-
-fn refuses_another(alloc: Global, node: &mut Node) -> bool {
-    match Box::new(alloc, SanBox::new(alloc, GROUP)) {
-        Ok(role) => hands_back(node, role),
-        Err(_) => false,
-    }
-}
-
-// The place of the first step at which a node of a ring differs after it got a box of its address; as many as there are where it
-// differed before, or where an allocation failed.
-fn exchanges(alloc: Global, node: &mut Node, before: &[Step], after: &[Step]) -> Option<usize> {
-    let goes = differs(alloc, node, before).is_none()
-        && refuses_another(alloc, node)
-        && becomes_box(alloc, node);
-    if goes {
-        differs(alloc, node, after)
-    } else {
-        Some(after.len())
-    }
-}
-
-// A node of a ring.
-fn ring_node(alloc: Global) -> Option<Node> {
-    match Box::new(alloc, Danh::new(OWN)) {
-        Ok(role) => Node::new(alloc, role).ok(),
-        Err(_) => None,
-    }
-}
-
-fn exchanged_differs(alloc: Global, before: &[Step], after: &[Step]) -> Option<usize> {
-    match ring_node(alloc) {
-        Some(mut node) => exchanges(alloc, &mut node, before, after),
-        None => Some(after.len()),
-    }
-}
-
-/// The place of the first step at which a node of a ring differs after it got a box of its address; as many as there are where it
-/// differed before. Where an allocation failed as it was made, it is made again.
-pub fn differs_after_exchange(alloc: Global, before: &[Step], after: &[Step]) -> Option<usize> {
-    for _ in 0..8u8 {
-        let place = exchanged_differs(alloc, before, after);
-        if place != Some(after.len()) {
-            return place;
-        }
-    }
-    Some(after.len())
 }

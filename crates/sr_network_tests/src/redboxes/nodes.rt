@@ -1,6 +1,7 @@
 //! Nodes over boxes: octets in at the ports, octets out.
 
-use super::node_steps::{Kind, Sent, Step, differs_after_exchange, first_wrong};
+use super::exchanges::differs_after_exchange;
+use super::node_steps::{Kind, Sent, Step, first_wrong};
 use sr_forwarding::Port;
 use sr_frame::Mac;
 use sr_prp_trailer::Lan;

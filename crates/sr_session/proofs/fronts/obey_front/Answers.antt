@@ -4,7 +4,7 @@ use Rattle.sr_session.specs.Fronts.{IsFrontLine, FrontFails}
 use Rattle.sr_session.specs.Runs.{HasPlace}
 use Rattle.sr_session.specs.Turns.{BeginsWith}
 use Rattle.sr_session.proofs.WaitingTexts.{begins_front, waits_added, waits_kept, front_stops}
-use Rattle.sr_session.proofs.running.obey_front.Goals as goal
+use Rattle.sr_session.proofs.fronts.obey_front.Goals as goal
 
 pub returns-in-Err-clause-front : goal.returns-in-Err-clause-front
 returns-in-Err-clause-front g c =

@@ -1,7 +1,7 @@
 use Rattle.std.proofs.Common.{arith}
 use Rattle.sr_session.proofs.LeftLines.{no_line, one_line}
 use Rattle.sr_session.proofs.WaitingTexts.{line_found}
-use Rattle.sr_session.proofs.running.front_line.Goals as goal
+use Rattle.sr_session.proofs.fronts.front_line.Goals as goal
 
 pub returns-in_err-at-clause-only : goal.returns-in_err-at-clause-only
 returns-in_err-at-clause-only c line at =

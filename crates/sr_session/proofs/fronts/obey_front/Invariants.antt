@@ -1,6 +1,6 @@
 use Rattle.std.proofs.Common.{◌≡◌, ◌+◌, ◌-◌, ◌≤◌, ℕ, List, length, vec_capacity}
 use Rattle.sr_session.specs.Turns.{Waits, BeginsWith}
-use Rattle.sr_session.proofs.running.obey_front.Given as goal
+use Rattle.sr_session.proofs.fronts.obey_front.Given as goal
 
 abbrev pub invariant-loop-next : goal.invariant-loop-next
 invariant-loop-next g l = record {
