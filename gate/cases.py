@@ -13,8 +13,9 @@ A case is a folder that is named for what it shows. Of its files only `args` has
     status          the exit status; 0 where there is no such file
     stdin-is, stdout-is   in place of `stdin` and `stdout`: the path of the file, where a document or another case has it too
     *.pcap, *.pcapng   captures that `args` names
+    names           a file of names of nodes that `args` names
 
-In the place of all but `args` and captures there may be `rows`: many runs in one file, each with a name (gate/case_rows.py).
+In the place of all but `args`, captures and names there may be `rows`: many runs in one file, each with a name (gate/case_rows.py).
 
 cases.py [--program PATH] [NAME..]: the cases of these names, all where none is given, of the program at PATH, ./seamless
 where none is given."""
@@ -29,7 +30,7 @@ from pathlib import Path
 from case_rows import Flaw, rows_of
 
 ROOT = Path(__file__).resolve().parent.parent
-FILES = {"args", "stdin", "stdin-is", "stdout", "stdout-is", "stderr", "stderr-begins", "stderr-has", "status", "rows"}
+FILES = {"args", "stdin", "stdin-is", "stdout", "stdout-is", "stderr", "stderr-begins", "stderr-has", "status", "names", "rows"}
 CAPTURES = {".pcap", ".pcapng"}
 MOST_SECONDS = 60
 # How much of a line is shown before and behind the first octet that differs: a frame has up to 3000 digits.
@@ -57,7 +58,7 @@ def flaws(root, folder):
             yield f"`{name}` is no file"
         elif name.endswith("-is") and (name.removesuffix("-is") in names or not place(root, folder, name.removesuffix("-is")).is_file()):
             yield f"`{name}` names no file, or the file is here too"
-        elif name in FILES - {"args", "rows"} and "rows" in names:
+        elif name in FILES - {"args", "names", "rows"} and "rows" in names:
             yield f"`{name}` stands beside `rows`"
     if "rows" in names:
         try:
@@ -72,8 +73,9 @@ def octets(path):
 
 
 def lines(text):
-    """The lines of a text of UTF-8, without their ends."""
-    return text.decode().splitlines()
+    """The lines of a text, without their ends."""
+    # An argument may have octets that are no UTF-8, as a name of a file.
+    return text.decode(errors="surrogateescape").splitlines()
 
 
 def run(program, folder, args, stdin):

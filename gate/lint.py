@@ -377,7 +377,7 @@ def untested_commands(root):
     """A command of the program that a page on the program shows, but for pipes, is a case: its arguments and the file of its
     input."""
     folders = [path.parent for path in sorted(root.glob("examples/cases/*/args")) if not (path.parent / "rows").exists()]
-    cases = [((folder / "args").read_text().splitlines(), place(root, folder, "stdin")) for folder in folders]
+    cases = [((folder / "args").read_text(errors="surrogateescape").splitlines(), place(root, folder, "stdin")) for folder in folders]
     command = re.compile(r"(?:^    |`)\./seamless ([^`|<]+?)(?: <\s*([^`|]+))?(?:`|$)")
     for page in program_pages(root):
         for number, line in numbered(page):

@@ -1,5 +1,6 @@
 #!/usr/bin/env python3
-"""Writes the man page, docs/seamless.1, and the completions, docs/seamless.bash, .zsh and .fish, of what the program's `--help` says.
+"""Writes the man page, docs/seamless.1, and the completions, docs/seamless.bash, .zsh and .fish, of what the program's `--help` says. What
+the lines of an audit tell is in the page as docs/PROGRAM.md has it.
 
 manual.py [--check] [--program PATH]: of the program at PATH, ./seamless where none is given. With --check nothing is
 written: a line names each of them that differs from what it would write, and it exits with 1 where one does."""
@@ -87,6 +88,33 @@ def examples(text):
     return [".PP", "Examples:", ".nf", *lines, ".fi"] if lines else []
 
 
+def plain(cell):
+    """The text of a cell of a table, without the marks of Markdown."""
+    return re.sub(r"\[([^\]]*)\]\([^)]*\)", r"\1", cell).replace("`", "")
+
+
+def rows(text, first):
+    """The rows of the table whose first column has this name, each as its cells."""
+    found = []
+    for line in text.split(f"| {first} |", 1)[1].split("\n")[2:]:
+        if not line.startswith("|"):
+            break
+        found.append([plain(cell.strip()) for cell in line.strip("|").split(" | ")])
+    return found
+
+
+def lines_of_audit(text):
+    """The lines of the page for what the lines of an audit tell: those of the verdict, and the figures."""
+    behind = text.split("## `audit`", 1)[1]
+    lines = [".SH LINES OF AUDIT", "Those of the verdict, which stand first: what is seen, what it means, and what to do."]
+    for line, seen, meaning, advice in rows(behind, "Line | What is seen | What it means | What to do"):
+        lines += explained(line, [f"{seen}. It means: {meaning}. To do: {advice}."])
+    lines += [".PP", "Those of the figures:"]
+    for line, tells in rows(behind, "Line | What it tells"):
+        lines += explained(line, [f"{tells}."])
+    return lines
+
+
 def page(program):
     """The man page."""
     text = said(program, "--help")
@@ -99,6 +127,7 @@ def page(program):
         for _, shown, words in options(own):
             lines += explained(shown, words)
         lines += examples(own)
+    lines += lines_of_audit((ROOT / "docs" / "PROGRAM.md").read_text())
     lines += [".SH EXAMPLES", *examples(text)[2:]]
     lines.append(".SH EXIT STATUS")
     for status, meaning in STATUSES:

@@ -1,7 +1,7 @@
 #!/usr/bin/env python3
 """Random networks whose truth is known, against what `seamless audit --check` says of captures of both LANs, and `seamless merge` makes.
 
-    gate/networks.py [--program PATH] [FIRST COUNT]     20 networks from seed 1 on; ./seamless by default
+    gate/networks.py [--program PATH] [--kinds] [FIRST COUNT]     20 networks from seed 1 on; ./seamless by default
 
 Each network has 2 to 6 sources, from 1000 frames a second to one in two seconds, and mirror ports at both LANs. Of each frame
 it is written down which LANs lost it, and the figures of each source are counted of that: no rule of the program is used. The
@@ -16,7 +16,11 @@ switch floods them; in one sources talk to each other past two mirrors; in one a
 never tells of them; and in one the recorders of a ring's node see what it sends on too, where there is nothing to judge. A merge of
 a network that can be judged has each frame that a recorder has once, at the time of a copy by the clock of A. The verdicts that stand
 first are compared with what happened: what each LAN lost, which sources came by one LAN alone at last and since when, numbers that both
-lost, and restarts. A line tells each network of which the audit says something else, or the merge has. The last line is `N passed, M failed`.
+lost, and restarts; and what frames themselves tell of sources: two senders under one address, a burst of frames, a source without redundancy
+at one LAN, one that loses it, and one whose cables are crossed, up to four faults in a network, each by its source, LAN and time. A line
+tells each network of which the audit says something else, or the merge has. With --kinds a table tells of each kind of fault and notice how
+often it was named rightly, by its source or LAN and its time to a second, missed, made up, and hidden from the recorders. The last line is
+`N passed, M failed`.
 """
 import argparse
 import json
@@ -30,10 +34,16 @@ import tempfile
 TOP = os.path.dirname(os.path.dirname(os.path.realpath(__file__)))
 SECOND = 10**9
 PERIODS = [SECOND // 1000, SECOND // 100, SECOND // 10, SECOND // 2, SECOND, 2 * SECOND]
-RING_FAULTS = ["loss", "both", "cut", "restart"]
+RING_FAULTS = ["loss", "both", "cut", "restart", "two_senders", "babbling"]
 # How long a frame takes from one node of a ring to the next one, in nanoseconds.
 HOP = 20_000
-FAULTS = ["loss", "both", "row", "restart", "dead", "swapped", "apart", "set"]
+FAULTS = ["loss", "both", "row", "restart", "two_senders", "babbling", "san", "lost_redundancy", "crossed", "dead", "swapped", "apart", "set"]
+# The order in which faults are put into a network: what moves or adds frames comes before what loses them.
+FIRST = ["restart", "babbling", "lost_redundancy"]
+# What is told of sources by their frames, and which of it is a fault.
+STRANGE = {"two_senders": "fault", "lost_redundancy": "fault", "babbling": "notice", "san": "notice"}
+# How many frames a burst has, in about a second.
+BURST = 1200
 # The faults behind which captures say nothing of the network.
 UNJUDGED = {"dead", "swapped", "apart", "set"}
 # The time of the first packet: a clock that is behind does not fall below 0.
@@ -183,16 +193,29 @@ class Network:
         if rng.random() < 1 / 3:
             third = seconds * SECOND // 3
             self.runs = [(rng.randrange(third), rng.randrange(2 * third, 3 * third)) for _ in "AB"]
-        self.faults = rng.sample(self.kinds, rng.randrange(1, 3)) if rng.random() < 0.5 else []
-        # A restart comes first, which moves what is behind it.
-        for fault in sorted(self.faults, key=lambda one: one != "restart"):
+        self.seconds = seconds
+        self.faults = self.choose(rng) if rng.random() < 0.5 else []
+        # What frames tell of sources: the kind, the address, the LAN and the time, where these are told.
+        self.strange = []
+        # Further senders under the address of a source, and packets without a number: when they came, the LAN, and the octets.
+        self.twins, self.bare = [], []
+        self.crossed = None
+        for fault in sorted(self.faults, key=lambda one: FIRST.index(one) if one in FIRST else len(FIRST)):
             self.put(rng, fault)
         # How far the clock of B is ahead when the recordings begin, in nanoseconds, and how fast it drifts, in ppb.
         self.clock = (rng.randrange(-10 * SECOND, 10 * SECOND), rng.randrange(-50_000, 50_000)) if rng.random() < 0.5 else None
-        for source in self.sources:
+        for source in self.sources + self.twins:
             for frame in source.frames:
                 # Which recorders have it.
                 frame["seen"] = {lan for lan in frame["lans"] if self.runs_at(lan, frame["time"] + source.delays[lan])}
+
+    def choose(self, rng):
+        """One to four faults, or one behind which captures say nothing of the network."""
+        alone = [kind for kind in self.kinds if kind in UNJUDGED]
+        if alone and rng.random() < 0.2:
+            return [rng.choice(alone)]
+        judged = [kind for kind in self.kinds if kind not in UNJUDGED]
+        return rng.sample(judged, rng.randrange(1, min(4, len(judged)) + 1))
 
     # The faults that it may have, and how its frames have their numbers.
     kinds = FAULTS
@@ -223,7 +246,7 @@ class Network:
         """The frames at the end of an address's frames that one LAN alone brought: the address, that LAN, how many, and when the first came."""
         found = []
         for source in self.sources:
-            for mac, frames in source.runs():
+            for mac, frames in source.runs() if source.mac not in self.doubled() else []:
                 row = []
                 for frame in reversed([one for one in frames if one["seen"] and one["ways"] == {0, 1} and self.can_lose(one)]):
                     if len(frame["seen"]) == 2 or row and frame["lans"] != row[0]["lans"] and len(frame["lans"]) == 1:
@@ -253,6 +276,80 @@ class Network:
                     frame["lans"].clear()
         elif fault == "restart" and len(source.frames) > 3 and source.restarted is None:
             source.restart(rng)
+        elif fault in STRANGE or fault == "crossed":
+            self.put_strange(rng, fault)
+
+    def put_strange(self, rng, fault):
+        """Has a source send as it ought not to, where one is fit for it. Both recorders have the whole of it."""
+        fit = [source for source in self.sources if not isinstance(source, RedBox) and source.restarted is None and source is not self.crossed
+               and source.mac not in [mac for _, mac, _, _ in self.strange]]
+        rng.shuffle(fit)
+        slow = [source for source in fit if source.period >= SECOND // 10]
+        many = [source for source in fit if source.period <= SECOND // 10 and len(source.frames) > 40]
+        if fault == "two_senders" and many:
+            self.add_twin(rng, many[0])
+        elif fault == "babbling" and slow:
+            self.add_burst(rng, slow[0])
+        elif fault == "san":
+            self.add_plain(rng, bytes([2, 0, 0, 0, 9, len(self.bare) % 256]), rng.choice(PERIODS[2:4]))
+        elif fault == "lost_redundancy" and [source for source in fit if len(source.frames) > 8]:
+            self.lose_redundancy(rng, [source for source in fit if len(source.frames) > 8][0])
+        elif fault == "crossed" and [source for source in slow if self.is_small(source)]:
+            self.crossed = [source for source in slow if self.is_small(source)][0]
+        else:
+            return
+        self.runs = [(0, END)] * 2
+
+    def is_small(self, source):
+        """Whether it has five frames or more, and few of all of them."""
+        return 5 <= len(source.frames) <= sum(len(other.frames) for other in self.sources) // 20
+
+    def add_twin(self, rng, source):
+        """A second sender under the address of a source, whose numbers are far from its own."""
+        twin = Source.__new__(type(source))
+        twin.__dict__.update(source.__dict__)
+        apart = rng.randrange(3000, 60_000)
+        twin.frames = [{"time": frame["time"] + source.period // 2, "number": (frame["number"] + apart) % 65536, "lans": {0, 1}, "ways": {0, 1}}
+                       for frame in source.frames]
+        self.twins.append(twin)
+        self.strange.append(("two_senders", source.mac, None, twin.frames[0]["time"]))
+
+    def add_burst(self, rng, source):
+        """So many frames of a source within a second, between its others."""
+        begin = rng.randrange(2, self.seconds - 2) * SECOND + rng.randrange(SECOND // 2)
+        at = sum(frame["time"] < begin for frame in source.frames)
+        number = source.frames[at - 1]["number"] + 1 if at else source.frames[0]["number"]
+        times = [begin + index * (SECOND // BURST) for index in range(BURST)]
+        rest = [frame for frame in source.frames[at:] if frame["time"] > times[-1]]
+        times += [frame["time"] for frame in rest]
+        behind = [dict(frame) for frame in rest]
+        new = [{"lans": {0, 1}, "ways": {0, 1}} for _ in range(BURST)] + behind
+        for index, (time, frame) in enumerate(zip(times, new)):
+            frame.update(time=time, number=(number + index) % 65536)
+        source.frames = source.frames[:at] + new
+        self.strange.append(("babbling", source.mac, None, begin))
+
+    def add_plain(self, rng, mac, period):
+        """A source at one LAN whose frames have no number."""
+        lan, time = rng.randrange(2), QUIET + rng.randrange(period)
+        first = len(self.bare)
+        while time < self.seconds * SECOND:
+            self.bare.append((time, lan, unnumbered(mac)))
+            time += period
+        if len(self.bare) - first >= LEAST_ROW:
+            self.strange.append(("san", mac, lan, None))
+
+    def lose_redundancy(self, rng, source):
+        """From some frame on a source sends by one LAN alone, and without numbers."""
+        at, lan = rng.randrange(4, len(source.frames) - LEAST_ROW), rng.randrange(2)
+        gone, source.frames = source.frames[at:], source.frames[:at]
+        times = [frame["time"] + source.delays[lan] for frame in gone]
+        self.bare += [(time, lan, unnumbered(source.mac)) for time in times]
+        self.strange.append(("lost_redundancy", source.mac, lan, times[0]))
+
+    def doubled(self):
+        """The addresses that have two senders: of them it is not told what was lost."""
+        return {mac for kind, mac, _, _ in self.strange if kind == "two_senders"}
 
     def captures(self):
         """The packets of both recorders, each with its time."""
@@ -260,12 +357,14 @@ class Network:
         for lan in range(2):
             # Each records a frame without number when it begins, and when it ends.
             packets = [(time, plain()) for time in self.runs[lan]]
-            for source in self.sources:
-                packets += [(frame["time"] + source.delays[lan], self.octets_of(source, frame, lan))
+            for source in self.sources + self.twins:
+                own = 1 - lan if source is self.crossed else lan
+                packets += [(frame["time"] + source.delays[lan], self.octets_of(source, frame, own))
                             for frame in source.frames if lan in frame["seen"]]
+            packets += [(time, packet) for time, at, packet in self.bare if at == lan]
             both.append(sorted(packets, key=lambda packet: packet[0]))
         if "dead" in self.faults:
-            both[0] = [packet for packet in both[0] if packet[1] == plain()]
+            both[0] = [packet for packet in both[0] if packet[1][-2:] != b"\x88\xfb"]
         if "apart" in self.faults:
             # B recorded another hour: of the same sources, with other numbers.
             both[1] = [(time + 4000 * SECOND, renumbered(packet, 20_000)) for time, packet in both[1]]
@@ -292,17 +391,24 @@ class Network:
         """How a check is to end."""
         if self.has_nothing() or not self.has_pairs():
             return 4
-        lost = any(source.figures()[name] for source in self.sources for name in ("only_a", "only_b", "neither"))
-        return 3 if lost else 0
+        lost = any(source.figures()[name] for source in self.sources if source.mac not in self.doubled()
+                   for name in ("only_a", "only_b", "neither"))
+        told = any(STRANGE[kind] == "fault" for kind, _, _, _ in self.strange)
+        return 3 if lost or told or self.crossed else 0
 
 
 def plain():
     return bytes.fromhex("ffffffffffff020000000200") + b"\x08\x06" + bytes(46)
 
 
+def unnumbered(mac):
+    """A frame of a source without a number."""
+    return bytes.fromhex("ffffffffffff") + mac + b"\x08\x06" + bytes(46)
+
+
 def renumbered(packet, more):
     """A frame with a number that is so much greater."""
-    if packet == plain():
+    if packet[-2:] != b"\x88\xfb":
         return packet
     number = (struct.unpack(">H", packet[-6:-4])[0] + more) % 65536
     return packet[:-6] + struct.pack(">H", number) + packet[-4:]
@@ -417,6 +523,7 @@ class Ring(Network):
         # From a time on no frame passes the link behind a node. Both recorders see the whole of it.
         self.runs = [(0, END)] * 2
         link, time = rng.randrange(len(self.sources) - 1), rng.randrange(2, 5) * SECOND
+        self.link = link
         for index, source in enumerate(self.sources):
             for frame in source.frames:
                 if frame["time"] >= time:
@@ -483,6 +590,8 @@ def differences(network, status, lines):
         if line["line"] == "unseen":
             said[line["source"]]["unseen"] = line["numbers"]
     for mac, figures in (report for source in network.sources for report in source.reports()):
+        if mac in network.doubled():
+            continue
         mac = mac.hex(":")
         if "cut" in network.faults and mac in said:
             # What no recorder has of a ring that is cut may have come where it was sent to.
@@ -496,6 +605,8 @@ def differences(network, status, lines):
 def verdict_differences(network, status, lines):
     """Where the block of faults and notices, which stands first, is not what happened."""
     words = ["verdict", "unjudged", "fault", "notice"]
+    names = [line for line in lines if line["line"] == "at"]
+    lines = [line for line in lines if line["line"] != "at"]
     block = [line for line in lines if line["line"] in words]
     by_word = [[line for line in block if line["line"] == word] for word in words]
     whole = {"line": "verdict", "verdict": {0: "sound", 3: "faulty", 4: "unjudged"}[status],
@@ -505,7 +616,50 @@ def verdict_differences(network, status, lines):
     if status == 4:
         return [] if len(by_word[1]) == 1 and len(block) == 2 else [f"the verdicts are {block}, where nothing can be judged"]
     told = [line for line in block if line["line"] != "verdict"]
-    return loss_differences(network, told) + row_differences(network, told) + source_differences(network, told)
+    return (loss_differences(network, told) + row_differences(network, told) + source_differences(network, told)
+            + strange_differences(network, told) + name_differences(network, names))
+
+
+def strange_differences(network, told):
+    """Where what is told of sources by their frames is not what they sent."""
+    found = []
+    said = {(line["kind"], line["source"]): line for line in told if line["kind"] in STRANGE}
+    wanted = {(kind, mac.hex(":")): (lan, time) for kind, mac, lan, time in network.strange}
+    if said.keys() != wanted.keys():
+        found.append(f"of sources it is told {sorted(said)}, and not {sorted(wanted)}")
+    for key in said.keys() & wanted.keys():
+        (lan, time), line = wanted[key], said[key]
+        if line["line"] != STRANGE[key[0]] or lan is not None and line["lan"] != "AB"[lan]:
+            found.append(f"of sources it is told {line}, and not LAN {lan}")
+        if time is not None and abs(line["since_ms"] * 1_000_000 - time) > SECOND + SINCE_LEFT:
+            found.append(f"{key} is told since {line['since_ms']} ms, and not {time} ns")
+    crossed = [line for line in told if line["kind"] in ("crossed", "wrong_lan")]
+    if len(crossed) != int(network.crossed is not None) or crossed and crossed[0]["kind"] != "crossed":
+        found.append(f"of crossed cables it is told {crossed}")
+    return found
+
+
+def losing(network, lan):
+    """The sources of which a LAN lost frames, besides those of the rows of sources at their end."""
+    rows = {mac: frames for mac, side, frames, _ in network.rows() if side != lan}
+    return {mac.hex(":") for source in network.sources if source.mac not in network.doubled()
+            for mac, figures in source.reports() if figures[("only_b", "only_a")[lan]] > rows.get(mac.hex(":"), 0)}
+
+
+def name_differences(network, names):
+    """Where the sources that are named are not those that share a loss, or whose cables are crossed."""
+    found = []
+    for lan in range(2):
+        wanted = losing(network, lan)
+        said = [line for line in names if line["kind"] == "loss" and line["lan"] == "AB"[lan]]
+        macs = [line["source"] for line in said if "source" in line]
+        more = sum(line.get("more", 0) for line in said)
+        if not set(macs) <= wanted or len(macs) != min(3, len(wanted)) or len(macs) + more != len(wanted):
+            found.append(f"the losses of {'AB'[lan]} are of {macs} and {more} more, and not of {sorted(wanted)}")
+    macs = [line["source"] for line in names if line["kind"] == "crossed"]
+    if macs != ([network.crossed.mac.hex(":")] if network.crossed else []):
+        found.append(f"the cables of {macs} are told to be crossed")
+    return found
 
 
 def losses(network):
@@ -513,7 +667,8 @@ def losses(network):
     found = []
     for lan, name in enumerate(("only_b", "only_a")):
         rows = {mac: frames for mac, side, frames, _ in network.rows() if side != lan}
-        lost = [figures[name] - rows.get(mac.hex(":"), 0) for source in network.sources for mac, figures in source.reports()]
+        lost = [figures[name] - rows.get(mac.hex(":"), 0) for source in network.sources if source.mac not in network.doubled()
+                for mac, figures in source.reports()]
         found.append((sum(lost), sum(one > 0 for one in lost)))
     return found
 
@@ -530,13 +685,21 @@ def loss_differences(network, told):
     return found
 
 
+def place_of(network):
+    """Between which two sources a ring is cut: the nearest to the cut that one way alone brings at last, of those that both ways brought."""
+    order = {source.mac.hex(":"): at for at, source in enumerate(network.sources) if source.figures()["pairs"]}
+    sided = [[mac for mac, side, _, _ in network.rows() if side == way and mac in order] for way in range(2)]
+    return min(sided[0], key=order.get, default="recorder"), max(sided[1], key=order.get, default="recorder")
+
+
 def row_differences(network, told):
-    """Where the ports that are told to be dead, or the cut of a ring, are not those."""
+    """Where the ports that are told to be dead, or the cut of a ring with its place, are not those."""
     rows, begin = network.rows(), min(begin for begin, _ in network.runs)
     if network.protocol == "hsr":
-        said = [(line["sided_a"], line["sided_b"], line["frames"]) for line in told if line["kind"] == "cut_ring"]
+        said = [(line["sided_a"], line["sided_b"], line["frames"], line.get("next_a", "recorder"), line.get("next_b", "recorder"))
+                for line in told if line["kind"] == "cut_ring"]
         sides = [side for _, side, _, _ in rows]
-        wanted = [(sides.count(0), sides.count(1), sum(frames for _, _, frames, _ in rows))] if rows else []
+        wanted = [(sides.count(0), sides.count(1), sum(frames for _, _, frames, _ in rows), *place_of(network))] if rows else []
         since = [(line["since_ms"], min(time for _, _, _, time in rows)) for line in told if line["kind"] == "cut_ring" and rows]
     else:
         ports = {line["source"]: line for line in told if line["kind"] == "dead_port"}
@@ -552,7 +715,7 @@ def row_differences(network, told):
 def source_differences(network, told):
     """Where the numbers that are told to be lost by both LANs, and those that may be, or restarts, are not those of the sources."""
     found = []
-    wanted = {mac.hex(":"): figures for source in network.sources for mac, figures in source.reports()}
+    wanted = {mac.hex(":"): figures for source in network.sources if source.mac not in network.doubled() for mac, figures in source.reports()}
     said = {kind: {line["source"]: line for line in told if line["kind"] == kind} for kind in ("both_lost", "unseen", "restart")}
     for mac, figures in wanted.items():
         lost, unseen = (said[kind].get(mac, {}).get("numbers", 0) for kind in ("both_lost", "unseen"))
@@ -564,6 +727,71 @@ def source_differences(network, told):
         if "restarts" in figures and not said["unseen"] and times != figures["restarts"]:
             found.append(f"{mac} began anew {times} times, and not {figures['restarts']}")
     return found
+
+
+def happened(network):
+    """What is to be told of a network: its kind, and the source, LAN or place of it, each with the time from which on it is so, if that is told."""
+    if network.status() == 4:
+        return {("unjudged", None): None}
+    begin = min(begin for begin, _ in network.runs)
+    found = {(kind, mac.hex(":")): time for kind, mac, _, time in network.strange}
+    if network.crossed:
+        found["crossed", network.crossed.mac.hex(":")] = None
+    for lan, (frames, _) in enumerate(losses(network)):
+        if frames:
+            found["loss", "AB"[lan]] = None
+    rows = network.rows()
+    if rows and network.protocol == "hsr":
+        found["cut_ring", place_of(network)] = min(time for _, _, _, time in rows) - begin
+    elif rows:
+        found |= {("dead_port", (mac, "BA"[side])): time - begin for mac, side, _, time in rows}
+    for source in network.sources:
+        reports = source.reports() if source.mac not in network.doubled() else []
+        found |= {("both_lost", mac.hex(":")): None for mac, figures in reports if figures.get("neither", 0) + figures.get("unseen", 0)}
+        # A RedBox counts for its devices: that it began anew is told of it.
+        if reports and source.figures()["restarts"]:
+            found["restart", source.mac.hex(":")] = None
+    return found
+
+
+def told_of(lines):
+    """The same of what an audit tells. Numbers that may be lost are told as those that are, where a recorder can't know."""
+    found = {}
+    for line in lines:
+        kind = line.get("kind")
+        if line["line"] == "unjudged":
+            found["unjudged", None] = None
+        elif line["line"] == "at" and kind == "crossed":
+            found[kind, line["source"]] = None
+        elif line["line"] in ("fault", "notice") and kind not in ("clock", "crossed", "wrong_lan"):
+            who = {"loss": line.get("lan"), "cut_ring": (line.get("next_a", "recorder"), line.get("next_b", "recorder")),
+                   "dead_port": (line.get("source"), line.get("lan"))}.get(kind, line.get("source"))
+            found["both_lost" if kind == "unseen" else kind, who] = line["since_ms"] * 1_000_000 if "since_ms" in line else None
+    return found
+
+
+def count_kinds(table, network, lines):
+    """Counts in a table what is named rightly, missed and made up, by kind."""
+    wanted, said = happened(network), told_of(lines)
+    # Of numbers that a silent RedBox's devices share an audit knows nothing.
+    # Where numbers may have gone past no recorder, those that begin anew look the same.
+    is_hidden = any(line.get("kind") == "unseen" for line in lines)
+    silent = {mac.hex(":") for source in network.sources if isinstance(source, SilentBox) for mac, _ in source.reports()}
+    for key in wanted.keys() | {one for one in said if one[0] not in ("both_lost", "restart") or one[1] not in silent}:
+        times = wanted.get(key), said.get(key)
+        is_right = key in wanted and key in said and (None in times or abs(times[0] - times[1]) <= SECOND + SINCE_LEFT)
+        is_missed = key in wanted and not is_right
+        row = table.setdefault(key[0], [0, 0, 0, 0])
+        row[0] += is_right
+        row[1] += is_missed and not (key[0] == "restart" and is_hidden)
+        row[2] += key in said and not is_right
+        row[3] += is_missed and key[0] == "restart" and is_hidden
+
+
+def print_kinds(table):
+    print(f"{'kind':<16} right missed made_up hidden")
+    for kind, row in sorted(table.items()):
+        print(f"{kind:<16} {row[0]:>5} {row[1]:>6} {row[2]:>7} {row[3]:>6}")
 
 
 def clock_differences(network, lines):
@@ -597,10 +825,12 @@ def merge_differences(network, packets):
     for source in network.sources:
         for frame in source.frames:
             for lan in frame["seen"]:
-                frames.setdefault((lan, network.octets_of(source, frame, lan)), []).append((frame, source.delays[lan]))
+                own = 1 - lan if source is network.crossed else lan
+                frames.setdefault((lan, network.octets_of(source, frame, own)), []).append((frame, source.delays[lan]))
+    bare = {plain()} | {packet for _, _, packet in network.bare}
     merged, plains = set(), 0
     for lane, time, packet in packets:
-        if packet == plain():
+        if packet in bare:
             plains += 1
             continue
         near = [(frame, delay) for frame, delay in frames.get((lane, packet), [])
@@ -610,13 +840,14 @@ def merge_differences(network, packets):
         merged.add(id(near[0][0]))
     seen = sum(bool(frame["seen"]) for source in network.sources for frame in source.frames)
     found = [] if len(merged) == seen else [f"the merge has {len(merged)} frames, and not {seen}"]
-    found += [] if plains == 4 else [f"the merge has {plains} packets without number, and not 4"]
+    wanted = 4 + len(network.bare)
+    found += [] if plains == wanted else [f"the merge has {plains} packets without number, and not {wanted}"]
     times = [time for _, time, _ in packets]
     return found + ([] if times == sorted(times) else ["the merge is not in order of time"])
 
 
-def judge(program, seed, room):
-    """What differs in the network of a seed."""
+def judge(program, seed, room, table):
+    """What differs in the network of a seed. A table counts what is told by its kind."""
     network = network_of(seed)
     paths = [f"{room}/a.pcap", f"{room}/b.pcap"]
     for path, packets in zip(paths, network.captures()):
@@ -625,9 +856,11 @@ def judge(program, seed, room):
     args += ["--shift", "auto"] if network.clock else []
     run = subprocess.run([program, "audit", *args, "--format", "json", "--check"], capture_output=True, text=True, timeout=60, check=False)
     lines = [json.loads(line) for line in run.stdout.splitlines()]
+    count_kinds(table, network, lines)
     found = differences(network, run.returncode, lines)
     found = found or verdict_differences(network, run.returncode, lines)
-    if not UNJUDGED & set(network.faults) and network.has_pairs():
+    # Of two senders under one address a merge can no more tell the frames apart than a node can.
+    if not UNJUDGED & set(network.faults) and network.has_pairs() and not network.twins:
         run = subprocess.run([program, "merge", *args, "--keep", "-w", "-"], capture_output=True, timeout=60, check=False)
         found += merge_differences(network, packets_of(run.stdout)) if run.returncode == 0 else [f"a merge ends with status {run.returncode}"]
     return [f"{type(network).__name__.lower()} {seed} ({', '.join(network.faults) or 'sound'}): {it}" for it in found]
@@ -636,16 +869,19 @@ def judge(program, seed, room):
 def main():
     parser = argparse.ArgumentParser(description=__doc__, formatter_class=argparse.RawDescriptionHelpFormatter)
     parser.add_argument("--program", default=f"{TOP}/seamless")
+    parser.add_argument("--kinds", action="store_true")
     parser.add_argument("first", type=int, nargs="?", default=1)
     parser.add_argument("count", type=int, nargs="?", default=20)
     task = parser.parse_args()
-    failed = 0
+    failed, table = 0, {}
     with tempfile.TemporaryDirectory(prefix="networks-") as room:
         for seed in range(task.first, task.first + task.count):
-            found = judge(task.program, seed, room)
+            found = judge(task.program, seed, room, table)
             failed += bool(found)
             for line in found:
                 print(line)
+    if task.kinds:
+        print_kinds(table)
     print(f"{task.count - failed} passed, {failed} failed")
     return 1 if failed or task.count == 0 else 0
 

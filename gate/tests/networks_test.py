@@ -56,7 +56,12 @@ def verdicts_of(network):
         if frames:
             faults.append({"kind": "loss", "lan": "AB"[lan], "frames": frames, "sources": sources, "other_lan": networks.losses(network)[1 - lan][0]})
     whole = {"line": "verdict", "verdict": "faulty" if faults else "sound", "faults": len(faults), "notices": len(notices)}
-    return [whole, *({**fault, "line": "fault"} for fault in faults), *notices]
+    named = []
+    for lan in range(2):
+        macs = sorted(networks.losing(network, lan))
+        named += [{"line": "at", "kind": "loss", "lan": "AB"[lan], "source": mac} for mac in macs[:3]]
+        named += [{"line": "at", "kind": "loss", "lan": "AB"[lan], "more": len(macs) - 3}] if len(macs) > 3 else []
+    return [whole, *({**fault, "line": "fault"} for fault in faults), *notices, *named]
 
 
 class NetworksTest(unittest.TestCase):
@@ -84,6 +89,35 @@ class NetworksTest(unittest.TestCase):
         self.assertEqual(networks.verdict_differences(network, 3, lines), [])
         lines[1]["since_ms"] += 20
         self.assertTrue(networks.verdict_differences(network, 3, lines))
+
+    def test_a_cut_is_told_between_the_two_sources_next_to_it(self):
+        network = network_where(lambda one: type(one) is networks.Ring and "cut" in one.faults and "recorder" not in networks.place_of(one))
+        rows, (next_a, next_b) = network.rows(), networks.place_of(network)
+        order = [source.mac.hex(":") for source in network.sources]
+        self.assertTrue(order.index(next_b) <= network.link < order.index(next_a))
+        sides = [side for _, side, _, _ in rows]
+        cut = {"line": "fault", "kind": "cut_ring", "sided_a": sides.count(0), "sided_b": sides.count(1), "frames": sum(row[2] for row in rows),
+               "since_ms": (min(row[3] for row in rows) - min(begin for begin, _ in network.runs)) / 10**6, "next_a": next_a, "next_b": next_b}
+        self.assertEqual(networks.row_differences(network, [cut]), [])
+        self.assertTrue(networks.row_differences(network, [{**cut, "next_a": next_b}]))
+        self.assertTrue(networks.row_differences(network, [{**cut, "next_b": "recorder"}]))
+
+    def test_kinds_are_counted_as_right_missed_or_made_up(self):
+        network = network_where(lambda one: type(one) is networks.Network and "loss" in one.faults and one.status() == 3
+                                and not {*one.faults} - {"loss", "both", "row", "restart"})
+        lines, table = verdicts_of(network), {}
+        networks.count_kinds(table, network, lines)
+        self.assertTrue(table["loss"][0] > 0 and all(row[1:] == [0, 0, 0] for row in table.values()), table)
+        babbling = {"line": "notice", "kind": "babbling", "source": "02:00:00:00:01:00", "since_ms": 0}
+        wrong = {}
+        networks.count_kinds(wrong, network, [line for line in lines if line.get("kind") != "loss"] + [babbling])
+        self.assertEqual((wrong["loss"], wrong["babbling"]), ([0, table["loss"][0], 0, 0], [0, 0, 1, 0]))
+        network = network_where(lambda one: type(one) is networks.Network and one.doubled())
+        mac, time = next((mac, time) for kind, mac, _, time in network.strange if kind == "two_senders")
+        for late, row in ((0.9, [1, 0, 0, 0]), (2, [0, 1, 1, 0])):
+            table, line = {}, {"line": "fault", "kind": "two_senders", "source": mac.hex(":"), "since_ms": time / 10**6 + late * 1000}
+            networks.count_kinds(table, network, [line])
+            self.assertEqual(table["two_senders"], row)
 
     def test_where_nothing_can_be_judged_that_alone_is_told(self):
         network = network_with("dead")
@@ -152,8 +186,7 @@ class NetworksTest(unittest.TestCase):
 
     def test_each_wrong_status_is_found(self):
         for faults, status in ((), 0), (("row",), 3), (("dead",), 4), (("swapped",), 4), (("apart",), 4), (("set",), 4):
-            network = network_with(*faults)
-            self.assertEqual(network.status(), status)
+            network = network_where(lambda one: sorted(one.faults) == sorted(faults) and one.has_pairs() and one.status() == status)
             for other in {0, 1, 3, 4} - {status}:
                 self.assertTrue(networks.differences(network, other, said_of(network)))
 
