@@ -37,7 +37,11 @@ _seamless() {
     "audit --to") ;;
     "audit --shift") words="auto none" ;;
     "audit --list") ;;
-    "audit --format") words="text json csv svg" ;;
+    "audit --format") words="text json csv svg html" ;;
+    "audit --time") words="utc" ;;
+    "audit --title") ;;
+    "audit --note") ;;
+    "audit --names") COMPREPLY=($(compgen -f -- "$2")) && return ;;
     "merge --a") COMPREPLY=($(compgen -f -- "$2")) && return ;;
     "merge --b") COMPREPLY=($(compgen -f -- "$2")) && return ;;
     "merge --write") COMPREPLY=($(compgen -f -- "$2")) && return ;;
@@ -76,7 +80,7 @@ _seamless() {
         *" replay") words="--role --mac --lan --net --mode --window --help" ;;
         *" status") words="--role --mac --lan --net --mode --window --counters --help" ;;
         *" script") words="--a --b --c --network --shift-a --shift-b --shift-c --shift --fcs --from --to --tick --help" ;;
-        *" audit") words="--a --b --mirror --network --shift-a --shift-b --fcs --from --to --shift --list --format --check --complete --help" ;;
+        *" audit") words="--a --b --mirror --network --shift-a --shift-b --fcs --from --to --shift --list --format --time --title --note --names --check --complete --help" ;;
         *" merge") words="--a --b --write --network --shift-a --shift-b --fcs --from --to --shift --keep --only --help" ;;
         *" ring") words="--nodes --turns --format --mode --window --help" ;;
         *" lan") words="--nodes --turns --format --mode --window --help" ;;

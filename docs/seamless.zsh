@@ -37,7 +37,11 @@ _seamless() {
     "audit --to") ;;
     "audit --shift") compadd -- auto none ;;
     "audit --list") ;;
-    "audit --format") compadd -- text json csv svg ;;
+    "audit --format") compadd -- text json csv svg html ;;
+    "audit --time") compadd -- utc ;;
+    "audit --title") ;;
+    "audit --note") ;;
+    "audit --names") _files ;;
     "merge --a") _files ;;
     "merge --b") _files ;;
     "merge --write") _files ;;
@@ -76,7 +80,7 @@ _seamless() {
         *" replay") compadd -- --role --mac --lan --net --mode --window --help ;;
         *" status") compadd -- --role --mac --lan --net --mode --window --counters --help ;;
         *" script") compadd -- --a --b --c --network --shift-a --shift-b --shift-c --shift --fcs --from --to --tick --help ;;
-        *" audit") compadd -- --a --b --mirror --network --shift-a --shift-b --fcs --from --to --shift --list --format --check --complete --help ;;
+        *" audit") compadd -- --a --b --mirror --network --shift-a --shift-b --fcs --from --to --shift --list --format --time --title --note --names --check --complete --help ;;
         *" merge") compadd -- --a --b --write --network --shift-a --shift-b --fcs --from --to --shift --keep --only --help ;;
         *" ring") compadd -- --nodes --turns --format --mode --window --help ;;
         *" lan") compadd -- --nodes --turns --format --mode --window --help ;;
