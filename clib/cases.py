@@ -35,7 +35,8 @@ def cases():
     for folder in sorted((TOP / "examples/cases").iterdir()):
         if (folder / "rows").exists():
             continue
-        args = (folder / "args").read_text().split("\n")[:-1]
+        # A case may have words that are not UTF-8, or of its standard input: none of those is a good run of replay.
+        args = (folder / "args").read_text(errors="surrogateescape").split("\n")[:-1]
         if args[:1] == ["replay"] and "--help" not in args and not (folder / "status").exists():
             yield folder.name, args, text_of(folder, "stdin"), text_of(folder, "stdout")
     for args, name in RECORDED:
