@@ -17,8 +17,8 @@ use sr_options::AuditTask;
 use sr_slots::Keys;
 use std::rt::Files;
 
-/// How many sources captures have at most of which several audits are held at once. A source, a flow or a counter takes some 9 KiB, there may
-/// be 1024 flows, and all that an audit keeps is 16 MiB at most.
+/// How many sources captures have at most of which several audits are read at once. A source, a flow or a counter takes some 9 KiB, and there
+/// may be 1024 of each.
 const FEW_SOURCES: usize = 192;
 
 /// When the captures begin and end, and the parts of them in which a frame is missing that has no copy there.
