@@ -1,4 +1,13 @@
 pub mod OutcomeLemmas
+pub mod TotalLemmas
+pub mod LineLemmas
+pub mod KeepLemmas
+pub mod OwnLemmas
+pub mod StepLemmas
+pub mod GoneLemmas
+pub mod AheadLemmas
+pub mod ArrivalLemmas
+pub mod RunLemmas
 pub mod ShiftLemmas
 pub mod RecordLemmas
 pub mod FollowedLemmas

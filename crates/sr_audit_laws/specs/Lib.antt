@@ -1,5 +1,6 @@
 pub mod Steady
 pub mod Outcomes
+pub mod Lists
 pub mod Records
 pub mod Sources
 pub mod Exactly

@@ -2,6 +2,7 @@
 
 ghost use Rattle.sr_audit_laws.specs.Cases.{ThreeFramesMeetThePremises, RingFramesMeetThePremises, TellsWhatIsLost};
 ghost use Rattle.sr_audit_laws.specs.Exactly.{FiguresAreByArrivals, TestsAreByArrivals};
+ghost use Rattle.sr_audit_laws.specs.Lists.{ListsEachOnce, ListsAsFiguresSay};
 ghost use Rattle.sr_audit_laws.specs.Outcomes.{EachNumberIsTold, EachBreakIsTold};
 ghost use Rattle.sr_audit_laws.specs.Records.{RecordsHaveNoRepeat, RecordsHaveNoLoss, RecordsLackNoNumber, RingRecordsLackNoNumber};
 ghost use Rattle.sr_audit_laws.specs.Sources.{AuditsCountEachNumber, WholeAuditsTellNoFault};
@@ -30,6 +31,14 @@ pub fn each_number_is_told()
 /// as the jumps and the restarts that are told.
 pub fn each_break_is_told()
     ensures { EachBreakIsTold }
+{}
+
+/// Of whatever copies a listing took, all that it listed of a source, with what it lists at the end of that, are the lines of the source's
+/// numbers, each once: a frame that came by both sides as a pair, one that came by one side alone as lost, if it came while the capture of
+/// the other side ran, and a number of no frame as that. Times and packets are those of first copies. Nothing is listed of a source that is
+/// not one of the 512 from the first one on.
+pub fn each_number_is_listed_once()
+    ensures { ListsEachOnce }
 {}
 
 /// Of the copies of a source's frames that two recorders have, with a true numbering, no copy is told as a repeat, no pair as 400 ms
