@@ -8,6 +8,7 @@ pub mod GoneLemmas
 pub mod AheadLemmas
 pub mod ArrivalLemmas
 pub mod RunLemmas
+pub mod KindLemmas
 pub mod ShiftLemmas
 pub mod RecordLemmas
 pub mod FollowedLemmas

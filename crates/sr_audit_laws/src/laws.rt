@@ -41,6 +41,12 @@ pub fn each_number_is_listed_once()
     ensures { ListsEachOnce }
 {}
 
+/// So of a source that is listed there are as many pairs, frames that one side lost and numbers of no frame among the lines as its figures
+/// say.
+pub fn lists_are_as_long_as_figures_say()
+    ensures { ListsAsFiguresSay }
+{}
+
 /// Of the copies of a source's frames that two recorders have, with a true numbering, no copy is told as a repeat, no pair as 400 ms
 /// apart, and no jump or restart.
 ///
