@@ -9,6 +9,7 @@ pub mod AheadLemmas
 pub mod ArrivalLemmas
 pub mod RunLemmas
 pub mod KindLemmas
+pub mod CallLemmas
 pub mod ShiftLemmas
 pub mod RecordLemmas
 pub mod FollowedLemmas

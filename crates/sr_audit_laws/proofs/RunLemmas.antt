@@ -400,7 +400,7 @@ pub record RunTells (spans : Spans) (first : ℕ) (m : Mac) (f : Listed → ℕ)
   pub order : keys_of sources ≡ heard xs
   pub tells : TellsOf spans m (own m f) xs (lookup (mac_eq m) sources) (sum_by (own m f) lines)
 
-run_tells : (spans : Spans) (first : ℕ) (m : Mac) (f : Listed → ℕ) (xs : List Copied) (sources : List (Mac × Pending)) (lines : List Listed) →
+pub run_tells : (spans : Spans) (first : ℕ) (m : Mac) (f : Listed → ℕ) (xs : List Copied) (sources : List (Mac × Pending)) (lines : List Listed) →
     length xs < 2 ^ 64 → ListingRun spans first xs sources lines → RunTells spans first m f xs sources lines
 run_tells spans first m f [] sources lines few run = record {
   keeps = subst (KeepsSources first []) (sym run.0) (lists_none first);

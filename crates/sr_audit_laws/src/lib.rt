@@ -2,8 +2,10 @@
 //! is lost.
 #![tactic(auto)]
 
+mod calls;
 mod laws;
 
+pub use calls::list_source;
 pub use laws::{
     audits_count_each_number, each_break_is_told, each_number_is_listed_once, each_number_is_told, figures_are_by_arrivals, lists_are_as_long_as_figures_say,
     records_have_no_loss, records_have_no_repeat, records_lack_no_number,
