@@ -10,6 +10,7 @@ pub mod ArrivalLemmas
 pub mod RunLemmas
 pub mod KindLemmas
 pub mod CallLemmas
+pub mod ListCaseLemmas
 pub mod ShiftLemmas
 pub mod RecordLemmas
 pub mod FollowedLemmas

@@ -2,6 +2,7 @@
 
 ghost use Rattle.sr_audit_laws.specs.Cases.{ThreeFramesMeetThePremises, RingFramesMeetThePremises, TellsWhatIsLost};
 ghost use Rattle.sr_audit_laws.specs.Exactly.{FiguresAreByArrivals, TestsAreByArrivals};
+ghost use Rattle.sr_audit_laws.specs.ListCases.{ListsAsWorkedOut};
 ghost use Rattle.sr_audit_laws.specs.Lists.{ListsEachOnce, ListsAsFiguresSay};
 ghost use Rattle.sr_audit_laws.specs.Outcomes.{EachNumberIsTold, EachBreakIsTold};
 ghost use Rattle.sr_audit_laws.specs.Records.{RecordsHaveNoRepeat, RecordsHaveNoLoss, RecordsLackNoNumber, RingRecordsLackNoNumber};
@@ -99,6 +100,12 @@ pub fn ring_frames_meet_the_premises()
 /// with one that came twice, a repeat.
 pub fn what_is_lost_is_told()
     ensures { TellsWhatIsLost }
+{}
+
+/// The lines of a list of copies worked out: a pair, a frame that one side lost, a number of no frame, and none of a frame at the edge of a
+/// capture. A repeat changes no line, a late copy makes a pair of a lost frame, and a source that is not listed has no line.
+pub fn worked_lines_are_told()
+    ensures { ListsAsWorkedOut }
 {}
 
 /// The figures of a source, of an audit that has each, are a function of its arrivals and of when the captures run.

@@ -11,5 +11,5 @@ pub use laws::{
     records_have_no_loss, records_have_no_repeat, records_lack_no_number,
     ring_frames_meet_the_premises, ring_records_lack_no_number, steady_audits_count_what_goes_up,
     tests_are_by_arrivals, three_frames_meet_the_premises, what_is_lost_is_told,
-    whole_audits_tell_no_fault,
+    whole_audits_tell_no_fault, worked_lines_are_told,
 };
