@@ -1,6 +1,6 @@
 -- All lines of the stretches of a source, with one arrival more that lies ahead or begins a stretch.
-use Rattle.std.proofs.Common.{◌≡◌, ℕ, ◌+◌, ◌-◌, ◌<◌, ◌≤◌, Bool, true, false, cond, ◌||◌, ◌&&◌, List, [], ◌∷◌, ◌++◌, ℤ, pos, arith, refl, sym, ap, ◌∙◌, subst, inl, inr}
-use Rattle.std.specs.Prelude.{sum_by, ◌+ℤ◌, ◌-ℤ◌, ◌<ℤ◌, ◌≤ℤ◌, int_lt}
+use Rattle.std.proofs.Common.{◌≡◌, ℕ, ◌+◌, ◌-◌, ◌<◌, Bool, true, false, ◌||◌, ◌&&◌, List, [], ◌∷◌, ◌++◌, ℤ, pos, arith, refl, sym, ap, ◌∙◌, subst, inl, inr}
+use Rattle.std.specs.Prelude.{sum_by, ◌+ℤ◌, ◌-ℤ◌, ◌<ℤ◌, ◌≤ℤ◌}
 use Rattle.std.specs.Ordering.{int_eq}
 use Rattle.std.proofs.lemmas.Bool.{cases_Bool}
 use Rattle.std.proofs.lemmas.Bool.Decides.{Decides-int_eq}
@@ -22,11 +22,10 @@ use Rattle.sr_audit.specs.Stretches.{Placed, copy_as, same_side, came, top_numbe
 use Rattle.sr_audit.proofs.EdgeLemmas.{came_below, some_below}
 use Rattle.sr_audit.proofs.ExtentLemmas.{length_is, greater_ahead, lesser_ahead}
 use Rattle.sr_audit.proofs.FateLemmas.{ahead_near, le_own, near_own, wire_own}
-use Rattle.sr_audit.proofs.FrameLemmas.{came-other, came-same}
 use Rattle.sr_audit.proofs.RowLemmas.{depth_is}
-use Rattle.sr_audit_laws.specs.Lists.{is_within, before_stretch, all_lines}
+use Rattle.sr_audit_laws.specs.Lists.{is_in_stretch, all_lines}
 use Rattle.sr_audit_laws.proofs.OutcomeLemmas.{some}
-use Rattle.sr_audit_laws.proofs.TotalLemmas.{total, total_zero, total_suc, total_same, total_none, total_split}
+use Rattle.sr_audit_laws.proofs.TotalLemmas.{total, total_same, total_none, total_split}
 use Rattle.sr_audit_laws.proofs.LineLemmas.{KeepsLines, told, waits, reach_same, reach_now}
 use Rattle.sr_audit_laws.proofs.KeepLemmas.{false_le, within_below, within_is, within_not_high, within_over, with_lines, ahead_kept, ahead_passed}
 use Rattle.sr_audit_laws.proofs.StepLemmas.{KeepsStretch, TellsLines, parted, left_total, none_low, waits_all, deep_of, base_up}
@@ -92,7 +91,7 @@ ahead_lines z before x copies m k at between new list after is small carried roo
     (λ high. ahead_passed t m n k x.arrival.seq.0 x.arrival.time at between is carried passes near under high
     ∙ sym (reach_now n c s (within_not_high z before n high)))
     (λ below. let over : bottom_number s ≤ℤ n = subst (λ b. b ≤ℤ n) bottom (within_over c s n lies) in
-    let there : is_within n s ≡ true = within_is z before n over below in
+    let there : is_in_stretch n s ≡ true = within_is z before n over below in
     (ahead_kept t m n k x.arrival.seq.0 x.arrival.time at between is carried passes near under below).time
     ∙ keeps.lines.passed n none there (ahead_near t m n k is near) ∙ sym (reach_same n c s there)))
     taken
@@ -283,16 +282,15 @@ pub begun_told : (spans : Spans) (f : Listed → ℕ) (ss : List (List Placed)) 
     (mid after : List Listed) (lines more : ℕ) → x.arrival.seq.0 < 65536 → KeepsPlaces between → TakesCopy by_neither x between new mid after →
     sum_by f after ≡ sum_by f mid + more → lines ≡ sum_by f (all_lines spans x.src ss copies) →
     TellsLines spans x.src f (stretch_begun x.arrival ∷ ss) (x ∷ copies) new (lines + more)
-begun_told spans f ss x copies between new mid after lines more fits room taken sums told_all =
-    (
-      with_lines [] x copies m between new mid after (wire_own x.arrival.seq.0 fits) (near_own m) (le_own m) room
-          (λ n is_some above. let no : false ≡ true = is_some in absurd cc)
-          (λ n other none lies above.
-          let one : n ≡ m = same_both m n (within_over c [] n lies) (within_below c [] n lies) in
-          let bad : true ≡ false = sym ((Decides-int_eq n m).1 one) ∙ other in absurd cc)
-          taken,
-      whole,
-    )
+begun_told spans f ss x copies between new mid after lines more fits room taken sums told_all = (
+  with_lines [] x copies m between new mid after (wire_own x.arrival.seq.0 fits) (near_own m) (le_own m) room
+      (λ n is_some above. let no : false ≡ true = is_some in absurd cc)
+      (λ n other none lies above.
+      let one : n ≡ m = same_both m n (within_over c [] n lies) (within_below c [] n lies) in
+      let bad : true ≡ false = sym ((Decides-int_eq n m).1 one) ∙ other in absurd cc)
+      taken,
+  whole,
+)
   where
     m : ℤ
     m = pos x.arrival.seq.0

@@ -21,7 +21,7 @@ use Rattle.sr_audit.specs.Listings.{fate_kept, waiting, paired_as, TakesCopyIf, 
 use Rattle.sr_audit.specs.Looks.{step_to, look_at}
 use Rattle.sr_audit.specs.Pendings.{taken_if, arrivals_from, heard_with, IsWas, KeepsSources, ListsCopy, ListsLast}
 use Rattle.sr_audit.specs.Stretches.{Placed, top_number, newest_time, lies_from, stretches}
-use Rattle.sr_audit_laws.specs.Lists.{lines_from, wanted_lines, NotesCopy, EndsAt, Appends, ListingRun, AreSameLines}
+use Rattle.sr_audit_laws.specs.Lists.{lines_from, wanted_lines, NotesCopy, FinishesSource, ListingRun, AreSameLines}
 use Rattle.sr_audit_laws.proofs.RunLemmas.{run_tells, each_once}
 
 -- a list that begins with another
@@ -108,14 +108,14 @@ run_more spans first x copies old new list after few run notes =
     (old, list, more.0, run, record { before = list; after = subst (NotesCopy spans first x old new list) more.1 notes }, more.1)
 
 pub run_ends : (spans : Spans) (first : ℕ) (copies : List Copied) (sources : List (Mac × Pending)) (list after : List Listed) (m : Mac) →
-    length copies < 2 ^ 64 → ListingRun spans first copies sources list → EndsAt spans first m sources list after →
+    length copies < 2 ^ 64 → ListingRun spans first copies sources list → FinishesSource spans first m sources list after →
     AreSameLines (lines_from m after) (wanted_lines spans first m copies)
 run_ends spans first copies sources list after m few run ends =
     let keeps = (run_tells spans first m (λ l. 0) copies sources list few run).keeps in
     let more = end_begins spans m (arrivals_from m copies) (lookup (mac_eq m) sources) list after (ends.listed copies keeps) in
     subst (λ ls. AreSameLines (lines_from m ls) (wanted_lines spans first m copies)) (sym more.1)
     (each_once spans first copies sources list more.0 m few run
-    (record { before = list; after = subst (EndsAt spans first m sources list) more.1 ends }))
+    (record { before = list; after = subst (FinishesSource spans first m sources list) more.1 ends }))
 
 -- the answer of a call
 pub note_runs : {T E : Type 0} (r : Result T E) (spans : Spans) (first : ℕ) (x : Copied) (old new : List (Mac × Pending))
@@ -160,7 +160,7 @@ run_next spans now first at xs i d old new list after same same_first within few
 pub ends_on : (spans now : Spans) (first at : ℕ) (src : Mac) (sources : List (Mac × Pending)) (list after : List Listed) → now ≡ spans →
     at ≡ first →
     ((xs : List Copied) → KeepsSources at xs sources → ListsLast now src (arrivals_from src xs) (lookup (mac_eq src) sources) list after) →
-    EndsAt spans first src sources list after
+    FinishesSource spans first src sources list after
 ends_on spans now first at src sources list after same same_first lists = record {
   listed = λ xs keeps. subst (λ s. ListsLast s src (arrivals_from src xs) (lookup (mac_eq src) sources) list after) same
       (lists xs (subst (λ n. KeepsSources n xs sources) (sym same_first) keeps));

@@ -1,39 +1,33 @@
 -- All lines of the stretches of a source, with one arrival more.
-use Rattle.std.proofs.Common.{◌≡◌, ℕ, ◌+◌, ◌-◌, ◌%◌, ◌<◌, ◌≤◌, ◌⊎◌, Bool, true, false, cond, ◌||◌, ◌&&◌, not, List, [], ◌∷◌, ◌++◌, ℤ, pos, arith, refl, sym, ap, ◌∙◌, subst, inl, inr}
+use Rattle.std.proofs.Common.{◌≡◌, ℕ, ◌+◌, ◌-◌, ◌<◌, true, false, List, ◌∷◌, ℤ, pos, arith, sym, ap, ◌∙◌, subst, inl, inr}
 use Rattle.std.specs.Prelude.{sum_by, ◌+ℤ◌, ◌-ℤ◌, ◌<ℤ◌, ◌≤ℤ◌, int_lt}
 use Rattle.std.specs.Ordering.{int_eq}
 use Rattle.std.proofs.lemmas.Bool.{cases_Bool}
 use Rattle.std.proofs.lemmas.Bool.Decides.{Decides-int_eq}
 use Rattle.std.proofs.lemmas.Int.{ints, by_lt_z}
-use Rattle.std.proofs.lemmas.List.Sums.{sum_by-append}
 use Rattle.sr_frame.specs.declared.fields.Mac.{Mac}
 use Rattle.sr_sequence.specs.Numbers.{wire}
 use Rattle.sr_audit.specs.declared.listing.Copied.{Copied}
 use Rattle.sr_audit.specs.declared.listing.Listed.{Listed}
 use Rattle.sr_audit.specs.declared.pending.Pending.{Pending}
-use Rattle.sr_audit.specs.declared.side.Side.{Side}
 use Rattle.sr_audit.specs.declared.side.Side.TheVariants.{A, B}
 use Rattle.sr_audit.specs.declared.span.Spans.{Spans}
-use Rattle.sr_audit.specs.declared.tally.Came.{Came}
-use Rattle.sr_audit.specs.Counting.{has_come, came_before_at}
-use Rattle.sr_audit.specs.Edges.{first_time}
-use Rattle.sr_audit.specs.Extents.{lesser, bottom_number, size_of, length_of}
-use Rattle.sr_audit.specs.Fates.{fate_of}
-use Rattle.sr_audit.specs.Listings.{fate_kept, time_kept, packet_kept, left_behind, KeepsPlaces, IsKeptAs, PassesAhead, PassesOver, TakesCopyIf, TakesCopy}
-use Rattle.sr_audit.specs.Looks.{came_by, by_neither}
-use Rattle.sr_audit.specs.Stretches.{Placed, copy_as, same_side, came, top_number, stretch_begun}
+use Rattle.sr_audit.specs.Extents.{lesser, bottom_number, length_of}
+use Rattle.sr_audit.specs.Listings.{fate_kept, time_kept, packet_kept, KeepsPlaces, IsKeptAs, PassesOver, TakesCopy}
+use Rattle.sr_audit.specs.Looks.{came_by}
+use Rattle.sr_audit.specs.Stretches.{Placed, copy_as, came, top_number}
 use Rattle.sr_audit.proofs.EdgeLemmas.{some_below}
-use Rattle.sr_audit.proofs.ExtentLemmas.{length_is, greater_ahead, greater_behind, lesser_ahead}
-use Rattle.sr_audit.proofs.FateLemmas.{ahead_near, le_behind, le_own, near_behind, near_own, wire_own}
+use Rattle.sr_audit.proofs.ExtentLemmas.{greater_behind}
+use Rattle.sr_audit.proofs.FateLemmas.{le_behind, near_behind}
 use Rattle.sr_audit.proofs.FrameLemmas.{came-other}
 use Rattle.sr_audit.proofs.RowLemmas.{depth_is, not_below}
-use Rattle.sr_audit_laws.specs.Lists.{is_within, reach_time, before_stretch, all_lines}
+use Rattle.sr_audit_laws.specs.Lists.{is_in_stretch, all_lines}
 use Rattle.sr_audit_laws.proofs.OutcomeLemmas.{some, some_own}
-use Rattle.sr_audit_laws.proofs.TotalLemmas.{total, total_zero, total_suc, total_same, total_none, total_plus, total_split, total_once}
-use Rattle.sr_audit_laws.proofs.LineLemmas.{first_packet, KeepsLines, told, waits_if, waits, line_other, reach_same, reach_now}
-use Rattle.sr_audit_laws.proofs.KeepLemmas.{false_le, true_lt, within_over, within_below, within_is, within_not_low, within_not_high, some_within, with_lines, ahead_kept, ahead_passed, behind_kept, behind_passed}
+use Rattle.sr_audit_laws.proofs.TotalLemmas.{total, total_same, total_none, total_plus, total_split, total_once}
+use Rattle.sr_audit_laws.proofs.LineLemmas.{KeepsLines, told, waits_if, waits, line_other, reach_same, reach_now}
+use Rattle.sr_audit_laws.proofs.KeepLemmas.{false_le, within_over, within_below, within_is, within_not_low, some_within, with_lines, behind_kept, behind_passed}
 use Rattle.sr_audit_laws.proofs.OwnLemmas.{inside, KnowsOwn, own_step}
-use Rattle.sr_audit_laws.proofs.StepLemmas.{KeepsStretch, TellsLines, parted, last_low, left_total, none_low, inside_low, inside_high, waits_all, deep_of, whole_total, base_up}
+use Rattle.sr_audit_laws.proofs.StepLemmas.{KeepsStretch, TellsLines, parted, last_low, none_low, inside_low, inside_high, deep_of, whole_total}
 
 -- numbers in order
 lesser_le : (b m : ℤ) → lesser b m ≤ℤ b
@@ -195,7 +189,7 @@ behind_lines z before x copies m k at between new list after is small carried ro
     (λ low. behind_passed z before m n k x.arrival.seq.0 x.arrival.time at between is carried keeps.fates.reach passes below
     (over_one (bottom_number s) m n (within_over c s n lies) low) low
     ∙ sym (reach_now n c s (within_not_low z before n low)))
-    (λ high. let there : is_within n s ≡ true = within_is z before n high below in
+    (λ high. let there : is_in_stretch n s ≡ true = within_is z before n high below in
     (kept n near below high).time ∙ keeps.lines.passed n none there near ∙ sym (reach_same n c s there)))
     taken
   where

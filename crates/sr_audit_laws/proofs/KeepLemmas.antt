@@ -1,10 +1,10 @@
 -- What is kept of the last numbers of a stretch, beside fates and times, with one copy more.
-use Rattle.std.proofs.Common.{◌≡◌, ℕ, ◌+◌, ◌-◌, ◌<◌, ◌≤◌, Bool, true, false, cond, ◌||◌, ◌&&◌, not, List, [], ◌∷◌, ℤ, pos, arith, refl, sym, ap, ◌∙◌, subst, inl, inr}
+use Rattle.std.proofs.Common.{◌≡◌, ℕ, ◌+◌, ◌-◌, ◌<◌, ◌≤◌, Bool, true, false, cond, ◌&&◌, not, List, ◌∷◌, ℤ, pos, arith, refl, sym, ap, ◌∙◌, subst, inl, inr}
 use Rattle.std.specs.Prelude.{min, slice_index_or, ◌+ℤ◌, ◌-ℤ◌, ◌<ℤ◌, ◌≤ℤ◌, int_lt}
 use Rattle.std.specs.Ordering.{int_eq}
 use Rattle.std.proofs.lemmas.Bool.{cases_Bool, cases_lt, and_parts}
 use Rattle.std.proofs.lemmas.Bool.Decides.{Decides-int_eq}
-use Rattle.std.proofs.lemmas.Int.{ints, by_lt_z}
+use Rattle.std.proofs.lemmas.Int.{ints}
 use Rattle.std.proofs.lemmas.List.{get_or-set_same}
 use Rattle.sr_sequence.specs.Numbers.{wire}
 use Rattle.sr_audit.specs.declared.listing.Copied.{Copied}
@@ -15,7 +15,7 @@ use Rattle.sr_audit.specs.declared.tally.Came.{Came}
 use Rattle.sr_audit.specs.Counting.{has_come, came_before_at}
 use Rattle.sr_audit.specs.Extents.{bottom_number, size_of}
 use Rattle.sr_audit.specs.Limits.{place_in}
-use Rattle.sr_audit.specs.Listings.{fate_kept, time_kept, packet_kept, fate_by, steps_before, steps_behind, KeepsPlaces, IsKeptAs, PassesAhead, PassesOver, TakesCopyIf, TakesCopy}
+use Rattle.sr_audit.specs.Listings.{fate_kept, time_kept, packet_kept, fate_by, steps_behind, KeepsPlaces, IsKeptAs, PassesAhead, PassesOver, TakesCopyIf, TakesCopy}
 use Rattle.sr_audit.specs.Looks.{came_by}
 use Rattle.sr_audit.specs.Stretches.{Placed, copy_as, top_number}
 use Rattle.sr_audit.proofs.EdgeLemmas.{same_place, some_below}
@@ -23,7 +23,7 @@ use Rattle.sr_audit.proofs.FateLemmas.{behind_at, behind_round, place_round, wir
 use Rattle.sr_audit.proofs.FitLemmas.{some_over}
 use Rattle.sr_audit.proofs.ListingLemmas.{puts_other, settles_other}
 use Rattle.sr_audit.proofs.RowLemmas.{depth_is, size_is}
-use Rattle.sr_audit_laws.specs.Lists.{is_within, reach_time}
+use Rattle.sr_audit_laws.specs.Lists.{is_in_stretch, reach_time}
 use Rattle.sr_audit_laws.proofs.OutcomeLemmas.{some, some_own, some_other}
 use Rattle.sr_audit_laws.proofs.LineLemmas.{first_packet, KeepsLines}
 
@@ -41,25 +41,25 @@ false_le m n e = grind (arith, ints)
 pub true_lt : (m n : ℤ) → m <ℤ n → int_lt m n ≡ true
 true_lt m n e = grind (arith, ints)
 
-pub within_over : (y : Placed) (s : List Placed) (n : ℤ) → is_within n (y ∷ s) ≡ true → bottom_number (y ∷ s) ≤ℤ n
+pub within_over : (y : Placed) (s : List Placed) (n : ℤ) → is_in_stretch n (y ∷ s) ≡ true → bottom_number (y ∷ s) ≤ℤ n
 within_over y s n is =
     le_false n (bottom_number (y ∷ s)) (not_true (int_lt n (bottom_number (y ∷ s)))
     (and_parts (not (int_lt n (bottom_number (y ∷ s)))) (not (int_lt (top_number (y ∷ s)) n)) is).0)
 
-pub within_below : (y : Placed) (s : List Placed) (n : ℤ) → is_within n (y ∷ s) ≡ true → n ≤ℤ top_number (y ∷ s)
+pub within_below : (y : Placed) (s : List Placed) (n : ℤ) → is_in_stretch n (y ∷ s) ≡ true → n ≤ℤ top_number (y ∷ s)
 within_below y s n is =
     le_false (top_number (y ∷ s)) n (not_true (int_lt (top_number (y ∷ s)) n)
     (and_parts (not (int_lt n (bottom_number (y ∷ s)))) (not (int_lt (top_number (y ∷ s)) n)) is).1)
 
-pub within_is : (y : Placed) (s : List Placed) (n : ℤ) → bottom_number (y ∷ s) ≤ℤ n → n ≤ℤ top_number (y ∷ s) → is_within n (y ∷ s) ≡ true
+pub within_is : (y : Placed) (s : List Placed) (n : ℤ) → bottom_number (y ∷ s) ≤ℤ n → n ≤ℤ top_number (y ∷ s) → is_in_stretch n (y ∷ s) ≡ true
 within_is y s n over below =
     ap (λ b. not b && not (int_lt (top_number (y ∷ s)) n)) (false_le n (bottom_number (y ∷ s)) over)
     ∙ ap (λ b. true && not b) (false_le (top_number (y ∷ s)) n below)
 
-pub within_not_low : (y : Placed) (s : List Placed) (n : ℤ) → n <ℤ bottom_number (y ∷ s) → is_within n (y ∷ s) ≡ false
+pub within_not_low : (y : Placed) (s : List Placed) (n : ℤ) → n <ℤ bottom_number (y ∷ s) → is_in_stretch n (y ∷ s) ≡ false
 within_not_low y s n low = ap (λ b. not b && not (int_lt (top_number (y ∷ s)) n)) (true_lt n (bottom_number (y ∷ s)) low)
 
-pub within_not_high : (y : Placed) (s : List Placed) (n : ℤ) → top_number (y ∷ s) <ℤ n → is_within n (y ∷ s) ≡ false
+pub within_not_high : (y : Placed) (s : List Placed) (n : ℤ) → top_number (y ∷ s) <ℤ n → is_in_stretch n (y ∷ s) ≡ false
 within_not_high y s n high =
     ap (λ b. not (int_lt n (bottom_number (y ∷ s))) && not b) (true_lt (top_number (y ∷ s)) n high)
     ∙ and_false (not (int_lt n (bottom_number (y ∷ s))))
@@ -68,7 +68,7 @@ within_not_high y s n high =
     and_false true = refl
     and_false false = refl
 
-pub some_within : (y : Placed) (s : List Placed) (n : ℤ) → some (y ∷ s) n ≡ true → is_within n (y ∷ s) ≡ true
+pub some_within : (y : Placed) (s : List Placed) (n : ℤ) → some (y ∷ s) n ≡ true → is_in_stretch n (y ∷ s) ≡ true
 some_within y s n is = within_is y s n (some_over (y ∷ s) n is) (some_below (y ∷ s) n is)
 
 -- what is kept of other numbers than that of a copy, and the packet that is kept of that
@@ -120,7 +120,7 @@ pub with_lines : (s : List Placed) (x : Copied) (copies : List Copied) (m : ℤ)
     KeepsPlaces between →
     ((n : ℤ) → some s n ≡ true → (top_number (copy_as x.arrival m ∷ s) -ℤ pos 1024) <ℤ n →
     packet_kept between (wire n) ≡ first_packet n s copies) →
-    ((n : ℤ) → int_eq n m ≡ false → some s n ≡ false → is_within n (copy_as x.arrival m ∷ s) ≡ true →
+    ((n : ℤ) → int_eq n m ≡ false → some s n ≡ false → is_in_stretch n (copy_as x.arrival m ∷ s) ≡ true →
     (top_number (copy_as x.arrival m ∷ s) -ℤ pos 1024) <ℤ n → time_kept between (wire n) ≡ reach_time n (copy_as x.arrival m ∷ s)) →
     TakesCopy (came_by s m) x between new list after → KeepsLines (copy_as x.arrival m ∷ s) (x ∷ copies) new
 with_lines s x copies m between new list after carried near le room packets passed taken =

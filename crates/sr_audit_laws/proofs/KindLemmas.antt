@@ -1,6 +1,6 @@
 -- There are as many lines of each kind as the figures of a source say.
-use Rattle.std.proofs.Common.{◌≡◌, ℕ, ◌+◌, ◌<◌, Bool, true, cond, List, [], ◌∷◌, ◌++◌, length, ℤ, refl, sym, ap, ◌∙◌}
-use Rattle.std.specs.Prelude.{◌^◌, count_by, sum_by}
+use Rattle.std.proofs.Common.{◌≡◌, ◌+◌, Bool, cond, List, [], ◌∷◌, ◌++◌, ℤ, refl, sym, ap, ◌∙◌}
+use Rattle.std.specs.Prelude.{count_by, sum_by}
 use Rattle.std.proofs.lemmas.List.Sums.{sum_by-append, sum_by-cons}
 use Rattle.sr_frame.specs.declared.fields.Mac.{Mac}
 use Rattle.sr_audit.specs.declared.listing.Copied.{Copied}
@@ -10,7 +10,7 @@ use Rattle.sr_audit.specs.declared.span.Spans.{Spans}
 use Rattle.sr_audit.specs.Pendings.{arrivals_from}
 use Rattle.sr_audit.specs.Stretches.{Placed, stretches}
 use Rattle.sr_audit.proofs.FrameLemmas.{count-cons}
-use Rattle.sr_audit_laws.specs.Lists.{line_as, line_of, lines_of, before_stretch, all_lines, copies_from, lines_from, is_listed, is_lost_at, is_pair, is_of_none, ListsAsFiguresSay}
+use Rattle.sr_audit_laws.specs.Lists.{line_as, number_line, number_lines, before_stretch, all_lines, copies_from, lines_from, is_lost_at, is_pair, is_of_none, ListsAsFiguresSay}
 use Rattle.sr_audit_laws.specs.Outcomes.{Outcome, Paired, OnlyA, OnlyB, EdgeA, EdgeB, Neither, same_outcome, outcome_of, stretch_numbers, numbers_with}
 use Rattle.sr_audit_laws.proofs.OutcomeLemmas.{each_number}
 use Rattle.sr_audit_laws.proofs.RunLemmas.{each_once}
@@ -21,11 +21,11 @@ IsKindOf test o = (out : Outcome) (src : Mac) (n : ℤ) (s : List Placed) (copie
     count_by test (line_as out src n s copies) ≡ cond (same_outcome o out) 1 0
 
 numbers_of_kind : (spans : Spans) (src : Mac) (test : Listed → Bool) (o : Outcome) → IsKindOf test o → (s : List Placed) (copies : List Copied)
-    (ns : List ℤ) → count_by test (lines_of spans src s copies ns) ≡ count_by (λ n. same_outcome o (outcome_of spans s n)) ns
+    (ns : List ℤ) → count_by test (number_lines spans src s copies ns) ≡ count_by (λ n. same_outcome o (outcome_of spans s n)) ns
 numbers_of_kind spans src test o kind s copies [] = refl
 numbers_of_kind spans src test o kind s copies (n ∷ ns) =
-    sum_by-append (λ l. cond (test l) 1 0) (line_of spans src s copies n) (lines_of spans src s copies ns)
-    ∙ ap (λ k. k + count_by test (lines_of spans src s copies ns)) (kind (outcome_of spans s n) src n s copies)
+    sum_by-append (λ l. cond (test l) 1 0) (number_line spans src s copies n) (number_lines spans src s copies ns)
+    ∙ ap (λ k. k + count_by test (number_lines spans src s copies ns)) (kind (outcome_of spans s n) src n s copies)
     ∙ ap (λ k. cond (same_outcome o (outcome_of spans s n)) 1 0 + k) (numbers_of_kind spans src test o kind s copies ns)
     ∙ sym (count-cons (λ k. same_outcome o (outcome_of spans s k)) n ns)
 
@@ -33,7 +33,7 @@ all_of_kind : (spans : Spans) (src : Mac) (test : Listed → Bool) (o : Outcome)
     (copies : List Copied) → count_by test (all_lines spans src ss copies) ≡ sum_by (numbers_with spans o) ss
 all_of_kind spans src test o kind [] copies = refl
 all_of_kind spans src test o kind (s ∷ rest) copies =
-    sum_by-append (λ l. cond (test l) 1 0) (lines_of spans src s copies (stretch_numbers s)) (all_lines spans src rest (before_stretch s copies))
+    sum_by-append (λ l. cond (test l) 1 0) (number_lines spans src s copies (stretch_numbers s)) (all_lines spans src rest (before_stretch s copies))
     ∙ ap (λ k. k + count_by test (all_lines spans src rest (before_stretch s copies)))
     (numbers_of_kind spans src test o kind s copies (stretch_numbers s))
     ∙ ap (λ k. numbers_with spans o s + k) (all_of_kind spans src test o kind rest (before_stretch s copies))

@@ -1,5 +1,5 @@
 -- What one copy more of a stretch lists of its own number.
-use Rattle.std.proofs.Common.{◌≡◌, ℕ, ◌+◌, ◌<◌, Bool, true, false, cond, ◌||◌, ◌&&◌, not, List, [], ◌∷◌, ◌++◌, ℤ, pos, arith, refl, sym, ap, ◌∙◌, subst, inl, inr}
+use Rattle.std.proofs.Common.{◌≡◌, ℕ, ◌+◌, Bool, true, false, cond, ◌||◌, List, [], ◌∷◌, ◌++◌, ℤ, arith, refl, sym, ap, ◌∙◌}
 use Rattle.std.specs.Prelude.{sum_by, int_lt}
 use Rattle.std.specs.Ordering.{int_eq}
 use Rattle.std.proofs.lemmas.Bool.Decides.{Decides-int_eq}
@@ -9,25 +9,22 @@ use Rattle.sr_sequence.specs.Numbers.{wire}
 use Rattle.sr_audit.specs.declared.listing.Copied.{Copied}
 use Rattle.sr_audit.specs.declared.listing.Listed.{Listed}
 use Rattle.sr_audit.specs.declared.listing.Listed.TheVariants.{Pair}
-use Rattle.sr_audit.specs.declared.pending.Fate.{Fate}
 use Rattle.sr_audit.specs.declared.pending.Pending.{Pending}
 use Rattle.sr_audit.specs.declared.side.Side.{Side}
 use Rattle.sr_audit.specs.declared.side.Side.TheVariants.{A, B}
 use Rattle.sr_audit.specs.declared.span.Spans.{Spans}
-use Rattle.sr_audit.specs.Counting.{has_come, came_before_at}
-use Rattle.sr_audit.specs.Edges.{first_time, is_beyond}
+use Rattle.sr_audit.specs.Counting.{came_before_at}
+use Rattle.sr_audit.specs.Edges.{first_time}
 use Rattle.sr_audit.specs.Extents.{bottom_number}
 use Rattle.sr_audit.specs.Fates.{fate_if, fate_of}
-use Rattle.sr_audit.specs.Lanes.{other_side}
 use Rattle.sr_audit.specs.Listings.{fate_kept, time_kept, packet_kept, copy_kept, paired_as, TakesCopyIf, TakesCopy}
 use Rattle.sr_audit.specs.Looks.{came_by}
-use Rattle.sr_audit.specs.Stretches.{Placed, copy_as, same_side, came, top_number}
+use Rattle.sr_audit.specs.Stretches.{Placed, copy_as, same_side, came}
 use Rattle.sr_audit.proofs.EdgeLemmas.{first_own}
 use Rattle.sr_audit.proofs.FrameLemmas.{came-same}
-use Rattle.sr_audit_laws.specs.Lists.{time_at, packet_at, first_copy, is_within, line_as, line_of}
-use Rattle.sr_audit_laws.specs.Outcomes.{outcome_if}
+use Rattle.sr_audit_laws.specs.Lists.{first_time_at, first_packet_at, first_copy_at, is_in_stretch}
 use Rattle.sr_audit_laws.proofs.OutcomeLemmas.{some}
-use Rattle.sr_audit_laws.proofs.LineLemmas.{first_packet, only_time, only_packet, told, waits_if, waits, kept_copy, line_if, same_line, time_far, time_again, time_first, packet_far, packet_again, packet_first, reach_same}
+use Rattle.sr_audit_laws.proofs.LineLemmas.{first_packet, only_time, only_packet, told, waits_if, waits, line_if, same_line, time_far, time_again, time_first, packet_far, packet_again, packet_first, reach_same}
 
 -- what is told of a number, unless it lies below the stretch
 abbrev pub inside : Spans → Mac → (Listed → ℕ) → List Placed → List Copied → ℤ → ℕ
@@ -38,7 +35,7 @@ pub record KnowsOwn (s : List Placed) (copies : List Copied) (p : Pending) (m : 
   pub fate : some s m ≡ true → fate_kept p seq ≡ fate_of s m
   pub time : some s m ≡ true → time_kept p seq ≡ first_time m s
   pub packet : some s m ≡ true → packet_kept p seq ≡ first_packet m s copies
-  pub lies : some s m ≡ true → is_within m s ≡ true
+  pub lies : some s m ≡ true → is_in_stretch m s ≡ true
 
 -- sums of what is told, where a copy is the first of its frame, one of a frame that came at its side, or one that makes a pair
 new_sums : (now was w1 i1 w0 i0 v : ℕ) → now ≡ was → w1 ≡ v → i1 ≡ v → w0 ≡ i0 → now + (w1 + i0) ≡ was + (w0 + i1)
@@ -115,20 +112,20 @@ own_step spans f s x copies m p new before after carried knows high high_now tak
         first_same : first_time m (c ∷ s) ≡ first_time m s
         first_same = first_own c s ∙ ap (λ t. cond t (first_time m s) c.time) is_some
 
-        times : (other : Side) → time_at other m (c ∷ s) ≡ time_at other m s
+        times : (other : Side) → first_time_at other m (c ∷ s) ≡ first_time_at other m s
         times other = at side other is known
           where
-            at : (side other : Side) → x.arrival.side ≡ side → came side m s ≡ true → time_at other m (c ∷ s) ≡ time_at other m s
+            at : (side other : Side) → x.arrival.side ≡ side → came side m s ≡ true → first_time_at other m (c ∷ s) ≡ first_time_at other m s
             at A A is known = time_again A m c s known
             at A B is known = time_far B m c s (ap (same_side B) is)
             at B A is known = time_far A m c s (ap (same_side A) is)
             at B B is known = time_again B m c s known
 
-        packets : (other : Side) → packet_at other m (c ∷ s) (x ∷ copies) ≡ packet_at other m s copies
+        packets : (other : Side) → first_packet_at other m (c ∷ s) (x ∷ copies) ≡ first_packet_at other m s copies
         packets other = at side other is known
           where
             at : (side other : Side) → x.arrival.side ≡ side → came side m s ≡ true →
-                packet_at other m (c ∷ s) (x ∷ copies) ≡ packet_at other m s copies
+                first_packet_at other m (c ∷ s) (x ∷ copies) ≡ first_packet_at other m s copies
             at A A is known = packet_again A m c s x copies known
             at A B is known = packet_far B m c s x copies (ap (same_side B) is)
             at B A is known = packet_far A m c s x copies (ap (same_side A) is)
@@ -140,7 +137,7 @@ own_step spans f s x copies m p new before after carried knows high high_now tak
 
     -- one came at the other side alone
     joins : (pair : List Listed) → some s m ≡ true → waits spans x.src f s copies m ≡ v → came A m (c ∷ s) ≡ true → came B m (c ∷ s) ≡ true →
-        after ≡ before ++ pair → pair ≡ Pair (first_copy x.src A m (c ∷ s) (x ∷ copies)) (time_at B m (c ∷ s)) ∷ [] →
+        after ≡ before ++ pair → pair ≡ Pair (first_copy_at x.src A m (c ∷ s) (x ∷ copies)) (first_time_at B m (c ∷ s)) ∷ [] →
         sum_by f after + (waits spans x.src f (c ∷ s) (x ∷ copies) m + inside spans x.src f s copies m)
         ≡ sum_by f before + (waits spans x.src f s copies m + inside spans x.src f (c ∷ s) (x ∷ copies) m)
     joins pair is_some was a b more is =
@@ -179,7 +176,7 @@ own_step spans f s x copies m p new before after carried knows high high_now tak
         (taken.1 ∙ ap (λ t. before ++ paired_as p x t) (knows.fate is_some ∙ fate_is false true is_a is_b))
         (λ i. Pair (x_first is is_a i) (b_first is is_some is_a i) ∷ [])
       where
-        x_first : x.arrival.side ≡ A → came A m s ≡ false → x ≡ first_copy x.src A m (c ∷ s) (x ∷ copies)
+        x_first : x.arrival.side ≡ A → came A m s ≡ false → x ≡ first_copy_at x.src A m (c ∷ s) (x ∷ copies)
         x_first is is_a = λ i. record {
           src = x.src;
           arrival = record {
@@ -190,7 +187,7 @@ own_step spans f s x copies m p new before after carried knows high high_now tak
           packet = sym (packet_first A m c s x copies own is is_a) i;
         }
 
-        b_first : x.arrival.side ≡ A → some s m ≡ true → came A m s ≡ false → time_kept p x.arrival.seq.0 ≡ time_at B m (c ∷ s)
+        b_first : x.arrival.side ≡ A → some s m ≡ true → came A m s ≡ false → time_kept p x.arrival.seq.0 ≡ first_time_at B m (c ∷ s)
         b_first is is_some is_a = knows.time is_some ∙ only_time B m s is_a ∙ sym (time_far B m c s (ap (same_side B) is))
     by B is true false is_a is_b taken =
         let is_some : some s m ≡ true = ap (λ t. t || came B m s) is_a in
@@ -200,7 +197,7 @@ own_step spans f s x copies m p new before after carried knows high high_now tak
         (λ i. Pair (a_first is is_some is_b i) (sym (time_first B m c s own is is_b) i) ∷ [])
       where
         a_first : x.arrival.side ≡ B → some s m ≡ true → came B m s ≡ false →
-            copy_kept p x.src x.arrival.seq A ≡ first_copy x.src A m (c ∷ s) (x ∷ copies)
+            copy_kept p x.src x.arrival.seq A ≡ first_copy_at x.src A m (c ∷ s) (x ∷ copies)
         a_first is is_some is_b = λ i. record {
           src = x.src;
           arrival = record {

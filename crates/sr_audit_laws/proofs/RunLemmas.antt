@@ -1,6 +1,6 @@
 -- What a listing of many sources lists of one of them.
-use Rattle.std.proofs.Common.{◌≡◌, ℕ, zero, suc, ◌+◌, ◌<◌, ◌≤◌, ◌⊎◌, Bool, true, false, cond, ◌||◌, ◌&&◌, List, [], ◌∷◌, ◌++◌, length, Option, None, Some, is_some, ℤ, arith, refl, sym, ap, ◌∙◌, subst, inl, inr}
-use Rattle.std.specs.Prelude.{◌^◌, ◌-◌, nat_le, nat_lt, sum_by, count_by, MatchBool}
+use Rattle.std.proofs.Common.{◌≡◌, ℕ, zero, suc, ◌+◌, ◌<◌, ◌≤◌, Bool, true, false, cond, ◌||◌, ◌&&◌, List, [], ◌∷◌, ◌++◌, length, Option, None, Some, is_some, ℤ, arith, refl, sym, ap, ◌∙◌, subst, inl, inr}
+use Rattle.std.specs.Prelude.{◌^◌, ◌-◌, nat_le, nat_lt, sum_by, MatchBool}
 use Rattle.std.specs.List.{list_any}
 use Rattle.std.specs.Map.{lookup, keys_of}
 use Rattle.std.proofs.lemmas.Bool.{cases_Bool, le-leb}
@@ -36,19 +36,19 @@ use Rattle.sr_audit.specs.Rows.{kept_number}
 use Rattle.sr_audit.specs.Stretches.{Placed, top_number, newest_time, lies_from, stretches, current}
 use Rattle.sr_audit.proofs.ExtentLemmas.{no_empty}
 use Rattle.sr_audit.proofs.PendingLemmas.{lists_none}
-use Rattle.sr_audit_laws.specs.Lists.{time_at, first_copy, reach_time, line_as, line_of, lines_of, all_lines, before_stretch, copies_from, source_of, lines_from, heard, heard_before, is_listed, wanted_lines, NotesCopy, EndsAt, Appends, ListingRun, AreSameLines, ListsEachOnce}
+use Rattle.sr_audit_laws.specs.Lists.{first_time_at, first_copy_at, reach_time, line_as, number_line, number_lines, all_lines, before_stretch, copies_from, line_source, lines_from, heard, heard_before, is_listed, wanted_lines, NotesCopy, FinishesSource, AppendsLines, ListingRun, ListsEachOnce}
 use Rattle.sr_audit_laws.specs.Outcomes.{Outcome, Paired, OnlyA, OnlyB, EdgeA, EdgeB, Neither as OfNone, outcome_of, stretch_numbers}
 use Rattle.sr_audit_laws.proofs.StepLemmas.{TellsLines}
 use Rattle.sr_audit_laws.proofs.ArrivalLemmas.{first_told, arrival_told, end_told}
 
 -- the lines of one source
 abbrev pub own : Mac → (Listed → ℕ) → Listed → ℕ
-own m f l = cond (mac_eq m (source_of l)) (f l) 0
+own m f l = cond (mac_eq m (line_source l)) (f l) 0
 
 own_from : (m : Mac) (f : Listed → ℕ) (lines : List Listed) → sum_by (own m f) lines ≡ sum_by f (lines_from m lines)
 own_from m f [] = refl
 own_from m f (l ∷ lines) =
-    sum_by-cons (own m f) l lines ∙ ap (λ n. own m f l + n) (own_from m f lines) ∙ by (mac_eq m (source_of l))
+    sum_by-cons (own m f) l lines ∙ ap (λ n. own m f l + n) (own_from m f lines) ∙ by (mac_eq m (line_source l))
   where
     by : (b : Bool) → cond b (f l) 0 + sum_by f (lines_from m lines) ≡ sum_by f (cond b (l ∷ lines_from m lines) (lines_from m lines))
     by true = sym (sum_by-cons f l (lines_from m lines))
@@ -57,35 +57,35 @@ own_from m f (l ∷ lines) =
         nothing : (n : ℕ) → 0 + n ≡ n
         nothing n = omega arith
 
-one_own : (m : Mac) (f : Listed → ℕ) (l : Listed) → mac_eq m (source_of l) ≡ true → sum_by (own m f) (l ∷ []) ≡ sum_by f (l ∷ [])
+one_own : (m : Mac) (f : Listed → ℕ) (l : Listed) → mac_eq m (line_source l) ≡ true → sum_by (own m f) (l ∷ []) ≡ sum_by f (l ∷ [])
 one_own m f l is = ap (λ b. 0 + cond b (f l) 0) is
 
-one_other : (m : Mac) (f : Listed → ℕ) (l : Listed) → mac_eq m (source_of l) ≡ false → sum_by (own m f) (l ∷ []) ≡ 0
+one_other : (m : Mac) (f : Listed → ℕ) (l : Listed) → mac_eq m (line_source l) ≡ false → sum_by (own m f) (l ∷ []) ≡ 0
 one_other m f l is = ap (λ b. 0 + cond b (f l) 0) is
 
 own_line : (m : Mac) (f : Listed → ℕ) (o : Outcome) (n : ℤ) (s : List Placed) (copies : List Copied) →
     sum_by (own m f) (line_as o m n s copies) ≡ sum_by f (line_as o m n s copies)
-own_line m f Paired n s copies = one_own m f (Pair (first_copy m A n s copies) (time_at B n s)) (mac_refl m)
-own_line m f OnlyA n s copies = one_own m f (Lost (first_copy m A n s copies)) (mac_refl m)
-own_line m f OnlyB n s copies = one_own m f (Lost (first_copy m B n s copies)) (mac_refl m)
+own_line m f Paired n s copies = one_own m f (Pair (first_copy_at m A n s copies) (first_time_at B n s)) (mac_refl m)
+own_line m f OnlyA n s copies = one_own m f (Lost (first_copy_at m A n s copies)) (mac_refl m)
+own_line m f OnlyB n s copies = one_own m f (Lost (first_copy_at m B n s copies)) (mac_refl m)
 own_line m f EdgeA n s copies = refl
 own_line m f EdgeB n s copies = refl
 own_line m f OfNone n s copies = one_own m f (Neither m (record { 0 = wire n }) (reach_time n s)) (mac_refl m)
 
 own_lines : (spans : Spans) (m : Mac) (f : Listed → ℕ) (s : List Placed) (copies : List Copied) (ns : List ℤ) →
-    sum_by (own m f) (lines_of spans m s copies ns) ≡ sum_by f (lines_of spans m s copies ns)
+    sum_by (own m f) (number_lines spans m s copies ns) ≡ sum_by f (number_lines spans m s copies ns)
 own_lines spans m f s copies [] = refl
 own_lines spans m f s copies (n ∷ ns) =
-    sum_by-append (own m f) (line_of spans m s copies n) (lines_of spans m s copies ns)
-    ∙ ap (λ k. k + sum_by (own m f) (lines_of spans m s copies ns)) (own_line m f (outcome_of spans s n) n s copies)
-    ∙ ap (λ k. sum_by f (line_of spans m s copies n) + k) (own_lines spans m f s copies ns)
-    ∙ sym (sum_by-append f (line_of spans m s copies n) (lines_of spans m s copies ns))
+    sum_by-append (own m f) (number_line spans m s copies n) (number_lines spans m s copies ns)
+    ∙ ap (λ k. k + sum_by (own m f) (number_lines spans m s copies ns)) (own_line m f (outcome_of spans s n) n s copies)
+    ∙ ap (λ k. sum_by f (number_line spans m s copies n) + k) (own_lines spans m f s copies ns)
+    ∙ sym (sum_by-append f (number_line spans m s copies n) (number_lines spans m s copies ns))
 
 own_all : (spans : Spans) (m : Mac) (f : Listed → ℕ) (ss : List (List Placed)) (copies : List Copied) →
     sum_by (own m f) (all_lines spans m ss copies) ≡ sum_by f (all_lines spans m ss copies)
 own_all spans m f [] copies = refl
 own_all spans m f (s ∷ rest) copies =
-    let here = lines_of spans m s copies (stretch_numbers s) in
+    let here = number_lines spans m s copies (stretch_numbers s) in
     let there = all_lines spans m rest (before_stretch s copies) in
     sum_by-append (own m f) here there ∙ ap (λ k. k + sum_by (own m f) there) (own_lines spans m f s copies (stretch_numbers s))
     ∙ ap (λ k. sum_by f here + k) (own_all spans m f rest (before_stretch s copies)) ∙ sym (sum_by-append f here there)
@@ -434,7 +434,7 @@ wanted_of : (spans : Spans) (first : ℕ) (m : Mac) (xs : List Copied) (b : Bool
 wanted_of spans first m xs b is = ap (λ t. cond t (all_lines spans m (stretches (arrivals_from m xs)) (copies_from m xs)) []) is
 
 pub sums_agree : (spans : Spans) (first : ℕ) (f : Listed → ℕ) (xs : List Copied) (sources : List (Mac × Pending)) (lines last : List Listed)
-    (m : Mac) → length xs < 2 ^ 64 → ListingRun spans first xs sources lines → Appends (EndsAt spans first m sources) last →
+    (m : Mac) → length xs < 2 ^ 64 → ListingRun spans first xs sources lines → AppendsLines (FinishesSource spans first m sources) last →
     sum_by f (lines_from m (lines ++ last)) ≡ sum_by f (wanted_lines spans first m xs)
 sums_agree spans first f xs sources lines last m few run ends =
     sym (own_from m f (lines ++ last)) ∙ sum_by-append (own m f) lines last

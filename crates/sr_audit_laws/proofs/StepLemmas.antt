@@ -1,10 +1,7 @@
 -- All lines of a stretch, with one arrival more.
-use Rattle.std.proofs.Common.{◌≡◌, ℕ, zero, suc, ◌+◌, ◌-◌, ◌%◌, ◌<◌, ◌≤◌, ◌⊎◌, Bool, true, false, cond, ◌||◌, ◌&&◌, not, List, [], ◌∷◌, ◌++◌, ℤ, pos, arith, refl, sym, ap, ◌∙◌, subst, inl, inr}
-use Rattle.std.specs.Prelude.{sum_by, max, ◌+ℤ◌, ◌-ℤ◌, ◌<ℤ◌, ◌≤ℤ◌, int_lt}
-use Rattle.std.specs.Ordering.{int_eq}
-use Rattle.std.proofs.lemmas.Bool.{cases_Bool, cases_lt}
-use Rattle.std.proofs.lemmas.Bool.Decides.{Decides-int_eq}
-use Rattle.std.proofs.lemmas.Int.{ints, by_lt_z}
+use Rattle.std.proofs.Common.{◌≡◌, ℕ, zero, suc, ◌+◌, ◌-◌, ◌<◌, ◌≤◌, Bool, true, false, cond, ◌&&◌, List, [], ◌∷◌, ℤ, pos, arith, refl, sym, ap, ◌∙◌}
+use Rattle.std.specs.Prelude.{sum_by, ◌+ℤ◌, ◌-ℤ◌, ◌<ℤ◌, ◌≤ℤ◌, int_lt}
+use Rattle.std.proofs.lemmas.Int.{ints}
 use Rattle.std.proofs.lemmas.List.Sums.{sum_by-append}
 use Rattle.sr_frame.specs.declared.fields.Mac.{Mac}
 use Rattle.sr_sequence.specs.Numbers.{wire}
@@ -12,29 +9,22 @@ use Rattle.sr_sequence.specs.NumberLemmas.{wire_less}
 use Rattle.sr_audit.specs.declared.listing.Copied.{Copied}
 use Rattle.sr_audit.specs.declared.listing.Listed.{Listed}
 use Rattle.sr_audit.specs.declared.pending.Pending.{Pending}
-use Rattle.sr_audit.specs.declared.side.Side.{Side}
 use Rattle.sr_audit.specs.declared.side.Side.TheVariants.{A, B}
 use Rattle.sr_audit.specs.declared.span.Spans.{Spans}
-use Rattle.sr_audit.specs.Edges.{first_time, KeepsTimes}
-use Rattle.sr_audit.specs.Extents.{lesser, bottom_number, size_of, length_of}
-use Rattle.sr_audit.specs.Fates.{fate_if, fate_of, TellsFates}
-use Rattle.sr_audit.specs.Listings.{listed_of, waiting, steps_before, number_left, left_behind, KeepsPlaces, IsKeptAs, PassesAhead, PassesOver, TakesCopy}
-use Rattle.sr_audit.specs.Looks.{came_by}
+use Rattle.sr_audit.specs.Edges.{KeepsTimes}
+use Rattle.sr_audit.specs.Extents.{bottom_number, size_of, length_of}
+use Rattle.sr_audit.specs.Fates.{TellsFates}
+use Rattle.sr_audit.specs.Listings.{listed_of, waiting, steps_before, number_left, left_behind}
 use Rattle.sr_audit.specs.Rows.{kept_number}
-use Rattle.sr_audit.specs.Stretches.{Placed, copy_as, same_side, came, top_number}
-use Rattle.sr_audit.proofs.EdgeLemmas.{some_below}
-use Rattle.sr_audit.proofs.ExtentLemmas.{greater_ahead, greater_behind, lesser_ahead}
-use Rattle.sr_audit.proofs.FateLemmas.{ahead_near, le_behind, le_own, near_behind, near_own, wire_back}
-use Rattle.sr_audit.proofs.FitLemmas.{some_over}
-use Rattle.sr_audit.proofs.FrameLemmas.{came-other, came-same}
+use Rattle.sr_audit.specs.Stretches.{Placed, came, top_number}
+use Rattle.sr_audit.proofs.FateLemmas.{wire_back}
 use Rattle.sr_audit.proofs.RowLemmas.{depth_is, kept_is, near_low, not_below}
-use Rattle.sr_audit_laws.specs.Lists.{is_within, reach_time, lines_of, before_stretch, all_lines}
+use Rattle.sr_audit_laws.specs.Lists.{number_lines, before_stretch, all_lines}
 use Rattle.sr_audit_laws.specs.Outcomes.{stretch_numbers}
-use Rattle.sr_audit_laws.proofs.OutcomeLemmas.{some, some_own}
-use Rattle.sr_audit_laws.proofs.TotalLemmas.{total, total_zero, total_suc, total_same, total_none, total_plus, total_split, total_once}
-use Rattle.sr_audit_laws.proofs.LineLemmas.{KeepsLines, told, waits_if, waits, listed_is, line_other, lines_total, reach_same, reach_now}
-use Rattle.sr_audit_laws.proofs.KeepLemmas.{le_false, false_le, true_lt, within_over, within_below, within_is, within_not_low, within_not_high, some_within, with_lines, ahead_kept, ahead_passed, behind_kept, behind_passed}
-use Rattle.sr_audit_laws.proofs.OwnLemmas.{inside, KnowsOwn, own_step}
+use Rattle.sr_audit_laws.proofs.TotalLemmas.{total, total_zero, total_suc, total_same, total_none, total_split}
+use Rattle.sr_audit_laws.proofs.LineLemmas.{KeepsLines, told, waits_if, waits, listed_is, lines_total}
+use Rattle.sr_audit_laws.proofs.KeepLemmas.{le_false, false_le, true_lt, within_is}
+use Rattle.sr_audit_laws.proofs.OwnLemmas.{inside}
 
 -- all that is kept of a stretch
 pub record KeepsStretch (s : List Placed) (copies : List Copied) (p : Pending) : Type 0 where
@@ -54,7 +44,7 @@ pub parted : (spans : Spans) (src : Mac) (f : Listed → ℕ) (s : List Placed) 
     sum_by f (all_lines spans src (s ∷ rest) copies)
     ≡ total (told spans src f s copies) (bottom_number s) (length_of s) + sum_by f (all_lines spans src rest (before_stretch s copies))
 parted spans src f s rest copies =
-    sum_by-append f (lines_of spans src s copies (stretch_numbers s)) (all_lines spans src rest (before_stretch s copies))
+    sum_by-append f (number_lines spans src s copies (stretch_numbers s)) (all_lines spans src rest (before_stretch s copies))
     ∙ ap (λ t. t + sum_by f (all_lines spans src rest (before_stretch s copies)))
     (lines_total spans src f s copies (bottom_number s) (length_of s))
 

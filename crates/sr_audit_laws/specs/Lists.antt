@@ -43,52 +43,52 @@ use Rattle.sr_audit.specs.Tallies.{tally_of}
 use Rattle.sr_audit_laws.specs.Outcomes.{Outcome, Paired, OnlyA, OnlyB, EdgeA, EdgeB, Neither, outcome_of, stretch_numbers}
 
 -- when the first copy of a frame of a stretch came at a side
-abbrev pub time_at : Side → ℤ → List Placed → ℕ
-time_at side n [] = 0
-time_at side n (y ∷ before) =
-    if (int_eq n y.number && same_side side y.side) && not (came side n before) then y.time else time_at side n before
+abbrev pub first_time_at : Side → ℤ → List Placed → ℕ
+first_time_at side n [] = 0
+first_time_at side n (y ∷ before) =
+    if (int_eq n y.number && same_side side y.side) && not (came side n before) then y.time else first_time_at side n before
 
 -- the packet of that copy, by the copies of the source up to the newest of the stretch
-abbrev pub packet_at : Side → ℤ → List Placed → List Copied → ℕ
-packet_at side n [] copies = 0
-packet_at side n (y ∷ before) [] = 0
-packet_at side n (y ∷ before) (x ∷ copies) =
-    if (int_eq n y.number && same_side side y.side) && not (came side n before) then x.packet else packet_at side n before copies
+abbrev pub first_packet_at : Side → ℤ → List Placed → List Copied → ℕ
+first_packet_at side n [] copies = 0
+first_packet_at side n (y ∷ before) [] = 0
+first_packet_at side n (y ∷ before) (x ∷ copies) =
+    if (int_eq n y.number && same_side side y.side) && not (came side n before) then x.packet else first_packet_at side n before copies
 
 -- that copy
-abbrev pub first_copy : Mac → Side → ℤ → List Placed → List Copied → Copied
-first_copy src side n s copies = record {
+abbrev pub first_copy_at : Mac → Side → ℤ → List Placed → List Copied → Copied
+first_copy_at src side n s copies = record {
   src = src;
-  arrival = record { side = side; seq = record { 0 = wire n }; time = time_at side n s };
-  packet = packet_at side n s copies;
+  arrival = record { side = side; seq = record { 0 = wire n }; time = first_time_at side n s };
+  packet = first_packet_at side n s copies;
 }
 
 -- a number lies between the least and the greatest of a stretch
-abbrev pub is_within : ℤ → List Placed → Bool
-is_within n [] = false
-is_within n (y ∷ before) = not (int_lt n (bottom_number (y ∷ before))) && not (int_lt (top_number (y ∷ before)) n)
+abbrev pub is_in_stretch : ℤ → List Placed → Bool
+is_in_stretch n [] = false
+is_in_stretch n (y ∷ before) = not (int_lt n (bottom_number (y ∷ before))) && not (int_lt (top_number (y ∷ before)) n)
 
 -- when a number came to lie there
 abbrev pub reach_time : ℤ → List Placed → ℕ
 reach_time n [] = 0
-reach_time n (y ∷ before) = if is_within n before then reach_time n before else y.time
+reach_time n (y ∷ before) = if is_in_stretch n before then reach_time n before else y.time
 
 -- the line of a number of a stretch, by its outcome: a frame that came by both sides, by one alone while the capture of the other side ran,
 -- or by none; one at the edge of a capture has no line
 abbrev pub line_as : Outcome → Mac → ℤ → List Placed → List Copied → List Listed
-line_as Paired src n s copies = Pair (first_copy src A n s copies) (time_at B n s) ∷ []
-line_as OnlyA src n s copies = Lost (first_copy src A n s copies) ∷ []
-line_as OnlyB src n s copies = Lost (first_copy src B n s copies) ∷ []
+line_as Paired src n s copies = Pair (first_copy_at src A n s copies) (first_time_at B n s) ∷ []
+line_as OnlyA src n s copies = Lost (first_copy_at src A n s copies) ∷ []
+line_as OnlyB src n s copies = Lost (first_copy_at src B n s copies) ∷ []
 line_as EdgeA src n s copies = []
 line_as EdgeB src n s copies = []
 line_as Neither src n s copies = OfNone src (record { 0 = wire n }) (reach_time n s) ∷ []
 
-abbrev pub line_of : Spans → Mac → List Placed → List Copied → ℤ → List Listed
-line_of spans src s copies n = line_as (outcome_of spans s n) src n s copies
+abbrev pub number_line : Spans → Mac → List Placed → List Copied → ℤ → List Listed
+number_line spans src s copies n = line_as (outcome_of spans s n) src n s copies
 
-abbrev pub lines_of : Spans → Mac → List Placed → List Copied → List ℤ → List Listed
-lines_of spans src s copies [] = []
-lines_of spans src s copies (n ∷ ns) = line_of spans src s copies n ++ lines_of spans src s copies ns
+abbrev pub number_lines : Spans → Mac → List Placed → List Copied → List ℤ → List Listed
+number_lines spans src s copies [] = []
+number_lines spans src s copies (n ∷ ns) = number_line spans src s copies n ++ number_lines spans src s copies ns
 
 -- the copies that came before a stretch
 abbrev pub before_stretch : List Placed → List Copied → List Copied
@@ -100,21 +100,21 @@ before_stretch (y ∷ s) (x ∷ copies) = before_stretch s copies
 abbrev pub all_lines : Spans → Mac → List (List Placed) → List Copied → List Listed
 all_lines spans src [] copies = []
 all_lines spans src (s ∷ before) copies =
-    lines_of spans src s copies (stretch_numbers s) ++ all_lines spans src before (before_stretch s copies)
+    number_lines spans src s copies (stretch_numbers s) ++ all_lines spans src before (before_stretch s copies)
 
 -- the copies of one source, and what is listed of it
 abbrev pub copies_from : Mac → List Copied → List Copied
 copies_from m [] = []
 copies_from m (x ∷ before) = if mac_eq m x.src then x ∷ copies_from m before else copies_from m before
 
-abbrev pub source_of : Listed → Mac
-source_of (Lost copy) = copy.src
-source_of (Pair copy time) = copy.src
-source_of (OfNone src seq time) = src
+abbrev pub line_source : Listed → Mac
+line_source (Lost copy) = copy.src
+line_source (Pair copy time) = copy.src
+line_source (OfNone src seq time) = src
 
 abbrev pub lines_from : Mac → List Listed → List Listed
 lines_from m [] = []
-lines_from m (l ∷ lines) = if mac_eq m (source_of l) then l ∷ lines_from m lines else lines_from m lines
+lines_from m (l ∷ lines) = if mac_eq m (line_source l) then l ∷ lines_from m lines else lines_from m lines
 
 -- the sources of copies in the order of first hearing, up to the 1024th
 abbrev pub heard : List Copied → List Mac
@@ -145,13 +145,14 @@ pub record NotesCopy (spans : Spans) (first : ℕ) (x : Copied) (old new : List 
   pub order : keys_of new ≡ heard_with x.src (keys_of old)
   pub others : (m : Mac) → mac_eq m x.src ≡ false → lookup (mac_eq m) new ≡ lookup (mac_eq m) old
 
--- a call of `Listing::finish` that was not refused
-pub record EndsAt (spans : Spans) (first : ℕ) (src : Mac) (sources : List (Mac × Pending)) (before after : List Listed) : Type 0 where
-  pub listed : (xs : List Copied) → KeepsSources first xs sources →
-      ListsLast spans src (arrivals_from src xs) (lookup (mac_eq src) sources) before after
+-- a call of `Listing::finish` that was not refused, for a source of a listing of which none was finished before
+pub record FinishesSource (spans : Spans) (first : ℕ) (src : Mac) (sources : List (Mac × Pending)) (before after : List Listed) : Type 0
+  where
+    pub listed : (xs : List Copied) → KeepsSources first xs sources →
+        ListsLast spans src (arrivals_from src xs) (lookup (mac_eq src) sources) before after
 
 -- a call appends these lines to some list
-pub record Appends (call : List Listed → List Listed → Type 0) (lines : List Listed) : Type 0 where
+pub record AppendsLines (call : List Listed → List Listed → Type 0) (lines : List Listed) : Type 0 where
   pub before : List Listed
   pub after : call before (before ++ lines)
 
@@ -160,7 +161,7 @@ abbrev pub ListingRun : Spans → ℕ → List Copied → List (Mac × Pending) 
 ListingRun spans first [] sources lines = (sources ≡ []) × (lines ≡ [])
 ListingRun spans first (x ∷ copies) sources lines =
     (old : List (Mac × Pending)) × (so_far : List Listed) × (now : List Listed) × ListingRun spans first copies old so_far
-    × Appends (NotesCopy spans first x old sources) now × (lines ≡ so_far ++ now)
+    × AppendsLines (NotesCopy spans first x old sources) now × (lines ≡ so_far ++ now)
 
 -- some lines are others in another order: of whatever lines there are as many
 abbrev pub AreSameLines : List Listed → List Listed → Type 0
@@ -168,8 +169,9 @@ AreSameLines lines others = (test : Listed → Bool) → count_by test lines ≡
 
 -- the lines of all calls for a source, and those of its end, are the lines of its numbers, each once
 abbrev pub ListsEachOnce : Type 0
-ListsEachOnce = (spans : Spans) (first : ℕ) (copies : List Copied) (sources : List (Mac × Pending)) (lines last : List Listed) (m : Mac) →
-    length copies < 2 ^ 64 → ListingRun spans first copies sources lines → Appends (EndsAt spans first m sources) last →
+ListsEachOnce = (spans : Spans) (first : ℕ) (copies : List Copied) (sources : List (Mac × Pending)) (lines last : List Listed)
+    (m : Mac) → length copies < 2 ^ 64 → ListingRun spans first copies sources lines →
+    AppendsLines (FinishesSource spans first m sources) last →
     AreSameLines (lines_from m (lines ++ last)) (wanted_lines spans first m copies)
 
 -- tests of lines
@@ -197,7 +199,7 @@ pub record AreAsMany (spans : Spans) (ss : List (List Placed)) (lines : List Lis
 
 -- so it is of a source that is listed, behind the same calls
 abbrev pub ListsAsFiguresSay : Type 0
-ListsAsFiguresSay = (spans : Spans) (first : ℕ) (copies : List Copied) (sources : List (Mac × Pending)) (lines last : List Listed) (m : Mac) →
-    length copies < 2 ^ 64 → is_listed first m copies ≡ true → ListingRun spans first copies sources lines →
-    Appends (EndsAt spans first m sources) last →
+ListsAsFiguresSay = (spans : Spans) (first : ℕ) (copies : List Copied) (sources : List (Mac × Pending)) (lines last : List Listed)
+    (m : Mac) → length copies < 2 ^ 64 → is_listed first m copies ≡ true → ListingRun spans first copies sources lines →
+    AppendsLines (FinishesSource spans first m sources) last →
     AreAsMany spans (stretches (arrivals_from m copies)) (lines_from m (lines ++ last))

@@ -1,13 +1,13 @@
 //! The calls that list a source, as the laws of lists speak of them.
 
+ghost use Rattle.std.specs.Prelude.{◌≡◌, ◌+◌, ◌^◌, ◌<◌, List, ◌∷◌, length, reverse, IfOk, OnOk};
+ghost use Rattle.sr_audit.specs.declared.listing.Copied.{Copied};
+ghost use Rattle.sr_audit_laws.specs.Lists.{lines_from, wanted_lines, ListingRun, AreSameLines};
+
 use sr_audit::{Copied, Listed, Listing, Spans};
 use sr_frame::{Mac, NoMemory};
 use sr_slots::Keys;
 use std::alloc::Global;
-
-ghost use Rattle.std.specs.Prelude.{◌≡◌, ◌+◌, ◌^◌, ◌<◌, List, ◌∷◌, length, reverse, IfOk, OnOk};
-ghost use Rattle.sr_audit.specs.declared.listing.Copied.{Copied};
-ghost use Rattle.sr_audit_laws.specs.Lists.{lines_from, wanted_lines, ListingRun, AreSameLines};
 
 /// Has a listing take the next copy of a run.
 fn note_next(listing: &mut Listing, copy: Copied, lines: &mut Vec<Listed>) -> Result<(), NoMemory>

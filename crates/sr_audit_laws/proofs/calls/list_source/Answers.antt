@@ -1,4 +1,4 @@
-use Rattle.std.proofs.Common.{arith, take, ◌≡◌, ◌+◌, ◌∙◌, ◌≤◌, ◌<◌, length, subst}
+use Rattle.std.proofs.Common.{arith, ◌∙◌, ◌≤◌, ◌<◌, length, subst}
 use Rattle.std.specs.Prelude.{◌^◌, reverse}
 use Rattle.std.proofs.lemmas.List.{take_all, length-reverse}
 use Rattle.sr_audit_laws.specs.Lists.{ListingRun}
