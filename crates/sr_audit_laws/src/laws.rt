@@ -1,4 +1,5 @@
-//! Laws of audits: beside runs of a table of duplicate records, of each number of a source, and of the captures of a flawless network.
+//! Laws of audits: beside runs of a table of duplicate records, of each number of a source and its line, and of the captures of a flawless
+//! network.
 
 ghost use Rattle.sr_audit_laws.specs.Cases.{ThreeFramesMeetThePremises, RingFramesMeetThePremises, TellsWhatIsLost};
 ghost use Rattle.sr_audit_laws.specs.Exactly.{FiguresAreByArrivals, TestsAreByArrivals};

@@ -1,5 +1,5 @@
 //! What the figures of an audit say of a node that takes the same copies, of each number of a source, and of a network in which nothing
-//! is lost.
+//! is lost; and what all lines of a listing come to.
 #![tactic(auto)]
 
 mod calls;
