@@ -1,4 +1,16 @@
 pub mod OutcomeLemmas
+pub mod TotalLemmas
+pub mod LineLemmas
+pub mod KeepLemmas
+pub mod OwnLemmas
+pub mod StepLemmas
+pub mod GoneLemmas
+pub mod AheadLemmas
+pub mod ArrivalLemmas
+pub mod RunLemmas
+pub mod KindLemmas
+pub mod CallLemmas
+pub mod ListCaseLemmas
 pub mod ShiftLemmas
 pub mod RecordLemmas
 pub mod FollowedLemmas

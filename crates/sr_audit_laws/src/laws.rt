@@ -1,7 +1,10 @@
-//! Laws of audits: beside runs of a table of duplicate records, of each number of a source, and of the captures of a flawless network.
+//! Laws of audits: beside runs of a table of duplicate records, of each number of a source and its line, and of the captures of a flawless
+//! network.
 
 ghost use Rattle.sr_audit_laws.specs.Cases.{ThreeFramesMeetThePremises, RingFramesMeetThePremises, TellsWhatIsLost};
 ghost use Rattle.sr_audit_laws.specs.Exactly.{FiguresAreByArrivals, TestsAreByArrivals};
+ghost use Rattle.sr_audit_laws.specs.ListCases.{ListsAsWorkedOut};
+ghost use Rattle.sr_audit_laws.specs.Lists.{ListsEachOnce, ListsAsFiguresSay};
 ghost use Rattle.sr_audit_laws.specs.Outcomes.{EachNumberIsTold, EachBreakIsTold};
 ghost use Rattle.sr_audit_laws.specs.Records.{RecordsHaveNoRepeat, RecordsHaveNoLoss, RecordsLackNoNumber, RingRecordsLackNoNumber};
 ghost use Rattle.sr_audit_laws.specs.Sources.{AuditsCountEachNumber, WholeAuditsTellNoFault};
@@ -30,6 +33,20 @@ pub fn each_number_is_told()
 /// as the jumps and the restarts that are told.
 pub fn each_break_is_told()
     ensures { EachBreakIsTold }
+{}
+
+/// Of whatever copies a listing took, all that it listed of a source, with what it lists at the end of that, are the lines of the source's
+/// numbers, each once: a frame that came by both sides as a pair, one that came by one side alone as lost, if it came while the capture of
+/// the other side ran, and a number of no frame as that. Times and packets are those of first copies. Nothing is listed of a source that is
+/// not one of the 512 from the first one on.
+pub fn each_number_is_listed_once()
+    ensures { ListsEachOnce }
+{}
+
+/// So of a source that is listed there are as many pairs, frames that one side lost and numbers of no frame among the lines as its figures
+/// say.
+pub fn lists_are_as_long_as_figures_say()
+    ensures { ListsAsFiguresSay }
 {}
 
 /// Of the copies of a source's frames that two recorders have, with a true numbering, no copy is told as a repeat, no pair as 400 ms
@@ -84,6 +101,12 @@ pub fn ring_frames_meet_the_premises()
 /// with one that came twice, a repeat.
 pub fn what_is_lost_is_told()
     ensures { TellsWhatIsLost }
+{}
+
+/// The lines of a list of copies worked out: a pair, a frame that one side lost, a number of no frame, and none of a frame at the edge of a
+/// capture. A repeat changes no line, a late copy makes a pair of a lost frame, and a source that is not listed has no line.
+pub fn worked_lines_are_told()
+    ensures { ListsAsWorkedOut }
 {}
 
 /// The figures of a source, of an audit that has each, are a function of its arrivals and of when the captures run.
