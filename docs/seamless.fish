@@ -42,7 +42,7 @@ complete -c seamless -n '__fish_seen_subcommand_from audit' -l fcs -x -a '4' -d 
 complete -c seamless -n '__fish_seen_subcommand_from audit' -l from -x -d 'The time of the first packet, in milliseconds'
 complete -c seamless -n '__fish_seen_subcommand_from audit' -l to -x -d 'The time of the last packet, in milliseconds'
 complete -c seamless -n '__fish_seen_subcommand_from audit' -l shift -x -a 'auto none' -d 'How clocks are put right: auto, by the frames that both recorders saw, or none'
-complete -c seamless -n '__fish_seen_subcommand_from audit' -l list -x -d 'Lists single frames: lost, wrong, pairs, or several, joined by commas'
+complete -c seamless -n '__fish_seen_subcommand_from audit' -l list -x -a 'lost wrong pairs' -d 'Lists single frames: lost, wrong, pairs, or several, joined by commas'
 complete -c seamless -n '__fish_seen_subcommand_from audit' -l format -x -a 'text json csv svg html' -d 'How it is printed'
 complete -c seamless -n '__fish_seen_subcommand_from audit' -l time -x -a 'utc' -d 'How times are told, where not from the earliest packet on'
 complete -c seamless -n '__fish_seen_subcommand_from audit' -l title -x -d 'The title of a page'

@@ -36,7 +36,7 @@ _seamless() {
     "audit --from") ;;
     "audit --to") ;;
     "audit --shift") compadd -- auto none ;;
-    "audit --list") ;;
+    "audit --list") compadd -- lost wrong pairs ;;
     "audit --format") compadd -- text json csv svg html ;;
     "audit --time") compadd -- utc ;;
     "audit --title") ;;

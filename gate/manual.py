@@ -140,6 +140,9 @@ def values(about):
     listed = re.search(r"\[possible values: ([^\]]*)\]", " ".join(about))
     if listed:
         return listed.group(1).split(", ")
+    joined = re.search(r": ([a-z, ]+), or several", " ".join(about))
+    if joined:
+        return joined.group(1).split(", ")
     return [word.group(1) for line in about if (word := re.match(r"- (\w+):", line))]
 
 
@@ -167,7 +170,7 @@ def by_case(program, subcommand, before, place, first, offers, files):
 
 def bash(program):
     """The completions for bash."""
-    words, files = lambda them: f'words="{" ".join(them)}"', 'COMPREPLY=($(compgen -f -- "$2")) && return'
+    words, files = lambda them: f'words="{" ".join(them)}"', 'compopt -o filenames; mapfile -t COMPREPLY < <(compgen -f -- "$2"); return'
     lines = ["# Completions of seamless for bash. gate/manual.py writes this file.", "_seamless() {", '    local words=""']
     lines += by_case(program, "${COMP_WORDS[1]}", "${COMP_WORDS[COMP_CWORD - 1]}", "$COMP_CWORD", 1, words, files)
     lines += ['    COMPREPLY=($(compgen -W "$words" -- "$2"))', "}", "complete -F _seamless seamless ./seamless"]

@@ -17,7 +17,7 @@ never tells of them; and in one the recorders of a ring's node see what it sends
 a network that can be judged has each frame that a recorder has once, at the time of a copy by the clock of A. The verdicts that stand
 first are compared with what happened: what each LAN lost, which sources came by one LAN alone at last and since when, numbers that both
 lost, and restarts; and what frames themselves tell of sources: two senders under one address, a burst of frames, a source without redundancy
-at one LAN, one that loses it, and one whose cables are crossed, up to four faults in a network, each by its source, LAN and time. A line
+at one LAN, one that loses it, one whose port at one LAN dies, and one whose cables are crossed, up to four faults in a network, each by its source, LAN and time. A line
 tells each network of which the audit says something else, or the merge has. With --kinds a table tells of each kind of fault and notice how
 often it was named rightly, by its source or LAN and its time to a second, missed, made up, and hidden from the recorders. The last line is
 `N passed, M failed`.
@@ -37,7 +37,7 @@ PERIODS = [SECOND // 1000, SECOND // 100, SECOND // 10, SECOND // 2, SECOND, 2 *
 RING_FAULTS = ["loss", "both", "cut", "restart", "two_senders", "babbling"]
 # How long a frame takes from one node of a ring to the next one, in nanoseconds.
 HOP = 20_000
-FAULTS = ["loss", "both", "row", "restart", "two_senders", "babbling", "san", "lost_redundancy", "crossed", "dead", "swapped", "apart", "set"]
+FAULTS = ["loss", "both", "row", "restart", "two_senders", "babbling", "san", "lost_redundancy", "crossed", "port", "dead", "swapped", "apart", "set"]
 # The order in which faults are put into a network: what moves or adds frames comes before what loses them.
 FIRST = ["restart", "babbling", "lost_redundancy"]
 # What is told of sources by their frames, and which of it is a fault.
@@ -276,8 +276,20 @@ class Network:
                     frame["lans"].clear()
         elif fault == "restart" and len(source.frames) > 3 and source.restarted is None:
             source.restart(rng)
+        elif fault == "port":
+            self.kill_port(rng)
         elif fault in STRANGE or fault == "crossed":
             self.put_strange(rng, fault)
+
+    def kill_port(self, rng):
+        """From a time on a source reaches one LAN alone. Both recorders have the whole of it."""
+        fit = [source for source in self.sources if source.mac not in [mac for _, mac, _, _ in self.strange] and source is not self.crossed]
+        if not fit:
+            return
+        self.runs = [(0, END)] * 2
+        source, lan = rng.choice(fit), rng.randrange(2)
+        for frame in source.frames[rng.randrange(1, len(source.frames)):]:
+            frame["lans"].discard(lan)
 
     def put_strange(self, rng, fault):
         """Has a source send as it ought not to, where one is fit for it. Both recorders have the whole of it."""
