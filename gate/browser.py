@@ -6,21 +6,30 @@ a script, and prints.
 browser.py [--program PATH] [--pictures FOLDER]     the pages of gate/pages.py, of the program at PATH, ./seamless where none is given.
                                                     With a folder, pictures of them are put there.
 
-It takes chromium, chromium-driver and python3-selenium of Debian, so it is run by /usr/bin/python3; where they are not there it says so, and ends with 0. A line for each
-page; the last one is 'N passed, M failed', and it exits with 1 where one failed."""
+The pages are those of gate/pages.py, and those of the networks of gate/page_networks.py. None of them is larger than 3 MB, and tidy finds
+nothing in them, where it is there.
+
+It takes chromium, chromium-driver and python3-selenium of Debian, so it is run by /usr/bin/python3; where they are not there it says so, and
+ends with 0. A line for each page; the last one is 'N passed, M failed', and it exits with 1 where one failed."""
 import argparse
 import base64
+import shutil
 import subprocess
 import sys
 import tempfile
 from pathlib import Path
 
+import page_networks
 from pages import AUDITS, ROOT
 
 BROWSER, DRIVER = Path("/usr/bin/chromium"), Path("/usr/bin/chromedriver")
 WIDE, NARROW = 1280, 400
+MOST_OCTETS = 3_000_000
+# What tidy warns of that HTML allows: an empty element that a chart has for its place, and the parts of a picture.
+TIDY = ["tidy", "-q", "-e", "-utf8", "--show-info", "no", "--drop-empty-elements", "no", "--warn-proprietary-attributes", "no"]
 INLINE = "var s=document.createElement('script');s.textContent='window.hit=1';document.body.appendChild(s);return window.hit===undefined"
 REQUEST = "var done=arguments[0];fetch('https://example.invalid/').then(function(){done(false)},function(){done(true)})"
+ROWS = "return document.querySelectorAll('table.sortable tbody tr').length"
 UNNAMED = (
     "return [].filter.call(document.querySelectorAll('svg'),function(s){return s.getAttribute('aria-hidden')!=='true'"
     " && !s.getAttribute('aria-label') && !s.parentNode.closest('svg')}).length"
@@ -60,22 +69,27 @@ class Browser:
             data = self.tell("Page.captureScreenshot", format="png", captureBeyondViewport=True, clip=clip)["data"]
             path.write_bytes(base64.b64decode(data))
 
-    def column(self, at):
-        return self.ask("var at=arguments[0];return [].map.call(document.querySelectorAll('table.sortable tbody tr'),function(r){return r.cells[at].getAttribute('data-v')})", at)
+    def column(self, table, at):
+        return self.ask("var t=document.querySelectorAll('table.sortable')[arguments[0]],at=arguments[1];return [].map.call(t.tBodies[0].rows,function(r){var v=r.cells[at].getAttribute('data-v');return v===null?r.cells[at].textContent:v})", table, at)
+
+    def look_at_table(self, table):
+        """Each column of a table is sorted both ways, and no row is lost."""
+        first = self.column(table, 0)
+        for at in range(self.ask("return document.querySelectorAll('table.sortable')[arguments[0]].tHead.rows[0].cells.length", table)):
+            for press in (0, 1):
+                is_number = self.ask("var h=document.querySelectorAll('table.sortable')[arguments[0]].tHead.rows[0].cells[arguments[1]];h.querySelector('button').click();return h.classList.contains('num')", table, at)
+                values = self.column(table, at)
+                known = [float(it) if is_number else it for it in values if it]
+                # Numbers are sorted down at first, and words up.
+                down = (press == 0) == is_number
+                self.expect(known == sorted(known, reverse=down) and not any(values[len(known) :]), f"column {at} of table {table} is not sorted {'down' if down else 'up'}")
+        self.expect(sorted(self.column(table, 0)) == sorted(first), "sorting loses a row")
 
     def look_at_sorting(self):
-        """Each column is sorted both ways, and no row is lost."""
-        first = self.column(0)
-        for at in range(self.ask("return document.querySelectorAll('table.sortable thead th').length")):
-            for press in (0, 1):
-                self.ask("document.querySelectorAll('table.sortable thead th')[arguments[0]].querySelector('button').click()", at)
-                values = self.column(at)
-                known = [float(it) if at else it for it in values if it]
-                # Numbers are sorted down at first, and words up.
-                down = (press == 0) == (at > 0)
-                self.expect(known == sorted(known, reverse=down) and not any(values[len(known) :]), f"column {at} is not sorted {'down' if down else 'up'}")
-        self.expect(sorted(self.column(0)) == sorted(first), "sorting loses a row")
-        self.expect(len(first) < 2 or self.ask("return document.querySelectorAll('[aria-sort]').length") == 1, "more than one head tells the order")
+        tables = self.ask("return document.querySelectorAll('table.sortable').length")
+        for table in range(tables):
+            self.look_at_table(table)
+        self.expect(self.ask("return document.querySelectorAll('[aria-sort]').length") <= tables, "more than one head of a table tells the order")
 
     def look_at_safety(self, page):
         """Nothing is complained of or asked for, and the policy lets nothing run that is not the page's own."""
@@ -102,16 +116,24 @@ class Browser:
 
     def look_at_paper(self, picture):
         """The page prints, and is whole without a script."""
-        rows = len(self.column(0))
+        rows = self.ask(ROWS)
         self.tell("Emulation.setScriptExecutionDisabled", value=True)
         self.driver.refresh()
         self.expect(not self.driver.find_elements("tag name", "button"), "without a script a button does nothing")
-        self.expect(len(self.driver.find_elements("css selector", "table.sortable tbody tr")) == rows, "without a script rows are missing")
+        self.expect(self.ask(ROWS) == rows, "without a script rows are missing")
         paper = base64.b64decode(self.tell("Page.printToPDF", preferCSSPageSize=True, printBackground=True)["data"])
         self.expect(paper.startswith(b"%PDF"), "the page does not print")
         self.tell("Emulation.setScriptExecutionDisabled", value=False)
         if picture:
             picture.with_name(f"{picture.name}.pdf").write_bytes(paper)
+
+    def look_at_file(self, path):
+        """The page is not too large, and tidy finds nothing in it."""
+        size = path.stat().st_size
+        self.expect(size <= MOST_OCTETS, f"the page has {size} octets")
+        if shutil.which(TIDY[0]):
+            said = subprocess.run([*TIDY, str(path)], capture_output=True, text=True).stderr
+            self.expect(not said, f"tidy finds: {said[:300]}")
 
     def look_at(self, page, picture):
         self.flaws = []
@@ -125,6 +147,15 @@ class Browser:
         self.look_at_widths(picture)
         self.look_at_paper(picture)
         return self.flaws
+
+
+def audits(work):
+    """What is audited: the captures of gate/pages.py, and networks that are made in a folder."""
+    yield from AUDITS.items()
+    for name, make in page_networks.NETWORKS.items():
+        folder = work / make.__name__
+        folder.mkdir()
+        yield name, [*make(folder), "--complete"]
 
 
 def main():
@@ -141,21 +172,25 @@ def main():
         print("pages are not opened: chromium, chromium-driver and python3-selenium of Debian are not here")
         print("0 passed, 0 failed")
         return 0
-    failed = 0
+    if not shutil.which(TIDY[0]):
+        print("tidy of Debian is not here: it looks at no page")
+    failed, seen = 0, 0
     browser = Browser(webdriver, Service)
     try:
         with tempfile.TemporaryDirectory() as work:
-            for number, (name, audit) in enumerate(AUDITS.items()):
-                page = Path(work, f"page-{number}.html")
+            for name, audit in audits(Path(work)):
+                page = Path(work, f"page-{seen}.html")
                 page.write_bytes(subprocess.run([given.program, "audit", *audit, "--format", "html"], cwd=ROOT, stdin=subprocess.DEVNULL, capture_output=True).stdout)
-                flaws = browser.look_at(page.as_uri(), given.pictures and given.pictures / f"page-{number}")
+                browser.look_at(page.as_uri(), given.pictures and given.pictures / f"page-{seen}")
+                browser.look_at_file(page)
+                flaws, seen = browser.flaws, seen + 1
                 failed += bool(flaws)
-                print(f"page of {name} in a browser ... {'FAILED' if flaws else 'ok'}")
+                print(f"page of {name} in a browser ... {'FAILED' if flaws else 'ok'}", flush=True)
                 for flaw in flaws:
                     print(f"    {flaw}")
     finally:
         browser.driver.quit()
-    print(f"{len(AUDITS) - failed} passed, {failed} failed")
+    print(f"{seen - failed} passed, {failed} failed")
     return failed > 0
 
 

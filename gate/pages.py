@@ -1,7 +1,7 @@
 #!/usr/bin/env python3
 """Reads pages of audits as a browser would, and says what is wrong with them: tags that don't balance, an id that is there twice, a link
-that leads nowhere, what a page must not have, a policy whose digests are not those of what stands in it, and figures that are not those
-of the same audit as objects.
+that leads nowhere, what a page must not have, a policy whose digests are not those of what stands in it, figures that are not those
+of the same audit as objects, digests of captures that are not told, and LANs of a ring.
 
 pages.py [--program PATH]     the pages of the audits below, of the program at PATH, ./seamless where none is given. A line for each; the
                               last one is 'N passed, M failed', and it exits with 1 where one failed."""
@@ -121,6 +121,15 @@ def differences(page, lines):
         yield f"there are {len(rows)} rows of sources"
 
 
+def missing(page, audit):
+    """Words of LANs in the page of a ring, and digests of captures that a page does not have."""
+    if "hsr" in audit and re.search(r"\bLANs?\b", page.words):
+        yield "the page of a ring tells of LANs"
+    for option, path in zip(audit, audit[1:]):
+        if option in ("--a", "--b", "--mirror") and hashlib.sha256(Path(ROOT, path).read_bytes()).hexdigest() not in page.words:
+            yield f"the digest of {path} is not told"
+
+
 def main():
     parser = argparse.ArgumentParser(description=__doc__.split("\n", maxsplit=1)[0])
     parser.add_argument("--program", default=str(ROOT / "seamless"))
@@ -130,7 +139,7 @@ def main():
         text = said(given.program, ["--format", "html"], audit)
         lines = [json.loads(it) for it in said(given.program, ["--format", "json"], [it for it in audit if it not in WORDS_OF_A_PAGE]).split("\n") if it]
         page = Page(text)
-        flaws = page.flaws + list(differences(page, lines))
+        flaws = page.flaws + list(differences(page, lines)) + list(missing(page, audit))
         if not re.search(r"</html>\n\Z", text):
             flaws.append("the page does not end")
         failed += bool(flaws)

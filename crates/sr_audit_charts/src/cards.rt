@@ -58,6 +58,16 @@ pub fn bin_floor(range: Range, bin: usize) -> i128 {
     value.saturating_mul(1_i128.checked_shl(shift).unwrap_or(i128::MAX))
 }
 
+/// The middle of a bin of a range, within the range.
+fn bin_middle(range: Range, bin: usize) -> i128 {
+    let (floor, next) = (
+        bin_floor(range, bin),
+        bin_floor(range, bin.saturating_add(1)),
+    );
+    let middle = floor.saturating_add(next.saturating_sub(floor) / 2);
+    middle.max(range.least).min(range.greatest)
+}
+
 /// The place of a bin of a column among those of all columns.
 fn place_of(at: usize, bin: usize) -> usize
     ensures { result ≡ bin_place at bin }
@@ -82,6 +92,29 @@ impl Card {
             let bin = bin_of(range, skew);
             self.bins.note(place_of(at, bin));
         }
+    }
+
+    /// How many pairs of a column have a skew in any bin.
+    fn pairs_at(&self, at: usize) -> u64 {
+        let mut pairs: u64 = 0;
+        for bin in 0..BINS {
+            pairs = pairs.saturating_add(u64::from(self.in_bin(at, bin)));
+        }
+        pairs
+    }
+
+    /// The skew below which so many quarters of the pairs of a column lie, as far as bins tell. None: no pair was counted.
+    pub fn quarter_at(&self, at: usize, quarters: u64) -> Option<i128> {
+        let range = self.ranges.at(at)?;
+        let wanted = self.pairs_at(at).saturating_mul(quarters);
+        let mut seen: u64 = 0;
+        for bin in 0..BINS {
+            seen = seen.saturating_add(u64::from(self.in_bin(at, bin)));
+            if seen > 0 && seen.saturating_mul(4) >= wanted {
+                return Some(bin_middle(range, bin));
+            }
+        }
+        None
     }
 
     /// How many pairs of a column have a skew in a bin.

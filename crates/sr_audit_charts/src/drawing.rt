@@ -2,8 +2,10 @@
 
 use crate::cards::Card;
 use crate::histogram::Histogram;
-use crate::paths::{Shape, draw_lane, draw_path};
+use crate::paths::{Shape, draw_lane};
 use crate::ranges::Range;
+use crate::scales::{Division, Scale};
+use crate::skews::draw_ranges;
 use crate::sources::SourceLine;
 use crate::strips::Strip;
 use crate::times::{COLUMNS, Times};
@@ -21,7 +23,7 @@ const CHART: usize = 116;
 const FOOT: usize = 56;
 
 /// The height of a chart's plot of skews, in tenths of a pixel.
-const PLOT: i128 = 600;
+const PLOT: u32 = 600;
 
 /// The left side of all plots, and the width of a column.
 const LEFT: usize = 110;
@@ -110,42 +112,19 @@ pub(crate) fn draw_head<W: Write>(
     draw_key(writer, 720, LOST_BOTH, "lost on both")
 }
 
-/// How far below the top of its plot a skew lies, in tenths of a pixel.
-fn depth_of(range: Range, skew: i128) -> u64 {
-    let whole = range.greatest.saturating_sub(range.least);
-    if whole <= 0 {
-        return PLOT as u64 / 2;
-    }
-    let below = range.greatest.saturating_sub(skew);
-    (below.saturating_mul(PLOT) / whole).clamp(0, PLOT) as u64
-}
-
 /// The skews that a plot shows: those of the source, and 0.
-fn shown_range(line: &SourceLine) -> Range {
+fn shown_scale(line: &SourceLine) -> Scale {
     let skews = &line.figures.skews;
-    if skews.count == 0 {
-        return Range {
-            least: 0,
-            greatest: 0,
-        };
+    let (least, greatest) = if skews.count == 0 {
+        (0, 0)
+    } else {
+        (skews.least.min(0), skews.greatest.max(0))
+    };
+    Scale {
+        range: Range { least, greatest },
+        division: Division::Even,
+        height: PLOT,
     }
-    Range {
-        least: skews.least.min(0),
-        greatest: skews.greatest.max(0),
-    }
-}
-
-/// Draws the ranges of skews.
-fn draw_ranges<W: Write>(writer: &mut W, whole: Range, card: &Card) -> Result<(), ScriptFault> {
-    for at in 0..COLUMNS {
-        if let Some(range) = card.ranges.at(at) {
-            let top = depth_of(whole, range.greatest);
-            let height = depth_of(whole, range.least).saturating_sub(top);
-            let height = height.saturating_add(20);
-            draw_path(writer, at, 1, Shape { top, height })?;
-        }
-    }
-    Ok(())
 }
 
 /// Draws a path of boxes that stands so far below the top of the picture.
@@ -221,11 +200,11 @@ fn draw_frame<W: Write>(
 }
 
 /// Draws the line of no skew, where it does not lie at a side of the plot.
-fn draw_zero<W: Write>(writer: &mut W, top: usize, whole: Range) -> Result<(), ScriptFault> {
-    if whole.least == 0 || whole.greatest == 0 {
+fn draw_zero<W: Write>(writer: &mut W, top: usize, scale: Scale) -> Result<(), ScriptFault> {
+    if scale.range.least == 0 || scale.range.greatest == 0 {
         return Ok(());
     }
-    let y = top.saturating_add((depth_of(whole, 0) / 10) as usize);
+    let y = top.saturating_add((scale.depth_of(0) / 10) as usize);
     writeln!(
         writer,
         "<line x1=\"{LEFT}\" y1=\"{y}\" x2=\"1110\" y2=\"{y}\" stroke=\"#cccccc\"/>"
@@ -249,11 +228,11 @@ pub(crate) fn draw_chart<W: Write>(
         .saturating_mul(CHART)
         .saturating_add(HEAD)
         .saturating_add(16);
-    let whole = shown_range(line);
-    draw_frame(writer, y, whole, line)?;
-    draw_zero(writer, y, whole)?;
+    let scale = shown_scale(line);
+    draw_frame(writer, y, scale.range, line)?;
+    draw_zero(writer, y, scale)?;
     open_path(writer, y, SKEW)?;
-    draw_ranges(writer, whole, card)?;
+    draw_ranges(writer, scale, card)?;
     writeln!(writer, "\"/>")?;
     draw_losses(writer, y.saturating_add(66), LOST_A, &strip.a)?;
     draw_losses(writer, y.saturating_add(76), LOST_B, &strip.b)?;

@@ -21,6 +21,20 @@ pub const MAX_STRIPS: usize = 64;
 /// How many have their losses told by packets and times.
 pub const MAX_TRACED: usize = 256;
 
+/// How many lost frames are kept one by one: the first ones.
+pub const MAX_SINGLES: usize = 1000;
+
+/// A frame that was lost, by one LAN or by both.
+#[derive(Clone, Copy)]
+pub struct Single {
+    /// Its source.
+    pub mac: Mac,
+    /// The LAN that lost it. None: both did.
+    pub lan: Option<Side>,
+    /// What is known of it.
+    pub lost: Stretch,
+}
+
 /// Copies with the other LAN's id.
 #[derive(Clone, Copy, Debug, PartialEq, Eq)]
 pub struct Astray {
@@ -75,6 +89,10 @@ pub struct Kept {
     pub cards: Vec<Card>,
     /// What is traced of the worst sources, in their order.
     pub traced: Vec<Traced>,
+    /// The first lost frames, as it was decided what became of them.
+    pub singles: Vec<Single>,
+    /// How many frames were lost.
+    pub lost: u64,
     reading: Reading,
 }
 
@@ -169,6 +187,8 @@ impl Kept {
             strips: Vec::new(alloc),
             cards: Vec::new(alloc),
             traced: Vec::new(alloc),
+            singles: Vec::new(alloc),
+            lost: 0,
             reading: Reading::Ranges,
         };
         for at in 0..lines.len().min(MAX_TRACED) {
@@ -238,6 +258,15 @@ impl Kept {
         }
     }
 
+    /// Counts a lost frame, and keeps it if it is one of the first.
+    fn note_single(&mut self, mac: Mac, lan: Option<Side>, lost: Stretch) -> Result<(), NoMemory> {
+        self.lost = self.lost.saturating_add(1);
+        if self.singles.len() >= MAX_SINGLES {
+            return Ok(());
+        }
+        append(&mut self.singles, Single { mac, lan, lost })
+    }
+
     /// Takes a frame that was lost.
     fn note_lost(&mut self, listed: Listed, lost: Stretch) -> Result<(), ScriptFault> {
         let place = self.place_of(source_of(listed), MAX_TRACED);
@@ -245,6 +274,7 @@ impl Kept {
             return Ok(());
         }
         let lan = missing_at(listed);
+        self.note_single(source_of(listed), lan, lost)?;
         let column = self.times.column_of(lost.since);
         self.network.note(lan, column);
         let Some(place) = place else {

@@ -2,8 +2,7 @@
 
 use crate::histogram::Histogram;
 use crate::times::COLUMNS;
-use sr_capture_script::ScriptFault;
-use std::io::Write;
+use std::io::{self, Write};
 
 /// A box of a column: how far its upper side is below the top, and how high it is, in tenths of a pixel.
 #[derive(Clone, Copy, Debug, PartialEq, Eq)]
@@ -18,39 +17,50 @@ pub struct Shape {
 const LEAST_WIDTH: usize = 2;
 
 /// Draws tenths of a pixel.
-fn draw_tenths<W: Write>(writer: &mut W, tenths: u64) -> Result<(), ScriptFault> {
+fn draw_tenths<W: Write>(writer: &mut W, tenths: u64) -> io::Result<()> {
     let whole = tenths / 10;
     let part = tenths % 10;
     if part == 0 {
-        write!(writer, "{whole}")?;
+        write!(writer, "{whole}")
     } else {
-        write!(writer, "{whole}.{part}")?;
+        write!(writer, "{whole}.{part}")
     }
-    Ok(())
+}
+
+/// Draws a box that begins so far from the left side and is so wide.
+pub(crate) fn draw_box<W: Write>(
+    writer: &mut W,
+    left: u64,
+    width: u64,
+    shape: Shape,
+) -> io::Result<()> {
+    write!(writer, "M{left} ")?;
+    draw_tenths(writer, shape.top)?;
+    write!(writer, "h{width}v")?;
+    draw_tenths(writer, shape.height)?;
+    write!(writer, "h-{width}z")
 }
 
 /// Draws the box of a column, so many columns wide.
+///
+/// # Errors
+/// The writer fails.
 pub fn draw_path<W: Write>(
     writer: &mut W,
     at: usize,
     width: usize,
     shape: Shape,
-) -> Result<(), ScriptFault> {
-    write!(writer, "M{at} ")?;
-    draw_tenths(writer, shape.top)?;
-    write!(writer, "h{width}v")?;
-    draw_tenths(writer, shape.height)?;
-    write!(writer, "h-{width}z")?;
-    Ok(())
+) -> io::Result<()> {
+    draw_box(writer, at as u64, width as u64, shape)
 }
 
 /// Draws a mark from a column up to another one.
-fn draw_mark<W: Write>(
+pub(crate) fn draw_mark<W: Write>(
     writer: &mut W,
     first: usize,
     end: usize,
     shape: Shape,
-) -> Result<(), ScriptFault> {
+) -> io::Result<()> {
     let width = end.saturating_sub(first).max(LEAST_WIDTH);
     draw_path(
         writer,
@@ -61,11 +71,10 @@ fn draw_mark<W: Write>(
 }
 
 /// Draws marks of the columns in which something was counted. Those of columns side by side are one box.
-pub fn draw_lane<W: Write>(
-    writer: &mut W,
-    counts: &Histogram,
-    shape: Shape,
-) -> Result<(), ScriptFault> {
+///
+/// # Errors
+/// The writer fails.
+pub fn draw_lane<W: Write>(writer: &mut W, counts: &Histogram, shape: Shape) -> io::Result<()> {
     let mut start = None;
     for at in 0..COLUMNS {
         match start {

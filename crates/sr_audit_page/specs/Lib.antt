@@ -1,3 +1,4 @@
 pub mod Grounds
+pub mod Networks
 pub mod Rows
 pub mod Sums

@@ -6,7 +6,7 @@ ghost use Rattle.sr_audit_page.specs.Sums.{together};
 
 use crate::sums::together;
 use sr_audit::Side;
-use sr_page::write_reason;
+use sr_page::{Topology, write_reason};
 use sr_verdict::Verdict;
 use std::io::{self, Write};
 
@@ -140,12 +140,18 @@ pub fn grounds_of(verdicts: &[Verdict]) -> Grounds
 }
 
 /// Writes what is wrong with sources.
-fn write_of_sources<W: Write>(writer: &mut W, own: &Grounds) -> io::Result<()> {
+fn write_of_sources<W: Write>(writer: &mut W, topology: Topology, own: &Grounds) -> io::Result<()> {
     write_reason(
         writer,
         own.both_lost,
-        "frame was delivered by neither LAN",
-        "frames were delivered by neither LAN",
+        topology.either(
+            "frame was delivered by neither LAN",
+            "frame was delivered by neither way",
+        ),
+        topology.either(
+            "frames were delivered by neither LAN",
+            "frames were delivered by neither way",
+        ),
     )?;
     write_reason(
         writer,
@@ -156,8 +162,14 @@ fn write_of_sources<W: Write>(writer: &mut W, own: &Grounds) -> io::Result<()> {
     write_reason(
         writer,
         own.dead_ports,
-        "source is heard by one LAN alone at last",
-        "sources are heard by one LAN alone at last",
+        topology.either(
+            "source is heard by one LAN alone at last",
+            "source is heard by one way alone at last",
+        ),
+        topology.either(
+            "sources are heard by one LAN alone at last",
+            "sources are heard by one way alone at last",
+        ),
     )?;
     write_reason(
         writer,
@@ -168,7 +180,7 @@ fn write_of_sources<W: Write>(writer: &mut W, own: &Grounds) -> io::Result<()> {
 }
 
 /// Writes what was lost.
-fn write_of_losses<W: Write>(writer: &mut W, own: &Grounds) -> io::Result<()> {
+fn write_of_losses<W: Write>(writer: &mut W, topology: Topology, own: &Grounds) -> io::Result<()> {
     write_reason(
         writer,
         own.cut_ring,
@@ -178,19 +190,31 @@ fn write_of_losses<W: Write>(writer: &mut W, own: &Grounds) -> io::Result<()> {
     write_reason(
         writer,
         own.lost_a,
-        "frame was lost on LAN A, and came by LAN B",
-        "frames were lost on LAN A, and came by LAN B",
+        topology.either(
+            "frame was lost on LAN A, and came by LAN B",
+            "frame was lost on way A, and came by way B",
+        ),
+        topology.either(
+            "frames were lost on LAN A, and came by LAN B",
+            "frames were lost on way A, and came by way B",
+        ),
     )?;
     write_reason(
         writer,
         own.lost_b,
-        "frame was lost on LAN B, and came by LAN A",
-        "frames were lost on LAN B, and came by LAN A",
+        topology.either(
+            "frame was lost on LAN B, and came by LAN A",
+            "frame was lost on way B, and came by way A",
+        ),
+        topology.either(
+            "frames were lost on LAN B, and came by LAN A",
+            "frames were lost on way B, and came by way A",
+        ),
     )
 }
 
 /// Writes what is wrong with copies that came.
-fn write_of_copies<W: Write>(writer: &mut W, own: &Grounds) -> io::Result<()> {
+fn write_of_copies<W: Write>(writer: &mut W, topology: Topology, own: &Grounds) -> io::Result<()> {
     let wrong_lan = own.wrong_lan.saturating_add(own.crossed);
     write_reason(
         writer,
@@ -207,8 +231,14 @@ fn write_of_copies<W: Write>(writer: &mut W, own: &Grounds) -> io::Result<()> {
     write_reason(
         writer,
         own.repeated,
-        "copy came again by the LAN by which it had come",
-        "copies came again by the LAN by which they had come",
+        topology.either(
+            "copy came again by the LAN by which it had come",
+            "copy came again by the way by which it had come",
+        ),
+        topology.either(
+            "copies came again by the LAN by which they had come",
+            "copies came again by the way by which they had come",
+        ),
     )?;
     write_reason(
         writer,
@@ -219,9 +249,13 @@ fn write_of_copies<W: Write>(writer: &mut W, own: &Grounds) -> io::Result<()> {
 }
 
 /// Writes what the verdict stands on.
-pub(crate) fn write_grounds<W: Write>(writer: &mut W, verdicts: &[Verdict]) -> io::Result<()> {
+pub(crate) fn write_grounds<W: Write>(
+    writer: &mut W,
+    topology: Topology,
+    verdicts: &[Verdict],
+) -> io::Result<()> {
     let own = grounds_of(verdicts);
-    write_of_sources(writer, &own)?;
-    write_of_losses(writer, &own)?;
-    write_of_copies(writer, &own)
+    write_of_sources(writer, topology, &own)?;
+    write_of_losses(writer, topology, &own)?;
+    write_of_copies(writer, topology, &own)
 }

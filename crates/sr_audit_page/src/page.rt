@@ -1,14 +1,19 @@
 //! The page as a whole.
 
+use crate::cards::write_cards;
 use crate::findings::{write_findings, write_notices};
 use crate::given::Given;
 use crate::grounds::write_grounds;
+use crate::network::write_network;
 use crate::rows::counts_at;
+use crate::singles::write_singles;
 use crate::sums::sums_of;
-use sr_audit::Spans;
+use crate::teller::Teller;
+use sr_audit::{Sides, Spans};
+use sr_audit_charts::{Kept, SourceLine};
 use sr_capture_audit::{Counts, Ports};
 use sr_page::{
-    Outcome, SourceRow, Totals, close_captures, close_page, close_section, close_sources,
+    Outcome, SourceRow, Topology, Totals, close_captures, close_page, close_section, close_sources,
     close_verdict, open_captures, open_page, open_section, open_sources, open_verdict, outcome_by,
     write_capture, write_head, write_remark, write_source, write_totals, write_words,
 };
@@ -20,6 +25,8 @@ use std::io::{self, Write};
 pub struct Page<'a> {
     /// Words from outside.
     pub given: &'a Given,
+    /// What kind of network it is.
+    pub topology: Topology,
     /// Where the captures were made.
     pub ports: Ports,
     /// When they begin and end.
@@ -32,6 +39,37 @@ pub struct Page<'a> {
     pub verdicts: &'a [Verdict],
     /// The figures of each source, the worst first.
     pub rows: &'a [SourceRow],
+    /// What is told of each of them, in the same order.
+    pub lines: &'a [SourceLine],
+    /// What is kept of the worst of them.
+    pub kept: &'a Kept,
+}
+
+impl<'a> Page<'a> {
+    /// By what its findings are told.
+    fn teller(&self) -> Teller<'a> {
+        let (given, kept) = (self.given, self.kept);
+        Teller {
+            names: given.names.as_slice(),
+            topology: self.topology,
+            ports: self.ports,
+            traced: kept.traced.as_slice(),
+        }
+    }
+
+    /// How many frames each LAN lost.
+    pub(crate) fn lost(&self) -> Sides {
+        let totals = sums_of(self.rows);
+        Sides {
+            a: totals.lost_a,
+            b: totals.lost_b,
+        }
+    }
+
+    /// How many frames both lost.
+    pub(crate) fn neither(&self) -> u64 {
+        sums_of(self.rows).neither
+    }
 }
 
 /// Writes the verdict and what it stands on.
@@ -41,18 +79,18 @@ fn write_verdict<W: Write>(
     outcome: Outcome,
     totals: &Totals,
 ) -> io::Result<()> {
-    open_verdict(writer, outcome, totals)?;
+    open_verdict(writer, outcome, page.topology, totals)?;
     if let Some(reason) = reason_in(page.verdicts) {
         writeln!(writer, "<li>{reason}</li>")?;
     }
-    write_grounds(writer, page.verdicts)?;
+    write_grounds(writer, page.topology, page.verdicts)?;
     close_verdict(writer)
 }
 
 /// Writes the table of the captures.
 fn write_captures<W: Write>(writer: &mut W, page: &Page<'_>) -> io::Result<()> {
     let (given, counts, spans) = (page.given, page.counts, page.spans);
-    open_captures(writer)?;
+    open_captures(writer, page.topology)?;
     match page.ports {
         Ports::Two => {
             let (a, b) = (counts_at(&counts.a, spans.a), counts_at(&counts.b, spans.b));
@@ -69,10 +107,10 @@ fn write_captures<W: Write>(writer: &mut W, page: &Page<'_>) -> io::Result<()> {
 
 /// Writes what is found.
 fn write_found<W: Write>(writer: &mut W, page: &Page<'_>) -> io::Result<()> {
-    let names = page.given.names.as_slice();
+    let teller = page.teller();
     open_section(writer, "findings", "Findings")?;
-    write_findings(writer, names, page.verdicts)?;
-    write_notices(writer, names, page.verdicts)?;
+    write_findings(writer, teller, page.verdicts)?;
+    write_notices(writer, teller, page.verdicts)?;
     close_section(writer)
 }
 
@@ -102,8 +140,11 @@ pub fn write_page<W: Write>(writer: &mut W, page: &Page<'_>) -> io::Result<()> {
     write_verdict(writer, page, outcome, &totals)?;
     write_totals(writer, &totals)?;
     write_captures(writer, page)?;
+    write_network(writer, page)?;
     write_found(writer, page)?;
     write_sources(writer, page)?;
-    write_words(writer)?;
+    write_cards(writer, page, page.teller())?;
+    write_singles(writer, page, page.teller())?;
+    write_words(writer, page.topology)?;
     close_page(writer)
 }

@@ -1,9 +1,10 @@
 //! Remarks, which decide nothing, in words.
 
-use crate::told::{begin, end, end_since, lan_of};
+use crate::teller::Teller;
+use crate::told::{begin, end, end_since};
 use sr_audit::Side;
 use sr_frame::Mac;
-use sr_page::{Count, NodeName, Skew, Weight, open_finding, put_advice, word_for};
+use sr_page::{Count, Skew, Weight, open_finding, put_advice, word_for};
 use sr_sources::Second;
 use sr_verdict::Verdict;
 use std::io::{self, Write};
@@ -11,12 +12,12 @@ use std::io::{self, Write};
 /// Tells of numbers that began anew.
 fn put_restart<W: Write>(
     writer: &mut W,
-    names: &[NodeName],
+    teller: Teller<'_>,
     mac: Mac,
     times: u64,
 ) -> io::Result<()> {
     let (count, word) = (Count(times), word_for(times, "time", "times"));
-    begin(writer, names, Weight::Remark, "restart", mac)?;
+    begin(writer, teller, Weight::Remark, "restart", mac)?;
     write!(writer, "its numbers began anew {count} {word}")?;
     end(writer, mac, "Ask whether it was started anew")
 }
@@ -24,12 +25,12 @@ fn put_restart<W: Write>(
 /// Tells of a source that has many frames in a second.
 fn put_babbling<W: Write>(
     writer: &mut W,
-    names: &[NodeName],
+    teller: Teller<'_>,
     mac: Mac,
     second: Second,
 ) -> io::Result<()> {
     let frames = Count(second.frames);
-    begin(writer, names, Weight::Remark, "babbling", mac)?;
+    begin(writer, teller, Weight::Remark, "babbling", mac)?;
     write!(
         writer,
         "{frames} frames in a second, and far fewer in most of them"
@@ -45,12 +46,12 @@ fn put_babbling<W: Write>(
 /// Tells of numbers that may have gone past no recorder.
 fn put_unseen<W: Write>(
     writer: &mut W,
-    names: &[NodeName],
+    teller: Teller<'_>,
     mac: Mac,
     numbers: u64,
 ) -> io::Result<()> {
     let (count, word) = (Count(numbers), word_for(numbers, "number", "numbers"));
-    begin(writer, names, Weight::Remark, "unseen", mac)?;
+    begin(writer, teller, Weight::Remark, "unseen", mac)?;
     write!(writer, "{count} {word} may have gone past no recorder")?;
     end(
         writer,
@@ -62,7 +63,7 @@ fn put_unseen<W: Write>(
 /// Tells of a source without redundancy.
 fn put_san<W: Write>(
     writer: &mut W,
-    names: &[NodeName],
+    teller: Teller<'_>,
     mac: Mac,
     lan: Option<Side>,
     frames: u64,
@@ -70,9 +71,9 @@ fn put_san<W: Write>(
     let (count, word, at) = (
         Count(frames),
         word_for(frames, "frame", "frames"),
-        lan_of(lan),
+        teller.lan_of(lan),
     );
-    begin(writer, names, Weight::Remark, "single", mac)?;
+    begin(writer, teller, Weight::Remark, "single", mac)?;
     write!(
         writer,
         "{count} {word} at {at} alone, none of which has a number"
@@ -80,7 +81,7 @@ fn put_san<W: Write>(
     end(
         writer,
         mac,
-        "Put it behind a RedBox if both LANs are to reach it",
+        "Put it behind a RedBox if both ways are to reach it",
     )
 }
 
@@ -98,14 +99,14 @@ fn put_clock<W: Write>(writer: &mut W, ahead: i128) -> io::Result<()> {
 /// Tells of a remark.
 pub(crate) fn put_remark<W: Write>(
     writer: &mut W,
-    names: &[NodeName],
+    teller: Teller<'_>,
     verdict: &Verdict,
 ) -> io::Result<()> {
     match *verdict {
-        Verdict::Restart(mac, times) => put_restart(writer, names, mac, times),
-        Verdict::Babbling(mac, second) => put_babbling(writer, names, mac, second),
-        Verdict::Unseen(mac, numbers) => put_unseen(writer, names, mac, numbers),
-        Verdict::San(mac, lan, frames) => put_san(writer, names, mac, lan, frames),
+        Verdict::Restart(mac, times) => put_restart(writer, teller, mac, times),
+        Verdict::Babbling(mac, second) => put_babbling(writer, teller, mac, second),
+        Verdict::Unseen(mac, numbers) => put_unseen(writer, teller, mac, numbers),
+        Verdict::San(mac, lan, frames) => put_san(writer, teller, mac, lan, frames),
         Verdict::Clock(ahead) => put_clock(writer, ahead),
         _ => open_finding(writer, Weight::Remark, "other"),
     }

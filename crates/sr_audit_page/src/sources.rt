@@ -1,27 +1,43 @@
 //! Faults of sources, in words.
 
 use crate::faults::put_lans;
-use crate::told::{begin, end, end_since, lan_of};
+use crate::teller::{Teller, first_of, put_numbers};
+use crate::told::{begin, end, end_since};
 use sr_audit::{Row, Side, Sides};
 use sr_frame::Mac;
-use sr_page::{Count, NodeName, Weight, word_for};
+use sr_page::{Count, Seconds, Weight, word_for};
 use sr_sources::Tail;
 use sr_verdict::Verdict;
 use std::io::{self, Write};
 
+/// Tells which of the frames that no LAN brought were the first, if that is known.
+fn put_first_lost<W: Write>(writer: &mut W, teller: Teller<'_>, mac: Mac) -> io::Result<()> {
+    let Some(traced) = teller.traced_of(mac) else {
+        return Ok(());
+    };
+    let Some(stretch) = first_of(&traced.both) else {
+        return Ok(());
+    };
+    let since = Seconds(stretch.since);
+    write!(writer, ", first at {since}, ")?;
+    put_numbers(writer, stretch.first, stretch.last)
+}
+
 /// Tells of frames that no LAN brought.
 fn put_both_lost<W: Write>(
     writer: &mut W,
-    names: &[NodeName],
+    teller: Teller<'_>,
     mac: Mac,
     frames: u64,
 ) -> io::Result<()> {
     let (count, word) = (Count(frames), word_for(frames, "frame", "frames"));
-    begin(writer, names, Weight::Grave, "lost on both", mac)?;
+    begin(writer, teller, Weight::Grave, "lost on both", mac)?;
+    let way = teller.topology.either("LAN", "way");
     write!(
         writer,
-        "{count} {word} came by neither LAN, and reached no receiver"
+        "{count} {word} came by neither {way}, and reached no receiver"
     )?;
+    put_first_lost(writer, teller, mac)?;
     end(
         writer,
         mac,
@@ -32,11 +48,11 @@ fn put_both_lost<W: Write>(
 /// Tells of a source that has two senders.
 fn put_two_senders<W: Write>(
     writer: &mut W,
-    names: &[NodeName],
+    teller: Teller<'_>,
     mac: Mac,
     time: u64,
 ) -> io::Result<()> {
-    begin(writer, names, Weight::Grave, "two senders", mac)?;
+    begin(writer, teller, Weight::Grave, "two senders", mac)?;
     write!(writer, "its numbers are those of two senders")?;
     end_since(
         writer,
@@ -49,13 +65,16 @@ fn put_two_senders<W: Write>(
 /// Tells of a source that one LAN does not bring any more.
 fn put_dead_port<W: Write>(
     writer: &mut W,
-    names: &[NodeName],
+    teller: Teller<'_>,
     mac: Mac,
     row: Row,
 ) -> io::Result<()> {
     let frames = Count(row.frames);
-    let (own, other) = (lan_of(Some(row.side)), lan_of(Some(row.side.other())));
-    begin(writer, names, Weight::Fault, "one LAN", mac)?;
+    let (own, other) = (
+        teller.lan_of(Some(row.side)),
+        teller.lan_of(Some(row.side.other())),
+    );
+    begin(writer, teller, Weight::Fault, "one LAN", mac)?;
     write!(
         writer,
         "it is heard by {own} alone; {frames} frames in a row were lost on {other}"
@@ -71,13 +90,13 @@ fn put_dead_port<W: Write>(
 /// Tells of a source that has lost its redundancy.
 fn put_lost_redundancy<W: Write>(
     writer: &mut W,
-    names: &[NodeName],
+    teller: Teller<'_>,
     mac: Mac,
     lan: Option<Side>,
     tail: Tail,
 ) -> io::Result<()> {
-    let (frames, at) = (Count(tail.frames), lan_of(lan));
-    begin(writer, names, Weight::Fault, "no redundancy", mac)?;
+    let (frames, at) = (Count(tail.frames), teller.lan_of(lan));
+    begin(writer, teller, Weight::Fault, "no redundancy", mac)?;
     write!(
         writer,
         "its frames at {at} had numbers, and then {frames} had none"
@@ -92,15 +111,16 @@ fn put_lost_redundancy<W: Write>(
 /// Tells of copies that came before.
 fn put_repeated<W: Write>(
     writer: &mut W,
-    names: &[NodeName],
+    teller: Teller<'_>,
     mac: Mac,
     sides: Sides,
 ) -> io::Result<()> {
     let (a, b) = (Count(sides.a), Count(sides.b));
-    begin(writer, names, Weight::Fault, "repeated", mac)?;
+    let (of_a, of_b) = (teller.lan_of(Some(Side::A)), teller.lan_of(Some(Side::B)));
+    begin(writer, teller, Weight::Fault, "repeated", mac)?;
     write!(
         writer,
-        "{a} copies by LAN A and {b} by LAN B came behind an earlier one"
+        "{a} copies by {of_a} and {b} by {of_b} came behind an earlier one"
     )?;
     end(
         writer,
@@ -110,9 +130,9 @@ fn put_repeated<W: Write>(
 }
 
 /// Tells of copies that came far apart.
-fn put_late<W: Write>(writer: &mut W, names: &[NodeName], mac: Mac, pairs: u64) -> io::Result<()> {
+fn put_late<W: Write>(writer: &mut W, teller: Teller<'_>, mac: Mac, pairs: u64) -> io::Result<()> {
     let (count, word) = (Count(pairs), word_for(pairs, "pair", "pairs"));
-    begin(writer, names, Weight::Fault, "too late", mac)?;
+    begin(writer, teller, Weight::Fault, "too late", mac)?;
     write!(
         writer,
         "{count} {word} 400 ms or more apart: a receiver takes the second copy for a new frame"
@@ -127,18 +147,18 @@ fn put_late<W: Write>(writer: &mut W, names: &[NodeName], mac: Mac, pairs: u64) 
 /// Tells of a fault.
 pub(crate) fn put_fault<W: Write>(
     writer: &mut W,
-    names: &[NodeName],
+    teller: Teller<'_>,
     verdict: &Verdict,
 ) -> io::Result<()> {
     match *verdict {
-        Verdict::BothLost(mac, frames) => put_both_lost(writer, names, mac, frames),
-        Verdict::TwoSenders(mac, time) => put_two_senders(writer, names, mac, time),
-        Verdict::DeadPort(mac, row) => put_dead_port(writer, names, mac, row),
+        Verdict::BothLost(mac, frames) => put_both_lost(writer, teller, mac, frames),
+        Verdict::TwoSenders(mac, time) => put_two_senders(writer, teller, mac, time),
+        Verdict::DeadPort(mac, row) => put_dead_port(writer, teller, mac, row),
         Verdict::LostRedundancy(mac, lan, tail) => {
-            put_lost_redundancy(writer, names, mac, lan, tail)
+            put_lost_redundancy(writer, teller, mac, lan, tail)
         }
-        Verdict::Repeated(mac, sides) => put_repeated(writer, names, mac, sides),
-        Verdict::Late(mac, pairs) => put_late(writer, names, mac, pairs),
-        _ => put_lans(writer, names, verdict),
+        Verdict::Repeated(mac, sides) => put_repeated(writer, teller, mac, sides),
+        Verdict::Late(mac, pairs) => put_late(writer, teller, mac, pairs),
+        _ => put_lans(writer, teller, verdict),
     }
 }

@@ -1,29 +1,20 @@
 //! What each finding begins and ends with.
 
-use sr_audit::Side;
+use crate::teller::Teller;
 use sr_frame::Mac;
-use sr_page::{NodeName, Weight, open_finding, put_advice, put_filter, put_since, put_subject};
+use sr_page::{Weight, open_finding, put_advice, put_filter, put_since, put_subject};
 use std::io::{self, Write};
-
-/// The name of a LAN, or of a mirror port.
-pub(crate) fn lan_of(lan: Option<Side>) -> &'static str {
-    match lan {
-        Some(Side::A) => "LAN A",
-        Some(Side::B) => "LAN B",
-        None => "the mirror port",
-    }
-}
 
 /// Begins a finding of a kind on a source.
 pub(crate) fn begin<W: Write>(
     writer: &mut W,
-    names: &[NodeName],
+    teller: Teller<'_>,
     weight: Weight,
     kind: &'static str,
     mac: Mac,
 ) -> io::Result<()> {
     open_finding(writer, weight, kind)?;
-    put_subject(writer, names, mac)
+    put_subject(writer, teller.names, mac)
 }
 
 /// Ends a finding on a source: what to do, and how to see its frames.

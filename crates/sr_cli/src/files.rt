@@ -7,6 +7,7 @@ use sr_advice::{FileFault, FileReason, NoInterface, Unopened, letter_of};
 use sr_capture::{CaptureFault, Reason};
 use sr_capture_script::Inlet;
 use sr_options::Paths;
+use sr_page::digest_of;
 use sr_pcapng::Wanted;
 use std::fs::File;
 use std::io::{BufReader, Read};
@@ -126,6 +127,17 @@ fn open_all<R: AllocGlobal + Eprint + Files>(
 pub fn size_of<R: Files>(rt: &R, path: &str) -> Option<u64> {
     match std::fs::metadata(rt, path) {
         Ok(metadata) => Some(metadata.len()),
+        Err(_) => None,
+    }
+}
+
+/// The SHA-256 digest of a file. None: it can't be read.
+pub fn digest_at<R: Files>(rt: &R, path: &str) -> Option<[u8; 32]> {
+    let Ok(mut file) = File::open(rt, path) else {
+        return None;
+    };
+    match digest_of(&mut file) {
+        Ok(digest) => Some(digest),
         Err(_) => None,
     }
 }

@@ -4,7 +4,8 @@ use crate::elements::{
     close_section, open_section, put, put_all, put_cell, put_count, put_escaped, put_head,
     put_number_heads,
 };
-use crate::shown::Seconds;
+use crate::shown::{Hexadecimal, Seconds};
+use crate::topology::Topology;
 use sr_markup::Escaped;
 use std::io::{self, Write};
 
@@ -15,6 +16,8 @@ pub struct CaptureFile {
     pub path: Escaped,
     /// How many octets it has. None: that can't be told.
     pub size: Option<u64>,
+    /// The SHA-256 digest of them. None: it can't be read.
+    pub digest: Option<[u8; 32]>,
 }
 
 /// The figures of a capture.
@@ -52,6 +55,13 @@ fn put_file<W: Write>(writer: &mut W, file: &CaptureFile) -> io::Result<()> {
         put_count(writer, size)?;
         put(writer, "\u{a0}octets</span>")?;
     }
+    if let Some(digest) = file.digest {
+        let shown = Hexadecimal(digest);
+        write!(
+            writer,
+            "<div class=\"sub\">SHA-256 <code>{shown}</code></div>"
+        )?;
+    }
     put(writer, "</div>")
 }
 
@@ -84,7 +94,7 @@ fn put_counts<W: Write>(writer: &mut W, counts: &CaptureCounts) -> io::Result<()
 ///
 /// # Errors
 /// The writer fails.
-pub fn open_captures<W: Write>(writer: &mut W) -> io::Result<()> {
+pub fn open_captures<W: Write>(writer: &mut W, topology: Topology) -> io::Result<()> {
     open_section(writer, "captures", "Captures")?;
     put(writer, "<div class=\"scroll\"><table><thead><tr>")?;
     put_head(writer, "Capture")?;
@@ -96,7 +106,7 @@ pub fn open_captures<W: Write>(writer: &mut W) -> io::Result<()> {
             "With number",
             "Without",
             "Misfit",
-            "Wrong LAN",
+            topology.either("Wrong LAN", "Wrong way"),
             "Cut",
             "Long",
             "Empty",

@@ -101,6 +101,40 @@ pub fn put_filter<W: Write>(writer: &mut W, mac: Mac) -> io::Result<()> {
     )
 }
 
+/// Writes a packet of a capture, and the display filter of Wireshark that shows it.
+fn put_packet<W: Write>(
+    writer: &mut W,
+    capture: &'static str,
+    mac: Mac,
+    packet: u64,
+) -> io::Result<()> {
+    write!(
+        writer,
+        "capture {capture}, packet {packet}: <code class=\"filter\">eth.src == {mac} &amp;&amp; frame.number == {packet}</code>"
+    )
+}
+
+/// Writes which packets of a capture tell of a finding, and the display filter of Wireshark that shows them. Numbers have no spaces, so that
+/// they can be pasted.
+///
+/// # Errors
+/// The writer fails.
+pub fn put_packets<W: Write>(
+    writer: &mut W,
+    capture: &'static str,
+    mac: Mac,
+    first: u64,
+    last: u64,
+) -> io::Result<()> {
+    if first == last {
+        return put_packet(writer, capture, mac, first);
+    }
+    write!(
+        writer,
+        "capture {capture}, packets {first} to {last}: <code class=\"filter\">eth.src == {mac} &amp;&amp; frame.number &gt;= {first} &amp;&amp; frame.number &lt;= {last}</code>"
+    )
+}
+
 /// Writes a display filter of Wireshark.
 ///
 /// # Errors

@@ -67,9 +67,9 @@ pub fn open_page<W: Write>(writer: &mut W, outcome: Outcome, title: &Escaped) ->
 
 /// Writes a fact.
 fn put_fact<W: Write>(writer: &mut W, fact: &Fact) -> io::Result<()> {
-    put_all(writer, &["<div><dt>", fact.name, "</dt><dd>"])?;
+    put_all(writer, &["<dl><dt>", fact.name, "</dt><dd>"])?;
     put_escaped(writer, &fact.text)?;
-    put(writer, "</dd></div>\n")
+    put(writer, "</dd></dl>\n")
 }
 
 /// Writes the title and facts on the captures as a whole.
@@ -79,11 +79,11 @@ fn put_fact<W: Write>(writer: &mut W, fact: &Fact) -> io::Result<()> {
 pub fn write_head<W: Write>(writer: &mut W, title: &Escaped, facts: &[Fact]) -> io::Result<()> {
     put(writer, "<header><h1>")?;
     put_escaped(writer, title)?;
-    put(writer, "</h1>\n<dl class=\"facts\">\n")?;
+    put(writer, "</h1>\n<div class=\"facts\">\n")?;
     for fact in facts {
         put_fact(writer, fact)?;
     }
-    put(writer, "</dl></header>\n<main>\n")
+    put(writer, "</div></header>\n<main>\n")
 }
 
 /// Ends a page.

@@ -5,6 +5,7 @@ ghost use Rattle.sr_page.specs.Outcomes.{outcome_by};
 
 use crate::elements::{put, put_all, put_count, put_escaped, put_some, word_for};
 use crate::shown::Percent;
+use crate::topology::Topology;
 use crate::totals::Totals;
 use sr_markup::Escaped;
 use std::io::{self, Write};
@@ -66,10 +67,14 @@ fn shape_of(outcome: Outcome) -> &'static str {
 }
 
 /// Writes what a customer reads first of a network without a fault.
-fn put_passed<W: Write>(writer: &mut W, totals: &Totals) -> io::Result<()> {
-    put(
+fn put_passed<W: Write>(writer: &mut W, topology: Topology, totals: &Totals) -> io::Result<()> {
+    put_all(
         writer,
-        "No fault was found: while both captures ran, each frame that had to came by both LANs. ",
+        &[
+            "No fault was found: while both captures ran, each frame that had to came by both ",
+            topology.either("LANs", "ways of the ring"),
+            ". ",
+        ],
     )?;
     put_some(writer, totals.frames, "frame", "frames")?;
     put(writer, " of ")?;
@@ -78,24 +83,38 @@ fn put_passed<W: Write>(writer: &mut W, totals: &Totals) -> io::Result<()> {
 }
 
 /// Writes how many frames reached no receiver.
-fn put_undelivered<W: Write>(writer: &mut W, totals: &Totals) -> io::Result<()> {
+fn put_undelivered<W: Write>(
+    writer: &mut W,
+    topology: Topology,
+    totals: &Totals,
+) -> io::Result<()> {
     let share = totals.frames;
     let whole = totals.frames.saturating_add(totals.neither);
     let delivered = Percent { share, whole };
     write!(writer, "{delivered} of all frames were delivered; ")?;
     put_count(writer, totals.neither)?;
-    put(writer, word_for(totals.neither, " was", " were"))?;
-    put(writer, " lost on both LANs, and reached no receiver.")
+    put_all(
+        writer,
+        &[
+            word_for(totals.neither, " was", " were"),
+            topology.either(" lost on both LANs", " lost on both ways"),
+            ", and reached no receiver.",
+        ],
+    )
 }
 
 /// Writes what a customer reads first of a network with faults.
-fn put_failed<W: Write>(writer: &mut W, totals: &Totals) -> io::Result<()> {
+fn put_failed<W: Write>(writer: &mut W, topology: Topology, totals: &Totals) -> io::Result<()> {
     if totals.neither > 0 {
-        put_undelivered(writer, totals)
+        put_undelivered(writer, topology, totals)
     } else if totals.lost_a > 0 || totals.lost_b > 0 {
-        put(
+        put_all(
             writer,
-            "No frame is seen to be lost on both LANs, but not each came by both: a second fault would have lost frames.",
+            &[
+                "No frame is seen to be lost on both ",
+                topology.either("LANs", "ways"),
+                ", but not each came by both: a second fault would have lost frames.",
+            ],
         )
     } else {
         put(
@@ -106,10 +125,15 @@ fn put_failed<W: Write>(writer: &mut W, totals: &Totals) -> io::Result<()> {
 }
 
 /// Writes what a customer reads first.
-fn put_lead<W: Write>(writer: &mut W, outcome: Outcome, totals: &Totals) -> io::Result<()> {
+fn put_lead<W: Write>(
+    writer: &mut W,
+    outcome: Outcome,
+    topology: Topology,
+    totals: &Totals,
+) -> io::Result<()> {
     match outcome {
-        Outcome::Pass => put_passed(writer, totals),
-        Outcome::Fail => put_failed(writer, totals),
+        Outcome::Pass => put_passed(writer, topology, totals),
+        Outcome::Fail => put_failed(writer, topology, totals),
         Outcome::Open => put(writer, "These captures do not suffice for a verdict."),
     }
 }
@@ -118,7 +142,12 @@ fn put_lead<W: Write>(writer: &mut W, outcome: Outcome, totals: &Totals) -> io::
 ///
 /// # Errors
 /// The writer fails.
-pub fn open_verdict<W: Write>(writer: &mut W, outcome: Outcome, totals: &Totals) -> io::Result<()> {
+pub fn open_verdict<W: Write>(
+    writer: &mut W,
+    outcome: Outcome,
+    topology: Topology,
+    totals: &Totals,
+) -> io::Result<()> {
     put_all(
         writer,
         &[
@@ -131,7 +160,7 @@ pub fn open_verdict<W: Write>(writer: &mut W, outcome: Outcome, totals: &Totals)
             "</h2>\n<p class=\"lead\">",
         ],
     )?;
-    put_lead(writer, outcome, totals)?;
+    put_lead(writer, outcome, topology, totals)?;
     put(writer, "</p>\n<ul class=\"reasons\">\n")
 }
 

@@ -35,6 +35,19 @@ impl fmt::Display for Count {
     }
 }
 
+/// Octets, shown by hexadecimal digits.
+#[derive(Clone, Copy, Debug, PartialEq, Eq)]
+pub struct Hexadecimal(pub [u8; 32]);
+
+impl fmt::Display for Hexadecimal {
+    fn fmt<W: fmt::Write>(&self, f: &mut fmt::Formatter<W>) -> fmt::Result {
+        for octet in self.0 {
+            write!(f, "{octet:02x}")?;
+        }
+        Ok(())
+    }
+}
+
 /// A time in nanoseconds, shown in seconds.
 #[derive(Clone, Copy, Debug, PartialEq, Eq)]
 pub struct Seconds(pub u64);

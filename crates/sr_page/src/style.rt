@@ -1,10 +1,10 @@
 //! The style of a page: light and dark, on paper, and on a screen 400 pixels wide.
 
 /// The SHA-256 digest of the style, in Base64, as a policy names it.
-pub(crate) const STYLE_HASH: &str = "nOimVZCsY93dFaz4YNgwP/zoePLjbKiz5KQwC9Rg7Do=";
+pub(crate) const STYLE_HASH: &str = "+Hl1aR9DdSKMWh0H0pa1JeO7yn8tbaRWKb9gwXx0R98=";
 
 /// Its lines.
-pub(crate) const STYLE: [&str; 153] = [
+pub(crate) const STYLE: [&str; 155] = [
     ":root{--bg:#fff;--card:#f6f8fa;--line:#d5dae1;--ink:#1a2027;--mute:#56616e;--a:#0072b2;--b:#d55e00;--both:#1a2027;--range:#c9d1da;--half:#8795a5;--median:#1a2027;--link:#0a5a94;--pass:#0b6b4b;--fail:#a3122b;--open:#785600;--badge:#fff;--fa:#e3f0f8;--fb:#fcebdf}\n",
     "@media (prefers-color-scheme:dark){:root{--bg:#11161c;--card:#1a212a;--line:#36404c;--ink:#e7ecf2;--mute:#a3afbc;--a:#5db8f0;--b:#f5965a;--both:#f4f6f8;--range:#3d4855;--half:#71808f;--median:#f4f6f8;--link:#86c5f4;--pass:#4cc79a;--fail:#ff7b8a;--open:#e7bd55;--badge:#11161c;--fa:#13324a;--fb:#45291a}}\n",
     "*{box-sizing:border-box}\n",
@@ -22,7 +22,7 @@ pub(crate) const STYLE: [&str; 153] = [
     ".skip{position:absolute;left:-99rem}\n",
     ".skip:focus{left:1rem;top:.5rem;background:var(--bg);padding:.4rem .8rem;z-index:2}\n",
     ".facts{display:flex;flex-wrap:wrap;gap:.35rem 2rem;margin:0}\n",
-    ".facts div{display:flex;flex-direction:column}\n",
+    ".facts dl{display:flex;flex-direction:column;margin:0}\n",
     ".facts .mono{flex-basis:100%}\n",
     "dt{color:var(--mute);font-size:.82rem}\n",
     "dd{margin:0;overflow-wrap:anywhere}\n",
@@ -36,7 +36,7 @@ pub(crate) const STYLE: [&str; 153] = [
     ".reasons{margin:.2rem 0;padding-left:1.2rem}\n",
     ".good{color:var(--mute)}\n",
     ".tiles{display:grid;grid-template-columns:repeat(6,1fr);gap:.7rem;margin:0}\n",
-    ".tile{border:1px solid var(--line);border-top:4px solid var(--line);border-radius:.4rem;padding:.5rem .8rem .6rem}\n",
+    ".tile{margin:0;border:1px solid var(--line);border-top:4px solid var(--line);border-radius:.4rem;padding:.5rem .8rem .6rem}\n",
     ".tile.a{border-top-color:var(--a)}.tile.b{border-top-color:var(--b)}.tile.both{border-top-color:var(--both)}\n",
     ".tile dd{display:flex;flex-direction:column}\n",
     ".value{font-size:1.5rem;font-weight:650;line-height:1.25;font-variant-numeric:tabular-nums;white-space:nowrap}\n",
@@ -67,7 +67,7 @@ pub(crate) const STYLE: [&str; 153] = [
     ".net,.lanes{--side:19rem;--end:8.5rem}\n",
     ".skew{--side:5.2rem;--end:6.5rem}\n",
     ".side{text-align:right;font-size:.82rem;line-height:1.2;color:var(--mute)}\n",
-    ".side.tall{display:flex;flex-direction:column;justify-content:space-between;height:114px;padding:0}\n",
+    ".tall{display:flex;flex-direction:column;justify-content:space-between;height:114px;padding:0}\n",
     ".end{font-size:.82rem;line-height:1.2}.n{white-space:nowrap}\n",
     ".unit{color:var(--mute)}\n",
     ".n{font-variant-numeric:tabular-nums;font-weight:650;margin-right:.7em}\n",
@@ -150,12 +150,14 @@ pub(crate) const STYLE: [&str; 153] = [
     "th,td{padding:.2rem .3rem}\n",
     ".tiles{grid-template-columns:repeat(6,1fr);gap:.4rem}.tile{padding:.3rem .5rem}.value{font-size:12.5pt}.filter{white-space:normal}\n",
     ".net,.lanes{--side:15rem;--end:7rem}\n",
-    "h2,h3,figcaption{break-after:avoid}\n",
+    "h2,h3,.bits,figcaption{break-after:avoid}\n",
     "thead{display:table-header-group}\n",
-    "tr,.findings>li,.card,#verdict,.net,.lanes,.tile,.sign{break-inside:avoid}\n",
+    "tr,.findings>li,.skew,.row,#verdict,.net,.tile,.sign{break-inside:avoid}\n",
     "h2{margin-top:1.6rem}\n",
     "}\n",
     ".remark{margin:.5rem 0 0;max-width:60rem;overflow-wrap:anywhere}\n",
     ".w2 .kind{color:var(--mute)}\n",
     ".files div{margin-bottom:.2rem}\n",
+    ".card h4{font-size:.92rem;margin:.4rem 0 .1rem}.stretches{margin:0 0 .4rem;padding-left:1.2rem;font-size:.87rem}.skew{margin-bottom:.4rem}\n",
+    "@media print{.card h4{break-after:avoid}.stretches li{break-inside:avoid}}\n",
 ];

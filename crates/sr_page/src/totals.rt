@@ -33,7 +33,7 @@ fn open_tile<W: Write>(writer: &mut W, class: &'static str, name: &'static str) 
     put_all(
         writer,
         &[
-            "<div class=\"tile ",
+            "<dl class=\"tile ",
             class,
             "\"><dt>",
             name,
@@ -49,7 +49,7 @@ fn go_below<W: Write>(writer: &mut W) -> io::Result<()> {
 
 /// Ends the tile of a figure.
 fn close_tile<W: Write>(writer: &mut W) -> io::Result<()> {
-    put(writer, "</span></dd></div>\n")
+    put(writer, "</span></dd></dl>\n")
 }
 
 /// Writes how many frames came.
@@ -128,7 +128,7 @@ fn put_skew<W: Write>(writer: &mut W, totals: &Totals) -> io::Result<()> {
 pub fn write_totals<W: Write>(writer: &mut W, totals: &Totals) -> io::Result<()> {
     put(
         writer,
-        "<section aria-label=\"Summary\"><dl class=\"tiles\">\n",
+        "<section aria-label=\"Summary\"><div class=\"tiles\">\n",
     )?;
     put_frames(writer, totals)?;
     put_pairs(writer, totals)?;
@@ -136,5 +136,5 @@ pub fn write_totals<W: Write>(writer: &mut W, totals: &Totals) -> io::Result<()>
     put_lost(writer, "b", "Lost on B", totals.lost_b, totals.judged)?;
     put_neither(writer, totals)?;
     put_skew(writer, totals)?;
-    put(writer, "</dl></section>\n")
+    put(writer, "</div></section>\n")
 }

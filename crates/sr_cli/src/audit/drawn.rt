@@ -66,6 +66,23 @@ pub fn ranked<R: AllocGlobal>(rt: &R, report: Report) -> Result<Vec<SourceLine>,
     }
 }
 
+/// What is kept of the worst sources, so many of them with their skews, by a pass of its own.
+pub fn keep<R: AllocGlobal + Eprint + Files>(
+    rt: &R,
+    task: &AuditTask<'_>,
+    keys: Keys,
+    times: Times,
+    lines: &[SourceLine],
+    cards: usize,
+) -> Result<Kept, Ended> {
+    let mut kept = match Kept::new(rt.alloc(), times_of(times.recorded), lines, cards) {
+        Ok(kept) => kept,
+        Err(_) => return Err(Ended::By(ScriptFault::NoMemory)),
+    };
+    trace(rt, task, keys, times, &mut kept)?;
+    Ok(kept)
+}
+
 /// Draws the picture of the worst sources.
 pub fn draw<R: AllocGlobal + Eprint + Files, W: Write>(
     rt: &R,
@@ -76,16 +93,7 @@ pub fn draw<R: AllocGlobal + Eprint + Files, W: Write>(
     writer: &mut W,
 ) -> Result<(), Ended> {
     let lines = ranked(rt, report)?;
-    let mut kept = match Kept::new(
-        rt.alloc(),
-        times_of(times.recorded),
-        lines.as_slice(),
-        MAX_CHARTS,
-    ) {
-        Ok(kept) => kept,
-        Err(_) => return Err(Ended::By(ScriptFault::NoMemory)),
-    };
-    trace(rt, task, keys, times, &mut kept)?;
+    let kept = keep(rt, task, keys, times, lines.as_slice(), MAX_CHARTS)?;
     print_picture(writer, lines.as_slice(), &kept)?;
     Ok(())
 }

@@ -1,22 +1,22 @@
 //! The page of an audit, for who has ordered the test of a network.
 
 use crate::audit::Ended;
-use crate::audit::drawn::ranked;
+use crate::audit::drawn::{keep, ranked, trace};
 use crate::audit::names::read_names;
 use crate::audit::passes::{Times, open};
 use crate::clocks::Known;
 use crate::dates::Moment;
-use crate::files::size_of;
+use crate::files::{digest_at, size_of};
 use crate::meanings::subject_of;
 use crate::progress::Progress;
-use sr_audit::Alive;
-use sr_audit_charts::{SourceLine, times_of};
-use sr_audit_page::{Given, Page, write_page};
+use sr_audit_charts::{Kept, MAX_CARDS, SourceLine, times_of};
+use sr_audit_page::{Given, Page, rows_of, topology_of, write_page};
 use sr_capture_audit::{Network, Report, Summary};
 use sr_capture_script::ScriptFault;
 use sr_markup::Escaped;
 use sr_options::{AuditTask, PROGRAM_VERSION, Paths};
-use sr_page::{CaptureFile, Fact, Seconds, Skew, SourceRow};
+use sr_page::{CaptureFile, Fact, Seconds, Skew};
+use sr_slots::Keys;
 use sr_verdict::Verdict;
 use std::alloc::{AllocError, Global};
 use std::io::Write;
@@ -105,6 +105,7 @@ fn files_of<R: AllocGlobal + Files>(
         let file = CaptureFile {
             path: own,
             size: size_of(rt, path),
+            digest: digest_at(rt, path),
         };
         if let Err(refused) = files.push(file) {
             return Err(AllocError::from(refused));
@@ -167,79 +168,26 @@ fn read_given<R: AllocGlobal + Eprint + Files>(
     }
 }
 
-/// The longer of two times between signs of life.
-fn longest_of(alive: Option<Alive>) -> Option<u64> {
-    let Some(alive) = alive else {
-        return None;
-    };
-    match (alive.a.gap, alive.b.gap) {
-        (Some(a), Some(b)) => Some(a.max(b)),
-        (Some(gap), None) | (None, Some(gap)) => Some(gap),
-        (None, None) => None,
-    }
-}
-
-/// How many frames of a source came, by whichever LAN.
-fn frames_of(line: &SourceLine) -> u64 {
-    let tally = line.figures.tally;
-    tally
-        .pairs
-        .saturating_add(tally.alone.a)
-        .saturating_add(tally.alone.b)
-}
-
-/// A skew of a source, which has none where it has no pair.
-fn when_paired(pairs: u64, skew: i128) -> Option<i128> {
-    if pairs == 0 { None } else { Some(skew) }
-}
-
-/// The row of a source.
-fn row_of(line: &SourceLine) -> SourceRow {
-    let figures = line.figures;
-    let skews = figures.skews;
-    let repeats = figures.tally.repeats;
-    SourceRow {
-        mac: line.mac,
-        frames: frames_of(line),
-        pairs: figures.tally.pairs,
-        lost_a: line.lost.a,
-        lost_b: line.lost.b,
-        neither: line.neither,
-        repeated: repeats.a.saturating_add(repeats.b),
-        order: figures.order.a.saturating_add(figures.order.b),
-        jumps: figures.jumps,
-        restarts: figures.restarts,
-        least: when_paired(skews.count, skews.least),
-        mean: skews.mean(),
-        greatest: when_paired(skews.count, skews.greatest),
-        gap: longest_of(line.alive),
-    }
-}
-
-/// The rows of sources.
-fn rows_in(alloc: Global, lines: &[SourceLine]) -> Result<Vec<SourceRow>, AllocError> {
-    let mut rows = Vec::new(alloc);
-    for line in lines {
-        if let Err(refused) = rows.push(row_of(line)) {
-            return Err(AllocError::from(refused));
-        }
-    }
-    Ok(rows)
-}
-
-/// The rows of the sources, the worst first. The figures are let go.
-fn rows_of<R: AllocGlobal>(rt: &R, report: Report) -> Result<Vec<SourceRow>, Ended> {
-    let lines = ranked(rt, report)?;
-    match rows_in(rt.alloc(), lines.as_slice()) {
-        Ok(rows) => Ok(rows),
-        Err(_) => Err(Ended::By(ScriptFault::NoMemory)),
-    }
+/// What is kept of the worst sources, by two passes of its own: one for their losses and the ranges of their skews, and one for the sizes of
+/// these.
+fn keep_all<R: AllocGlobal + Eprint + Files>(
+    rt: &R,
+    task: &AuditTask<'_>,
+    keys: Keys,
+    times: Times,
+    lines: &[SourceLine],
+) -> Result<Kept, Ended> {
+    let mut kept = keep(rt, task, keys, times, lines, MAX_CARDS)?;
+    kept.count_sizes();
+    trace(rt, task, keys, times, &mut kept)?;
+    Ok(kept)
 }
 
 /// Writes the page.
 pub fn print_page<R: AllocGlobal + Eprint + Files, W: Write>(
     rt: &R,
     task: &AuditTask<'_>,
+    keys: Keys,
     known: Known,
     times: Times,
     report: Report,
@@ -247,16 +195,23 @@ pub fn print_page<R: AllocGlobal + Eprint + Files, W: Write>(
     verdicts: &[Verdict],
     writer: &mut W,
 ) -> Result<(), Ended> {
+    let lines = ranked(rt, report)?;
+    let kept = keep_all(rt, task, keys, times, lines.as_slice())?;
     let given = read_given(rt, task, known, times)?;
-    let rows = rows_of(rt, report)?;
+    let Ok(rows) = rows_of(rt.alloc(), lines.as_slice()) else {
+        return Err(Ended::By(ScriptFault::NoMemory));
+    };
     let page = Page {
         given: &given,
+        topology: topology_of(subject_of(task).network),
         ports: subject_of(task).ports,
         spans: times.recorded,
         counts: summary.counts,
         left_out: summary.left_out,
         verdicts,
         rows: rows.as_slice(),
+        lines: lines.as_slice(),
+        kept: &kept,
     };
     match write_page(writer, &page) {
         Ok(()) => Ok(()),

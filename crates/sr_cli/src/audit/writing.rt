@@ -135,7 +135,7 @@ pub fn write_all<R: AllocGlobal + Eprint + Files, W: Write>(
             rt, task, keys, known, times, report, summary, sources, verdicts, format, writer,
         )?,
         None if task.format == sr_options::Format::Html => print_page(
-            rt, task, known, times, report, summary, verdicts, writer,
+            rt, task, keys, known, times, report, summary, verdicts, writer,
         )?,
         None => draw(rt, task, keys, times, report, writer)?,
     }
