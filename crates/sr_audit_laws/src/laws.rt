@@ -35,8 +35,8 @@ pub fn each_break_is_told()
     ensures { EachBreakIsTold }
 {}
 
-/// Of whatever copies a listing took, all that it listed of a source, with what it lists at the end of that, are the lines of the source's
-/// numbers, each once: a frame that came by both sides as a pair, one that came by one side alone as lost, if it came while the capture of
+/// Of whatever copies a listing took, all that it listed of a source, with what it lists at the end of that, if no other was ended before,
+/// are the lines of the source's numbers, each once: a frame that came by both sides as a pair, one that came by one side alone as lost, if it came while the capture of
 /// the other side ran, and a number of no frame as that. Times and packets are those of first copies. Nothing is listed of a source that is
 /// not one of the 512 from the first one on.
 pub fn each_number_is_listed_once()

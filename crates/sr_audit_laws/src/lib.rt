@@ -4,6 +4,8 @@
 
 mod calls;
 mod laws;
+#[cfg(test)]
+mod tests;
 
 pub use calls::list_source;
 pub use laws::{
