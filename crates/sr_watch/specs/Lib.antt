@@ -1,0 +1,4 @@
+pub mod Late
+pub mod Counted
+pub mod Changed
+pub mod Tracking

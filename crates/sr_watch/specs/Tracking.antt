@@ -1,0 +1,35 @@
+-- What is kept of a source.
+use Rattle.std.specs.Prelude.{◌≡◌, ℕ, ◌+◌, ◌^◌, ◌<◌, ◌≤◌, List, ◌∷◌, length}
+use Rattle.sr_audit.specs.declared.arrival.Arrival.{Arrival}
+use Rattle.sr_audit.specs.Limits.{exact_arrivals}
+use Rattle.sr_audit.specs.Stretches.{stretches}
+use Rattle.sr_audit.specs.Taken.{HasTaken}
+use Rattle.sr_watch.specs.declared.report.SourceLine.{SourceLine}
+use Rattle.sr_watch.specs.declared.tracked.Tracked.{Tracked}
+use Rattle.sr_watch.specs.Changed.{changes_between, HasTold}
+use Rattle.sr_watch.specs.Counted.{always, counts_of, lasts_of}
+use Rattle.sr_watch.specs.Late.{lates_of}
+
+-- these arrivals of the source were noted, newest first
+pub record Tracks (xs : List Arrival) (t : Tracked) : Type 0 where
+  pub taken : HasTaken always xs t.source
+  pub late : length xs ≤ exact_arrivals → t.late ≡ lates_of (stretches xs)
+  pub last : t.last ≡ lasts_of xs
+
+-- these arrivals were noted, and these lines told of them
+pub record Watched (xs : List Arrival) (lines : List SourceLine) (t : Tracked) : Type 0 where
+  pub tracks : Tracks xs t
+  pub told : HasTold lines t.told
+
+-- one arrival more was noted, and no line was told
+pub record NotesArrival (x : Arrival) (old new : Tracked) : Type 0 where
+  pub notes : (xs : List Arrival) → length xs + 1 < 2 ^ 64 → Tracks xs old → Tracks (x ∷ xs) new
+  pub told : new.told ≡ old.told
+
+-- a line was told up to a mark: what no line before told, of all that was counted; and all is told now
+pub record TellsLine (mark : ℕ) (old new : Tracked) (line : SourceLine) : Type 0 where
+  pub total : (xs : List Arrival) → length xs ≤ exact_arrivals → Tracks xs old → line.total ≡ counts_of mark xs
+  pub last : line.last ≡ old.last
+  pub interval : line.interval ≡ changes_between old.told line.total
+  pub all : new.told ≡ line.total
+  pub keeps : (xs : List Arrival) → Tracks xs old → Tracks xs new
