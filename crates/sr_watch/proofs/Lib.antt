@@ -1,1 +1,3 @@
 pub mod LateLemmas
+pub mod ToldLemmas
+pub mod TableLemmas

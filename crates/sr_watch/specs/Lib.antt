@@ -2,3 +2,4 @@ pub mod Late
 pub mod Counted
 pub mod Changed
 pub mod Tracking
+pub mod Watching

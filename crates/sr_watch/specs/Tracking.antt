@@ -16,20 +16,21 @@ pub record Tracks (xs : List Arrival) (t : Tracked) : Type 0 where
   pub late : length xs ≤ exact_arrivals → t.late ≡ lates_of (stretches xs)
   pub last : t.last ≡ lasts_of xs
 
--- these arrivals were noted, and these lines told of them
+-- these arrivals were noted, and these lines told of them, newest first
 pub record Watched (xs : List Arrival) (lines : List SourceLine) (t : Tracked) : Type 0 where
   pub tracks : Tracks xs t
-  pub told : HasTold lines t.told
+  pub told : length xs ≤ exact_arrivals → HasTold lines t.told
 
--- one arrival more was noted, and no line was told
+-- one arrival more was noted
 pub record NotesArrival (x : Arrival) (old new : Tracked) : Type 0 where
-  pub notes : (xs : List Arrival) → length xs + 1 < 2 ^ 64 → Tracks xs old → Tracks (x ∷ xs) new
+  pub notes : (xs : List Arrival) (lines : List SourceLine) → length xs + 1 < 2 ^ 64 →
+      Watched xs lines old → Watched (x ∷ xs) lines new
   pub told : new.told ≡ old.told
 
--- a line was told up to a mark: what no line before told, of all that was counted; and all is told now
+-- a line tells what no line before told, of all that is counted up to a mark; and all is told now
 pub record TellsLine (mark : ℕ) (old new : Tracked) (line : SourceLine) : Type 0 where
   pub total : (xs : List Arrival) → length xs ≤ exact_arrivals → Tracks xs old → line.total ≡ counts_of mark xs
-  pub last : line.last ≡ old.last
+  pub last : (xs : List Arrival) → Tracks xs old → line.last ≡ lasts_of xs
   pub interval : line.interval ≡ changes_between old.told line.total
   pub all : new.told ≡ line.total
-  pub keeps : (xs : List Arrival) → Tracks xs old → Tracks xs new
+  pub keeps : (xs : List Arrival) (lines : List SourceLine) → Watched xs lines old → Watched xs (line ∷ lines) new

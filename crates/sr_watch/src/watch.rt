@@ -8,7 +8,7 @@ use sr_audit::Side;
 use sr_frame::{Mac, NoMemory};
 use sr_hold::Hold;
 use sr_sequence::Seq;
-use sr_slots::{Keys, Slots};
+use sr_slots::Keys;
 use std::alloc::Global;
 use thiserror::Error;
 
@@ -49,11 +49,7 @@ impl Watch {
     pub fn new(alloc: Global, keys: Keys, settings: Settings, now: u64) -> Watch {
         Watch {
             hold: Hold::new(alloc, settings.slack, now),
-            table: Table {
-                alloc,
-                sources: Slots::with_keys(alloc, keys),
-                left_out: 0,
-            },
+            table: Table::new(alloc, keys),
             settings,
         }
     }
@@ -116,7 +112,7 @@ impl Watch {
     /// # Errors
     /// `NoMemory` where the allocation failed.
     pub fn sources(&self) -> Result<Vec<Mac>, NoMemory> {
-        Ok(Vec::new(self.table.alloc))
+        self.table.addresses()
     }
 
     /// What no line has told of a source, and all since the start. None: it has no line.

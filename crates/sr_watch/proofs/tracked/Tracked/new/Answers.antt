@@ -6,5 +6,5 @@ pub returns : goal.returns
 returns c =
     record {
       tracks = record { taken = c.in_ok-new.ensures.taken always; late = λ few. refl; last = refl };
-      told = record { sums = refl; small = omega arith };
+      told = λ few. record { sums = refl; small = omega arith };
     }
