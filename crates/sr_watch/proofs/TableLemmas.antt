@@ -42,7 +42,7 @@ use Rattle.sr_audit.specs.Audits.{Sent, of}
 use Rattle.sr_audit.specs.Limits.{most_audited, exact_arrivals}
 use Rattle.sr_watch.specs.declared.report.SourceLine.{SourceLine}
 use Rattle.sr_watch.specs.declared.tracked.Tracked.{Tracked}
-use Rattle.sr_watch.specs.Changed.{sum_of, whole}
+use Rattle.sr_watch.specs.Changed.{changes_between, sum_of, whole}
 use Rattle.sr_watch.specs.Counted.{counts_of, lasts_of}
 use Rattle.sr_watch.specs.Tracking.{Watched, TellsLine}
 use Rattle.sr_watch.specs.Watching.{lines_of, IsWatchedFor, Watches, unwatched_of, CountsUnwatched, TellsOf}
@@ -159,6 +159,7 @@ tells_of mark src entries line was is source found tells =
       source = source;
       total = λ xs lines few watches. tells.total (of src xs) few (own xs lines watches).tracks;
       last = λ xs lines watches. tells.last (of src xs) (own xs lines watches).tracks;
+      since = λ xs lines watches. tells.interval ∙ ap (λ told. changes_between told line.total) (own xs lines watches).since;
       together = λ xs lines few watches.
           let watched = own xs lines watches in
           ap sum_of (first lines) ∙ ((tells.keeps (of src xs) (lines_of src lines) watched).told few).sums

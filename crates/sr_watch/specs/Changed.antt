@@ -88,6 +88,11 @@ abbrev pub sum_of : List SourceLine → Changes
 sum_of [] = whole none_counted
 sum_of (line ∷ before) = plus line.interval (sum_of before)
 
+-- what the newest line of a source told in all
+abbrev pub total_of : List SourceLine → Counts
+total_of [] = none_counted
+total_of (line ∷ before) = line.total
+
 -- a sum of skews is so small that it differs from another such one by less than 128 bits hold
 abbrev pub IsSmall : Counts → Type 0
 IsSmall c = unsigned_abs c.skews.sum ≤ 2 ^ 120

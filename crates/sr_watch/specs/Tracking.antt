@@ -6,7 +6,7 @@ use Rattle.sr_audit.specs.Stretches.{stretches}
 use Rattle.sr_audit.specs.Taken.{HasTaken}
 use Rattle.sr_watch.specs.declared.report.SourceLine.{SourceLine}
 use Rattle.sr_watch.specs.declared.tracked.Tracked.{Tracked}
-use Rattle.sr_watch.specs.Changed.{changes_between, HasTold}
+use Rattle.sr_watch.specs.Changed.{changes_between, total_of, HasTold}
 use Rattle.sr_watch.specs.Counted.{always, counts_of, lasts_of}
 use Rattle.sr_watch.specs.Late.{lates_of}
 
@@ -20,6 +20,7 @@ pub record Tracks (xs : List Arrival) (t : Tracked) : Type 0 where
 pub record Watched (xs : List Arrival) (lines : List SourceLine) (t : Tracked) : Type 0 where
   pub tracks : Tracks xs t
   pub told : length xs ≤ exact_arrivals → HasTold lines t.told
+  pub since : t.told ≡ total_of lines
 
 -- one arrival more was noted
 pub record NotesArrival (x : Arrival) (old new : Tracked) : Type 0 where

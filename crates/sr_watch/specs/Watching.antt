@@ -8,7 +8,7 @@ use Rattle.sr_audit.specs.Audits.{Sent, of}
 use Rattle.sr_audit.specs.Limits.{most_audited, exact_arrivals}
 use Rattle.sr_watch.specs.declared.report.SourceLine.{SourceLine}
 use Rattle.sr_watch.specs.declared.tracked.Tracked.{Tracked}
-use Rattle.sr_watch.specs.Changed.{sum_of, whole}
+use Rattle.sr_watch.specs.Changed.{changes_between, sum_of, total_of, whole}
 use Rattle.sr_watch.specs.Counted.{counts_of, lasts_of}
 use Rattle.sr_watch.specs.Tracking.{Watched}
 
@@ -41,6 +41,8 @@ pub record TellsOf (mark : ℕ) (src : Mac) (old new : List (Mac × Tracked)) (l
   pub total : (xs : List Sent) (lines : List SourceLine) → length (of src xs) ≤ exact_arrivals → Watches xs lines old →
       line.total ≡ counts_of mark (of src xs)
   pub last : (xs : List Sent) (lines : List SourceLine) → Watches xs lines old → line.last ≡ lasts_of (of src xs)
+  pub since : (xs : List Sent) (lines : List SourceLine) → Watches xs lines old →
+      line.interval ≡ changes_between (total_of (lines_of src lines)) line.total
   pub together : (xs : List Sent) (lines : List SourceLine) → length (of src xs) ≤ exact_arrivals → Watches xs lines old →
       sum_of (lines_of src (line ∷ lines)) ≡ whole (counts_of mark (of src xs))
   pub keeps : (xs : List Sent) (lines : List SourceLine) → Watches xs lines old → Watches xs (line ∷ lines) new

@@ -7,4 +7,5 @@ returns c =
     record {
       tracks = record { taken = c.in_ok-new.ensures.taken always; late = λ few. refl; last = refl };
       told = λ few. record { sums = refl; small = omega arith };
+      since = refl;
     }

@@ -27,6 +27,7 @@ returns c =
               last = c.with-self.ensures ∙ ap (lasts_with x.side x.time) watched.tracks.last ∙ lasts_after x xs;
             };
             told = λ exact. watched.told (omega (arith, exact));
+            since = watched.since;
           };
       told = refl;
     }

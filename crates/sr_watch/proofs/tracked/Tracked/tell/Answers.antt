@@ -18,5 +18,6 @@ returns-clause-told c =
             (subst IsSmall (sym (c.counts-total.ensures mark xs few watched.tracks (c.waits-waiting.ensures always xs watched.tracks.taken)))
             (small_of mark xs few (watched.tracks.taken.skews few).small))
             c.since-interval.ensures;
+        since = refl;
       };
     }
