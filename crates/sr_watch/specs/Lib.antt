@@ -7,4 +7,5 @@ pub mod Running
 pub mod LanAlarms
 pub mod Following
 pub mod Alarms
+pub mod Worked
 pub mod Laws
