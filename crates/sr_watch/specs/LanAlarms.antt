@@ -1,10 +1,6 @@
 -- When alarms of captures are raised, and when they are cleared.
-use Rattle.std.specs.Prelude.{◌≡◌, ℕ, ◌-◌, nat_lt, nat_le, Bool, ◌&&◌, Option, None, Some, length, if◌then◌else◌}
-use Rattle.sr_audit.specs.declared.side.Side.{Side}
-use Rattle.sr_hold.specs.Holding.{line_of}
+use Rattle.std.specs.Prelude.{ℕ, ◌-◌, nat_lt, nat_le, Bool, ◌&&◌, Option, None, Some}
 use Rattle.sr_hold.specs.Limits.{line_room}
-use Rattle.sr_hold.specs.Pacing.{pace_of}
-use Rattle.sr_watch.specs.declared.alarm.Alarm.{Alarm}
 use Rattle.sr_watch.specs.declared.alarm.LanAlarm.{LanAlarm}
 use Rattle.sr_watch.specs.declared.alarm.LanAlarm.TheVariants.{LanSilent, CaptureEnded, Behind, Full}
 use Rattle.sr_watch.specs.declared.lan.Lan.{Lan}
