@@ -78,6 +78,7 @@ pub record Goes (slack start : ℕ) (turns : List (Turn Numbered)) (lines : List
 pub record Advances (old new : Watch) : Type 0 where
   pub goes : (slack start : ℕ) (turns : List (Turn Numbered)) (lines : List SourceLine) →
       Goes slack start turns lines old → Goes slack start turns lines new
+  pub forgotten : new.table.forgotten ≡ old.table.forgotten
 
 -- up to when all is told: once both captures have ended nothing more is waited for
 abbrev pub mark_if : Bool → ℕ → ℕ

@@ -1,5 +1,5 @@
 -- What is kept of a source.
-use Rattle.std.specs.Prelude.{◌≡◌, ℕ, ◌+◌, ◌^◌, ◌<◌, ◌≤◌, List, ◌∷◌, length, Option}
+use Rattle.std.specs.Prelude.{◌≡◌, ℕ, ◌+◌, ◌^◌, ◌<◌, ◌≤◌, List, ◌∷◌, length, Option, true}
 use Rattle.sr_audit.specs.declared.arrival.Arrival.{Arrival}
 use Rattle.sr_audit.specs.Limits.{exact_arrivals}
 use Rattle.sr_audit.specs.Stretches.{stretches}
@@ -27,6 +27,8 @@ pub record Watched (xs : List Arrival) (lines : List SourceLine) (t : Tracked) :
   pub tracks : Tracks xs t
   pub told : length xs ≤ exact_arrivals → HasTold lines t.told
   pub since : t.told ≡ total_of lines
+  -- where it may be forgotten, all its arrivals were told
+  pub settled : t.is_settled ≡ true → length xs ≤ exact_arrivals → (mark : ℕ) × (t.told ≡ counts_of mark xs)
 
 -- one arrival more was noted
 pub record NotesArrival (x : Arrival) (old new : Tracked) : Type 0 where

@@ -5,6 +5,7 @@ ghost use Rattle.std.specs.Option.{option_map};
 ghost use Rattle.sr_watch.specs.Following.{next_as};
 
 use crate::alarm::{Alarm, LanAlarm, SourceAlarm, alarm_between, raised_with, since_if};
+use crate::counts::Forgotten;
 use crate::lan::{Lans, Phase, last_or, recorder_of, side_of};
 use crate::report::{Header, LanCounts, SourceLine};
 use crate::settings::Settings;
@@ -16,6 +17,9 @@ use sr_sequence::Seq;
 use sr_slots::Keys;
 use std::alloc::Global;
 use thiserror::Error;
+
+/// For how long a source is silent until it is forgotten, in nanoseconds: an hour (choice of this project).
+const FORGET_TIME: u64 = 3_600_000_000_000;
 
 /// A numbered copy of a frame, as a reader takes it out of a packet.
 #[derive(Clone, Copy, Debug, PartialEq, Eq)]
@@ -92,7 +96,7 @@ pub struct Watch {
 }
 
 impl Watch {
-    ghost use Rattle.std.specs.Prelude.{◌≡◌, ℕ, ◌≤◌, ◌^◌, ◌<◌, List, [], ◌∷◌, length, true, false, None, is_some, IfOk, IfSome, IfNone, OnOk, OnErr, IfErr};
+    ghost use Rattle.std.specs.Prelude.{◌≡◌, ℕ, ◌-◌, ◌≤◌, ◌^◌, ◌<◌, List, [], ◌∷◌, length, true, false, None, is_some, IfOk, IfSome, IfNone, OnOk, OnErr, IfErr};
     ghost use Rattle.std.specs.Map.{lookup, keys_of};
     ghost use Rattle.sr_frame.specs.Addresses.{mac_eq};
     ghost use Rattle.sr_audit.specs.Audits.{Sent};
@@ -102,6 +106,8 @@ impl Watch {
     ghost use Rattle.sr_watch.specs.declared.watch.Numbered.{Numbered};
     ghost use Rattle.sr_watch.specs.Running.{recorder_of};
     ghost use Rattle.sr_watch.specs.Following.{Follows, TakesTurn, Advances, ChecksLan, turn_of, left_in, mark_of};
+    ghost use Rattle.sr_watch.specs.Forgetting.{forgotten_from, left_from};
+    ghost use Rattle.sr_watch.specs.Limits.{forget_time};
     ghost use Rattle.sr_watch.specs.Watching.{TellsOf, ChecksOf};
 
     /// Nothing came, and neither capture runs.
@@ -257,7 +263,7 @@ impl Watch {
             a: self.lan_counts(Side::A),
             b: self.lan_counts(Side::B),
             sources: self.table.len() as u64,
-            forgotten: 0,
+            forgotten: self.table.forgotten().sources,
             left_out: self.table.left_out(),
         }
     }
@@ -287,6 +293,33 @@ impl Watch {
         let mark = self.mark();
         let line = self.table.tell(source, mark)?;
         Some(line)
+    }
+
+    /// Forgets the sources of which no copy came for an hour before the mark, and of which a line has told all. Their counts go to those
+    /// that were forgotten; one that comes back begins anew.
+    pub fn forget(&mut self)
+        ensures entries { self.new.table.sources.entries
+            ≡ left_from (self.old.hold.progress.mark.time - forget_time)
+            self.old.table.sources.entries }
+        ensures forgotten { self.new.table.forgotten
+            ≡ forgotten_from (self.old.hold.progress.mark.time - forget_time)
+            self.old.table.sources.entries self.old.table.forgotten }
+        ensures hold { self.new.hold ≡ self.old.hold }
+        ensures still { left_from (self.old.hold.progress.mark.time - forget_time)
+            self.old.table.sources.entries ≡ self.old.table.sources.entries
+            → (slack start : ℕ) (turns : List (Turn Numbered)) (xs : List Sent)
+            (lines : List SourceLine) → Follows slack start turns xs lines self.old
+            → Follows slack start turns xs lines self.new }
+    {
+        self.table
+            .forget(self.hold.mark().saturating_sub(FORGET_TIME));
+    }
+
+    /// What was counted of the sources that were forgotten.
+    pub fn forgotten(&self) -> Forgotten
+        ensures { result ≡ self.now.table.forgotten }
+    {
+        self.table.forgotten()
     }
 
     /// Whether an alarm of a source is raised or cleared since the last check. Those of an interval are by the last line of the source.
