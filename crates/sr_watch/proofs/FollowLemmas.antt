@@ -12,7 +12,7 @@ use Rattle.sr_hold.specs.Turns.{released_in}
 use Rattle.sr_watch.specs.declared.watch.Next.{Next}
 use Rattle.sr_watch.specs.declared.watch.Numbered.{Numbered}
 use Rattle.sr_watch.specs.declared.watch.Watch.{Watch}
-use Rattle.sr_watch.specs.Following.{next_as, sent_as, newest_first, due_in, with_releases, Advances}
+use Rattle.sr_watch.specs.Following.{next_as, sent_as, newest_first, due_in, with_releases, OnlyReleases}
 
 -- one released more is the newest
 newest_last : (xs : List (Released Numbered)) (y : Released Numbered) → newest_first (xs ++ y ∷ []) ≡ sent_as (next_as y) ∷ newest_first xs
@@ -32,7 +32,7 @@ sent_more xs (Some y) = newest_last xs y
 -- a call that releases, where nothing waits for memory
 pub drawn : (w : Watch) (o : Option (Released Numbered)) (h : Holding Numbered) (n : Option Next) → w.next ≡ None → o ≡ next_of w.hold →
     h ≡ without_next w.hold → n ≡ option_map next_as o →
-    Advances w (record { hold = h; next = n; table = w.table; lans = w.lans; settings = w.settings })
+    OnlyReleases w (record { hold = h; next = n; table = w.table; lans = w.lans; settings = w.settings })
 drawn w o h n free is rest next =
     record {
       goes = λ slack start turns lines g.
@@ -82,7 +82,7 @@ stays h (Some B) none = λ i. record h { b = all h.b none i }
     all [] none = refl
     all (x ∷ xs) none = absurd cc
 
--- and nothing is to be released
+-- where nothing is released nothing is to be released behind it
 pub over : (o : Option (Released Numbered)) (n : Option Next) (old new : Holding Numbered) → o ≡ next_of old → new ≡ without_next old →
     n ≡ option_map next_as o → n ≡ None → next_of new ≡ None
 over o n old new is rest next none =

@@ -8,7 +8,7 @@ use Rattle.sr_audit.specs.Shown.{bounded_sum}
 use Rattle.sr_watch.specs.declared.counts.Counts.{Counts}
 use Rattle.sr_watch.specs.declared.counts.Forgotten.{Forgotten}
 use Rattle.sr_watch.specs.declared.tracked.Tracked.{Tracked}
-use Rattle.sr_watch.specs.Forgetting.{forgot_with, forgotten_from, left_from, Moves, ForgettingMovesCounts}
+use Rattle.sr_watch.specs.Forgetting.{forgot_with, forgotten_from, left_from, MovesCount, ForgettingMovesCounts}
 use Rattle.sr_watch.specs.Ranks.{rank_in}
 
 -- a count that is added to, up to the greatest number
@@ -38,7 +38,7 @@ module _ (count : Counts → ℕ) (gone : Forgotten → ℕ) (adds : Adds count 
   stayed : (h s g l m : ℕ) → s + g ≡ l + m → (h + s) + g ≡ (h + l) + m
   stayed h s g l m rest = omega (arith, rest)
 
-  moves : Moves count gone
+  moves : MovesCount count gone
   moves limit [] f few = refl
   moves limit (e ∷ es) f few =
       elim (cases_Bool (nat_le limit (rank_in e.1))) [

@@ -34,25 +34,25 @@ forgotten_from limit (e ∷ es) f = forgotten_from limit es (if nat_lt (rank_in 
 abbrev pub left_from : ℕ → List (Mac × Tracked) → List (Mac × Tracked)
 left_from limit es = filter (λ e. nat_le limit (rank_in e.1)) es
 
--- a count of sources, and that of forgotten ones: of those that are kept and the forgotten ones together it stays, while that of the forgotten
--- ones is less than 2^64 - 1
-abbrev pub Moves : (Counts → ℕ) → (Forgotten → ℕ) → Type 0
-Moves count gone = (limit : ℕ) (es : List (Mac × Tracked)) (f : Forgotten) → gone (forgotten_from limit es f) < 2 ^ 64 - 1 →
+-- a count of sources, and that of forgotten ones: of those that are kept and the forgotten ones together it stays, while that of the
+-- forgotten ones is less than 2^64 - 1
+abbrev pub MovesCount : (Counts → ℕ) → (Forgotten → ℕ) → Type 0
+MovesCount count gone = (limit : ℕ) (es : List (Mac × Tracked)) (f : Forgotten) → gone (forgotten_from limit es f) < 2 ^ 64 - 1 →
     sum_by (λ e. count e.1.told) es + gone f
     ≡ sum_by (λ e. count e.1.told) (left_from limit es) + gone (forgotten_from limit es f)
 
 pub record ForgettingMovesCounts : Type 0 where
-  pub rx_a : Moves (λ c. c.rx.a) (λ f. f.rx.a)
-  pub rx_b : Moves (λ c. c.rx.b) (λ f. f.rx.b)
-  pub both : Moves (λ c. c.both) (λ f. f.both)
-  pub lost_a : Moves (λ c. c.lost.a) (λ f. f.lost.a)
-  pub lost_b : Moves (λ c. c.lost.b) (λ f. f.lost.b)
-  pub late_a : Moves (λ c. c.late.a) (λ f. f.late.a)
-  pub late_b : Moves (λ c. c.late.b) (λ f. f.late.b)
-  pub repeats_a : Moves (λ c. c.repeats.a) (λ f. f.repeats.a)
-  pub repeats_b : Moves (λ c. c.repeats.b) (λ f. f.repeats.b)
-  pub order_a : Moves (λ c. c.order.a) (λ f. f.order.a)
-  pub order_b : Moves (λ c. c.order.b) (λ f. f.order.b)
-  pub neither : Moves (λ c. c.neither) (λ f. f.neither)
-  pub jumps : Moves (λ c. c.jumps) (λ f. f.jumps)
-  pub restarts : Moves (λ c. c.restarts) (λ f. f.restarts)
+  pub rx_a : MovesCount (λ c. c.rx.a) (λ f. f.rx.a)
+  pub rx_b : MovesCount (λ c. c.rx.b) (λ f. f.rx.b)
+  pub both : MovesCount (λ c. c.both) (λ f. f.both)
+  pub lost_a : MovesCount (λ c. c.lost.a) (λ f. f.lost.a)
+  pub lost_b : MovesCount (λ c. c.lost.b) (λ f. f.lost.b)
+  pub late_a : MovesCount (λ c. c.late.a) (λ f. f.late.a)
+  pub late_b : MovesCount (λ c. c.late.b) (λ f. f.late.b)
+  pub repeats_a : MovesCount (λ c. c.repeats.a) (λ f. f.repeats.a)
+  pub repeats_b : MovesCount (λ c. c.repeats.b) (λ f. f.repeats.b)
+  pub order_a : MovesCount (λ c. c.order.a) (λ f. f.order.a)
+  pub order_b : MovesCount (λ c. c.order.b) (λ f. f.order.b)
+  pub neither : MovesCount (λ c. c.neither) (λ f. f.neither)
+  pub jumps : MovesCount (λ c. c.jumps) (λ f. f.jumps)
+  pub restarts : MovesCount (λ c. c.restarts) (λ f. f.restarts)

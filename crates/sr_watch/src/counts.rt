@@ -3,7 +3,7 @@
 ghost use Rattle.std.specs.Prelude.{◌≡◌};
 ghost use Rattle.sr_watch.specs.Changed.{change, side_changes, changes_between, none_counted};
 ghost use Rattle.sr_watch.specs.Forgetting.{sides_with, forgot_with};
-ghost use Rattle.sr_watch.specs.Counted.{lost_by, counts_from};
+ghost use Rattle.sr_watch.specs.Counted.{called_lost, counts_from};
 
 use sr_audit::{Figures, Sides, Skews};
 
@@ -118,8 +118,8 @@ fn side_changes(told: Sides, all: Sides) -> SideChanges
 }
 
 /// The frames that a LAN lost: those that came by the other one alone or late by this one, but for those that wait.
-fn lost_by(alone: u64, late: u64, waits: u64) -> u64
-    ensures { result ≡ lost_by alone late waits }
+fn called_lost(alone: u64, late: u64, waits: u64) -> u64
+    ensures { result ≡ called_lost alone late waits }
 {
     alone.saturating_add(late).saturating_sub(waits)
 }
@@ -147,8 +147,8 @@ impl Counts {
             rx: f.tally.rx,
             both: f.tally.pairs.saturating_sub(late.a).saturating_sub(late.b),
             lost: Sides {
-                a: lost_by(f.tally.alone.b, late.a, waits.b),
-                b: lost_by(f.tally.alone.a, late.b, waits.a),
+                a: called_lost(f.tally.alone.b, late.a, waits.b),
+                b: called_lost(f.tally.alone.a, late.b, waits.a),
             },
             late,
             repeats: f.tally.repeats,

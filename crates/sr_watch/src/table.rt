@@ -42,7 +42,7 @@ impl Table {
     ghost use Rattle.sr_watch.specs.declared.report.SourceLine.{SourceLine};
     ghost use Rattle.sr_watch.specs.Forgetting.{forgotten_from, left_from};
     ghost use Rattle.sr_watch.specs.Tracking.{NotesArrival, TellsLine, ChecksAlarm};
-    ghost use Rattle.sr_watch.specs.Watching.{Watches, unwatched_of, CountsUnwatched, TellsOf, ChecksOf};
+    ghost use Rattle.sr_watch.specs.Watching.{Watches, unwatched_of, CountsUnwatched, TellsSource, ChecksOf};
 
     /// No arrival came.
     pub fn new(alloc: Global, keys: Keys) -> Table
@@ -166,7 +166,7 @@ impl Table {
     /// What no line told of a source, up to a mark. None: it has no entry.
     pub fn tell(&mut self, src: Mac, mark: u64) -> Option<SourceLine>
         ensures found { is_some result ≡ is_some (lookup (mac_eq src) self.old.sources.entries) }
-        ensures told { IfSome result (λ line. TellsOf mark src self.old.sources.entries
+        ensures told { IfSome result (λ line. TellsSource mark src self.old.sources.entries
             self.new.sources.entries line) }
         ensures none { IfNone result (self.new.sources ≡ self.old.sources) }
         ensures known { (xs : List Sent) → unwatched_of self.new.sources.entries xs

@@ -144,7 +144,7 @@ impl Tracked {
     ghost use Rattle.sr_audit.specs.Limits.{exact_arrivals};
     ghost use Rattle.sr_audit.specs.Stretches.{stretches, current};
     ghost use Rattle.sr_audit.specs.Waiting.{waits_of};
-    ghost use Rattle.sr_watch.specs.Counted.{counts_of};
+    ghost use Rattle.sr_watch.specs.Counted.{counted_of};
     ghost use Rattle.sr_watch.specs.Tracking.{Watched, Tracks, NotesArrival, TellsLine, ChecksAlarm};
 
     /// A source of which nothing came.
@@ -185,7 +185,7 @@ impl Tracked {
     /// All that was counted, where so many frames wait at a mark.
     fn counts(&self, waits: Sides) -> Counts
         ensures { (mark : ℕ) (xs : List Arrival) → length xs ≤ exact_arrivals → Tracks xs self.now
-            → waits ≡ waits_of mark (current (stretches xs)) → result ≡ counts_of mark xs }
+            → waits ≡ waits_of mark (current (stretches xs)) → result ≡ counted_of mark xs }
     {
         Counts::of(self.source.figures(), self.late, waits)
     }

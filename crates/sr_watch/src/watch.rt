@@ -72,11 +72,12 @@ fn next_from(released: Option<Released<Numbered>>) -> Option<Next>
     }
 }
 
-/// Why a hold refused a copy.
-fn fault_of(refused: Refused<Numbered>) -> CameFault {
-    match refused {
-        Refused::Full(_) => CameFault::Full,
-        Refused::AllocFailed(_) => CameFault::NoMemory,
+impl From<Refused<Numbered>> for CameFault {
+    fn from(refused: Refused<Numbered>) -> CameFault {
+        match refused {
+            Refused::Full(_) => CameFault::Full,
+            Refused::AllocFailed(_) => CameFault::NoMemory,
+        }
     }
 }
 
@@ -105,14 +106,14 @@ impl Watch {
     ghost use Rattle.sr_watch.specs.declared.report.SourceLine.{SourceLine};
     ghost use Rattle.sr_watch.specs.declared.watch.Numbered.{Numbered};
     ghost use Rattle.sr_watch.specs.Running.{recorder_of};
-    ghost use Rattle.sr_watch.specs.Following.{Follows, TakesTurn, Advances, ChecksLan, turn_of, left_in, mark_of};
+    ghost use Rattle.sr_watch.specs.Following.{FollowsTurns, TakesTurn, OnlyReleases, ChecksLan, turn_of, left_in, told_up_to};
     ghost use Rattle.sr_watch.specs.Forgetting.{forgotten_from, left_from};
-    ghost use Rattle.sr_watch.specs.Limits.{forget_time};
-    ghost use Rattle.sr_watch.specs.Watching.{TellsOf, ChecksOf};
+    ghost use Rattle.sr_watch.specs.Limits.{silent_hour};
+    ghost use Rattle.sr_watch.specs.Watching.{TellsSource, ChecksOf};
 
     /// Nothing came, and neither capture runs.
     pub fn new(alloc: Global, keys: Keys, settings: Settings, now: u64) -> Watch
-        ensures { Follows settings.slack now [] [] [] result }
+        ensures { FollowsTurns settings.slack now [] [] [] result }
     {
         Watch {
             hold: Hold::new(alloc, settings.slack, now),
@@ -133,10 +134,7 @@ impl Watch {
         ensures err { OnErr result (self.new ≡ self.old) }
     {
         if self.lans.are_watching(now) {
-            match self.hold.came(recorder_of(side), time, now, copy) {
-                Ok(()) => {}
-                Err(refused) => return Err(fault_of(refused)),
-            }
+            self.hold.came(recorder_of(side), time, now, copy)?;
             self.lans = self
                 .lans
                 .with(side, self.lans.at(side).heard(time, now))
@@ -189,7 +187,7 @@ impl Watch {
 
     /// Releases the next arrival, unless one waits for memory.
     fn draw(&mut self)
-        ensures goes { Advances self.old self.new }
+        ensures goes { OnlyReleases self.old self.new }
         ensures over { self.new.next ≡ None → next_of self.new.hold ≡ None }
         ensures left { left_in self.new ≤ left_in self.old }
     {
@@ -200,7 +198,7 @@ impl Watch {
 
     /// Notes the next arrival. False: there is none.
     fn step(&mut self) -> Result<bool, NoMemory>
-        ensures goes { Advances self.old self.new }
+        ensures goes { OnlyReleases self.old self.new }
         ensures next { IfOk result (λ _. self.new.next ≡ None) }
         ensures over { IfOk result (λ more. more ≡ false → next_of self.new.hold ≡ None) }
         ensures left { IfOk result (λ more. more ≡ true → left_in self.new < left_in self.old) }
@@ -221,7 +219,7 @@ impl Watch {
     /// # Errors
     /// `NoMemory` where an allocation failed: the next copy was not taken yet, and a later call begins with it.
     pub fn advance(&mut self) -> Result<(), NoMemory>
-        ensures goes { Advances self.old self.new }
+        ensures goes { OnlyReleases self.old self.new }
         ensures next { OnOk result (self.new.next ≡ None) }
         ensures over { OnOk result (next_of self.new.hold ≡ None) }
     {
@@ -234,7 +232,7 @@ impl Watch {
 
     /// Up to when all is told, in nanoseconds of capture time.
     fn mark(&self) -> u64
-        ensures { result ≡ mark_of self.now }
+        ensures { result ≡ told_up_to self.now }
     {
         if self.lans.have_ended() {
             u64::MAX
@@ -283,11 +281,13 @@ impl Watch {
     pub fn tell(&mut self, source: Mac) -> Option<SourceLine>
         ensures found { is_some result
             ≡ is_some (lookup (mac_eq source) self.old.table.sources.entries) }
-        ensures told { IfSome result (λ line. TellsOf (mark_of self.old) source
+        ensures told { IfSome result (λ line. TellsSource (told_up_to self.old) source
             self.old.table.sources.entries self.new.table.sources.entries line) }
         ensures follows { IfSome result (λ line. (slack start : ℕ) (turns : List (Turn Numbered))
-            (xs : List Sent) (lines : List SourceLine) → Follows slack start turns xs lines self.old
-            → Follows slack start turns xs (line ∷ lines) self.new) }
+            (xs : List Sent) (lines : List SourceLine)
+            → FollowsTurns slack start turns xs lines self.old
+            → FollowsTurns slack start turns xs (line ∷ lines) self.new) }
+        ensures forgotten { self.new.table.forgotten ≡ self.old.table.forgotten }
         ensures none { IfNone result (self.new ≡ self.old) }
     {
         let mark = self.mark();
@@ -299,17 +299,17 @@ impl Watch {
     /// that were forgotten; one that comes back begins anew.
     pub fn forget(&mut self)
         ensures entries { self.new.table.sources.entries
-            ≡ left_from (self.old.hold.progress.mark.time - forget_time)
+            ≡ left_from (self.old.hold.progress.mark.time - silent_hour)
             self.old.table.sources.entries }
         ensures forgotten { self.new.table.forgotten
-            ≡ forgotten_from (self.old.hold.progress.mark.time - forget_time)
+            ≡ forgotten_from (self.old.hold.progress.mark.time - silent_hour)
             self.old.table.sources.entries self.old.table.forgotten }
         ensures hold { self.new.hold ≡ self.old.hold }
-        ensures still { left_from (self.old.hold.progress.mark.time - forget_time)
+        ensures still { left_from (self.old.hold.progress.mark.time - silent_hour)
             self.old.table.sources.entries ≡ self.old.table.sources.entries
             → (slack start : ℕ) (turns : List (Turn Numbered)) (xs : List Sent)
-            (lines : List SourceLine) → Follows slack start turns xs lines self.old
-            → Follows slack start turns xs lines self.new }
+            (lines : List SourceLine) → FollowsTurns slack start turns xs lines self.old
+            → FollowsTurns slack start turns xs lines self.new }
     {
         self.table
             .forget(self.hold.mark().saturating_sub(FORGET_TIME));
@@ -330,8 +330,8 @@ impl Watch {
         ensures none { is_some (lookup (mac_eq source) self.old.table.sources.entries) ≡ false
             → result ≡ None }
         ensures follows { (slack start : ℕ) (turns : List (Turn Numbered)) (xs : List Sent)
-            (lines : List SourceLine) → Follows slack start turns xs lines self.old
-            → Follows slack start turns xs lines self.new }
+            (lines : List SourceLine) → FollowsTurns slack start turns xs lines self.old
+            → FollowsTurns slack start turns xs lines self.new }
     {
         let mark = self.hold.mark();
         self.table.check(source, alarm, mark, self.settings)

@@ -1,6 +1,6 @@
 use Rattle.std.proofs.Common.{◌-◌, ◌∙◌, sym, ap, subst}
 use Rattle.sr_watch.specs.Forgetting.{left_from}
-use Rattle.sr_watch.specs.Limits.{forget_time}
+use Rattle.sr_watch.specs.Limits.{silent_hour}
 use Rattle.sr_watch.specs.Watching.{Watches, unwatched_of}
 use Rattle.sr_watch.proofs.TableLemmas.{left_kept}
 use Rattle.sr_watch.proofs.watch.Watch.forget.Goals as goal
@@ -8,7 +8,7 @@ use Rattle.sr_watch.proofs.watch.Watch.forget.Goals as goal
 pub returns-clause-still : goal.returns-clause-still
 returns-clause-still c = λ still slack start turns xs lines f.
     let old = c.args.self.now.table.sources.entries in
-    let limit = c.saturating_sub.ensures ∙ ap (λ m. m - forget_time) c.mark.ensures in
+    let limit = c.saturating_sub.ensures ∙ ap (λ m. m - silent_hour) c.mark.ensures in
     let same = c.forget.ensures.entries ∙ ap (λ l. left_from l old) limit ∙ still in
     record {
       holds = f.holds;
