@@ -1,6 +1,7 @@
 -- What a watch keeps, with one call more.
-use Rattle.std.proofs.Common.{◌≡◌, suc, ◌+◌, ◌≤◌, List, [], ◌∷◌, ◌++◌, length, drop, Option, None, Some, arith, refl, sym, ap, ◌∙◌}
-use Rattle.std.specs.Prelude.{option_to_list}
+use Rattle.std.proofs.Common.{ℕ, ◌<◌, Bool, true, false, ◌≡◌, suc, ◌+◌, ◌≤◌, List, [], ◌∷◌, ◌++◌, length, drop, Option, None, Some, arith, refl, sym, ap, ◌∙◌}
+use Rattle.std.specs.Prelude.{◌^◌, option_to_list}
+use Rattle.std.proofs.lemmas.List.Sums.{length-filter, count_by-le-length}
 use Rattle.std.specs.Option.{option_map}
 use Rattle.sr_hold.specs.declared.hold.Released.{Released}
 use Rattle.sr_hold.specs.declared.recorder.Recorder.{Recorder}
@@ -8,11 +9,32 @@ use Rattle.sr_hold.specs.declared.recorder.Recorder.TheVariants.{A, B}
 use Rattle.sr_hold.specs.declared.hold.Held.{Held}
 use Rattle.sr_hold.specs.Order.{front_released}
 use Rattle.sr_hold.specs.Holding.{due_in as due_in_hold, Holding, next_by, next_of, without_by, without_next}
-use Rattle.sr_hold.specs.Turns.{released_in}
+use Rattle.sr_hold.specs.Turns.{Turn, released_in}
+use Rattle.sr_audit.specs.Audits.{Sent}
+use Rattle.sr_watch.specs.declared.report.SourceLine.{SourceLine}
+use Rattle.sr_watch.specs.declared.table.Table.{Table}
 use Rattle.sr_watch.specs.declared.watch.Next.{Next}
 use Rattle.sr_watch.specs.declared.watch.Numbered.{Numbered}
 use Rattle.sr_watch.specs.declared.watch.Watch.{Watch}
-use Rattle.sr_watch.specs.Following.{next_as, sent_as, newest_first, due_in, with_releases, OnlyReleases}
+use Rattle.sr_watch.specs.Following.{
+  next_as,
+  sent_as,
+  newest_first,
+  due_in,
+  Act,
+  noted,
+  passed,
+  told,
+  forgot,
+  noted_in,
+  lines_in,
+  taken_in,
+  with_releases,
+  with_acts,
+  Goes,
+  OnlyReleases,
+}
+use Rattle.sr_watch.specs.Watching.{is_tabled, left_out_with, Watches}
 
 -- one released more is the newest
 newest_last : (xs : List (Released Numbered)) (y : Released Numbered) → newest_first (xs ++ y ∷ []) ≡ sent_as (next_as y) ∷ newest_first xs
@@ -35,23 +57,74 @@ pub drawn : (w : Watch) (o : Option (Released Numbered)) (h : Holding Numbered) 
     OnlyReleases w (record { hold = h; next = n; table = w.table; lans = w.lans; settings = w.settings })
 drawn w o h n free is rest next =
     record {
-      goes = λ slack start turns lines g.
+      goes = λ slack start turns acts g.
           let f = g.follows in
           let before = with_releases g.releases turns in
           record {
             releases = suc g.releases;
-            noted = g.noted;
+            more = g.more;
             follows = record {
               holds = rest ∙ ap without_next f.holds;
               sent = ap (λ p. newest_first (released_in slack start before ++ option_to_list p)) (sym (is ∙ ap next_of f.holds))
                   ∙ sent_more (released_in slack start before) o
-                  ∙ (λ i. due_in (sym next i) ++ (f.sent ∙ ap (λ q. due_in q ++ g.noted) free) i);
+                  ∙ (λ i. due_in (sym next i) ++ (f.sent ∙ ap (λ q. due_in q ++ taken_in (with_acts g.more acts)) free) i);
               watches = f.watches;
               left_out = f.left_out;
             };
           };
       forgotten = refl;
     }
+
+-- no more is noted than is taken
+few_noted : (acts : List Act) → length (noted_in acts) ≤ length (taken_in acts)
+few_noted [] = omega arith
+few_noted (noted x ∷ before) = omega (arith, few_noted before)
+few_noted (passed x ∷ before) = omega (arith, few_noted before)
+few_noted (told line ∷ before) = few_noted before
+few_noted (forgot stays ∷ before) =
+    omega (arith, length-filter (λ x. stays x.0) (noted_in before), count_by-le-length (λ x. stays x.0) (noted_in before), few_noted before)
+
+-- an arrival that waited for memory is noted, or left out
+pub taken : (w : Watch) (n : Next) (t : Table) → w.next ≡ Some n →
+    (is_tabled t.sources.entries n.src ≡ true → (xs : List Sent) (lines : List SourceLine) → length xs + 1 < 2 ^ 64 →
+    Watches xs lines w.table.sources.entries → Watches (sent_as n ∷ xs) lines t.sources.entries) →
+    (is_tabled t.sources.entries n.src ≡ false → (xs : List Sent) (lines : List SourceLine) → Watches xs lines w.table.sources.entries →
+    Watches xs lines t.sources.entries) →
+    t.left_out ≡ left_out_with (is_tabled t.sources.entries n.src) w.table.left_out → t.forgotten ≡ w.table.forgotten →
+    OnlyReleases w (record { hold = w.hold; next = None; table = t; lans = w.lans; settings = w.settings })
+taken w n t waits notes passes left same =
+    record { goes = λ slack start turns acts g. by slack start turns acts g (is_tabled t.sources.entries n.src) refl; forgotten = same }
+  where
+    by : (slack start : ℕ) (turns : List (Turn Numbered)) (acts : List Act) (g : Goes slack start turns acts w) (b : Bool) →
+        is_tabled t.sources.entries n.src ≡ b →
+        Goes slack start turns acts (record { hold = w.hold; next = None; table = t; lans = w.lans; settings = w.settings })
+    by slack start turns acts g true is =
+        let f = g.follows in
+        let before = with_acts g.more acts in
+        record {
+          releases = g.releases;
+          more = (true, sent_as n) ∷ g.more;
+          follows = record {
+            holds = f.holds;
+            sent = f.sent ∙ ap (λ q. due_in q ++ taken_in before) waits;
+            watches = λ few. notes is (noted_in before) (lines_in before) (let le = few_noted before in omega (arith, few, le))
+                (f.watches (omega (arith, few)));
+            left_out = left ∙ ap (λ b. left_out_with b w.table.left_out) is ∙ f.left_out;
+          };
+        }
+    by slack start turns acts g false is =
+        let f = g.follows in
+        let before = with_acts g.more acts in
+        record {
+          releases = g.releases;
+          more = (false, sent_as n) ∷ g.more;
+          follows = record {
+            holds = f.holds;
+            sent = f.sent ∙ ap (λ q. due_in q ++ taken_in before) waits;
+            watches = λ few. passes is (noted_in before) (lines_in before) (f.watches (omega (arith, few)));
+            left_out = left ∙ ap (λ b. left_out_with b w.table.left_out) is ∙ ap (left_out_with false) f.left_out;
+          };
+        }
 
 -- what is released is taken out of what waits
 fewer : (h : Holding Numbered) (r : Option Recorder) →

@@ -1,7 +1,9 @@
 -- What a watch keeps, by all calls so far.
 use Rattle.std.specs.Prelude.{◌≡◌, ℕ, zero, suc, ◌^◌, ◌<◌, List, [], ◌∷◌, ◌++◌, ◌+◌, length, Option, None, Some, Bool, if◌then◌else◌}
 use Rattle.sr_audit.specs.declared.side.Side.{Side}
+use Rattle.sr_frame.specs.declared.fields.Mac.{Mac}
 use Rattle.sr_audit.specs.Audits.{Sent}
+use Rattle.sr_audit.specs.Shown.{bounded_sum}
 use Rattle.sr_hold.specs.declared.hold.Released.{Released}
 use Rattle.sr_hold.specs.Holding.{line_of}
 use Rattle.sr_hold.specs.Pacing.{pace_of}
@@ -16,7 +18,7 @@ use Rattle.sr_watch.specs.Alarms.{alarm_between, raised_with, since_if}
 use Rattle.sr_watch.specs.LanAlarms.{lan_raised_at, lan_holds, lan_checked, last_or}
 use Rattle.sr_watch.specs.Limits.{end_of_time}
 use Rattle.sr_watch.specs.Running.{is_watching, has_ended, lan_in, with_lan, recorder_of, side_of}
-use Rattle.sr_watch.specs.Watching.{Watches, CountsUnwatched}
+use Rattle.sr_watch.specs.Watching.{those_sent, lines_by, Watches}
 
 -- what is released, as an arrival of its source at its moment
 abbrev pub next_as : Released Numbered → Next
@@ -43,14 +45,50 @@ due_in (Some n) = sent_as n ∷ []
 abbrev pub left_in : Watch → ℕ
 left_in w = length w.hold.a + length w.hold.b + length (due_in w.next)
 
--- by these calls of a hold this waits; these arrivals were noted and these lines told; all that was released was noted, but for one that
--- waits for memory
-pub record FollowsTurns (slack start : ℕ) (turns : List (Turn Numbered)) (xs : List Sent) (lines : List SourceLine)
-    (w : Watch) : Type 0 where
+-- what a watch did: it noted an arrival, or left it out, told a line, or forgot the sources that don't stay
+pub data Act : Type 0 where
+  noted : (x : Sent) → Act
+  passed : (x : Sent) → Act
+  told : (line : SourceLine) → Act
+  forgot : (stays : Mac → Bool) → Act
+
+-- by what it did, newest first: the arrivals that it noted and the lines that it told of sources that it did not forget since then
+abbrev pub noted_in : List Act → List Sent
+noted_in [] = []
+noted_in (noted x ∷ before) = x ∷ noted_in before
+noted_in (passed x ∷ before) = noted_in before
+noted_in (told line ∷ before) = noted_in before
+noted_in (forgot stays ∷ before) = those_sent stays (noted_in before)
+
+abbrev pub lines_in : List Act → List SourceLine
+lines_in [] = []
+lines_in (noted x ∷ before) = lines_in before
+lines_in (passed x ∷ before) = lines_in before
+lines_in (told line ∷ before) = line ∷ lines_in before
+lines_in (forgot stays ∷ before) = lines_by stays (lines_in before)
+
+-- all arrivals that it took, and how many it left out
+abbrev pub taken_in : List Act → List Sent
+taken_in [] = []
+taken_in (noted x ∷ before) = x ∷ taken_in before
+taken_in (passed x ∷ before) = x ∷ taken_in before
+taken_in (told line ∷ before) = taken_in before
+taken_in (forgot stays ∷ before) = taken_in before
+
+abbrev pub left_out_in : List Act → ℕ
+left_out_in [] = 0
+left_out_in (noted x ∷ before) = left_out_in before
+left_out_in (passed x ∷ before) = bounded_sum (left_out_in before) 1
+left_out_in (told line ∷ before) = left_out_in before
+left_out_in (forgot stays ∷ before) = left_out_in before
+
+-- by these calls of a hold this waits, and by what was done so much is kept; all that was released was taken, but for one that waits for
+-- memory
+pub record FollowsTurns (slack start : ℕ) (turns : List (Turn Numbered)) (acts : List Act) (w : Watch) : Type 0 where
   pub holds : w.hold ≡ state_after slack start turns
-  pub sent : released_sent slack start turns ≡ due_in w.next ++ xs
-  pub watches : length xs < 2 ^ 64 → Watches xs lines w.table.sources.entries
-  pub left_out : length xs < 2 ^ 64 → CountsUnwatched w.table.sources.entries xs w.table.left_out
+  pub sent : released_sent slack start turns ≡ due_in w.next ++ taken_in acts
+  pub watches : length (taken_in acts) < 2 ^ 64 → Watches (noted_in acts) (lines_in acts) w.table.sources.entries
+  pub left_out : w.table.left_out ≡ left_out_in acts
 
 -- a copy that comes waits where both captures run; else it is a packet that tells how far its capture is, and no more
 abbrev pub turn_if : Bool → Side → ℕ → ℕ → Numbered → Turn Numbered
@@ -62,24 +100,32 @@ turn_of side time now copy w = turn_if (is_watching now w.lans) side time now co
 
 -- a call that adds a turn, and no line
 pub record TakesTurn (t : Turn Numbered) (old new : Watch) : Type 0 where
-  pub follows : (slack start : ℕ) (turns : List (Turn Numbered)) (xs : List Sent) (lines : List SourceLine) →
-      FollowsTurns slack start turns xs lines old → FollowsTurns slack start (t ∷ turns) xs lines new
+  pub follows : (slack start : ℕ) (turns : List (Turn Numbered)) (acts : List Act) →
+      FollowsTurns slack start turns acts old → FollowsTurns slack start (t ∷ turns) acts new
 
 -- so many more calls that release
 abbrev pub with_releases : ℕ → List (Turn Numbered) → List (Turn Numbered)
 with_releases zero turns = turns
 with_releases (suc n) turns = release ∷ with_releases n turns
 
--- with some more of them
-pub record Goes (slack start : ℕ) (turns : List (Turn Numbered)) (lines : List SourceLine) (w : Watch) : Type 0 where
-  pub releases : ℕ
-  pub noted : List Sent
-  pub follows : FollowsTurns slack start (with_releases releases turns) noted lines w
+-- an arrival that is noted, or left out, and some of them
+abbrev pub taken_as : Bool × Sent → Act
+taken_as t = if t.0 then noted t.1 else passed t.1
 
--- a call that releases, and tells no line
+abbrev pub with_acts : List (Bool × Sent) → List Act → List Act
+with_acts [] acts = acts
+with_acts (t ∷ more) acts = taken_as t ∷ with_acts more acts
+
+-- with some more calls that release, and some more arrivals that are taken
+pub record Goes (slack start : ℕ) (turns : List (Turn Numbered)) (acts : List Act) (w : Watch) : Type 0 where
+  pub releases : ℕ
+  pub more : List (Bool × Sent)
+  pub follows : FollowsTurns slack start (with_releases releases turns) (with_acts more acts) w
+
+-- a call that releases, and takes what is released, and does nothing else
 pub record OnlyReleases (old new : Watch) : Type 0 where
-  pub goes : (slack start : ℕ) (turns : List (Turn Numbered)) (lines : List SourceLine) →
-      Goes slack start turns lines old → Goes slack start turns lines new
+  pub goes : (slack start : ℕ) (turns : List (Turn Numbered)) (acts : List Act) →
+      Goes slack start turns acts old → Goes slack start turns acts new
   pub forgotten : new.table.forgotten ≡ old.table.forgotten
 
 -- up to when all is told: once both captures have ended nothing more is waited for
@@ -102,5 +148,5 @@ pub record ChecksLan (side : Side) (alarm : LanAlarm) (old new : Watch) (told : 
   pub told_is : told ≡ alarm_between (lan_raised_at alarm (lan_in side old.lans).raised) (lan_since side alarm old)
   pub lans : new.lans ≡ with_lan side (lan_checked alarm (raised_with (lan_raised_at alarm (lan_in side old.lans).raised)
       (lan_since side alarm old)) (pace_of (recorder_of side) old.hold.progress).behind (lan_in side old.lans)) old.lans
-  pub follows : (slack start : ℕ) (turns : List (Turn Numbered)) (xs : List Sent) (lines : List SourceLine) →
-      FollowsTurns slack start turns xs lines old → FollowsTurns slack start turns xs lines new
+  pub follows : (slack start : ℕ) (turns : List (Turn Numbered)) (acts : List Act) →
+      FollowsTurns slack start turns acts old → FollowsTurns slack start turns acts new

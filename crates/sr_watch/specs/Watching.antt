@@ -1,12 +1,12 @@
 -- What is kept of many sources.
-use Rattle.std.specs.Prelude.{◌≡◌, ℕ, ◌-◌, ◌^◌, ◌≤◌, ◌⊎◌, min, not, List, [], ◌∷◌, length, Option, Some, None, is_some, count_by}
-use Rattle.std.specs.Prelude.{if◌then◌else◌}
+use Rattle.std.specs.Prelude.{◌≡◌, ℕ, ◌≤◌, Bool, List, [], ◌∷◌, length, filter, Option, Some, None, is_some, if◌then◌else◌}
 use Rattle.std.specs.Map.{lookup, set_value}
 use Rattle.sr_frame.specs.declared.fields.Mac.{Mac}
 use Rattle.sr_frame.specs.Addresses.{mac_eq}
 use Rattle.sr_audit.specs.declared.arrival.Arrival.{Arrival}
 use Rattle.sr_audit.specs.Audits.{Sent, of}
-use Rattle.sr_audit.specs.Limits.{most_audited, exact_arrivals}
+use Rattle.sr_audit.specs.Limits.{exact_arrivals}
+use Rattle.sr_audit.specs.Shown.{bounded_sum}
 use Rattle.sr_watch.specs.declared.alarm.Alarm.{Alarm}
 use Rattle.sr_watch.specs.declared.alarm.SourceAlarm.{SourceAlarm}
 use Rattle.sr_watch.specs.declared.report.SourceLine.{SourceLine}
@@ -21,22 +21,29 @@ abbrev pub lines_about : Mac → List SourceLine → List SourceLine
 lines_about m [] = []
 lines_about m (line ∷ before) = if mac_eq m line.source then line ∷ lines_about m before else lines_about m before
 
--- what is kept of a source says of its arrivals and lines; nothing is kept, and no line was told, where none came, or where so many sources
--- came before
-abbrev pub IsWatchedFor : ℕ → List Arrival → List SourceLine → Option Tracked → Type 0
-IsWatchedFor count xs lines None = ((xs ≡ []) ⊎ (most_audited ≤ count)) × (lines ≡ [])
-IsWatchedFor count xs lines (Some t) = Watched xs lines t
+-- what is kept of a source says of its arrivals that were noted, and its lines; of one without an entry there is neither
+abbrev pub IsWatchedFor : List Arrival → List SourceLine → Option Tracked → Type 0
+IsWatchedFor xs lines None = (xs ≡ []) × (lines ≡ [])
+IsWatchedFor xs lines (Some t) = Watched xs lines t
 
 -- these arrivals were noted and these lines were told, newest first: each source says of its own
 pub record Watches (xs : List Sent) (lines : List SourceLine) (entries : List (Mac × Tracked)) : Type 0 where
-  pub each : (m : Mac) → IsWatchedFor (length entries) (of m xs) (lines_about m lines) (lookup (mac_eq m) entries)
+  pub each : (m : Mac) → IsWatchedFor (of m xs) (lines_about m lines) (lookup (mac_eq m) entries)
 
--- a count is that of the arrivals of sources without an entry, up to 2^64 - 1
-abbrev pub unwatched_of : List (Mac × Tracked) → List Sent → ℕ
-unwatched_of entries xs = count_by (λ x. not (is_some (lookup (mac_eq x.0) entries))) xs
+-- a source has an entry
+abbrev pub is_tabled : List (Mac × Tracked) → Mac → Bool
+is_tabled entries m = is_some (lookup (mac_eq m) entries)
 
-abbrev pub CountsUnwatched : List (Mac × Tracked) → List Sent → ℕ → Type 0
-CountsUnwatched entries xs count = count ≡ min (unwatched_of entries xs) (2 ^ 64 - 1)
+-- how many arrivals are left out, with one more of a source that has an entry or not
+abbrev pub left_out_with : Bool → ℕ → ℕ
+left_out_with known count = if known then count else bounded_sum count 1
+
+-- the arrivals and the lines of some sources
+abbrev pub those_sent : (Mac → Bool) → List Sent → List Sent
+those_sent stays xs = filter (λ x. stays x.0) xs
+
+abbrev pub lines_by : (Mac → Bool) → List SourceLine → List SourceLine
+lines_by stays lines = filter (λ line. stays line.source) lines
 
 -- a line of a source tells what no line of it before told, of all of its arrivals that were noted, up to a mark: and all lines of the
 -- source together are what an audit has of these arrivals

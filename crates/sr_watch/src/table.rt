@@ -42,12 +42,12 @@ impl Table {
     ghost use Rattle.sr_watch.specs.declared.report.SourceLine.{SourceLine};
     ghost use Rattle.sr_watch.specs.Forgetting.{forgotten_from, left_from};
     ghost use Rattle.sr_watch.specs.Tracking.{NotesArrival, TellsLine, ChecksAlarm};
-    ghost use Rattle.sr_watch.specs.Watching.{Watches, unwatched_of, CountsUnwatched, TellsSource, ChecksOf};
+    ghost use Rattle.sr_watch.specs.Watching.{Watches, is_tabled, those_sent, lines_by, left_out_with, TellsSource, ChecksOf};
 
     /// No arrival came.
     pub fn new(alloc: Global, keys: Keys) -> Table
         ensures watches { Watches [] [] result.sources.entries }
-        ensures left_out { CountsUnwatched result.sources.entries [] result.left_out }
+        ensures left_out { result.left_out ≡ 0 }
         ensures few { length result.sources.entries ≤ most_audited }
     {
         Table {
@@ -67,10 +67,6 @@ impl Table {
             made ≡ is_some (lookup (mac_eq src) self.new.sources.entries)) }
         ensures full { IfOk result (λ made.
             made ≡ false → most_audited ≤ length self.new.sources.entries) }
-        ensures known { (xs : List Sent) (lines : List SourceLine)
-            → Watches xs lines self.old.sources.entries
-            → unwatched_of self.new.sources.entries xs
-            ≡ unwatched_of self.old.sources.entries xs }
         ensures left_out { self.new.left_out ≡ self.old.left_out }
         ensures few { length self.old.sources.entries ≤ most_audited
             → length self.new.sources.entries ≤ most_audited }
@@ -94,8 +90,6 @@ impl Table {
             → length xs + 1 < 2 ^ 64 → Watches xs lines self.old.sources.entries
             → Watches ((src, x) ∷ xs) lines self.new.sources.entries) }
         ensures none { IfNone result (self.new.sources ≡ self.old.sources) }
-        ensures known { (xs : List Sent) → unwatched_of self.new.sources.entries xs
-            ≡ unwatched_of self.old.sources.entries xs }
         ensures own { IfSome result (λ _.
             is_some (lookup (mac_eq src) self.new.sources.entries) ≡ true) }
         ensures left_out { self.new.left_out ≡ self.old.left_out }
@@ -118,8 +112,6 @@ impl Table {
         ensures taken { (xs : List Sent) (lines : List SourceLine) → length xs + 1 < 2 ^ 64
             → Watches xs lines self.old.sources.entries
             → Watches ((src, x) ∷ xs) lines self.new.sources.entries }
-        ensures known { (xs : List Sent) → unwatched_of self.new.sources.entries xs
-            ≡ unwatched_of self.old.sources.entries xs }
         ensures own { is_some (lookup (mac_eq src) self.new.sources.entries) ≡ true }
         ensures left_out { self.new.left_out ≡ self.old.left_out }
         ensures len { length self.new.sources.entries ≡ length self.old.sources.entries }
@@ -133,20 +125,22 @@ impl Table {
     /// # Errors
     /// `NoMemory` where an allocation failed: no arrival was taken.
     pub fn note(&mut self, src: Mac, x: Arrival) -> Result<(), NoMemory>
-        ensures taken { OnOk result ((xs : List Sent) (lines : List SourceLine)
-            → length xs + 1 < 2 ^ 64 → Watches xs lines self.old.sources.entries
+        ensures taken { OnOk result (is_tabled self.new.sources.entries src ≡ true
+            → (xs : List Sent) (lines : List SourceLine) → length xs + 1 < 2 ^ 64
+            → Watches xs lines self.old.sources.entries
             → Watches ((src, x) ∷ xs) lines self.new.sources.entries) }
+        ensures passed { OnOk result (is_tabled self.new.sources.entries src ≡ false
+            → (xs : List Sent) (lines : List SourceLine)
+            → Watches xs lines self.old.sources.entries
+            → Watches xs lines self.new.sources.entries) }
+        ensures full { OnOk result (is_tabled self.new.sources.entries src ≡ false
+            → most_audited ≤ length self.new.sources.entries) }
+        ensures left_out { OnOk result (self.new.left_out
+            ≡ left_out_with (is_tabled self.new.sources.entries src) self.old.left_out) }
         ensures same { OnErr result ((xs : List Sent) (lines : List SourceLine)
             → Watches xs lines self.old.sources.entries
             → Watches xs lines self.new.sources.entries) }
-        ensures left_out { OnOk result ((xs : List Sent) (lines : List SourceLine)
-            → Watches xs lines self.old.sources.entries
-            → CountsUnwatched self.old.sources.entries xs self.old.left_out
-            → CountsUnwatched self.new.sources.entries ((src, x) ∷ xs) self.new.left_out) }
-        ensures left_same { OnErr result ((xs : List Sent) (lines : List SourceLine)
-            → Watches xs lines self.old.sources.entries
-            → CountsUnwatched self.old.sources.entries xs self.old.left_out
-            → CountsUnwatched self.new.sources.entries xs self.new.left_out) }
+        ensures left_same { OnErr result (self.new.left_out ≡ self.old.left_out) }
         ensures few { length self.old.sources.entries ≤ most_audited
             → length self.new.sources.entries ≤ most_audited }
         ensures forgotten { self.new.forgotten ≡ self.old.forgotten }
@@ -169,8 +163,6 @@ impl Table {
         ensures told { IfSome result (λ line. TellsSource mark src self.old.sources.entries
             self.new.sources.entries line) }
         ensures none { IfNone result (self.new.sources ≡ self.old.sources) }
-        ensures known { (xs : List Sent) → unwatched_of self.new.sources.entries xs
-            ≡ unwatched_of self.old.sources.entries xs }
         ensures left_out { self.new.left_out ≡ self.old.left_out }
         ensures len { length self.new.sources.entries ≡ length self.old.sources.entries }
         ensures forgotten { self.new.forgotten ≡ self.old.forgotten }
@@ -202,8 +194,6 @@ impl Table {
         ensures watches { (xs : List Sent) (lines : List SourceLine)
             → Watches xs lines self.old.sources.entries
             → Watches xs lines self.new.sources.entries }
-        ensures known { (xs : List Sent) → unwatched_of self.new.sources.entries xs
-            ≡ unwatched_of self.old.sources.entries xs }
         ensures left_out { self.new.left_out ≡ self.old.left_out }
         ensures forgotten { self.new.forgotten ≡ self.old.forgotten }
     {
@@ -232,11 +222,17 @@ impl Table {
 
     /// Forgets the sources of which all was told, and whose last copy came before a time.
     pub fn forget(&mut self, limit: u64)
+        ensures watches { (xs : List Sent) (lines : List SourceLine)
+            → Watches xs lines self.old.sources.entries
+            → Watches (those_sent (is_tabled self.new.sources.entries) xs)
+            (lines_by (is_tabled self.new.sources.entries) lines) self.new.sources.entries }
         ensures entries { self.new.sources.entries ≡ left_from limit self.old.sources.entries }
         ensures forgotten { self.new.forgotten
             ≡ forgotten_from limit self.old.sources.entries self.old.forgotten }
         ensures left_out { self.new.left_out ≡ self.old.left_out }
     {
+        // The length says that no address has two entries.
+        let _sources = self.sources.len();
         self.forgotten = self.forgotten_below(limit);
         let _least = self.sources.sift(limit);
         self.sources.sweep(MAX_SOURCES, 4 * MAX_SOURCES);

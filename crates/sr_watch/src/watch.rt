@@ -106,14 +106,14 @@ impl Watch {
     ghost use Rattle.sr_watch.specs.declared.report.SourceLine.{SourceLine};
     ghost use Rattle.sr_watch.specs.declared.watch.Numbered.{Numbered};
     ghost use Rattle.sr_watch.specs.Running.{recorder_of};
-    ghost use Rattle.sr_watch.specs.Following.{FollowsTurns, TakesTurn, OnlyReleases, ChecksLan, turn_of, left_in, told_up_to};
+    ghost use Rattle.sr_watch.specs.Following.{Act, told, forgot, FollowsTurns, TakesTurn, OnlyReleases, ChecksLan, turn_of, left_in, told_up_to};
     ghost use Rattle.sr_watch.specs.Forgetting.{forgotten_from, left_from};
     ghost use Rattle.sr_watch.specs.Limits.{silent_hour};
-    ghost use Rattle.sr_watch.specs.Watching.{TellsSource, ChecksOf};
+    ghost use Rattle.sr_watch.specs.Watching.{is_tabled, TellsSource, ChecksOf};
 
     /// Nothing came, and neither capture runs.
     pub fn new(alloc: Global, keys: Keys, settings: Settings, now: u64) -> Watch
-        ensures { FollowsTurns settings.slack now [] [] [] result }
+        ensures { FollowsTurns settings.slack now [] [] result }
     {
         Watch {
             hold: Hold::new(alloc, settings.slack, now),
@@ -284,9 +284,8 @@ impl Watch {
         ensures told { IfSome result (λ line. TellsSource (told_up_to self.old) source
             self.old.table.sources.entries self.new.table.sources.entries line) }
         ensures follows { IfSome result (λ line. (slack start : ℕ) (turns : List (Turn Numbered))
-            (xs : List Sent) (lines : List SourceLine)
-            → FollowsTurns slack start turns xs lines self.old
-            → FollowsTurns slack start turns xs (line ∷ lines) self.new) }
+            (acts : List Act) → FollowsTurns slack start turns acts self.old
+            → FollowsTurns slack start turns (told line ∷ acts) self.new) }
         ensures forgotten { self.new.table.forgotten ≡ self.old.table.forgotten }
         ensures none { IfNone result (self.new ≡ self.old) }
     {
@@ -305,11 +304,10 @@ impl Watch {
             ≡ forgotten_from (self.old.hold.progress.mark.time - silent_hour)
             self.old.table.sources.entries self.old.table.forgotten }
         ensures hold { self.new.hold ≡ self.old.hold }
-        ensures still { left_from (self.old.hold.progress.mark.time - silent_hour)
-            self.old.table.sources.entries ≡ self.old.table.sources.entries
-            → (slack start : ℕ) (turns : List (Turn Numbered)) (xs : List Sent)
-            (lines : List SourceLine) → FollowsTurns slack start turns xs lines self.old
-            → FollowsTurns slack start turns xs lines self.new }
+        ensures follows { (slack start : ℕ) (turns : List (Turn Numbered)) (acts : List Act)
+            → FollowsTurns slack start turns acts self.old
+            → FollowsTurns slack start turns
+            (forgot (is_tabled self.new.table.sources.entries) ∷ acts) self.new }
     {
         self.table
             .forget(self.hold.mark().saturating_sub(FORGET_TIME));
@@ -329,9 +327,9 @@ impl Watch {
             self.old.table.sources.entries self.new.table.sources.entries result }
         ensures none { is_some (lookup (mac_eq source) self.old.table.sources.entries) ≡ false
             → result ≡ None }
-        ensures follows { (slack start : ℕ) (turns : List (Turn Numbered)) (xs : List Sent)
-            (lines : List SourceLine) → FollowsTurns slack start turns xs lines self.old
-            → FollowsTurns slack start turns xs lines self.new }
+        ensures follows { (slack start : ℕ) (turns : List (Turn Numbered)) (acts : List Act)
+            → FollowsTurns slack start turns acts self.old
+            → FollowsTurns slack start turns acts self.new }
     {
         let mark = self.hold.mark();
         self.table.check(source, alarm, mark, self.settings)
