@@ -30,3 +30,18 @@ pub record WorkedSourceIsTold : Type 0 where
   pub late : (counted_of (at_ms 430) seven_copies).late ≡ record { a = 0; b = 1 }
   pub both : (counted_of (at_ms 430) seven_copies).both ≡ 2
   pub copies : (counted_of (at_ms 430) seven_copies).rx ≡ record { a = 4; b = 3 }
+
+-- what the line of a source tells that is none of its six or seven copies
+pub record FalseLinesAreRefused : Type 0 where
+  -- nothing is told of them
+  pub untold : (line : SourceLine) → line.interval ≡ as_changes none_counted →
+      sum_of (line ∷ []) ≡ as_changes (counted_of (at_ms 430) seven_copies) → ⊥
+  -- all is told twice
+  pub twice : (line : SourceLine) → line.interval ≡ as_changes (counted_of (at_ms 430) seven_copies) →
+      sum_of (line ∷ line ∷ []) ≡ as_changes (counted_of (at_ms 430) seven_copies) → ⊥
+  -- the frame whose copy came late is not lost
+  pub late_is_none_lost : (line : SourceLine) → line.interval.lost.b ≡ pos 1 →
+      sum_of (line ∷ []) ≡ as_changes (counted_of (at_ms 430) seven_copies) → ⊥
+  -- a frame that waits is lost
+  pub waiting_is_lost : (line : SourceLine) → line.interval.lost.b ≡ pos 2 →
+      sum_of (line ∷ []) ≡ as_changes (counted_of (at_ms 405) six_copies) → ⊥
