@@ -3,7 +3,7 @@
 ghost use Rattle.sr_watch.specs.Alarms.{AlarmsAreToldOnce};
 ghost use Rattle.sr_watch.specs.Forgetting.{ForgettingMovesCounts};
 ghost use Rattle.sr_watch.specs.Laws.{EachArrivalIsInOneInterval, LinesTellOfAllThatWasReleased};
-ghost use Rattle.sr_watch.specs.Worked.{WorkedSourceIsTold};
+ghost use Rattle.sr_watch.specs.Worked.{FalseLinesAreRefused, WorkedSourceIsTold};
 
 use sr_audit::copies_add_up;
 
@@ -32,4 +32,10 @@ pub fn a_worked_source_is_told()
 /// Where sources are forgotten, each count of those that are left and of the forgotten ones stays, together.
 pub fn forgetting_moves_counts()
     ensures { ForgettingMovesCounts }
+{}
+
+/// The law excludes a line that tells nothing of a source's arrivals, two lines that both tell all, one that has a late copy's frame for one that
+/// was not lost, and one that has a frame that waits for lost.
+pub fn false_lines_are_refused()
+    ensures { FalseLinesAreRefused }
 {}

@@ -238,6 +238,108 @@ fn first_wrong(alloc: Global, steps: &[Step]) -> Option<usize> {
     None
 }
 
+/// Numbers that look like chance.
+#[derive(Drop)]
+struct Chance {
+    seed: u64,
+}
+
+impl Chance {
+    /// The next one, below a bound.
+    fn below(&mut self, bound: u64) -> u64 {
+        self.seed = self
+            .seed
+            .wrapping_mul(6_364_136_223_846_793_005)
+            .wrapping_add(1_442_695_040_888_963_407);
+        match (self.seed >> 33).checked_rem(bound) {
+            Some(rest) => rest,
+            None => 0,
+        }
+    }
+}
+
+/// Whether no count of an interval is below 0 but that of numbers that no frame had.
+fn is_whole(told: Changes) -> bool {
+    let sides = [
+        told.rx,
+        told.lost,
+        told.late,
+        told.repeats,
+        told.order,
+        SideChanges {
+            a: told.both,
+            b: told.jumps.min(told.restarts),
+        },
+    ];
+    sides.iter().all(|count| count.a >= 0 && count.b >= 0)
+}
+
+/// A frame of one source: its number, and when it is sent, in milliseconds.
+#[derive(Clone, Copy)]
+struct Frame {
+    seq: u16,
+    time: u64,
+}
+
+/// The next frame: some numbers are far ahead.
+fn frame_behind(frame: Frame, chance: &mut Chance) -> Frame {
+    let step = if chance.below(50) == 0 { 1500 } else { 1 };
+    Frame {
+        seq: frame.seq.wrapping_add(step),
+        time: frame.time.saturating_add(chance.below(90)),
+    }
+}
+
+/// Whether the copies of a frame are taken, of which a LAN may lose one, and one by B may be that of a number behind; at times both LANs are
+/// silent for longer than the slack.
+fn takes_frame(watch: &mut Watch, frame: Frame, chance: &mut Chance) -> bool {
+    let Frame { seq, time } = frame;
+    let fate = chance.below(10);
+    let by_a = fate == 0 || takes(watch, Side::A, seq, time, time);
+    let back = if fate == 2 { 7 } else { 0 };
+    let by_b = fate == 1 || takes(watch, Side::B, seq.wrapping_sub(back), time, time);
+    if fate == 3 {
+        let later = time.saturating_add(1200).saturating_mul(MS);
+        watch.silent(Side::A, later);
+        watch.silent(Side::B, later);
+    }
+    by_a && by_b && watch.advance().is_ok()
+}
+
+/// Whether a line of the source, if it has one, tells no count below 0.
+fn tells_whole(watch: &mut Watch) -> bool {
+    match watch.tell(SOURCE) {
+        Some(line) => is_whole(line.interval),
+        None => true,
+    }
+}
+
+/// Whether the lines of so many frames, drawn by a seed, tell no count below 0.
+fn tells_whole_counts(alloc: Global, seed: u64, frames: u32) -> bool {
+    let mut chance = Chance { seed };
+    let mut frame = Frame { seq: 0, time: 0 };
+    let mut watch = Watch::new(alloc, Keys::FIXED, SETTINGS, 0);
+    watch.begun(Side::A, 0);
+    watch.begun(Side::B, 0);
+    for _ in 0..frames {
+        frame = frame_behind(frame, &mut chance);
+        if !takes_frame(&mut watch, frame, &mut chance) {
+            return false;
+        }
+        if chance.below(7) == 0 && !tells_whole(&mut watch) {
+            return false;
+        }
+    }
+    true
+}
+
+#[test]
+fn no_count_of_an_interval_is_below_0(rt: HostRuntime) {
+    for seed in [1, 2, 3, 5, 8, 13] {
+        assert!(rt; tells_whole_counts(rt.alloc(), seed, 3000));
+    }
+}
+
 #[test]
 fn one_lan_stops(rt: HostRuntime) {
     assert_eq!(rt; first_wrong(rt.alloc(), B_STOPS), None);
