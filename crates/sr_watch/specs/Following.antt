@@ -1,6 +1,7 @@
 -- What a watch keeps, by all calls so far.
 use Rattle.std.specs.Prelude.{◌≡◌, ℕ, zero, suc, ◌^◌, ◌<◌, List, [], ◌∷◌, ◌++◌, ◌+◌, length, Option, None, Some, Bool, if◌then◌else◌}
 use Rattle.sr_audit.specs.declared.side.Side.{Side}
+use Rattle.sr_audit.specs.declared.side.Side.TheVariants.{A, B}
 use Rattle.sr_frame.specs.declared.fields.Mac.{Mac}
 use Rattle.sr_audit.specs.Audits.{Sent}
 use Rattle.sr_audit.specs.Shown.{bounded_sum}
@@ -10,6 +11,8 @@ use Rattle.sr_hold.specs.Pacing.{pace_of}
 use Rattle.sr_hold.specs.Turns.{Turn, came, heard, release, state_after, released_in}
 use Rattle.sr_watch.specs.declared.alarm.Alarm.{Alarm}
 use Rattle.sr_watch.specs.declared.alarm.LanAlarm.{LanAlarm}
+use Rattle.sr_watch.specs.declared.report.Header.{Header}
+use Rattle.sr_watch.specs.declared.report.LanCounts.{LanCounts}
 use Rattle.sr_watch.specs.declared.report.SourceLine.{SourceLine}
 use Rattle.sr_watch.specs.declared.watch.Next.{Next}
 use Rattle.sr_watch.specs.declared.watch.Numbered.{Numbered}
@@ -17,7 +20,7 @@ use Rattle.sr_watch.specs.declared.watch.Watch.{Watch}
 use Rattle.sr_watch.specs.Alarms.{alarm_between, raised_with, since_if}
 use Rattle.sr_watch.specs.LanAlarms.{lan_raised_at, lan_holds, lan_checked, last_or}
 use Rattle.sr_watch.specs.Limits.{end_of_time}
-use Rattle.sr_watch.specs.Running.{is_watching, has_ended, lan_in, with_lan, recorder_of, side_of}
+use Rattle.sr_watch.specs.Running.{is_running, is_watching, has_ended, lan_in, with_lan, recorder_of, side_of}
 use Rattle.sr_watch.specs.Watching.{those_sent, lines_by, Watches}
 
 -- what is released, as an arrival of its source at its moment
@@ -150,3 +153,26 @@ pub record ChecksLan (side : Side) (alarm : LanAlarm) (old new : Watch) (told : 
       (lan_since side alarm old)) (pace_of (recorder_of side) old.hold.progress).behind (lan_in side old.lans)) old.lans
   pub follows : (slack start : ℕ) (turns : List (Turn Numbered)) (acts : List Act) →
       FollowsTurns slack start turns acts old → FollowsTurns slack start turns acts new
+
+-- what stands in a report of the capture of a LAN, and at its head
+abbrev pub lan_counts_of : Side → Watch → LanCounts
+lan_counts_of side w =
+    let lan = lan_in side w.lans in
+    let r = recorder_of side in
+    record {
+      is_running = is_running lan.phase;
+      last = lan.last;
+      unwatched = lan.unwatched;
+      behind = (pace_of r w.hold.progress).behind;
+      held = length (line_of r w.hold);
+    }
+
+abbrev pub report_head : Watch → Header
+report_head w = record {
+  mark = w.hold.progress.mark.time;
+  a = lan_counts_of A w;
+  b = lan_counts_of B w;
+  sources = length w.table.sources.entries;
+  forgotten = w.table.forgotten.sources;
+  left_out = w.table.left_out;
+}

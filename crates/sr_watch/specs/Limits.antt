@@ -8,3 +8,7 @@ end_of_time = 18446744073709551615
 -- for how long a source is silent until it is forgotten, in nanoseconds (choice of this project)
 abbrev pub silent_hour : ℕ
 silent_hour = 3600000000000
+
+-- for how long a capture that begins once more counts as one that does not run, in nanoseconds (choice of this project)
+abbrev pub return_time : ℕ
+return_time = 400000000

@@ -2,7 +2,7 @@
 
 ghost use Rattle.std.specs.Prelude.{◌≡◌};
 ghost use Rattle.sr_watch.specs.LanAlarms.{lan_raised_at, with_lan_raised, lan_holds, lan_checked, last_or};
-ghost use Rattle.sr_watch.specs.Running.{runs_at, is_watching, has_ended, lan_in, with_lan, recorder_of, side_of};
+ghost use Rattle.sr_watch.specs.Running.{lan_begun, lan_ended, lan_heard, lan_passed, at_clock, runs_at, is_watching, has_ended, lan_in, with_lan, recorder_of, side_of};
 
 use crate::alarm::LanAlarm;
 use sr_audit::Side;
@@ -60,7 +60,9 @@ impl Lan {
     }
 
     /// It begins at a real time.
-    pub fn begun(self, now: u64) -> Lan {
+    pub fn begun(self, now: u64) -> Lan
+        ensures { result ≡ lan_begun now self }
+    {
         let from = match self.phase {
             Phase::Ended => now.saturating_add(RETURN_TIME),
             Phase::Awaited => now,
@@ -75,7 +77,9 @@ impl Lan {
     }
 
     /// It has ended.
-    pub fn ended(self) -> Lan {
+    pub fn ended(self) -> Lan
+        ensures { result ≡ lan_ended self }
+    {
         Lan {
             phase: Phase::Ended,
             ..self
@@ -83,7 +87,9 @@ impl Lan {
     }
 
     /// A packet of it came, of this capture time, at this real time.
-    pub fn heard(self, time: u64, now: u64) -> Lan {
+    pub fn heard(self, time: u64, now: u64) -> Lan
+        ensures { result ≡ lan_heard time now self }
+    {
         Lan {
             last: Some(time),
             heard: now,
@@ -121,7 +127,9 @@ impl Lan {
     }
 
     /// A copy came that is not watched.
-    pub fn passed(self) -> Lan {
+    pub fn passed(self) -> Lan
+        ensures { result ≡ lan_passed self }
+    {
         Lan {
             unwatched: self.unwatched.saturating_add(1),
             ..self
@@ -211,7 +219,9 @@ impl Lans {
     }
 
     /// This real time was told.
-    pub fn at_time(self, clock: u64) -> Lans {
+    pub fn at_time(self, clock: u64) -> Lans
+        ensures { result ≡ at_clock clock self }
+    {
         Lans { clock, ..self }
     }
 

@@ -105,8 +105,8 @@ impl Watch {
     ghost use Rattle.sr_hold.specs.Turns.{Turn, came, heard, silent, ended, begins};
     ghost use Rattle.sr_watch.specs.declared.report.SourceLine.{SourceLine};
     ghost use Rattle.sr_watch.specs.declared.watch.Numbered.{Numbered};
-    ghost use Rattle.sr_watch.specs.Running.{recorder_of};
-    ghost use Rattle.sr_watch.specs.Following.{Act, told, forgot, FollowsTurns, TakesTurn, OnlyReleases, ChecksLan, turn_of, left_in, told_up_to};
+    ghost use Rattle.sr_watch.specs.Running.{recorder_of, lan_begun, lan_ended, lan_heard, at_clock, lans_with, lans_with_copy};
+    ghost use Rattle.sr_watch.specs.Following.{Act, told, forgot, FollowsTurns, TakesTurn, OnlyReleases, ChecksLan, turn_of, left_in, told_up_to, lan_counts_of, report_head};
     ghost use Rattle.sr_watch.specs.Forgetting.{forgotten_from, left_from};
     ghost use Rattle.sr_watch.specs.Limits.{silent_hour};
     ghost use Rattle.sr_watch.specs.Watching.{is_tabled, TellsSource, ChecksOf};
@@ -131,6 +131,8 @@ impl Watch {
     pub fn came(&mut self, side: Side, time: u64, now: u64, copy: Numbered) -> Result<(), CameFault>
         ensures ok { OnOk result (TakesTurn (turn_of side time now copy self.old)
             self.old self.new) }
+        ensures lans { OnOk result (self.new.lans
+            ≡ lans_with_copy side time now self.old.lans) }
         ensures err { OnErr result (self.new ≡ self.old) }
     {
         if self.lans.are_watching(now) {
@@ -149,7 +151,9 @@ impl Watch {
 
     /// Another packet of a capture, of this capture time, was read at this real time.
     pub fn heard(&mut self, side: Side, time: u64, now: u64)
-        ensures { TakesTurn (heard (recorder_of side) time now) self.old self.new }
+        ensures turn { TakesTurn (heard (recorder_of side) time now) self.old self.new }
+        ensures lans { self.new.lans
+            ≡ at_clock now (lans_with side (lan_heard time now) self.old.lans) }
     {
         self.hold.heard(recorder_of(side), time, now);
         self.lans = self
@@ -160,7 +164,8 @@ impl Watch {
 
     /// All that had come of a capture by this real time was told.
     pub fn silent(&mut self, side: Side, now: u64)
-        ensures { TakesTurn (silent (recorder_of side) now) self.old self.new }
+        ensures turn { TakesTurn (silent (recorder_of side) now) self.old self.new }
+        ensures lans { self.new.lans ≡ at_clock now self.old.lans }
     {
         self.hold.silent(recorder_of(side), now);
         self.lans = self.lans.at_time(now);
@@ -168,7 +173,9 @@ impl Watch {
 
     /// A capture begins at this real time, for the first time or once more: its file header was read.
     pub fn begun(&mut self, side: Side, now: u64)
-        ensures { TakesTurn (begins (recorder_of side) now) self.old self.new }
+        ensures turn { TakesTurn (begins (recorder_of side) now) self.old self.new }
+        ensures lans { self.new.lans
+            ≡ at_clock now (lans_with side (lan_begun now) self.old.lans) }
     {
         self.hold.begun(recorder_of(side), now);
         self.lans = self
@@ -179,7 +186,8 @@ impl Watch {
 
     /// A capture has ended.
     pub fn ended(&mut self, side: Side)
-        ensures { TakesTurn (ended (recorder_of side)) self.old self.new }
+        ensures turn { TakesTurn (ended (recorder_of side)) self.old self.new }
+        ensures lans { self.new.lans ≡ lans_with side lan_ended self.old.lans }
     {
         self.hold.ended(recorder_of(side));
         self.lans = self.lans.with(side, self.lans.at(side).ended());
@@ -242,7 +250,9 @@ impl Watch {
     }
 
     /// What stands in a report of the capture of a LAN.
-    fn lan_counts(&self, side: Side) -> LanCounts {
+    fn lan_counts(&self, side: Side) -> LanCounts
+        ensures { result ≡ lan_counts_of side self.now }
+    {
         let lan = self.lans.at(side);
         let recorder = recorder_of(side);
         LanCounts {
@@ -255,7 +265,9 @@ impl Watch {
     }
 
     /// What stands at the head of a report.
-    pub fn header(&self) -> Header {
+    pub fn header(&self) -> Header
+        ensures { result ≡ report_head self.now }
+    {
         Header {
             mark: self.hold.mark(),
             a: self.lan_counts(Side::A),
