@@ -54,7 +54,7 @@ sent_more xs (Some y) = newest_last xs y
 -- a call that releases, where nothing waits for memory
 pub drawn : (w : Watch) (o : Option (Released Numbered)) (h : Holding Numbered) (n : Option Next) → w.next ≡ None → o ≡ next_of w.hold →
     h ≡ without_next w.hold → n ≡ option_map next_as o →
-    OnlyReleases w (record { hold = h; next = n; table = w.table; lans = w.lans; settings = w.settings })
+    OnlyReleases w (record { hold = h; next = n; table = w.table; lans = w.lans; floor = w.floor; settings = w.settings })
 drawn w o h n free is rest next =
     record {
       goes = λ slack start turns acts g.
@@ -91,13 +91,13 @@ pub taken : (w : Watch) (n : Next) (t : Table) → w.next ≡ Some n →
     (is_tabled t.sources.entries n.src ≡ false → (xs : List Sent) (lines : List SourceLine) → Watches xs lines w.table.sources.entries →
     Watches xs lines t.sources.entries) →
     t.left_out ≡ left_out_with (is_tabled t.sources.entries n.src) w.table.left_out → t.forgotten ≡ w.table.forgotten →
-    OnlyReleases w (record { hold = w.hold; next = None; table = t; lans = w.lans; settings = w.settings })
+    OnlyReleases w (record { hold = w.hold; next = None; table = t; lans = w.lans; floor = w.floor; settings = w.settings })
 taken w n t waits notes passes left same =
     record { goes = λ slack start turns acts g. by slack start turns acts g (is_tabled t.sources.entries n.src) refl; forgotten = same }
   where
     by : (slack start : ℕ) (turns : List (Turn Numbered)) (acts : List Act) (g : Goes slack start turns acts w) (b : Bool) →
         is_tabled t.sources.entries n.src ≡ b →
-        Goes slack start turns acts (record { hold = w.hold; next = None; table = t; lans = w.lans; settings = w.settings })
+        Goes slack start turns acts (record { hold = w.hold; next = None; table = t; lans = w.lans; floor = w.floor; settings = w.settings })
     by slack start turns acts g true is =
         let f = g.follows in
         let before = with_acts g.more acts in

@@ -1,10 +1,11 @@
 -- What a watch keeps, by all calls so far.
-use Rattle.std.specs.Prelude.{◌≡◌, ℕ, zero, suc, ◌^◌, ◌<◌, List, [], ◌∷◌, ◌++◌, ◌+◌, length, Option, None, Some, Bool, if◌then◌else◌}
+use Rattle.std.specs.Prelude.{◌≡◌, ℕ, zero, suc, ◌^◌, ◌<◌, List, [], ◌∷◌, ◌++◌, ◌+◌, max, length, Option, None, Some, Bool, if◌then◌else◌}
 use Rattle.sr_audit.specs.declared.side.Side.{Side}
 use Rattle.sr_audit.specs.declared.side.Side.TheVariants.{A, B}
 use Rattle.sr_frame.specs.declared.fields.Mac.{Mac}
 use Rattle.sr_audit.specs.Audits.{Sent}
 use Rattle.sr_audit.specs.Shown.{bounded_sum}
+use Rattle.sr_audit.specs.Waiting.{copy_in_time}
 use Rattle.sr_hold.specs.declared.hold.Released.{Released}
 use Rattle.sr_hold.specs.Holding.{line_of}
 use Rattle.sr_hold.specs.Pacing.{pace_of}
@@ -19,8 +20,7 @@ use Rattle.sr_watch.specs.declared.watch.Numbered.{Numbered}
 use Rattle.sr_watch.specs.declared.watch.Watch.{Watch}
 use Rattle.sr_watch.specs.Alarms.{alarm_between, raised_with, since_if}
 use Rattle.sr_watch.specs.LanAlarms.{lan_raised_at, lan_holds, lan_checked, last_or}
-use Rattle.sr_watch.specs.Limits.{end_of_time}
-use Rattle.sr_watch.specs.Running.{is_running, is_watching, has_ended, lan_in, with_lan, recorder_of, side_of}
+use Rattle.sr_watch.specs.Running.{is_running, is_watching, lan_in, with_lan, recorder_of, side_of}
 use Rattle.sr_watch.specs.Watching.{those_sent, lines_by, Watches}
 
 -- what is released, as an arrival of its source at its moment
@@ -131,12 +131,12 @@ pub record OnlyReleases (old new : Watch) : Type 0 where
       Goes slack start turns acts old → Goes slack start turns acts new
   pub forgotten : new.table.forgotten ≡ old.table.forgotten
 
--- up to when all is told: once both captures have ended nothing more is waited for
-abbrev pub mark_if : Bool → ℕ → ℕ
-mark_if over mark = if over then end_of_time else mark
+-- up to when all is told: once both captures have ended no frame is waited for, also where one begins once more
+abbrev pub floor_if : Bool → ℕ → ℕ → ℕ
+floor_if over mark floor = if over then max floor (bounded_sum mark copy_in_time) else floor
 
 abbrev pub told_up_to : Watch → ℕ
-told_up_to w = mark_if (has_ended w.lans) w.hold.progress.mark.time
+told_up_to w = max w.floor w.hold.progress.mark.time
 
 -- since when an alarm of a capture holds, if it does
 abbrev pub lan_since : Side → LanAlarm → Watch → Option ℕ

@@ -160,6 +160,8 @@ const BOTH_END: &[Step] = &[
     Began(A, 100),
     LanAlarms(A, CaptureEnded, Some(Note::Cleared)),
     Began(B, 100),
+    // What was lost at the end stays so.
+    Tells([0, 0], 0, [0, 0], [0, 0]),
     Came(A, 3, 499, 499),
     Has(A, [1, 0, 0]),
     Came(A, 4, 500, 500),

@@ -2,7 +2,7 @@
 
 ghost use Rattle.std.specs.Prelude.{◌≡◌};
 ghost use Rattle.std.specs.Option.{option_map};
-ghost use Rattle.sr_watch.specs.Following.{next_as};
+ghost use Rattle.sr_watch.specs.Following.{floor_if, next_as};
 
 use crate::alarm::{Alarm, LanAlarm, SourceAlarm, alarm_between, raised_with, since_if};
 use crate::counts::Forgotten;
@@ -20,6 +20,20 @@ use thiserror::Error;
 
 /// For how long a source is silent until it is forgotten, in nanoseconds: an hour (choice of this project).
 const FORGET_TIME: u64 = 3_600_000_000_000;
+
+/// For how long the other copy of a frame is waited for, in nanoseconds, as of an audit.
+const COPY_TIME: u64 = 400_000_000;
+
+/// Up to when no frame is waited for, where both captures have ended or not.
+fn floor_if(over: bool, mark: u64, floor: u64) -> u64
+    ensures { result ≡ floor_if over mark floor }
+{
+    if over {
+        floor.max(mark.saturating_add(COPY_TIME))
+    } else {
+        floor
+    }
+}
 
 /// A numbered copy of a frame, as a reader takes it out of a packet.
 #[derive(Clone, Copy, Debug, PartialEq, Eq)]
@@ -93,6 +107,8 @@ pub struct Watch {
     next: Option<Next>,
     table: Table,
     lans: Lans,
+    /// Up to here no frame is waited for, in nanoseconds of capture time.
+    floor: u64,
     settings: Settings,
 }
 
@@ -105,8 +121,8 @@ impl Watch {
     ghost use Rattle.sr_hold.specs.Turns.{Turn, came, heard, silent, ended, begins};
     ghost use Rattle.sr_watch.specs.declared.report.SourceLine.{SourceLine};
     ghost use Rattle.sr_watch.specs.declared.watch.Numbered.{Numbered};
-    ghost use Rattle.sr_watch.specs.Running.{recorder_of, lan_begun, lan_ended, lan_heard, at_clock, lans_with, lans_with_copy};
-    ghost use Rattle.sr_watch.specs.Following.{Act, told, forgot, FollowsTurns, TakesTurn, OnlyReleases, ChecksLan, turn_of, left_in, told_up_to, lan_counts_of, report_head};
+    ghost use Rattle.sr_watch.specs.Running.{recorder_of, has_ended, lan_begun, lan_ended, lan_heard, at_clock, lans_with, lans_with_copy};
+    ghost use Rattle.sr_watch.specs.Following.{Act, told, forgot, FollowsTurns, TakesTurn, OnlyReleases, ChecksLan, turn_of, left_in, floor_if, told_up_to, lan_counts_of, report_head};
     ghost use Rattle.sr_watch.specs.Forgetting.{forgotten_from, left_from};
     ghost use Rattle.sr_watch.specs.Limits.{silent_hour};
     ghost use Rattle.sr_watch.specs.Watching.{is_tabled, TellsSource, ChecksOf};
@@ -120,6 +136,7 @@ impl Watch {
             next: None,
             table: Table::new(alloc, keys),
             lans: Lans::AWAITED,
+            floor: 0,
             settings,
         }
     }
@@ -188,9 +205,12 @@ impl Watch {
     pub fn ended(&mut self, side: Side)
         ensures turn { TakesTurn (ended (recorder_of side)) self.old self.new }
         ensures lans { self.new.lans ≡ lans_with side lan_ended self.old.lans }
+        ensures floor { self.new.floor ≡ floor_if (has_ended self.new.lans)
+            self.new.hold.progress.mark.time self.old.floor }
     {
         self.hold.ended(recorder_of(side));
         self.lans = self.lans.with(side, self.lans.at(side).ended());
+        self.floor = floor_if(self.lans.have_ended(), self.hold.mark(), self.floor);
     }
 
     /// Releases the next arrival, unless one waits for memory.
@@ -242,11 +262,7 @@ impl Watch {
     fn mark(&self) -> u64
         ensures { result ≡ told_up_to self.now }
     {
-        if self.lans.have_ended() {
-            u64::MAX
-        } else {
-            self.hold.mark()
-        }
+        self.floor.max(self.hold.mark())
     }
 
     /// What stands in a report of the capture of a LAN.
