@@ -15,7 +15,7 @@ mod writing;
 
 use crate::clocks::{Known, on_clocks, read_clocks, read_once, recorders_of_audit};
 use crate::dated::{Dated, Dating};
-use crate::dates::Moment;
+use sr_dates::Moment;
 use crate::files::Sides;
 use crate::order::check_order;
 use crate::pipes::Pipe;

@@ -6,7 +6,6 @@ mod audit;
 mod bounds;
 mod clocks;
 mod dated;
-mod dates;
 mod files;
 mod joined;
 mod meanings;

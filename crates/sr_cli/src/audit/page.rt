@@ -5,7 +5,7 @@ use crate::audit::drawn::{keep, ranked, trace};
 use crate::audit::names::read_names;
 use crate::audit::passes::{Times, open};
 use crate::clocks::Known;
-use crate::dates::Moment;
+use sr_dates::Moment;
 use crate::files::{digest_at, size_of};
 use crate::meanings::subject_of;
 use crate::progress::Progress;
