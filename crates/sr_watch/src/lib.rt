@@ -1,0 +1,19 @@
+//! Two captures of a redundant network, watched while they grow: what no report has told of each source, and what was told since the start.
+#![tactic(auto)]
+
+mod alarm;
+mod counts;
+mod report;
+mod settings;
+mod table;
+mod tracked;
+mod watch;
+
+pub use alarm::{Alarm, LanAlarm, Note, SourceAlarm};
+pub use counts::{Changes, Counts, SideChanges, Spread};
+pub use report::{Header, LanCounts, Lasts, SourceLine};
+pub use settings::Settings;
+pub use watch::{CameFault, Numbered, Watch};
+
+#[cfg(test)]
+mod tests;
