@@ -15,6 +15,7 @@ use Rattle.sr_options.specs.declared.plant_line.Shape.{Shape}
 use Rattle.sr_options.specs.declared.plant_line.Shape.TheVariants as shape
 use Rattle.sr_options.specs.declared.script_line.ScriptTask.{ScriptTask}
 use Rattle.sr_options.specs.declared.task.Task.{Task}
+use Rattle.sr_options.specs.declared.watch_line.WatchTask.{WatchTask}
 use Rattle.sr_options.specs.declared.task.Task.TheVariants as task
 
 -- a list that is wanted is one
@@ -77,9 +78,14 @@ abbrev pub ShapeKeepsRules : Shape → Type 0
 ShapeKeepsRules (shape.TwoRings left right joins.Two) = (3 ≤ left.count) × (3 ≤ right.count)
 ShapeKeepsRules other = ⊤
 
+-- reports are 1 to 3600 seconds apart, and recorders keep packets for 300 to 60000 milliseconds at most
+abbrev pub WatchKeepsRules : WatchTask → Type 0
+WatchKeepsRules t = (1 ≤ t.every) × (t.every ≤ 3600) × (300 ≤ t.slack) × (t.slack ≤ 60000)
+
 -- a task keeps the rules that its options keep together
 abbrev pub KeepsRules : Task → Type 0
 KeepsRules (task.Script t) = ScriptKeepsRules t
 KeepsRules (task.Audit t) = AuditKeepsRules t
 KeepsRules (task.Plant t) = ShapeKeepsRules t.shape
+KeepsRules (task.Watch t) = WatchKeepsRules t
 KeepsRules other = ⊤
