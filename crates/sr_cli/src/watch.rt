@@ -85,6 +85,7 @@ fn plan_of(task: &WatchTask<'_>) -> Plan {
 }
 
 /// What tells of the faults of captures, on standard error.
+#[derive(Clone, Copy)]
 struct Teller<'a, R> {
     rt: &'a R,
     task: WatchTask<'a>,
