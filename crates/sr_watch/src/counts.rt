@@ -1,6 +1,10 @@
 //! Counts of a source since the start, and how they changed since the last report.
 
-use sr_audit::{Sides, Skews};
+ghost use Rattle.std.specs.Prelude.{◌≡◌};
+ghost use Rattle.sr_watch.specs.Changed.{change, side_changes, changes_between, none_counted};
+ghost use Rattle.sr_watch.specs.Counted.{lost_by, counts_from};
+
+use sr_audit::{Figures, Sides, Skews};
 
 /// What is counted of a source since the start, up to a mark. Counts stay at 2^64 - 1.
 #[derive(Clone, Copy, Debug, PartialEq, Eq)]
@@ -71,4 +75,84 @@ pub struct Changes {
     pub pairs: i128,
     /// Of the sum of the skews, in nanoseconds.
     pub skew_sum: i128,
+}
+
+/// What was not told of a count.
+fn change(told: u64, all: u64) -> i128
+    ensures { result ≡ change told all }
+{
+    i128::from(all) - i128::from(told)
+}
+
+/// What was not told of the counts of both LANs.
+fn side_changes(told: Sides, all: Sides) -> SideChanges
+    ensures { result ≡ side_changes told all }
+{
+    SideChanges {
+        a: change(told.a, all.a),
+        b: change(told.b, all.b),
+    }
+}
+
+/// The frames that a LAN lost: those that came by the other one alone or late by this one, but for those that wait.
+fn lost_by(alone: u64, late: u64, waits: u64) -> u64
+    ensures { result ≡ lost_by alone late waits }
+{
+    alone.saturating_add(late).saturating_sub(waits)
+}
+
+impl Counts {
+    /// Nothing was counted.
+    pub const NONE: Counts = Counts {
+        rx: Sides::NONE,
+        both: 0,
+        lost: Sides::NONE,
+        late: Sides::NONE,
+        repeats: Sides::NONE,
+        order: Sides::NONE,
+        neither: 0,
+        jumps: 0,
+        restarts: 0,
+        skews: Skews::NONE,
+    };
+
+    /// What is counted, by the figures of an audit, the copies that came late and the frames that wait.
+    pub(crate) fn of(f: Figures, late: Sides, waits: Sides) -> Counts
+        ensures { result ≡ counts_from f late waits }
+    {
+        Counts {
+            rx: f.tally.rx,
+            both: f.tally.pairs.saturating_sub(late.a).saturating_sub(late.b),
+            lost: Sides {
+                a: lost_by(f.tally.alone.b, late.a, waits.b),
+                b: lost_by(f.tally.alone.a, late.b, waits.a),
+            },
+            late,
+            repeats: f.tally.repeats,
+            order: f.order,
+            neither: f.neither,
+            jumps: f.jumps,
+            restarts: f.restarts,
+            skews: f.skews,
+        }
+    }
+
+    /// What was not told of them.
+    pub(crate) fn since(&self, told: &Counts) -> Changes
+        ensures { result ≡ changes_between told.now self.now }
+    {
+        Changes {
+            rx: side_changes(told.rx, self.rx),
+            both: change(told.both, self.both),
+            lost: side_changes(told.lost, self.lost),
+            late: side_changes(told.late, self.late),
+            repeats: side_changes(told.repeats, self.repeats),
+            order: side_changes(told.order, self.order),
+            neither: change(told.neither, self.neither),
+            jumps: change(told.jumps, self.jumps),
+            restarts: change(told.restarts, self.restarts),
+            pairs: change(told.skews.count, self.skews.count),
+            skew_sum: self.skews.sum.saturating_sub(told.skews.sum),
+        }
+    }
 }
