@@ -352,7 +352,7 @@ behind_told ports dropped notices vs faulty told none =
 
 -- verdicts that are settled end a check as those do of which they are left, or in doubt
 settled_ends : (ports : Ports) (dropped : Sides) (why : Option Reason) (faults notices : List Verdict) (faulty : Bool) → Tells faulty faults
-    → Tells false notices → EndBy ports dropped (judged_by why faulty) (verdicts_for why (Behind ports dropped notices (settled ports dropped faults)))
+    → Tells false notices → EndBy ports dropped faults (judged_by why faulty) (verdicts_for why (Behind ports dropped notices (settled ports dropped faults)))
 settled_ends ports dropped (Some why) faults notices faulty told none = inl (record { status = refl; reason = refl })
 settled_ends ports dropped None faults notices faulty told none = by_drops (any_dropped dropped) refl
   where
@@ -365,7 +365,7 @@ settled_ends ports dropped None faults notices faulty told none = by_drops (any_
     wrong : Bool
     wrong = list_any is_a_fault left
 
-    ends : (vs : List Verdict) → Tells faulty vs → EndBy ports dropped (judged_by None faulty) (Behind ports dropped notices vs)
+    ends : (vs : List Verdict) → Tells faulty vs → EndBy ports dropped faults (judged_by None faulty) (Behind ports dropped notices vs)
     ends vs own = inl (ends_for None (Behind ports dropped notices vs) faulty (behind_told ports dropped notices vs faulty own none))
 
     judging : list_any is_unjudged left ≡ false
@@ -373,13 +373,13 @@ settled_ends ports dropped None faults notices faulty told none = by_drops (any_
 
     -- by whether a fault was told, and whether one is left
     by_faults : any_dropped dropped ≡ true → (f l : Bool) → faulty ≡ f → wrong ≡ l
-        → EndBy ports dropped (judged_by None faulty)
+        → EndBy ports dropped faults (judged_by None faulty)
         (Behind ports dropped notices (cond (f && not l) (Undecided (why_dropped ports dropped by) ∷ []) left))
     by_faults some true true e h = ends left (record { judging = judging; faults = h ∙ sym e })
     by_faults some true false e h = inr (record {
-      by = by;
       faulty = ap (λ (b : Bool). judged_by None b) e;
       some = some;
+      explained = h;
       status = refl;
       reason = refl;
     })
@@ -388,9 +388,9 @@ settled_ends ports dropped None faults notices faulty told none = by_drops (any_
       faults = any_left is_a_fault (λ v. not (is_explained by v)) faults (told.faults ∙ e) ∙ sym e;
     })
 
-    by_drops : (d : Bool) → any_dropped dropped ≡ d → EndBy ports dropped (judged_by None faulty)
+    by_drops : (d : Bool) → any_dropped dropped ≡ d → EndBy ports dropped faults (judged_by None faulty)
         (Behind ports dropped notices (cond d (settled_by ports dropped by faults) faults))
-    by_drops true some = subst (λ (b : Bool). EndBy ports dropped (judged_by None faulty)
+    by_drops true some = subst (λ (b : Bool). EndBy ports dropped faults (judged_by None faulty)
         (Behind ports dropped notices (cond (b && not wrong) (Undecided (why_dropped ports dropped by) ∷ []) left)))
         (sym told.faults) (by_faults some faulty wrong refl refl)
     by_drops false none_dropped = ends faults told
@@ -405,10 +405,10 @@ verdicts_end r sources outside vs are =
     let told : Tells faulty faults =
     subst (λ (b : Bool). Tells b faults) (told_of_single r nodes are.own are.telling are.counters are.are_heard)
     (tells_faults r nodes are.own are.telling are.counters) in
-    subst (λ (l : List Verdict). EndBy ports outside.dropped
+    subst (λ (l : List Verdict). EndBy ports outside.dropped faults
     (judged_with (nodes_tell r.subject nodes) (judged_beside outside.reason (network_judgement r))) l)
     (sym are.verdicts)
-    (subst (λ (j : Judgement). EndBy ports outside.dropped j
+    (subst (λ (j : Judgement). EndBy ports outside.dropped faults j
     (verdicts_for (why_told outside.reason r) (Behind ports outside.dropped notices (settled ports outside.dropped faults))))
     (joins r (nodes_tell r.subject nodes) outside.reason)
     (settled_ends ports outside.dropped (why_told outside.reason r) faults notices faulty told
