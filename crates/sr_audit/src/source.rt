@@ -134,7 +134,7 @@ impl Source {
     ///
     /// # Errors
     /// `NoMemory` where an allocation failed.
-    pub(crate) fn new(alloc: Global) -> Result<Source, NoMemory>
+    pub fn new(alloc: Global) -> Result<Source, NoMemory>
         ensures taken { IfOk result (λ source. (spans : Spans) → HasTaken spans [] source) }
         ensures heard { IfOk result (HasHeard []) }
     {
@@ -249,7 +249,7 @@ impl Source {
     }
 
     /// Takes the next arrival of the source.
-    pub(crate) fn note(&mut self, x: Arrival, spans: &Spans)
+    pub fn note(&mut self, x: Arrival, spans: &Spans)
         ensures taken { TakesArrival spans.now x self.old self.new }
         ensures alive { self.new.alive ≡ self.old.alive }
     {

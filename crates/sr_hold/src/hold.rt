@@ -218,6 +218,13 @@ impl<T> Hold<T> {
         }
     }
 
+    /// The mark: all arrivals of both recorders came up to this time, in nanoseconds of capture time. No call puts it back.
+    pub fn mark(&self) -> u64
+        ensures { result ≡ self.now.progress.mark.time }
+    {
+        self.progress.mark.time
+    }
+
     /// How many arrivals of a recorder came behind the mark.
     pub fn behind(&self, recorder: Recorder) -> u64
         ensures { result ≡ (pace_of recorder self.now.progress).behind }
