@@ -55,11 +55,12 @@ pub record EndAs (j : Judgement) (vs : List Verdict) : Type 0 where
   pub reason : reason_in vs ≡ by_figures (why_of j)
 
 -- the faults that figures and sources tell, before those are left out that recorders may have made
-abbrev pub faults_told : (r : Report) (sources : Sources) (outside : Outside) (vs : List Verdict) → AreVerdictsOf r sources outside vs → List Verdict
+abbrev pub faults_told : (r : Report) (sources : Sources) (outside : Outside) (vs : List Verdict) → AreVerdictsOf r sources outside vs
+    → List Verdict
 faults_told r sources outside vs are = fault_verdicts r sources.sources.entries are.own are.telling are.counters
 
--- where a fault is judged, recorders say that they dropped packets, and may have made each fault that is told: a check ends with 4, for that
--- reason
+-- where a fault is judged, recorders say that they dropped packets, and may have made each fault that is told: a check ends with 4,
+-- for that reason
 pub record EndInDoubt (ports : Ports) (dropped : Sides) (faults : List Verdict) (j : Judgement) (vs : List Verdict) : Type 0 where
   pub faulty : j ≡ Faulty
   pub some : any_dropped dropped ≡ true
@@ -74,6 +75,6 @@ EndBy ports dropped faults j vs = EndAs j vs ⊎ EndInDoubt ports dropped faults
 -- nothing can be judged, by the figures or for something besides them; or, where recorders dropped packets that may be all that is said to
 -- be lost, and no other fault is told.
 abbrev pub VerdictsEndAsJudged : Type 0
-VerdictsEndAsJudged = (r : Report) (sources : Sources) (outside : Outside) (vs : List Verdict) (are : AreVerdictsOf r sources outside vs) →
-    EndBy r.subject.ports outside.dropped (faults_told r sources outside vs are)
+VerdictsEndAsJudged = (r : Report) (sources : Sources) (outside : Outside) (vs : List Verdict) (are : AreVerdictsOf r sources outside vs)
+    → EndBy r.subject.ports outside.dropped (faults_told r sources outside vs are)
     (judged_with (nodes_tell r.subject sources.sources.entries) (judged_beside outside.reason (network_judgement r))) vs

@@ -1,5 +1,6 @@
 //! Why nothing can be judged.
 
+use crate::words::lan_word;
 use sr_audit::Side;
 use sr_capture_audit::Reason;
 use std::fmt;
@@ -13,26 +14,27 @@ pub enum Why {
     Dropped(Option<Side>, u64),
 }
 
+/// The word for so many packets.
+fn packets_word(packets: u64) -> &'static str {
+    if packets == 1 { "packet" } else { "packets" }
+}
+
 impl fmt::Display for Why {
     fn fmt<W: fmt::Write>(&self, f: &mut fmt::Formatter<W>) -> fmt::Result {
         match *self {
             Why::Figures(reason) => write!(f, "{reason}"),
-            Why::Dropped(Some(Side::A), packets) => {
+            Why::Dropped(Some(lan), packets) => {
+                let (lan, word) = (lan_word(Some(lan)), packets_word(packets));
                 write!(
                     f,
-                    "the recorder of A dropped {packets} packets, which may be all that LAN A lost"
-                )
-            }
-            Why::Dropped(Some(Side::B), packets) => {
-                write!(
-                    f,
-                    "the recorder of B dropped {packets} packets, which may be all that LAN B lost"
+                    "the recorder of {lan} dropped {packets} {word}, which may be all that LAN {lan} lost"
                 )
             }
             Why::Dropped(None, packets) => {
+                let word = packets_word(packets);
                 write!(
                     f,
-                    "the recorder dropped {packets} packets, which may be all that were lost"
+                    "the recorder dropped {packets} {word}, which may be all that was lost"
                 )
             }
         }
