@@ -83,7 +83,7 @@ ShapeKeepsRules other = ⊤
 abbrev pub NamesOneNode : Mac → Type 0
 NamesOneNode mac = slice_index mac.0 0 % 2 ≢ 1
 
--- the role alone says whether an interlink has a LAN and a network
+-- what the options of a node keep
 abbrev pub NodeKeepsRules : NodeTask → Type 0
 NodeKeepsRules t = NamesOneNode t.mac
 
