@@ -98,8 +98,15 @@ fn read_and_judge<R: AllocGlobal + Eprint + Files>(
 ) -> Result<(Read, Sources, Vec<Verdict>), Ended> {
     let subject = subject_on(rt, task, known)?;
     let read = read_all(rt, task, subject, keys, progress)?;
-    let sources = read_nodes(rt, task, keys)?;
-    let verdicts = judge(rt, &read.report, &sources, known, read.are_both_ways)?;
+    let (sources, dropped) = read_nodes(rt, task, keys)?;
+    let verdicts = judge(
+        rt,
+        &read.report,
+        &sources,
+        known,
+        read.are_both_ways,
+        dropped,
+    )?;
     Ok((read, sources, verdicts))
 }
 

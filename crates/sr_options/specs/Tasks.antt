@@ -1,5 +1,6 @@
 -- The rules that options keep together.
-use Rattle.std.specs.Prelude.{◌≡◌, ◌≢◌, ℕ, ◌+◌, ◌^◌, ◌≤◌, ℤ, Bool, true, false, Option, Some, None, ⊤, ◌⊎◌}
+use Rattle.std.specs.Prelude.{◌≡◌, ◌≢◌, ℕ, ◌+◌, ◌%◌, ◌^◌, ◌≤◌, ℤ, slice_index, Bool, true, false, Option, Some, None, ⊤, ◌⊎◌}
+use Rattle.sr_frame.specs.declared.fields.Mac.{Mac}
 use Rattle.sr_capture_script.specs.declared.choice.Delays.{Delays}
 use Rattle.sr_options.specs.Shifts.{others_longer, AreSetBack, AreSetBackTooFar}
 use Rattle.sr_options.specs.declared.audit_line.AuditTask.{AuditTask}
@@ -9,6 +10,7 @@ use Rattle.sr_options.specs.declared.audit_line.Lists.{Lists}
 use Rattle.sr_options.specs.declared.audit_line.Ports.{Ports}
 use Rattle.sr_options.specs.declared.audit_line.Ports.TheVariants as ports
 use Rattle.sr_options.specs.declared.coupled_line.Joins.TheVariants as joins
+use Rattle.sr_options.specs.declared.node_line.NodeTask.{NodeTask}
 use Rattle.sr_options.specs.declared.merge_line.MergeTask.{MergeTask}
 use Rattle.sr_options.specs.declared.page_words.PageWords.{PageWords}
 use Rattle.sr_options.specs.declared.plant_line.Shape.{Shape}
@@ -82,10 +84,21 @@ ShapeKeepsRules other = ⊤
 abbrev pub WatchKeepsRules : WatchTask → Type 0
 WatchKeepsRules t = (1 ≤ t.every) × (t.every ≤ 3600) × (300 ≤ t.slack) × (t.slack ≤ 60000)
 
+-- an address of one node, and not of a group
+abbrev pub NamesOneNode : Mac → Type 0
+NamesOneNode mac = slice_index mac.0 0 % 2 ≢ 1
+
+-- what the options of a node keep
+abbrev pub NodeKeepsRules : NodeTask → Type 0
+NodeKeepsRules t = NamesOneNode t.mac
+
 -- a task keeps the rules that its options keep together
 abbrev pub KeepsRules : Task → Type 0
 KeepsRules (task.Script t) = ScriptKeepsRules t
 KeepsRules (task.Audit t) = AuditKeepsRules t
 KeepsRules (task.Plant t) = ShapeKeepsRules t.shape
 KeepsRules (task.Watch t) = WatchKeepsRules t
+KeepsRules (task.Replay t) = NodeKeepsRules t
+KeepsRules (task.Status t) = NodeKeepsRules t
+KeepsRules (task.Tally t) = NodeKeepsRules t
 KeepsRules other = ⊤

@@ -17,6 +17,10 @@ pub enum OptionFault {
     To,
     /// `--tick` is none, or 0.
     Tick,
+    /// The address of a node is that of a group.
+    Group,
+    /// The LAN or the network of an interlink at a role that has none there.
+    Interlink,
     /// A script of no captures.
     NoFiles,
     /// An audit of no captures.
@@ -68,6 +72,8 @@ impl OptionFault {
             OptionFault::From => "from",
             OptionFault::To => "to",
             OptionFault::Tick => "tick",
+            OptionFault::Group => "mac",
+            OptionFault::Interlink => "interlink",
             OptionFault::NoFiles => "files",
             OptionFault::NoCaptures => "captures",
             OptionFault::Mirror => "mirror",
@@ -99,6 +105,10 @@ impl OptionFault {
             OptionFault::From | OptionFault::To =>
                 "--from and --to take whole milliseconds from the earliest packet on",
             OptionFault::Tick => "--tick takes whole milliseconds, at least 1",
+            OptionFault::Group =>
+                "--mac is the address of one node: the first octet of a group's address is odd",
+            OptionFault::Interlink =>
+                "--lan and --net tell of the PRP network at the interlink: they are for --role prp",
             OptionFault::NoFiles => "give a capture at least: --a FILE, --b FILE or --c FILE",
             OptionFault::NoCaptures =>
                 "give a capture at least: --a FILE or --b FILE, or --mirror FILE",

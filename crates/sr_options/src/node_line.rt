@@ -1,9 +1,15 @@
 //! The options of a node: of `replay` and `status`.
 
+ghost use Rattle.std.specs.Prelude.{IfOk};
+ghost use Rattle.sr_options.specs.Tasks.{NamesOneNode, NodeKeepsRules};
+
 use crate::address::mac_of;
 use crate::command_line::with_arg;
+use crate::fault::OptionFault;
 use crate::node_options::{NodeOptions, node_options_of, with_node_options};
+use crate::refusal::Refused;
 use crate::words::Words;
+use clap::parser::ValueSource;
 use clap::{Arg, ArgAction, ArgMatches, Command};
 use sr_forwarding::{MAX_NET, NetId, RoleKind};
 use sr_frame::Mac;
@@ -115,11 +121,47 @@ fn role_of(node: &ArgMatches<'_>) -> RoleKind {
     }
 }
 
-/// The node that a subcommand's options name. None: the address is none.
-pub(crate) fn node_task(node: &ArgMatches<'_>) -> Option<NodeTask> {
-    let mac = node.get_str("mac").and_then(mac_of)?;
-    Some(NodeTask {
-        role: role_of(node),
+/// Whether the command line has an option, which may have its default value besides.
+fn is_given(node: &ArgMatches<'_>, option: &str) -> bool {
+    node.value_source(option) == Some(ValueSource::CommandLine)
+}
+
+/// Whether the LAN or the network at an interlink is given to a role whose interlink has none.
+fn has_stray_interlink(node: &ArgMatches<'_>, role: RoleKind) -> bool {
+    match role {
+        RoleKind::Prp { .. } => false,
+        _ => is_given(node, "lan") || is_given(node, "net"),
+    }
+}
+
+/// The address of one node.
+///
+/// # Errors
+/// `Mac` where it is no address, `Group` where it is that of a group.
+fn node_mac(node: &ArgMatches<'_>) -> Result<Mac, Refused>
+    ensures { IfOk result NamesOneNode }
+{
+    match node.get_str("mac").and_then(mac_of) {
+        Some(mac) if mac.is_group() => Err(Refused::Option(OptionFault::Group)),
+        Some(mac) => Ok(mac),
+        None => Err(Refused::Mac),
+    }
+}
+
+/// The node that a subcommand's options name.
+///
+/// # Errors
+/// Those of its address, and `Interlink` where the role has no PRP network at its interlink and one is named.
+pub(crate) fn node_task(node: &ArgMatches<'_>) -> Result<NodeTask, Refused>
+    ensures { IfOk result NodeKeepsRules }
+{
+    let mac = node_mac(node)?;
+    let role = role_of(node);
+    if has_stray_interlink(node, role) {
+        return Err(Refused::Option(OptionFault::Interlink));
+    }
+    Ok(NodeTask {
+        role,
         mac,
         options: node_options_of(node),
     })
