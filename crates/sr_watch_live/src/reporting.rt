@@ -63,8 +63,9 @@ fn lines_of(alloc: Global, watch: &mut Watch) -> Result<Vec<SourceLine>, WatchFa
     let sources = watch.sources()?;
     for mac in sources.iter() {
         if let Some(line) = watch.tell(*mac) {
-            if lines.push(line).is_err() {
-                return Err(WatchFault::NoMemory);
+            match lines.push(line) {
+                Ok(()) => {}
+                Err(_) => return Err(WatchFault::NoMemory),
             }
         }
     }
@@ -131,8 +132,9 @@ impl<'a> Reporter<'a> {
             raised: self.raised.as_slice(),
         };
         let mut octets = Vec::new(rt.alloc());
-        if print_metrics(&mut octets, &metrics).is_err() {
-            return Err(WatchFault::NoMemory);
+        match print_metrics(&mut octets, &metrics) {
+            Ok(()) => {}
+            Err(_) => return Err(WatchFault::NoMemory),
         }
         match put(rt, path, octets.as_slice()) {
             Ok(()) => Ok(()),
