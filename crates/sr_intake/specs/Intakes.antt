@@ -1,9 +1,7 @@
 -- A capture whose packets are taken one by one.
-use Rattle.std.specs.Prelude.{◌≡◌, ℕ, ◌+◌, ◌-◌, ◌^◌, min, List, [], ◌∷◌, length, Option, Bool, true, false}
+use Rattle.std.specs.Prelude.{◌≡◌, ℕ, ◌+◌, ◌-◌, ◌^◌, min, List, Option, Bool}
 use Rattle.sr_capture.specs.declared.fault.CaptureFault.{CaptureFault}
-use Rattle.sr_capture.specs.Taking.{Loses, LeavesNone}
-use Rattle.sr_capture.specs.Records.{Captured, Shows}
-use Rattle.sr_intake.specs.Formats.{front_len, AreTaken, Takes, IsNoNext, TakesFront, HasNoFront}
+use Rattle.sr_intake.specs.Formats.{front_len, Takes, IsNoNext, TakesFront, HasNoFront}
 use Rattle.sr_intake.specs.declared.capture.Intake.{Intake}
 use Rattle.sr_intake.specs.declared.front.Reading.{Reading}
 
