@@ -29,6 +29,8 @@ pub(crate) struct Lane {
     pub has_begun: bool,
     pending: Vec<Taken>,
     place: usize,
+    /// The time of the first packet that was taken.
+    pub first: Option<u64>,
     /// The greatest time of a packet that was taken.
     pub newest: Option<u64>,
     /// What was counted of its packets since the start.
@@ -62,6 +64,7 @@ impl Lane {
             has_begun: false,
             pending: Vec::new(alloc),
             place: 0,
+            first: None,
             newest: None,
             counts: PacketCounts::NONE,
         }
@@ -95,6 +98,7 @@ impl Lane {
                 Err(CameFault::NoMemory) => return Err(WatchFault::NoMemory),
             }
             self.counts.note(taken.kind);
+            self.first = self.first.or(Some(taken.time));
             self.newest = self.newest.max(Some(taken.time));
             self.place = self.place.saturating_add(1);
         }

@@ -79,6 +79,14 @@ impl Live {
         self.a.has_begun || self.b.has_begun
     }
 
+    /// The time of the first packet of both captures.
+    pub(crate) fn first(&self) -> Option<u64> {
+        match (self.a.first, self.b.first) {
+            (Some(a), Some(b)) => Some(a.min(b)),
+            (a, b) => a.or(b),
+        }
+    }
+
     /// Whether both captures are at their ends, and all of them was taken.
     pub(crate) fn is_done(&self) -> bool {
         self.a.is_done() && self.b.is_done()

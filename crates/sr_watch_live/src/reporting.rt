@@ -35,6 +35,8 @@ pub(crate) struct Reporter<'a> {
     metrics: Option<&'a str>,
     /// When the last report was made, or the watch began.
     made: Instant,
+    /// Up to when the last report told all, in capture time. None: no packet had come.
+    mark: Option<u64>,
     due: Instant,
     check_due: Instant,
     told: Packets,
@@ -95,6 +97,7 @@ impl<'a> Reporter<'a> {
             every,
             metrics,
             made: start,
+            mark: None,
             due: later(start, every),
             check_due: later(start, every.min(CHECK_EVERY)),
             told: NO_PACKETS,
@@ -142,6 +145,14 @@ impl<'a> Reporter<'a> {
         }
     }
 
+    /// How long ago the last report was, in capture time: in the first one the first packet. Before a packet came it is told by the clock.
+    fn elapsed(&self, first: Option<u64>, mark: u64, now: Instant) -> u64 {
+        match self.mark.or(first) {
+            Some(from) if mark > 0 => mark.saturating_sub(from),
+            _ => between(self.made, now),
+        }
+    }
+
     /// Makes a report.
     fn report<R: AllocGlobal + Files + Clock, W: Write>(
         &mut self,
@@ -158,7 +169,7 @@ impl<'a> Reporter<'a> {
         };
         let told = Told {
             at: moment_of(rt, header.mark)?,
-            elapsed: between(self.made, now),
+            elapsed: self.elapsed(live.first(), header.mark, now),
             header,
             packets: Packets {
                 a: all.a.since(&self.told.a),
@@ -172,6 +183,9 @@ impl<'a> Reporter<'a> {
         flush(writer)?;
         self.told = all;
         self.made = now;
+        if header.mark > 0 {
+            self.mark = Some(header.mark);
+        }
         self.put_metrics(rt, header, all, lines.as_slice())
     }
 
