@@ -92,11 +92,11 @@ impl Lane {
         self.pending.get(self.place).map(|taken| taken.time)
     }
 
-    /// Whether all of it was taken up to the end of another capture that nothing more comes of.
+    /// Whether all of it was taken up to the end of another capture that nothing more comes of, or it did not begin before that.
     pub(crate) fn has_passed(&self, end: Option<u64>) -> bool {
         match self.next_time() {
             Some(time) => end < Some(time),
-            None => self.is_over(),
+            None => self.state != State::Running,
         }
     }
 

@@ -218,6 +218,11 @@ impl<'a> Reporter<'a> {
             return Ok(());
         };
         self.keep(of, alarm.note)?;
+        // Where both captures have ended all is told that may ever come.
+        let alarm = Alarm {
+            since: alarm.since.min(at.0),
+            ..alarm
+        };
         if print_alarm(writer, self.format, at, of, &alarm).is_err() {
             return Err(WatchFault::Write);
         }
