@@ -15,7 +15,6 @@ mod writing;
 
 use crate::clocks::{Known, on_clocks, read_clocks, read_once, recorders_of_audit};
 use crate::dated::{Dated, Dating};
-use crate::dates::Moment;
 use crate::files::Sides;
 use crate::order::check_order;
 use crate::pipes::Pipe;
@@ -27,6 +26,7 @@ use nodes::read_nodes;
 use passes::{Read, open, read_all};
 use sr_advice::letter_of;
 use sr_capture_script::{Inlet, ScriptFault};
+use sr_dates::Moment;
 use sr_options::{AuditTask, Format, Paths, Times};
 use sr_slots::Keys;
 use sr_sources::Sources;

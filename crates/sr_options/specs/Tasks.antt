@@ -17,6 +17,7 @@ use Rattle.sr_options.specs.declared.plant_line.Shape.{Shape}
 use Rattle.sr_options.specs.declared.plant_line.Shape.TheVariants as shape
 use Rattle.sr_options.specs.declared.script_line.ScriptTask.{ScriptTask}
 use Rattle.sr_options.specs.declared.task.Task.{Task}
+use Rattle.sr_options.specs.declared.watch_line.WatchTask.{WatchTask}
 use Rattle.sr_options.specs.declared.task.Task.TheVariants as task
 
 -- a list that is wanted is one
@@ -83,9 +84,13 @@ ShapeKeepsRules other = ⊤
 abbrev pub NamesOneNode : Mac → Type 0
 NamesOneNode mac = slice_index mac.0 0 % 2 ≢ 1
 
--- the role alone says whether an interlink has a LAN and a network
+-- what the options of a node keep
 abbrev pub NodeKeepsRules : NodeTask → Type 0
 NodeKeepsRules t = NamesOneNode t.mac
+
+-- reports are 1 to 3600 seconds apart, and recorders keep packets for 300 to 60000 milliseconds at most
+abbrev pub WatchKeepsRules : WatchTask → Type 0
+WatchKeepsRules t = (1 ≤ t.every) × (t.every ≤ 3600) × (300 ≤ t.slack) × (t.slack ≤ 60000)
 
 -- a task keeps the rules that its options keep together
 abbrev pub KeepsRules : Task → Type 0
@@ -95,4 +100,5 @@ KeepsRules (task.Plant t) = ShapeKeepsRules t.shape
 KeepsRules (task.Replay t) = NodeKeepsRules t
 KeepsRules (task.Status t) = NodeKeepsRules t
 KeepsRules (task.Tally t) = NodeKeepsRules t
+KeepsRules (task.Watch t) = WatchKeepsRules t
 KeepsRules other = ⊤

@@ -13,6 +13,7 @@ use crate::plant_line::{Net, network_task, plant_command};
 use crate::refusal::Refused;
 use crate::script_line::{script_command, script_task};
 use crate::task::Task;
+use crate::watch_line::{watch_command, watch_task};
 use crate::words::Words;
 use clap::error::ErrorKind;
 use clap::{Arg, ArgGroup, ArgMatches, Command, Error};
@@ -93,6 +94,7 @@ fn command<'a>(alloc: Global, words: &'a Words<'a>) -> Result<Command<'a>, Alloc
     let command = with(command, audit);
     let merge = merge_command(alloc, words);
     let command = with(command, merge);
+    let command = with(command, watch_command(alloc, words));
     let ring = plant_command(
         alloc,
         words,
@@ -135,6 +137,12 @@ fn captures_task_in<'a>(
     if let Some(merge) = matches.subcommand_matches("merge") {
         return match merge_task(merge, words) {
             Ok(task) => Ok(Some(Task::Merge(task))),
+            Err(fault) => Err(fault),
+        };
+    }
+    if let Some(watch) = matches.subcommand_matches("watch") {
+        return match watch_task(watch, words) {
+            Ok(task) => Ok(Some(Task::Watch(task))),
             Err(fault) => Err(fault),
         };
     }

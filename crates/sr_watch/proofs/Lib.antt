@@ -1,0 +1,5 @@
+pub mod LateLemmas
+pub mod ToldLemmas
+pub mod TableLemmas
+pub mod FollowLemmas
+pub mod LawLemmas

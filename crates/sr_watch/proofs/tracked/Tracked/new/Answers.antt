@@ -1,0 +1,11 @@
+use Rattle.std.proofs.Common.{arith, refl}
+use Rattle.sr_watch.specs.Counted.{always}
+use Rattle.sr_watch.proofs.tracked.Tracked.new.Goals as goal
+
+pub returns : goal.returns
+returns c =
+    record {
+      tracks = record { taken = c.in_ok-new.ensures.taken always; late = λ few. refl; last = refl };
+      told = λ few. record { sums = refl; small = omega arith };
+      since = refl;
+    }

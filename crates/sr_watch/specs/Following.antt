@@ -1,0 +1,82 @@
+-- What a watch keeps, by all calls so far.
+use Rattle.std.specs.Prelude.{◌≡◌, ℕ, zero, suc, ◌^◌, ◌<◌, List, [], ◌∷◌, ◌++◌, ◌+◌, length, Option, None, Some, Bool, if◌then◌else◌}
+use Rattle.sr_audit.specs.declared.side.Side.{Side}
+use Rattle.sr_audit.specs.Audits.{Sent}
+use Rattle.sr_hold.specs.declared.hold.Released.{Released}
+use Rattle.sr_hold.specs.Holding.{Holding}
+use Rattle.sr_hold.specs.Turns.{Turn, came, heard, release, state_after, released_in}
+use Rattle.sr_watch.specs.declared.report.SourceLine.{SourceLine}
+use Rattle.sr_watch.specs.declared.watch.Next.{Next}
+use Rattle.sr_watch.specs.declared.watch.Numbered.{Numbered}
+use Rattle.sr_watch.specs.declared.watch.Watch.{Watch}
+use Rattle.sr_watch.specs.Running.{is_watching, has_ended, recorder_of, side_of}
+use Rattle.sr_watch.specs.Watching.{Watches, CountsUnwatched}
+
+-- what is released, as an arrival of its source at its moment
+abbrev pub next_as : Released Numbered → Next
+next_as x = record { src = x.item.src; arrival = record { side = side_of x.recorder; seq = x.item.seq; time = x.moment } }
+
+abbrev pub sent_as : Next → Sent
+sent_as n = (n.src, n.arrival)
+
+-- what is released, in order, newest first
+abbrev pub newest_first : List (Released Numbered) → List Sent
+newest_first [] = []
+newest_first (x ∷ later) = newest_first later ++ sent_as (next_as x) ∷ []
+
+-- all arrivals that were released, newest first
+abbrev pub sent_in : ℕ → ℕ → List (Turn Numbered) → List Sent
+sent_in slack start turns = newest_first (released_in slack start turns)
+
+-- what was released and waits for memory
+abbrev pub due_in : Option Next → List Sent
+due_in None = []
+due_in (Some n) = sent_as n ∷ []
+
+-- how many arrivals wait
+abbrev pub left_in : Watch → ℕ
+left_in w = length w.hold.a + length w.hold.b + length (due_in w.next)
+
+-- by these calls of a hold this waits; these arrivals were noted and these lines told; all that was released was noted, but for one that
+-- waits for memory
+pub record Follows (slack start : ℕ) (turns : List (Turn Numbered)) (xs : List Sent) (lines : List SourceLine) (w : Watch) : Type 0 where
+  pub holds : w.hold ≡ state_after slack start turns
+  pub sent : sent_in slack start turns ≡ due_in w.next ++ xs
+  pub watches : length xs < 2 ^ 64 → Watches xs lines w.table.sources.entries
+  pub left_out : length xs < 2 ^ 64 → CountsUnwatched w.table.sources.entries xs w.table.left_out
+
+-- a copy that comes waits where both captures run; else it is a packet that tells how far its capture is, and no more
+abbrev pub turn_if : Bool → Side → ℕ → ℕ → Numbered → Turn Numbered
+turn_if watched side time now copy =
+    if watched then came (recorder_of side) time now copy else heard (recorder_of side) time now
+
+abbrev pub turn_of : Side → ℕ → ℕ → Numbered → Watch → Turn Numbered
+turn_of side time now copy w = turn_if (is_watching now w.lans) side time now copy
+
+-- a call that adds a turn, and no line
+pub record TakesTurn (t : Turn Numbered) (old new : Watch) : Type 0 where
+  pub follows : (slack start : ℕ) (turns : List (Turn Numbered)) (xs : List Sent) (lines : List SourceLine) →
+      Follows slack start turns xs lines old → Follows slack start (t ∷ turns) xs lines new
+
+-- so many more calls that release
+abbrev pub with_releases : ℕ → List (Turn Numbered) → List (Turn Numbered)
+with_releases zero turns = turns
+with_releases (suc n) turns = release ∷ with_releases n turns
+
+-- with some more of them
+pub record Goes (slack start : ℕ) (turns : List (Turn Numbered)) (lines : List SourceLine) (w : Watch) : Type 0 where
+  pub releases : ℕ
+  pub noted : List Sent
+  pub follows : Follows slack start (with_releases releases turns) noted lines w
+
+-- a call that releases, and tells no line
+pub record Advances (old new : Watch) : Type 0 where
+  pub goes : (slack start : ℕ) (turns : List (Turn Numbered)) (lines : List SourceLine) →
+      Goes slack start turns lines old → Goes slack start turns lines new
+
+-- up to when all is told: once both captures have ended nothing more is waited for
+abbrev pub mark_if : Bool → ℕ → ℕ
+mark_if over mark = if over then 18446744073709551615 else mark
+
+abbrev pub mark_of : Watch → ℕ
+mark_of w = mark_if (has_ended w.lans) w.hold.progress.mark.time

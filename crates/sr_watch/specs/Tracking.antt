@@ -1,0 +1,37 @@
+-- What is kept of a source.
+use Rattle.std.specs.Prelude.{◌≡◌, ℕ, ◌+◌, ◌^◌, ◌<◌, ◌≤◌, List, ◌∷◌, length}
+use Rattle.sr_audit.specs.declared.arrival.Arrival.{Arrival}
+use Rattle.sr_audit.specs.Limits.{exact_arrivals}
+use Rattle.sr_audit.specs.Stretches.{stretches}
+use Rattle.sr_audit.specs.Taken.{HasTaken}
+use Rattle.sr_watch.specs.declared.report.SourceLine.{SourceLine}
+use Rattle.sr_watch.specs.declared.tracked.Tracked.{Tracked}
+use Rattle.sr_watch.specs.Changed.{changes_between, total_of, HasTold}
+use Rattle.sr_watch.specs.Counted.{always, counts_of, lasts_of}
+use Rattle.sr_watch.specs.Late.{lates_of}
+
+-- these arrivals of the source were noted, newest first
+pub record Tracks (xs : List Arrival) (t : Tracked) : Type 0 where
+  pub taken : HasTaken always xs t.source
+  pub late : length xs ≤ exact_arrivals → t.late ≡ lates_of (stretches xs)
+  pub last : t.last ≡ lasts_of xs
+
+-- these arrivals were noted, and these lines told of them, newest first
+pub record Watched (xs : List Arrival) (lines : List SourceLine) (t : Tracked) : Type 0 where
+  pub tracks : Tracks xs t
+  pub told : length xs ≤ exact_arrivals → HasTold lines t.told
+  pub since : t.told ≡ total_of lines
+
+-- one arrival more was noted
+pub record NotesArrival (x : Arrival) (old new : Tracked) : Type 0 where
+  pub notes : (xs : List Arrival) (lines : List SourceLine) → length xs + 1 < 2 ^ 64 →
+      Watched xs lines old → Watched (x ∷ xs) lines new
+  pub told : new.told ≡ old.told
+
+-- a line tells what no line before told, of all that is counted up to a mark; and all is told now
+pub record TellsLine (mark : ℕ) (old new : Tracked) (line : SourceLine) : Type 0 where
+  pub total : (xs : List Arrival) → length xs ≤ exact_arrivals → Tracks xs old → line.total ≡ counts_of mark xs
+  pub last : (xs : List Arrival) → Tracks xs old → line.last ≡ lasts_of xs
+  pub interval : line.interval ≡ changes_between old.told line.total
+  pub all : new.told ≡ line.total
+  pub keeps : (xs : List Arrival) (lines : List SourceLine) → Watched xs lines old → Watched xs (line ∷ lines) new

@@ -1,0 +1,17 @@
+//! Laws of what is told of sources.
+
+ghost use Rattle.sr_watch.specs.Laws.{EachArrivalIsInOneInterval, LinesTellOfAllThatWasReleased};
+
+use sr_audit::copies_add_up;
+
+/// By whatever turns, of whatever source: all of its lines together are what an audit counts of all its arrivals that were released.
+pub fn lines_tell_of_all_that_was_released()
+    ensures { LinesTellOfAllThatWasReleased }
+{}
+
+/// The copies of an interval are the arrivals that came between its two lines.
+pub fn each_arrival_is_in_one_interval()
+    ensures { EachArrivalIsInOneInterval }
+{
+    copies_add_up();
+}

@@ -1,0 +1,22 @@
+//! Two captures of a redundant network, watched while they grow: what no report has told of each source, and what was told since the start.
+#![tactic(auto)]
+
+mod alarm;
+mod counts;
+mod lan;
+mod laws;
+mod report;
+mod settings;
+mod table;
+mod tracked;
+mod watch;
+
+pub use alarm::{Alarm, LanAlarm, Note, SourceAlarm};
+pub use counts::{Changes, Counts, SideChanges, Spread};
+pub use laws::{each_arrival_is_in_one_interval, lines_tell_of_all_that_was_released};
+pub use report::{Header, LanCounts, Lasts, SourceLine};
+pub use settings::Settings;
+pub use watch::{CameFault, Numbered, Watch};
+
+#[cfg(test)]
+mod tests;

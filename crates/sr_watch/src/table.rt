@@ -1,0 +1,207 @@
+//! The sources of a watch.
+
+ghost use Rattle.std.specs.Prelude.{◌≡◌, ◌++◌, ◌∷◌, [], OnOk};
+
+use crate::report::SourceLine;
+use crate::tracked::Tracked;
+use sr_audit::{Arrival, MAX_SOURCES};
+use sr_frame::{Mac, NoMemory};
+use sr_slots::{Keys, Slots};
+use std::alloc::{AllocError, Global};
+
+/// The sources that have a line, in the order of first hearing. Arrivals of a source beyond the 1024th are counted.
+#[derive(Drop)]
+pub(crate) struct Table {
+    alloc: Global,
+    sources: Slots<Tracked>,
+    left_out: u64,
+}
+
+/// Appends an address.
+fn append(list: &mut Vec<Mac>, src: Mac) -> Result<(), NoMemory>
+    ensures { OnOk result (list.new.items ≡ list.old.items ++ src ∷ []) }
+{
+    match list.push(src) {
+        Ok(()) => Ok(()),
+        Err(refused) => Err(AllocError::from(refused).into()),
+    }
+}
+
+impl Table {
+    ghost use Rattle.std.specs.Prelude.{◌≡◌, ℕ, ◌+◌, ◌^◌, ◌<◌, ◌≤◌, List, [], ◌∷◌, length, true, false, is_some, IfOk, IfSome, IfNone, OnOk, OnErr};
+    ghost use Rattle.std.specs.List.{IsDistinct};
+    ghost use Rattle.std.specs.Map.{lookup, keys_of};
+    ghost use Rattle.sr_frame.specs.declared.fields.Mac.{Mac};
+    ghost use Rattle.sr_frame.specs.Addresses.{mac_eq};
+    ghost use Rattle.sr_audit.specs.Audits.{Sent};
+    ghost use Rattle.sr_audit.specs.Limits.{most_audited};
+    ghost use Rattle.sr_watch.specs.declared.report.SourceLine.{SourceLine};
+    ghost use Rattle.sr_watch.specs.Tracking.{NotesArrival, TellsLine};
+    ghost use Rattle.sr_watch.specs.Watching.{Watches, unwatched_of, CountsUnwatched, TellsOf};
+
+    /// No arrival came.
+    pub fn new(alloc: Global, keys: Keys) -> Table
+        ensures watches { Watches [] [] result.sources.entries }
+        ensures left_out { CountsUnwatched result.sources.entries [] result.left_out }
+        ensures few { length result.sources.entries ≤ most_audited }
+    {
+        Table {
+            alloc,
+            sources: Slots::with_keys(alloc, keys),
+            left_out: 0,
+        }
+    }
+
+    /// Makes an entry for an address, unless it has one. False: there are 1024.
+    fn make_entry(&mut self, src: Mac) -> Result<bool, NoMemory>
+        ensures watches { (xs : List Sent) (lines : List SourceLine)
+            → Watches xs lines self.old.sources.entries
+            → Watches xs lines self.new.sources.entries }
+        ensures made { IfOk result (λ made.
+            made ≡ is_some (lookup (mac_eq src) self.new.sources.entries)) }
+        ensures full { IfOk result (λ made.
+            made ≡ false → most_audited ≤ length self.new.sources.entries) }
+        ensures known { (xs : List Sent) (lines : List SourceLine)
+            → Watches xs lines self.old.sources.entries
+            → unwatched_of self.new.sources.entries xs
+            ≡ unwatched_of self.old.sources.entries xs }
+        ensures left_out { self.new.left_out ≡ self.old.left_out }
+        ensures few { length self.old.sources.entries ≤ most_audited
+            → length self.new.sources.entries ≤ most_audited }
+    {
+        if self.sources.get(src).is_some() {
+            return Ok(true);
+        }
+        if self.sources.len() >= MAX_SOURCES {
+            return Ok(false);
+        }
+        let source = Tracked::new(self.alloc)?;
+        self.sources.append(src, source)?;
+        Ok(true)
+    }
+
+    /// Has the entry of a source take its next arrival. None: it has no entry.
+    fn take_at(&mut self, src: Mac, x: Arrival) -> Option<()>
+        ensures found { is_some result ≡ is_some (lookup (mac_eq src) self.old.sources.entries) }
+        ensures taken { IfSome result (λ _. (xs : List Sent) (lines : List SourceLine)
+            → length xs + 1 < 2 ^ 64 → Watches xs lines self.old.sources.entries
+            → Watches ((src, x) ∷ xs) lines self.new.sources.entries) }
+        ensures none { IfNone result (self.new.sources ≡ self.old.sources) }
+        ensures known { (xs : List Sent) → unwatched_of self.new.sources.entries xs
+            ≡ unwatched_of self.old.sources.entries xs }
+        ensures own { IfSome result (λ _.
+            is_some (lookup (mac_eq src) self.new.sources.entries) ≡ true) }
+        ensures left_out { self.new.left_out ≡ self.old.left_out }
+        ensures len { length self.new.sources.entries ≡ length self.old.sources.entries }
+    {
+        self.sources.update_at(
+            None,
+            src,
+            |source: &mut Tracked| -> ()
+                ensures { NotesArrival x source.old source.new }
+            { source.note(x) },
+        )?;
+        Some(())
+    }
+
+    /// Takes the next arrival of a source that has an entry.
+    fn note_known(&mut self, src: Mac, x: Arrival)
+        requires { is_some (lookup (mac_eq src) self.old.sources.entries) ≡ true }
+        ensures taken { (xs : List Sent) (lines : List SourceLine) → length xs + 1 < 2 ^ 64
+            → Watches xs lines self.old.sources.entries
+            → Watches ((src, x) ∷ xs) lines self.new.sources.entries }
+        ensures known { (xs : List Sent) → unwatched_of self.new.sources.entries xs
+            ≡ unwatched_of self.old.sources.entries xs }
+        ensures own { is_some (lookup (mac_eq src) self.new.sources.entries) ≡ true }
+        ensures left_out { self.new.left_out ≡ self.old.left_out }
+        ensures len { length self.new.sources.entries ≡ length self.old.sources.entries }
+    {
+        self.take_at(src, x).unwrap()
+    }
+
+    /// Takes the next arrival of a source.
+    ///
+    /// # Errors
+    /// `NoMemory` where an allocation failed: no arrival was taken.
+    pub fn note(&mut self, src: Mac, x: Arrival) -> Result<(), NoMemory>
+        ensures taken { OnOk result ((xs : List Sent) (lines : List SourceLine)
+            → length xs + 1 < 2 ^ 64 → Watches xs lines self.old.sources.entries
+            → Watches ((src, x) ∷ xs) lines self.new.sources.entries) }
+        ensures same { OnErr result ((xs : List Sent) (lines : List SourceLine)
+            → Watches xs lines self.old.sources.entries
+            → Watches xs lines self.new.sources.entries) }
+        ensures left_out { OnOk result ((xs : List Sent) (lines : List SourceLine)
+            → Watches xs lines self.old.sources.entries
+            → CountsUnwatched self.old.sources.entries xs self.old.left_out
+            → CountsUnwatched self.new.sources.entries ((src, x) ∷ xs) self.new.left_out) }
+        ensures left_same { OnErr result ((xs : List Sent) (lines : List SourceLine)
+            → Watches xs lines self.old.sources.entries
+            → CountsUnwatched self.old.sources.entries xs self.old.left_out
+            → CountsUnwatched self.new.sources.entries xs self.new.left_out) }
+        ensures few { length self.old.sources.entries ≤ most_audited
+            → length self.new.sources.entries ≤ most_audited }
+    {
+        if self.take_at(src, x).is_some() {
+            return Ok(());
+        }
+        if self.make_entry(src)? {
+            self.note_known(src, x);
+            Ok(())
+        } else {
+            self.left_out = self.left_out.saturating_add(1);
+            Ok(())
+        }
+    }
+
+    /// What no line told of a source, up to a mark. None: it has no entry.
+    pub fn tell(&mut self, src: Mac, mark: u64) -> Option<SourceLine>
+        ensures found { is_some result ≡ is_some (lookup (mac_eq src) self.old.sources.entries) }
+        ensures told { IfSome result (λ line. TellsOf mark src self.old.sources.entries
+            self.new.sources.entries line) }
+        ensures none { IfNone result (self.new.sources ≡ self.old.sources) }
+        ensures known { (xs : List Sent) → unwatched_of self.new.sources.entries xs
+            ≡ unwatched_of self.old.sources.entries xs }
+        ensures left_out { self.new.left_out ≡ self.old.left_out }
+        ensures len { length self.new.sources.entries ≡ length self.old.sources.entries }
+    {
+        let line = self.sources.update_at(
+            None,
+            src,
+            |source: &mut Tracked| -> SourceLine
+                ensures told { TellsLine mark source.old source.new result }
+                ensures source { result.source ≡ src }
+            { source.tell(src, mark) },
+        )?;
+        Some(line)
+    }
+
+    /// The sources that have an entry, in the order of first hearing.
+    ///
+    /// # Errors
+    /// `NoMemory` where the allocation failed.
+    pub fn addresses(&self) -> Result<Vec<Mac>, NoMemory>
+        ensures { IfOk result (λ addresses.
+            addresses.items ≡ keys_of self.now.sources.entries) }
+    {
+        let mut addresses = Vec::with_capacity(self.alloc, self.sources.len())?;
+        for (src, _) in self.sources.iter() {
+            append(&mut addresses, src)?;
+        }
+        Ok(addresses)
+    }
+
+    /// How many sources have an entry.
+    pub fn len(&self) -> usize
+        ensures len { result ≡ length self.now.sources.entries }
+        ensures unique { IsDistinct mac_eq (keys_of self.now.sources.entries) }
+    {
+        self.sources.len()
+    }
+
+    /// How many arrivals were of sources without an entry. The count stays at 2^64 - 1.
+    pub fn left_out(&self) -> u64
+        ensures { result ≡ self.now.left_out }
+    {
+        self.left_out
+    }
+}

@@ -1,0 +1,168 @@
+//! What is kept of a source.
+
+ghost use Rattle.std.specs.Prelude.{◌≡◌};
+ghost use Rattle.sr_audit.specs.Counting.{more_at};
+ghost use Rattle.sr_audit.specs.Faults.{last_class};
+
+use crate::counts::{Counts, Spread};
+use crate::report::{Lasts, SourceLine};
+use sr_audit::{Arrival, Side, Sides, Skews, Source, Span, Spans};
+use sr_frame::{Mac, NoMemory};
+use sr_slots::Ranked;
+use std::alloc::Global;
+
+/// All the time.
+const ALL_TIME: Span = Span {
+    first: 0,
+    last: 18_446_744_073_709_551_615,
+};
+
+/// Both captures run all the time: what comes while the other one does not run is not noted.
+const ALWAYS: Spans = Spans {
+    a: Some(ALL_TIME),
+    b: Some(ALL_TIME),
+};
+
+/// What is kept of a source: what an audit keeps, and what was told of it.
+#[derive(Drop)]
+pub(crate) struct Tracked {
+    pub source: Source,
+    /// Pairs whose copy by a LAN came 400 ms or more behind that by the other.
+    pub late: Sides,
+    /// The skews of the pairs since the last line.
+    pub spread: Option<Spread>,
+    pub last: Lasts,
+    /// What lines have told.
+    pub told: Counts,
+}
+
+impl Ranked for Tracked {
+    ghost rank_of = { λ t. 0 };
+
+    fn rank(&self) -> u64 {
+        0
+    }
+}
+
+/// How many skews are 400 ms or more.
+fn over(skews: &Skews) -> u64
+    ensures { result ≡ last_class skews.now.classes }
+{
+    let [_, _, _, _, _, _, over] = skews.classes;
+    over
+}
+
+/// The counts of late copies with one more by a LAN, where it came late.
+fn late_with(late: Sides, side: Side, is_late: bool) -> Sides
+    ensures { result ≡ more_at late side is_late }
+{
+    Sides {
+        a: late.a.saturating_add(u64::from(side == Side::A && is_late)),
+        b: late.b.saturating_add(u64::from(side == Side::B && is_late)),
+    }
+}
+
+/// The spread of some skews and those that came between two looks, of which there is at most one.
+fn spread_with(spread: Option<Spread>, before: &Skews, after: &Skews) -> Option<Spread> {
+    if after.count == before.count {
+        return spread;
+    }
+    let skew = after.sum.saturating_sub(before.sum);
+    match spread {
+        Some(spread) => Some(Spread {
+            least: spread.least.min(skew),
+            greatest: spread.greatest.max(skew),
+        }),
+        None => Some(Spread {
+            least: skew,
+            greatest: skew,
+        }),
+    }
+}
+
+impl Lasts {
+    ghost use Rattle.sr_watch.specs.Counted.{lasts_with};
+
+    /// No copy came.
+    pub(crate) const NONE: Lasts = Lasts { a: None, b: None };
+
+    /// With a copy that came by a LAN at a time.
+    fn with(self, side: Side, time: u64) -> Lasts
+        ensures { result ≡ lasts_with side time self }
+    {
+        match side {
+            Side::A => Lasts {
+                a: Some(time),
+                ..self
+            },
+            Side::B => Lasts {
+                b: Some(time),
+                ..self
+            },
+        }
+    }
+}
+
+impl Tracked {
+    ghost use Rattle.std.specs.Prelude.{◌≡◌, ◌≤◌, ℕ, List, [], length, IfOk};
+    ghost use Rattle.sr_audit.specs.declared.arrival.Arrival.{Arrival};
+    ghost use Rattle.sr_audit.specs.Limits.{exact_arrivals};
+    ghost use Rattle.sr_audit.specs.Stretches.{stretches, current};
+    ghost use Rattle.sr_audit.specs.Waiting.{waits_of};
+    ghost use Rattle.sr_watch.specs.Counted.{counts_of};
+    ghost use Rattle.sr_watch.specs.Tracking.{Watched, Tracks, NotesArrival, TellsLine};
+
+    /// A source of which nothing came.
+    pub fn new(alloc: Global) -> Result<Tracked, NoMemory>
+        ensures { IfOk result (Watched [] []) }
+    {
+        Ok(Tracked {
+            source: Source::new(alloc)?,
+            late: Sides::NONE,
+            spread: None,
+            last: Lasts::NONE,
+            told: Counts::NONE,
+        })
+    }
+
+    /// Takes the next arrival.
+    pub fn note(&mut self, x: Arrival)
+        ensures { NotesArrival x self.old self.new }
+    {
+        let before = self.source.figures().skews;
+        self.source.note(x, &ALWAYS);
+        let after = self.source.figures().skews;
+        self.late = late_with(self.late, x.side, over(&before) < over(&after));
+        self.spread = spread_with(self.spread, &before, &after);
+        self.last = self.last.with(x.side, x.time);
+    }
+
+    /// All that was counted, where so many frames wait at a mark.
+    fn counts(&self, waits: Sides) -> Counts
+        ensures { (mark : ℕ) (xs : List Arrival) → length xs ≤ exact_arrivals → Tracks xs self.now
+            → waits ≡ waits_of mark (current (stretches xs)) → result ≡ counts_of mark xs }
+    {
+        Counts::of(self.source.figures(), self.late, waits)
+    }
+
+    /// What no line told, up to a mark.
+    pub fn tell(&mut self, source: Mac, mark: u64) -> SourceLine
+        ensures told { TellsLine mark self.old self.new result }
+        ensures source { result.source ≡ source }
+    {
+        let waiting = self.source.waits(mark);
+        let total = self.counts(waiting);
+        let interval = total.since(&self.told);
+        let spread = self.spread;
+        self.told = total;
+        self.spread = None;
+        SourceLine {
+            source,
+            interval,
+            spread,
+            total,
+            waiting,
+            last: self.last,
+        }
+    }
+}

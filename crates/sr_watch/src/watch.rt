@@ -1,0 +1,291 @@
+//! What two captures tell while they grow.
+
+ghost use Rattle.std.specs.Prelude.{◌≡◌};
+ghost use Rattle.std.specs.Option.{option_map};
+ghost use Rattle.sr_watch.specs.Following.{next_as};
+
+use crate::alarm::{Alarm, LanAlarm, SourceAlarm};
+use crate::lan::{Lans, Phase, recorder_of, side_of};
+use crate::report::{Header, LanCounts, SourceLine};
+use crate::settings::Settings;
+use crate::table::Table;
+use sr_audit::{Arrival, Side};
+use sr_frame::{Mac, NoMemory};
+use sr_hold::{Hold, Refused, Released};
+use sr_sequence::Seq;
+use sr_slots::Keys;
+use std::alloc::Global;
+use thiserror::Error;
+
+/// A numbered copy of a frame, as a reader takes it out of a packet.
+#[derive(Clone, Copy, Debug, PartialEq, Eq)]
+pub struct Numbered {
+    /// The source of the frame.
+    pub src: Mac,
+    /// The number that the source gave the frame.
+    pub seq: Seq,
+}
+
+/// Why a copy was not taken.
+#[derive(Clone, Copy, Debug, PartialEq, Eq, Error)]
+pub enum CameFault {
+    /// As many copies of the LAN wait as may: its reader is to wait too, until `advance` has taken some.
+    #[error("as many copies wait as may")]
+    Full,
+    /// An allocation failed.
+    #[error("an allocation failed")]
+    NoMemory,
+}
+
+/// An arrival that was released, and its source.
+#[derive(Clone, Copy, Debug, PartialEq, Eq)]
+pub(crate) struct Next {
+    pub src: Mac,
+    pub arrival: Arrival,
+}
+
+/// What is released, as an arrival of its source at its moment.
+fn next_as(released: Released<Numbered>) -> Next
+    ensures { result ≡ next_as released }
+{
+    Next {
+        src: released.item.src,
+        arrival: Arrival {
+            side: side_of(released.recorder),
+            seq: released.item.seq,
+            time: released.moment,
+        },
+    }
+}
+
+/// That, if something is released.
+fn next_from(released: Option<Released<Numbered>>) -> Option<Next>
+    ensures { result ≡ option_map next_as released }
+{
+    match released {
+        Some(released) => Some(next_as(released)),
+        None => None,
+    }
+}
+
+/// Why a hold refused a copy.
+fn fault_of(refused: Refused<Numbered>) -> CameFault {
+    match refused {
+        Refused::Full(_) => CameFault::Full,
+        Refused::AllocFailed(_) => CameFault::NoMemory,
+    }
+}
+
+/// What two captures tell while they grow.
+///
+/// Of each packet its reader calls `came` or `heard`; `silent` tells that nothing more had come, `begun` and `ended` that a capture begins
+/// or is over. `advance` takes what can be told, and is called behind these. A report is `header`, and `tell` of each of `sources`.
+/// Real time is that of a clock that never goes back, in nanoseconds from whatever moment on; capture time is that of the packets.
+#[derive(Drop)]
+pub struct Watch {
+    hold: Hold<Numbered>,
+    /// What was released and is not noted, since an allocation failed.
+    next: Option<Next>,
+    table: Table,
+    lans: Lans,
+    settings: Settings,
+}
+
+impl Watch {
+    ghost use Rattle.std.specs.Prelude.{◌≡◌, ℕ, ◌≤◌, ◌^◌, ◌<◌, List, [], ◌∷◌, length, true, false, None, is_some, IfOk, IfSome, IfNone, OnOk, OnErr, IfErr};
+    ghost use Rattle.std.specs.Map.{lookup, keys_of};
+    ghost use Rattle.sr_frame.specs.Addresses.{mac_eq};
+    ghost use Rattle.sr_audit.specs.Audits.{Sent};
+    ghost use Rattle.sr_hold.specs.Holding.{next_of};
+    ghost use Rattle.sr_hold.specs.Turns.{Turn, came, heard, silent, ended, begins};
+    ghost use Rattle.sr_watch.specs.declared.report.SourceLine.{SourceLine};
+    ghost use Rattle.sr_watch.specs.declared.watch.Numbered.{Numbered};
+    ghost use Rattle.sr_watch.specs.Running.{recorder_of};
+    ghost use Rattle.sr_watch.specs.Following.{Follows, TakesTurn, Advances, turn_of, left_in, mark_of};
+    ghost use Rattle.sr_watch.specs.Watching.{TellsOf};
+
+    /// Nothing came, and neither capture runs.
+    pub fn new(alloc: Global, keys: Keys, settings: Settings, now: u64) -> Watch
+        ensures { Follows settings.slack now [] [] [] result }
+    {
+        Watch {
+            hold: Hold::new(alloc, settings.slack, now),
+            next: None,
+            table: Table::new(alloc, keys),
+            lans: Lans::AWAITED,
+            settings,
+        }
+    }
+
+    /// Takes a numbered copy of a capture, of this capture time, which was read at this real time.
+    ///
+    /// # Errors
+    /// `Full` where as many copies of the LAN wait as may, `NoMemory` where an allocation failed: nothing changed.
+    pub fn came(&mut self, side: Side, time: u64, now: u64, copy: Numbered) -> Result<(), CameFault>
+        ensures ok { OnOk result (TakesTurn (turn_of side time now copy self.old)
+            self.old self.new) }
+        ensures err { OnErr result (self.new ≡ self.old) }
+    {
+        if self.lans.are_watching(now) {
+            match self.hold.came(recorder_of(side), time, now, copy) {
+                Ok(()) => {}
+                Err(refused) => return Err(fault_of(refused)),
+            }
+            self.lans = self.lans.with(side, self.lans.at(side).heard(time));
+        } else {
+            self.hold.heard(recorder_of(side), time, now);
+            let lan = self.lans.at(side).heard(time).passed();
+            self.lans = self.lans.with(side, lan);
+        }
+        Ok(())
+    }
+
+    /// Another packet of a capture, of this capture time, was read at this real time.
+    pub fn heard(&mut self, side: Side, time: u64, now: u64)
+        ensures { TakesTurn (heard (recorder_of side) time now) self.old self.new }
+    {
+        self.hold.heard(recorder_of(side), time, now);
+        self.lans = self.lans.with(side, self.lans.at(side).heard(time));
+    }
+
+    /// All that had come of a capture by this real time was told.
+    pub fn silent(&mut self, side: Side, now: u64)
+        ensures { TakesTurn (silent (recorder_of side) now) self.old self.new }
+    {
+        self.hold.silent(recorder_of(side), now);
+    }
+
+    /// A capture begins at this real time, for the first time or once more: its file header was read.
+    pub fn begun(&mut self, side: Side, now: u64)
+        ensures { TakesTurn (begins (recorder_of side) now) self.old self.new }
+    {
+        self.hold.begun(recorder_of(side), now);
+        self.lans = self.lans.with(side, self.lans.at(side).begun(now));
+    }
+
+    /// A capture has ended.
+    pub fn ended(&mut self, side: Side)
+        ensures { TakesTurn (ended (recorder_of side)) self.old self.new }
+    {
+        self.hold.ended(recorder_of(side));
+        self.lans = self.lans.with(side, self.lans.at(side).ended());
+    }
+
+    /// Releases the next arrival, unless one waits for memory.
+    fn draw(&mut self)
+        ensures goes { Advances self.old self.new }
+        ensures over { self.new.next ≡ None → next_of self.new.hold ≡ None }
+        ensures left { left_in self.new ≤ left_in self.old }
+    {
+        if self.next.is_none() {
+            self.next = next_from(self.hold.release());
+        }
+    }
+
+    /// Notes the next arrival. False: there is none.
+    fn step(&mut self) -> Result<bool, NoMemory>
+        ensures goes { Advances self.old self.new }
+        ensures next { IfOk result (λ _. self.new.next ≡ None) }
+        ensures over { IfOk result (λ more. more ≡ false → next_of self.new.hold ≡ None) }
+        ensures left { IfOk result (λ more. more ≡ true → left_in self.new < left_in self.old) }
+    {
+        self.draw();
+        match self.next {
+            Some(next) => {
+                self.table.note(next.src, next.arrival)?;
+                self.next = None;
+                Ok(true)
+            }
+            None => Ok(false),
+        }
+    }
+
+    /// Takes all copies up to the mark to their sources.
+    ///
+    /// # Errors
+    /// `NoMemory` where an allocation failed: the next copy was not taken yet, and a later call begins with it.
+    pub fn advance(&mut self) -> Result<(), NoMemory>
+        ensures goes { Advances self.old self.new }
+        ensures next { OnOk result (self.new.next ≡ None) }
+        ensures over { OnOk result (next_of self.new.hold ≡ None) }
+    {
+        loop {
+            if !self.step()? {
+                return Ok(());
+            }
+        }
+    }
+
+    /// Up to when all is told, in nanoseconds of capture time.
+    fn mark(&self) -> u64
+        ensures { result ≡ mark_of self.now }
+    {
+        if self.lans.have_ended() {
+            u64::MAX
+        } else {
+            self.hold.mark()
+        }
+    }
+
+    /// What stands in a report of the capture of a LAN.
+    fn lan_counts(&self, side: Side) -> LanCounts {
+        let lan = self.lans.at(side);
+        let recorder = recorder_of(side);
+        LanCounts {
+            is_running: lan.phase == Phase::Running,
+            last: lan.last,
+            unwatched: lan.unwatched,
+            behind: self.hold.behind(recorder),
+            held: self.hold.waiting(recorder) as u64,
+        }
+    }
+
+    /// What stands at the head of a report.
+    pub fn header(&self) -> Header {
+        Header {
+            mark: self.hold.mark(),
+            a: self.lan_counts(Side::A),
+            b: self.lan_counts(Side::B),
+            sources: self.table.len() as u64,
+            forgotten: 0,
+            left_out: self.table.left_out(),
+        }
+    }
+
+    /// The sources that have a line, in the order of first hearing.
+    ///
+    /// # Errors
+    /// `NoMemory` where the allocation failed.
+    pub fn sources(&self) -> Result<Vec<Mac>, NoMemory>
+        ensures { IfOk result (λ sources.
+            sources.items ≡ keys_of self.now.table.sources.entries) }
+    {
+        self.table.addresses()
+    }
+
+    /// What no line has told of a source, and all since the start. None: it has no line.
+    pub fn tell(&mut self, source: Mac) -> Option<SourceLine>
+        ensures found { is_some result
+            ≡ is_some (lookup (mac_eq source) self.old.table.sources.entries) }
+        ensures told { IfSome result (λ line. TellsOf (mark_of self.old) source
+            self.old.table.sources.entries self.new.table.sources.entries line) }
+        ensures follows { IfSome result (λ line. (slack start : ℕ) (turns : List (Turn Numbered))
+            (xs : List Sent) (lines : List SourceLine) → Follows slack start turns xs lines self.old
+            → Follows slack start turns xs (line ∷ lines) self.new) }
+        ensures none { IfNone result (self.new ≡ self.old) }
+    {
+        let mark = self.mark();
+        let line = self.table.tell(source, mark)?;
+        Some(line)
+    }
+
+    /// Whether an alarm of a source is raised or cleared since the last check. Those of an interval are by the last line of the source.
+    pub fn check_source(&mut self, _source: Mac, _alarm: SourceAlarm) -> Option<Alarm> {
+        None
+    }
+
+    /// Whether an alarm of a capture is raised or cleared since the last check.
+    pub fn check_lan(&mut self, _side: Side, _alarm: LanAlarm) -> Option<Alarm> {
+        None
+    }
+}
