@@ -19,8 +19,6 @@ pub enum OptionFault {
     Tick,
     /// The address of a node is that of a group.
     Group,
-    /// The LAN or the network of an interlink at a role that has none there.
-    Interlink,
     /// A script of no captures.
     NoFiles,
     /// An audit of no captures.
@@ -73,7 +71,6 @@ impl OptionFault {
             OptionFault::To => "to",
             OptionFault::Tick => "tick",
             OptionFault::Group => "mac",
-            OptionFault::Interlink => "interlink",
             OptionFault::NoFiles => "files",
             OptionFault::NoCaptures => "captures",
             OptionFault::Mirror => "mirror",
@@ -107,8 +104,6 @@ impl OptionFault {
             OptionFault::Tick => "--tick takes whole milliseconds, at least 1",
             OptionFault::Group =>
                 "--mac is the address of one node: the first octet of a group's address is odd",
-            OptionFault::Interlink =>
-                "--lan and --net tell of the PRP network at the interlink: they are for --role prp",
             OptionFault::NoFiles => "give a capture at least: --a FILE, --b FILE or --c FILE",
             OptionFault::NoCaptures =>
                 "give a capture at least: --a FILE or --b FILE, or --mirror FILE",

@@ -9,7 +9,6 @@ use crate::fault::OptionFault;
 use crate::node_options::{NodeOptions, node_options_of, with_node_options};
 use crate::refusal::Refused;
 use crate::words::Words;
-use clap::parser::ValueSource;
 use clap::{Arg, ArgAction, ArgMatches, Command};
 use sr_forwarding::{MAX_NET, NetId, RoleKind};
 use sr_frame::Mac;
@@ -121,19 +120,6 @@ fn role_of(node: &ArgMatches<'_>) -> RoleKind {
     }
 }
 
-/// Whether the command line has an option, which may have its default value besides.
-fn is_given(node: &ArgMatches<'_>, option: &str) -> bool {
-    node.value_source(option) == Some(ValueSource::CommandLine)
-}
-
-/// Whether the LAN or the network at an interlink is given to a role whose interlink has none.
-fn has_stray_interlink(node: &ArgMatches<'_>, role: RoleKind) -> bool {
-    match role {
-        RoleKind::Prp { .. } => false,
-        _ => is_given(node, "lan") || is_given(node, "net"),
-    }
-}
-
 /// The address of one node.
 ///
 /// # Errors
@@ -151,18 +137,13 @@ fn node_mac(node: &ArgMatches<'_>) -> Result<Mac, Refused>
 /// The node that a subcommand's options name.
 ///
 /// # Errors
-/// Those of its address, and `Interlink` where the role has no PRP network at its interlink and one is named.
+/// Those of its address.
 pub(crate) fn node_task(node: &ArgMatches<'_>) -> Result<NodeTask, Refused>
     ensures { IfOk result NodeKeepsRules }
 {
-    let mac = node_mac(node)?;
-    let role = role_of(node);
-    if has_stray_interlink(node, role) {
-        return Err(Refused::Option(OptionFault::Interlink));
-    }
     Ok(NodeTask {
-        role,
-        mac,
+        role: role_of(node),
+        mac: node_mac(node)?,
         options: node_options_of(node),
     })
 }
