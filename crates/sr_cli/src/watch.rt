@@ -2,8 +2,9 @@
 
 use crate::meanings::watch_network_of;
 use crate::pipes::Pipe;
+use crate::script::tell_other;
 use sr_advice::{FileFault, FileReason, Unopened, letter_of};
-use sr_capture_script::Inlet;
+use sr_capture_script::{Inlet, ScriptFault};
 use sr_intake::Reading;
 use sr_options::{LineFormat, Paths, WatchTask};
 use sr_pcapng::Wanted;
@@ -120,17 +121,12 @@ impl<R: Eprint> Telling for Teller<'_, R> {
 /// Says what ended a watch early, but where nobody reads any more what is written.
 fn tell_stopped<R: Eprint>(rt: &R, task: &WatchTask<'_>, fault: WatchFault, is_closed: bool) {
     match fault {
-        WatchFault::Write if is_closed => {}
-        WatchFault::Write => {
-            let _ = eprintln!(rt; "fault write");
-        }
+        WatchFault::Write => tell_other(rt, ScriptFault::Write, is_closed),
+        WatchFault::NoMemory => tell_other(rt, ScriptFault::NoMemory, is_closed),
         WatchFault::Metrics => {
             let path = task.metrics.unwrap_or("");
             let _ = eprintln!(rt; "fault write");
             let _ = eprintln!(rt; "{path}: the metrics can't be written");
-        }
-        WatchFault::NoMemory => {
-            let _ = eprintln!(rt; "fault memory");
         }
         WatchFault::Clock => {
             let _ = eprintln!(rt; "fault read");
@@ -163,7 +159,7 @@ pub fn run_watch<
         return Err(RUN_FAILED);
     };
     let Ok(buffered) = BufWriter::new(rt.alloc(), Pipe::new(io::writer(rt))) else {
-        let _ = eprintln!(rt; "fault memory");
+        tell_other(rt, ScriptFault::NoMemory, false);
         return Err(RUN_FAILED);
     };
     let mut writer = buffered;

@@ -80,6 +80,10 @@ abbrev pub ShapeKeepsRules : Shape → Type 0
 ShapeKeepsRules (shape.TwoRings left right joins.Two) = (3 ≤ left.count) × (3 ≤ right.count)
 ShapeKeepsRules other = ⊤
 
+-- reports are 1 to 3600 seconds apart, and recorders keep packets for 300 to 60000 milliseconds at most
+abbrev pub WatchKeepsRules : WatchTask → Type 0
+WatchKeepsRules t = (1 ≤ t.every) × (t.every ≤ 3600) × (300 ≤ t.slack) × (t.slack ≤ 60000)
+
 -- an address of one node, and not of a group
 abbrev pub NamesOneNode : Mac → Type 0
 NamesOneNode mac = slice_index mac.0 0 % 2 ≢ 1
@@ -88,17 +92,13 @@ NamesOneNode mac = slice_index mac.0 0 % 2 ≢ 1
 abbrev pub NodeKeepsRules : NodeTask → Type 0
 NodeKeepsRules t = NamesOneNode t.mac
 
--- reports are 1 to 3600 seconds apart, and recorders keep packets for 300 to 60000 milliseconds at most
-abbrev pub WatchKeepsRules : WatchTask → Type 0
-WatchKeepsRules t = (1 ≤ t.every) × (t.every ≤ 3600) × (300 ≤ t.slack) × (t.slack ≤ 60000)
-
 -- a task keeps the rules that its options keep together
 abbrev pub KeepsRules : Task → Type 0
 KeepsRules (task.Script t) = ScriptKeepsRules t
 KeepsRules (task.Audit t) = AuditKeepsRules t
 KeepsRules (task.Plant t) = ShapeKeepsRules t.shape
+KeepsRules (task.Watch t) = WatchKeepsRules t
 KeepsRules (task.Replay t) = NodeKeepsRules t
 KeepsRules (task.Status t) = NodeKeepsRules t
 KeepsRules (task.Tally t) = NodeKeepsRules t
-KeepsRules (task.Watch t) = WatchKeepsRules t
 KeepsRules other = ⊤

@@ -3,3 +3,4 @@ pub mod ToldLemmas
 pub mod TableLemmas
 pub mod FollowLemmas
 pub mod LawLemmas
+pub mod AlarmLemmas

@@ -173,6 +173,20 @@ tells_of mark src entries line was is source found tells =
     first : (lines : List SourceLine) → lines_of src (line ∷ lines) ≡ line ∷ lines_of src lines
     first lines = ap (λ b. cond b (line ∷ lines_of src lines) (lines_of src lines)) (ap (mac_eq src) source ∙ mac_refl src)
 
+-- an entry that changed in nothing that was noted or told
+pub watches_kept : (xs : List Sent) (lines : List SourceLine) (entries : List (Mac × Tracked)) (src : Mac) (was is : Tracked) →
+    lookup (mac_eq src) entries ≡ Some was → ((ys : List Arrival) (ls : List SourceLine) → Watched ys ls was → Watched ys ls is) →
+    Watches xs lines entries → Watches xs lines (set_value (mac_eq src) entries is)
+watches_kept xs lines entries src was is found keeps watches =
+    record {
+      each = λ m. rw (lookup-set src m is entries (ap is_some found), length-set_value (mac_eq src) entries is) (by m (mac_eq src m) refl);
+    }
+  where
+    by : (m : Mac) (t : Bool) → mac_eq src m ≡ t →
+        IsWatchedFor (length entries) (of m xs) (lines_of m lines) (cond t (Some is) (lookup (mac_eq m) entries))
+    by m true same = keeps (of m xs) (lines_of m lines) (own_of xs lines entries m src was (sym (mac_same src m same)) found watches)
+    by m false other = watches.each m
+
 -- the entry that was made is there
 pub made_is : (entries : List (Mac × Tracked)) (src : Mac) (s : Tracked) → lookup (mac_eq src) entries ≡ None →
     true ≡ is_some (lookup (mac_eq src) (entries ++ (src, s) ∷ []))

@@ -5,4 +5,5 @@ pub mod Tracking
 pub mod Watching
 pub mod Running
 pub mod Following
+pub mod Alarms
 pub mod Laws

@@ -1,11 +1,16 @@
 -- What is kept of a source.
-use Rattle.std.specs.Prelude.{◌≡◌, ℕ, ◌+◌, ◌^◌, ◌<◌, ◌≤◌, List, ◌∷◌, length}
+use Rattle.std.specs.Prelude.{◌≡◌, ℕ, ◌+◌, ◌^◌, ◌<◌, ◌≤◌, List, ◌∷◌, length, Option}
 use Rattle.sr_audit.specs.declared.arrival.Arrival.{Arrival}
 use Rattle.sr_audit.specs.Limits.{exact_arrivals}
 use Rattle.sr_audit.specs.Stretches.{stretches}
 use Rattle.sr_audit.specs.Taken.{HasTaken}
+use Rattle.sr_watch.specs.declared.alarm.Alarm.{Alarm}
+use Rattle.sr_watch.specs.declared.alarm.SourceAlarm.{SourceAlarm}
+use Rattle.sr_watch.specs.declared.alarm.SourceAlarm.TheVariants.{LanLostA, LanLostB, Silent}
 use Rattle.sr_watch.specs.declared.report.SourceLine.{SourceLine}
+use Rattle.sr_watch.specs.declared.settings.Settings.{Settings}
 use Rattle.sr_watch.specs.declared.tracked.Tracked.{Tracked}
+use Rattle.sr_watch.specs.Alarms.{alarm_between, raised_with, raised_at, with_raised, oldest_of, lan_lost, is_silent}
 use Rattle.sr_watch.specs.Changed.{changes_between, total_of, HasTold}
 use Rattle.sr_watch.specs.Counted.{always, counts_of, lasts_of}
 use Rattle.sr_watch.specs.Late.{lates_of}
@@ -14,6 +19,7 @@ use Rattle.sr_watch.specs.Late.{lates_of}
 pub record Tracks (xs : List Arrival) (t : Tracked) : Type 0 where
   pub taken : HasTaken always xs t.source
   pub late : length xs ≤ exact_arrivals → t.late ≡ lates_of (stretches xs)
+  pub first : t.first ≡ oldest_of xs
   pub last : t.last ≡ lasts_of xs
 
 -- these arrivals were noted, and these lines told of them, newest first
@@ -35,3 +41,13 @@ pub record TellsLine (mark : ℕ) (old new : Tracked) (line : SourceLine) : Type
   pub interval : line.interval ≡ changes_between old.told line.total
   pub all : new.told ≡ line.total
   pub keeps : (xs : List Arrival) (lines : List SourceLine) → Watched xs lines old → Watched xs (line ∷ lines) new
+
+-- an alarm was checked: it holds since then, or not; the check tells what changed since the last one, and nothing else changed
+pub record ChecksAlarm (alarm : SourceAlarm) (mark : ℕ) (settings : Settings) (old new : Tracked) (told : Option Alarm) : Type 0 where
+  pub since : Option ℕ
+  pub lan_lost_a : alarm ≡ LanLostA → since ≡ lan_lost settings.alone_for old.first old.last.a old.last.b
+  pub lan_lost_b : alarm ≡ LanLostB → since ≡ lan_lost settings.alone_for old.first old.last.b old.last.a
+  pub silent : alarm ≡ Silent → since ≡ is_silent settings.silent_for mark old.last
+  pub told_is : told ≡ alarm_between (raised_at alarm old.raised) since
+  pub raised : new.raised ≡ with_raised alarm (raised_with (raised_at alarm old.raised) since) old.raised
+  pub keeps : (xs : List Arrival) (lines : List SourceLine) → Watched xs lines old → Watched xs lines new

@@ -1,16 +1,19 @@
 -- What is kept of many sources.
 use Rattle.std.specs.Prelude.{◌≡◌, ℕ, ◌-◌, ◌^◌, ◌≤◌, ◌⊎◌, min, not, List, [], ◌∷◌, length, Option, Some, None, is_some, count_by, if◌then◌else◌}
-use Rattle.std.specs.Map.{lookup}
+use Rattle.std.specs.Map.{lookup, set_value}
 use Rattle.sr_frame.specs.declared.fields.Mac.{Mac}
 use Rattle.sr_frame.specs.Addresses.{mac_eq}
 use Rattle.sr_audit.specs.declared.arrival.Arrival.{Arrival}
 use Rattle.sr_audit.specs.Audits.{Sent, of}
 use Rattle.sr_audit.specs.Limits.{most_audited, exact_arrivals}
+use Rattle.sr_watch.specs.declared.alarm.Alarm.{Alarm}
+use Rattle.sr_watch.specs.declared.alarm.SourceAlarm.{SourceAlarm}
 use Rattle.sr_watch.specs.declared.report.SourceLine.{SourceLine}
+use Rattle.sr_watch.specs.declared.settings.Settings.{Settings}
 use Rattle.sr_watch.specs.declared.tracked.Tracked.{Tracked}
 use Rattle.sr_watch.specs.Changed.{changes_between, sum_of, total_of, whole}
 use Rattle.sr_watch.specs.Counted.{counts_of, lasts_of}
-use Rattle.sr_watch.specs.Tracking.{Watched}
+use Rattle.sr_watch.specs.Tracking.{Watched, ChecksAlarm}
 
 -- the lines of one source, newest first
 abbrev pub lines_of : Mac → List SourceLine → List SourceLine
@@ -46,3 +49,12 @@ pub record TellsOf (mark : ℕ) (src : Mac) (old new : List (Mac × Tracked)) (l
   pub together : (xs : List Sent) (lines : List SourceLine) → length (of src xs) ≤ exact_arrivals → Watches xs lines old →
       sum_of (lines_of src (line ∷ lines)) ≡ whole (counts_of mark (of src xs))
   pub keeps : (xs : List Sent) (lines : List SourceLine) → Watches xs lines old → Watches xs (line ∷ lines) new
+
+-- an alarm of a source was checked
+pub record ChecksOf (alarm : SourceAlarm) (mark : ℕ) (settings : Settings) (src : Mac) (old new : List (Mac × Tracked)) (told : Option Alarm) : Type 0 where
+  pub was : Tracked
+  pub is : Tracked
+  pub found : lookup (mac_eq src) old ≡ Some was
+  pub checks : ChecksAlarm alarm mark settings was is told
+  pub written : new ≡ set_value (mac_eq src) old is
+  pub keeps : (xs : List Sent) (lines : List SourceLine) → Watches xs lines old → Watches xs lines new

@@ -77,6 +77,28 @@ pub struct Changes {
     pub skew_sum: i128,
 }
 
+impl Changes {
+    /// Nothing changed.
+    pub const NONE: Changes = Changes {
+        rx: SideChanges::NONE,
+        both: 0,
+        lost: SideChanges::NONE,
+        late: SideChanges::NONE,
+        repeats: SideChanges::NONE,
+        order: SideChanges::NONE,
+        neither: 0,
+        jumps: 0,
+        restarts: 0,
+        pairs: 0,
+        skew_sum: 0,
+    };
+}
+
+impl SideChanges {
+    /// Neither changed.
+    pub const NONE: SideChanges = SideChanges { a: 0, b: 0 };
+}
+
 /// What was not told of a count.
 fn change(told: u64, all: u64) -> i128
     ensures { result ≡ change told all }

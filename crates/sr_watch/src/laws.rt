@@ -1,5 +1,6 @@
 //! Laws of what is told of sources.
 
+ghost use Rattle.sr_watch.specs.Alarms.{AlarmsAreToldOnce};
 ghost use Rattle.sr_watch.specs.Laws.{EachArrivalIsInOneInterval, LinesTellOfAllThatWasReleased};
 
 use sr_audit::copies_add_up;
@@ -15,3 +16,8 @@ pub fn each_arrival_is_in_one_interval()
 {
     copies_add_up();
 }
+
+/// Of whatever checks of an alarm: each time that it begins to hold is told once, and each end of it once; and it is raised just where it holds.
+pub fn alarms_are_told_once()
+    ensures { AlarmsAreToldOnce }
+{}

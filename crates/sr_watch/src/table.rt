@@ -2,7 +2,9 @@
 
 ghost use Rattle.std.specs.Prelude.{◌≡◌, ◌++◌, ◌∷◌, [], OnOk};
 
+use crate::alarm::{Alarm, SourceAlarm};
 use crate::report::SourceLine;
+use crate::settings::Settings;
 use crate::tracked::Tracked;
 use sr_audit::{Arrival, MAX_SOURCES};
 use sr_frame::{Mac, NoMemory};
@@ -28,7 +30,7 @@ fn append(list: &mut Vec<Mac>, src: Mac) -> Result<(), NoMemory>
 }
 
 impl Table {
-    ghost use Rattle.std.specs.Prelude.{◌≡◌, ℕ, ◌+◌, ◌^◌, ◌<◌, ◌≤◌, List, [], ◌∷◌, length, true, false, is_some, IfOk, IfSome, IfNone, OnOk, OnErr};
+    ghost use Rattle.std.specs.Prelude.{◌≡◌, ℕ, ◌+◌, ◌^◌, ◌<◌, ◌≤◌, List, [], ◌∷◌, length, true, false, None, is_some, IfOk, IfSome, IfNone, OnOk, OnErr};
     ghost use Rattle.std.specs.List.{IsDistinct};
     ghost use Rattle.std.specs.Map.{lookup, keys_of};
     ghost use Rattle.sr_frame.specs.declared.fields.Mac.{Mac};
@@ -36,8 +38,8 @@ impl Table {
     ghost use Rattle.sr_audit.specs.Audits.{Sent};
     ghost use Rattle.sr_audit.specs.Limits.{most_audited};
     ghost use Rattle.sr_watch.specs.declared.report.SourceLine.{SourceLine};
-    ghost use Rattle.sr_watch.specs.Tracking.{NotesArrival, TellsLine};
-    ghost use Rattle.sr_watch.specs.Watching.{Watches, unwatched_of, CountsUnwatched, TellsOf};
+    ghost use Rattle.sr_watch.specs.Tracking.{NotesArrival, TellsLine, ChecksAlarm};
+    ghost use Rattle.sr_watch.specs.Watching.{Watches, unwatched_of, CountsUnwatched, TellsOf, ChecksOf};
 
     /// No arrival came.
     pub fn new(alloc: Global, keys: Keys) -> Table
@@ -173,6 +175,36 @@ impl Table {
             { source.tell(src, mark) },
         )?;
         Some(line)
+    }
+
+    /// Whether an alarm of a source is raised or cleared since the last check. None: it is not, or the source has no entry.
+    pub fn check(
+        &mut self,
+        src: Mac,
+        alarm: SourceAlarm,
+        mark: u64,
+        settings: Settings,
+    ) -> Option<Alarm>
+        ensures checks { is_some (lookup (mac_eq src) self.old.sources.entries) ≡ true
+            → ChecksOf alarm mark settings src self.old.sources.entries
+            self.new.sources.entries result }
+        ensures none { is_some (lookup (mac_eq src) self.old.sources.entries) ≡ false
+            → (result ≡ None) × (self.new.sources ≡ self.old.sources) }
+        ensures watches { (xs : List Sent) (lines : List SourceLine)
+            → Watches xs lines self.old.sources.entries
+            → Watches xs lines self.new.sources.entries }
+        ensures known { (xs : List Sent) → unwatched_of self.new.sources.entries xs
+            ≡ unwatched_of self.old.sources.entries xs }
+        ensures left_out { self.new.left_out ≡ self.old.left_out }
+    {
+        let told = self.sources.update_at(
+            None,
+            src,
+            |source: &mut Tracked| -> Option<Alarm>
+                ensures { ChecksAlarm alarm mark settings source.old source.new result }
+            { source.check(alarm, mark, &settings) },
+        )?;
+        told
     }
 
     /// The sources that have an entry, in the order of first hearing.

@@ -3,9 +3,15 @@
 ghost use Rattle.std.specs.Prelude.{◌≡◌};
 ghost use Rattle.sr_audit.specs.Counting.{more_at};
 ghost use Rattle.sr_audit.specs.Faults.{last_class};
+ghost use Rattle.sr_watch.specs.Alarms.{oldest_with, lan_lost, is_silent};
 
-use crate::counts::{Counts, Spread};
+use crate::alarm::{
+    Alarm, RaisedSince, SourceAlarm, alarm_between, is_lossy, is_silent, is_skewed, lan_lost,
+    raised_with, since_if,
+};
+use crate::counts::{Changes, Counts, Spread};
 use crate::report::{Lasts, SourceLine};
+use crate::settings::Settings;
 use sr_audit::{Arrival, Side, Sides, Skews, Source, Span, Spans};
 use sr_frame::{Mac, NoMemory};
 use sr_slots::Ranked;
@@ -31,9 +37,18 @@ pub(crate) struct Tracked {
     pub late: Sides,
     /// The skews of the pairs since the last line.
     pub spread: Option<Spread>,
+    /// When its first copy came.
+    pub first: Option<u64>,
     pub last: Lasts,
     /// What lines have told.
     pub told: Counts,
+    /// What the last line told.
+    pub shown: Changes,
+    /// The skews of which it told.
+    pub shown_spread: Option<Spread>,
+    /// Up to when it told.
+    pub shown_at: u64,
+    pub raised: RaisedSince,
 }
 
 impl Ranked for Tracked {
@@ -80,6 +95,16 @@ fn spread_with(spread: Option<Spread>, before: &Skews, after: &Skews) -> Option<
     }
 }
 
+/// When the first copy of a source came, where another one comes.
+fn oldest_with(time: u64, first: Option<u64>) -> Option<u64>
+    ensures { result ≡ oldest_with time first }
+{
+    match first {
+        Some(first) => Some(first),
+        None => Some(time),
+    }
+}
+
 impl Lasts {
     ghost use Rattle.sr_watch.specs.Counted.{lasts_with};
 
@@ -110,7 +135,7 @@ impl Tracked {
     ghost use Rattle.sr_audit.specs.Stretches.{stretches, current};
     ghost use Rattle.sr_audit.specs.Waiting.{waits_of};
     ghost use Rattle.sr_watch.specs.Counted.{counts_of};
-    ghost use Rattle.sr_watch.specs.Tracking.{Watched, Tracks, NotesArrival, TellsLine};
+    ghost use Rattle.sr_watch.specs.Tracking.{Watched, Tracks, NotesArrival, TellsLine, ChecksAlarm};
 
     /// A source of which nothing came.
     pub fn new(alloc: Global) -> Result<Tracked, NoMemory>
@@ -120,8 +145,13 @@ impl Tracked {
             source: Source::new(alloc)?,
             late: Sides::NONE,
             spread: None,
+            first: None,
             last: Lasts::NONE,
             told: Counts::NONE,
+            shown: Changes::NONE,
+            shown_spread: None,
+            shown_at: 0,
+            raised: RaisedSince::NONE,
         })
     }
 
@@ -134,6 +164,7 @@ impl Tracked {
         let after = self.source.figures().skews;
         self.late = late_with(self.late, x.side, over(&before) < over(&after));
         self.spread = spread_with(self.spread, &before, &after);
+        self.first = oldest_with(x.time, self.first);
         self.last = self.last.with(x.side, x.time);
     }
 
@@ -156,6 +187,9 @@ impl Tracked {
         let spread = self.spread;
         self.told = total;
         self.spread = None;
+        self.shown = interval;
+        self.shown_spread = spread;
+        self.shown_at = mark;
         SourceLine {
             source,
             interval,
@@ -164,5 +198,44 @@ impl Tracked {
             waiting,
             last: self.last,
         }
+    }
+
+    /// Since when an alarm holds, at a mark. None: it does not.
+    fn holds(&self, alarm: SourceAlarm, mark: u64, settings: &Settings) -> Option<u64>
+        ensures lan_lost_a { alarm ≡ SourceAlarm.LanLostA → result
+            ≡ lan_lost settings.now.alone_for self.now.first self.now.last.a self.now.last.b }
+        ensures lan_lost_b { alarm ≡ SourceAlarm.LanLostB → result
+            ≡ lan_lost settings.now.alone_for self.now.first self.now.last.b self.now.last.a }
+        ensures silent { alarm ≡ SourceAlarm.Silent → result
+            ≡ is_silent settings.now.silent_for mark self.now.last }
+    {
+        let (a, b) = (self.last.a, self.last.b);
+        match alarm {
+            SourceAlarm::LanLostA => lan_lost(settings.alone_for, self.first, a, b),
+            SourceAlarm::LanLostB => lan_lost(settings.alone_for, self.first, b, a),
+            SourceAlarm::Silent => is_silent(settings.silent_for, mark, self.last),
+            SourceAlarm::Skew => since_if(
+                is_skewed(settings.skew_over, self.shown_spread),
+                self.shown_at,
+            ),
+            SourceAlarm::LostA => since_if(
+                is_lossy(settings.lost_over, self.shown.lost.a, &self.shown),
+                self.shown_at,
+            ),
+            SourceAlarm::LostB => since_if(
+                is_lossy(settings.lost_over, self.shown.lost.b, &self.shown),
+                self.shown_at,
+            ),
+        }
+    }
+
+    /// Whether an alarm is raised or cleared since the last check.
+    pub fn check(&mut self, alarm: SourceAlarm, mark: u64, settings: &Settings) -> Option<Alarm>
+        ensures { ChecksAlarm alarm mark settings.now self.old self.new result }
+    {
+        let holds = self.holds(alarm, mark, settings);
+        let raised = self.raised.at(alarm);
+        self.raised = self.raised.with(alarm, raised_with(raised, holds));
+        alarm_between(raised, holds)
     }
 }

@@ -102,7 +102,7 @@ impl Watch {
     ghost use Rattle.sr_watch.specs.declared.watch.Numbered.{Numbered};
     ghost use Rattle.sr_watch.specs.Running.{recorder_of};
     ghost use Rattle.sr_watch.specs.Following.{Follows, TakesTurn, Advances, turn_of, left_in, mark_of};
-    ghost use Rattle.sr_watch.specs.Watching.{TellsOf};
+    ghost use Rattle.sr_watch.specs.Watching.{TellsOf, ChecksOf};
 
     /// Nothing came, and neither capture runs.
     pub fn new(alloc: Global, keys: Keys, settings: Settings, now: u64) -> Watch
@@ -280,8 +280,18 @@ impl Watch {
     }
 
     /// Whether an alarm of a source is raised or cleared since the last check. Those of an interval are by the last line of the source.
-    pub fn check_source(&mut self, _source: Mac, _alarm: SourceAlarm) -> Option<Alarm> {
-        None
+    pub fn check_source(&mut self, source: Mac, alarm: SourceAlarm) -> Option<Alarm>
+        ensures checks { is_some (lookup (mac_eq source) self.old.table.sources.entries) ≡ true
+            → ChecksOf alarm self.old.hold.progress.mark.time self.old.settings source
+            self.old.table.sources.entries self.new.table.sources.entries result }
+        ensures none { is_some (lookup (mac_eq source) self.old.table.sources.entries) ≡ false
+            → result ≡ None }
+        ensures follows { (slack start : ℕ) (turns : List (Turn Numbered)) (xs : List Sent)
+            (lines : List SourceLine) → Follows slack start turns xs lines self.old
+            → Follows slack start turns xs lines self.new }
+    {
+        let mark = self.hold.mark();
+        self.table.check(source, alarm, mark, self.settings)
     }
 
     /// Whether an alarm of a capture is raised or cleared since the last check.

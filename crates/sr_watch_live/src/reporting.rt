@@ -253,7 +253,7 @@ impl<'a> Reporter<'a> {
         self.check_sources(watch, at, writer)
     }
 
-    /// Makes a report and checks alarms, where these are due. At the end of a watch both are.
+    /// Makes a report and checks alarms, where these are due. At the end of a watch both are, if a capture has begun.
     pub(crate) fn turn<R: AllocGlobal + Files + Clock, W: Write>(
         &mut self,
         rt: &R,
@@ -262,6 +262,9 @@ impl<'a> Reporter<'a> {
         is_last: bool,
         writer: &mut W,
     ) -> Result<(), WatchFault> {
+        if is_last && !live.has_begun() {
+            return Ok(());
+        }
         if is_last || now >= self.due {
             self.report(rt, live, now, writer)?;
             self.due = next_due(self.due, self.every, now);

@@ -3,6 +3,7 @@ use Rattle.std.specs.Prelude.{nat_lt}
 use Rattle.sr_audit.specs.Counting.{more_at}
 use Rattle.sr_audit.specs.Faults.{last_class}
 use Rattle.sr_audit.specs.Limits.{exact_arrivals}
+use Rattle.sr_watch.specs.Alarms.{oldest_with}
 use Rattle.sr_watch.specs.Counted.{always, lasts_with}
 use Rattle.sr_watch.proofs.LateLemmas.{lates_after, lasts_after}
 use Rattle.sr_watch.proofs.tracked.Tracked.note.Goals as goal
@@ -24,6 +25,7 @@ returns c =
                   let few : c.over-2.result ≤ 18446744073709551615 = omega arith in
                   c.late_with-self.ensures ∙ (λ i. more_at (late i) x.side (nat_lt (old i) (new i)))
                   ∙ lates_after xs x (subst (λ n. n ≤ 18446744073709551615) new few);
+              first = c.oldest_with-self.ensures ∙ ap (oldest_with x.time) watched.tracks.first;
               last = c.with-self.ensures ∙ ap (lasts_with x.side x.time) watched.tracks.last ∙ lasts_after x xs;
             };
             told = λ exact. watched.told (omega (arith, exact));

@@ -13,7 +13,7 @@ returns-clause-told c =
       interval = c.since-interval.ensures;
       all = refl;
       keeps = λ xs lines watched. record {
-        tracks = record { taken = watched.tracks.taken; late = watched.tracks.late; last = watched.tracks.last };
+        tracks = record { taken = watched.tracks.taken; late = watched.tracks.late; first = watched.tracks.first; last = watched.tracks.last };
         told = λ few. told_more lines _ c.args.self.now.told (watched.told few)
             (subst IsSmall (sym (c.counts-total.ensures mark xs few watched.tracks (c.waits-waiting.ensures always xs watched.tracks.taken)))
             (small_of mark xs few (watched.tracks.taken.skews few).small))
