@@ -94,6 +94,8 @@ def audited(program, network, paths):
             found[line["source"]]["alone_b"] += line["single_b"]
         elif line["line"] == "unseen":
             found[line["source"]]["neither"] += line["numbers"]
+    # An audit has a line too for a node that supervision alone names, of which no copy came.
+    found = {mac: own for mac, own in found.items() if own["rx_a"] or own["rx_b"]}
     if any(isinstance(source, RedBox) for source in network.sources):
         for own in found.values():
             for name in ("neither", "jumps", "restarts"):

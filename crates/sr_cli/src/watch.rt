@@ -128,6 +128,9 @@ fn tell_stopped<R: Eprint>(rt: &R, task: &WatchTask<'_>, fault: WatchFault, is_c
             let _ = eprintln!(rt; "fault write");
             let _ = eprintln!(rt; "{path}: the metrics can't be written");
         }
+        WatchFault::Thread => {
+            let _ = eprintln!(rt; "fault thread");
+        }
         WatchFault::Clock => {
             let _ = eprintln!(rt; "fault read");
             let _ = eprintln!(rt; "the clock can't be read");

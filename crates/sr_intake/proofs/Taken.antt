@@ -1,5 +1,5 @@
 -- One packet is packets.
-use Rattle.std.proofs.Common.{◌≡◌, ℕ, List, [], ◌∷◌, sym, refl}
+use Rattle.std.proofs.Common.{ℕ, List, [], ◌∷◌, sym, refl}
 use Rattle.std.proofs.lemmas.List.{append-nil}
 use Rattle.sr_capture.specs.declared.header.Form.{Form}
 use Rattle.sr_capture.specs.Records.{Captured, IsRecord, AreRecords}

@@ -5,22 +5,26 @@ use Rattle.sr_intake.specs.declared.kind.Kind.{Kind}
 use Rattle.sr_intake.specs.declared.kind.Kind.TheVariants as kind
 
 -- a count with one more
-abbrev pub one_more : ℕ → ℕ
-one_more count = min (count + 1) (2 ^ 64 - 1)
+abbrev pub count_more : ℕ → ℕ
+count_more count = min (count + 1) (2 ^ 64 - 1)
 
 -- a count with one more, where something is so
-abbrev pub more_if : Bool → ℕ → ℕ
-more_if true count = one_more count
-more_if false count = count
+abbrev pub count_more_if : Bool → ℕ → ℕ
+count_more_if true count = count_more count
+count_more_if false count = count
 
 -- the counts with one packet more
-abbrev pub with_kind : Kind → PacketCounts → PacketCounts
-with_kind (kind.Numbered n) c = record c { packets = one_more c.packets; numbered = one_more c.numbered; wrong_lan = more_if n.is_astray c.wrong_lan }
-with_kind kind.Plain c = record c { packets = one_more c.packets; plain = one_more c.plain }
-with_kind kind.Misfit c = record c { packets = one_more c.packets; misfit = one_more c.misfit }
-with_kind kind.Cut c = record c { packets = one_more c.packets; cut = one_more c.cut }
-with_kind kind.Long c = record c { packets = one_more c.packets; long = one_more c.long }
-with_kind kind.Empty c = record c { packets = one_more c.packets; empty = one_more c.empty }
+abbrev pub counted_with : Kind → PacketCounts → PacketCounts
+counted_with (kind.Numbered n) c = record c {
+  packets = count_more c.packets;
+  numbered = count_more c.numbered;
+  wrong_lan = count_more_if n.is_astray c.wrong_lan;
+}
+counted_with kind.Plain c = record c { packets = count_more c.packets; plain = count_more c.plain }
+counted_with kind.Misfit c = record c { packets = count_more c.packets; misfit = count_more c.misfit }
+counted_with kind.Cut c = record c { packets = count_more c.packets; cut = count_more c.cut }
+counted_with kind.Long c = record c { packets = count_more c.packets; long = count_more c.long }
+counted_with kind.Empty c = record c { packets = count_more c.packets; empty = count_more c.empty }
 
 -- how many more they are than earlier ones
 abbrev pub changed : PacketCounts → PacketCounts → PacketCounts

@@ -1,9 +1,7 @@
 -- A capture whose packets are taken one by one.
-use Rattle.std.specs.Prelude.{◌≡◌, ℕ, ◌+◌, ◌-◌, ◌^◌, min, List, [], ◌∷◌, length, Option, Bool, true, false}
+use Rattle.std.specs.Prelude.{◌≡◌, ℕ, ◌+◌, ◌-◌, ◌^◌, min, List, Option, Bool}
 use Rattle.sr_capture.specs.declared.fault.CaptureFault.{CaptureFault}
-use Rattle.sr_capture.specs.Taking.{Loses, LeavesNone}
-use Rattle.sr_capture.specs.Records.{Captured, Shows}
-use Rattle.sr_intake.specs.Formats.{front_len, AreTaken, Takes, IsNoNext, TakesFront, HasNoFront}
+use Rattle.sr_intake.specs.Formats.{front_len, Takes, IsNoNext, TakesFront, HasNoFront}
 use Rattle.sr_intake.specs.declared.capture.Intake.{Intake}
 use Rattle.sr_intake.specs.declared.front.Reading.{Reading}
 
@@ -16,11 +14,11 @@ abbrev pub HasNoFrontOf : {R : Type 0} → (R → Option (List ℕ)) → R → C
 HasNoFrontOf {R = R} remaining reader fault = (left : R) × HasNoFront fault (remaining reader) (remaining left)
 
 -- the next packet was taken, of so many octets; or there is none, and nothing is left
-abbrev pub GoesOn : {R : Type 0} → (R → Option (List ℕ)) → Bool → Intake R → Intake R → Type 0
-GoesOn remaining more old new = Takes more old.format new.format new.packet (remaining old.reader) (remaining new.reader)
+abbrev pub GoesOnBy : {R : Type 0} → (R → Option (List ℕ)) → Bool → Intake R → Intake R → Type 0
+GoesOnBy remaining more old new = Takes more old.format new.format new.packet (remaining old.reader) (remaining new.reader)
     × (new.place ≡ min (old.place + new.packet.size) (2 ^ 64 - 1))
 
 -- why there is no next packet, at the octet of the capture
-abbrev pub IsStuck : {R : Type 0} → (R → Option (List ℕ)) → CaptureFault → Intake R → Intake R → Type 0
-IsStuck remaining fault old new = (own : CaptureFault) × IsNoNext old.format own (remaining old.reader) (remaining new.reader)
+abbrev pub HasNoPacket : {R : Type 0} → (R → Option (List ℕ)) → CaptureFault → Intake R → Intake R → Type 0
+HasNoPacket remaining fault old new = (own : CaptureFault) × IsNoNext old.format own (remaining old.reader) (remaining new.reader)
     × (fault.reason ≡ own.reason) × (fault.at ≡ min (old.place + own.at) (2 ^ 64 - 1))

@@ -17,9 +17,9 @@ use Rattle.sr_intake.specs.declared.kind.Network.TheVariants as network
 use Rattle.sr_intake.specs.declared.kind.Numbered.{Numbered}
 
 -- how frames have their numbers in a LAN
-abbrev pub lan_framing : Network → Lan → FramingImage
-lan_framing network.Prp lan = Trailed lan 0
-lan_framing network.Hsr lan = Tagged 0
+abbrev pub capture_framing : Network → Lan → FramingImage
+capture_framing network.Prp lan = Trailed lan 0
+capture_framing network.Hsr lan = Tagged 0
 
 -- what a parcel with a number says
 pub record IsNumberedAs (p : ParcelImage) (n : Numbered) : Type 0 where
@@ -43,8 +43,8 @@ IsParcelKind p octets kind.Empty = ⊥
 -- what octets are: a frame as it is read in the LAN; what is read as none there counts as one without a number
 abbrev pub IsOctetsKind : Network → Lan → List ℕ → Kind → Type 0
 IsOctetsKind network lan octets k =
-    ((p : ParcelImage) × IsRead (lan_framing network lan) octets p × IsParcelKind p octets k)
-    ⊎ ((fault : ReadFault) × IsUnread (lan_framing network lan) octets fault × (k ≡ kind.Plain))
+    ((p : ParcelImage) × IsRead (capture_framing network lan) octets p × IsParcelKind p octets k)
+    ⊎ ((fault : ReadFault) × IsUnread (capture_framing network lan) octets fault × (k ≡ kind.Plain))
 
 -- all of a packet is there, and it is neither empty nor longer than a frame
 pub record IsFit (packet : Captured) : Type 0 where

@@ -2,7 +2,7 @@
 
 ghost use Rattle.std.specs.Prelude.{◌≡◌, IfOk, IfErr};
 ghost use Rattle.sr_intake.specs.Intakes.{HasNoFrontOf};
-ghost use Rattle.sr_intake.specs.Intakes.{IsBegun, GoesOn, IsStuck};
+ghost use Rattle.sr_intake.specs.Intakes.{IsBegun, GoesOnBy, HasNoPacket};
 
 use crate::format::{Format, front_len, take_next};
 use crate::front::{Reading, take_front};
@@ -24,7 +24,7 @@ pub struct Intake<R> {
 impl<R: BufRead + Drop> Intake<R> {
     ghost use Rattle.std.specs.Prelude.{◌≡◌, IfOk, IfErr};
     ghost use Rattle.sr_intake.specs.Intakes.{HasNoFrontOf};
-    ghost use Rattle.sr_intake.specs.Intakes.{IsBegun, GoesOn, IsStuck};
+    ghost use Rattle.sr_intake.specs.Intakes.{IsBegun, GoesOnBy, HasNoPacket};
 
     /// Reads the front of a capture.
     ///
@@ -51,8 +51,8 @@ impl<R: BufRead + Drop> Intake<R> {
     /// # Errors
     /// Why there is none, at the octet of the capture.
     pub fn advance(&mut self) -> Result<bool, CaptureFault>
-        ensures taken { IfOk result (λ more. GoesOn R.remaining more self.old self.new) }
-        ensures fault { IfErr result (λ fault. IsStuck R.remaining fault self.old self.new) }
+        ensures taken { IfOk result (λ more. GoesOnBy R.remaining more self.old self.new) }
+        ensures fault { IfErr result (λ fault. HasNoPacket R.remaining fault self.old self.new) }
     {
         match take_next(
             &mut self.reader,

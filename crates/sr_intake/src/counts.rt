@@ -1,7 +1,7 @@
 //! How many packets of each kind came.
 
 ghost use Rattle.std.specs.Prelude.{◌≡◌};
-ghost use Rattle.sr_intake.specs.Counting.{one_more, with_kind, changed};
+ghost use Rattle.sr_intake.specs.Counting.{count_more, counted_with, changed};
 
 use crate::kind::Kind;
 
@@ -28,14 +28,14 @@ pub struct PacketCounts {
 
 /// A count with one more.
 fn more(count: &mut u64)
-    ensures { count.new ≡ one_more count.old }
+    ensures { count.new ≡ count_more count.old }
 {
     *count = count.saturating_add(1);
 }
 
 impl PacketCounts {
     ghost use Rattle.std.specs.Prelude.{◌≡◌};
-    ghost use Rattle.sr_intake.specs.Counting.{with_kind, changed};
+    ghost use Rattle.sr_intake.specs.Counting.{counted_with, changed};
 
     /// No packet came.
     pub const NONE: PacketCounts = PacketCounts {
@@ -51,7 +51,7 @@ impl PacketCounts {
 
     /// Counts a packet.
     pub fn note(&mut self, kind: Kind)
-        ensures { self.new ≡ with_kind kind self.old }
+        ensures { self.new ≡ counted_with kind self.old }
     {
         more(&mut self.packets);
         match kind {

@@ -3,7 +3,7 @@
 ghost use Rattle.std.specs.Prelude.{◌≡◌, None, IfOk, IfErr, IfSome, IfNone};
 ghost use Rattle.sr_capture.specs.Records.{Captured, Shows};
 ghost use Rattle.sr_forwarding.specs.Decoding.{IsRead, IsUnread};
-ghost use Rattle.sr_intake.specs.Kinds.{lan_framing, IsNumberedAs, ends_as_trailer, IsParcelKind, IsOctetsKind, IsKind};
+ghost use Rattle.sr_intake.specs.Kinds.{capture_framing, IsNumberedAs, ends_as_trailer, IsParcelKind, IsOctetsKind, IsKind};
 
 use sr_capture::{Extent, MAX_KEPT, Packet};
 use sr_forwarding::{Framing, HsrFraming, ParcelView, PrpFraming, ReadFault};
@@ -63,8 +63,8 @@ fn number_in(parcel: &ParcelView<'_>) -> Option<Numbered>
 
 /// What the framing of a LAN answers to octets.
 fn read_at<'a>(network: Network, lan: Lan, octets: &'a [u8]) -> Result<ParcelView<'a>, ReadFault>
-    ensures ok { IfOk result (λ p. IsRead (lan_framing network lan) octets.now p) }
-    ensures err { IfErr result (λ e. IsUnread (lan_framing network lan) octets.now e) }
+    ensures ok { IfOk result (λ p. IsRead (capture_framing network lan) octets.now p) }
+    ensures err { IfErr result (λ e. IsUnread (capture_framing network lan) octets.now e) }
 {
     match network {
         Network::Prp => PrpFraming { lan, net: 0 }.read(octets),

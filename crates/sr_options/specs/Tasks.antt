@@ -2,6 +2,7 @@
 use Rattle.std.specs.Prelude.{◌≡◌, ◌≢◌, ℕ, ◌+◌, ◌%◌, ◌^◌, ◌≤◌, ℤ, slice_index, Bool, true, false, Option, Some, None, ⊤, ◌⊎◌}
 use Rattle.sr_frame.specs.declared.fields.Mac.{Mac}
 use Rattle.sr_capture_script.specs.declared.choice.Delays.{Delays}
+use Rattle.sr_options.specs.Limits.{most_every, least_slack, most_slack}
 use Rattle.sr_options.specs.Shifts.{others_longer, AreSetBack, AreSetBackTooFar}
 use Rattle.sr_options.specs.declared.audit_line.AuditTask.{AuditTask}
 use Rattle.sr_options.specs.declared.audit_line.Format.{Format}
@@ -80,9 +81,9 @@ abbrev pub ShapeKeepsRules : Shape → Type 0
 ShapeKeepsRules (shape.TwoRings left right joins.Two) = (3 ≤ left.count) × (3 ≤ right.count)
 ShapeKeepsRules other = ⊤
 
--- reports are 1 to 3600 seconds apart, and recorders keep packets for 300 to 60000 milliseconds at most
+-- reports are a second apart at least, and what recorders may keep is within bounds
 abbrev pub WatchKeepsRules : WatchTask → Type 0
-WatchKeepsRules t = (1 ≤ t.every) × (t.every ≤ 3600) × (300 ≤ t.slack) × (t.slack ≤ 60000)
+WatchKeepsRules t = (1 ≤ t.every) × (t.every ≤ most_every) × (least_slack ≤ t.slack) × (t.slack ≤ most_slack)
 
 -- an address of one node, and not of a group
 abbrev pub NamesOneNode : Mac → Type 0

@@ -159,7 +159,9 @@ pub(crate) fn audit_command<'a>(
     let whole = Arg::new(alloc, "whole")
         .long("whole")
         .action(ArgAction::SetTrue)
-        .help("Both recorders ran all the time: a LAN that brings nothing any more lost what the other one brings");
+        .help(
+            "Both recorders ran all the time: a LAN that brings nothing any more lost what the other one brings",
+        );
     with_arg(with_arg(with_arg(command, check), complete), whole)
 }
 

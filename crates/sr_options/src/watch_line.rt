@@ -20,6 +20,15 @@ use sr_capture_script::{Delays, Interfaces};
 use sr_pcapng::Wanted;
 use std::alloc::{AllocError, Global};
 
+/// How far reports are apart at most, in seconds.
+const MOST_EVERY: u64 = 3600;
+
+/// For how many milliseconds a recorder keeps packets at least (choice of this project).
+const LEAST_SLACK: u64 = 300;
+
+/// For how many milliseconds it keeps them at most.
+const MOST_SLACK: u64 = 60_000;
+
 /// The most seconds of an option.
 const MOST_SECONDS: u64 = 1_000_000_000;
 
@@ -207,8 +216,14 @@ pub(crate) fn watch_task<'a>(
     let a = capture_of(matches, words, "a", "--a")?;
     let b = capture_of(matches, words, "b", "--b")?;
     let delays = delays_in(shift_a_of(matches)?, shift_b_of(matches)?, 0);
-    let every = number_from(matches, "every", 1, 3600, OptionFault::Every)?;
-    let slack = number_from(matches, "slack", 300, 60_000, OptionFault::Slack)?;
+    let every = number_from(matches, "every", 1, MOST_EVERY, OptionFault::Every)?;
+    let slack = number_from(
+        matches,
+        "slack",
+        LEAST_SLACK,
+        MOST_SLACK,
+        OptionFault::Slack,
+    )?;
     Ok(WatchTask {
         a: a.paths,
         b: b.paths,

@@ -1,7 +1,7 @@
 -- Alarms are told once.
 use Rattle.std.proofs.Common.{◌≡◌, ℕ, ◌+◌, List, [], ◌∷◌, Option, None, Some, is_some, arith, refl}
 use Rattle.sr_watch.specs.declared.alarm.Note.TheVariants.{Raised, Cleared}
-use Rattle.sr_watch.specs.Alarms.{alarm_between, raised_with, raised_by, has_note, told_with, one_if_some, IsToldOnce, AlarmsAreToldOnce}
+use Rattle.sr_watch.specs.Alarms.{alarm_between, raised_with, raised_by, has_note, told_with, one_if_some, AlarmsAreToldOnce}
 
 -- one check more
 more : (raised holds : Option ℕ) (n m : ℕ) → n ≡ m + one_if_some raised →

@@ -1,5 +1,5 @@
 -- What a watch keeps, with one call more.
-use Rattle.std.proofs.Common.{◌≡◌, ℕ, suc, ◌+◌, ◌<◌, ◌≤◌, List, [], ◌∷◌, ◌++◌, length, drop, Option, None, Some, Bool, true, false, is_some, arith, refl, sym, ap, ◌∙◌, subst}
+use Rattle.std.proofs.Common.{◌≡◌, suc, ◌+◌, ◌<◌, ◌≤◌, List, [], ◌∷◌, ◌++◌, length, drop, Option, None, Some, arith, refl, sym, ap, ◌∙◌}
 use Rattle.std.specs.Prelude.{◌^◌, option_to_list}
 use Rattle.std.specs.Option.{option_map}
 use Rattle.sr_audit.specs.Audits.{Sent}
@@ -8,14 +8,14 @@ use Rattle.sr_hold.specs.declared.recorder.Recorder.{Recorder}
 use Rattle.sr_hold.specs.declared.recorder.Recorder.TheVariants.{A, B}
 use Rattle.sr_hold.specs.declared.hold.Held.{Held}
 use Rattle.sr_hold.specs.Order.{front_released}
-use Rattle.sr_hold.specs.Holding.{due_in as due_in_hold, Holding, line_of, with_line, next_by, next_of, without_by, without_next}
-use Rattle.sr_hold.specs.Turns.{Turn, release, state_after, released_in}
+use Rattle.sr_hold.specs.Holding.{due_in as due_in_hold, Holding, next_by, next_of, without_by, without_next}
+use Rattle.sr_hold.specs.Turns.{released_in}
 use Rattle.sr_watch.specs.declared.report.SourceLine.{SourceLine}
 use Rattle.sr_watch.specs.declared.table.Table.{Table}
 use Rattle.sr_watch.specs.declared.watch.Next.{Next}
 use Rattle.sr_watch.specs.declared.watch.Numbered.{Numbered}
 use Rattle.sr_watch.specs.declared.watch.Watch.{Watch}
-use Rattle.sr_watch.specs.Following.{next_as, sent_as, newest_first, sent_in, due_in, Follows, with_releases, Goes, Advances}
+use Rattle.sr_watch.specs.Following.{next_as, sent_as, newest_first, due_in, with_releases, Advances}
 use Rattle.sr_watch.specs.Watching.{Watches, CountsUnwatched}
 
 -- one released more is the newest

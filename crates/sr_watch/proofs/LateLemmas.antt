@@ -1,6 +1,6 @@
 -- Which copies came late, with one arrival more.
-use Rattle.std.proofs.Common.{◌≡◌, ℕ, ◌+◌, ◌<◌, ◌≤◌, Bool, true, false, cond, ◌&&◌, List, [], ◌∷◌, ◌++◌, length, min, arith, Option, Some, refl, sym, ap, ◌∙◌, subst, inl, inr}
-use Rattle.std.specs.Prelude.{sum_by, count_by, nat_lt, nat_eq, unsigned_abs, ℤ}
+use Rattle.std.proofs.Common.{◌≡◌, ℕ, ◌+◌, ◌≤◌, Bool, true, false, cond, ◌&&◌, List, [], ◌∷◌, ◌++◌, min, arith, Some, refl, sym, ap, ◌∙◌, inl, inr}
+use Rattle.std.specs.Prelude.{sum_by, nat_lt, ℤ}
 use Rattle.std.proofs.lemmas.Bool.{cases_Bool, lt-ltb, le-ltb}
 use Rattle.std.proofs.lemmas.List.Sums.{sum_by-cons, sum_by-append}
 use Rattle.sr_audit.specs.declared.arrival.Arrival.{Arrival}
@@ -9,8 +9,8 @@ use Rattle.sr_audit.specs.declared.side.Side.TheVariants.{A, B}
 use Rattle.sr_audit.specs.declared.tally.Sides.{Sides}
 use Rattle.sr_audit.specs.Counting.{more_at}
 use Rattle.sr_audit.specs.Edges.{first_time}
-use Rattle.sr_audit.specs.Skewing.{pairs_up, skew_by, skews_in, skews_of, class_of, count_in}
-use Rattle.sr_audit.specs.Stretches.{Placed, same_side, copy_as, goes_on, gone_on, lies_from, top_number, stretch_begun, with_arrival, stretches}
+use Rattle.sr_audit.specs.Skewing.{pairs_up, skew_by, skews_in, skews_of, count_in}
+use Rattle.sr_audit.specs.Stretches.{Placed, same_side, copy_as, goes_on, lies_from, top_number, stretch_begun, with_arrival, stretches}
 use Rattle.sr_sequence.specs.Places.{number_at}
 use Rattle.sr_watch.specs.Counted.{newest_at, lasts_of, lasts_with}
 use Rattle.sr_watch.specs.Late.{is_over, late_in, lates_of}

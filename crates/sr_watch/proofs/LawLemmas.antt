@@ -1,8 +1,7 @@
 -- Laws of what is told of sources.
-use Rattle.std.proofs.Common.{◌≡◌, ℕ, ◌+◌, ◌≤◌, ◌<◌, List, [], ◌∷◌, ◌++◌, length, None, Option, ℤ, pos, arith, refl, sym, ap, ◌∙◌, subst, length-append}
-use Rattle.std.specs.Prelude.{◌^◌, ◌+ℤ◌, ◌-ℤ◌}
+use Rattle.std.proofs.Common.{◌≡◌, ℕ, ◌+◌, ◌≤◌, ◌<◌, List, ◌++◌, length, None, Option, pos, arith, ap, ◌∙◌, subst, length-append}
+use Rattle.std.specs.Prelude.{◌^◌, ◌+ℤ◌}
 use Rattle.std.proofs.lemmas.Int.{ints}
-use Rattle.sr_audit.specs.declared.arrival.Arrival.{Arrival}
 use Rattle.sr_audit.specs.Audits.{Sent, of}
 use Rattle.sr_audit.specs.Laws.{CopiesAddUp}
 use Rattle.sr_audit.specs.Limits.{exact_arrivals}

@@ -4,3 +4,4 @@ pub mod TableLemmas
 pub mod FollowLemmas
 pub mod LawLemmas
 pub mod AlarmLemmas
+pub mod WorkedLemmas

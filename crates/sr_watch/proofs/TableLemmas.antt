@@ -39,11 +39,10 @@ use Rattle.sr_frame.specs.AddressLemmas.{mac_same, mac_symm, mac_refl}
 use Rattle.sr_slots.specs.EntryLemmas.{lookup-set, lookup-push}
 use Rattle.sr_audit.specs.declared.arrival.Arrival.{Arrival}
 use Rattle.sr_audit.specs.Audits.{Sent, of}
-use Rattle.sr_audit.specs.Limits.{most_audited, exact_arrivals}
+use Rattle.sr_audit.specs.Limits.{most_audited}
 use Rattle.sr_watch.specs.declared.report.SourceLine.{SourceLine}
 use Rattle.sr_watch.specs.declared.tracked.Tracked.{Tracked}
 use Rattle.sr_watch.specs.Changed.{changes_between, sum_of, whole}
-use Rattle.sr_watch.specs.Counted.{counts_of, lasts_of}
 use Rattle.sr_watch.specs.Tracking.{Watched, TellsLine}
 use Rattle.sr_watch.specs.Watching.{lines_of, IsWatchedFor, Watches, unwatched_of, CountsUnwatched, TellsOf}
 

@@ -1,5 +1,5 @@
 -- What lines told together, with one line more.
-use Rattle.std.proofs.Common.{◌≡◌, ℕ, ◌+◌, ◌*◌, ◌≤◌, ◌<◌, ◌^◌, List, [], ◌∷◌, length, ℤ, pos, negsuc, min, arith, refl, sym, ap, ◌∙◌, subst, inl, inr, length-append}
+use Rattle.std.proofs.Common.{◌≡◌, ℕ, ◌+◌, ◌*◌, ◌≤◌, ◌<◌, ◌^◌, List, [], ◌∷◌, length, ℤ, pos, negsuc, min, arith, refl, ap, ◌∙◌, inl, inr, length-append}
 use Rattle.std.specs.Prelude.{sum_by, unsigned_abs, ◌+ℤ◌, ◌-ℤ◌, ◌-◌}
 use Rattle.std.specs.Int.{w128, saturate_signed}
 use Rattle.std.proofs.lemmas.Bool.{cases_Bool}
@@ -11,12 +11,9 @@ use Rattle.sr_audit.specs.Limits.{exact_arrivals}
 use Rattle.sr_audit.specs.Skewing.{pairs_up, skews_in, skews_of, sum_of_skews}
 use Rattle.sr_audit.specs.Stretches.{Placed, goes_on, gone_on, stretch_begun, with_arrival, stretches}
 use Rattle.sr_watch.specs.declared.counts.Counts.{Counts}
-use Rattle.sr_watch.specs.declared.counts.SideChanges.{SideChanges}
 use Rattle.sr_watch.specs.declared.report.SourceLine.{SourceLine}
-use Rattle.sr_watch.specs.declared.tracked.Tracked.{Tracked}
-use Rattle.sr_watch.specs.Changed.{change, side_changes, changes_between, side_plus, plus, side_whole, whole, sum_of, IsSmall, HasTold}
+use Rattle.sr_watch.specs.Changed.{change, side_changes, changes_between, side_plus, plus, side_whole, whole, IsSmall, HasTold}
 use Rattle.sr_watch.specs.Counted.{counts_of}
-use Rattle.sr_watch.specs.Tracking.{Tracks, Watched}
 
 -- no more skews than arrivals
 stands : (xs : List Arrival) → sum_by length (stretches xs) ≡ length xs

@@ -1,5 +1,5 @@
 -- When alarms are raised, and when they are cleared.
-use Rattle.std.specs.Prelude.{◌≡◌, ℕ, ◌+◌, ◌-◌, nat_lt, Bool, true, false, not, ◌&&◌, List, [], ◌∷◌, Option, None, Some, is_some, max, ℤ, pos, ◌-ℤ◌, ◌*ℤ◌, int_lt, if◌then◌else◌}
+use Rattle.std.specs.Prelude.{◌≡◌, ℕ, ◌+◌, ◌-◌, nat_lt, Bool, true, false, List, [], ◌∷◌, Option, None, Some, is_some, max, if◌then◌else◌}
 use Rattle.sr_audit.specs.declared.arrival.Arrival.{Arrival}
 use Rattle.sr_watch.specs.declared.alarm.Alarm.{Alarm}
 use Rattle.sr_watch.specs.declared.alarm.Note.{Note}

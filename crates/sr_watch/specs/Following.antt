@@ -3,13 +3,18 @@ use Rattle.std.specs.Prelude.{◌≡◌, ℕ, zero, suc, ◌^◌, ◌<◌, List,
 use Rattle.sr_audit.specs.declared.side.Side.{Side}
 use Rattle.sr_audit.specs.Audits.{Sent}
 use Rattle.sr_hold.specs.declared.hold.Released.{Released}
-use Rattle.sr_hold.specs.Holding.{Holding}
+use Rattle.sr_hold.specs.Holding.{line_of}
+use Rattle.sr_hold.specs.Pacing.{pace_of}
 use Rattle.sr_hold.specs.Turns.{Turn, came, heard, release, state_after, released_in}
+use Rattle.sr_watch.specs.declared.alarm.Alarm.{Alarm}
+use Rattle.sr_watch.specs.declared.alarm.LanAlarm.{LanAlarm}
 use Rattle.sr_watch.specs.declared.report.SourceLine.{SourceLine}
 use Rattle.sr_watch.specs.declared.watch.Next.{Next}
 use Rattle.sr_watch.specs.declared.watch.Numbered.{Numbered}
 use Rattle.sr_watch.specs.declared.watch.Watch.{Watch}
-use Rattle.sr_watch.specs.Running.{is_watching, has_ended, recorder_of, side_of}
+use Rattle.sr_watch.specs.Alarms.{alarm_between, raised_with, since_if}
+use Rattle.sr_watch.specs.LanAlarms.{lan_raised_at, lan_holds, lan_checked, last_or}
+use Rattle.sr_watch.specs.Running.{is_watching, has_ended, lan_at, with_lan, recorder_of, side_of}
 use Rattle.sr_watch.specs.Watching.{Watches, CountsUnwatched}
 
 -- what is released, as an arrival of its source at its moment
@@ -80,3 +85,19 @@ mark_if over mark = if over then 18446744073709551615 else mark
 
 abbrev pub mark_of : Watch → ℕ
 mark_of w = mark_if (has_ended w.lans) w.hold.progress.mark.time
+
+-- since when an alarm of a capture holds, if it does
+abbrev pub lan_since : Side → LanAlarm → Watch → Option ℕ
+lan_since side alarm w =
+    let lan = lan_at side w.lans in
+    let r = recorder_of side in
+    since_if (lan_holds alarm w.settings.alone_for w.lans.clock (pace_of r w.hold.progress).behind (length (line_of r w.hold)) lan)
+    (last_or w.hold.progress.mark.time lan.last)
+
+-- an alarm of a capture was checked: the check tells what changed since the last one, and nothing else changed
+pub record ChecksLan (side : Side) (alarm : LanAlarm) (old new : Watch) (told : Option Alarm) : Type 0 where
+  pub told_is : told ≡ alarm_between (lan_raised_at alarm (lan_at side old.lans).raised) (lan_since side alarm old)
+  pub lans : new.lans ≡ with_lan side (lan_checked alarm (raised_with (lan_raised_at alarm (lan_at side old.lans).raised)
+      (lan_since side alarm old)) (pace_of (recorder_of side) old.hold.progress).behind (lan_at side old.lans)) old.lans
+  pub follows : (slack start : ℕ) (turns : List (Turn Numbered)) (xs : List Sent) (lines : List SourceLine) →
+      Follows slack start turns xs lines old → Follows slack start turns xs lines new

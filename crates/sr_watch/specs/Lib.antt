@@ -4,6 +4,8 @@ pub mod Changed
 pub mod Tracking
 pub mod Watching
 pub mod Running
+pub mod LanAlarms
 pub mod Following
 pub mod Alarms
+pub mod Worked
 pub mod Laws

@@ -1,10 +1,12 @@
 //! The captures of both LANs.
 
 ghost use Rattle.std.specs.Prelude.{◌≡◌};
+ghost use Rattle.sr_watch.specs.LanAlarms.{lan_raised_at, with_lan_raised, lan_holds, lan_checked, last_or};
 ghost use Rattle.sr_watch.specs.Running.{runs_at, is_watching, has_ended, lan_at, with_lan, recorder_of, side_of};
 
+use crate::alarm::LanAlarm;
 use sr_audit::Side;
-use sr_hold::Recorder;
+use sr_hold::{LINE_ROOM, Recorder};
 
 /// For how long a capture that begins once more counts as one that does not run, in nanoseconds: as long as a copy may come late (choice of
 /// this project).
@@ -29,8 +31,13 @@ pub(crate) struct Lan {
     pub from: u64,
     /// The capture time of its last packet, in nanoseconds.
     pub last: Option<u64>,
+    /// When its last packet came, or it began, in real time in nanoseconds.
+    pub heard: u64,
     /// Copies that came while the other capture did not run.
     pub unwatched: u64,
+    /// How many copies behind the mark a check has told of.
+    pub told_behind: u64,
+    pub raised: LanRaisedSince,
 }
 
 impl Lan {
@@ -39,7 +46,10 @@ impl Lan {
         phase: Phase::Awaited,
         from: 0,
         last: None,
+        heard: 0,
         unwatched: 0,
+        told_behind: 0,
+        raised: LanRaisedSince::NONE,
     };
 
     /// Whether it counts as running at a real time.
@@ -59,6 +69,7 @@ impl Lan {
         Lan {
             phase: Phase::Running,
             from,
+            heard: now,
             ..self
         }
     }
@@ -71,10 +82,40 @@ impl Lan {
         }
     }
 
-    /// A packet of it came.
-    pub fn heard(self, time: u64) -> Lan {
+    /// A packet of it came, of this capture time, at this real time.
+    pub fn heard(self, time: u64, now: u64) -> Lan {
         Lan {
             last: Some(time),
+            heard: now,
+            ..self
+        }
+    }
+
+    /// Whether an alarm of it holds, where so many of its copies were behind the mark and so many wait.
+    pub fn holds(&self, alarm: LanAlarm, alone_for: u64, now: u64, behind: u64, held: usize) -> bool
+        ensures { result ≡ lan_holds alarm alone_for now behind held self.now }
+    {
+        match alarm {
+            LanAlarm::LanSilent => {
+                self.phase == Phase::Running && alone_for < now.saturating_sub(self.heard)
+            }
+            LanAlarm::CaptureEnded => self.phase == Phase::Ended,
+            LanAlarm::Behind => self.told_behind < behind,
+            LanAlarm::Full => LINE_ROOM <= held,
+        }
+    }
+
+    /// An alarm of it was checked, which is raised since then, or not.
+    pub fn checked(self, alarm: LanAlarm, since: Option<u64>, behind: u64) -> Lan
+        ensures { result ≡ lan_checked alarm since behind self }
+    {
+        let told_behind = match alarm {
+            LanAlarm::Behind => behind,
+            _ => self.told_behind,
+        };
+        Lan {
+            told_behind,
+            raised: self.raised.with(alarm, since),
             ..self
         }
     }
@@ -88,11 +129,57 @@ impl Lan {
     }
 }
 
+/// Since when each alarm of a capture is raised, in nanoseconds of capture time. None: it is not.
+#[derive(Clone, Copy, Debug, PartialEq, Eq)]
+pub(crate) struct LanRaisedSince {
+    pub silent: Option<u64>,
+    pub ended: Option<u64>,
+    pub behind: Option<u64>,
+    pub full: Option<u64>,
+}
+
+impl LanRaisedSince {
+    /// None is raised.
+    pub const NONE: LanRaisedSince = LanRaisedSince {
+        silent: None,
+        ended: None,
+        behind: None,
+        full: None,
+    };
+
+    /// Since when an alarm is raised.
+    pub fn at(&self, alarm: LanAlarm) -> Option<u64>
+        ensures { result ≡ lan_raised_at alarm self.now }
+    {
+        match alarm {
+            LanAlarm::LanSilent => self.silent,
+            LanAlarm::CaptureEnded => self.ended,
+            LanAlarm::Behind => self.behind,
+            LanAlarm::Full => self.full,
+        }
+    }
+
+    /// With an alarm that is raised since then, or not.
+    pub fn with(mut self, alarm: LanAlarm, since: Option<u64>) -> LanRaisedSince
+        ensures { result ≡ with_lan_raised alarm since self }
+    {
+        match alarm {
+            LanAlarm::LanSilent => self.silent = since,
+            LanAlarm::CaptureEnded => self.ended = since,
+            LanAlarm::Behind => self.behind = since,
+            LanAlarm::Full => self.full = since,
+        }
+        self
+    }
+}
+
 /// The captures of both LANs.
 #[derive(Clone, Copy, Debug, PartialEq, Eq)]
 pub(crate) struct Lans {
     pub a: Lan,
     pub b: Lan,
+    /// The newest real time that was told, in nanoseconds.
+    pub clock: u64,
 }
 
 impl Lans {
@@ -100,6 +187,7 @@ impl Lans {
     pub const AWAITED: Lans = Lans {
         a: Lan::AWAITED,
         b: Lan::AWAITED,
+        clock: 0,
     };
 
     /// That of a LAN.
@@ -120,6 +208,11 @@ impl Lans {
             Side::A => Lans { a: lan, ..self },
             Side::B => Lans { b: lan, ..self },
         }
+    }
+
+    /// This real time was told.
+    pub fn at_time(self, clock: u64) -> Lans {
+        Lans { clock, ..self }
     }
 
     /// Whether both count as running at a real time: a copy that comes then is watched.
@@ -154,5 +247,15 @@ pub(crate) fn side_of(recorder: Recorder) -> Side
     match recorder {
         Recorder::A => Side::A,
         Recorder::B => Side::B,
+    }
+}
+
+/// The capture time of the last packet, or the mark where none came.
+pub(crate) fn last_or(mark: u64, last: Option<u64>) -> u64
+    ensures { result ≡ last_or mark last }
+{
+    match last {
+        Some(last) => last,
+        None => mark,
     }
 }

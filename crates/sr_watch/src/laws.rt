@@ -2,6 +2,7 @@
 
 ghost use Rattle.sr_watch.specs.Alarms.{AlarmsAreToldOnce};
 ghost use Rattle.sr_watch.specs.Laws.{EachArrivalIsInOneInterval, LinesTellOfAllThatWasReleased};
+ghost use Rattle.sr_watch.specs.Worked.{WorkedSourceIsTold};
 
 use sr_audit::copies_add_up;
 
@@ -20,4 +21,9 @@ pub fn each_arrival_is_in_one_interval()
 /// Of whatever checks of an alarm: each time that it begins to hold is told once, and each end of it once; and it is raised just where it holds.
 pub fn alarms_are_told_once()
     ensures { AlarmsAreToldOnce }
+{}
+
+/// The counts of a source worked out: before and behind the time when a frame is called lost, and with a copy that came late after all.
+pub fn a_worked_source_is_told()
+    ensures { WorkedSourceIsTold }
 {}

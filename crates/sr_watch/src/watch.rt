@@ -4,8 +4,8 @@ ghost use Rattle.std.specs.Prelude.{◌≡◌};
 ghost use Rattle.std.specs.Option.{option_map};
 ghost use Rattle.sr_watch.specs.Following.{next_as};
 
-use crate::alarm::{Alarm, LanAlarm, SourceAlarm};
-use crate::lan::{Lans, Phase, recorder_of, side_of};
+use crate::alarm::{Alarm, LanAlarm, SourceAlarm, alarm_between, raised_with, since_if};
+use crate::lan::{Lans, Phase, last_or, recorder_of, side_of};
 use crate::report::{Header, LanCounts, SourceLine};
 use crate::settings::Settings;
 use crate::table::Table;
@@ -101,7 +101,7 @@ impl Watch {
     ghost use Rattle.sr_watch.specs.declared.report.SourceLine.{SourceLine};
     ghost use Rattle.sr_watch.specs.declared.watch.Numbered.{Numbered};
     ghost use Rattle.sr_watch.specs.Running.{recorder_of};
-    ghost use Rattle.sr_watch.specs.Following.{Follows, TakesTurn, Advances, turn_of, left_in, mark_of};
+    ghost use Rattle.sr_watch.specs.Following.{Follows, TakesTurn, Advances, ChecksLan, turn_of, left_in, mark_of};
     ghost use Rattle.sr_watch.specs.Watching.{TellsOf, ChecksOf};
 
     /// Nothing came, and neither capture runs.
@@ -131,11 +131,14 @@ impl Watch {
                 Ok(()) => {}
                 Err(refused) => return Err(fault_of(refused)),
             }
-            self.lans = self.lans.with(side, self.lans.at(side).heard(time));
+            self.lans = self
+                .lans
+                .with(side, self.lans.at(side).heard(time, now))
+                .at_time(now);
         } else {
             self.hold.heard(recorder_of(side), time, now);
-            let lan = self.lans.at(side).heard(time).passed();
-            self.lans = self.lans.with(side, lan);
+            let lan = self.lans.at(side).heard(time, now).passed();
+            self.lans = self.lans.with(side, lan).at_time(now);
         }
         Ok(())
     }
@@ -145,7 +148,10 @@ impl Watch {
         ensures { TakesTurn (heard (recorder_of side) time now) self.old self.new }
     {
         self.hold.heard(recorder_of(side), time, now);
-        self.lans = self.lans.with(side, self.lans.at(side).heard(time));
+        self.lans = self
+            .lans
+            .with(side, self.lans.at(side).heard(time, now))
+            .at_time(now);
     }
 
     /// All that had come of a capture by this real time was told.
@@ -153,6 +159,7 @@ impl Watch {
         ensures { TakesTurn (silent (recorder_of side) now) self.old self.new }
     {
         self.hold.silent(recorder_of(side), now);
+        self.lans = self.lans.at_time(now);
     }
 
     /// A capture begins at this real time, for the first time or once more: its file header was read.
@@ -160,7 +167,10 @@ impl Watch {
         ensures { TakesTurn (begins (recorder_of side) now) self.old self.new }
     {
         self.hold.begun(recorder_of(side), now);
-        self.lans = self.lans.with(side, self.lans.at(side).begun(now));
+        self.lans = self
+            .lans
+            .with(side, self.lans.at(side).begun(now))
+            .at_time(now);
     }
 
     /// A capture has ended.
@@ -295,7 +305,22 @@ impl Watch {
     }
 
     /// Whether an alarm of a capture is raised or cleared since the last check.
-    pub fn check_lan(&mut self, _side: Side, _alarm: LanAlarm) -> Option<Alarm> {
-        None
+    pub fn check_lan(&mut self, side: Side, alarm: LanAlarm) -> Option<Alarm>
+        ensures { ChecksLan side alarm self.old self.new result }
+    {
+        let lan = self.lans.at(side);
+        let recorder = recorder_of(side);
+        let behind = self.hold.behind(recorder);
+        let held = self.hold.waiting(recorder);
+        let since = last_or(self.hold.mark(), lan.last);
+        let alone_for = self.settings.alone_for;
+        let holds = since_if(
+            lan.holds(alarm, alone_for, self.lans.clock, behind, held),
+            since,
+        );
+        let raised = lan.raised.at(alarm);
+        let lan = lan.checked(alarm, raised_with(raised, holds), behind);
+        self.lans = self.lans.with(side, lan);
+        alarm_between(raised, holds)
     }
 }

@@ -21,7 +21,7 @@ pub struct Packets {
 pub struct Told<'a> {
     /// When it is made: in capture time, or by the clock before a packet came.
     pub at: Moment,
-    /// How long ago that before it was made, or the watch began, in nanoseconds.
+    /// How long before that the report ahead of it was, or the first packet, in nanoseconds.
     pub elapsed: u64,
     /// What stands at its head.
     pub header: Header,

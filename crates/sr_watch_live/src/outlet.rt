@@ -31,12 +31,12 @@ impl<F, R: Wait> Outlet<F, R> {
         }
     }
 
-    /// Hands a message over. False where nobody takes it any more, or memory is refused.
+    /// Hands a message over. False where nobody takes it any more, or an allocation fails.
     pub(crate) fn send(&self, message: Message) -> bool {
         self.to.send(&self.rt, message).is_ok()
     }
 
-    /// Hands over what was taken. False where nobody takes it any more, or memory is refused.
+    /// Hands over what was taken. False where nobody takes it any more, or an allocation fails.
     pub(crate) fn hand_over(&mut self) -> bool {
         if self.batch.is_empty() {
             return true;
@@ -48,7 +48,7 @@ impl<F, R: Wait> Outlet<F, R> {
     /// Takes a packet, and hands over as many as are handed over at once.
     ///
     /// # Errors
-    /// Where memory is refused.
+    /// Where an allocation fails.
     pub(crate) fn push(&mut self, taken: Taken) -> Result<(), AllocError> {
         if self.batch.len() >= BATCH {
             self.hand_over();

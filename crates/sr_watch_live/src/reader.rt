@@ -14,11 +14,10 @@ use std::sync::Wait;
 /// What a capture is read through.
 type Stream<F, R> = BufReader<Outlet<F, R>>;
 
-/// That memory was refused.
-const NO_MEMORY: End = End::Broken(CaptureFault {
-    at: 0,
-    reason: Reason::NoMemory,
-});
+/// That a capture can't be read on, before anything of it was.
+fn broken(reason: Reason) -> End {
+    End::Broken(CaptureFault { at: 0, reason })
+}
 
 /// The last packet that was taken.
 fn taken_of<F: Read + Drop, R: Wait + Drop>(intake: &Intake<Stream<F, R>>, plan: LanPlan) -> Taken {
@@ -41,8 +40,9 @@ fn take_all<F: Read + Drop, R: Wait + Drop>(
             Err(fault) => return End::Broken(fault),
         }
         let taken = taken_of(intake, plan);
-        if intake.reader().get_mut().push(taken).is_err() {
-            return NO_MEMORY;
+        match intake.reader().get_mut().push(taken) {
+            Ok(()) => {}
+            Err(_) => return broken(Reason::NoMemory),
         }
     }
     End::Whole
@@ -56,25 +56,23 @@ fn read_opened<F: Read + Drop, R: AllocGlobal + Wait + Copy + Drop>(
     to: &Sender<Message>,
 ) -> End {
     let Ok(own) = to.clone() else {
-        return NO_MEMORY;
+        return broken(Reason::NoMemory);
     };
     let outlet = Outlet::new(rt, rt.alloc(), file, own);
     let Ok(stream) = BufReader::new(rt.alloc(), outlet) else {
-        return NO_MEMORY;
+        return broken(Reason::NoMemory);
     };
     let mut intake = match Intake::open(rt.alloc(), stream, plan.reading) {
         Ok(intake) => intake,
         Err(fault) => return End::Broken(fault),
     };
-    if to.send(&rt, Message::Begun).is_err() {
-        return NO_MEMORY;
+    match to.send(&rt, Message::Begun) {
+        Ok(()) => {}
+        Err(_) => return broken(Reason::NoMemory),
     }
     let end = take_all(&mut intake, plan);
-    if intake.reader().get_mut().hand_over() {
-        end
-    } else {
-        NO_MEMORY
-    }
+    intake.reader().get_mut().hand_over();
+    end
 }
 
 /// Opens a capture, which may wait until it has a writer, and hands over what it has, up to its end.

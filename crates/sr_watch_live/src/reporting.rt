@@ -35,6 +35,8 @@ pub(crate) struct Reporter<'a> {
     metrics: Option<&'a str>,
     /// When the last report was made, or the watch began.
     made: Instant,
+    /// Up to when the last report told all, in capture time. None: no packet had come.
+    mark: Option<u64>,
     due: Instant,
     check_due: Instant,
     told: Packets,
@@ -63,8 +65,9 @@ fn lines_of(alloc: Global, watch: &mut Watch) -> Result<Vec<SourceLine>, WatchFa
     let sources = watch.sources()?;
     for mac in sources.iter() {
         if let Some(line) = watch.tell(*mac) {
-            if lines.push(line).is_err() {
-                return Err(WatchFault::NoMemory);
+            match lines.push(line) {
+                Ok(()) => {}
+                Err(_) => return Err(WatchFault::NoMemory),
             }
         }
     }
@@ -94,6 +97,7 @@ impl<'a> Reporter<'a> {
             every,
             metrics,
             made: start,
+            mark: None,
             due: later(start, every),
             check_due: later(start, every.min(CHECK_EVERY)),
             told: NO_PACKETS,
@@ -131,12 +135,21 @@ impl<'a> Reporter<'a> {
             raised: self.raised.as_slice(),
         };
         let mut octets = Vec::new(rt.alloc());
-        if print_metrics(&mut octets, &metrics).is_err() {
-            return Err(WatchFault::NoMemory);
+        match print_metrics(&mut octets, &metrics) {
+            Ok(()) => {}
+            Err(_) => return Err(WatchFault::NoMemory),
         }
         match put(rt, path, octets.as_slice()) {
             Ok(()) => Ok(()),
             Err(_) => Err(WatchFault::Metrics),
+        }
+    }
+
+    /// How long ago the last report was, in capture time: in the first one the first packet. Before a packet came it is told by the clock.
+    fn elapsed(&self, first: Option<u64>, mark: u64, now: Instant) -> u64 {
+        match self.mark.or(first) {
+            Some(from) if mark > 0 => mark.saturating_sub(from),
+            _ => between(self.made, now),
         }
     }
 
@@ -156,7 +169,7 @@ impl<'a> Reporter<'a> {
         };
         let told = Told {
             at: moment_of(rt, header.mark)?,
-            elapsed: between(self.made, now),
+            elapsed: self.elapsed(live.first(), header.mark, now),
             header,
             packets: Packets {
                 a: all.a.since(&self.told.a),
@@ -170,6 +183,9 @@ impl<'a> Reporter<'a> {
         flush(writer)?;
         self.told = all;
         self.made = now;
+        if header.mark > 0 {
+            self.mark = Some(header.mark);
+        }
         self.put_metrics(rt, header, all, lines.as_slice())
     }
 
@@ -202,6 +218,11 @@ impl<'a> Reporter<'a> {
             return Ok(());
         };
         self.keep(of, alarm.note)?;
+        // Where both captures have ended all is told that may ever come.
+        let alarm = Alarm {
+            since: alarm.since.min(at.0),
+            ..alarm
+        };
         if print_alarm(writer, self.format, at, of, &alarm).is_err() {
             return Err(WatchFault::Write);
         }

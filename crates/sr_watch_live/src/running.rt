@@ -30,8 +30,10 @@ const ASKED_FOR: u64 = 20_000_000;
 pub enum WatchFault {
     /// The clock can't be read.
     Clock,
-    /// An allocation failed, or no thread could be made.
+    /// An allocation failed.
     NoMemory,
+    /// No thread could be started for a capture.
+    Thread,
     /// The writer failed.
     Write,
     /// The file of metrics could not be written.
@@ -79,7 +81,7 @@ fn start_reader<R: AllocGlobal, S: Fn(Job) -> bool>(
     if starts(Job { path, plan, to }) {
         Ok(from)
     } else {
-        Err(WatchFault::NoMemory)
+        Err(WatchFault::Thread)
     }
 }
 
@@ -138,7 +140,7 @@ fn run<R: AllocGlobal + Wait + Files + Clock, W: Write, T: Telling>(
 /// to who is told of them. `starts` starts a thread that runs a job, and says whether it could. A thread that waits for a capture is left where the watch ends before that.
 ///
 /// # Errors
-/// Where the writer fails, the metrics can't be written, the clock can't be read, or memory is refused.
+/// Where the writer fails, the metrics can't be written, the clock can't be read, no thread can be started, or an allocation fails.
 pub fn run_watch<R: AllocGlobal + Wait + Files + Clock, S: Fn(Job) -> bool, W: Write, T: Telling>(
     rt: &R,
     starts: &S,

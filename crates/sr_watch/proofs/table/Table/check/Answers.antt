@@ -1,4 +1,4 @@
-use Rattle.std.proofs.Common.{rules, ◌≡◌}
+use Rattle.std.proofs.Common.{rules}
 use Rattle.sr_watch.specs.Tracking.{ChecksAlarm}
 use Rattle.sr_watch.proofs.TableLemmas.{watches_kept, left_set}
 use Rattle.sr_watch.proofs.table.Table.check.Goals as goal

@@ -1,4 +1,4 @@
-use Rattle.std.proofs.Common.{rules, ◌≡◌}
+use Rattle.std.proofs.Common.{rules}
 use Rattle.std.proofs.lemmas.Map.{length-set_value}
 use Rattle.sr_frame.specs.Addresses.{mac_eq}
 use Rattle.sr_watch.specs.Tracking.{NotesArrival}

@@ -1,4 +1,4 @@
-use Rattle.std.proofs.Common.{◌≡◌, ◌+◌, ◌≤◌, ◌<◌, ◌∷◌, ◌∙◌, List, length, arith, refl, ap, subst}
+use Rattle.std.proofs.Common.{◌≤◌, ◌∷◌, ◌∙◌, length, arith, refl, ap, subst}
 use Rattle.std.specs.Prelude.{nat_lt}
 use Rattle.sr_audit.specs.Counting.{more_at}
 use Rattle.sr_audit.specs.Faults.{last_class}

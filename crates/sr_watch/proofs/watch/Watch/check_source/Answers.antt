@@ -1,4 +1,4 @@
-use Rattle.std.proofs.Common.{◌≡◌, ◌∙◌, subst, true, is_some}
+use Rattle.std.proofs.Common.{◌∙◌, subst}
 use Rattle.sr_watch.specs.Watching.{ChecksOf}
 use Rattle.sr_watch.proofs.TableLemmas.{left_kept}
 use Rattle.sr_watch.proofs.watch.Watch.check_source.Goals as goal

@@ -1,5 +1,4 @@
-use Rattle.std.proofs.Common.{rules, ◌≡◌, ◌+◌, ◌∙◌, None, length, arith, ap}
-use Rattle.sr_watch.specs.Following.{due_in}
+use Rattle.std.proofs.Common.{rules, ◌≡◌, None, arith}
 use Rattle.sr_watch.proofs.FollowLemmas.{drawn, over, no_more}
 use Rattle.sr_watch.proofs.watch.Watch.draw.Goals as goal
 
