@@ -148,7 +148,8 @@ def run_a_lan_that_comes_too_late(program, folder):
 
 
 def run_a_capture_cut_at_each_octet(program, folder):
-    """A recorder dies within a packet: those before it count, an alarm and standard error say so, and the other LAN goes on."""
+    """A recorder dies within a packet: those before it count, an alarm and standard error say so, and the other LAN goes on. Copies of B
+    come first, so that none is on its way where A ends."""
     whole = FRONT + b"".join(packet(0.1 * at, at, 0) for at in range(3))
     size = (len(whole) - len(FRONT)) // 3
     cuts = [*range(0, len(FRONT), 5), *range(len(FRONT), len(whole) + 1, 11), len(whole)]
@@ -156,7 +157,8 @@ def run_a_capture_cut_at_each_octet(program, folder):
     def cut(at):
         room = f"{folder}/{at}"
         os.mkdir(room)
-        watch = Watch(program, room, ([(0, whole[:at])], 0.0), ([(0, FRONT + b"".join(packet(0.1 * n + 0.0001, n, 1) for n in range(9)))], 0.2), ["--every", "1"])
+        b = FRONT + b"".join(packet(0.1 * n - 0.0001, n, 1) for n in range(9))
+        watch = Watch(program, room, ([(0, whole[:at])], 0.0), ([(0, b)], 0.2), ["--every", "1"])
         came = max(0, at - len(FRONT)) // size
         is_whole = at >= len(FRONT) and (at - len(FRONT)) % size == 0
         counts = [line["packets"] for line in watch.of("capture") if line["capture"] == "A"]
