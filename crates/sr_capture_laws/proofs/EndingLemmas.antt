@@ -7,7 +7,6 @@ use Rattle.std.proofs.lemmas.Bool.{or_left, or_right}
 use Rattle.sr_frame.specs.Addresses.{mac_eq}
 use Rattle.sr_frame.specs.declared.fields.Mac.{Mac}
 use Rattle.sr_sources.specs.declared.source.Source.{Source as Node}
-use Rattle.sr_sources.specs.declared.table.Sources.{Sources}
 use Rattle.sr_sources.specs.Kinds.{doubled_since}
 use Rattle.sr_audit.specs.declared.audit.Audit.{Audit}
 use Rattle.sr_audit.specs.declared.row.Row.{Row}
@@ -31,13 +30,12 @@ use Rattle.sr_capture_audit.specs.Judging.{reason_of, judged, network_judgement,
 use Rattle.sr_verdict.specs.declared.heard.Heard.{Heard}
 use Rattle.sr_verdict.specs.declared.verdict.Verdict.{Verdict}
 use Rattle.sr_verdict.specs.Heards.{AreHeard, only_at, lone_row, row_frames}
-use Rattle.sr_verdict.specs.declared.drops.Explained.{Explained}
 use Rattle.sr_verdict.specs.declared.why.Why.{Why}
 use Rattle.sr_verdict.specs.declared.verdict.Verdict.TheVariants.{Unjudged as Undecided}
 use Rattle.sr_verdict.specs.Drops.{explained_by, is_explained, left_unexplained, any_dropped, why_dropped, settled_by, settled, dropped_told}
 use Rattle.sr_verdict.specs.Told.{why_of, why_told, verdicts_for}
 use Rattle.sr_verdict.specs.Verdicts.{is_doubled_at, is_doubled, single_in, IsSingleHearing, has_all_sent, telling_entries, AreHeardIn, fault_verdicts, notice_verdicts, is_a_fault}
-use Rattle.sr_capture_laws.specs.Ending.{nodes_tell, judged_with, judged_beside, by_figures, EndAs, EndInDoubt, EndBy, VerdictsEndAsJudged}
+use Rattle.sr_capture_laws.specs.Ending.{nodes_tell, judged_with, judged_beside, by_figures, EndAs, EndBy, VerdictsEndAsJudged}
 use Rattle.sr_capture_laws.specs.Exact.{judged_by}
 use Rattle.sr_capture_laws.proofs.ToldLemmas.{Tells, tells_both, is_sided, has_rest, shows_repeated, shows_late, told_by_figures, two_told, lost_told_in, wrong_told, others_told, told_faulty, tells_faults, tells_notices, tells_dropped, is_unjudged, judged_first}
 
@@ -330,14 +328,11 @@ told_of_single r nodes own telling counters heard = told_apart r nodes own telli
 -- without those that recorders may have made
 any_left : {X : Type 0} (p q : X → Bool) (xs : List X) → list_any p xs ≡ false → list_any p (filter q xs) ≡ false
 any_left p q [] none = refl
-any_left p q (x ∷ xs) none = by (q x)
+any_left p q (x ∷ xs) none = by (q x) (any_left p q xs (none_right (p x) (list_any p xs) none))
   where
-    rest : list_any p (filter q xs) ≡ false
-    rest = any_left p q xs (none_right (p x) (list_any p xs) none)
-
-    by : (b : Bool) → list_any p (cond b (x ∷ filter q xs) (filter q xs)) ≡ false
-    by true = ap₂ (λ a c. a || c) (none_left (p x) (list_any p xs) none) rest
-    by false = rest
+    by : (b : Bool) → list_any p (filter q xs) ≡ false → list_any p (cond b (x ∷ filter q xs) (filter q xs)) ≡ false
+    by true rest = ap₂ (λ a c. a || c) (none_left (p x) (list_any p xs) none) rest
+    by false rest = rest
 
 -- what is told behind faults, whatever these are
 abbrev Behind : Ports → Sides → List Verdict → List Verdict → List Verdict
@@ -356,11 +351,8 @@ settled_ends : (ports : Ports) (dropped : Sides) (why : Option Reason) (faults n
 settled_ends ports dropped (Some why) faults notices faulty told none = inl (record { status = refl; reason = refl })
 settled_ends ports dropped None faults notices faulty told none = by_drops (any_dropped dropped) refl
   where
-    by : Explained
-    by = explained_by ports dropped faults
-
     left : List Verdict
-    left = left_unexplained by faults
+    left = left_unexplained (explained_by ports dropped faults) faults
 
     wrong : Bool
     wrong = list_any is_a_fault left
@@ -369,12 +361,12 @@ settled_ends ports dropped None faults notices faulty told none = by_drops (any_
     ends vs own = inl (ends_for None (Behind ports dropped notices vs) faulty (behind_told ports dropped notices vs faulty own none))
 
     judging : list_any is_unjudged left ≡ false
-    judging = any_left is_unjudged (λ v. not (is_explained by v)) faults told.judging
+    judging = any_left is_unjudged (λ v. not (is_explained (explained_by ports dropped faults) v)) faults told.judging
 
     -- by whether a fault was told, and whether one is left
     by_faults : any_dropped dropped ≡ true → (f l : Bool) → faulty ≡ f → wrong ≡ l
         → EndBy ports dropped faults (judged_by None faulty)
-        (Behind ports dropped notices (cond (f && not l) (Undecided (why_dropped ports dropped by) ∷ []) left))
+        (Behind ports dropped notices (cond (f && not l) (Undecided (why_dropped ports dropped (explained_by ports dropped faults)) ∷ []) left))
     by_faults some true true e h = ends left (record { judging = judging; faults = h ∙ sym e })
     by_faults some true false e h = inr (record {
       faulty = ap (λ (b : Bool). judged_by None b) e;
@@ -385,13 +377,13 @@ settled_ends ports dropped None faults notices faulty told none = by_drops (any_
     })
     by_faults some false l e h = ends left (record {
       judging = judging;
-      faults = any_left is_a_fault (λ v. not (is_explained by v)) faults (told.faults ∙ e) ∙ sym e;
+      faults = any_left is_a_fault (λ v. not (is_explained (explained_by ports dropped faults) v)) faults (told.faults ∙ e) ∙ sym e;
     })
 
     by_drops : (d : Bool) → any_dropped dropped ≡ d → EndBy ports dropped faults (judged_by None faulty)
-        (Behind ports dropped notices (cond d (settled_by ports dropped by faults) faults))
+        (Behind ports dropped notices (cond d (settled_by ports dropped (explained_by ports dropped faults) faults) faults))
     by_drops true some = subst (λ (b : Bool). EndBy ports dropped faults (judged_by None faulty)
-        (Behind ports dropped notices (cond (b && not wrong) (Undecided (why_dropped ports dropped by) ∷ []) left)))
+        (Behind ports dropped notices (cond (b && not wrong) (Undecided (why_dropped ports dropped (explained_by ports dropped faults)) ∷ []) left)))
         (sym told.faults) (by_faults some faulty wrong refl refl)
     by_drops false none_dropped = ends faults told
 

@@ -1,8 +1,7 @@
 -- What a watch keeps, with one call more.
-use Rattle.std.proofs.Common.{◌≡◌, suc, ◌+◌, ◌<◌, ◌≤◌, List, [], ◌∷◌, ◌++◌, length, drop, Option, None, Some, arith, refl, sym, ap, ◌∙◌}
-use Rattle.std.specs.Prelude.{◌^◌, option_to_list}
+use Rattle.std.proofs.Common.{◌≡◌, suc, ◌+◌, ◌≤◌, List, [], ◌∷◌, ◌++◌, length, drop, Option, None, Some, arith, refl, sym, ap, ◌∙◌}
+use Rattle.std.specs.Prelude.{option_to_list}
 use Rattle.std.specs.Option.{option_map}
-use Rattle.sr_audit.specs.Audits.{Sent}
 use Rattle.sr_hold.specs.declared.hold.Released.{Released}
 use Rattle.sr_hold.specs.declared.recorder.Recorder.{Recorder}
 use Rattle.sr_hold.specs.declared.recorder.Recorder.TheVariants.{A, B}
@@ -10,13 +9,10 @@ use Rattle.sr_hold.specs.declared.hold.Held.{Held}
 use Rattle.sr_hold.specs.Order.{front_released}
 use Rattle.sr_hold.specs.Holding.{due_in as due_in_hold, Holding, next_by, next_of, without_by, without_next}
 use Rattle.sr_hold.specs.Turns.{released_in}
-use Rattle.sr_watch.specs.declared.report.SourceLine.{SourceLine}
-use Rattle.sr_watch.specs.declared.table.Table.{Table}
 use Rattle.sr_watch.specs.declared.watch.Next.{Next}
 use Rattle.sr_watch.specs.declared.watch.Numbered.{Numbered}
 use Rattle.sr_watch.specs.declared.watch.Watch.{Watch}
-use Rattle.sr_watch.specs.Following.{next_as, sent_as, newest_first, due_in, with_releases, Advances}
-use Rattle.sr_watch.specs.Watching.{Watches, CountsUnwatched}
+use Rattle.sr_watch.specs.Following.{next_as, sent_as, newest_first, due_in, with_releases, OnlyReleases}
 
 -- one released more is the newest
 newest_last : (xs : List (Released Numbered)) (y : Released Numbered) → newest_first (xs ++ y ∷ []) ≡ sent_as (next_as y) ∷ newest_first xs
@@ -36,7 +32,7 @@ sent_more xs (Some y) = newest_last xs y
 -- a call that releases, where nothing waits for memory
 pub drawn : (w : Watch) (o : Option (Released Numbered)) (h : Holding Numbered) (n : Option Next) → w.next ≡ None → o ≡ next_of w.hold →
     h ≡ without_next w.hold → n ≡ option_map next_as o →
-    Advances w (record { hold = h; next = n; table = w.table; lans = w.lans; settings = w.settings })
+    OnlyReleases w (record { hold = h; next = n; table = w.table; lans = w.lans; settings = w.settings })
 drawn w o h n free is rest next =
     record {
       goes = λ slack start turns lines g.
@@ -54,55 +50,8 @@ drawn w o h n free is rest next =
               left_out = f.left_out;
             };
           };
+      forgotten = refl;
     }
-
--- an arrival that waited for memory is noted
-pub noted : (w : Watch) (n : Next) (t : Table) → w.next ≡ Some n →
-    ((xs : List Sent) (lines : List SourceLine) → length xs + 1 < 2 ^ 64 → Watches xs lines w.table.sources.entries →
-    Watches (sent_as n ∷ xs) lines t.sources.entries) →
-    ((xs : List Sent) (lines : List SourceLine) → Watches xs lines w.table.sources.entries →
-    CountsUnwatched w.table.sources.entries xs w.table.left_out → CountsUnwatched t.sources.entries (sent_as n ∷ xs) t.left_out) →
-    Advances w (record { hold = w.hold; next = None; table = t; lans = w.lans; settings = w.settings })
-noted w n t waits takes counts =
-    record {
-      goes = λ slack start turns lines g.
-          let f = g.follows in
-          record {
-            releases = g.releases;
-            noted = sent_as n ∷ g.noted;
-            follows = record {
-              holds = f.holds;
-              sent = f.sent ∙ ap (λ q. due_in q ++ g.noted) waits;
-              watches = λ few. takes g.noted lines (omega (arith, few)) (f.watches (omega (arith, few)));
-              left_out = λ few. counts g.noted lines (f.watches (omega (arith, few))) (f.left_out (omega (arith, few)));
-            };
-          };
-    }
-
--- an arrival that waited for memory waits on
-pub kept : (w : Watch) (t : Table) →
-    ((xs : List Sent) (lines : List SourceLine) → Watches xs lines w.table.sources.entries → Watches xs lines t.sources.entries) →
-    ((xs : List Sent) (lines : List SourceLine) → Watches xs lines w.table.sources.entries →
-    CountsUnwatched w.table.sources.entries xs w.table.left_out → CountsUnwatched t.sources.entries xs t.left_out) →
-    Advances w (record { hold = w.hold; next = w.next; table = t; lans = w.lans; settings = w.settings })
-kept w t same counts =
-    record {
-      goes = λ slack start turns lines g.
-          let f = g.follows in
-          record {
-            releases = g.releases;
-            noted = g.noted;
-            follows = record {
-              holds = f.holds;
-              sent = f.sent;
-              watches = λ few. same g.noted lines (f.watches few);
-              left_out = λ few. counts g.noted lines (f.watches few) (f.left_out few);
-            };
-          };
-    }
-
-pub then : (a b c : Watch) → Advances a b → Advances b c → Advances a c
-then a b c x y = record { goes = λ slack start turns lines g. y.goes slack start turns lines (x.goes slack start turns lines g) }
 
 -- what is released is taken out of what waits
 fewer : (h : Holding Numbered) (r : Option Recorder) →
@@ -133,7 +82,7 @@ stays h (Some B) none = λ i. record h { b = all h.b none i }
     all [] none = refl
     all (x ∷ xs) none = absurd cc
 
--- and nothing is to be released
+-- where nothing is released nothing is to be released behind it
 pub over : (o : Option (Released Numbered)) (n : Option Next) (old new : Holding Numbered) → o ≡ next_of old → new ≡ without_next old →
     n ≡ option_map next_as o → n ≡ None → next_of new ≡ None
 over o n old new is rest next none =

@@ -13,7 +13,7 @@ use Rattle.sr_audit.specs.Skewing.{pairs_up, skew_by, skews_in, skews_of, count_
 use Rattle.sr_audit.specs.Stretches.{Placed, same_side, copy_as, goes_on, lies_from, top_number, stretch_begun, with_arrival, stretches}
 use Rattle.sr_sequence.specs.Places.{number_at}
 use Rattle.sr_watch.specs.Counted.{newest_at, lasts_of, lasts_with}
-use Rattle.sr_watch.specs.Late.{is_over, late_in, lates_of}
+use Rattle.sr_watch.specs.Late.{is_late_skew, late_in, lates_of}
 
 -- the greatest of 64 bits
 abbrev most : ℕ
@@ -23,11 +23,11 @@ most = 18446744073709551615
 abbrev overs : List ℤ → ℕ
 overs zs = count_in 6 zs
 
-overs-cons : (z : ℤ) (zs : List ℤ) → overs (z ∷ zs) ≡ cond (is_over z) 1 0 + overs zs
-overs-cons z zs = sum_by-cons (λ y. cond (is_over y) 1 0) z zs
+overs-cons : (z : ℤ) (zs : List ℤ) → overs (z ∷ zs) ≡ cond (is_late_skew z) 1 0 + overs zs
+overs-cons z zs = sum_by-cons (λ y. cond (is_late_skew y) 1 0) z zs
 
 overs-append : (zs ws : List ℤ) → overs (zs ++ ws) ≡ overs zs + overs ws
-overs-append zs ws = sum_by-append (λ y. cond (is_over y) 1 0) zs ws
+overs-append zs ws = sum_by-append (λ y. cond (is_late_skew y) 1 0) zs ws
 
 -- one copy comes by one side
 one_side : (side : Side) (l : Bool) (a b n : ℕ) → a + b ≡ n →
@@ -43,7 +43,7 @@ late_both (y ∷ s) =
     elim (cases_Bool (pairs_up y s)) [
       | inl pair ↦
           let z = skew_by y.side y.time (first_time y.number s) in
-          rw pair (one_side y.side (is_over z) (late_in A s) (late_in B s) (overs (skews_in s)) (late_both s) ∙ sym (overs-cons z (skews_in s)))
+          rw pair (one_side y.side (is_late_skew z) (late_in A s) (late_in B s) (overs (skews_in s)) (late_both s) ∙ sym (overs-cons z (skews_in s)))
       | inr none ↦ rw none (let e = late_both s in omega (arith, e))
     ]
 
@@ -118,21 +118,21 @@ one_more_of k l r s t e f = omega (arith, e, f)
 late_on : (y : Placed) (s : List Placed) (rest : List (List Placed)) → overs (skews_of ((y ∷ s) ∷ rest)) ≤ most →
     more_at (lates_of (s ∷ rest)) y.side (nat_lt (overs (skews_of (s ∷ rest))) (overs (skews_of ((y ∷ s) ∷ rest)))) ≡ lates_of ((y ∷ s) ∷ rest)
 late_on y s rest few =
-    moved y.side (pairs_up y s && is_over z) (lates_of (s ∷ rest)) (lates_of ((y ∷ s) ∷ rest)) (overs (skews_of (s ∷ rest)))
+    moved y.side (pairs_up y s && is_late_skew z) (lates_of (s ∷ rest)) (lates_of ((y ∷ s) ∷ rest)) (overs (skews_of (s ∷ rest)))
     (overs (skews_of ((y ∷ s) ∷ rest))) (lates_both (s ∷ rest)) (more (pairs_up y s)) few (at A) (at B)
   where
     z : ℤ
     z = skew_by y.side y.time (first_time y.number s)
 
-    more : (t : Bool) → overs (cond t (z ∷ skews_in s) (skews_in s) ++ skews_of rest) ≡ cond (t && is_over z) 1 0 + overs (skews_in s ++ skews_of rest)
+    more : (t : Bool) → overs (cond t (z ∷ skews_in s) (skews_in s) ++ skews_of rest) ≡ cond (t && is_late_skew z) 1 0 + overs (skews_in s ++ skews_of rest)
     more true = overs-cons z (skews_in s ++ skews_of rest)
     more false = same (overs (skews_in s ++ skews_of rest))
 
     at : (side : Side) → sum_by (late_in side) ((y ∷ s) ∷ rest)
-        ≡ cond ((pairs_up y s && is_over z) && same_side side y.side) 1 0 + sum_by (late_in side) (s ∷ rest)
+        ≡ cond ((pairs_up y s && is_late_skew z) && same_side side y.side) 1 0 + sum_by (late_in side) (s ∷ rest)
     at side = one_more_of _ (late_in side s) (sum_by (late_in side) rest) (sum_by (late_in side) (s ∷ rest)) _
         (sum_by-cons (late_in side) (y ∷ s) rest
-        ∙ ap (λ b. (cond b 1 0 + late_in side s) + sum_by (late_in side) rest) (and_same (pairs_up y s) (is_over z) (same_side side y.side)))
+        ∙ ap (λ b. (cond b 1 0 + late_in side s) + sum_by (late_in side) rest) (and_same (pairs_up y s) (is_late_skew z) (same_side side y.side)))
         (sum_by-cons (late_in side) s rest)
 
 -- where an arrival begins a stretch

@@ -7,7 +7,7 @@ use Rattle.sr_audit.specs.Laws.{CopiesAddUp}
 use Rattle.sr_audit.specs.Limits.{exact_arrivals}
 use Rattle.sr_watch.specs.declared.watch.Next.{Next}
 use Rattle.sr_watch.specs.Changed.{change}
-use Rattle.sr_watch.specs.Following.{due_in, sent_in}
+use Rattle.sr_watch.specs.Following.{due_in, released_sent}
 use Rattle.sr_watch.specs.Laws.{LinesTellOfAllThatWasReleased, EachArrivalIsInOneInterval}
 
 -- all that was released was noted
@@ -16,7 +16,7 @@ all_noted n xs sent is none = is ∙ ap (λ q. due_in q ++ xs) none
 
 pub lines_tell : LinesTellOfAllThatWasReleased
 lines_tell slack start mark turns xs lines w src new line f none few exact tells =
-    let same : sent_in slack start turns ≡ xs = all_noted w.next xs (sent_in slack start turns) f.sent none in
+    let same : released_sent slack start turns ≡ xs = all_noted w.next xs (released_sent slack start turns) f.sent none in
     let few_xs : length xs < 2 ^ 64 = subst (λ ys. length ys < 2 ^ 64) same few in
     let exact_xs : length (of src xs) ≤ exact_arrivals = subst (λ ys. length (of src ys) ≤ exact_arrivals) same exact in
     rw same (tells.together xs lines exact_xs (f.watches few_xs))

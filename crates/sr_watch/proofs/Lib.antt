@@ -5,3 +5,4 @@ pub mod FollowLemmas
 pub mod LawLemmas
 pub mod AlarmLemmas
 pub mod WorkedLemmas
+pub mod ForgetLemmas

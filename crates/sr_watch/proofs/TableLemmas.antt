@@ -42,9 +42,9 @@ use Rattle.sr_audit.specs.Audits.{Sent, of}
 use Rattle.sr_audit.specs.Limits.{most_audited}
 use Rattle.sr_watch.specs.declared.report.SourceLine.{SourceLine}
 use Rattle.sr_watch.specs.declared.tracked.Tracked.{Tracked}
-use Rattle.sr_watch.specs.Changed.{changes_between, sum_of, whole}
+use Rattle.sr_watch.specs.Changed.{changes_between, sum_of, as_changes}
 use Rattle.sr_watch.specs.Tracking.{Watched, TellsLine}
-use Rattle.sr_watch.specs.Watching.{lines_of, IsWatchedFor, Watches, unwatched_of, CountsUnwatched, TellsOf}
+use Rattle.sr_watch.specs.Watching.{lines_about, IsWatchedFor, Watches, unwatched_of, CountsUnwatched, TellsSource}
 
 -- no source has more arrivals than there are
 length-of : (m : Mac) (xs : List Sent) → length (of m xs) ≤ length xs
@@ -78,17 +78,17 @@ watches_made xs lines entries src s absent few empty watches =
     longer : length entries ≤ length (entries ++ (src, s) ∷ [])
     longer = omega (arith, length-append entries ((src, s) ∷ []))
 
-    nothing : (of src xs ≡ []) × (lines_of src lines ≡ [])
-    nothing = nothing_of (length entries) (of src xs) (lines_of src lines) few
-        (subst (IsWatchedFor (length entries) (of src xs) (lines_of src lines)) absent (watches.each src))
+    nothing : (of src xs ≡ []) × (lines_about src lines ≡ [])
+    nothing = nothing_of (length entries) (of src xs) (lines_about src lines) few
+        (subst (IsWatchedFor (length entries) (of src xs) (lines_about src lines)) absent (watches.each src))
 
     by : (m : Mac) (t : Bool) → mac_eq src m ≡ t →
-        IsWatchedFor (length (entries ++ (src, s) ∷ [])) (of m xs) (lines_of m lines) (cond t (Some s) (lookup (mac_eq m) entries))
+        IsWatchedFor (length (entries ++ (src, s) ∷ [])) (of m xs) (lines_about m lines) (cond t (Some s) (lookup (mac_eq m) entries))
     by m true same =
         let none : of m xs ≡ [] = ap (λ k. of k xs) (sym (mac_same src m same)) ∙ nothing.0 in
-        let untold : lines_of m lines ≡ [] = ap (λ k. lines_of k lines) (sym (mac_same src m same)) ∙ nothing.1 in
-        subst (λ ys. Watched ys (lines_of m lines) s) (sym none) (subst (λ ls. Watched [] ls s) (sym untold) empty)
-    by m false other = stands_later (length entries) (length (entries ++ (src, s) ∷ [])) (of m xs) (lines_of m lines) (lookup (mac_eq m) entries)
+        let untold : lines_about m lines ≡ [] = ap (λ k. lines_about k lines) (sym (mac_same src m same)) ∙ nothing.1 in
+        subst (λ ys. Watched ys (lines_about m lines) s) (sym none) (subst (λ ls. Watched [] ls s) (sym untold) empty)
+    by m false other = stands_later (length entries) (length (entries ++ (src, s) ∷ [])) (of m xs) (lines_about m lines) (lookup (mac_eq m) entries)
         longer (watches.each m)
 
 -- an arrival of a source that has no entry, where there are so many
@@ -102,16 +102,16 @@ watches_left xs lines entries src x absent full watches = record { each = λ m. 
     left ys ls (Some s) lacks watched = absurd cc
 
     by : (m : Mac) (t : Bool) → mac_eq m src ≡ t →
-        IsWatchedFor (length entries) (cond t (x ∷ of m xs) (of m xs)) (lines_of m lines) (lookup (mac_eq m) entries)
-    by m true same = left (of m xs) (lines_of m lines) (lookup (mac_eq m) entries)
+        IsWatchedFor (length entries) (cond t (x ∷ of m xs) (of m xs)) (lines_about m lines) (lookup (mac_eq m) entries)
+    by m true same = left (of m xs) (lines_about m lines) (lookup (mac_eq m) entries)
         (ap (λ k. is_some (lookup (mac_eq k) entries)) (mac_same m src same) ∙ absent) (watches.each m)
     by m false other = watches.each m
 
 -- what is kept of a source that has an entry
 pub own_of : (xs : List Sent) (lines : List SourceLine) (entries : List (Mac × Tracked)) (m src : Mac) (was : Tracked) → m ≡ src →
-    lookup (mac_eq src) entries ≡ Some was → Watches xs lines entries → Watched (of m xs) (lines_of m lines) was
+    lookup (mac_eq src) entries ≡ Some was → Watches xs lines entries → Watched (of m xs) (lines_about m lines) was
 own_of xs lines entries m src was same found watches =
-    subst (IsWatchedFor (length entries) (of m xs) (lines_of m lines)) (ap (λ k. lookup (mac_eq k) entries) same ∙ found) (watches.each m)
+    subst (IsWatchedFor (length entries) (of m xs) (lines_about m lines)) (ap (λ k. lookup (mac_eq k) entries) same ∙ found) (watches.each m)
 
 -- an entry that changed, and the arrival that it took
 pub watches_taken : (xs : List Sent) (lines : List SourceLine) (entries : List (Mac × Tracked)) (src : Mac) (x : Arrival) (was is : Tracked) →
@@ -125,9 +125,9 @@ watches_taken xs lines entries src x was is few found takes watches =
     }
   where
     by : (m : Mac) (t : Bool) → mac_eq m src ≡ t →
-        IsWatchedFor (length entries) (cond (mac_eq m src) (x ∷ of m xs) (of m xs)) (lines_of m lines)
+        IsWatchedFor (length entries) (cond (mac_eq m src) (x ∷ of m xs) (of m xs)) (lines_about m lines)
         (cond (mac_eq src m) (Some is) (lookup (mac_eq m) entries))
-    by m true same = rw (same, mac_symm src m ∙ same) (takes (of m xs) (lines_of m lines) (omega (arith, few, length-of m xs))
+    by m true same = rw (same, mac_symm src m ∙ same) (takes (of m xs) (lines_about m lines) (omega (arith, few, length-of m xs))
         (own_of xs lines entries m src was (mac_same m src same) found watches))
     by m false other = rw (other, mac_symm src m ∙ other) (watches.each m)
 
@@ -139,20 +139,20 @@ pub watches_told : (xs : List Sent) (lines : List SourceLine) (entries : List (M
 watches_told xs lines entries src line was is source found keeps watches =
     record {
       each = λ m. rw (lookup-set src m is entries (ap is_some found), length-set_value (mac_eq src) entries is)
-          (subst (λ b. IsWatchedFor (length entries) (of m xs) (cond b (line ∷ lines_of m lines) (lines_of m lines))
+          (subst (λ b. IsWatchedFor (length entries) (of m xs) (cond b (line ∷ lines_about m lines) (lines_about m lines))
           (cond (mac_eq src m) (Some is) (lookup (mac_eq m) entries))) (sym (ap (mac_eq m) source)) (by m (mac_eq m src) refl));
     }
   where
     by : (m : Mac) (t : Bool) → mac_eq m src ≡ t →
-        IsWatchedFor (length entries) (of m xs) (cond (mac_eq m src) (line ∷ lines_of m lines) (lines_of m lines))
+        IsWatchedFor (length entries) (of m xs) (cond (mac_eq m src) (line ∷ lines_about m lines) (lines_about m lines))
         (cond (mac_eq src m) (Some is) (lookup (mac_eq m) entries))
-    by m true same = rw (same, mac_symm src m ∙ same) (keeps (of m xs) (lines_of m lines)
+    by m true same = rw (same, mac_symm src m ∙ same) (keeps (of m xs) (lines_about m lines)
         (own_of xs lines entries m src was (mac_same m src same) found watches))
     by m false other = rw (other, mac_symm src m ∙ other) (watches.each m)
 
 -- a line of a source tells of its arrivals
 pub tells_of : (mark : ℕ) (src : Mac) (entries : List (Mac × Tracked)) (line : SourceLine) (was is : Tracked) → line.source ≡ src →
-    lookup (mac_eq src) entries ≡ Some was → TellsLine mark was is line → TellsOf mark src entries (set_value (mac_eq src) entries is) line
+    lookup (mac_eq src) entries ≡ Some was → TellsLine mark was is line → TellsSource mark src entries (set_value (mac_eq src) entries is) line
 tells_of mark src entries line was is source found tells =
     record {
       source = source;
@@ -161,16 +161,16 @@ tells_of mark src entries line was is source found tells =
       since = λ xs lines watches. tells.interval ∙ ap (λ told. changes_between told line.total) (own xs lines watches).since;
       together = λ xs lines few watches.
           let watched = own xs lines watches in
-          ap sum_of (first lines) ∙ ((tells.keeps (of src xs) (lines_of src lines) watched).told few).sums
-          ∙ ap whole (tells.all ∙ tells.total (of src xs) few watched.tracks);
+          ap sum_of (first lines) ∙ ((tells.keeps (of src xs) (lines_about src lines) watched).told few).sums
+          ∙ ap as_changes (tells.all ∙ tells.total (of src xs) few watched.tracks);
       keeps = λ xs lines watches. watches_told xs lines entries src line was is source found tells.keeps watches;
     }
   where
-    own : (xs : List Sent) (lines : List SourceLine) → Watches xs lines entries → Watched (of src xs) (lines_of src lines) was
+    own : (xs : List Sent) (lines : List SourceLine) → Watches xs lines entries → Watched (of src xs) (lines_about src lines) was
     own xs lines watches = own_of xs lines entries src src was refl found watches
 
-    first : (lines : List SourceLine) → lines_of src (line ∷ lines) ≡ line ∷ lines_of src lines
-    first lines = ap (λ b. cond b (line ∷ lines_of src lines) (lines_of src lines)) (ap (mac_eq src) source ∙ mac_refl src)
+    first : (lines : List SourceLine) → lines_about src (line ∷ lines) ≡ line ∷ lines_about src lines
+    first lines = ap (λ b. cond b (line ∷ lines_about src lines) (lines_about src lines)) (ap (mac_eq src) source ∙ mac_refl src)
 
 -- an entry that changed in nothing that was noted or told
 pub watches_kept : (xs : List Sent) (lines : List SourceLine) (entries : List (Mac × Tracked)) (src : Mac) (was is : Tracked) →
@@ -182,8 +182,8 @@ watches_kept xs lines entries src was is found keeps watches =
     }
   where
     by : (m : Mac) (t : Bool) → mac_eq src m ≡ t →
-        IsWatchedFor (length entries) (of m xs) (lines_of m lines) (cond t (Some is) (lookup (mac_eq m) entries))
-    by m true same = keeps (of m xs) (lines_of m lines) (own_of xs lines entries m src was (sym (mac_same src m same)) found watches)
+        IsWatchedFor (length entries) (of m xs) (lines_about m lines) (cond t (Some is) (lookup (mac_eq m) entries))
+    by m true same = keeps (of m xs) (lines_about m lines) (own_of xs lines entries m src was (sym (mac_same src m same)) found watches)
     by m false other = watches.each m
 
 -- the entry that was made is there
@@ -246,8 +246,8 @@ left_push entries src s (x ∷ xs) absent nothing = by (mac_eq src x.0) refl not
 pub left_made : (xs : List Sent) (lines : List SourceLine) (entries : List (Mac × Tracked)) (src : Mac) (s : Tracked) → Watches xs lines entries →
     lookup (mac_eq src) entries ≡ None → length entries < most_audited → unwatched_of (entries ++ (src, s) ∷ []) xs ≡ unwatched_of entries xs
 left_made xs lines entries src s watches absent few =
-    left_push entries src s xs absent (nothing_of (length entries) (of src xs) (lines_of src lines) few
-    (subst (IsWatchedFor (length entries) (of src xs) (lines_of src lines)) absent (watches.each src))).0
+    left_push entries src s xs absent (nothing_of (length entries) (of src xs) (lines_about src lines) few
+    (subst (IsWatchedFor (length entries) (of src xs) (lines_about src lines)) absent (watches.each src))).0
 
 -- the count of what is left out, where nothing came, an arrival of a source with an entry, or one of another
 pub left_kept : (old new : List (Mac × Tracked)) (xs : List Sent) (count : ℕ) → unwatched_of new xs ≡ unwatched_of old xs →

@@ -12,8 +12,8 @@ use Rattle.sr_audit.specs.Skewing.{pairs_up, skews_in, skews_of, sum_of_skews}
 use Rattle.sr_audit.specs.Stretches.{Placed, goes_on, gone_on, stretch_begun, with_arrival, stretches}
 use Rattle.sr_watch.specs.declared.counts.Counts.{Counts}
 use Rattle.sr_watch.specs.declared.report.SourceLine.{SourceLine}
-use Rattle.sr_watch.specs.Changed.{change, side_changes, changes_between, side_plus, plus, side_whole, whole, IsSmall, HasTold}
-use Rattle.sr_watch.specs.Counted.{counts_of}
+use Rattle.sr_watch.specs.Changed.{change, side_changes, changes_between, side_plus, plus, side_whole, as_changes, IsSmall, HasTold}
+use Rattle.sr_watch.specs.Counted.{counted_of}
 
 -- no more skews than arrivals
 stands : (xs : List Arrival) → sum_by length (stretches xs) ≡ length xs
@@ -45,7 +45,7 @@ bound n l k x e f g h = omega (arith, e, f, g, h)
 
 -- the sum of the skews of so many arrivals
 pub small_of : (mark : ℕ) (xs : List Arrival) → length xs ≤ exact_arrivals →
-    unsigned_abs (sum_of_skews (skews_of (stretches xs))) ≤ 2 ^ 64 * length (skews_of (stretches xs)) → IsSmall (counts_of mark xs)
+    unsigned_abs (sum_of_skews (skews_of (stretches xs))) ≤ 2 ^ 64 * length (skews_of (stretches xs)) → IsSmall (counted_of mark xs)
 small_of mark xs few small = bound _ (length (skews_of (stretches xs))) (sum_by length (stretches xs)) (length xs) small (few_of (stretches xs)) (stands xs) few
 
 small_pos : (n : ℕ) → n < 170141183460469231731687303715884105728 → min n (2 ^ 127 - 1) ≡ n
@@ -78,7 +78,7 @@ all_is told all = omega (arith, ints)
 sides_are : (told all : Sides) → side_plus (side_changes told all) (side_whole told) ≡ side_whole all
 sides_are told all = λ i. record { a = all_is told.a all.a i; b = all_is told.b all.b i }
 
-pub all_are : (told all : Counts) → IsSmall told → IsSmall all → plus (changes_between told all) (whole told) ≡ whole all
+pub all_are : (told all : Counts) → IsSmall told → IsSmall all → plus (changes_between told all) (as_changes told) ≡ as_changes all
 all_are told all f g = λ i. record {
   rx = sides_are told.rx all.rx i;
   both = all_is told.both all.both i;

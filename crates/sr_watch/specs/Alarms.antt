@@ -23,9 +23,9 @@ raised_with None (Some since) = Some since
 raised_with (Some since) (Some again) = Some since
 
 -- behind some checks, newest first
-abbrev pub raised_by : List (Option ℕ) → Option ℕ
-raised_by [] = None
-raised_by (holds ∷ before) = raised_with (raised_by before) holds
+abbrev pub raised_after : List (Option ℕ) → Option ℕ
+raised_after [] = None
+raised_after (holds ∷ before) = raised_with (raised_after before) holds
 
 -- how many of the alarms that they told have a note
 abbrev pub same_note : Note → Note → Bool
@@ -40,7 +40,7 @@ has_note note (Some alarm) = if same_note note alarm.note then 1 else 0
 
 abbrev pub told_with : Note → List (Option ℕ) → ℕ
 told_with note [] = 0
-told_with note (holds ∷ before) = has_note note (alarm_between (raised_by before) holds) + told_with note before
+told_with note (holds ∷ before) = has_note note (alarm_between (raised_after before) holds) + told_with note before
 
 abbrev pub one_if_some : Option ℕ → ℕ
 one_if_some None = 0
@@ -48,11 +48,11 @@ one_if_some (Some since) = 1
 
 -- each alarm that begins is over once, or is raised now; and it is raised where it holds
 pub record IsToldOnce (checks : List (Option ℕ)) : Type 0 where
-  pub each : told_with Raised checks ≡ told_with Cleared checks + one_if_some (raised_by checks)
+  pub each : told_with Raised checks ≡ told_with Cleared checks + one_if_some (raised_after checks)
 
 pub record AlarmsAreToldOnce : Type 0 where
   pub once : (checks : List (Option ℕ)) → IsToldOnce checks
-  pub holds : (holds : Option ℕ) (before : List (Option ℕ)) → is_some (raised_by (holds ∷ before)) ≡ is_some holds
+  pub holds : (holds : Option ℕ) (before : List (Option ℕ)) → is_some (raised_after (holds ∷ before)) ≡ is_some holds
 
 -- since when each alarm of a source is raised
 abbrev pub raised_at : SourceAlarm → RaisedSince → Option ℕ
@@ -80,8 +80,8 @@ abbrev pub oldest_of : List Arrival → Option ℕ
 oldest_of [] = None
 oldest_of (x ∷ before) = oldest_with x.time (oldest_of before)
 
--- a LAN has no copies any more: the newest copy by the other one lies further behind its own newest, or behind the first of the source where
--- none came by it, than a time
+-- a LAN has no copies any more: the newest copy by the other one lies further behind its own newest than a time, or behind the first of the
+-- source where none came by it
 abbrev pub since_if : Bool → ℕ → Option ℕ
 since_if holds since = if holds then Some since else None
 
@@ -92,13 +92,13 @@ abbrev pub own_or_first : Option ℕ → Option ℕ → Option ℕ
 own_or_first first None = first
 own_or_first first (Some own) = Some own
 
-abbrev pub lost_from : ℕ → Option ℕ → Option ℕ → Option ℕ
-lost_from alone_for None other = None
-lost_from alone_for (Some since) None = None
-lost_from alone_for (Some since) (Some other) = lost_behind alone_for since other
+abbrev pub lost_since : ℕ → Option ℕ → Option ℕ → Option ℕ
+lost_since alone_for None other = None
+lost_since alone_for (Some since) None = None
+lost_since alone_for (Some since) (Some other) = lost_behind alone_for since other
 
 abbrev pub lan_lost : ℕ → Option ℕ → Option ℕ → Option ℕ → Option ℕ
-lan_lost alone_for first own other = lost_from alone_for (own_or_first first own) other
+lan_lost alone_for first own other = lost_since alone_for (own_or_first first own) other
 
 -- no copy came by either LAN for longer than a time before the mark
 abbrev pub newest_of_both : Option ℕ → Option ℕ → Option ℕ

@@ -53,8 +53,8 @@ plus x y = record {
 abbrev pub side_whole : Sides → SideChanges
 side_whole s = record { a = pos s.a; b = pos s.b }
 
-abbrev pub whole : Counts → Changes
-whole c = record {
+abbrev pub as_changes : Counts → Changes
+as_changes c = record {
   rx = side_whole c.rx;
   both = pos c.both;
   lost = side_whole c.lost;
@@ -85,7 +85,7 @@ none_counted = record {
 
 -- what the lines of a source tell together, newest first
 abbrev pub sum_of : List SourceLine → Changes
-sum_of [] = whole none_counted
+sum_of [] = as_changes none_counted
 sum_of (line ∷ before) = plus line.interval (sum_of before)
 
 -- what the newest line of a source told in all
@@ -99,5 +99,5 @@ IsSmall c = unsigned_abs c.skews.sum ≤ 2 ^ 120
 
 -- these lines told so much
 pub record HasTold (lines : List SourceLine) (told : Counts) : Type 0 where
-  pub sums : sum_of lines ≡ whole told
+  pub sums : sum_of lines ≡ as_changes told
   pub small : IsSmall told

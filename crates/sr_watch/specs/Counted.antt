@@ -16,12 +16,13 @@ use Rattle.sr_audit.specs.Waiting.{waits_of}
 use Rattle.sr_watch.specs.declared.counts.Counts.{Counts}
 use Rattle.sr_watch.specs.declared.report.Lasts.{Lasts}
 use Rattle.sr_watch.specs.Late.{lates_of}
+use Rattle.sr_watch.specs.Limits.{end_of_time}
 
 -- captures that run all the time: what comes while the other one does not run is not noted
 abbrev pub always : Spans
 always = record {
-  a = Some (record { first = 0; last = 18446744073709551615 });
-  b = Some (record { first = 0; last = 18446744073709551615 });
+  a = Some (record { first = 0; last = end_of_time });
+  b = Some (record { first = 0; last = end_of_time });
 }
 
 -- the figures that an audit has of all arrivals of a source, newest first
@@ -37,15 +38,15 @@ figures_for xs = record {
 }
 
 -- the frames that a side lost: those that came by the other side alone or late by this one, but for those that wait
-abbrev pub lost_by : ℕ → ℕ → ℕ → ℕ
-lost_by alone late waits = bounded_sum alone late - waits
+abbrev pub called_lost : ℕ → ℕ → ℕ → ℕ
+called_lost alone late waits = bounded_sum alone late - waits
 
 -- what is counted, by the figures of an audit, the copies that came late and the frames that wait
 abbrev pub counts_from : Figures → Sides → Sides → Counts
 counts_from f late waits = record {
   rx = f.tally.rx;
   both = (f.tally.pairs - late.a) - late.b;
-  lost = record { a = lost_by f.tally.alone.b late.a waits.b; b = lost_by f.tally.alone.a late.b waits.a };
+  lost = record { a = called_lost f.tally.alone.b late.a waits.b; b = called_lost f.tally.alone.a late.b waits.a };
   late = late;
   repeats = f.tally.repeats;
   order = f.order;
@@ -56,8 +57,8 @@ counts_from f late waits = record {
 }
 
 -- what is counted of a source up to a mark, by all its arrivals, newest first
-abbrev pub counts_of : ℕ → List Arrival → Counts
-counts_of mark xs = counts_from (figures_for xs) (lates_of (stretches xs)) (waits_of mark (current (stretches xs)))
+abbrev pub counted_of : ℕ → List Arrival → Counts
+counted_of mark xs = counts_from (figures_for xs) (lates_of (stretches xs)) (waits_of mark (current (stretches xs)))
 
 -- when the last copy came by a side
 abbrev pub newest_at : Side → List Arrival → Option ℕ

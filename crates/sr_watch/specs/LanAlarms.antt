@@ -20,8 +20,8 @@ with_lan_raised CaptureEnded since r = record r { ended = since }
 with_lan_raised Behind since r = record r { behind = since }
 with_lan_raised Full since r = record r { full = since }
 
--- an alarm holds: it runs and no packet came for longer than a time; it has ended; a copy was behind the mark since the last check; or as many
--- copies wait as may
+-- an alarm holds: it runs and no packet came for longer than a time; it has ended; a copy was behind the mark since the last check; or as
+-- many copies wait as may
 abbrev pub lan_holds : LanAlarm → ℕ → ℕ → ℕ → ℕ → Lan → Bool
 lan_holds LanSilent alone_for now behind held lan = is_running lan.phase && nat_lt alone_for (now - lan.heard)
 lan_holds CaptureEnded alone_for now behind held lan = is_ended lan.phase

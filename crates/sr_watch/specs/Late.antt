@@ -8,13 +8,13 @@ use Rattle.sr_audit.specs.Skewing.{pairs_up, skew_by, class_of}
 use Rattle.sr_audit.specs.Stretches.{Placed, same_side}
 
 -- a skew of 400 ms or more: it is in the class without a bound
-abbrev pub is_over : ℤ → Bool
-is_over z = nat_eq (class_of (unsigned_abs z)) 6
+abbrev pub is_late_skew : ℤ → Bool
+is_late_skew z = nat_eq (class_of (unsigned_abs z)) 6
 
 -- a copy by a side makes a pair of its frame, 400 ms or more behind the first one
 abbrev pub joins_late : Side → Placed → List Placed → Bool
 joins_late side y before =
-    pairs_up y before && (is_over (skew_by y.side y.time (first_time y.number before)) && same_side side y.side)
+    pairs_up y before && (is_late_skew (skew_by y.side y.time (first_time y.number before)) && same_side side y.side)
 
 -- how many copies came late by a side in a stretch
 abbrev pub late_in : Side → List Placed → ℕ

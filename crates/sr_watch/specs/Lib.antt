@@ -1,6 +1,9 @@
+pub mod Limits
 pub mod Late
 pub mod Counted
 pub mod Changed
+pub mod Ranks
+pub mod Forgetting
 pub mod Tracking
 pub mod Watching
 pub mod Running

@@ -31,9 +31,9 @@ is_watching now lans = runs_at now lans.a && runs_at now lans.b
 abbrev pub has_ended : Lans → Bool
 has_ended lans = is_ended lans.a.phase && is_ended lans.b.phase
 
-abbrev pub lan_at : Side → Lans → Lan
-lan_at A lans = lans.a
-lan_at B lans = lans.b
+abbrev pub lan_in : Side → Lans → Lan
+lan_in A lans = lans.a
+lan_in B lans = lans.b
 
 abbrev pub with_lan : Side → Lan → Lans → Lans
 with_lan A lan lans = record lans { a = lan }

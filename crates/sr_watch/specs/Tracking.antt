@@ -1,5 +1,5 @@
 -- What is kept of a source.
-use Rattle.std.specs.Prelude.{◌≡◌, ℕ, ◌+◌, ◌^◌, ◌<◌, ◌≤◌, List, ◌∷◌, length, Option}
+use Rattle.std.specs.Prelude.{◌≡◌, ℕ, ◌+◌, ◌^◌, ◌<◌, ◌≤◌, List, ◌∷◌, length, Option, true}
 use Rattle.sr_audit.specs.declared.arrival.Arrival.{Arrival}
 use Rattle.sr_audit.specs.Limits.{exact_arrivals}
 use Rattle.sr_audit.specs.Stretches.{stretches}
@@ -12,7 +12,7 @@ use Rattle.sr_watch.specs.declared.settings.Settings.{Settings}
 use Rattle.sr_watch.specs.declared.tracked.Tracked.{Tracked}
 use Rattle.sr_watch.specs.Alarms.{alarm_between, raised_with, raised_at, with_raised, oldest_of, lan_lost, is_silent}
 use Rattle.sr_watch.specs.Changed.{changes_between, total_of, HasTold}
-use Rattle.sr_watch.specs.Counted.{always, counts_of, lasts_of}
+use Rattle.sr_watch.specs.Counted.{always, counted_of, lasts_of}
 use Rattle.sr_watch.specs.Late.{lates_of}
 
 -- these arrivals of the source were noted, newest first
@@ -27,6 +27,8 @@ pub record Watched (xs : List Arrival) (lines : List SourceLine) (t : Tracked) :
   pub tracks : Tracks xs t
   pub told : length xs ≤ exact_arrivals → HasTold lines t.told
   pub since : t.told ≡ total_of lines
+  -- where it may be forgotten, all its arrivals were told
+  pub settled : t.is_settled ≡ true → length xs ≤ exact_arrivals → (mark : ℕ) × (t.told ≡ counted_of mark xs)
 
 -- one arrival more was noted
 pub record NotesArrival (x : Arrival) (old new : Tracked) : Type 0 where
@@ -36,7 +38,7 @@ pub record NotesArrival (x : Arrival) (old new : Tracked) : Type 0 where
 
 -- a line tells what no line before told, of all that is counted up to a mark; and all is told now
 pub record TellsLine (mark : ℕ) (old new : Tracked) (line : SourceLine) : Type 0 where
-  pub total : (xs : List Arrival) → length xs ≤ exact_arrivals → Tracks xs old → line.total ≡ counts_of mark xs
+  pub total : (xs : List Arrival) → length xs ≤ exact_arrivals → Tracks xs old → line.total ≡ counted_of mark xs
   pub last : (xs : List Arrival) → Tracks xs old → line.last ≡ lasts_of xs
   pub interval : line.interval ≡ changes_between old.told line.total
   pub all : new.told ≡ line.total

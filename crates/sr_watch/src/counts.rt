@@ -2,7 +2,8 @@
 
 ghost use Rattle.std.specs.Prelude.{◌≡◌};
 ghost use Rattle.sr_watch.specs.Changed.{change, side_changes, changes_between, none_counted};
-ghost use Rattle.sr_watch.specs.Counted.{lost_by, counts_from};
+ghost use Rattle.sr_watch.specs.Forgetting.{sides_with, forgot_with};
+ghost use Rattle.sr_watch.specs.Counted.{called_lost, counts_from};
 
 use sr_audit::{Figures, Sides, Skews};
 
@@ -117,8 +118,8 @@ fn side_changes(told: Sides, all: Sides) -> SideChanges
 }
 
 /// The frames that a LAN lost: those that came by the other one alone or late by this one, but for those that wait.
-fn lost_by(alone: u64, late: u64, waits: u64) -> u64
-    ensures { result ≡ lost_by alone late waits }
+fn called_lost(alone: u64, late: u64, waits: u64) -> u64
+    ensures { result ≡ called_lost alone late waits }
 {
     alone.saturating_add(late).saturating_sub(waits)
 }
@@ -146,8 +147,8 @@ impl Counts {
             rx: f.tally.rx,
             both: f.tally.pairs.saturating_sub(late.a).saturating_sub(late.b),
             lost: Sides {
-                a: lost_by(f.tally.alone.b, late.a, waits.b),
-                b: lost_by(f.tally.alone.a, late.b, waits.a),
+                a: called_lost(f.tally.alone.b, late.a, waits.b),
+                b: called_lost(f.tally.alone.a, late.b, waits.a),
             },
             late,
             repeats: f.tally.repeats,
@@ -175,6 +176,75 @@ impl Counts {
             restarts: change(told.restarts, self.restarts),
             pairs: change(told.skews.count, self.skews.count),
             skew_sum: self.skews.sum.saturating_sub(told.skews.sum),
+        }
+    }
+}
+
+/// What was counted of the sources that were forgotten, together. Counts stay at 2^64 - 1.
+#[derive(Clone, Copy, Debug, PartialEq, Eq)]
+pub struct Forgotten {
+    /// How many sources there were.
+    pub sources: u64,
+    /// Copies that came by a LAN.
+    pub rx: Sides,
+    /// Frames of both LANs, in time.
+    pub both: u64,
+    /// Frames that a LAN lost.
+    pub lost: Sides,
+    /// Those of which a copy came later.
+    pub late: Sides,
+    /// Copies behind an earlier one of their frame by the same LAN.
+    pub repeats: Sides,
+    /// First copies behind a greater number of their LAN.
+    pub order: Sides,
+    /// Numbers that no frame had.
+    pub neither: u64,
+    /// Stretches that begin with a jump.
+    pub jumps: u64,
+    /// Stretches that begin behind a silence.
+    pub restarts: u64,
+}
+
+/// Counts of both LANs together with others.
+fn sides_with(sides: Sides, others: Sides) -> Sides
+    ensures { result ≡ sides_with sides others }
+{
+    Sides {
+        a: sides.a.saturating_add(others.a),
+        b: sides.b.saturating_add(others.b),
+    }
+}
+
+impl Forgotten {
+    /// None was forgotten.
+    pub const NONE: Forgotten = Forgotten {
+        sources: 0,
+        rx: Sides::NONE,
+        both: 0,
+        lost: Sides::NONE,
+        late: Sides::NONE,
+        repeats: Sides::NONE,
+        order: Sides::NONE,
+        neither: 0,
+        jumps: 0,
+        restarts: 0,
+    };
+
+    /// With a source of which so much was told.
+    pub(crate) fn with(self, told: &Counts) -> Forgotten
+        ensures { result ≡ forgot_with told.now self }
+    {
+        Forgotten {
+            sources: self.sources.saturating_add(1),
+            rx: sides_with(self.rx, told.rx),
+            both: self.both.saturating_add(told.both),
+            lost: sides_with(self.lost, told.lost),
+            late: sides_with(self.late, told.late),
+            repeats: sides_with(self.repeats, told.repeats),
+            order: sides_with(self.order, told.order),
+            neither: self.neither.saturating_add(told.neither),
+            jumps: self.jumps.saturating_add(told.jumps),
+            restarts: self.restarts.saturating_add(told.restarts),
         }
     }
 }

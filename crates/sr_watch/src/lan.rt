@@ -2,7 +2,7 @@
 
 ghost use Rattle.std.specs.Prelude.{◌≡◌};
 ghost use Rattle.sr_watch.specs.LanAlarms.{lan_raised_at, with_lan_raised, lan_holds, lan_checked, last_or};
-ghost use Rattle.sr_watch.specs.Running.{runs_at, is_watching, has_ended, lan_at, with_lan, recorder_of, side_of};
+ghost use Rattle.sr_watch.specs.Running.{runs_at, is_watching, has_ended, lan_in, with_lan, recorder_of, side_of};
 
 use crate::alarm::LanAlarm;
 use sr_audit::Side;
@@ -192,7 +192,7 @@ impl Lans {
 
     /// That of a LAN.
     pub fn at(&self, side: Side) -> Lan
-        ensures { result ≡ lan_at side self.now }
+        ensures { result ≡ lan_in side self.now }
     {
         match side {
             Side::A => self.a,

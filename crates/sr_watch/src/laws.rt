@@ -1,6 +1,7 @@
 //! Laws of what is told of sources.
 
 ghost use Rattle.sr_watch.specs.Alarms.{AlarmsAreToldOnce};
+ghost use Rattle.sr_watch.specs.Forgetting.{ForgettingMovesCounts};
 ghost use Rattle.sr_watch.specs.Laws.{EachArrivalIsInOneInterval, LinesTellOfAllThatWasReleased};
 ghost use Rattle.sr_watch.specs.Worked.{WorkedSourceIsTold};
 
@@ -26,4 +27,9 @@ pub fn alarms_are_told_once()
 /// The counts of a source worked out: before and behind the time when a frame is called lost, and with a copy that came late after all.
 pub fn a_worked_source_is_told()
     ensures { WorkedSourceIsTold }
+{}
+
+/// Where sources are forgotten, each count of those that are left and of the forgotten ones stays, together.
+pub fn forgetting_moves_counts()
+    ensures { ForgettingMovesCounts }
 {}

@@ -12,10 +12,10 @@ mod tracked;
 mod watch;
 
 pub use alarm::{Alarm, LanAlarm, Note, SourceAlarm};
-pub use counts::{Changes, Counts, SideChanges, Spread};
+pub use counts::{Changes, Counts, Forgotten, SideChanges, Spread};
 pub use laws::{
     a_worked_source_is_told, alarms_are_told_once, each_arrival_is_in_one_interval,
-    lines_tell_of_all_that_was_released,
+    forgetting_moves_counts, lines_tell_of_all_that_was_released,
 };
 pub use report::{Header, LanCounts, Lasts, SourceLine};
 pub use settings::Settings;

@@ -3,12 +3,13 @@
 ghost use Rattle.std.specs.Prelude.{◌≡◌, ◌++◌, ◌∷◌, [], OnOk};
 
 use crate::alarm::{Alarm, SourceAlarm};
+use crate::counts::Forgotten;
 use crate::report::SourceLine;
 use crate::settings::Settings;
 use crate::tracked::Tracked;
 use sr_audit::{Arrival, MAX_SOURCES};
 use sr_frame::{Mac, NoMemory};
-use sr_slots::{Keys, Slots};
+use sr_slots::{Keys, Ranked, Slots};
 use std::alloc::{AllocError, Global};
 
 /// The sources that have a line, in the order of first hearing. Arrivals of a source beyond the 1024th are counted.
@@ -17,6 +18,7 @@ pub(crate) struct Table {
     alloc: Global,
     sources: Slots<Tracked>,
     left_out: u64,
+    forgotten: Forgotten,
 }
 
 /// Appends an address.
@@ -38,8 +40,9 @@ impl Table {
     ghost use Rattle.sr_audit.specs.Audits.{Sent};
     ghost use Rattle.sr_audit.specs.Limits.{most_audited};
     ghost use Rattle.sr_watch.specs.declared.report.SourceLine.{SourceLine};
+    ghost use Rattle.sr_watch.specs.Forgetting.{forgotten_from, left_from};
     ghost use Rattle.sr_watch.specs.Tracking.{NotesArrival, TellsLine, ChecksAlarm};
-    ghost use Rattle.sr_watch.specs.Watching.{Watches, unwatched_of, CountsUnwatched, TellsOf, ChecksOf};
+    ghost use Rattle.sr_watch.specs.Watching.{Watches, unwatched_of, CountsUnwatched, TellsSource, ChecksOf};
 
     /// No arrival came.
     pub fn new(alloc: Global, keys: Keys) -> Table
@@ -51,6 +54,7 @@ impl Table {
             alloc,
             sources: Slots::with_keys(alloc, keys),
             left_out: 0,
+            forgotten: Forgotten::NONE,
         }
     }
 
@@ -70,6 +74,7 @@ impl Table {
         ensures left_out { self.new.left_out ≡ self.old.left_out }
         ensures few { length self.old.sources.entries ≤ most_audited
             → length self.new.sources.entries ≤ most_audited }
+        ensures forgotten { self.new.forgotten ≡ self.old.forgotten }
     {
         if self.sources.get(src).is_some() {
             return Ok(true);
@@ -95,6 +100,7 @@ impl Table {
             is_some (lookup (mac_eq src) self.new.sources.entries) ≡ true) }
         ensures left_out { self.new.left_out ≡ self.old.left_out }
         ensures len { length self.new.sources.entries ≡ length self.old.sources.entries }
+        ensures forgotten { self.new.forgotten ≡ self.old.forgotten }
     {
         self.sources.update_at(
             None,
@@ -117,6 +123,7 @@ impl Table {
         ensures own { is_some (lookup (mac_eq src) self.new.sources.entries) ≡ true }
         ensures left_out { self.new.left_out ≡ self.old.left_out }
         ensures len { length self.new.sources.entries ≡ length self.old.sources.entries }
+        ensures forgotten { self.new.forgotten ≡ self.old.forgotten }
     {
         self.take_at(src, x).unwrap()
     }
@@ -142,6 +149,7 @@ impl Table {
             → CountsUnwatched self.new.sources.entries xs self.new.left_out) }
         ensures few { length self.old.sources.entries ≤ most_audited
             → length self.new.sources.entries ≤ most_audited }
+        ensures forgotten { self.new.forgotten ≡ self.old.forgotten }
     {
         if self.take_at(src, x).is_some() {
             return Ok(());
@@ -158,13 +166,14 @@ impl Table {
     /// What no line told of a source, up to a mark. None: it has no entry.
     pub fn tell(&mut self, src: Mac, mark: u64) -> Option<SourceLine>
         ensures found { is_some result ≡ is_some (lookup (mac_eq src) self.old.sources.entries) }
-        ensures told { IfSome result (λ line. TellsOf mark src self.old.sources.entries
+        ensures told { IfSome result (λ line. TellsSource mark src self.old.sources.entries
             self.new.sources.entries line) }
         ensures none { IfNone result (self.new.sources ≡ self.old.sources) }
         ensures known { (xs : List Sent) → unwatched_of self.new.sources.entries xs
             ≡ unwatched_of self.old.sources.entries xs }
         ensures left_out { self.new.left_out ≡ self.old.left_out }
         ensures len { length self.new.sources.entries ≡ length self.old.sources.entries }
+        ensures forgotten { self.new.forgotten ≡ self.old.forgotten }
     {
         let line = self.sources.update_at(
             None,
@@ -196,6 +205,7 @@ impl Table {
         ensures known { (xs : List Sent) → unwatched_of self.new.sources.entries xs
             ≡ unwatched_of self.old.sources.entries xs }
         ensures left_out { self.new.left_out ≡ self.old.left_out }
+        ensures forgotten { self.new.forgotten ≡ self.old.forgotten }
     {
         let told = self.sources.update_at(
             None,
@@ -205,6 +215,38 @@ impl Table {
             { source.check(alarm, mark, &settings) },
         )?;
         told
+    }
+
+    /// What is forgotten with the sources whose rank is below a limit.
+    fn forgotten_below(&self, limit: u64) -> Forgotten
+        ensures { result ≡ forgotten_from limit self.now.sources.entries self.now.forgotten }
+    {
+        let mut forgotten = self.forgotten;
+        for (_, source) in self.sources.iter() {
+            if source.rank() < limit {
+                forgotten = forgotten.with(&source.told);
+            }
+        }
+        forgotten
+    }
+
+    /// Forgets the sources of which all was told, and whose last copy came before a time.
+    pub fn forget(&mut self, limit: u64)
+        ensures entries { self.new.sources.entries ≡ left_from limit self.old.sources.entries }
+        ensures forgotten { self.new.forgotten
+            ≡ forgotten_from limit self.old.sources.entries self.old.forgotten }
+        ensures left_out { self.new.left_out ≡ self.old.left_out }
+    {
+        self.forgotten = self.forgotten_below(limit);
+        let _least = self.sources.sift(limit);
+        self.sources.sweep(MAX_SOURCES, 4 * MAX_SOURCES);
+    }
+
+    /// What was counted of the sources that were forgotten.
+    pub fn forgotten(&self) -> Forgotten
+        ensures { result ≡ self.now.forgotten }
+    {
+        self.forgotten
     }
 
     /// The sources that have an entry, in the order of first hearing.

@@ -40,6 +40,10 @@ pub(crate) struct Tracked {
     /// When its first copy came.
     pub first: Option<u64>,
     pub last: Lasts,
+    /// When its last copy came.
+    pub newest: u64,
+    /// Nothing came since the last line, and no frame waited then.
+    pub is_settled: bool,
     /// What lines have told.
     pub told: Counts,
     /// What the last line told.
@@ -52,10 +56,16 @@ pub(crate) struct Tracked {
 }
 
 impl Ranked for Tracked {
-    ghost rank_of = { λ t. 0 };
+    ghost use Rattle.sr_watch.specs.Ranks.{rank_in};
+
+    ghost rank_of = { rank_in };
 
     fn rank(&self) -> u64 {
-        0
+        if self.is_settled {
+            self.newest
+        } else {
+            u64::MAX
+        }
     }
 }
 
@@ -134,7 +144,7 @@ impl Tracked {
     ghost use Rattle.sr_audit.specs.Limits.{exact_arrivals};
     ghost use Rattle.sr_audit.specs.Stretches.{stretches, current};
     ghost use Rattle.sr_audit.specs.Waiting.{waits_of};
-    ghost use Rattle.sr_watch.specs.Counted.{counts_of};
+    ghost use Rattle.sr_watch.specs.Counted.{counted_of};
     ghost use Rattle.sr_watch.specs.Tracking.{Watched, Tracks, NotesArrival, TellsLine, ChecksAlarm};
 
     /// A source of which nothing came.
@@ -147,6 +157,8 @@ impl Tracked {
             spread: None,
             first: None,
             last: Lasts::NONE,
+            newest: 0,
+            is_settled: false,
             told: Counts::NONE,
             shown: Changes::NONE,
             shown_spread: None,
@@ -166,12 +178,14 @@ impl Tracked {
         self.spread = spread_with(self.spread, &before, &after);
         self.first = oldest_with(x.time, self.first);
         self.last = self.last.with(x.side, x.time);
+        self.newest = x.time;
+        self.is_settled = false;
     }
 
     /// All that was counted, where so many frames wait at a mark.
     fn counts(&self, waits: Sides) -> Counts
         ensures { (mark : ℕ) (xs : List Arrival) → length xs ≤ exact_arrivals → Tracks xs self.now
-            → waits ≡ waits_of mark (current (stretches xs)) → result ≡ counts_of mark xs }
+            → waits ≡ waits_of mark (current (stretches xs)) → result ≡ counted_of mark xs }
     {
         Counts::of(self.source.figures(), self.late, waits)
     }
@@ -186,6 +200,7 @@ impl Tracked {
         let interval = total.since(&self.told);
         let spread = self.spread;
         self.told = total;
+        self.is_settled = waiting.a == 0 && waiting.b == 0;
         self.spread = None;
         self.shown = interval;
         self.shown_spread = spread;

@@ -5,6 +5,7 @@ ghost use Rattle.std.specs.Option.{option_map};
 ghost use Rattle.sr_watch.specs.Following.{next_as};
 
 use crate::alarm::{Alarm, LanAlarm, SourceAlarm, alarm_between, raised_with, since_if};
+use crate::counts::Forgotten;
 use crate::lan::{Lans, Phase, last_or, recorder_of, side_of};
 use crate::report::{Header, LanCounts, SourceLine};
 use crate::settings::Settings;
@@ -16,6 +17,9 @@ use sr_sequence::Seq;
 use sr_slots::Keys;
 use std::alloc::Global;
 use thiserror::Error;
+
+/// For how long a source is silent until it is forgotten, in nanoseconds: an hour (choice of this project).
+const FORGET_TIME: u64 = 3_600_000_000_000;
 
 /// A numbered copy of a frame, as a reader takes it out of a packet.
 #[derive(Clone, Copy, Debug, PartialEq, Eq)]
@@ -68,11 +72,12 @@ fn next_from(released: Option<Released<Numbered>>) -> Option<Next>
     }
 }
 
-/// Why a hold refused a copy.
-fn fault_of(refused: Refused<Numbered>) -> CameFault {
-    match refused {
-        Refused::Full(_) => CameFault::Full,
-        Refused::AllocFailed(_) => CameFault::NoMemory,
+impl From<Refused<Numbered>> for CameFault {
+    fn from(refused: Refused<Numbered>) -> CameFault {
+        match refused {
+            Refused::Full(_) => CameFault::Full,
+            Refused::AllocFailed(_) => CameFault::NoMemory,
+        }
     }
 }
 
@@ -92,7 +97,7 @@ pub struct Watch {
 }
 
 impl Watch {
-    ghost use Rattle.std.specs.Prelude.{◌≡◌, ℕ, ◌≤◌, ◌^◌, ◌<◌, List, [], ◌∷◌, length, true, false, None, is_some, IfOk, IfSome, IfNone, OnOk, OnErr, IfErr};
+    ghost use Rattle.std.specs.Prelude.{◌≡◌, ℕ, ◌-◌, ◌≤◌, ◌^◌, ◌<◌, List, [], ◌∷◌, length, true, false, None, is_some, IfOk, IfSome, IfNone, OnOk, OnErr, IfErr};
     ghost use Rattle.std.specs.Map.{lookup, keys_of};
     ghost use Rattle.sr_frame.specs.Addresses.{mac_eq};
     ghost use Rattle.sr_audit.specs.Audits.{Sent};
@@ -101,12 +106,14 @@ impl Watch {
     ghost use Rattle.sr_watch.specs.declared.report.SourceLine.{SourceLine};
     ghost use Rattle.sr_watch.specs.declared.watch.Numbered.{Numbered};
     ghost use Rattle.sr_watch.specs.Running.{recorder_of};
-    ghost use Rattle.sr_watch.specs.Following.{Follows, TakesTurn, Advances, ChecksLan, turn_of, left_in, mark_of};
-    ghost use Rattle.sr_watch.specs.Watching.{TellsOf, ChecksOf};
+    ghost use Rattle.sr_watch.specs.Following.{FollowsTurns, TakesTurn, OnlyReleases, ChecksLan, turn_of, left_in, told_up_to};
+    ghost use Rattle.sr_watch.specs.Forgetting.{forgotten_from, left_from};
+    ghost use Rattle.sr_watch.specs.Limits.{silent_hour};
+    ghost use Rattle.sr_watch.specs.Watching.{TellsSource, ChecksOf};
 
     /// Nothing came, and neither capture runs.
     pub fn new(alloc: Global, keys: Keys, settings: Settings, now: u64) -> Watch
-        ensures { Follows settings.slack now [] [] [] result }
+        ensures { FollowsTurns settings.slack now [] [] [] result }
     {
         Watch {
             hold: Hold::new(alloc, settings.slack, now),
@@ -127,10 +134,7 @@ impl Watch {
         ensures err { OnErr result (self.new ≡ self.old) }
     {
         if self.lans.are_watching(now) {
-            match self.hold.came(recorder_of(side), time, now, copy) {
-                Ok(()) => {}
-                Err(refused) => return Err(fault_of(refused)),
-            }
+            self.hold.came(recorder_of(side), time, now, copy)?;
             self.lans = self
                 .lans
                 .with(side, self.lans.at(side).heard(time, now))
@@ -183,7 +187,7 @@ impl Watch {
 
     /// Releases the next arrival, unless one waits for memory.
     fn draw(&mut self)
-        ensures goes { Advances self.old self.new }
+        ensures goes { OnlyReleases self.old self.new }
         ensures over { self.new.next ≡ None → next_of self.new.hold ≡ None }
         ensures left { left_in self.new ≤ left_in self.old }
     {
@@ -194,7 +198,7 @@ impl Watch {
 
     /// Notes the next arrival. False: there is none.
     fn step(&mut self) -> Result<bool, NoMemory>
-        ensures goes { Advances self.old self.new }
+        ensures goes { OnlyReleases self.old self.new }
         ensures next { IfOk result (λ _. self.new.next ≡ None) }
         ensures over { IfOk result (λ more. more ≡ false → next_of self.new.hold ≡ None) }
         ensures left { IfOk result (λ more. more ≡ true → left_in self.new < left_in self.old) }
@@ -215,7 +219,7 @@ impl Watch {
     /// # Errors
     /// `NoMemory` where an allocation failed: the next copy was not taken yet, and a later call begins with it.
     pub fn advance(&mut self) -> Result<(), NoMemory>
-        ensures goes { Advances self.old self.new }
+        ensures goes { OnlyReleases self.old self.new }
         ensures next { OnOk result (self.new.next ≡ None) }
         ensures over { OnOk result (next_of self.new.hold ≡ None) }
     {
@@ -228,7 +232,7 @@ impl Watch {
 
     /// Up to when all is told, in nanoseconds of capture time.
     fn mark(&self) -> u64
-        ensures { result ≡ mark_of self.now }
+        ensures { result ≡ told_up_to self.now }
     {
         if self.lans.have_ended() {
             u64::MAX
@@ -257,7 +261,7 @@ impl Watch {
             a: self.lan_counts(Side::A),
             b: self.lan_counts(Side::B),
             sources: self.table.len() as u64,
-            forgotten: 0,
+            forgotten: self.table.forgotten().sources,
             left_out: self.table.left_out(),
         }
     }
@@ -277,16 +281,45 @@ impl Watch {
     pub fn tell(&mut self, source: Mac) -> Option<SourceLine>
         ensures found { is_some result
             ≡ is_some (lookup (mac_eq source) self.old.table.sources.entries) }
-        ensures told { IfSome result (λ line. TellsOf (mark_of self.old) source
+        ensures told { IfSome result (λ line. TellsSource (told_up_to self.old) source
             self.old.table.sources.entries self.new.table.sources.entries line) }
         ensures follows { IfSome result (λ line. (slack start : ℕ) (turns : List (Turn Numbered))
-            (xs : List Sent) (lines : List SourceLine) → Follows slack start turns xs lines self.old
-            → Follows slack start turns xs (line ∷ lines) self.new) }
+            (xs : List Sent) (lines : List SourceLine)
+            → FollowsTurns slack start turns xs lines self.old
+            → FollowsTurns slack start turns xs (line ∷ lines) self.new) }
+        ensures forgotten { self.new.table.forgotten ≡ self.old.table.forgotten }
         ensures none { IfNone result (self.new ≡ self.old) }
     {
         let mark = self.mark();
         let line = self.table.tell(source, mark)?;
         Some(line)
+    }
+
+    /// Forgets the sources of which no copy came for an hour before the mark, and of which a line has told all. Their counts go to those
+    /// that were forgotten; one that comes back begins anew.
+    pub fn forget(&mut self)
+        ensures entries { self.new.table.sources.entries
+            ≡ left_from (self.old.hold.progress.mark.time - silent_hour)
+            self.old.table.sources.entries }
+        ensures forgotten { self.new.table.forgotten
+            ≡ forgotten_from (self.old.hold.progress.mark.time - silent_hour)
+            self.old.table.sources.entries self.old.table.forgotten }
+        ensures hold { self.new.hold ≡ self.old.hold }
+        ensures still { left_from (self.old.hold.progress.mark.time - silent_hour)
+            self.old.table.sources.entries ≡ self.old.table.sources.entries
+            → (slack start : ℕ) (turns : List (Turn Numbered)) (xs : List Sent)
+            (lines : List SourceLine) → FollowsTurns slack start turns xs lines self.old
+            → FollowsTurns slack start turns xs lines self.new }
+    {
+        self.table
+            .forget(self.hold.mark().saturating_sub(FORGET_TIME));
+    }
+
+    /// What was counted of the sources that were forgotten.
+    pub fn forgotten(&self) -> Forgotten
+        ensures { result ≡ self.now.table.forgotten }
+    {
+        self.table.forgotten()
     }
 
     /// Whether an alarm of a source is raised or cleared since the last check. Those of an interval are by the last line of the source.
@@ -297,8 +330,8 @@ impl Watch {
         ensures none { is_some (lookup (mac_eq source) self.old.table.sources.entries) ≡ false
             → result ≡ None }
         ensures follows { (slack start : ℕ) (turns : List (Turn Numbered)) (xs : List Sent)
-            (lines : List SourceLine) → Follows slack start turns xs lines self.old
-            → Follows slack start turns xs lines self.new }
+            (lines : List SourceLine) → FollowsTurns slack start turns xs lines self.old
+            → FollowsTurns slack start turns xs lines self.new }
     {
         let mark = self.hold.mark();
         self.table.check(source, alarm, mark, self.settings)

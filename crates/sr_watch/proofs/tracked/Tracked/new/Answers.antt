@@ -8,4 +8,5 @@ returns c =
       tracks = record { taken = c.in_ok-new.ensures.taken always; late = λ few. refl; first = refl; last = refl };
       told = λ few. record { sums = refl; small = omega arith };
       since = refl;
+      settled = λ is few. absurd cc;
     }

@@ -30,6 +30,7 @@ returns c =
             };
             told = λ exact. watched.told (omega (arith, exact));
             since = watched.since;
+            settled = λ is few. absurd cc;
           };
       told = refl;
     }

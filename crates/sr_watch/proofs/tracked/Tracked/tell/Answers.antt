@@ -19,5 +19,6 @@ returns-clause-told c =
             (small_of mark xs few (watched.tracks.taken.skews few).small))
             c.since-interval.ensures;
         since = refl;
+        settled = λ is few. (mark, c.counts-total.ensures mark xs few watched.tracks (c.waits-waiting.ensures always xs watched.tracks.taken));
       };
     }
