@@ -63,7 +63,7 @@ impl Raised {
     }
 
     /// The source that it is of. None: it is of a capture.
-    pub(crate) fn source(self) -> Option<Mac> {
+    pub fn source(self) -> Option<Mac> {
         match self {
             Raised::Source(mac, _) => Some(mac),
             Raised::Lan(_, _) => None,

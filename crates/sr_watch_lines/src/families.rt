@@ -79,6 +79,26 @@ pub(crate) fn print_of_sides<W: Write>(
     writeln!(writer, "{name}{{source=\"{mac}\",lan=\"b\"}} {b}")
 }
 
+/// Prints the sample of the sources that were forgotten, together.
+pub(crate) fn print_of_forgotten<W: Write>(
+    writer: &mut W,
+    name: &'static str,
+    value: u64,
+) -> io::Result<()> {
+    writeln!(writer, "{name}{{source=\"forgotten\"}} {value}")
+}
+
+/// Prints the samples of the sources that were forgotten, one for each LAN.
+pub(crate) fn print_of_forgotten_sides<W: Write>(
+    writer: &mut W,
+    name: &'static str,
+    sides: Sides,
+) -> io::Result<()> {
+    let Sides { a, b } = sides;
+    writeln!(writer, "{name}{{source=\"forgotten\",lan=\"a\"}} {a}")?;
+    writeln!(writer, "{name}{{source=\"forgotten\",lan=\"b\"}} {b}")
+}
+
 /// Prints the sample of an alarm that is raised. What it is not of has an empty label.
 pub(crate) fn print_raised<W: Write>(writer: &mut W, raised: Raised) -> io::Result<()> {
     let word = raised.word();

@@ -9,7 +9,7 @@ use crate::skews::print_skews;
 use crate::whole::{SOURCE_FIGURES, print_source_figure};
 use sr_audit::Side;
 use sr_intake::PacketCounts;
-use sr_watch::{Header, SourceLine};
+use sr_watch::{Forgotten, Header, SourceLine};
 use std::io::{self, Write};
 
 /// What metrics tell.
@@ -23,6 +23,8 @@ pub struct Metrics<'a> {
     pub packets: Packets,
     /// The sources.
     pub sources: &'a [SourceLine],
+    /// Those that were forgotten, together.
+    pub forgotten: Forgotten,
     /// The alarms that are raised.
     pub raised: &'a [Raised],
 }
@@ -183,12 +185,16 @@ fn print_whole<W: Write>(writer: &mut W, metrics: &Metrics<'_>) -> io::Result<()
 }
 
 /// Prints the families of the sources.
-fn print_sources<W: Write>(writer: &mut W, sources: &[SourceLine]) -> io::Result<()> {
+fn print_sources<W: Write>(
+    writer: &mut W,
+    sources: &[SourceLine],
+    forgotten: &Forgotten,
+) -> io::Result<()> {
     for figure in SIDE_FIGURES {
-        print_side_figure(writer, figure, sources)?;
+        print_side_figure(writer, figure, sources, forgotten)?;
     }
     for figure in SOURCE_FIGURES {
-        print_source_figure(writer, figure, sources)?;
+        print_source_figure(writer, figure, sources, forgotten)?;
     }
     print_skews(writer, sources)?;
     print_lasts(writer, sources)
@@ -199,7 +205,7 @@ fn print_sources<W: Write>(writer: &mut W, sources: &[SourceLine]) -> io::Result
 /// # Errors
 /// Where the writer fails.
 pub fn print_metrics<W: Write>(writer: &mut W, metrics: &Metrics<'_>) -> io::Result<()> {
-    print_sources(writer, metrics.sources)?;
+    print_sources(writer, metrics.sources, &metrics.forgotten)?;
     print_packets(writer, &metrics.header, &metrics.packets)?;
     print_captures(writer, &metrics.header)?;
     print_alarms(writer, metrics.raised)?;

@@ -56,6 +56,7 @@ fn print_head<W: Write>(writer: &mut W, format: Format, told: &Told<'_>) -> io::
     let waiting = count("waiting", waiting_of(told.sources));
     let held = count("held", header.a.held.saturating_add(header.b.held));
     let sources = count("sources", header.sources);
+    let forgotten = count("forgotten", header.forgotten);
     let left_out = count("left_out", header.left_out);
     match format {
         Format::Text => {
@@ -64,7 +65,7 @@ fn print_head<W: Write>(writer: &mut W, format: Format, told: &Told<'_>) -> io::
                 format,
                 "report",
                 &[],
-                &[at, seconds, waiting, held, sources, left_out],
+                &[at, seconds, waiting, held, sources, forgotten, left_out],
             )
         }
         Format::Json => {
@@ -73,7 +74,7 @@ fn print_head<W: Write>(writer: &mut W, format: Format, told: &Told<'_>) -> io::
                 format,
                 "report",
                 &[at, seconds],
-                &[waiting, held, sources, left_out],
+                &[waiting, held, sources, forgotten, left_out],
             )
         }
     }

@@ -1,10 +1,10 @@
 //! Metrics of a source that each LAN has.
 
-use crate::families::{Kind, print_family, print_of_sides};
+use crate::families::{Kind, print_family, print_of_forgotten_sides, print_of_sides};
 use crate::shown::Nanos;
 use sr_audit::Sides;
 use sr_frame::Mac;
-use sr_watch::{Counts, SourceLine};
+use sr_watch::{Counts, Forgotten, SourceLine};
 use std::io::{self, Write};
 
 /// A figure of a source that each LAN has.
@@ -59,18 +59,30 @@ fn value_of(figure: SideFigure, counts: &Counts) -> Sides {
     }
 }
 
-/// Prints a figure of each source.
+/// A figure of the sources that were forgotten.
+fn forgotten_of(figure: SideFigure, forgotten: &Forgotten) -> Sides {
+    match figure {
+        SideFigure::Copies => forgotten.rx,
+        SideFigure::Repeated => forgotten.repeats,
+        SideFigure::Overtaken => forgotten.order,
+        SideFigure::Lost => forgotten.lost,
+        SideFigure::Late => forgotten.late,
+    }
+}
+
+/// Prints a figure of each source, and of those that were forgotten.
 pub(crate) fn print_side_figure<W: Write>(
     writer: &mut W,
     figure: SideFigure,
     sources: &[SourceLine],
+    forgotten: &Forgotten,
 ) -> io::Result<()> {
     let name = name_of(figure);
     print_family(writer, name, Kind::Counter, help_of(figure))?;
     for line in sources {
         print_of_sides(writer, name, line.source, value_of(figure, &line.total))?;
     }
-    Ok(())
+    print_of_forgotten_sides(writer, name, forgotten_of(figure, forgotten))
 }
 
 /// Prints when the last copy of a source came by a LAN, if one came.

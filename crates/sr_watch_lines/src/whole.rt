@@ -1,7 +1,8 @@
 //! Metrics of a source as a whole.
 
-use crate::families::{Kind, print_family, print_of_source};
-use sr_watch::SourceLine;
+use crate::families::{Kind, print_family, print_of_forgotten, print_of_source};
+use sr_audit::Sides;
+use sr_watch::{Forgotten, SourceLine};
 use std::io::{self, Write};
 
 /// A figure of a source as a whole.
@@ -45,37 +46,50 @@ fn help_of(figure: SourceFigure) -> &'static str {
     }
 }
 
-/// How many frames of a source came, by one LAN or both.
-fn frames_of(line: &SourceLine) -> u64 {
-    let total = &line.total;
-    let lost = total.lost.a.saturating_add(total.lost.b);
-    let late = total.late.a.saturating_add(total.late.b);
-    let waiting = line.waiting.a.saturating_add(line.waiting.b);
-    let alone = lost.saturating_add(waiting).saturating_sub(late);
-    total.skews.count.saturating_add(alone)
+/// How many frames came, by one LAN or both: each LAN lost those that came by the other one alone.
+fn frames_of(both: u64, lost: Sides, waiting: Sides) -> u64 {
+    both.saturating_add(lost.a)
+        .saturating_add(lost.b)
+        .saturating_add(waiting.a)
+        .saturating_add(waiting.b)
 }
 
 /// A figure of a source.
 fn value_of(figure: SourceFigure, line: &SourceLine) -> u64 {
+    let total = &line.total;
+    let frames = frames_of(total.both, total.lost, line.waiting);
     match figure {
-        SourceFigure::Both => line.total.both,
-        SourceFigure::Numbers => frames_of(line).saturating_add(line.total.neither),
-        SourceFigure::Frames => frames_of(line),
-        SourceFigure::Jumps => line.total.jumps,
-        SourceFigure::Restarts => line.total.restarts,
+        SourceFigure::Both => total.both,
+        SourceFigure::Numbers => frames.saturating_add(total.neither),
+        SourceFigure::Frames => frames,
+        SourceFigure::Jumps => total.jumps,
+        SourceFigure::Restarts => total.restarts,
     }
 }
 
-/// Prints a figure of each source.
+/// A figure of the sources that were forgotten.
+fn forgotten_of(figure: SourceFigure, forgotten: &Forgotten) -> u64 {
+    let frames = frames_of(forgotten.both, forgotten.lost, Sides::NONE);
+    match figure {
+        SourceFigure::Both => forgotten.both,
+        SourceFigure::Numbers => frames.saturating_add(forgotten.neither),
+        SourceFigure::Frames => frames,
+        SourceFigure::Jumps => forgotten.jumps,
+        SourceFigure::Restarts => forgotten.restarts,
+    }
+}
+
+/// Prints a figure of each source, and of those that were forgotten.
 pub(crate) fn print_source_figure<W: Write>(
     writer: &mut W,
     figure: SourceFigure,
     sources: &[SourceLine],
+    forgotten: &Forgotten,
 ) -> io::Result<()> {
     let name = name_of(figure);
     print_family(writer, name, Kind::Counter, help_of(figure))?;
     for line in sources {
         print_of_source(writer, name, line.source, value_of(figure, line))?;
     }
-    Ok(())
+    print_of_forgotten(writer, name, forgotten_of(figure, forgotten))
 }

@@ -7,8 +7,9 @@ use crate::plan::Plan;
 use crate::running::WatchFault;
 use sr_audit::Side;
 use sr_dates::Moment;
+use sr_frame::Mac;
 use sr_intake::PacketCounts;
-use sr_watch::{Alarm, Header, LanAlarm, Note, SourceAlarm, SourceLine, Watch};
+use sr_watch::{Alarm, Forgotten, Header, LanAlarm, Note, SourceAlarm, SourceLine, Watch};
 use sr_watch_lines::{
     Format, Metrics, Packets, Raised, Told, print_alarm, print_metrics, print_report,
 };
@@ -74,6 +75,20 @@ fn lines_of(alloc: Global, watch: &mut Watch) -> Result<Vec<SourceLine>, WatchFa
     Ok(lines)
 }
 
+/// The alarms of captures and of sources that are known.
+fn known_of(alloc: Global, raised: &[Raised], sources: &[Mac]) -> Result<Vec<Raised>, WatchFault> {
+    let mut known = Vec::new(alloc);
+    for own in raised {
+        if own.source().is_none_or(|mac| sources.contains(&mac)) {
+            match known.push(*own) {
+                Ok(()) => {}
+                Err(_) => return Err(WatchFault::NoMemory),
+            }
+        }
+    }
+    Ok(known)
+}
+
 /// Writes what was buffered.
 fn flush<W: Write>(writer: &mut W) -> Result<(), WatchFault> {
     match writer.flush() {
@@ -123,6 +138,7 @@ impl<'a> Reporter<'a> {
         header: Header,
         packets: Packets,
         sources: &[SourceLine],
+        forgotten: Forgotten,
     ) -> Result<(), WatchFault> {
         let Some(path) = self.metrics else {
             return Ok(());
@@ -132,6 +148,7 @@ impl<'a> Reporter<'a> {
             header,
             packets,
             sources,
+            forgotten,
             raised: self.raised.as_slice(),
         };
         let mut octets = Vec::new(rt.alloc());
@@ -186,7 +203,20 @@ impl<'a> Reporter<'a> {
         if header.mark > 0 {
             self.mark = Some(header.mark);
         }
-        self.put_metrics(rt, header, all, lines.as_slice())
+        let forgotten = live.watch.forgotten();
+        self.put_metrics(rt, header, all, lines.as_slice(), forgotten)?;
+        self.forget(&mut live.watch)
+    }
+
+    /// Forgets the sources that have been silent for long, and their alarms.
+    fn forget(&mut self, watch: &mut Watch) -> Result<(), WatchFault> {
+        let before = watch.forgotten().sources;
+        watch.forget();
+        if watch.forgotten().sources != before {
+            let sources = watch.sources()?;
+            self.raised = known_of(self.alloc, self.raised.as_slice(), sources.as_slice())?;
+        }
+        Ok(())
     }
 
     /// Keeps whether an alarm is raised.
