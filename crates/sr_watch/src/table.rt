@@ -239,7 +239,8 @@ impl Table {
     {
         self.forgotten = self.forgotten_below(limit);
         let _least = self.sources.sift(limit);
-        self.sources.sweep(MAX_SOURCES, 4 * MAX_SOURCES);
+        // A place without a source is as large as one with a source.
+        self.sources.sweep(1, MAX_SOURCES);
     }
 
     /// What was counted of the sources that were forgotten.
