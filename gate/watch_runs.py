@@ -10,6 +10,7 @@ import argparse
 import json
 import os
 import re
+import shutil
 import subprocess
 import sys
 import tempfile
@@ -213,7 +214,8 @@ def run_metrics_without_a_folder(program, folder):
 
 
 def run_metrics(program, folder):
-    """The metrics at the end have the counts since the start, one type for each family, and no line without one."""
+    """The metrics at the end have the counts since the start, one type for each family, and no line without one. Where promtool is, Debian's
+    package prometheus has it, it finds nothing to say."""
     path = f"{folder}/seamless.prom"
     watch = Watch(program, folder, (paced(0, 0, 3, lost=[5, 6]), 3), (paced(1, 0, 3), 3), ["--every", "1", "--metrics", path])
     with open(path, encoding="utf-8") as file:
@@ -224,6 +226,9 @@ def run_metrics(program, folder):
     names = {re.sub(r"_(bucket|sum|count)$", "", name) if f"{name}" not in types else name for name in re.findall(r"^(seamless_\w+)", text, re.M)}
     assert len(types) == len(set(types)) and names <= set(types), (names - set(types), types)
     assert not os.path.exists(path + ".new")
+    if shutil.which("promtool"):
+        checked = subprocess.run(["promtool", "check", "metrics"], input=text, capture_output=True, text=True, timeout=60, check=False)
+        assert checked.returncode == 0 and not checked.stderr, checked.stderr
 
 
 def day(lan, repeats, sources_each, until):
