@@ -53,6 +53,20 @@ _seamless() {
     "merge --to") ;;
     "merge --shift") words="auto none" ;;
     "merge --only") words="lost" ;;
+    "watch --a") compopt -o filenames; mapfile -t COMPREPLY < <(compgen -f -- "$2"); return ;;
+    "watch --b") compopt -o filenames; mapfile -t COMPREPLY < <(compgen -f -- "$2"); return ;;
+    "watch --network") words="prp hsr" ;;
+    "watch --shift-a") ;;
+    "watch --shift-b") ;;
+    "watch --fcs") words="4" ;;
+    "watch --every") ;;
+    "watch --format") words="text json" ;;
+    "watch --metrics") compopt -o filenames; mapfile -t COMPREPLY < <(compgen -f -- "$2"); return ;;
+    "watch --alone-for") ;;
+    "watch --skew-over") ;;
+    "watch --lost-over") ;;
+    "watch --slack") ;;
+    "watch --for") ;;
     "ring --nodes") ;;
     "ring --turns") ;;
     "ring --format") words="text json svg" ;;
@@ -76,12 +90,13 @@ _seamless() {
     "two-rings --window") words="1024 2048" ;;
     *)
         case "$COMP_CWORD ${COMP_WORDS[1]}" in
-        "1 "*) words="replay status script audit merge ring lan ring-lan two-rings --help --version" ;;
+        "1 "*) words="replay status script audit merge watch ring lan ring-lan two-rings --help --version" ;;
         *" replay") words="--role --mac --lan --net --mode --window --help" ;;
         *" status") words="--role --mac --lan --net --mode --window --counters --help" ;;
         *" script") words="--a --b --c --network --shift-a --shift-b --shift-c --shift --fcs --from --to --tick --help" ;;
-        *" audit") words="--a --b --mirror --network --shift-a --shift-b --fcs --from --to --shift --list --format --time --title --note --names --check --complete --help" ;;
+        *" audit") words="--a --b --mirror --network --shift-a --shift-b --fcs --from --to --shift --list --format --time --title --note --names --check --complete --whole --help" ;;
         *" merge") words="--a --b --write --network --shift-a --shift-b --fcs --from --to --shift --keep --only --help" ;;
+        *" watch") words="--a --b --network --shift-a --shift-b --fcs --every --format --metrics --alone-for --skew-over --lost-over --slack --for --check --help" ;;
         *" ring") words="--nodes --turns --format --mode --window --help" ;;
         *" lan") words="--nodes --turns --format --mode --window --help" ;;
         *" ring-lan") words="--ring --lan --format --mode --window --help" ;;

@@ -53,6 +53,20 @@ _seamless() {
     "merge --to") ;;
     "merge --shift") compadd -- auto none ;;
     "merge --only") compadd -- lost ;;
+    "watch --a") _files ;;
+    "watch --b") _files ;;
+    "watch --network") compadd -- prp hsr ;;
+    "watch --shift-a") ;;
+    "watch --shift-b") ;;
+    "watch --fcs") compadd -- 4 ;;
+    "watch --every") ;;
+    "watch --format") compadd -- text json ;;
+    "watch --metrics") _files ;;
+    "watch --alone-for") ;;
+    "watch --skew-over") ;;
+    "watch --lost-over") ;;
+    "watch --slack") ;;
+    "watch --for") ;;
     "ring --nodes") ;;
     "ring --turns") ;;
     "ring --format") compadd -- text json svg ;;
@@ -76,12 +90,13 @@ _seamless() {
     "two-rings --window") compadd -- 1024 2048 ;;
     *)
         case "$CURRENT $words[2]" in
-        "2 "*) compadd -- replay status script audit merge ring lan ring-lan two-rings --help --version ;;
+        "2 "*) compadd -- replay status script audit merge watch ring lan ring-lan two-rings --help --version ;;
         *" replay") compadd -- --role --mac --lan --net --mode --window --help ;;
         *" status") compadd -- --role --mac --lan --net --mode --window --counters --help ;;
         *" script") compadd -- --a --b --c --network --shift-a --shift-b --shift-c --shift --fcs --from --to --tick --help ;;
-        *" audit") compadd -- --a --b --mirror --network --shift-a --shift-b --fcs --from --to --shift --list --format --time --title --note --names --check --complete --help ;;
+        *" audit") compadd -- --a --b --mirror --network --shift-a --shift-b --fcs --from --to --shift --list --format --time --title --note --names --check --complete --whole --help ;;
         *" merge") compadd -- --a --b --write --network --shift-a --shift-b --fcs --from --to --shift --keep --only --help ;;
+        *" watch") compadd -- --a --b --network --shift-a --shift-b --fcs --every --format --metrics --alone-for --skew-over --lost-over --slack --for --check --help ;;
         *" ring") compadd -- --nodes --turns --format --mode --window --help ;;
         *" lan") compadd -- --nodes --turns --format --mode --window --help ;;
         *" ring-lan") compadd -- --ring --lan --format --mode --window --help ;;

@@ -17,7 +17,7 @@ STATUSES = [
     ("0", "A good run, or the version."),
     ("1", "A fault of the script, of a capture, of a read or of a write, or an allocation that failed."),
     ("2", "A fault of the command line, or the help."),
-    ("3", "A fault of the network that audit --check found."),
+    ("3", "A fault of the network that audit --check found, or an alarm that watch --check saw."),
     ("4", "Captures of which audit --check can judge nothing."),
 ]
 

@@ -3,24 +3,24 @@
 
     gate/networks.py [--program PATH] [--kinds] [FIRST COUNT]     20 networks from seed 1 on; ./seamless by default
 
-Each network has 2 to 6 sources, from 1000 frames a second to one in two seconds, and mirror ports at both LANs. Of each frame
-it is written down which LANs lost it, and the figures of each source are counted of that: no rule of the program is used. The
-faults are frames that one LAN lost, or both, alone or in a row behind which a slow source goes on; a source that restarts with
-other numbers; a LAN that died, files that are swapped, recorders that don't overlap. Half of the networks are sound. In half of
-them the clock of B is up to 10 s off and drifts by up to 50 ppm, and in some it is set while it records, so that two offsets fit. In
-a third of them the recorders begin and end at other moments, and have the frames of that time. In every fourth network a RedBox numbers
-the frames of two devices by one counter, and every third one is an HSR ring of 3 to 8 nodes, whose two ways are recorded at a link: half
-of its frames go to one node, and pass the link on one way. A ring loses frames of a way, or both, or it is cut.
-Of each twelve networks one has access ports in place of mirrors, at one LAN or both, which see frames to single addresses only where a
-switch floods them; in one sources talk to each other past two mirrors; in one a RedBox numbers the frames of two devices by one counter and
-never tells of them; and in one the recorders of a ring's node see what it sends on too, where there is nothing to judge. A merge of
-a network that can be judged has each frame that a recorder has once, at the time of a copy by the clock of A. The verdicts that stand
-first are compared with what happened: what each LAN lost, which sources came by one LAN alone at last and since when, numbers that both
-lost, and restarts; and what frames themselves tell of sources: two senders under one address, a burst of frames, a source without redundancy
-at one LAN, one that loses it, one whose port at one LAN dies, and one whose cables are crossed, up to four faults in a network, each by its source, LAN and time. A line
-tells each network of which the audit says something else, or the merge has. With --kinds a table tells of each kind of fault and notice how
-often it was named rightly, by its source or LAN and its time to a second, missed, made up, and hidden from the recorders. The last line is
-`N passed, M failed`.
+Each network has 2 to 6 sources, from 1000 frames a second to one in two seconds, and mirror ports at both LANs. Of each frame it is written
+down which LANs lost it, and the figures of each source are counted of that: no rule of the program is used. The faults are frames that one
+LAN lost, or both, alone or in a row behind which a slow source goes on; a source that restarts with other numbers; a LAN that died, files
+that are swapped, recorders that don't overlap. Half of the networks are sound. In half of them the clock of B is up to 10 s off and drifts
+by up to 50 ppm, and in some it is set while it records, so that two offsets fit. In a third of them the recorders begin and end at other
+moments, and have the frames of that time. In every fourth network a RedBox numbers the frames of two devices by one counter, and every
+third one is an HSR ring of 3 to 8 nodes, whose two ways are recorded at a link: half of its frames go to one node, and pass the link on one
+way. A ring loses frames of a way, or both, or it is cut. Of each twelve networks one has access ports in place of mirrors, at one LAN or
+both, which see frames to single addresses only where a switch floods them; in one sources talk to each other past two mirrors; in one a
+RedBox numbers the frames of two devices by one counter and never tells of them; in one the recorders of a ring's node see what it sends on
+too, where there is nothing to judge; and in one a recorder drops packets, and says so in the statistics of its interface. A merge of a
+network that can be judged has each frame that a recorder has once, at the time of a copy by the clock of A. The verdicts that stand first
+are compared with what happened: what each LAN lost, which sources came by one LAN alone at last and since when, numbers that both lost, and
+restarts; and what frames themselves tell of sources: two senders under one address, a burst of frames, a source without redundancy at one
+LAN, one that loses it, one whose port at one LAN dies, and one whose cables are crossed, up to four faults in a network, each by its
+source, LAN and time. A line tells each network of which the audit says something else, or the merge has. With --kinds a table tells of each
+kind of fault and notice how often it was named rightly, by its source or LAN and its time to a second, missed, made up, and hidden from the
+recorders. The last line is `N passed, M failed`.
 """
 import argparse
 import json
@@ -194,9 +194,11 @@ class Network:
             third = seconds * SECOND // 3
             self.runs = [(rng.randrange(third), rng.randrange(2 * third, 3 * third)) for _ in "AB"]
         self.seconds = seconds
-        self.faults = self.choose(rng) if rng.random() < 0.5 else []
+        self.faults = self.choose(rng) if rng.random() < self.share_of_faults else []
         # What frames tell of sources: the kind, the address, the LAN and the time, where these are told.
         self.strange = []
+        # The LAN whose recorder dropped packets, and how many.
+        self.dropped = None
         # Further senders under the address of a source, and packets without a number: when they came, the LAN, and the octets.
         self.twins, self.bare = [], []
         self.crossed = None
@@ -217,7 +219,8 @@ class Network:
         judged = [kind for kind in self.kinds if kind not in UNJUDGED]
         return rng.sample(judged, rng.randrange(1, min(4, len(judged)) + 1))
 
-    # The faults that it may have, and how its frames have their numbers.
+    # How many such networks have faults, the faults that one may have, and how its frames have their numbers.
+    share_of_faults = 0.5
     kinds = FAULTS
     protocol = "prp"
 
@@ -392,6 +395,10 @@ class Network:
             both[1] = [(time + ahead + (time - BEGIN) * drift // SECOND, packet) for time, packet in both[1]]
         return both[::-1] if "swapped" in self.faults else both
 
+    def hides_loss(self, lan):
+        """Whether what a LAN lost is not told, since its recorder may have dropped it."""
+        return False
+
     def has_nothing(self):
         """Whether the captures say nothing of the network."""
         return bool(UNJUDGED & set(self.faults))
@@ -508,6 +515,41 @@ class Untold(Network):
         return sources + [fast(rng, SilentBox, len(sources), seconds)]
 
 
+class Dropping(Network):
+    """A PRP network, of which a recorder drops packets and says how many. The network lost none of these."""
+
+    share_of_faults = 1
+    kinds = ["loss", "restart", "san", "crossed", "babbling"]
+
+    def choose(self, rng):
+        # What a recorder drops is chosen last, of what the network brought.
+        return rng.sample(self.kinds, rng.randrange(3)) + ["dropped"]
+
+    def put(self, rng, fault):
+        if fault != "dropped":
+            super().put(rng, fault)
+            return
+        lan = rng.randrange(2)
+        brought = [frame for source in self.sources for index, frame in enumerate(source.frames[1:-1], 1)
+                   if index != source.restarted and frame["lans"] == {0, 1} and self.is_inner(frame["time"])]
+        gone = rng.sample(brought, min(len(brought), rng.randrange(1, 9)))
+        for frame in gone:
+            frame["lans"].discard(lan)
+        self.dropped = (lan, len(gone)) if gone else None
+
+    def hides_loss(self, lan):
+        """Whether the recorder of a LAN may have dropped all that this LAN lost."""
+        return self.dropped is not None and lan == self.dropped[0] and losses(self)[lan][0] <= self.dropped[1]
+
+    def status(self):
+        if not self.dropped:
+            return super().status()
+        told = any(frames and not self.hides_loss(lan) for lan, (frames, _) in enumerate(losses(self)))
+        if told or self.crossed:
+            return 3
+        return 4 if losses(self)[self.dropped[0]][0] else 0
+
+
 class Ring(Network):
     """A ring, whose two ways are recorded at the link from its last node to its first one."""
 
@@ -578,7 +620,7 @@ class RingNode(Source):
 
 def network_of(seed):
     """The network of a seed: every third one is a ring."""
-    kinds = {1: Access, 5: Talking, 7: Untold, 9: InAndOut}
+    kinds = {1: Access, 5: Talking, 7: Untold, 9: InAndOut, 11: Dropping}
     return kinds.get(seed % 12, Ring if seed % 3 == 0 else Network)(seed)
 
 
@@ -587,6 +629,32 @@ def write(path, packets):
         file.write(struct.pack("<IHHiIII", 0xA1B23C4D, 2, 4, 0, 0, 65535, 1))
         for time, packet in packets:
             file.write(struct.pack("<IIII", time // SECOND, time % SECOND, len(packet), len(packet)) + packet)
+
+
+def block(kind, octets):
+    """A block of a pcapng file, the least octet first."""
+    octets += bytes(-len(octets) % 4)
+    size = len(octets) + 12
+    return struct.pack("<II", kind, size) + octets + struct.pack("<I", size)
+
+
+def statistics(time, dropped):
+    """How many packets of an interface were received, and dropped by it and by the system."""
+    options = b"".join(struct.pack("<HHQ", code, 8, count) for code, count in zip((4, 5, 7), (1000, *dropped)))
+    return block(5, struct.pack("<III", 0, time >> 32, time & 0xFFFFFFFF) + options + bytes(4))
+
+
+def write_with_statistics(path, packets, dropped):
+    """A pcapng file in nanoseconds, whose statistics count what was dropped, once in its middle and at its end."""
+    part = dropped // 3
+    with open(path, "wb") as file:
+        file.write(block(0x0A0D0D0A, struct.pack("<IHHq", 0x1A2B3C4D, 1, 0, -1)))
+        file.write(block(1, struct.pack("<HHIHHIHH", 1, 0, 65535, 9, 1, 9, 0, 0)))
+        for index, (time, packet) in enumerate(packets):
+            file.write(block(6, struct.pack("<IIIII", 0, time >> 32, time & 0xFFFFFFFF, len(packet), len(packet)) + packet))
+            if index == len(packets) // 2:
+                file.write(statistics(time, (0, part)))
+        file.write(statistics(packets[-1][0], (part, dropped - part)))
 
 
 def differences(network, status, lines):
@@ -625,11 +693,23 @@ def verdict_differences(network, status, lines):
              "faults": len(by_word[2]), "notices": len(by_word[3])}
     if block != lines[:len(block)] or block != sum(by_word, []) or by_word[0] != [whole]:
         return [f"the verdicts are {block}, and not first, or not in order"]
-    if status == 4:
+    if status == 4 and network.dropped:
+        said = [(line["kind"], line.get("lan"), line.get("packets")) for line in by_word[1]]
+        wanted = [("dropped_packets", "AB"[network.dropped[0]], network.dropped[1])]
+        if said != wanted:
+            return [f"that nothing can be judged is told as {said}, and not {wanted}"]
+    elif status == 4:
         return [] if len(by_word[1]) == 1 and len(block) == 2 else [f"the verdicts are {block}, where nothing can be judged"]
-    told = [line for line in block if line["line"] != "verdict"]
-    return (loss_differences(network, told) + row_differences(network, told) + source_differences(network, told)
+    told = by_word[2] + by_word[3]
+    return (dropped_differences(network, told) + loss_differences(network, told) + row_differences(network, told) + source_differences(network, told)
             + strange_differences(network, told) + name_differences(network, names))
+
+
+def dropped_differences(network, told):
+    """Where the packets that recorders are told to have dropped are not those."""
+    said = [(line["lan"], line["packets"]) for line in told if line["kind"] == "recorder_dropped"]
+    wanted = [("AB"[network.dropped[0]], network.dropped[1])] if network.dropped else []
+    return [] if said == wanted else [f"recorders are told to have dropped {said}, and not {wanted}"]
 
 
 def strange_differences(network, told):
@@ -662,7 +742,7 @@ def name_differences(network, names):
     """Where the sources that are named are not those that share a loss, or whose cables are crossed."""
     found = []
     for lan in range(2):
-        wanted = losing(network, lan)
+        wanted = set() if network.hides_loss(lan) else losing(network, lan)
         said = [line for line in names if line["kind"] == "loss" and line["lan"] == "AB"[lan]]
         macs = [line["source"] for line in said if "source" in line]
         more = sum(line.get("more", 0) for line in said)
@@ -691,7 +771,7 @@ def loss_differences(network, told):
     said = {line["lan"]: (line["frames"], line["sources"], line["other_lan"]) for line in told if line["kind"] == "loss"}
     found = []
     for lan, letter in enumerate("AB"):
-        own = (*wanted[lan], wanted[1 - lan][0]) if wanted[lan][0] else None
+        own = (*wanted[lan], wanted[1 - lan][0]) if wanted[lan][0] and not network.hides_loss(lan) else None
         if said.get(letter) != own:
             found.append(f"the loss of {letter} is {said.get(letter)}, and not {own}")
     return found
@@ -743,14 +823,18 @@ def source_differences(network, told):
 
 def happened(network):
     """What is to be told of a network: its kind, and the source, LAN or place of it, each with the time from which on it is so, if that is told."""
-    if network.status() == 4:
+    if network.status() == 4 and not network.dropped:
         return {("unjudged", None): None}
     begin = min(begin for begin, _ in network.runs)
     found = {(kind, mac.hex(":")): time for kind, mac, _, time in network.strange}
+    if network.status() == 4:
+        found["unjudged", None] = None
+    if network.dropped:
+        found["recorder_dropped", "AB"[network.dropped[0]]] = None
     if network.crossed:
         found["crossed", network.crossed.mac.hex(":")] = None
     for lan, (frames, _) in enumerate(losses(network)):
-        if frames:
+        if frames and not network.hides_loss(lan):
             found["loss", "AB"[lan]] = None
     rows = network.rows()
     if rows and network.protocol == "hsr":
@@ -776,7 +860,7 @@ def told_of(lines):
         elif line["line"] == "at" and kind == "crossed":
             found[kind, line["source"]] = None
         elif line["line"] in ("fault", "notice") and kind not in ("clock", "crossed", "wrong_lan"):
-            who = {"loss": line.get("lan"), "cut_ring": (line.get("next_a", "recorder"), line.get("next_b", "recorder")),
+            who = {"loss": line.get("lan"), "recorder_dropped": line.get("lan"), "cut_ring": (line.get("next_a", "recorder"), line.get("next_b", "recorder")),
                    "dead_port": (line.get("source"), line.get("lan"))}.get(kind, line.get("source"))
             found["both_lost" if kind == "unseen" else kind, who] = line["since_ms"] * 1_000_000 if "since_ms" in line else None
     return found
@@ -862,8 +946,11 @@ def judge(program, seed, room, table):
     """What differs in the network of a seed. A table counts what is told by its kind."""
     network = network_of(seed)
     paths = [f"{room}/a.pcap", f"{room}/b.pcap"]
-    for path, packets in zip(paths, network.captures()):
-        write(path, packets)
+    for lan, packets in enumerate(network.captures()):
+        if network.dropped and network.dropped[0] == lan:
+            write_with_statistics(paths[lan], packets, network.dropped[1])
+        else:
+            write(paths[lan], packets)
     args = ["--a", paths[0], "--b", paths[1], "--network", network.protocol]
     args += ["--shift", "auto"] if network.clock else []
     run = subprocess.run([program, "audit", *args, "--format", "json", "--check"], capture_output=True, text=True, timeout=60, check=False)

@@ -26,7 +26,8 @@ enum Kind {
 fn kind_of(verdict: &Verdict) -> Option<Kind> {
     match *verdict {
         Verdict::Unjudged(_) => None,
-        Verdict::Restart(_, _)
+        Verdict::RecorderDropped(_, _)
+        | Verdict::Restart(_, _)
         | Verdict::Babbling(_, _)
         | Verdict::Unseen(_, _)
         | Verdict::San(_, _, _)

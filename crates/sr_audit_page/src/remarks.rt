@@ -9,6 +9,23 @@ use sr_sources::Second;
 use sr_verdict::Verdict;
 use std::io::{self, Write};
 
+/// Tells of packets that a recorder dropped.
+fn put_dropped<W: Write>(
+    writer: &mut W,
+    teller: Teller<'_>,
+    lan: Option<Side>,
+    packets: u64,
+) -> io::Result<()> {
+    let (count, word, at) = (
+        Count(packets),
+        word_for(packets, "packet", "packets"),
+        teller.lan_of(lan),
+    );
+    open_finding(writer, Weight::Remark, "dropped")?;
+    write!(writer, "The recorder at {at} dropped {count} {word}")?;
+    put_advice(writer, "Give it a larger buffer or a faster disk")
+}
+
 /// Tells of numbers that began anew.
 fn put_restart<W: Write>(
     writer: &mut W,
@@ -103,6 +120,7 @@ pub(crate) fn put_remark<W: Write>(
     verdict: &Verdict,
 ) -> io::Result<()> {
     match *verdict {
+        Verdict::RecorderDropped(lan, packets) => put_dropped(writer, teller, lan, packets),
         Verdict::Restart(mac, times) => put_restart(writer, teller, mac, times),
         Verdict::Babbling(mac, second) => put_babbling(writer, teller, mac, second),
         Verdict::Unseen(mac, numbers) => put_unseen(writer, teller, mac, numbers),

@@ -1,5 +1,5 @@
 -- Verdicts end a check as the figures judge.
-use Rattle.std.proofs.Common.{◌≡◌, ℕ, ◌-◌, Bool, true, false, cond, ◌&&◌, ◌||◌, is_some, List, [], ◌∷◌, ◌++◌, Option, None, Some, arith, refl, sym, ap, ap₂, ◌∙◌, subst}
+use Rattle.std.proofs.Common.{◌≡◌, ℕ, ◌-◌, inl, inr, Bool, true, false, cond, ◌&&◌, ◌||◌, is_some, List, [], ◌∷◌, ◌++◌, Option, None, Some, arith, refl, sym, ap, ap₂, ◌∙◌, subst}
 use Rattle.std.specs.Prelude.{nat_lt, not, filter}
 use Rattle.std.specs.List.{list_any}
 use Rattle.std.specs.Map.{lookup}
@@ -7,7 +7,6 @@ use Rattle.std.proofs.lemmas.Bool.{or_left, or_right}
 use Rattle.sr_frame.specs.Addresses.{mac_eq}
 use Rattle.sr_frame.specs.declared.fields.Mac.{Mac}
 use Rattle.sr_sources.specs.declared.source.Source.{Source as Node}
-use Rattle.sr_sources.specs.declared.table.Sources.{Sources}
 use Rattle.sr_sources.specs.Kinds.{doubled_since}
 use Rattle.sr_audit.specs.declared.audit.Audit.{Audit}
 use Rattle.sr_audit.specs.declared.row.Row.{Row}
@@ -15,6 +14,7 @@ use Rattle.sr_audit.specs.declared.side.Side.{Side}
 use Rattle.sr_audit.specs.declared.side.Side.TheVariants.{A, B}
 use Rattle.sr_audit.specs.declared.source.Figures.{Figures}
 use Rattle.sr_audit.specs.declared.source.Source.{Source}
+use Rattle.sr_audit.specs.declared.tally.Sides.{Sides}
 use Rattle.sr_audit.specs.declared.span.Spans.{Spans}
 use Rattle.sr_audit.specs.Faults.{tells_of_faults}
 use Rattle.sr_audit.specs.Shown.{figures_of}
@@ -24,15 +24,20 @@ use Rattle.sr_capture_audit.specs.declared.flows.Sight.TheVariants.{All, Part}
 use Rattle.sr_capture_audit.specs.declared.judgement.Judgement.{Judgement}
 use Rattle.sr_capture_audit.specs.declared.judgement.Judgement.TheVariants.{Sound, Faulty, Unjudged}
 use Rattle.sr_capture_audit.specs.declared.judgement.Reason.{Reason}
+use Rattle.sr_capture_audit.specs.declared.network.Ports.{Ports}
 use Rattle.sr_capture_audit.specs.Faults.{shows_lost, have_lost, shows_missing, have_missing, lost_told, missing_told, have_faults, judged_have_lost, counters_have_missing, has_faults}
 use Rattle.sr_capture_audit.specs.Judging.{reason_of, judged, network_judgement, check_status}
 use Rattle.sr_verdict.specs.declared.heard.Heard.{Heard}
 use Rattle.sr_verdict.specs.declared.verdict.Verdict.{Verdict}
 use Rattle.sr_verdict.specs.Heards.{AreHeard, only_at, lone_row, row_frames}
-use Rattle.sr_verdict.specs.Verdicts.{is_doubled_at, is_doubled, single_in, IsSingleHearing, has_all_sent, telling_entries, AreHeardIn, fault_verdicts, notice_verdicts, why_of, why_told, verdicts_for, is_a_fault}
-use Rattle.sr_capture_laws.specs.Ending.{nodes_tell, judged_with, judged_beside, EndAs, VerdictsEndAsJudged}
+use Rattle.sr_verdict.specs.declared.why.Why.{Why}
+use Rattle.sr_verdict.specs.declared.verdict.Verdict.TheVariants.{Unjudged as Undecided}
+use Rattle.sr_verdict.specs.Drops.{explained_by, is_explained, left_unexplained, any_dropped, why_dropped, settled_by, settled, dropped_told}
+use Rattle.sr_verdict.specs.Told.{why_of, why_told, verdicts_for}
+use Rattle.sr_verdict.specs.Verdicts.{is_doubled_at, is_doubled, single_in, IsSingleHearing, has_all_sent, telling_entries, AreHeardIn, fault_verdicts, notice_verdicts, is_a_fault}
+use Rattle.sr_capture_laws.specs.Ending.{nodes_tell, judged_with, judged_beside, by_figures, EndAs, EndBy, VerdictsEndAsJudged}
 use Rattle.sr_capture_laws.specs.Exact.{judged_by}
-use Rattle.sr_capture_laws.proofs.ToldLemmas.{Tells, tells_both, is_sided, has_rest, shows_repeated, shows_late, told_by_figures, two_told, lost_told_in, wrong_told, others_told, told_faulty, tells_faults, tells_notices}
+use Rattle.sr_capture_laws.proofs.ToldLemmas.{Tells, tells_both, is_sided, has_rest, shows_repeated, shows_late, told_by_figures, two_told, lost_told_in, wrong_told, others_told, told_faulty, tells_faults, tells_notices, tells_dropped, is_unjudged, judged_first}
 
 -- tests of lists
 same_tests : {X : Type 0} (p q : X → Bool) → ((x : X) → p x ≡ q x) → (xs : List X) → list_any p xs ≡ list_any q xs
@@ -226,16 +231,16 @@ told_is r own telling counters heard =
 ends_for : (why : Option Reason) (vs : List Verdict) (faulty : Bool) → Tells faulty vs → EndAs (judged_by why faulty) (verdicts_for why vs)
 ends_for (Some why) vs faulty told = record { status = refl; reason = refl }
 ends_for None vs faulty told = record {
-  status = ap (λ (o : Option Reason). cond {A = ℕ} (is_some o) 4 (cond {A = ℕ} (list_any is_a_fault vs) 3 0)) told.judging
+  status = ap (λ (o : Option Why). cond {A = ℕ} (is_some o) 4 (cond {A = ℕ} (list_any is_a_fault vs) 3 0)) (judged_first vs told.judging)
       ∙ ap (λ b. cond {A = ℕ} b 3 0) told.faults ∙ status_by faulty;
-  reason = told.judging ∙ reason_by faulty;
+  reason = judged_first vs told.judging ∙ reason_by faulty;
 }
   where
     status_by : (b : Bool) → cond {A = ℕ} b 3 0 ≡ check_status (cond b Faulty Sound)
     status_by true = refl
     status_by false = refl
 
-    reason_by : (b : Bool) → None ≡ why_of (cond b Faulty Sound)
+    reason_by : (b : Bool) → None ≡ by_figures (why_of (cond b Faulty Sound))
     reason_by true = refl
     reason_by false = refl
 
@@ -320,20 +325,83 @@ told_of_single r nodes own telling counters heard = told_apart r nodes own telli
     by true e = refl
     by false e = ap (λ b. lost_told_in r.subject nodes || b) (figures e)
 
+-- without those that recorders may have made
+any_left : {X : Type 0} (p q : X → Bool) (xs : List X) → list_any p xs ≡ false → list_any p (filter q xs) ≡ false
+any_left p q [] none = refl
+any_left p q (x ∷ xs) none = by (q x) (any_left p q xs (none_right (p x) (list_any p xs) none))
+  where
+    by : (b : Bool) → list_any p (filter q xs) ≡ false → list_any p (cond b (x ∷ filter q xs) (filter q xs)) ≡ false
+    by true rest = ap₂ (λ a c. a || c) (none_left (p x) (list_any p xs) none) rest
+    by false rest = rest
+
+-- what is told behind faults, whatever these are
+abbrev Behind : Ports → Sides → List Verdict → List Verdict → List Verdict
+Behind ports dropped notices vs = (vs ++ dropped_told ports dropped) ++ notices
+
+behind_told : (ports : Ports) (dropped : Sides) (notices vs : List Verdict) (faulty : Bool) → Tells faulty vs → Tells false notices
+    → Tells faulty (Behind ports dropped notices vs)
+behind_told ports dropped notices vs faulty told none =
+    subst (λ (b : Bool). Tells b (Behind ports dropped notices vs)) (or_none (faulty || false) false refl ∙ or_none faulty false refl)
+    (tells_both (faulty || false) false (vs ++ dropped_told ports dropped) notices
+    (tells_both faulty false vs (dropped_told ports dropped) told (tells_dropped ports dropped)) none)
+
+-- verdicts that are settled end a check as those do of which they are left, or in doubt
+settled_ends : (ports : Ports) (dropped : Sides) (why : Option Reason) (faults notices : List Verdict) (faulty : Bool) → Tells faulty faults
+    → Tells false notices → EndBy ports dropped faults (judged_by why faulty) (verdicts_for why (Behind ports dropped notices (settled ports dropped faults)))
+settled_ends ports dropped (Some why) faults notices faulty told none = inl (record { status = refl; reason = refl })
+settled_ends ports dropped None faults notices faulty told none = by_drops (any_dropped dropped) refl
+  where
+    left : List Verdict
+    left = left_unexplained (explained_by ports dropped faults) faults
+
+    wrong : Bool
+    wrong = list_any is_a_fault left
+
+    ends : (vs : List Verdict) → Tells faulty vs → EndBy ports dropped faults (judged_by None faulty) (Behind ports dropped notices vs)
+    ends vs own = inl (ends_for None (Behind ports dropped notices vs) faulty (behind_told ports dropped notices vs faulty own none))
+
+    judging : list_any is_unjudged left ≡ false
+    judging = any_left is_unjudged (λ v. not (is_explained (explained_by ports dropped faults) v)) faults told.judging
+
+    -- by whether a fault was told, and whether one is left
+    by_faults : any_dropped dropped ≡ true → (f l : Bool) → faulty ≡ f → wrong ≡ l
+        → EndBy ports dropped faults (judged_by None faulty)
+        (Behind ports dropped notices (cond (f && not l) (Undecided (why_dropped ports dropped (explained_by ports dropped faults)) ∷ []) left))
+    by_faults some true true e h = ends left (record { judging = judging; faults = h ∙ sym e })
+    by_faults some true false e h = inr (record {
+      faulty = ap (λ (b : Bool). judged_by None b) e;
+      some = some;
+      explained = h;
+      status = refl;
+      reason = refl;
+    })
+    by_faults some false l e h = ends left (record {
+      judging = judging;
+      faults = any_left is_a_fault (λ v. not (is_explained (explained_by ports dropped faults) v)) faults (told.faults ∙ e) ∙ sym e;
+    })
+
+    by_drops : (d : Bool) → any_dropped dropped ≡ d → EndBy ports dropped faults (judged_by None faulty)
+        (Behind ports dropped notices (cond d (settled_by ports dropped (explained_by ports dropped faults) faults) faults))
+    by_drops true some = subst (λ (b : Bool). EndBy ports dropped faults (judged_by None faulty)
+        (Behind ports dropped notices (cond (b && not wrong) (Undecided (why_dropped ports dropped (explained_by ports dropped faults)) ∷ []) left)))
+        (sym told.faults) (by_faults some faulty wrong refl refl)
+    by_drops false none_dropped = ends faults told
+
 pub verdicts_end : VerdictsEndAsJudged
 verdicts_end r sources outside vs are =
     let nodes = sources.sources.entries in
+    let ports = r.subject.ports in
     let faults = fault_verdicts r nodes are.own are.telling are.counters in
     let notices = notice_verdicts r nodes outside.ahead are.counters in
     let faulty = nodes_tell r.subject nodes || has_faults r in
-    let told : Tells faulty (faults ++ notices) =
-    subst (λ (b : Bool). Tells b (faults ++ notices))
-    (or_none (told_faulty r nodes are.own are.telling are.counters) false refl
-    ∙ told_of_single r nodes are.own are.telling are.counters are.are_heard)
-    (tells_both (told_faulty r nodes are.own are.telling are.counters) false faults notices
-    (tells_faults r nodes are.own are.telling are.counters) (tells_notices r nodes outside.ahead are.counters)) in
-    subst (λ (l : List Verdict). EndAs (judged_with (nodes_tell r.subject nodes) (judged_beside outside.reason (network_judgement r))) l)
+    let told : Tells faulty faults =
+    subst (λ (b : Bool). Tells b faults) (told_of_single r nodes are.own are.telling are.counters are.are_heard)
+    (tells_faults r nodes are.own are.telling are.counters) in
+    subst (λ (l : List Verdict). EndBy ports outside.dropped faults
+    (judged_with (nodes_tell r.subject nodes) (judged_beside outside.reason (network_judgement r))) l)
     (sym are.verdicts)
-    (subst (λ (j : Judgement). EndAs j (verdicts_for (why_told outside.reason r) (faults ++ notices)))
+    (subst (λ (j : Judgement). EndBy ports outside.dropped faults j
+    (verdicts_for (why_told outside.reason r) (Behind ports outside.dropped notices (settled ports outside.dropped faults))))
     (joins r (nodes_tell r.subject nodes) outside.reason)
-    (ends_for (why_told outside.reason r) (faults ++ notices) faulty told))
+    (settled_ends ports outside.dropped (why_told outside.reason r) faults notices faulty told
+    (tells_notices r nodes outside.ahead are.counters)))

@@ -16,6 +16,7 @@ use Rattle.sr_audit.specs.declared.row.Row.{Row}
 use Rattle.sr_audit.specs.declared.side.Side.{Side}
 use Rattle.sr_audit.specs.declared.side.Side.TheVariants.{A, B}
 use Rattle.sr_audit.specs.declared.source.Figures.{Figures}
+use Rattle.sr_audit.specs.declared.tally.Sides.{Sides}
 use Rattle.sr_audit.specs.Faults.{last_class}
 use Rattle.sr_audit.specs.Lanes.{other_side}
 use Rattle.sr_audit.specs.Shown.{bounded_sum}
@@ -24,6 +25,7 @@ use Rattle.sr_capture_audit.specs.declared.figures.Report.{Report}
 use Rattle.sr_capture_audit.specs.declared.network.Network.{Network}
 use Rattle.sr_capture_audit.specs.declared.network.Network.TheVariants.{Prp, Hsr}
 use Rattle.sr_capture_audit.specs.declared.network.Ports.{Ports}
+use Rattle.sr_capture_audit.specs.declared.network.Ports.TheVariants.{Two, Mirror}
 use Rattle.sr_capture_audit.specs.declared.network.Subject.{Subject}
 use Rattle.sr_capture_audit.specs.Faults.{shows_missing}
 use Rattle.sr_verdict.specs.declared.heard.Heard.{Heard}
@@ -31,16 +33,21 @@ use Rattle.sr_verdict.specs.declared.place.Place.{Place}
 use Rattle.sr_verdict.specs.declared.shared.Cut.{Cut}
 use Rattle.sr_verdict.specs.declared.shared.Share.{Share}
 use Rattle.sr_verdict.specs.declared.verdict.Verdict.{Verdict}
-use Rattle.sr_verdict.specs.declared.verdict.Verdict.TheVariants.{Unjudged, BothLost, TwoSenders, CutRing, DeadPort, Crossed, LostRedundancy, Loss, WrongLan, Misfit, Repeated, Late, Restart, Babbling, Unseen, San, Clock}
+use Rattle.sr_verdict.specs.declared.verdict.Verdict.TheVariants.{Unjudged, BothLost, TwoSenders, CutRing, DeadPort, Crossed, LostRedundancy, Loss, WrongLan, Misfit, Repeated, Late, RecorderDropped, Restart, Babbling, Unseen, San, Clock}
+use Rattle.sr_verdict.specs.declared.why.Why.{Why}
+use Rattle.sr_verdict.specs.Drops.{dropped_told}
 use Rattle.sr_verdict.specs.Heards.{row_in, rest_at}
 use Rattle.sr_verdict.specs.Places.{cut_place}
 use Rattle.sr_verdict.specs.Shared.{no_share, share_with, share_by, cut_by_row, cut_with, cut_in}
 use Rattle.sr_verdict.specs.Names.{names_with}
 use Rattle.sr_verdict.specs.Verdicts.{two_senders_told, lost_told, babbling_told, san_told, told_lan, in_prp, astray_names, when_counted, when_either, dead_by, verdict_on, verdicts_where, as_list, cut_told, sided_verdicts, loss_at, are_crossed, wrong_at, misfit_at, id_verdicts, other_id_verdicts, has_all_sent, has_part, fault_verdicts, clock_told, notice_verdicts, is_a_fault, reason_in}
 
--- the first one does not say that nothing can be judged, and some is a fault or none is
+-- none says that nothing can be judged, and some is a fault or none is
+abbrev pub is_unjudged : Verdict → Bool
+is_unjudged v = is_some (reason_in (v ∷ []))
+
 pub record Tells (faulty : Bool) (vs : List Verdict) : Type 0 where
-  pub judging : reason_in vs ≡ None
+  pub judging : list_any is_unjudged vs ≡ false
   pub faults : list_any is_a_fault vs ≡ faulty
 
 pub tells_none : Tells false []
@@ -59,20 +66,29 @@ same_first (WrongLan side copies names) xs ys e = refl
 same_first (Misfit side frames) xs ys e = refl
 same_first (Repeated mac copies) xs ys e = refl
 same_first (Late mac pairs) xs ys e = refl
+same_first (RecorderDropped lan packets) xs ys e = refl
 same_first (Restart mac times) xs ys e = refl
 same_first (Babbling mac second) xs ys e = refl
 same_first (Unseen mac numbers) xs ys e = refl
 same_first (San mac lan frames) xs ys e = refl
 same_first (Clock ahead) xs ys e = refl
 
-first_of : (xs ys : List Verdict) → reason_in xs ≡ None → reason_in ys ≡ None → reason_in (xs ++ ys) ≡ None
-first_of [] ys e f = f
-first_of (x ∷ xs) ys e f = same_first x xs (xs ++ ys) e
+pub judged_first : (vs : List Verdict) → list_any is_unjudged vs ≡ false → reason_in vs ≡ None
+judged_first [] e = refl
+judged_first (v ∷ vs) e = same_first v [] vs (none_of (reason_in (v ∷ [])) (first_false (is_unjudged v) (list_any is_unjudged vs) e))
+  where
+    none_of : (o : Option Why) → is_some o ≡ false → o ≡ None
+    none_of None h = refl
+    none_of (Some why) h = absurd cc
+
+    first_false : (a b : Bool) → (a || b) ≡ false → a ≡ false
+    first_false true b h = h
+    first_false false b h = refl
 
 -- of two lists
 pub tells_both : (b c : Bool) (xs ys : List Verdict) → Tells b xs → Tells c ys → Tells (b || c) (xs ++ ys)
 tells_both b c xs ys t u = record {
-  judging = first_of xs ys t.judging u.judging;
+  judging = list_any-append is_unjudged xs ys ∙ ap₂ (λ x y. x || y) t.judging u.judging;
   faults = list_any-append is_a_fault xs ys ∙ ap₂ (λ x y. x || y) t.faults u.faults;
 }
 
@@ -117,10 +133,10 @@ either n m v told = by (nat_lt 0 n)
     by false = counted m v told
 
 a_fault : (v : Verdict) → reason_in (v ∷ []) ≡ None → is_a_fault v ≡ true → Tells true (v ∷ [])
-a_fault v e f = record { judging = e; faults = ap (λ b. b || false) f }
+a_fault v e f = record { judging = ap (λ (o : Option Why). is_some o || false) e; faults = ap (λ b. b || false) f }
 
 a_notice : (v : Verdict) → reason_in (v ∷ []) ≡ None → is_a_fault v ≡ false → Tells false (v ∷ [])
-a_notice v e f = record { judging = e; faults = ap (λ b. b || false) f }
+a_notice v e f = record { judging = ap (λ (o : Option Why). is_some o || false) e; faults = ap (λ b. b || false) f }
 
 -- of a kind of verdicts on sources, where a test holds
 tells_where : (k : _) (test : Heard → Bool) → ((h : Heard) → Tells (test h) (as_list (verdict_on k h))) → (b : Bool) (hs : List Heard) →
@@ -151,6 +167,13 @@ abbrev pub shows_late : Figures → Bool
 shows_late f = nat_lt 0 (last_class f.skews.classes)
 
 -- of the notices
+pub tells_dropped : (ports : Ports) (dropped : Sides) → Tells false (dropped_told ports dropped)
+tells_dropped Two dropped = tells_both false false _ _
+    (uncounted dropped.a (RecorderDropped (Some A) dropped.a) (a_notice (RecorderDropped (Some A) dropped.a) refl refl))
+    (uncounted dropped.b (RecorderDropped (Some B) dropped.b) (a_notice (RecorderDropped (Some B) dropped.b) refl refl))
+tells_dropped Mirror dropped =
+    uncounted dropped.a (RecorderDropped None dropped.a) (a_notice (RecorderDropped None dropped.a) refl refl)
+
 tells_clock : (ahead : Option ℤ) → Tells false (as_list (clock_told ahead))
 tells_clock None = tells_none
 tells_clock (Some ahead) = a_notice (Clock ahead) refl refl

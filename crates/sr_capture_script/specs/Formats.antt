@@ -1,5 +1,5 @@
 -- The kinds of files.
-use Rattle.std.specs.Prelude.{◌≡◌, ℕ, ◌-◌, ◌^◌, min, List, [], ◌∷◌, length, Option, Bool, true, false}
+use Rattle.std.specs.Prelude.{◌≡◌, ℕ, ◌-◌, ◌^◌, min, List, [], ◌∷◌, length, Option, None, Bool, true, false}
 use Rattle.sr_capture.specs.declared.fault.CaptureFault.{CaptureFault}
 use Rattle.sr_capture.specs.declared.packet.Packet.{Packet}
 use Rattle.sr_capture.specs.Taking.{Loses, LeavesNone}
@@ -13,6 +13,11 @@ use Rattle.sr_capture_script.specs.declared.format.Format.TheVariants.{Pcap, Pca
 abbrev pub front_len : Format → ℕ
 front_len (Pcap form) = 24
 front_len (Pcapng track) = 0
+
+-- how many packets a recorder dropped, as far as it was read: a pcap file does not tell
+abbrev pub dropped_of : Format → Option ℕ
+dropped_of (Pcap form) = None
+dropped_of (Pcapng track) = track.dropped
 
 -- the octets have these packets, and behind them this is known: of a pcap file as much as before, of a pcapng file what its blocks told
 abbrev pub AreTaken : Format → List ℕ → List Captured → Format → Type 0

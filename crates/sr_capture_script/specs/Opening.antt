@@ -41,7 +41,7 @@ BeginsPcapng octets = (0 < length octets) × (slice_index octets 0 ≡ 0x0A)
 
 -- a pcapng file at its start
 abbrev pub at_start : Reading → Track
-at_start how = record { wanted = how.wanted; check_len = how.check_len; section = None }
+at_start how = record { wanted = how.wanted; check_len = how.check_len; section = None; dropped = None }
 
 -- what the front of a file tells: the header of a pcap file, or the first octet of a pcapng file, which belongs to its first block
 abbrev pub HasFront : Reading → List ℕ → List ℕ → Format → Type 0

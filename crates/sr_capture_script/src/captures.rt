@@ -5,6 +5,7 @@ ghost use Rattle.sr_capture_script.specs.Captures.{Advances, StopsAt};
 
 use crate::choice::{Inlet, Options};
 use crate::fault::ScriptFault;
+use crate::format::dropped_of;
 use crate::merge::earliest;
 use crate::packets::{advance, open};
 use crate::scripting::reading_of;
@@ -48,6 +49,7 @@ impl<R: BufRead + Drop> Captures<R> {
     ghost use Rattle.std.specs.Prelude.{◌≡◌, IfOk, IfErr, OnOk, IfSome, IfNone};
     ghost use Rattle.sr_capture_script.specs.declared.choice.Inlet.TheVariants.{A as AtA, B as AtB, C as AtC};
     ghost use Rattle.sr_capture_script.specs.Opening.{reading_of, IsOpened, FailsToOpen};
+    ghost use Rattle.sr_capture_script.specs.Formats.{dropped_of};
     ghost use Rattle.sr_capture_script.specs.Captures.{file_at, IsDueFirst, HasNoFront, Advances, StopsAt, KeepsOthers};
 
     /// Opens the captures, and reads the first packet of each.
@@ -121,6 +123,17 @@ impl<R: BufRead + Drop> Captures<R> {
             Inlet::A => &self.a.packet,
             Inlet::B => &self.b.packet,
             Inlet::C => &self.c.packet,
+        }
+    }
+
+    /// How many packets the recorder of a file dropped, as far as it was read and tells.
+    pub fn dropped(&self, inlet: Inlet) -> Option<u64>
+        ensures { result ≡ dropped_of (file_at inlet self.now).state }
+    {
+        match inlet {
+            Inlet::A => dropped_of(self.a.state),
+            Inlet::B => dropped_of(self.b.state),
+            Inlet::C => dropped_of(self.c.state),
         }
     }
 

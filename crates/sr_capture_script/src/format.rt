@@ -1,7 +1,7 @@
 //! The kinds of files: pcap, and pcapng.
 
 ghost use Rattle.std.specs.Prelude.{◌≡◌, ◌≤◌, IfOk, IfErr};
-ghost use Rattle.sr_capture_script.specs.Formats.{front_len, Takes, IsNoNext};
+ghost use Rattle.sr_capture_script.specs.Formats.{front_len, dropped_of, Takes, IsNoNext};
 
 use sr_capture::{CaptureFault, Form, HEADER_LEN, Packet};
 use sr_pcapng::Track;
@@ -23,6 +23,16 @@ pub(crate) fn front_len(format: Format) -> u64
     match format {
         Format::Pcap(_) => HEADER_LEN as u64,
         Format::Pcapng(_) => 0,
+    }
+}
+
+/// How many packets a recorder dropped, as far as the file tells.
+pub(crate) fn dropped_of(format: Format) -> Option<u64>
+    ensures { result ≡ dropped_of format }
+{
+    match format {
+        Format::Pcap(_) => None,
+        Format::Pcapng(track) => track.dropped,
     }
 }
 

@@ -15,7 +15,6 @@ mod writing;
 
 use crate::clocks::{Known, on_clocks, read_clocks, read_once, recorders_of_audit};
 use crate::dated::{Dated, Dating};
-use crate::dates::Moment;
 use crate::files::Sides;
 use crate::order::check_order;
 use crate::pipes::Pipe;
@@ -27,6 +26,7 @@ use nodes::read_nodes;
 use passes::{Read, open, read_all};
 use sr_advice::letter_of;
 use sr_capture_script::{Inlet, ScriptFault};
+use sr_dates::Moment;
 use sr_options::{AuditTask, Format, Paths, Times};
 use sr_slots::Keys;
 use sr_sources::Sources;
@@ -98,8 +98,15 @@ fn read_and_judge<R: AllocGlobal + Eprint + Files>(
 ) -> Result<(Read, Sources, Vec<Verdict>), Ended> {
     let subject = subject_on(rt, task, known)?;
     let read = read_all(rt, task, subject, keys, progress)?;
-    let sources = read_nodes(rt, task, keys)?;
-    let verdicts = judge(rt, &read.report, &sources, known, read.are_both_ways)?;
+    let (sources, dropped) = read_nodes(rt, task, keys)?;
+    let verdicts = judge(
+        rt,
+        &read.report,
+        &sources,
+        known,
+        read.are_both_ways,
+        dropped,
+    )?;
     Ok((read, sources, verdicts))
 }
 

@@ -1,6 +1,6 @@
 //! Lines whose times are told as times of day too.
 
-use crate::dates::Moment;
+use sr_dates::Moment;
 use std::alloc::Global;
 use std::io::{self, ErrorKind, Write};
 

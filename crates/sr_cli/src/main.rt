@@ -6,7 +6,6 @@ mod audit;
 mod bounds;
 mod clocks;
 mod dated;
-mod dates;
 mod files;
 mod joined;
 mod meanings;
@@ -16,6 +15,7 @@ mod pipes;
 mod progress;
 mod running;
 mod script;
+mod watch;
 
 use arguments::tell_unread;
 use audit::run_audit;
@@ -25,12 +25,15 @@ use running::{play, play_threaded, run_node};
 use script::run_script;
 use sr_options::{Refused, Task, Words, task_of};
 use sr_script::Report;
+use sr_watch_live::Job;
 use std::io::IsTerminal;
 use std::process::ExitCode;
 use std::random::RandomSource;
 use std::rt::{Env, Files};
 use std::sync::Wait;
-use std::thread::Threads;
+use std::thread::{self, Threads};
+use std::time::Clock;
+use watch::run_watch;
 
 /// The exit status of a fault of the script, a read, a write or memory.
 const RUN_FAILED: u8 = 1;
@@ -44,7 +47,8 @@ fn main(rt: HostRuntime) -> ExitCode {
     } else {
         Progress::Silent
     };
-    match start(&rt, progress) {
+    let starts = |job: Job| -> bool { thread::spawn(&rt, move || job.run(rt)).is_ok() };
+    match start(&rt, progress, &starts) {
         Ok(()) => ExitCode::SUCCESS,
         Err(code) => ExitCode::from(code),
     }
@@ -61,11 +65,12 @@ fn tell_refused<R: Print + Eprint>(rt: &R, refused: Refused) -> Result<(), u8> {
 }
 
 /// Does what the command line asks for. An error is the exit status; why is on standard error.
-fn obey<R: AllocGlobal + Print + Eprint + Input + Files + RandomSource + Threads + Wait + Sync>(
-    rt: &R,
-    task: &Task<'_>,
-    progress: Progress,
-) -> Result<(), u8> {
+fn obey<
+    R: AllocGlobal + Print + Eprint + Input + Files + RandomSource + Threads + Wait + Sync + Clock,
+    S: Fn(Job) -> bool,
+>(rt: &R, task: &Task<'_>, progress: Progress, starts: &S) -> Result<(), u8>
+    requires { S.IsAlwaysCallable starts.now }
+{
     let outcome = match task {
         Task::Replay(task) => run_node(rt, Report::Frames, task),
         Task::Status(task) => run_node(rt, Report::Status, task),
@@ -73,6 +78,7 @@ fn obey<R: AllocGlobal + Print + Eprint + Input + Files + RandomSource + Threads
         Task::Script(task) => run_script(rt, task, progress),
         Task::Audit(task) => return run_audit(rt, task, progress),
         Task::Merge(task) => run_merge(rt, task, progress),
+        Task::Watch(task) => return run_watch(rt, task, starts),
         Task::Plant(task) => play(rt, task),
         Task::Threads(task) => play_threaded(rt, task),
     };
@@ -81,8 +87,21 @@ fn obey<R: AllocGlobal + Print + Eprint + Input + Files + RandomSource + Threads
 
 /// Reads the command line and does what it asks for. An error is the exit status; why is on standard error.
 fn start<
-    R: AllocGlobal + Print + Eprint + Input + Env + Files + RandomSource + Threads + Wait + Sync,
->(rt: &R, progress: Progress) -> Result<(), u8> {
+    R: AllocGlobal
+        + Print
+        + Eprint
+        + Input
+        + Env
+        + Files
+        + RandomSource
+        + Threads
+        + Wait
+        + Sync
+        + Clock,
+    S: Fn(Job) -> bool,
+>(rt: &R, progress: Progress, starts: &S) -> Result<(), u8>
+    requires { S.IsAlwaysCallable starts.now }
+{
     let args = match std::env::args(rt) {
         Ok(args) => args,
         Err(error) => {
@@ -95,7 +114,7 @@ fn start<
     };
     let known = Words::new();
     match task_of(rt.alloc(), &known, words.as_slice()) {
-        Ok(task) => obey(rt, &task, progress),
+        Ok(task) => obey(rt, &task, progress, starts),
         Err(refused) => tell_refused(rt, refused),
     }
 }

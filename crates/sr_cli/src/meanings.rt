@@ -75,6 +75,14 @@ pub fn network_of(network: sr_options::Network) -> Network {
     }
 }
 
+/// How frames have their numbers, as they are read while captures grow.
+pub fn watch_network_of(network: sr_options::Network) -> sr_intake::Network {
+    match network {
+        sr_options::Network::Prp => sr_intake::Network::Prp,
+        sr_options::Network::Hsr => sr_intake::Network::Hsr,
+    }
+}
+
 /// What is audited, at the times that are read.
 pub fn subject_of(task: &AuditTask<'_>) -> Subject {
     Subject {

@@ -57,6 +57,7 @@ pub fn tell_other<R: Eprint>(rt: &R, fault: ScriptFault, is_closed: bool) {
         ScriptFault::Write | ScriptFault::Endless => {
             if !is_closed {
                 let _ = eprintln!(rt; "fault write");
+                let _ = eprintln!(rt; "the output can't be written: the disk may be full");
             }
         }
     }

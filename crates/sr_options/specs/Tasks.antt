@@ -1,6 +1,8 @@
 -- The rules that options keep together.
-use Rattle.std.specs.Prelude.{◌≡◌, ◌≢◌, ℕ, ◌+◌, ◌^◌, ◌≤◌, ℤ, Bool, true, false, Option, Some, None, ⊤, ◌⊎◌}
+use Rattle.std.specs.Prelude.{◌≡◌, ◌≢◌, ℕ, ◌+◌, ◌%◌, ◌^◌, ◌≤◌, ℤ, slice_index, Bool, true, false, Option, Some, None, ⊤, ◌⊎◌}
+use Rattle.sr_frame.specs.declared.fields.Mac.{Mac}
 use Rattle.sr_capture_script.specs.declared.choice.Delays.{Delays}
+use Rattle.sr_options.specs.Limits.{most_every, least_slack, most_slack}
 use Rattle.sr_options.specs.Shifts.{others_longer, AreSetBack, AreSetBackTooFar}
 use Rattle.sr_options.specs.declared.audit_line.AuditTask.{AuditTask}
 use Rattle.sr_options.specs.declared.audit_line.Format.{Format}
@@ -9,12 +11,14 @@ use Rattle.sr_options.specs.declared.audit_line.Lists.{Lists}
 use Rattle.sr_options.specs.declared.audit_line.Ports.{Ports}
 use Rattle.sr_options.specs.declared.audit_line.Ports.TheVariants as ports
 use Rattle.sr_options.specs.declared.coupled_line.Joins.TheVariants as joins
+use Rattle.sr_options.specs.declared.node_line.NodeTask.{NodeTask}
 use Rattle.sr_options.specs.declared.merge_line.MergeTask.{MergeTask}
 use Rattle.sr_options.specs.declared.page_words.PageWords.{PageWords}
 use Rattle.sr_options.specs.declared.plant_line.Shape.{Shape}
 use Rattle.sr_options.specs.declared.plant_line.Shape.TheVariants as shape
 use Rattle.sr_options.specs.declared.script_line.ScriptTask.{ScriptTask}
 use Rattle.sr_options.specs.declared.task.Task.{Task}
+use Rattle.sr_options.specs.declared.watch_line.WatchTask.{WatchTask}
 use Rattle.sr_options.specs.declared.task.Task.TheVariants as task
 
 -- a list that is wanted is one
@@ -77,9 +81,25 @@ abbrev pub ShapeKeepsRules : Shape → Type 0
 ShapeKeepsRules (shape.TwoRings left right joins.Two) = (3 ≤ left.count) × (3 ≤ right.count)
 ShapeKeepsRules other = ⊤
 
+-- reports are a second apart at least, and what recorders may keep is within bounds
+abbrev pub WatchKeepsRules : WatchTask → Type 0
+WatchKeepsRules t = (1 ≤ t.every) × (t.every ≤ most_every) × (least_slack ≤ t.slack) × (t.slack ≤ most_slack)
+
+-- an address of one node, and not of a group
+abbrev pub NamesOneNode : Mac → Type 0
+NamesOneNode mac = slice_index mac.0 0 % 2 ≢ 1
+
+-- what the options of a node keep
+abbrev pub NodeKeepsRules : NodeTask → Type 0
+NodeKeepsRules t = NamesOneNode t.mac
+
 -- a task keeps the rules that its options keep together
 abbrev pub KeepsRules : Task → Type 0
 KeepsRules (task.Script t) = ScriptKeepsRules t
 KeepsRules (task.Audit t) = AuditKeepsRules t
 KeepsRules (task.Plant t) = ShapeKeepsRules t.shape
+KeepsRules (task.Watch t) = WatchKeepsRules t
+KeepsRules (task.Replay t) = NodeKeepsRules t
+KeepsRules (task.Status t) = NodeKeepsRules t
+KeepsRules (task.Tally t) = NodeKeepsRules t
 KeepsRules other = ⊤

@@ -109,6 +109,8 @@ pub struct AuditTask<'a> {
     pub is_check: bool,
     /// Whether the recorders see all frames of their LANs.
     pub is_complete: bool,
+    /// Whether both LANs are judged from the earliest packet of both captures to the latest.
+    pub is_whole: bool,
     /// Whether the captures of A and B are one.
     pub is_same: bool,
 }
@@ -154,7 +156,13 @@ pub(crate) fn audit_command<'a>(
         .long("complete")
         .action(ArgAction::SetTrue)
         .help("Both recorders see all frames: a number that none of them has was lost");
-    with_arg(with_arg(command, check), complete)
+    let whole = Arg::new(alloc, "whole")
+        .long("whole")
+        .action(ArgAction::SetTrue)
+        .help(
+            "Both recorders ran all the time: a LAN that brings nothing any more lost what the other one brings",
+        );
+    with_arg(with_arg(with_arg(command, check), complete), whole)
 }
 
 /// The lists with one more, by its word.
@@ -300,6 +308,7 @@ pub(crate) fn audit_task<'a>(
         early,
         is_check: matches.get_flag("check"),
         is_complete: matches.get_flag("complete"),
+        is_whole: matches.get_flag("whole"),
         is_same: is_same(matches),
     })
 }

@@ -13,13 +13,14 @@ use crate::plant_line::{Net, network_task, plant_command};
 use crate::refusal::Refused;
 use crate::script_line::{script_command, script_task};
 use crate::task::Task;
+use crate::watch_line::{watch_command, watch_task};
 use crate::words::Words;
 use clap::error::ErrorKind;
 use clap::{Arg, ArgGroup, ArgMatches, Command, Error};
 use std::alloc::{AllocError, Global};
 
 /// The version of the program, that of CHANGELOG.md.
-const VERSION: &str = "0.6.0";
+const VERSION: &str = "0.7.0";
 
 /// The version of the program.
 pub const PROGRAM_VERSION: &str = VERSION;
@@ -93,6 +94,7 @@ fn command<'a>(alloc: Global, words: &'a Words<'a>) -> Result<Command<'a>, Alloc
     let command = with(command, audit);
     let merge = merge_command(alloc, words);
     let command = with(command, merge);
+    let command = with(command, watch_command(alloc, words));
     let ring = plant_command(
         alloc,
         words,
@@ -138,6 +140,12 @@ fn captures_task_in<'a>(
             Err(fault) => Err(fault),
         };
     }
+    if let Some(watch) = matches.subcommand_matches("watch") {
+        return match watch_task(watch, words) {
+            Ok(task) => Ok(Some(Task::Watch(task))),
+            Err(fault) => Err(fault),
+        };
+    }
     Ok(None)
 }
 
@@ -169,19 +177,21 @@ fn network_task_in<'a>(matches: &ArgMatches<'a>) -> Result<Option<Task<'a>>, Opt
     Ok(None)
 }
 
-/// What a subcommand over a node asks for. None: its address is none.
-fn node_task_in<'a>(matches: &ArgMatches<'a>) -> Option<Task<'a>>
-    ensures { IfSome result (λ task. KeepsRules task) }
+/// What a subcommand over a node asks for, if these are the words of one.
+fn node_task_in<'a>(matches: &ArgMatches<'a>) -> Result<Option<Task<'a>>, Refused>
+    ensures { IfOk result (λ found. IfSome found (λ task. KeepsRules task)) }
 {
     if let Some(replay) = matches.subcommand_matches("replay") {
-        return Some(Task::Replay(node_task(replay)?));
+        return Ok(Some(Task::Replay(node_task(replay)?)));
     }
-    let status = matches.subcommand_matches("status")?;
+    let Some(status) = matches.subcommand_matches("status") else {
+        return Ok(None);
+    };
     let task = node_task(status)?;
     if status.get_flag("counters") {
-        Some(Task::Tally(task))
+        Ok(Some(Task::Tally(task)))
     } else {
-        Some(Task::Status(task))
+        Ok(Some(Task::Status(task)))
     }
 }
 
@@ -199,7 +209,7 @@ fn task_in<'a>(matches: &ArgMatches<'a>, words: &'a [String]) -> Result<Task<'a>
         Ok(None) => {}
         Err(fault) => return Err(Refused::Option(fault)),
     }
-    match node_task_in(matches) {
+    match node_task_in(matches)? {
         Some(task) => Ok(task),
         None => Err(Refused::Mac),
     }
@@ -219,7 +229,7 @@ fn refused_by(words: &[String], error: Error) -> Refused {
 /// What the words of the command line ask for.
 ///
 /// # Errors
-/// `Mac` where the address alone is wrong, `Option` where that of an option is, or no capture is given, else `Parser`.
+/// `Mac` where an address is none, `Option` where options are wrong that the parser let through, or no capture is given, else `Parser`.
 pub fn task_of<'a>(
     alloc: Global,
     known: &'a Words<'a>,

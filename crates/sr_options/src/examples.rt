@@ -42,6 +42,13 @@ pub(crate) const MERGE: &str = "Examples:
   The frames of a ring that came by one direction alone, seen by Wireshark's own tool:
     seamless merge --network hsr --a ring-a.pcap --b ring-b.pcap --only lost -w - | tshark -r -";
 
+/// Of `watch`.
+pub(crate) const WATCH: &str = "Examples:
+  What two recorders see of a PRP network, told each 10 seconds until they end:
+    seamless watch --a <(dumpcap -q -i lan_a -w -) --b <(dumpcap -q -i lan_b -w -)
+  The same by tcpdump, which needs -U, as objects of JSON and as metrics of Prometheus:
+    seamless watch --a <(tcpdump -U -w - -i lan_a) --b <(tcpdump -U -w - -i lan_b) --format json --metrics /var/lib/node_exporter/seamless.prom";
+
 /// Of `ring`.
 pub(crate) const RING: &str = "Examples:
   A ring of four nodes, of which a link is cut:

@@ -17,6 +17,8 @@ pub enum OptionFault {
     To,
     /// `--tick` is none, or 0.
     Tick,
+    /// The address of a node is that of a group.
+    Group,
     /// A script of no captures.
     NoFiles,
     /// An audit of no captures.
@@ -41,6 +43,20 @@ pub enum OptionFault {
     Joins,
     /// A picture of a run on threads.
     Drawn,
+    /// Standard input for both captures of a watch.
+    Inputs,
+    /// `--every` is no number of seconds from 1 to 3600.
+    Every,
+    /// `--alone-for` is no number of seconds from 1 on.
+    AloneFor,
+    /// `--skew-over` is no number of microseconds from 1 on.
+    SkewOver,
+    /// `--lost-over` is no number from 1 to 100.
+    LostOver,
+    /// `--slack` is no number of milliseconds from 300 to 60000.
+    Slack,
+    /// `--for` is no number of seconds from 1 on.
+    For,
 }
 
 impl OptionFault {
@@ -54,6 +70,7 @@ impl OptionFault {
             OptionFault::From => "from",
             OptionFault::To => "to",
             OptionFault::Tick => "tick",
+            OptionFault::Group => "mac",
             OptionFault::NoFiles => "files",
             OptionFault::NoCaptures => "captures",
             OptionFault::Mirror => "mirror",
@@ -66,6 +83,13 @@ impl OptionFault {
             OptionFault::Page => "page",
             OptionFault::Joins => "joins",
             OptionFault::Drawn => "format",
+            OptionFault::Inputs => "input",
+            OptionFault::Every => "every",
+            OptionFault::AloneFor => "alone-for",
+            OptionFault::SkewOver => "skew-over",
+            OptionFault::LostOver => "lost-over",
+            OptionFault::Slack => "slack",
+            OptionFault::For => "for",
         }
     }
 
@@ -78,6 +102,8 @@ impl OptionFault {
             OptionFault::From | OptionFault::To =>
                 "--from and --to take whole milliseconds from the earliest packet on",
             OptionFault::Tick => "--tick takes whole milliseconds, at least 1",
+            OptionFault::Group =>
+                "--mac is the address of one node: the first octet of a group's address is odd",
             OptionFault::NoFiles => "give a capture at least: --a FILE, --b FILE or --c FILE",
             OptionFault::NoCaptures =>
                 "give a capture at least: --a FILE or --b FILE, or --mirror FILE",
@@ -93,6 +119,14 @@ impl OptionFault {
             OptionFault::Joins =>
                 "a link joins a box of each ring, and a ring has more nodes than boxes: --joins is less than --left and --right",
             OptionFault::Drawn => "--format svg draws a run by steps: it takes no --turns",
+            OptionFault::Inputs =>
+                "standard input is one capture: name a file or a pipe for the other",
+            OptionFault::Every => "--every takes whole seconds, 1 to 3600",
+            OptionFault::AloneFor => "--alone-for takes whole seconds, at least 1",
+            OptionFault::SkewOver => "--skew-over takes whole microseconds, at least 1",
+            OptionFault::LostOver => "--lost-over takes a percentage, 1 to 100",
+            OptionFault::Slack => "--slack takes whole milliseconds, 300 to 60000",
+            OptionFault::For => "--for takes whole seconds, at least 1",
         }
     }
 }

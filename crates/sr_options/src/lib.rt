@@ -20,6 +20,7 @@ mod refusal;
 mod script_line;
 mod shifts;
 mod task;
+mod watch_line;
 mod words;
 
 pub use address::mac_of;
@@ -40,4 +41,5 @@ pub use refusal::Refused;
 pub use script_line::ScriptTask;
 pub use shifts::Shift;
 pub use task::Task;
+pub use watch_line::{Bounds, WatchTask};
 pub use words::Words;

@@ -79,7 +79,7 @@ impl<'a> MergeTask<'a> {
 }
 
 /// An option with a value that has to be given.
-fn required<'a>(alloc: Global, name: &'a str, value: &'a str, help: &'a str) -> Arg<'a> {
+pub(crate) fn required<'a>(alloc: Global, name: &'a str, value: &'a str, help: &'a str) -> Arg<'a> {
     option(alloc, name, value, help).required(true)
 }
 

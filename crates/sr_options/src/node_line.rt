@@ -1,8 +1,13 @@
 //! The options of a node: of `replay` and `status`.
 
+ghost use Rattle.std.specs.Prelude.{IfOk};
+ghost use Rattle.sr_options.specs.Tasks.{NamesOneNode, NodeKeepsRules};
+
 use crate::address::mac_of;
 use crate::command_line::with_arg;
+use crate::fault::OptionFault;
 use crate::node_options::{NodeOptions, node_options_of, with_node_options};
+use crate::refusal::Refused;
 use crate::words::Words;
 use clap::{Arg, ArgAction, ArgMatches, Command};
 use sr_forwarding::{MAX_NET, NetId, RoleKind};
@@ -115,12 +120,30 @@ fn role_of(node: &ArgMatches<'_>) -> RoleKind {
     }
 }
 
-/// The node that a subcommand's options name. None: the address is none.
-pub(crate) fn node_task(node: &ArgMatches<'_>) -> Option<NodeTask> {
-    let mac = node.get_str("mac").and_then(mac_of)?;
-    Some(NodeTask {
+/// The address of one node.
+///
+/// # Errors
+/// `Mac` where it is no address, `Group` where it is that of a group.
+fn node_mac(node: &ArgMatches<'_>) -> Result<Mac, Refused>
+    ensures { IfOk result NamesOneNode }
+{
+    match node.get_str("mac").and_then(mac_of) {
+        Some(mac) if mac.is_group() => Err(Refused::Option(OptionFault::Group)),
+        Some(mac) => Ok(mac),
+        None => Err(Refused::Mac),
+    }
+}
+
+/// The node that a subcommand's options name.
+///
+/// # Errors
+/// Those of its address.
+pub(crate) fn node_task(node: &ArgMatches<'_>) -> Result<NodeTask, Refused>
+    ensures { IfOk result NodeKeepsRules }
+{
+    Ok(NodeTask {
         role: role_of(node),
-        mac,
+        mac: node_mac(node)?,
         options: node_options_of(node),
     })
 }

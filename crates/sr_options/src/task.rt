@@ -5,6 +5,7 @@ use crate::merge_line::MergeTask;
 use crate::node_line::NodeTask;
 use crate::plant_line::{PlantTask, ThreadsTask};
 use crate::script_line::ScriptTask;
+use crate::watch_line::WatchTask;
 
 /// What the program is to do, by its words: a subcommand, and what its options say.
 #[derive(Clone, Copy, Debug)]
@@ -21,6 +22,8 @@ pub enum Task<'a> {
     Audit(AuditTask<'a>),
     /// Write captures as one.
     Merge(MergeTask<'a>),
+    /// Tell what captures say while they grow.
+    Watch(WatchTask<'a>),
     /// Run a script on a network.
     Plant(PlantTask),
     /// Run what a script sends on a network whose nodes run on threads.

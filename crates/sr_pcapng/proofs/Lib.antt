@@ -1,4 +1,5 @@
 pub mod Blocks
+pub mod Drops
 pub mod OptionLists
 pub mod Steps
 pub mod PacketLemmas

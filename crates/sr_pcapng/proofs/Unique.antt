@@ -103,6 +103,7 @@ within kind.Obsolete track section octets xs ys s t h k =
     record { shown = shown_timed _ section.order octets xs ys h.1.3 k.1.3; next = h.0 ∙ sym k.0 }
 within kind.Simple track section octets xs ys s t h k =
     record { shown = shown_simple _ section.order octets xs ys h.1.3 k.1.3; next = h.0 ∙ sym k.0 }
+within kind.Statistics track section octets xs ys s t h k = record { shown = h.0 ∙ sym k.0; next = h.1 ∙ sym k.1 }
 within kind.Other track section octets xs ys s t h k = record { shown = h.1 ∙ sym k.1; next = h.0 ∙ sym k.0 }
 
 -- in one section
@@ -122,6 +123,7 @@ means_one kind.Interface track order octets xs ys s t h m = in_one kind.Interfac
 means_one kind.Enhanced track order octets xs ys s t h m = in_one kind.Enhanced track octets xs ys s t h m
 means_one kind.Obsolete track order octets xs ys s t h m = in_one kind.Obsolete track octets xs ys s t h m
 means_one kind.Simple track order octets xs ys s t h m = in_one kind.Simple track octets xs ys s t h m
+means_one kind.Statistics track order octets xs ys s t h m = in_one kind.Statistics track octets xs ys s t h m
 means_one kind.Other track order octets xs ys s t h m = in_one kind.Other track octets xs ys s t h m
 
 step_one : (track : Track) (a : List ℕ) (xs ys : List Captured) (s t : Track) → IsStep track a xs s → IsStep track a ys t → Same xs ys s t

@@ -122,7 +122,7 @@ abbrev section_at : Lane → Section
 section_at l = record { order = Little; count = 2; taken = Some (interface_at l) }
 
 abbrev known_at : Lane → Track
-known_at l = record { wanted = Number (lane_number l); check_len = 0; section = Some (section_at l) }
+known_at l = record { wanted = Number (lane_number l); check_len = 0; section = Some (section_at l); dropped = None }
 
 moment_is : (time : ℕ) → time < 2 ^ 63 → IsMoment (pos 0) time time
 moment_is time h = omega (arith, ints, clamps, h)

@@ -22,6 +22,7 @@ numbered type = if type == 1 then kind.Interface
     else if type == 6 then kind.Enhanced
     else if type == 2 then kind.Obsolete
     else if type == 3 then kind.Simple
+    else if type == 5 then kind.Statistics
     else kind.Other
 
 -- what kind of block begins so

@@ -4,6 +4,7 @@ pub mod Options
 pub mod Listing
 pub mod Interfaces
 pub mod PacketBlocks
+pub mod Statistics
 pub mod Steps
 pub mod StepLemmas
 pub mod Writing

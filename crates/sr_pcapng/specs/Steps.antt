@@ -40,6 +40,7 @@ use Rattle.sr_pcapng.specs.Blocks.{kind_of, IsBlock, IsNoBlock}
 use Rattle.sr_pcapng.specs.Interfaces.{Describes, IsWrongInterface}
 use Rattle.sr_pcapng.specs.Listing.{TellsAll}
 use Rattle.sr_pcapng.specs.PacketBlocks.{InEnhanced, InObsolete, InSimple, IsWrongEnhanced, IsWrongObsolete, IsWrongSimple}
+use Rattle.sr_pcapng.specs.Statistics.{dropped_in}
 
 -- the order of octets of a section, if there is one
 abbrev pub order_in : Option Section → Option ByteOrder
@@ -52,7 +53,22 @@ begun order = record { order = order; count = 0; taken = None }
 
 -- the track in another section, or in the same one with more interfaces
 abbrev pub in_section : Track → Section → Track
-in_section track section = record { wanted = track.wanted; check_len = track.check_len; section = Some section }
+in_section track section = record {
+  wanted = track.wanted;
+  check_len = track.check_len;
+  section = Some section;
+  dropped = track.dropped;
+}
+
+-- the track with what statistics say of dropped packets, where they say it
+abbrev pub with_dropped : Track → Option ℕ → Track
+with_dropped track None = track
+with_dropped track (Some count) = record {
+  wanted = track.wanted;
+  check_len = track.check_len;
+  section = track.section;
+  dropped = Some count;
+}
 
 -- a section header: the length of the section, which says nothing here, and before it the order and version 1
 abbrev pub IsHeader : ByteOrder → List ℕ → Type 0
@@ -65,6 +81,7 @@ MeansWithin kind.Interface track section octets shown next = (shown ≡ [])
 MeansWithin kind.Enhanced track section octets shown next = (next ≡ track) × InEnhanced track.wanted section octets shown
 MeansWithin kind.Obsolete track section octets shown next = (next ≡ track) × InObsolete track.wanted section octets shown
 MeansWithin kind.Simple track section octets shown next = (next ≡ track) × InSimple track.wanted section octets shown
+MeansWithin kind.Statistics track section octets shown next = (shown ≡ []) × (next ≡ with_dropped track (dropped_in section octets))
 MeansWithin kind.Other track section octets shown next = (next ≡ track) × (shown ≡ [])
 MeansWithin kind.Section track section octets shown next = ⊥
 

@@ -120,7 +120,7 @@ found_at lane p = if lane_number lane == lane_number p.lane then captured_of p â
 
 -- a file at its start, of which one of the two interfaces is wanted
 abbrev pub start_at : Lane â†’ Track
-start_at lane = record { wanted = Number (lane_number lane); check_len = 0; section = None }
+start_at lane = record { wanted = Number (lane_number lane); check_len = 0; section = None; dropped = None }
 
 -- what is written is read again: of each interface its packets in their order, with their times, octets, and whether these are all
 abbrev pub WhatIsWrittenIsRead : Type 0

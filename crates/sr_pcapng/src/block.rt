@@ -30,6 +30,8 @@ pub(crate) enum Kind {
     Obsolete,
     /// A packet of interface 0.
     Simple,
+    /// What was counted of an interface.
+    Statistics,
     /// Anything else.
     Other,
 }
@@ -43,6 +45,7 @@ fn numbered(number: u32) -> Kind
         6 => Kind::Enhanced,
         2 => Kind::Obsolete,
         3 => Kind::Simple,
+        5 => Kind::Statistics,
         _ => Kind::Other,
     }
 }

@@ -23,7 +23,7 @@ pub(crate) fn holds(at: usize, held: u32, octets: &[u8]) -> bool
 }
 
 /// The interface that was taken, if it has this number.
-fn of_number(taken: Option<Interface>, number: u32) -> Option<Interface>
+pub(crate) fn of_number(taken: Option<Interface>, number: u32) -> Option<Interface>
     ensures { result ≡ of_number taken number }
 {
     match taken {

@@ -13,6 +13,7 @@ mod options;
 mod packets;
 mod reading;
 mod simple;
+mod statistics;
 mod times;
 mod track;
 mod writing;

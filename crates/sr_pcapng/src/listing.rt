@@ -45,7 +45,9 @@ fn listed_by(kind: Kind, order: ByteOrder, octets: &[u8], listing: Listing) -> O
             }
             Some(after_description(order, octets, listing))
         }
-        Kind::Enhanced | Kind::Obsolete | Kind::Simple | Kind::Other => Some(listing),
+        Kind::Enhanced | Kind::Obsolete | Kind::Simple | Kind::Statistics | Kind::Other => {
+            Some(listing)
+        }
     }
 }
 

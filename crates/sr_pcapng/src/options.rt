@@ -15,10 +15,10 @@ const CHECK_LEN: u16 = 13;
 const OFFSET: u16 = 14;
 
 /// The length of an option's head: its code, and the length of its value.
-const HEAD_LEN: usize = 4;
+pub(crate) const HEAD_LEN: usize = 4;
 
 /// The number of 64 bits from a place on.
-fn long_at(order: ByteOrder, octets: &[u8], at: usize) -> u64
+pub(crate) fn long_at(order: ByteOrder, octets: &[u8], at: usize) -> u64
     requires { at + 8 ≤ length octets.now }
     ensures { result ≡ long_at order octets.now at }
 {

@@ -11,6 +11,7 @@ use crate::block::{Kind, kind_of};
 use crate::enhanced::{read_enhanced, read_obsolete};
 use crate::interface::read_interface;
 use crate::simple::read_simple;
+use crate::statistics::dropped_in;
 use crate::track::{Section, Track};
 use sr_capture::{ByteOrder, Packet, Reason, half_at};
 
@@ -68,6 +69,12 @@ fn read_within(
         Kind::Enhanced => read_enhanced(track.wanted, section, octets, packet),
         Kind::Obsolete => read_obsolete(track.wanted, section, octets, packet),
         Kind::Simple => read_simple(track.wanted, section, octets, packet),
+        Kind::Statistics => {
+            if let Some(count) = dropped_in(section, octets) {
+                track.dropped = Some(count);
+            }
+            Ok(false)
+        }
         Kind::Section | Kind::Other => Ok(false),
     }
 }

@@ -48,6 +48,8 @@ pub struct Track {
     pub check_len: u8,
     /// The section that was begun. None: the file is at its start.
     pub section: Option<Section>,
+    /// How many packets the recorder dropped of the interface that is wanted, as the last statistics of it say. None: none say so.
+    pub dropped: Option<u64>,
 }
 
 impl Track {
@@ -56,11 +58,13 @@ impl Track {
         ensures wanted { result.wanted ≡ wanted }
         ensures check_len { result.check_len ≡ check_len }
         ensures start { result.section ≡ None }
+        ensures untold { result.dropped ≡ None }
     {
         Track {
             wanted,
             check_len,
             section: None,
+            dropped: None,
         }
     }
 }

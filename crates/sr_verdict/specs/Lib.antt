@@ -3,3 +3,5 @@ pub mod Heards
 pub mod Shared
 pub mod Places
 pub mod Verdicts
+pub mod Drops
+pub mod Told

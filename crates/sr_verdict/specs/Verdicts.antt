@@ -41,22 +41,16 @@ use Rattle.sr_capture_audit.specs.declared.counts.Counts.{Counts}
 use Rattle.sr_capture_audit.specs.declared.figures.Report.{Report}
 use Rattle.sr_capture_audit.specs.declared.flows.Sight.{Sight}
 use Rattle.sr_capture_audit.specs.declared.flows.Sight.TheVariants.{All, Part}
-use Rattle.sr_capture_audit.specs.declared.judgement.Judgement.{Judgement}
-use Rattle.sr_capture_audit.specs.declared.judgement.Judgement.TheVariants.{Sound, Faulty, Unjudged as NotJudged}
-use Rattle.sr_capture_audit.specs.declared.judgement.Reason.{Reason}
 use Rattle.sr_capture_audit.specs.declared.network.Network.{Network}
 use Rattle.sr_capture_audit.specs.declared.network.Network.TheVariants.{Prp, Hsr}
 use Rattle.sr_capture_audit.specs.declared.network.Ports.{Ports}
 use Rattle.sr_capture_audit.specs.declared.network.Ports.TheVariants.{Two, Mirror}
 use Rattle.sr_capture_audit.specs.declared.network.Subject.{Subject}
-use Rattle.sr_capture_audit.specs.Judging.{network_judgement}
 use Rattle.sr_sources.specs.declared.lane.Tail.{Tail}
 use Rattle.sr_sources.specs.declared.rates.Second.{Second}
 use Rattle.sr_sources.specs.declared.source.Source.{Source as Node}
-use Rattle.sr_sources.specs.declared.table.Sources.{Sources}
 use Rattle.sr_sources.specs.Kinds.{doubled_since, lost_redundancy, san_of, babbling, end_at}
 use Rattle.sr_verdict.specs.declared.heard.Heard.{Heard}
-use Rattle.sr_verdict.specs.declared.judging.Outside.{Outside}
 use Rattle.sr_verdict.specs.declared.kinds.Kind.{Kind}
 use Rattle.sr_verdict.specs.declared.kinds.Kind.TheVariants as kind
 use Rattle.sr_verdict.specs.declared.names.Names.{Names}
@@ -79,12 +73,14 @@ use Rattle.sr_verdict.specs.declared.verdict.Verdict.TheVariants.{
   Misfit,
   Repeated,
   Late,
+  RecorderDropped,
   Restart,
   Babbling,
   Unseen,
   San,
   Clock,
 }
+use Rattle.sr_verdict.specs.declared.why.Why.{Why}
 use Rattle.sr_verdict.specs.Heards.{AreHeard, row_in}
 use Rattle.sr_verdict.specs.Names.{no_names, names_with}
 use Rattle.sr_verdict.specs.Places.{cut_place}
@@ -273,30 +269,6 @@ notice_verdicts r nodes ahead counters =
     ++ verdicts_where (has_part r.sight r.counters) kind.Unseen counters ++ prp_verdicts node.San r.subject nodes
     ++ as_list (clock_told ahead)
 
--- why nothing can be judged: for a reason from outside of the figures, or for one of their own
-abbrev pub why_of : Judgement → Option Reason
-why_of Sound = None
-why_of Faulty = None
-why_of (NotJudged why) = Some why
-
-abbrev pub why_told : Option Reason → Report → Option Reason
-why_told (Some why) r = Some why
-why_told None r = why_of (network_judgement r)
-
--- where nothing can be judged that is the one verdict
-abbrev pub verdicts_for : Option Reason → List Verdict → List Verdict
-verdicts_for (Some why) vs = Unjudged why ∷ []
-verdicts_for None vs = vs
-
-pub record AreVerdictsOf (r : Report) (sources : Sources) (outside : Outside) (vs : List Verdict) : Type 0 where
-  pub own : List Heard
-  pub telling : List Heard
-  pub counters : List Heard
-  pub are_heard : IsSingleHearing r sources.sources.entries own telling counters
-  pub verdicts : vs ≡ verdicts_for (why_told outside.reason r)
-      (fault_verdicts r sources.sources.entries own telling counters
-      ++ notice_verdicts r sources.sources.entries outside.ahead counters)
-
 -- which verdicts are faults
 abbrev pub is_a_fault : Verdict → Bool
 is_a_fault (Unjudged why) = false
@@ -311,6 +283,7 @@ is_a_fault (WrongLan side copies names) = true
 is_a_fault (Misfit side frames) = true
 is_a_fault (Repeated mac copies) = true
 is_a_fault (Late mac pairs) = true
+is_a_fault (RecorderDropped lan packets) = false
 is_a_fault (Restart mac times) = false
 is_a_fault (Babbling mac second) = false
 is_a_fault (Unseen mac numbers) = false
@@ -318,7 +291,7 @@ is_a_fault (San mac lan frames) = false
 is_a_fault (Clock ahead) = false
 
 -- why nothing can be judged: the first verdict says so
-abbrev pub reason_in : List Verdict → Option Reason
+abbrev pub reason_in : List Verdict → Option Why
 reason_in [] = None
 reason_in (Unjudged why ∷ vs) = Some why
 reason_in (v ∷ vs) = None

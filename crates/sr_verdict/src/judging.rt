@@ -21,11 +21,10 @@ ghost use Rattle.sr_verdict.specs.Verdicts.{
   fault_verdicts,
   notice_verdicts,
   clock_told,
-  why_of,
-  why_told,
-  AreVerdictsOf,
 };
+ghost use Rattle.sr_verdict.specs.Told.{why_of, why_told, AreVerdictsOf};
 
+use crate::drops::{note_dropped, settle};
 use crate::heard::Heard;
 use crate::hearing::{Hearing, single_hearing};
 use crate::kinds::{Kind, verdict_on, when_counted};
@@ -33,6 +32,7 @@ use crate::nodes::{NodeVerdict, astray_names, node_verdict};
 use crate::place::{Place, cut_place};
 use crate::shared::{Cut, Share, cut_in, share_by};
 use crate::verdict::Verdict;
+use crate::why::Why;
 use sr_audit::{Side, Sides};
 use sr_capture_audit::{Counts, Judgement, Network, Ports, Reason, Report, Sight, Subject};
 use sr_frame::NoMemory;
@@ -50,10 +50,12 @@ pub struct Outside {
     pub reason: Option<Reason>,
     /// How far the clock of B was ahead, in nanoseconds, where it was put right.
     pub ahead: Option<i128>,
+    /// How many packets the recorders say that they dropped: that of a mirror port at A.
+    pub dropped: Sides,
 }
 
 /// Takes a verdict.
-fn note(verdicts: &mut Vec<Verdict>, verdict: Verdict) -> Result<(), NoMemory>
+pub(crate) fn note(verdicts: &mut Vec<Verdict>, verdict: Verdict) -> Result<(), NoMemory>
     ensures { OnOk result (verdicts.new.items ≡ verdicts.old.items ++ verdict ∷ []) }
 {
     match verdicts.push(verdict) {
@@ -63,7 +65,10 @@ fn note(verdicts: &mut Vec<Verdict>, verdict: Verdict) -> Result<(), NoMemory>
 }
 
 /// Takes a verdict, if there is one.
-fn note_one(verdicts: &mut Vec<Verdict>, verdict: Option<Verdict>) -> Result<(), NoMemory>
+pub(crate) fn note_one(
+    verdicts: &mut Vec<Verdict>,
+    verdict: Option<Verdict>,
+) -> Result<(), NoMemory>
     ensures { OnOk result (verdicts.new.items ≡ verdicts.old.items ++ as_list verdict) }
 {
     if let Some(verdict) = verdict {
@@ -321,7 +326,8 @@ fn why_told(outside: Option<Reason>, report: &Report) -> Option<Reason>
 }
 
 /// The verdicts on a network, the most severe kind first, and of a kind those on sources in their order: each stands exactly where the
-/// figures say so. Where nothing can be judged, that is the only one.
+/// figures say so. Where nothing can be judged, that is the only one. A loss that a recorder may have dropped is not told; where no other
+/// fault stands, then nothing can be judged.
 ///
 /// # Errors
 /// `NoMemory` where an allocation failed.
@@ -337,10 +343,13 @@ pub fn verdicts_of(
     let hearing = single_hearing(alloc, report, sources)?;
     let mut verdicts = Vec::new(alloc);
     if let Some(reason) = why_told(outside.reason, report) {
-        note(&mut verdicts, Verdict::Unjudged(reason))?;
+        note(&mut verdicts, Verdict::Unjudged(Why::Figures(reason)))?;
         return Ok(verdicts);
     }
     note_faults(&mut verdicts, report, sources, &hearing)?;
+    let (ports, dropped) = (report.subject.ports, outside.dropped);
+    settle(&mut verdicts, ports, dropped)?;
+    note_dropped(&mut verdicts, ports, dropped)?;
     note_notices(
         &mut verdicts,
         report,

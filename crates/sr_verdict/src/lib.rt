@@ -2,6 +2,7 @@
 #![tactic(auto)]
 
 mod cutting;
+mod drops;
 mod heard;
 mod hearing;
 mod judging;
@@ -13,6 +14,7 @@ mod place;
 mod shared;
 mod sharing;
 mod verdict;
+mod why;
 mod words;
 
 pub use heard::Heard;
@@ -22,3 +24,4 @@ pub use names::Names;
 pub use place::{Neighbour, Place};
 pub use shared::{Cut, Share};
 pub use verdict::{Verdict, reason_in, status_of};
+pub use why::Why;

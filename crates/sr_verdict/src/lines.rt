@@ -3,6 +3,7 @@
 use crate::cutting::print_cut;
 use crate::sharing::print_names;
 use crate::verdict::{FAULTY, SOUND, Verdict, status_of};
+use crate::why::Why;
 use crate::words::{advice_on, kind_word, lan_word, severity_word};
 use sr_audit::{Row, Side, Sides};
 use sr_capture_audit::{Field, Format, Reason, Value, print_row};
@@ -96,12 +97,20 @@ fn print_whole<W: Write>(
         advice,
     } = frame;
     match *verdict {
-        Verdict::Unjudged(Reason::Unnumbered(side)) => {
+        Verdict::Unjudged(Why::Figures(Reason::Unnumbered(side))) => {
             print_row(
                 writer,
                 format,
                 severity,
                 &[kind, at_lan(Some(side)), advice],
+            )
+        }
+        Verdict::Unjudged(Why::Dropped(lan, packets)) | Verdict::RecorderDropped(lan, packets) => {
+            print_row(
+                writer,
+                format,
+                severity,
+                &[kind, at_lan(lan), count("packets", packets), advice],
             )
         }
         Verdict::Clock(ahead) => {

@@ -7,8 +7,8 @@ ghost use Rattle.sr_verdict.specs.Verdicts.{is_a_fault, reason_in, block_status}
 use crate::names::Names;
 use crate::place::Place;
 use crate::shared::{Cut, Share};
+use crate::why::Why;
 use sr_audit::{Row, Side, Sides};
-use sr_capture_audit::Reason;
 use sr_frame::Mac;
 use sr_sources::{Second, Tail};
 
@@ -25,7 +25,7 @@ const UNJUDGED: u8 = 4;
 #[derive(Clone, Copy, Debug, PartialEq, Eq)]
 pub enum Verdict {
     /// Nothing can be judged, for this reason.
-    Unjudged(Reason),
+    Unjudged(Why),
     /// Fault: of so many numbers of a source, or of a RedBox's counter, no frame came by either LAN.
     BothLost(Mac, u64),
     /// Fault: the numbers of a source are those of two senders, since this time.
@@ -48,6 +48,8 @@ pub enum Verdict {
     Repeated(Mac, Sides),
     /// Fault: the copies of so many frames of a source came 400 ms apart or more.
     Late(Mac, u64),
+    /// Notice: the recorder of a LAN, or of a mirror port, dropped so many packets.
+    RecorderDropped(Option<Side>, u64),
     /// Notice: the numbers of a source began anew, so many times.
     Restart(Mac, u64),
     /// Notice: a source has many frames in a second, so many at most, which is not what it has in most of them.
@@ -81,6 +83,7 @@ impl Verdict {
             | Verdict::Repeated(_, _)
             | Verdict::Late(_, _) => true,
             Verdict::Unjudged(_)
+            | Verdict::RecorderDropped(_, _)
             | Verdict::Restart(_, _)
             | Verdict::Babbling(_, _)
             | Verdict::Unseen(_, _)
@@ -91,17 +94,17 @@ impl Verdict {
 }
 
 /// Why nothing can be judged. None: the figures judge.
-pub fn reason_in(verdicts: &[Verdict]) -> Option<Reason>
+pub fn reason_in(verdicts: &[Verdict]) -> Option<Why>
     ensures { result ≡ reason_in verdicts.now }
 {
     match verdicts.first() {
-        Some(Verdict::Unjudged(reason)) => Some(*reason),
+        Some(Verdict::Unjudged(why)) => Some(*why),
         _ => None,
     }
 }
 
 /// Whether one is a fault.
-fn has_fault(verdicts: &[Verdict]) -> bool
+pub(crate) fn has_fault(verdicts: &[Verdict]) -> bool
     ensures { result ≡ list_any is_a_fault verdicts.now }
 {
     verdicts.iter().any(|verdict| verdict.is_a_fault())

@@ -1,6 +1,7 @@
 //! The words of verdicts: how severe one is, what kind it is of, and what to do.
 
 use crate::verdict::Verdict;
+use crate::why::Why;
 use sr_audit::Side;
 use sr_capture_audit::Reason;
 
@@ -9,6 +10,7 @@ pub(crate) fn severity_word(verdict: &Verdict) -> &'static str {
     match *verdict {
         Verdict::Unjudged(_) => "unjudged",
         Verdict::Restart(_, _)
+        | Verdict::RecorderDropped(_, _)
         | Verdict::Babbling(_, _)
         | Verdict::Unseen(_, _)
         | Verdict::San(_, _, _)
@@ -18,22 +20,23 @@ pub(crate) fn severity_word(verdict: &Verdict) -> &'static str {
 }
 
 /// The word for why nothing can be judged.
-fn reason_word(reason: Reason) -> &'static str {
-    match reason {
-        Reason::Unnumbered(_) => "unnumbered",
-        Reason::Swapped => "swapped",
-        Reason::Unpaired => "unpaired",
-        Reason::Cut => "cut_packets",
-        Reason::BothWays => "both_ways",
-        Reason::TwoOffsets(_, _) => "two_offsets",
-        Reason::NoOffset => "no_offset",
+fn reason_word(why: Why) -> &'static str {
+    match why {
+        Why::Figures(Reason::Unnumbered(_)) => "unnumbered",
+        Why::Figures(Reason::Swapped) => "swapped",
+        Why::Figures(Reason::Unpaired) => "unpaired",
+        Why::Figures(Reason::Cut) => "cut_packets",
+        Why::Figures(Reason::BothWays) => "both_ways",
+        Why::Figures(Reason::TwoOffsets(_, _)) => "two_offsets",
+        Why::Figures(Reason::NoOffset) => "no_offset",
+        Why::Dropped(_, _) => "dropped_packets",
     }
 }
 
 /// The word for the kind of a verdict.
 pub(crate) fn kind_word(verdict: &Verdict) -> &'static str {
     match *verdict {
-        Verdict::Unjudged(reason) => reason_word(reason),
+        Verdict::Unjudged(why) => reason_word(why),
         Verdict::BothLost(_, _) => "both_lost",
         Verdict::TwoSenders(_, _) => "two_senders",
         Verdict::CutRing(_, _) => "cut_ring",
@@ -45,6 +48,7 @@ pub(crate) fn kind_word(verdict: &Verdict) -> &'static str {
         Verdict::Misfit(_, _) => "misfit",
         Verdict::Repeated(_, _) => "repeated",
         Verdict::Late(_, _) => "late",
+        Verdict::RecorderDropped(_, _) => "recorder_dropped",
         Verdict::Restart(_, _) => "restart",
         Verdict::Babbling(_, _) => "babbling",
         Verdict::Unseen(_, _) => "unseen",
@@ -63,23 +67,25 @@ pub(crate) fn lan_word(lan: Option<Side>) -> &'static str {
 }
 
 /// What to do where nothing can be judged.
-fn advice_on_reason(reason: Reason) -> &'static str {
-    match reason {
-        Reason::Unnumbered(_) =>
+fn advice_on_reason(why: Why) -> &'static str {
+    match why {
+        Why::Figures(Reason::Unnumbered(_)) =>
             "give a capture of this LAN whose frames have numbers: --network, --fcs 4",
-        Reason::Swapped => "give the files the other way round",
-        Reason::Unpaired => "record both at the same time, in one network: --shift auto",
-        Reason::Cut => "record whole packets",
-        Reason::BothWays => "record what comes in alone",
-        Reason::TwoOffsets(_, _) => "say how far the clock of B is ahead: --shift-b",
-        Reason::NoOffset => "take the times as they are: --shift none",
+        Why::Figures(Reason::Swapped) => "give the files the other way round",
+        Why::Figures(Reason::Unpaired) =>
+            "record both at the same time, in one network: --shift auto",
+        Why::Figures(Reason::Cut) => "record whole packets",
+        Why::Figures(Reason::BothWays) => "record what comes in alone",
+        Why::Figures(Reason::TwoOffsets(_, _)) => "say how far the clock of B is ahead: --shift-b",
+        Why::Figures(Reason::NoOffset) => "take the times as they are: --shift none",
+        Why::Dropped(_, _) => "record again with a larger buffer, or on a faster disk",
     }
 }
 
 /// What to do about a verdict.
 pub(crate) fn advice_on(verdict: &Verdict) -> &'static str {
     match *verdict {
-        Verdict::Unjudged(reason) => advice_on_reason(reason),
+        Verdict::Unjudged(why) => advice_on_reason(why),
         Verdict::BothLost(_, _) => "look at what both paths share: the sender, its power, a switch",
         Verdict::TwoSenders(_, _) => "give one of the two nodes an address of its own",
         Verdict::CutRing(_, _) =>
@@ -94,6 +100,7 @@ pub(crate) fn advice_on(verdict: &Verdict) -> &'static str {
         Verdict::Misfit(_, _) => "look at what changes frames on their way, and at --fcs 4",
         Verdict::Repeated(_, _) => "look for a loop, or a recorder that sees a frame twice",
         Verdict::Late(_, _) => "look at queues on one path, and at the recorders' clocks",
+        Verdict::RecorderDropped(_, _) => "give the recorder a larger buffer or a faster disk",
         Verdict::Restart(_, _) => "ask whether it was started anew",
         Verdict::Babbling(_, _) => "ask what it sends, and limit it at its switch port",
         Verdict::Unseen(_, _) => "record at mirror ports, or say --complete where both see all",

@@ -235,7 +235,8 @@ impl Table {
         let _sources = self.sources.len();
         self.forgotten = self.forgotten_below(limit);
         let _least = self.sources.sift(limit);
-        self.sources.sweep(MAX_SOURCES, 4 * MAX_SOURCES);
+        // A place without a source is as large as one with a source.
+        self.sources.sweep(1, MAX_SOURCES);
     }
 
     /// What was counted of the sources that were forgotten.

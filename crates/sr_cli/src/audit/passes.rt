@@ -6,7 +6,7 @@ use crate::audit::ways::have_both_ways;
 use crate::files::{Opened, open_file};
 use crate::meanings::network_of;
 use crate::progress::Progress;
-use sr_audit::{Audit, Spans};
+use sr_audit::{Audit, Span, Spans};
 use sr_capture_audit::{
     Flows, Gathered, Network, RedBoxes, Report, Rule, Sight, Subject, flows_in, gathered_of,
     inner_spans, judges_all, ruled_of, sight_of, spans_of,
@@ -62,6 +62,36 @@ fn read_spans<R: AllocGlobal + Eprint + Files>(
 ) -> Result<Spans, Ended> {
     let mut captures = open(rt, task, progress)?;
     Ok(spans_of(&mut captures, &task.options.choice, subject)?)
+}
+
+/// From the beginning of the earlier capture to the end of the later one.
+fn whole_span(spans: Spans) -> Option<Span> {
+    match (spans.a, spans.b) {
+        (Some(a), Some(b)) => Some(Span {
+            first: a.first.min(b.first),
+            last: a.last.max(b.last),
+        }),
+        (span, None) | (None, span) => span,
+    }
+}
+
+/// When each recorder is taken to run: as its packets say, or both all the time.
+fn audited_spans(task: &AuditTask<'_>, recorded: Spans) -> Spans {
+    if task.is_whole {
+        let whole = whole_span(recorded);
+        Spans { a: whole, b: whole }
+    } else {
+        recorded
+    }
+}
+
+/// The parts in which a frame is missing that has no copy: all of them where both recorders ran all the time.
+fn judged_spans(task: &AuditTask<'_>, edge_width: u64, audited: Spans) -> Spans {
+    if task.is_whole {
+        audited
+    } else {
+        inner_spans(edge_width, audited)
+    }
 }
 
 /// What one pass gathers: the figures of the captures, the RedBoxes that supervision names, and what is asked for under two rules.
@@ -313,7 +343,7 @@ fn read_losses<R: AllocGlobal + Eprint + Files>(
     task: &AuditTask<'_>,
     subject: Subject,
     keys: Keys,
-    recorded: Spans,
+    audited: Spans,
     first: Gathered,
 ) -> Result<(Spans, Report), Ended> {
     let Gathered {
@@ -326,7 +356,7 @@ fn read_losses<R: AllocGlobal + Eprint + Files>(
         have_missing,
         are_few,
     } = losses_of(report);
-    let judged = inner_spans(edge_width, recorded);
+    let judged = judged_spans(task, edge_width, audited);
     let by_counter = if have_missing {
         Some(counting_of(task, judged, redboxes))
     } else {
@@ -347,7 +377,7 @@ fn read_missing<R: AllocGlobal + Eprint + Files>(
     task: &AuditTask<'_>,
     subject: Subject,
     keys: Keys,
-    recorded: Spans,
+    audited: Spans,
     first: Gathered,
 ) -> Result<Report, Ended> {
     let Gathered {
@@ -358,8 +388,8 @@ fn read_missing<R: AllocGlobal + Eprint + Files>(
     if !report.has_missing() {
         return Ok(report);
     }
-    let rule = counting_of(task, recorded, redboxes);
-    let counters = read_ruled(rt, task, subject, keys, recorded, rule)?;
+    let rule = counting_of(task, audited, redboxes);
+    let counters = read_ruled(rt, task, subject, keys, audited, rule)?;
     let none = Flows::none(rt.alloc(), keys);
     Ok(judged_by_counters(task, &none, Some(counters), report))
 }
@@ -373,13 +403,14 @@ pub fn read_all<R: AllocGlobal + Eprint + Files>(
     progress: Progress,
 ) -> Result<Read, Ended> {
     let recorded = read_spans(rt, task, subject, progress)?;
-    let first = read_gathered(rt, task, subject, keys, recorded, None, None)?;
+    let audited = audited_spans(task, recorded);
+    let first = read_gathered(rt, task, subject, keys, audited, None, None)?;
     let are_both_ways = have_both_ways(rt, task, keys, first.report.has_repeated())?;
     let (judged, report) = if first.report.has_lost() {
-        read_losses(rt, task, subject, keys, recorded, first)?
+        read_losses(rt, task, subject, keys, audited, first)?
     } else {
-        let report = read_missing(rt, task, subject, keys, recorded, first)?;
-        (recorded, report)
+        let report = read_missing(rt, task, subject, keys, audited, first)?;
+        (audited, report)
     };
     Ok(Read {
         times: Times {

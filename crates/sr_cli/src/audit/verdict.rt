@@ -2,6 +2,7 @@
 
 use crate::audit::Ended;
 use crate::clocks::Known;
+use sr_audit::Sides;
 use sr_capture_audit::{Judgement, Reason, Report};
 use sr_capture_script::ScriptFault;
 use sr_sources::Sources;
@@ -17,13 +18,14 @@ fn reason_outside(known: Known, are_both_ways: bool) -> Option<Reason> {
 }
 
 /// What is known of the captures besides their figures.
-fn outside_of(known: Known, are_both_ways: bool) -> Outside {
+fn outside_of(known: Known, are_both_ways: bool, dropped: Sides) -> Outside {
     Outside {
         reason: reason_outside(known, are_both_ways),
         ahead: match known {
             Known::Ahead(_, ahead, _) => Some(ahead),
             Known::Nothing | Known::Unjudged(_) => None,
         },
+        dropped,
     }
 }
 
@@ -34,8 +36,9 @@ pub fn judge<R: AllocGlobal>(
     sources: &Sources,
     known: Known,
     are_both_ways: bool,
+    dropped: Sides,
 ) -> Result<Vec<Verdict>, Ended> {
-    let outside = outside_of(known, are_both_ways);
+    let outside = outside_of(known, are_both_ways, dropped);
     match verdicts_of(rt.alloc(), report, sources, outside) {
         Ok(verdicts) => Ok(verdicts),
         Err(_) => Err(Ended::By(ScriptFault::NoMemory)),

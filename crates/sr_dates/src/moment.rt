@@ -1,4 +1,4 @@
-//! Times of day, as the calendar and the clock of UTC tell them.
+//! A moment, as a date and a time of day (UTC).
 
 use std::fmt;
 

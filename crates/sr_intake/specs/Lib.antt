@@ -1,0 +1,4 @@
+pub mod Counting
+pub mod Formats
+pub mod Intakes
+pub mod Kinds

@@ -1,0 +1,36 @@
+//! How a watch runs.
+
+use sr_intake::{Network, Reading};
+use sr_prp_trailer::Lan;
+use sr_watch::Settings;
+use sr_watch_lines::Format;
+
+/// How the capture of a LAN is read.
+#[derive(Clone, Copy, Debug)]
+pub struct LanPlan {
+    /// The LAN.
+    pub lan: Lan,
+    /// How frames have their numbers.
+    pub network: Network,
+    /// How its file is read.
+    pub reading: Reading,
+    /// How far its times are put off, in nanoseconds.
+    pub delay: u64,
+}
+
+/// How a watch runs. Times are in nanoseconds.
+#[derive(Clone, Copy, Debug)]
+pub struct Plan {
+    /// How the capture of LAN A is read.
+    pub a: LanPlan,
+    /// How that of LAN B is.
+    pub b: LanPlan,
+    /// How far reports are apart.
+    pub every: u64,
+    /// How lines are spelled.
+    pub format: Format,
+    /// What the watch is set to.
+    pub settings: Settings,
+    /// After how long it ends. None: where both captures end.
+    pub lasts_for: Option<u64>,
+}

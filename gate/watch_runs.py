@@ -1,0 +1,314 @@
+#!/usr/bin/env python3
+"""Runs of `seamless watch` over pipes that stop, die, come late or go on for a day, each with what it has to say of that.
+
+    gate/watch_runs.py [--program PATH] [--long] [NAME..]     all short runs; with --long those too that take a minute and more
+
+A run is a function whose name begins with `run_`, or with `long_`; a NAME is a part of it. Writers give packets of frames to pipes in real
+time, or a day's packets at full speed. The last line is `N passed, M failed`.
+"""
+import argparse
+import json
+import os
+import re
+import shutil
+import subprocess
+import sys
+import tempfile
+import threading
+import time
+from concurrent.futures import ThreadPoolExecutor
+
+from networks import BEGIN, SECOND, TOP, Source, octets, struct
+
+FRONT = struct.pack("<IHHiIII", 0xA1B23C4D, 2, 4, 0, 0, 65535, 1)
+# How many runs go on at a time.
+LANES = 8
+
+
+def source_at(index):
+    source = Source.__new__(Source)
+    source.mac = struct.pack(">Q", 0x020000000000 + index)[2:]
+    return source
+
+
+def packet(moment, number, lan, index=1):
+    """A packet of a pcap file in nanoseconds: a frame of a source with this number, at a time in seconds behind the beginning."""
+    at = BEGIN + round(moment * SECOND)
+    frame = octets(source_at(index), {"number": number % 65536}, lan)
+    return struct.pack("<IIII", at // SECOND, at % SECOND, len(frame), len(frame)) + frame
+
+
+class Lan:
+    """A pipe to which a writer gives what it has, each piece at its real time in seconds."""
+
+    def __init__(self, path, pieces, stays=0.0):
+        self.path, self.pieces, self.stays = path, pieces, stays
+        os.mkfifo(path)
+
+    def write(self):
+        try:
+            with open(self.path, "wb", buffering=0) as pipe:
+                begun = time.monotonic()
+                for moment, piece in self.pieces:
+                    time.sleep(max(0.0, begun + moment - time.monotonic()))
+                    pipe.write(piece)
+                time.sleep(max(0.0, begun + self.stays - time.monotonic()))
+        except BrokenPipeError:
+            pass
+
+
+class Watch:
+    """What a watch of two LANs said."""
+
+    def __init__(self, program, folder, a, b, words, out=subprocess.PIPE, **how):
+        self.lans = [Lan(f"{folder}/{name}", *lan) for name, lan in zip("ab", (a, b)) if lan is not None]
+        paths = [f"{folder}/{name}" for name in "ab"]
+        for path in paths:
+            if not os.path.exists(path):
+                os.mkfifo(path)
+        for lan in self.lans:
+            threading.Thread(target=lan.write, daemon=True).start()
+        run = subprocess.run([program, "watch", "--a", paths[0], "--b", paths[1], "--format", "json", *words],
+                             stdout=out, stderr=subprocess.PIPE, timeout=how.get("timeout", 60), check=False)
+        self.status, self.err = run.returncode, run.stderr.decode()
+        self.lines = [json.loads(line) for line in (run.stdout or b"").splitlines()]
+
+    def of(self, word):
+        return [line for line in self.lines if line["line"] == word]
+
+    def alarms(self, word):
+        """The states of an alarm, in their order, with the LAN."""
+        return [(line["state"], line.get("lan")) for line in self.of("alarm") if line["alarm"] == word]
+
+    def summed(self, name):
+        return sum(line[name] for line in self.of("source"))
+
+
+def paced(lan, first, last, step=0.1, late=0.0, lost=(), front=True):
+    """Packets from a moment to another, a step apart, each written when it is captured, or later."""
+    pieces = [(0.0, FRONT)] if front else []
+    count = round((last - first) / step)
+    for at in range(count):
+        moment = first + at * step
+        if at not in lost:
+            pieces.append((moment + late, packet(moment + 0.0001 * lan, round(moment / step), lan)))
+    return pieces
+
+
+def run_a_lan_that_stops(program, folder):
+    """LAN A brings nothing behind the second second, though its recorder runs, and comes back in the eighth."""
+    a = paced(0, 0, 2) + paced(0, 8, 10, front=False)
+    watch = Watch(program, folder, (a, 10), (paced(1, 0, 10), 10), ["--every", "1", "--alone-for", "3"])
+    raised = watch.alarms("lan_lost")
+    assert raised == [("raised", "A"), ("cleared", "A")], raised
+    assert watch.summed("lost_a") == 60 and watch.summed("lost_b") == 0, (watch.summed("lost_a"), watch.summed("lost_b"))
+    assert watch.summed("both") == 40, watch.summed("both")
+    assert len(watch.of("report")) >= 9 and watch.status == 0, (len(watch.of("report")), watch.err)
+
+
+def run_both_lans_stop(program, folder):
+    """Nothing comes for four seconds: reports go on, with nothing in them, and nothing waits."""
+    watch = Watch(program, folder, (paced(0, 0, 2, lost=[19]), 7), (paced(1, 0, 2), 7), ["--every", "1", "--alone-for", "3"])
+    reports = watch.of("report")
+    assert len(reports) >= 6 and reports[-2]["waiting"] == 0 and reports[-2]["held"] == 0, reports
+    assert watch.summed("lost_a") == 1 and watch.summed("both") == 19, watch.summed("lost_a")
+    assert {lan for state, lan in watch.alarms("lan_silent") if state == "raised"} == {"A", "B"}, watch.alarms("lan_silent")
+
+
+def run_a_lan_without_a_writer(program, folder):
+    """No recorder opens LAN A: reports do not wait for it, and what B brings is counted as unwatched."""
+    watch = Watch(program, folder, None, (paced(1, 0, 4), 4), ["--every", "1", "--for", "5"])
+    captures = [line for line in watch.of("capture") if line["capture"] == "B"]
+    assert captures[-1]["unwatched"] == 40 and not watch.summed("lost_a"), captures
+    assert len(watch.of("report")) >= 4 and watch.status == 0, watch.err
+
+
+def run_a_lan_without_an_octet(program, folder):
+    """A recorder opens LAN A and writes nothing: the same."""
+    watch = Watch(program, folder, ([], 5), (paced(1, 0, 4), 4), ["--every", "1", "--for", "5"])
+    captures = [line for line in watch.of("capture") if line["capture"] == "B"]
+    assert captures[-1]["unwatched"] == 40 and watch.status == 0, (captures, watch.err)
+
+
+def run_a_lan_that_comes_late(program, folder):
+    """LAN B comes 0.6 s behind A, and the slack is a second: nothing is behind, and nothing is lost."""
+    watch = Watch(program, folder, (paced(0, 0, 4), 5), (paced(1, 0, 4, late=0.6), 5), ["--every", "1", "--slack", "1000"])
+    assert all(line["behind"] == 0 for line in watch.of("capture")), watch.of("capture")
+    assert watch.summed("both") == 40 and watch.summed("lost_a") + watch.summed("lost_b") == 0, watch.lines
+
+
+def run_a_lan_that_comes_too_late(program, folder):
+    """LAN B pauses for two seconds and gives what it kept all at once: it is counted as behind, an alarm says so, and no copy is lost to it."""
+    pieces = paced(1, 0, 6)
+    held = [(4.0 if 2.0 <= moment < 4.0 else moment, piece) for moment, piece in pieces]
+    watch = Watch(program, folder, (paced(0, 0, 6), 6), (held, 6), ["--every", "1", "--slack", "300"])
+    behind = [line["behind"] for line in watch.of("capture") if line["capture"] == "B"]
+    assert behind[-1] > 0 and behind == sorted(behind), behind
+    assert ("raised", "B") in watch.alarms("behind"), watch.of("alarm")
+    assert watch.summed("rx_a") == 60 and watch.summed("rx_b") == 60, (watch.summed("rx_a"), watch.summed("rx_b"))
+
+
+def run_a_capture_cut_at_each_octet(program, folder):
+    """A recorder dies within a packet: those before it count, an alarm and standard error say so, and the other LAN goes on. Copies of B
+    come first, so that none is on its way where A ends."""
+    whole = FRONT + b"".join(packet(0.1 * at, at, 0) for at in range(3))
+    size = (len(whole) - len(FRONT)) // 3
+    cuts = [*range(0, len(FRONT), 5), *range(len(FRONT), len(whole) + 1, 11), len(whole)]
+
+    def cut(at):
+        room = f"{folder}/{at}"
+        os.mkdir(room)
+        b = FRONT + b"".join(packet(0.1 * n - 0.0001, n, 1) for n in range(9))
+        watch = Watch(program, room, ([(0, whole[:at])], 0.0), ([(0, b)], 0.2), ["--every", "1"])
+        came = max(0, at - len(FRONT)) // size
+        is_whole = at >= len(FRONT) and (at - len(FRONT)) % size == 0
+        counts = [line["packets"] for line in watch.of("capture") if line["capture"] == "A"]
+        assert sum(counts) == came, (at, counts)
+        assert bool(watch.err) != is_whole, (at, watch.err)
+        assert ("raised", "A") in watch.alarms("capture_ended"), (at, watch.lines)
+        assert watch.summed("both") == came, (at, watch.lines)
+
+    with ThreadPoolExecutor(LANES) as pool:
+        list(pool.map(cut, sorted(set(cuts))))
+
+
+def run_a_writer_that_stops_within_a_packet(program, folder):
+    """20 octets of a packet, two seconds of silence, and the rest: nothing hangs, and nothing is lost."""
+    one = packet(0.0, 0, 0)
+    a = [(0.0, FRONT + one[:20]), (2.0, one[20:] + packet(2.0, 20, 0))]
+    b = [(0.0, FRONT + packet(0.0001, 0, 1)), (2.0, packet(2.0001, 20, 1))]
+    watch = Watch(program, folder, (a, 3), (b, 3), ["--every", "1", "--slack", "3000"])
+    assert watch.summed("both") == 2 and watch.summed("lost_a") == 0, watch.lines
+
+
+def run_a_restart_of_an_alarm(program, folder):
+    """More than one frame in ten is lost in an interval, and none in the next: the alarm is raised once, and cleared."""
+    lost = [*range(10, 20)]
+    watch = Watch(program, folder, (paced(0, 0, 6), 6), (paced(1, 0, 6, lost=lost), 6), ["--every", "1", "--lost-over", "10", "--check"])
+    states = [state for state, _ in watch.alarms("lost")]
+    assert states == ["raised", "cleared"], watch.of("alarm")
+    assert watch.status == 3 and watch.summed("lost_b") == 10, (watch.status, watch.summed("lost_b"))
+
+
+def run_an_output_that_nobody_reads(program, folder):
+    """Who reads three lines and goes ends the watch, silently."""
+    command = f"{program} watch --a {folder}/a --b {folder}/b --every 1 2>{folder}/err | head -3 >{folder}/out; echo ${{PIPESTATUS[0]}}"
+    for name, lan in (("a", 0), ("b", 1)):
+        threading.Thread(target=Lan(f"{folder}/{name}", paced(lan, 0, 6), 6).write, daemon=True).start()
+    run = subprocess.run(["bash", "-c", command], capture_output=True, text=True, timeout=30, check=False)
+    with open(f"{folder}/err", encoding="utf-8") as err, open(f"{folder}/out", encoding="utf-8") as out:
+        assert run.stdout.strip() == "1" and err.read() == "" and len(out.readlines()) == 3, run.stdout
+
+
+def run_a_full_disk(program, folder):
+    """What can't be written is told, with status 1."""
+    with open("/dev/full", "wb") as full:
+        watch = Watch(program, folder, ([(0, FRONT)], 3), ([(0, FRONT)], 3), ["--every", "1"], out=full)
+    assert watch.status == 1 and watch.err.startswith("fault write\n") and watch.err.count("\n") == 2, watch.err
+
+
+def run_metrics_without_a_folder(program, folder):
+    """A folder of metrics that is not there is told, with status 1."""
+    watch = Watch(program, folder, ([(0, FRONT)], 3), ([(0, FRONT)], 3), ["--every", "1", "--metrics", f"{folder}/none/seamless.prom"])
+    assert watch.status == 1 and watch.err.startswith("fault write\n") and "none/seamless.prom" in watch.err, watch.err
+
+
+def run_metrics(program, folder):
+    """The metrics at the end have the counts since the start, one type for each family, and no line without one. Where promtool is, Debian's
+    package prometheus has it, it finds nothing to say."""
+    path = f"{folder}/seamless.prom"
+    watch = Watch(program, folder, (paced(0, 0, 3, lost=[5, 6]), 3), (paced(1, 0, 3), 3), ["--every", "1", "--metrics", path])
+    with open(path, encoding="utf-8") as file:
+        text = file.read()
+    lost = re.search(r'^seamless_frames_lost_total\{source="02:00:00:00:00:01",lan="a"\} (\d+)$', text, re.M)
+    assert lost and int(lost[1]) == watch.summed("lost_a") == 2, text
+    types = re.findall(r"^# TYPE (\S+) ", text, re.M)
+    names = {re.sub(r"_(bucket|sum|count)$", "", name) if f"{name}" not in types else name for name in re.findall(r"^(seamless_\w+)", text, re.M)}
+    assert len(types) == len(set(types)) and names <= set(types), (names - set(types), types)
+    assert not os.path.exists(path + ".new")
+    if shutil.which("promtool"):
+        checked = subprocess.run(["promtool", "check", "metrics"], input=text, capture_output=True, text=True, timeout=60, check=False)
+        assert checked.returncode == 0 and not checked.stderr, checked.stderr
+
+
+def day(lan, repeats, sources_each, until):
+    """The packets of a day at full speed: ten seconds with a frame each 0.1 s, so many times, and a new source in each of them."""
+    yield FRONT
+    for turn in range(repeats):
+        base = turn * 10.0
+        parts = [packet(base + 0.1 * at + 0.0001 * lan, turn * 100 + at, lan) for at in range(100)]
+        if turn < until:
+            parts += [packet(base + 9.95 + 0.0001 * lan, at, lan, 1000 + turn * sources_each + at) for at in range(sources_each)]
+        yield b"".join(parts)
+
+
+def resident(pid):
+    with open(f"/proc/{pid}/status", encoding="ascii") as file:
+        return int(re.search(r"VmRSS:\s+(\d+)", file.read())[1])
+
+
+def long_a_day(program, folder):
+    """24 hours of two LANs at full speed, with a source more in each second: memory at the end is what it was behind the 1024th source, the
+    sums are those of the frames, and sources that are silent are forgotten."""
+    repeats, sources_each = 8640, 10
+    paths = [f"{folder}/{name}" for name in "ab"]
+    for path in paths:
+        os.mkfifo(path)
+
+    def feed(lan):
+        with open(paths[lan], "wb") as pipe:
+            for piece in day(lan, repeats, sources_each, repeats):
+                pipe.write(piece)
+
+    for lan in range(2):
+        threading.Thread(target=feed, args=(lan,), daemon=True).start()
+    with open(f"{folder}/out", "w", encoding="utf-8") as out:
+        run = subprocess.Popen([program, "watch", "--a", paths[0], "--b", paths[1], "--every", "1", "--slack", "60000", "--format", "json"], stdout=out, stderr=subprocess.PIPE)
+        held = []
+        while run.poll() is None:
+            time.sleep(0.2)
+            if run.poll() is None:
+                try:
+                    held.append(resident(run.pid))
+                except (OSError, TypeError):
+                    pass
+    with open(f"{folder}/out", encoding="utf-8") as out:
+        lines = [json.loads(line) for line in out]
+    sums = {name: sum(line[name] for line in lines if line["line"] == "source" and line["source"] == "02:00:00:00:00:01") for name in ("rx_a", "both", "lost_a", "lost_b")}
+    assert run.returncode == 0 and sums == {"rx_a": repeats * 100, "both": repeats * 100, "lost_a": 0, "lost_b": 0}, sums
+    reports = [line for line in lines if line["line"] == "report"]
+    assert max(line["sources"] for line in reports) <= 1024
+    quarter = len(held) // 4
+    assert max(held) < 32 * 1024 and max(held[3 * quarter:]) <= max(held[quarter:2 * quarter]) + 512, held
+    print(f"    a day: {len(held) * 0.2:.0f} s, {max(held)} KB at most, forgotten {reports[-1].get('forgotten')}")
+
+
+def main():
+    parser = argparse.ArgumentParser(description=__doc__, formatter_class=argparse.RawDescriptionHelpFormatter)
+    parser.add_argument("--program", default=f"{TOP}/seamless")
+    parser.add_argument("--long", action="store_true")
+    parser.add_argument("names", metavar="NAME", nargs="*")
+    task = parser.parse_args()
+    known = {name: run for name, run in globals().items() if name.startswith("run_") or task.long and name.startswith("long_")}
+    runs = {name: run for name, run in known.items() if not task.names or any(one in name for one in task.names)}
+
+    def judge(name):
+        with tempfile.TemporaryDirectory(prefix="watch-runs-") as folder:
+            try:
+                runs[name](task.program, folder)
+            except (AssertionError, subprocess.TimeoutExpired, json.JSONDecodeError, KeyError, IndexError, OSError) as why:
+                return f"{name}: {type(why).__name__} {str(why)[:600]}"
+        return None
+
+    failed = 0
+    with ThreadPoolExecutor(LANES) as pool:
+        for found in pool.map(judge, runs):
+            failed += found is not None
+            if found:
+                print(found)
+    print(f"{len(runs) - failed} passed, {failed} failed")
+    return 1 if failed or not runs else 0
+
+
+if __name__ == "__main__":
+    sys.exit(main())
