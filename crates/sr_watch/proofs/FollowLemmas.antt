@@ -1,8 +1,13 @@
 -- What a watch keeps, with one call more.
-use Rattle.std.proofs.Common.{ℕ, ◌<◌, Bool, true, false, ◌≡◌, suc, ◌+◌, ◌≤◌, List, [], ◌∷◌, ◌++◌, length, drop, Option, None, Some, arith, refl, sym, ap, ◌∙◌}
+use Rattle.std.proofs.Common.{ℕ, ◌<◌, Bool, true, false, ◌≡◌, suc, ◌+◌, ◌≤◌, List, [], ◌∷◌, ◌++◌, length, drop, Option, None, Some, arith, refl, sym, ap, ◌∙◌, subst}
 use Rattle.std.specs.Prelude.{◌^◌, option_to_list}
+use Rattle.std.proofs.lemmas.Map.Entries.{length-keys_of}
+use Rattle.std.proofs.lemmas.Map.Made.{is_some-lookup}
 use Rattle.std.proofs.lemmas.List.Sums.{length-filter, count_by-le-length}
+use Rattle.std.specs.Map.{keys_of}
 use Rattle.std.specs.Option.{option_map}
+use Rattle.sr_frame.specs.declared.fields.Mac.{Mac}
+use Rattle.sr_frame.specs.Addresses.{mac_eq}
 use Rattle.sr_hold.specs.declared.hold.Released.{Released}
 use Rattle.sr_hold.specs.declared.recorder.Recorder.{Recorder}
 use Rattle.sr_hold.specs.declared.recorder.Recorder.TheVariants.{A, B}
@@ -11,8 +16,10 @@ use Rattle.sr_hold.specs.Order.{front_released}
 use Rattle.sr_hold.specs.Holding.{due_in as due_in_hold, Holding, next_by, next_of, without_by, without_next}
 use Rattle.sr_hold.specs.Turns.{Turn, released_in}
 use Rattle.sr_audit.specs.Audits.{Sent}
+use Rattle.sr_audit.specs.Limits.{most_audited}
 use Rattle.sr_watch.specs.declared.report.SourceLine.{SourceLine}
 use Rattle.sr_watch.specs.declared.table.Table.{Table}
+use Rattle.sr_watch.specs.declared.tracked.Tracked.{Tracked}
 use Rattle.sr_watch.specs.declared.watch.Next.{Next}
 use Rattle.sr_watch.specs.declared.watch.Numbered.{Numbered}
 use Rattle.sr_watch.specs.declared.watch.Watch.{Watch}
@@ -29,12 +36,14 @@ use Rattle.sr_watch.specs.Following.{
   noted_in,
   lines_in,
   taken_in,
+  tabled_in,
+  FindsNoRoom,
   with_releases,
   with_acts,
   Goes,
   OnlyReleases,
 }
-use Rattle.sr_watch.specs.Watching.{is_tabled, left_out_with, Watches}
+use Rattle.sr_watch.specs.Watching.{is_tabled, with_entry_of, tabled_with, left_out_with, Watches}
 
 -- one released more is the newest
 newest_last : (xs : List (Released Numbered)) (y : Released Numbered) → newest_first (xs ++ y ∷ []) ≡ sent_as (next_as y) ∷ newest_first xs
@@ -70,6 +79,8 @@ drawn w o h n free is rest next =
                   ∙ (λ i. due_in (sym next i) ++ (f.sent ∙ ap (λ q. due_in q ++ taken_in (with_acts g.more acts)) free) i);
               watches = f.watches;
               left_out = f.left_out;
+              tabled = f.tabled;
+              passes = f.passes;
             };
           };
       forgotten = refl;
@@ -84,15 +95,25 @@ few_noted (told line ∷ before) = few_noted before
 few_noted (forgot stays ∷ before) =
     omega (arith, length-filter (λ x. stays x.0) (noted_in before), count_by-le-length (λ x. stays x.0) (noted_in before), few_noted before)
 
+-- a source that has no entry, in a table where as many have one as may
+no_room : (m : Mac) (entries : List (Mac × Tracked)) (tabled : List Mac) → keys_of entries ≡ tabled → is_tabled entries m ≡ false →
+    most_audited ≤ length entries → FindsNoRoom m tabled
+no_room m entries tabled same lacks full = subst (FindsNoRoom m) same (
+  sym (is_some-lookup (mac_eq m) entries) ∙ lacks,
+  subst (λ n. most_audited ≤ n) (sym (length-keys_of entries)) full,
+)
+
 -- an arrival that waited for memory is noted, or left out
 pub taken : (w : Watch) (n : Next) (t : Table) → w.next ≡ Some n →
     (is_tabled t.sources.entries n.src ≡ true → (xs : List Sent) (lines : List SourceLine) → length xs + 1 < 2 ^ 64 →
     Watches xs lines w.table.sources.entries → Watches (sent_as n ∷ xs) lines t.sources.entries) →
     (is_tabled t.sources.entries n.src ≡ false → (xs : List Sent) (lines : List SourceLine) → Watches xs lines w.table.sources.entries →
     Watches xs lines t.sources.entries) →
+    (is_tabled t.sources.entries n.src ≡ false → most_audited ≤ length t.sources.entries) →
+    keys_of t.sources.entries ≡ tabled_with (is_tabled t.sources.entries n.src) n.src (keys_of w.table.sources.entries) →
     t.left_out ≡ left_out_with (is_tabled t.sources.entries n.src) w.table.left_out → t.forgotten ≡ w.table.forgotten →
     OnlyReleases w (record { hold = w.hold; next = None; table = t; lans = w.lans; floor = w.floor; settings = w.settings })
-taken w n t waits notes passes left same =
+taken w n t waits notes passes full tabled left same =
     record { goes = λ slack start turns acts g. by slack start turns acts g (is_tabled t.sources.entries n.src) refl; forgotten = same }
   where
     by : (slack start : ℕ) (turns : List (Turn Numbered)) (acts : List Act) (g : Goes slack start turns acts w) (b : Bool) →
@@ -110,11 +131,15 @@ taken w n t waits notes passes left same =
             watches = λ few. notes is (noted_in before) (lines_in before) (let le = few_noted before in omega (arith, few, le))
                 (f.watches (omega (arith, few)));
             left_out = left ∙ ap (λ b. left_out_with b w.table.left_out) is ∙ f.left_out;
+            tabled = tabled ∙ ap (λ b. tabled_with b n.src (keys_of w.table.sources.entries)) is ∙ ap (with_entry_of n.src) f.tabled;
+            passes = f.passes;
           };
         }
     by slack start turns acts g false is =
         let f = g.follows in
         let before = with_acts g.more acts in
+        let same : keys_of t.sources.entries ≡ tabled_in before =
+        tabled ∙ ap (λ b. tabled_with b n.src (keys_of w.table.sources.entries)) is ∙ f.tabled in
         record {
           releases = g.releases;
           more = (false, sent_as n) ∷ g.more;
@@ -123,6 +148,8 @@ taken w n t waits notes passes left same =
             sent = f.sent ∙ ap (λ q. due_in q ++ taken_in before) waits;
             watches = λ few. passes is (noted_in before) (lines_in before) (f.watches (omega (arith, few)));
             left_out = left ∙ ap (λ b. left_out_with b w.table.left_out) is ∙ ap (left_out_with false) f.left_out;
+            tabled = same;
+            passes = (no_room n.src t.sources.entries (tabled_in before) same is (full is), f.passes);
           };
         }
 

@@ -1,9 +1,10 @@
 -- What is kept of many sources follows their arrivals and their lines.
 use Rattle.std.proofs.Common.{◌≡◌, ℕ, ◌+◌, ◌<◌, ◌≤◌, Bool, true, false, cond, List, [], ◌∷◌, ◌++◌, length, Option, None, Some, is_some, arith, refl, sym, ap, ◌∙◌, subst, inl, inr}
-use Rattle.std.specs.Prelude.{◌^◌, nat_le, IfSome, IfNone, OnErr, Result, Ok, Err}
-use Rattle.std.specs.List.{IsDistinct}
+use Rattle.std.specs.Prelude.{◌^◌, nat_le, filter, IfSome, IfNone, OnErr, Result, Ok, Err}
+use Rattle.std.specs.List.{IsDistinct, AllByRecursion}
 use Rattle.std.specs.Map.{lookup, keys_of, set_value}
 use Rattle.std.proofs.lemmas.Bool.{cases_Bool}
+use Rattle.std.proofs.lemmas.Map.Made.{is_some-lookup}
 use Rattle.sr_frame.specs.declared.fields.Mac.{Mac}
 use Rattle.sr_frame.specs.Addresses.{mac_eq}
 use Rattle.sr_frame.specs.AddressLemmas.{mac_same, mac_symm, mac_refl}
@@ -17,7 +18,7 @@ use Rattle.sr_watch.specs.Changed.{changes_between, sum_of, as_changes}
 use Rattle.sr_watch.specs.Tracking.{Watched, TellsLine}
 use Rattle.sr_watch.specs.Forgetting.{left_from}
 use Rattle.sr_watch.specs.Ranks.{rank_in}
-use Rattle.sr_watch.specs.Watching.{lines_about, IsWatchedFor, Watches, is_tabled, those_sent, lines_by, TellsSource}
+use Rattle.sr_watch.specs.Watching.{lines_about, IsWatchedFor, Watches, is_tabled, those_sent, lines_by, with_entry_of, tabled_with, TellsSource}
 
 -- no source has more arrivals than there are
 length-of : (m : Mac) (xs : List Sent) → length (of m xs) ≤ length xs
@@ -252,3 +253,78 @@ watches_forgot xs lines old new limit unique is watches =
         subst (IsWatchedFor (of m (those_sent (is_tabled new) xs)) (lines_about m (lines_by (is_tabled new) lines))) (sym same)
         (none m (tabled ∙ ap is_some same))
     go m (Some t) n tabled same watched = kept m t (test t) n tabled same watched
+
+-- a source that has an entry gets none, and one that has none gets one behind the others
+pub known_tabled : (m : Mac) (entries : List (Mac × Tracked)) → is_some (lookup (mac_eq m) entries) ≡ true →
+    keys_of entries ≡ with_entry_of m (keys_of entries)
+known_tabled m entries there =
+    sym (ap (λ b. cond b (keys_of entries) (keys_of entries ++ m ∷ [])) (sym (is_some-lookup (mac_eq m) entries) ∙ there))
+
+keys_behind : (m : Mac) (s : Tracked) (entries : List (Mac × Tracked)) → keys_of (entries ++ (m, s) ∷ []) ≡ keys_of entries ++ m ∷ []
+keys_behind m s [] = refl
+keys_behind m s (e ∷ es) = ap (λ ks. e.0 ∷ ks) (keys_behind m s es)
+
+pub made_tabled : (m : Mac) (s : Tracked) (entries : List (Mac × Tracked)) → is_some (lookup (mac_eq m) entries) ≡ false →
+    keys_of (entries ++ (m, s) ∷ []) ≡ with_entry_of m (keys_of entries)
+made_tabled m s entries lacks =
+    keys_behind m s entries
+    ∙ sym (ap (λ b. cond b (keys_of entries) (keys_of entries ++ m ∷ [])) (sym (is_some-lookup (mac_eq m) entries) ∙ lacks))
+
+pub tabled_by : (b : Bool) (m : Mac) (old : List Mac) (new : List (Mac × Tracked)) → is_tabled new m ≡ b →
+    keys_of new ≡ tabled_with b m old → keys_of new ≡ tabled_with (is_tabled new m) m old
+tabled_by b m old new is tabled = tabled ∙ ap (λ t. tabled_with t m old) (sym is)
+
+-- a source whose address is none of some entries has none of them, and one that has one of them is another one
+absent_in : (m : Mac) (es : List (Mac × Tracked)) → AllByRecursion (λ y. mac_eq m y ≡ false) (keys_of es) → lookup (mac_eq m) es ≡ None
+absent_in m [] apart = refl
+absent_in m (e ∷ es) apart = ap (λ b. cond b (Some e.1) (lookup (mac_eq m) es)) apart.0 ∙ absent_in m es apart.1
+
+other_than : (k m : Mac) (es : List (Mac × Tracked)) → AllByRecursion (λ y. mac_eq k y ≡ false) (keys_of es) →
+    is_some (lookup (mac_eq m) es) ≡ true → mac_eq m k ≡ false
+other_than k m es apart there = by (mac_eq m k) refl
+  where
+    by : (b : Bool) → mac_eq m k ≡ b → mac_eq m k ≡ false
+    by false other = other
+    by true same =
+        let none : lookup (mac_eq m) es ≡ None =
+        absent_in m es (subst (λ q. AllByRecursion (λ y. mac_eq q y ≡ false) (keys_of es)) (sym (mac_same m k same)) apart) in
+        let bad : true ≡ false = sym there ∙ ap is_some none in
+        cc
+
+-- the addresses of the entries that pass, where each address has one entry
+keys_kept : (stays : Mac → Bool) (test : Tracked → Bool) (es : List (Mac × Tracked)) → IsDistinct mac_eq (keys_of es) →
+    ((m : Mac) → is_some (lookup (mac_eq m) es) ≡ true → stays m ≡ is_some (passing test (lookup (mac_eq m) es))) →
+    keys_of (filter (λ e. test e.1) es) ≡ filter stays (keys_of es)
+unfolding IsDistinct
+keys_kept stays test [] unique are = refl
+keys_kept stays test (e ∷ es) unique are = by (test e.1) refl (keys_kept stays test es unique.1 later)
+  where
+    later : (m : Mac) → is_some (lookup (mac_eq m) es) ≡ true → stays m ≡ is_some (passing test (lookup (mac_eq m) es))
+    later m there =
+        let same : lookup (mac_eq m) (e ∷ es) ≡ lookup (mac_eq m) es =
+        ap (λ b. cond b (Some e.1) (lookup (mac_eq m) es)) (other_than e.0 m es unique.0 there) in
+        are m (ap is_some same ∙ there) ∙ ap (λ o. is_some (passing test o)) same
+
+    own : lookup (mac_eq e.0) (e ∷ es) ≡ Some e.1
+    own = ap (λ b. cond b (Some e.1) (lookup (mac_eq e.0) es)) (mac_refl e.0)
+
+    here : (b : Bool) → test e.1 ≡ b → stays e.0 ≡ is_some (cond b (Some e.1) None)
+    here b is = are e.0 (ap is_some own) ∙ ap (λ o. is_some (passing test o)) own ∙ ap (λ t. is_some (cond t (Some e.1) None)) is
+
+    by : (b : Bool) → test e.1 ≡ b → keys_of (filter (λ d. test d.1) es) ≡ filter stays (keys_of es) →
+        keys_of (cond b (e ∷ filter (λ d. test d.1) es) (filter (λ d. test d.1) es)) ≡ filter stays (e.0 ∷ keys_of es)
+    by true is rest =
+        ap (λ ks. e.0 ∷ ks) rest
+        ∙ sym (ap (λ t. cond t (e.0 ∷ filter stays (keys_of es)) (filter stays (keys_of es))) (here true is))
+    by false is rest =
+        rest ∙ sym (ap (λ t. cond t (e.0 ∷ filter stays (keys_of es)) (filter stays (keys_of es))) (here false is))
+
+pub keys_forgot : (old new : List (Mac × Tracked)) (limit : ℕ) → IsDistinct mac_eq (keys_of old) → new ≡ left_from limit old →
+    keys_of new ≡ filter (is_tabled new) (keys_of old)
+keys_forgot old new limit unique is = ap keys_of is ∙ keys_kept (is_tabled new) test old unique there
+  where
+    test : Tracked → Bool
+    test t = nat_le limit (rank_in t)
+
+    there : (m : Mac) → is_some (lookup (mac_eq m) old) ≡ true → is_tabled new m ≡ is_some (passing test (lookup (mac_eq m) old))
+    there m was = ap is_some (ap (lookup (mac_eq m)) is ∙ lookup-passing test m old unique)

@@ -1,9 +1,14 @@
 -- What a watch keeps, by all calls so far.
-use Rattle.std.specs.Prelude.{◌≡◌, ℕ, zero, suc, ◌^◌, ◌<◌, List, [], ◌∷◌, ◌++◌, ◌+◌, max, length, Option, None, Some, Bool, if◌then◌else◌}
+use Rattle.std.specs.Prelude.{◌≡◌, ℕ, zero, suc, ◌+◌, ◌^◌, ◌<◌, ◌≤◌, max, Bool, false, if◌then◌else◌, Option, None, Some}
+use Rattle.std.specs.Prelude.{List, [], ◌∷◌, ◌++◌, length, filter}
+use Rattle.std.specs.List.{list_any}
+use Rattle.std.specs.Map.{keys_of}
 use Rattle.sr_audit.specs.declared.side.Side.{Side}
 use Rattle.sr_audit.specs.declared.side.Side.TheVariants.{A, B}
 use Rattle.sr_frame.specs.declared.fields.Mac.{Mac}
+use Rattle.sr_frame.specs.Addresses.{mac_eq}
 use Rattle.sr_audit.specs.Audits.{Sent}
+use Rattle.sr_audit.specs.Limits.{most_audited}
 use Rattle.sr_audit.specs.Shown.{bounded_sum}
 use Rattle.sr_audit.specs.Waiting.{copy_in_time}
 use Rattle.sr_hold.specs.declared.hold.Released.{Released}
@@ -21,7 +26,7 @@ use Rattle.sr_watch.specs.declared.watch.Watch.{Watch}
 use Rattle.sr_watch.specs.Alarms.{alarm_between, raised_with, since_if}
 use Rattle.sr_watch.specs.LanAlarms.{lan_raised_at, lan_holds, lan_checked, last_or}
 use Rattle.sr_watch.specs.Running.{is_running, is_watching, lan_in, with_lan, recorder_of, side_of}
-use Rattle.sr_watch.specs.Watching.{those_sent, lines_by, Watches}
+use Rattle.sr_watch.specs.Watching.{those_sent, lines_by, with_entry_of, Watches}
 
 -- what is released, as an arrival of its source at its moment
 abbrev pub next_as : Released Numbered → Next
@@ -85,13 +90,35 @@ left_out_in (passed x ∷ before) = bounded_sum (left_out_in before) 1
 left_out_in (told line ∷ before) = left_out_in before
 left_out_in (forgot stays ∷ before) = left_out_in before
 
--- by these calls of a hold this waits, and by what was done so much is kept; all that was released was taken, but for one that waits for
--- memory
+-- the sources that have an entry: those of arrivals that were noted, and that were not forgotten since then, in the order of first hearing
+abbrev pub tabled_in : List Act → List Mac
+tabled_in [] = []
+tabled_in (noted x ∷ before) = with_entry_of x.0 (tabled_in before)
+tabled_in (passed x ∷ before) = tabled_in before
+tabled_in (told line ∷ before) = tabled_in before
+tabled_in (forgot stays ∷ before) = filter stays (tabled_in before)
+
+-- a source has no entry, and as many others have one as may
+abbrev pub FindsNoRoom : Mac → List Mac → Type 0
+FindsNoRoom m tabled = (list_any (mac_eq m) tabled ≡ false) × (most_audited ≤ length tabled)
+
+-- each arrival that was left out found no room
+abbrev pub LeavesOutWhereFull : List Act → Type 0
+LeavesOutWhereFull [] = Unit {0}
+LeavesOutWhereFull (noted x ∷ before) = LeavesOutWhereFull before
+LeavesOutWhereFull (passed x ∷ before) = FindsNoRoom x.0 (tabled_in before) × LeavesOutWhereFull before
+LeavesOutWhereFull (told line ∷ before) = LeavesOutWhereFull before
+LeavesOutWhereFull (forgot stays ∷ before) = LeavesOutWhereFull before
+
+-- by these calls of a hold this waits, and by what was done so much is kept of these sources; all that was released was taken, but for one
+-- that waits for memory, and left out only where there was no room
 pub record FollowsTurns (slack start : ℕ) (turns : List (Turn Numbered)) (acts : List Act) (w : Watch) : Type 0 where
   pub holds : w.hold ≡ state_after slack start turns
   pub sent : released_sent slack start turns ≡ due_in w.next ++ taken_in acts
   pub watches : length (taken_in acts) < 2 ^ 64 → Watches (noted_in acts) (lines_in acts) w.table.sources.entries
   pub left_out : w.table.left_out ≡ left_out_in acts
+  pub tabled : keys_of w.table.sources.entries ≡ tabled_in acts
+  pub passes : LeavesOutWhereFull acts
 
 -- a copy that comes waits where both captures run; else it is a packet that tells how far its capture is, and no more
 abbrev pub turn_if : Bool → Side → ℕ → ℕ → Numbered → Turn Numbered

@@ -1,5 +1,6 @@
 -- What is kept of many sources.
-use Rattle.std.specs.Prelude.{◌≡◌, ℕ, ◌≤◌, Bool, List, [], ◌∷◌, length, filter, Option, Some, None, is_some, if◌then◌else◌}
+use Rattle.std.specs.Prelude.{◌≡◌, ℕ, ◌≤◌, Bool, List, [], ◌∷◌, ◌++◌, length, filter, Option, Some, None, is_some, if◌then◌else◌}
+use Rattle.std.specs.List.{list_any}
 use Rattle.std.specs.Map.{lookup, set_value}
 use Rattle.sr_frame.specs.declared.fields.Mac.{Mac}
 use Rattle.sr_frame.specs.Addresses.{mac_eq}
@@ -33,6 +34,14 @@ pub record Watches (xs : List Sent) (lines : List SourceLine) (entries : List (M
 -- a source has an entry
 abbrev pub is_tabled : List (Mac × Tracked) → Mac → Bool
 is_tabled entries m = is_some (lookup (mac_eq m) entries)
+
+-- the sources that have an entry, in the order of first hearing, with a source that gets one where it has none
+abbrev pub with_entry_of : Mac → List Mac → List Mac
+with_entry_of m tabled = if list_any (mac_eq m) tabled then tabled else tabled ++ m ∷ []
+
+-- those, behind an arrival of a source that then has an entry, or none
+abbrev pub tabled_with : Bool → Mac → List Mac → List Mac
+tabled_with known m tabled = if known then with_entry_of m tabled else tabled
 
 -- how many arrivals are left out, with one more of a source that has an entry or not
 abbrev pub left_out_with : Bool → ℕ → ℕ

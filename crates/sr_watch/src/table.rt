@@ -32,7 +32,7 @@ fn append(list: &mut Vec<Mac>, src: Mac) -> Result<(), NoMemory>
 }
 
 impl Table {
-    ghost use Rattle.std.specs.Prelude.{◌≡◌, ℕ, ◌+◌, ◌^◌, ◌<◌, ◌≤◌, List, [], ◌∷◌, length, true, false, None, is_some, IfOk, IfSome, IfNone, OnOk, OnErr};
+    ghost use Rattle.std.specs.Prelude.{◌≡◌, ℕ, ◌+◌, ◌^◌, ◌<◌, ◌≤◌, List, [], ◌∷◌, length, filter, true, false, None, is_some, IfOk, IfSome, IfNone, OnOk, OnErr};
     ghost use Rattle.std.specs.List.{IsDistinct};
     ghost use Rattle.std.specs.Map.{lookup, keys_of};
     ghost use Rattle.sr_frame.specs.declared.fields.Mac.{Mac};
@@ -42,12 +42,13 @@ impl Table {
     ghost use Rattle.sr_watch.specs.declared.report.SourceLine.{SourceLine};
     ghost use Rattle.sr_watch.specs.Forgetting.{forgotten_from, left_from};
     ghost use Rattle.sr_watch.specs.Tracking.{NotesArrival, TellsLine, ChecksAlarm};
-    ghost use Rattle.sr_watch.specs.Watching.{Watches, is_tabled, those_sent, lines_by, left_out_with, TellsSource, ChecksOf};
+    ghost use Rattle.sr_watch.specs.Watching.{Watches, is_tabled, those_sent, lines_by, tabled_with, left_out_with, TellsSource, ChecksOf};
 
     /// No arrival came.
     pub fn new(alloc: Global, keys: Keys) -> Table
         ensures watches { Watches [] [] result.sources.entries }
         ensures left_out { result.left_out ≡ 0 }
+        ensures tabled { keys_of result.sources.entries ≡ [] }
         ensures few { length result.sources.entries ≤ most_audited }
     {
         Table {
@@ -67,6 +68,10 @@ impl Table {
             made ≡ is_some (lookup (mac_eq src) self.new.sources.entries)) }
         ensures full { IfOk result (λ made.
             made ≡ false → most_audited ≤ length self.new.sources.entries) }
+        ensures tabled { IfOk result (λ made. keys_of self.new.sources.entries
+            ≡ tabled_with made src (keys_of self.old.sources.entries)) }
+        ensures tabled_same { OnErr result (keys_of self.new.sources.entries
+            ≡ keys_of self.old.sources.entries) }
         ensures left_out { self.new.left_out ≡ self.old.left_out }
         ensures few { length self.old.sources.entries ≤ most_audited
             → length self.new.sources.entries ≤ most_audited }
@@ -92,6 +97,8 @@ impl Table {
         ensures none { IfNone result (self.new.sources ≡ self.old.sources) }
         ensures own { IfSome result (λ _.
             is_some (lookup (mac_eq src) self.new.sources.entries) ≡ true) }
+        ensures tabled { keys_of self.new.sources.entries
+            ≡ keys_of self.old.sources.entries }
         ensures left_out { self.new.left_out ≡ self.old.left_out }
         ensures len { length self.new.sources.entries ≡ length self.old.sources.entries }
         ensures forgotten { self.new.forgotten ≡ self.old.forgotten }
@@ -113,6 +120,8 @@ impl Table {
             → Watches xs lines self.old.sources.entries
             → Watches ((src, x) ∷ xs) lines self.new.sources.entries }
         ensures own { is_some (lookup (mac_eq src) self.new.sources.entries) ≡ true }
+        ensures tabled { keys_of self.new.sources.entries
+            ≡ keys_of self.old.sources.entries }
         ensures left_out { self.new.left_out ≡ self.old.left_out }
         ensures len { length self.new.sources.entries ≡ length self.old.sources.entries }
         ensures forgotten { self.new.forgotten ≡ self.old.forgotten }
@@ -135,6 +144,11 @@ impl Table {
             → Watches xs lines self.new.sources.entries) }
         ensures full { OnOk result (is_tabled self.new.sources.entries src ≡ false
             → most_audited ≤ length self.new.sources.entries) }
+        ensures tabled { OnOk result (keys_of self.new.sources.entries
+            ≡ tabled_with (is_tabled self.new.sources.entries src) src
+            (keys_of self.old.sources.entries)) }
+        ensures tabled_same { OnErr result (keys_of self.new.sources.entries
+            ≡ keys_of self.old.sources.entries) }
         ensures left_out { OnOk result (self.new.left_out
             ≡ left_out_with (is_tabled self.new.sources.entries src) self.old.left_out) }
         ensures same { OnErr result ((xs : List Sent) (lines : List SourceLine)
@@ -163,6 +177,8 @@ impl Table {
         ensures told { IfSome result (λ line. TellsSource mark src self.old.sources.entries
             self.new.sources.entries line) }
         ensures none { IfNone result (self.new.sources ≡ self.old.sources) }
+        ensures tabled { keys_of self.new.sources.entries
+            ≡ keys_of self.old.sources.entries }
         ensures left_out { self.new.left_out ≡ self.old.left_out }
         ensures len { length self.new.sources.entries ≡ length self.old.sources.entries }
         ensures forgotten { self.new.forgotten ≡ self.old.forgotten }
@@ -194,6 +210,8 @@ impl Table {
         ensures watches { (xs : List Sent) (lines : List SourceLine)
             → Watches xs lines self.old.sources.entries
             → Watches xs lines self.new.sources.entries }
+        ensures tabled { keys_of self.new.sources.entries
+            ≡ keys_of self.old.sources.entries }
         ensures left_out { self.new.left_out ≡ self.old.left_out }
         ensures forgotten { self.new.forgotten ≡ self.old.forgotten }
     {
@@ -229,6 +247,8 @@ impl Table {
         ensures entries { self.new.sources.entries ≡ left_from limit self.old.sources.entries }
         ensures forgotten { self.new.forgotten
             ≡ forgotten_from limit self.old.sources.entries self.old.forgotten }
+        ensures tabled { keys_of self.new.sources.entries
+            ≡ filter (is_tabled self.new.sources.entries) (keys_of self.old.sources.entries) }
         ensures left_out { self.new.left_out ≡ self.old.left_out }
     {
         // The length says that no address has two entries.

@@ -1,5 +1,5 @@
 use Rattle.std.proofs.Common.{rules}
-use Rattle.std.proofs.lemmas.Map.{length-set_value}
+use Rattle.std.proofs.lemmas.Map.{keys-set_value, length-set_value}
 use Rattle.sr_frame.specs.Addresses.{mac_eq}
 use Rattle.sr_watch.specs.Tracking.{NotesArrival}
 use Rattle.sr_watch.proofs.TableLemmas.{watches_taken, own_set}
@@ -21,3 +21,8 @@ pub returns-clause-len : goal.returns-clause-len
 returns-clause-len c =
     let h = c.in_ok-update_at.ensures.changed in
     rw h.written (length-set_value (mac_eq c.args.src) c.args.self.now.sources.entries h.is)
+
+pub returns-clause-tabled : goal.returns-clause-tabled
+returns-clause-tabled c =
+    let h = c.in_ok-update_at.ensures.changed in
+    rw h.written (keys-set_value (mac_eq c.args.src) c.args.self.now.sources.entries h.is)

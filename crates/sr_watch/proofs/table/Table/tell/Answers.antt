@@ -1,5 +1,5 @@
 use Rattle.std.proofs.Common.{rules, ◌≡◌}
-use Rattle.std.proofs.lemmas.Map.{length-set_value}
+use Rattle.std.proofs.lemmas.Map.{keys-set_value, length-set_value}
 use Rattle.sr_frame.specs.Addresses.{mac_eq}
 use Rattle.sr_watch.specs.Tracking.{TellsLine}
 use Rattle.sr_watch.proofs.TableLemmas.{tells_of}
@@ -16,3 +16,8 @@ pub returns-clause-len : goal.returns-clause-len
 returns-clause-len c =
     let h = c.in_ok-line.ensures.changed in
     rw h.written (length-set_value (mac_eq c.args.src) c.args.self.now.sources.entries h.is)
+
+pub returns-clause-tabled : goal.returns-clause-tabled
+returns-clause-tabled c =
+    let h = c.in_ok-line.ensures.changed in
+    rw h.written (keys-set_value (mac_eq c.args.src) c.args.self.now.sources.entries h.is)

@@ -14,4 +14,6 @@ returns-clause-follows c = λ slack start turns acts f. record {
   sent = f.sent;
   watches = λ few. c.check.ensures.watches (noted_in acts) (lines_in acts) (f.watches few);
   left_out = c.check.ensures.left_out ∙ f.left_out;
+  tabled = c.check.ensures.tabled ∙ f.tabled;
+  passes = f.passes;
 }

@@ -8,4 +8,6 @@ returns-clause-follows c = λ slack start turns acts f. record {
   sent = f.sent;
   watches = λ few. c.in_ok-line.ensures.told.keeps (noted_in acts) (lines_in acts) (f.watches few);
   left_out = c.tell.ensures.left_out ∙ f.left_out;
+  tabled = c.tell.ensures.tabled ∙ f.tabled;
+  passes = f.passes;
 }
