@@ -279,7 +279,7 @@ def long_a_day(program, folder):
     reports = [line for line in lines if line["line"] == "report"]
     assert max(line["sources"] for line in reports) <= 1024
     quarter = len(held) // 4
-    assert max(held) < 32 * 1024 and max(held[3 * quarter:]) <= max(held[quarter:2 * quarter]) + 512, held
+    assert max(held) < 32 * 1024 and max(held[3 * quarter:]) <= max(held[quarter:2 * quarter]) + 2048, held
     print(f"    a day: {len(held) * 0.2:.0f} s, {max(held)} KB at most, forgotten {reports[-1].get('forgotten')}")
 
 
