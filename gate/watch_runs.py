@@ -18,7 +18,7 @@ import threading
 import time
 from concurrent.futures import ThreadPoolExecutor
 
-from networks import BEGIN, SECOND, TOP, Source, octets, struct
+from networks import BEGIN, SECOND, TOP, Source, block, octets, struct
 
 FRONT = struct.pack("<IHHiIII", 0xA1B23C4D, 2, 4, 0, 0, 65535, 1)
 # How many runs go on at a time.
@@ -148,28 +148,86 @@ def run_a_lan_that_comes_too_late(program, folder):
     assert watch.summed("rx_a") == 60 and watch.summed("rx_b") == 60, (watch.summed("rx_a"), watch.summed("rx_b"))
 
 
-def run_a_capture_cut_at_each_octet(program, folder):
-    """A recorder dies within a packet: those before it count, an alarm and standard error say so, and the other LAN goes on. Copies of B
-    come first, so that none is on its way where A ends."""
-    whole = FRONT + b"".join(packet(0.1 * at, at, 0) for at in range(3))
-    size = (len(whole) - len(FRONT)) // 3
-    cuts = [*range(0, len(FRONT), 5), *range(len(FRONT), len(whole) + 1, 11), len(whole)]
+def begin_pcapng():
+    """The front of a pcapng file in nanoseconds: a section and an interface."""
+    return block(0x0A0D0D0A, struct.pack("<IHHq", 0x1A2B3C4D, 1, 0, -1)) + block(1, struct.pack("<HHIHHIHH", 1, 0, 65535, 9, 1, 9, 0, 0))
 
-    def cut(at):
-        room = f"{folder}/{at}"
-        os.mkdir(room)
-        b = FRONT + b"".join(packet(0.1 * n - 0.0001, n, 1) for n in range(9))
-        watch = Watch(program, room, ([(0, whole[:at])], 0.0), ([(0, b)], 0.2), ["--every", "1"])
-        came = max(0, at - len(FRONT)) // size
-        is_whole = at >= len(FRONT) and (at - len(FRONT)) % size == 0
-        counts = [line["packets"] for line in watch.of("capture") if line["capture"] == "A"]
-        assert sum(counts) == came, (at, counts)
-        assert bool(watch.err) != is_whole, (at, watch.err)
-        assert ("raised", "A") in watch.alarms("capture_ended"), (at, watch.lines)
-        assert watch.summed("both") == came, (at, watch.lines)
 
+def as_block(one):
+    """A packet of a pcap file as a block of a pcapng file."""
+    seconds, rest, held, size = struct.unpack_from("<IIII", one)
+    at = seconds * SECOND + rest
+    return block(6, struct.pack("<IIIII", 0, at >> 32, at & 0xFFFFFFFF, held, size) + one[16:])
+
+
+def cut_at(program, folder, front, parts, at):
+    """The watch of a LAN A that ends behind so many octets. Copies of B come first, so that none is on its way where A ends."""
+    whole = front + b"".join(parts)
+    room = f"{folder}/{at}"
+    os.mkdir(room)
+    b = FRONT + b"".join(packet(0.1 * n - 0.0001, n, 1) for n in range(9))
+    watch = Watch(program, room, ([(0, whole[:at])], 0.0), ([(0, b)], 0.2), ["--every", "1"])
+    ends = [len(front) + sum(map(len, parts[:n])) for n in range(len(parts) + 1)]
+    came = sum(end <= at for end in ends[1:])
+    counts = [line["packets"] for line in watch.of("capture") if line["capture"] == "A"]
+    assert sum(counts) == came, (at, counts)
+    assert bool(watch.err) != (at in ends), (at, watch.err)
+    assert ("raised", "A") in watch.alarms("capture_ended"), (at, watch.lines)
+    assert watch.summed("both") == came, (at, watch.lines)
+
+
+def cut_at_each(program, folder, step):
+    """A recorder dies within a packet of a pcap file or of a pcapng file: those before it count, an alarm and standard error say so, and the
+    other LAN goes on."""
+    packets = [packet(0.1 * at, at, 0) for at in range(3)]
     with ThreadPoolExecutor(LANES) as pool:
-        list(pool.map(cut, sorted(set(cuts))))
+        for name, front, parts in (("pcap", FRONT, packets), ("pcapng", begin_pcapng(), [as_block(one) for one in packets])):
+            os.mkdir(f"{folder}/{name}")
+            ends = [len(front) + sum(map(len, parts[:n])) for n in range(len(parts) + 1)]
+            cuts = sorted({*range(0, ends[-1] + 1, step), *ends})
+            list(pool.map(lambda at: cut_at(program, f"{folder}/{name}", front, parts, at), cuts))
+
+
+def run_a_capture_that_is_cut(program, folder):
+    cut_at_each(program, folder, 29)
+
+
+def long_a_capture_that_is_cut_at_each_octet(program, folder):
+    cut_at_each(program, folder, 1)
+
+
+# Captures that both lie in examples/, by the LAN.
+RECORDED = [("linux-prp-lan-a.pcap", "linux-prp-lan-b.pcap"), ("captures/lan-a.pcap", "captures/lan-b.pcap"), ("captures/lan-a.pcap", "captures/lan-b-silent.pcapng"),
+            ("captures/lan-a-snap64.pcap", "captures/lan-b.pcap"), ("captures/lan-a-joined.pcapng", "captures/lan-b.pcap")]
+
+
+def said_of_recorded(program, folder, pair, run):
+    """What a watch says of two captures that come by pipes."""
+    room = f"{folder}/{run}"
+    os.mkdir(room)
+    lans = []
+    for name in pair:
+        with open(f"{TOP}/examples/{name}", "rb") as file:
+            lans.append(([(0, file.read())], 0.0))
+    watch = Watch(program, room, *lans, ["--every", "1", "--slack", "60000"])
+    return watch.status, watch.err, watch.lines
+
+
+def recorded(program, folder, runs):
+    """Captures that were recorded, at full speed by pipes: whatever the schedule, each run says the same, and nothing comes behind."""
+    with ThreadPoolExecutor(LANES) as pool:
+        for pair in RECORDED:
+            said = list(pool.map(lambda run, pair=pair: said_of_recorded(program, folder, pair, f"{RECORDED.index(pair)}-{run}"), range(runs)))
+            assert all(one == said[0] for one in said), (pair, [one for one in said if one != said[0]][:1], said[0])
+            assert all(line["behind"] == 0 for line in said[0][2] if line["line"] == "capture"), (pair, said[0])
+
+
+def run_recorded_captures(program, folder):
+    recorded(program, folder, 4)
+
+
+def long_recorded_captures(program, folder):
+    recorded(program, folder, 50)
 
 
 def run_a_writer_that_stops_within_a_packet(program, folder):
