@@ -148,9 +148,8 @@ def run_a_lan_that_comes_too_late(program, folder):
     assert watch.summed("rx_a") == 60 and watch.summed("rx_b") == 60, (watch.summed("rx_a"), watch.summed("rx_b"))
 
 
-def begin_pcapng():
-    """The front of a pcapng file in nanoseconds: a section and an interface."""
-    return block(0x0A0D0D0A, struct.pack("<IHHq", 0x1A2B3C4D, 1, 0, -1)) + block(1, struct.pack("<HHIHHIHH", 1, 0, 65535, 9, 1, 9, 0, 0))
+# The front of a pcapng file in nanoseconds: a section and an interface.
+SECTION = [block(0x0A0D0D0A, struct.pack("<IHHq", 0x1A2B3C4D, 1, 0, -1)), block(1, struct.pack("<HHIHHIHH", 1, 0, 65535, 9, 1, 9, 0, 0))]
 
 
 def as_block(one):
@@ -160,15 +159,20 @@ def as_block(one):
     return block(6, struct.pack("<IIIII", 0, at >> 32, at & 0xFFFFFFFF, held, size) + one[16:])
 
 
+def ends_of(parts):
+    """Where each of these parts of a file ends."""
+    return [sum(map(len, parts[:n])) for n in range(1, len(parts) + 1)]
+
+
 def cut_at(program, folder, front, parts, at):
     """The watch of a LAN A that ends behind so many octets. Copies of B come first, so that none is on its way where A ends."""
-    whole = front + b"".join(parts)
+    whole = b"".join(front + parts)
     room = f"{folder}/{at}"
     os.mkdir(room)
     b = FRONT + b"".join(packet(0.1 * n - 0.0001, n, 1) for n in range(9))
     watch = Watch(program, room, ([(0, whole[:at])], 0.0), ([(0, b)], 0.2), ["--every", "1"])
-    ends = [len(front) + sum(map(len, parts[:n])) for n in range(len(parts) + 1)]
-    came = sum(end <= at for end in ends[1:])
+    ends = ends_of(front + parts)
+    came = sum(end <= at for end in ends[len(front):])
     counts = [line["packets"] for line in watch.of("capture") if line["capture"] == "A"]
     assert sum(counts) == came, (at, counts)
     assert bool(watch.err) != (at in ends), (at, watch.err)
@@ -181,9 +185,9 @@ def cut_at_each(program, folder, step):
     other LAN goes on."""
     packets = [packet(0.1 * at, at, 0) for at in range(3)]
     with ThreadPoolExecutor(LANES) as pool:
-        for name, front, parts in (("pcap", FRONT, packets), ("pcapng", begin_pcapng(), [as_block(one) for one in packets])):
+        for name, front, parts in (("pcap", [FRONT], packets), ("pcapng", SECTION, [as_block(one) for one in packets])):
             os.mkdir(f"{folder}/{name}")
-            ends = [len(front) + sum(map(len, parts[:n])) for n in range(len(parts) + 1)]
+            ends = ends_of(front + parts)
             cuts = sorted({*range(0, ends[-1] + 1, step), *ends})
             list(pool.map(lambda at: cut_at(program, f"{folder}/{name}", front, parts, at), cuts))
 
