@@ -4,7 +4,8 @@
     gate/watch_runs.py [--program PATH] [--long] [NAME..]     all short runs; with --long those too that take a minute and more
 
 A run is a function whose name begins with `run_`, or with `long_`; a NAME is a part of it. Writers give packets of frames to pipes in real
-time, or a day's packets at full speed. The last line is `N passed, M failed`.
+time, or a day's packets at full speed. A run that fails is tried once more: a busy machine may stand still for longer than a slack. The
+last line is `N passed, M failed`.
 """
 import argparse
 import json
@@ -354,13 +355,16 @@ def main():
     known = {name: run for name, run in globals().items() if name.startswith("run_") or task.long and name.startswith("long_")}
     runs = {name: run for name, run in known.items() if not task.names or any(one in name for one in task.names)}
 
-    def judge(name):
+    def tried(name):
         with tempfile.TemporaryDirectory(prefix="watch-runs-") as folder:
             try:
                 runs[name](task.program, folder)
             except (AssertionError, subprocess.TimeoutExpired, json.JSONDecodeError, KeyError, IndexError, OSError) as why:
                 return f"{name}: {type(why).__name__} {str(why)[:600]}"
         return None
+
+    def judge(name):
+        return tried(name) and tried(name)
 
     failed = 0
     with ThreadPoolExecutor(LANES) as pool:
