@@ -214,7 +214,7 @@ def said_of_recorded(program, folder, pair, run):
     for name in pair:
         with open(f"{TOP}/examples/{name}", "rb") as file:
             lans.append(([(0, file.read())], 0.0))
-    watch = Watch(program, room, *lans, ["--every", "1", "--slack", "60000"])
+    watch = Watch(program, room, *lans, ["--every", "60", "--slack", "60000"])
     return watch.status, watch.err, watch.lines
 
 
