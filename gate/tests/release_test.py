@@ -248,6 +248,10 @@ class Release(unittest.TestCase):
         self.assertEqual(self.call("./install", "a", "b")[0], 2)
 
 
+# A case that shows a page, which has the version.
+PAGE = "examples/cases/an_audit_in_html_is_a_page_of_faults"
+
+
 class Version(unittest.TestCase):
     """Of the files of this repository, those that have its version."""
 
@@ -256,6 +260,9 @@ class Version(unittest.TestCase):
         self.addCleanup(shutil.rmtree, self.top)
         for name in ("release", "clib", "bindings", "crates/sr_c", "crates/sr_options/src"):
             shutil.copytree(TOP / name, self.top / name, ignore=shutil.ignore_patterns("out", "target", "proofs"))
+        for name in ("docs/seamless.1", f"{PAGE}/stdout"):
+            (self.top / name).parent.mkdir(parents=True, exist_ok=True)
+            shutil.copyfile(TOP / name, self.top / name)
         # The repository's own has changes that are not released only between two releases.
         (self.top / "CHANGELOG.md").write_text("# Changelog\n\n## Unreleased (1.2.3-dev)\n\n- One.\n\n## 0.1\n")
 
@@ -279,6 +286,8 @@ class Version(unittest.TestCase):
             self.assertEqual(life.count(old.removeprefix("old: ")), 1)
             self.assertNotEqual(old.removeprefix("old: "), new.removeprefix("new: "))
             self.assertEqual(self.lines("bindings/rust/Cargo.lock").count(f'version = "{version}"'), 2)
+            self.assertIn(f'"seamless {version}"', self.lines("docs/seamless.1")[0])
+            self.assertIn(f"<dd>seamless {version}</dd>", "\n".join(self.lines(f"{PAGE}/stdout")))
         self.assertEqual([it for it in self.lines("CHANGELOG.md") if it.startswith("## ")], ["## 1.2.3", "## 0.1"])
 
     def test_what_is_no_version_changes_nothing(self):
