@@ -40,10 +40,11 @@ def packet(moment, number, lan, index=1):
 
 
 class Lan:
-    """A pipe to which a writer gives what it has, each piece at its real time in seconds."""
+    """A pipe to which a writer gives what it has, each piece at its real time in seconds. One that `goes` takes the name of the pipe away at its end."""
 
     def __init__(self, path, pieces, stays=0.0):
         self.path, self.pieces, self.stays = path, pieces, stays
+        self.goes = False
         os.mkfifo(path)
 
     def write(self):
@@ -54,6 +55,8 @@ class Lan:
                     time.sleep(max(0.0, begun + moment - time.monotonic()))
                     pipe.write(piece)
                 time.sleep(max(0.0, begun + self.stays - time.monotonic()))
+                if self.goes:
+                    os.unlink(self.path)
         except BrokenPipeError:
             pass
 
@@ -147,6 +150,39 @@ def run_a_lan_that_comes_too_late(program, folder):
     assert behind[-1] > 0 and behind == sorted(behind), behind
     assert ("raised", "B") in watch.alarms("behind"), watch.of("alarm")
     assert watch.summed("rx_a") == 60 and watch.summed("rx_b") == 60, (watch.summed("rx_a"), watch.summed("rx_b"))
+
+
+def run_a_recorder_that_comes_back(program, folder):
+    """The recorder of LAN A ends in the third second, and another one writes to the same pipe in the fifth, which takes its name away at its end:
+    the other LAN goes on, packets count on, no frame is lost by either, and that nothing more can come of A is told."""
+    lan = Lan(f"{folder}/a", paced(0, 0, 3), 3)
+
+    def write():
+        lan.write()
+        # The 400 ms behind the beginning end between two frames.
+        time.sleep(1.95)
+        lan.pieces = [(moment - 4.95, piece) for moment, piece in paced(0, 5, 8)]
+        lan.goes = True
+        lan.write()
+
+    threading.Thread(target=write, daemon=True).start()
+    watch = Watch(program, folder, None, (paced(1, 0, 9), 9), ["--every", "1", "--reopen", "--for", "11"])
+    packets = {name: sum(line["packets"] for line in watch.of("capture") if line["capture"] == name) for name in "AB"}
+    assert packets == {"A": 60, "B": 90}, packets
+    assert watch.summed("lost_a") == watch.summed("lost_b") == 0, watch.lines
+    assert 50 <= watch.summed("both") <= 58 and watch.summed("both") + watch.summed("neither") == 80, (watch.summed("both"), watch.summed("neither"))
+    states = [state for state, lan in watch.alarms("capture_ended") if lan == "A"]
+    assert states == ["raised", "cleared", "raised"], watch.of("alarm")
+    assert watch.status == 0 and watch.err.startswith("fault A open 0\n") and watch.err.count("fault") == 1, watch.err
+
+
+def run_files_that_are_read_once(program, folder):
+    """A file has no second writer: with --reopen too a watch ends where its files do."""
+    for name, lan in (("a", 0), ("b", 1)):
+        with open(f"{folder}/{name}", "wb") as file:
+            file.write(b"".join(piece for _, piece in paced(lan, 0, 2)))
+    watch = Watch(program, folder, None, None, ["--every", "1", "--reopen"])
+    assert watch.status == 0 and watch.summed("rx_a") == 20, (watch.status, watch.lines)
 
 
 # The front of a pcapng file in nanoseconds: a section and an interface.

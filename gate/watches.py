@@ -5,8 +5,9 @@
 
 The networks are those of networks.py whose recorders run all the time by one clock. Both captures come by pipes: the first part of each, a
 rest of more than a second, in which a report is made, and then the others, cut at any octet. The counts of all reports of a source, added
-up, are to be those of the audit, which networks.py compares with what happened; nothing is to come behind, or to wait at the end. A
-line tells each network of which the watch says something else. The last line is `N passed, M failed`.
+up, are to be those of the audit, which networks.py compares with what happened; nothing is to come behind, or to wait at the end. Then
+both are read as one capture of a mirror port. A line tells each network of which the watch says something else. The last line is
+`N passed, M failed`.
 """
 import argparse
 import json
@@ -62,15 +63,20 @@ def pieces_of(path, rng):
     return [octets[:at], octets[at:]]
 
 
+def named(paths):
+    """The options that name captures: those of both LANs, or that of a mirror port."""
+    return ["--a", paths[0], "--b", paths[1]] if len(paths) == 2 else ["--mirror", paths[0]]
+
+
 def watched(program, network, paths, rng):
-    """The lines of a watch to which both captures are written."""
+    """The lines of a watch to which these captures are written."""
     pipes = [f"{path}.pipe" for path in paths]
     for pipe in pipes:
         os.mkfifo(pipe)
     writers = [threading.Thread(target=feed, args=(pipe, pieces_of(path, rng)), daemon=True) for path, pipe in zip(paths, pipes)]
     for writer in writers:
         writer.start()
-    words = [program, "watch", "--a", pipes[0], "--b", pipes[1], "--network", network.protocol, "--every", "1", "--slack", "60000", "--format", "json"]
+    words = [program, "watch", *named(pipes), "--network", network.protocol, "--every", "1", "--slack", "60000", "--format", "json"]
     run = subprocess.run(words, capture_output=True, text=True, timeout=60, check=False)
     for writer in writers:
         writer.join(timeout=10)
@@ -79,7 +85,7 @@ def watched(program, network, paths, rng):
 
 def audited(program, network, paths):
     """What an audit has of each source, by the names of a watch; of a network with a RedBox without what it judges by its counter."""
-    words = [program, "audit", "--a", paths[0], "--b", paths[1], "--network", network.protocol, "--whole", "--format", "json"]
+    words = [program, "audit", *named(paths), "--network", network.protocol, "--whole", "--format", "json"]
     run = subprocess.run(words, capture_output=True, text=True, timeout=60, check=False)
     lines = [json.loads(line) for line in run.stdout.splitlines()]
     found = {}
@@ -139,10 +145,15 @@ def judge(program, network, room):
     folder = f"{room}/{network.seed}"
     os.mkdir(folder)
     paths = [f"{folder}/a.pcap", f"{folder}/b.pcap"]
-    for path, packets in zip(paths, network.captures()):
+    both = network.captures()
+    for path, packets in zip(paths, both):
         write(path, packets)
-    run, lines = watched(program, network, paths, random.Random(network.seed))
-    found = differences(run, lines, audited(program, network, paths))
+    mirror = f"{folder}/mirror.pcap"
+    write(mirror, sorted(both[0] + both[1], key=lambda packet: packet[0]))
+    found = []
+    for own in (paths, [mirror]):
+        run, lines = watched(program, network, own, random.Random(network.seed))
+        found += [f"{named(own)[0]}: {it}" for it in differences(run, lines, audited(program, network, own))]
     return [f"{type(network).__name__.lower()} {network.seed} ({', '.join(network.faults) or 'sound'}): {it}" for it in found]
 
 

@@ -21,6 +21,7 @@ no_grounds = record {
   misfit = 0;
   repeated = 0;
   late = 0;
+  skew = 0;
 }
 
 -- with what a verdict says of a source more: frames and copies by their count, and one source more of other kinds
@@ -31,6 +32,7 @@ on_sources g (verdict.DeadPort mac row) = record g { dead_ports = together g.dea
 on_sources g (verdict.LostRedundancy mac lan tail) = record g { lost_redundancy = together g.lost_redundancy 1 }
 on_sources g (verdict.Repeated mac sides) = record g { repeated = together g.repeated (together sides.a sides.b) }
 on_sources g (verdict.Late mac count) = record g { late = together g.late count }
+on_sources g (verdict.Skew mac skew most) = record g { skew = together g.skew 1 }
 on_sources g other = g
 
 -- with what it says of a LAN, or of the network, more

@@ -48,15 +48,16 @@ fn put_all_astray<W: Write>(
 }
 
 /// Tells of frames that a LAN lost.
-fn put_loss<W: Write>(
+pub(crate) fn put_loss<W: Write>(
     writer: &mut W,
     teller: Teller<'_>,
+    weight: Weight,
     lan: Side,
     share: Share,
 ) -> io::Result<()> {
     let (lost, brought) = (Count(share.frames), Count(share.brought));
     let (own, other) = (teller.lan_of(Some(lan)), teller.lan_of(Some(lan.other())));
-    open_finding(writer, Weight::Fault, "loss")?;
+    open_finding(writer, weight, "loss")?;
     write!(
         writer,
         "{own} lost {lost} of {brought} frames that {other} brought of these sources:"
@@ -182,7 +183,7 @@ pub(crate) fn put_lans<W: Write>(
     verdict: &Verdict,
 ) -> io::Result<()> {
     match *verdict {
-        Verdict::Loss(lan, share, _) => put_loss(writer, teller, lan, share),
+        Verdict::Loss(lan, share, _) => put_loss(writer, teller, Weight::Fault, lan, share),
         Verdict::CutRing(cut, place) => put_cut(writer, teller, cut, place),
         Verdict::Crossed(sides, own) => put_crossed(writer, teller, sides, own),
         Verdict::WrongLan(lan, copies, own) => put_wrong_lan(writer, teller, lan, copies, own),

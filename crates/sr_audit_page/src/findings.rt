@@ -26,7 +26,9 @@ enum Kind {
 fn kind_of(verdict: &Verdict) -> Option<Kind> {
     match *verdict {
         Verdict::Unjudged(_) => None,
-        Verdict::RecorderDropped(_, _)
+        Verdict::BothLostWithin(_, _)
+        | Verdict::LossWithin(_, _, _)
+        | Verdict::RecorderDropped(_, _)
         | Verdict::Restart(_, _)
         | Verdict::Babbling(_, _)
         | Verdict::Unseen(_, _)

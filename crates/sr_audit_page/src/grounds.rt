@@ -37,6 +37,8 @@ pub struct Grounds {
     pub repeated: u64,
     /// Pairs 400 ms or more apart.
     pub late: u64,
+    /// Sources whose copies came further apart than the user allows.
+    pub skew: u64,
 }
 
 /// Nothing is wrong.
@@ -53,6 +55,7 @@ const NONE: Grounds = Grounds {
     misfit: 0,
     repeated: 0,
     late: 0,
+    skew: 0,
 };
 
 /// What is wrong, with what a verdict says of a source more.
@@ -82,6 +85,10 @@ fn on_sources(own: Grounds, verdict: &Verdict) -> Grounds
         },
         Verdict::Late(_, count) => Grounds {
             late: together(own.late, count),
+            ..own
+        },
+        Verdict::Skew(_, _, _) => Grounds {
+            skew: together(own.skew, 1),
             ..own
         },
         _ => own,
@@ -245,6 +252,12 @@ fn write_of_copies<W: Write>(writer: &mut W, topology: Topology, own: &Grounds) 
         own.late,
         "pair of copies came 400 ms or more apart",
         "pairs of copies came 400 ms or more apart",
+    )?;
+    write_reason(
+        writer,
+        own.skew,
+        "source has copies further apart than its limit",
+        "sources have copies further apart than their limit",
     )
 }
 

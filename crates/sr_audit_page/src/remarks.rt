@@ -1,5 +1,7 @@
 //! Remarks, which decide nothing, in words.
 
+use crate::faults::put_loss;
+use crate::sources::put_both_lost;
 use crate::teller::Teller;
 use crate::told::{begin, end, end_since};
 use sr_audit::Side;
@@ -120,6 +122,12 @@ pub(crate) fn put_remark<W: Write>(
     verdict: &Verdict,
 ) -> io::Result<()> {
     match *verdict {
+        Verdict::BothLostWithin(mac, frames) => {
+            put_both_lost(writer, teller, Weight::Remark, mac, frames)
+        }
+        Verdict::LossWithin(lan, share, _) => {
+            put_loss(writer, teller, Weight::Remark, lan, share)
+        }
         Verdict::RecorderDropped(lan, packets) => put_dropped(writer, teller, lan, packets),
         Verdict::Restart(mac, times) => put_restart(writer, teller, mac, times),
         Verdict::Babbling(mac, second) => put_babbling(writer, teller, mac, second),

@@ -5,7 +5,7 @@ use crate::teller::{Teller, first_of, put_numbers};
 use crate::told::{begin, end, end_since};
 use sr_audit::{Row, Side, Sides};
 use sr_frame::Mac;
-use sr_page::{Count, Seconds, Weight, word_for};
+use sr_page::{Count, Seconds, Skew, Weight, word_for};
 use sr_sources::Tail;
 use sr_verdict::Verdict;
 use std::io::{self, Write};
@@ -24,14 +24,15 @@ fn put_first_lost<W: Write>(writer: &mut W, teller: Teller<'_>, mac: Mac) -> io:
 }
 
 /// Tells of frames that no LAN brought.
-fn put_both_lost<W: Write>(
+pub(crate) fn put_both_lost<W: Write>(
     writer: &mut W,
     teller: Teller<'_>,
+    weight: Weight,
     mac: Mac,
     frames: u64,
 ) -> io::Result<()> {
     let (count, word) = (Count(frames), word_for(frames, "frame", "frames"));
-    begin(writer, teller, Weight::Grave, "lost on both", mac)?;
+    begin(writer, teller, weight, "lost on both", mac)?;
     let way = teller.topology.either("LAN", "way");
     write!(
         writer,
@@ -144,6 +145,27 @@ fn put_late<W: Write>(writer: &mut W, teller: Teller<'_>, mac: Mac, pairs: u64) 
     )
 }
 
+/// Tells of copies that came further apart than a limit allows.
+fn put_skew<W: Write>(
+    writer: &mut W,
+    teller: Teller<'_>,
+    mac: Mac,
+    skew: i128,
+    most: u64,
+) -> io::Result<()> {
+    let (skew, most) = (Skew(Some(skew)), Count(most));
+    begin(writer, teller, Weight::Fault, "skew", mac)?;
+    write!(
+        writer,
+        "the skew of a pair of its copies was {skew}, and {most}\u{a0}µs are allowed"
+    )?;
+    end(
+        writer,
+        mac,
+        "Look at queues on one path, and at <code>--max-skew-us</code>",
+    )
+}
+
 /// Tells of a fault.
 pub(crate) fn put_fault<W: Write>(
     writer: &mut W,
@@ -151,7 +173,9 @@ pub(crate) fn put_fault<W: Write>(
     verdict: &Verdict,
 ) -> io::Result<()> {
     match *verdict {
-        Verdict::BothLost(mac, frames) => put_both_lost(writer, teller, mac, frames),
+        Verdict::BothLost(mac, frames) => {
+            put_both_lost(writer, teller, Weight::Grave, mac, frames)
+        }
         Verdict::TwoSenders(mac, time) => put_two_senders(writer, teller, mac, time),
         Verdict::DeadPort(mac, row) => put_dead_port(writer, teller, mac, row),
         Verdict::LostRedundancy(mac, lan, tail) => {
@@ -159,6 +183,7 @@ pub(crate) fn put_fault<W: Write>(
         }
         Verdict::Repeated(mac, sides) => put_repeated(writer, teller, mac, sides),
         Verdict::Late(mac, pairs) => put_late(writer, teller, mac, pairs),
+        Verdict::Skew(mac, skew, most) => put_skew(writer, teller, mac, skew, most),
         _ => put_lans(writer, teller, verdict),
     }
 }

@@ -1,9 +1,10 @@
 -- Verdicts end a check as the figures judge.
 use Rattle.std.proofs.Common.{◌≡◌, ℕ, ◌-◌, inl, inr, Bool, true, false, cond, ◌&&◌, ◌||◌, is_some, List, [], ◌∷◌, ◌++◌, Option, None, Some, arith, refl, sym, ap, ap₂, ◌∙◌, subst}
 use Rattle.std.specs.Prelude.{nat_lt, not, filter}
-use Rattle.std.specs.List.{list_any}
+use Rattle.std.specs.List.{list_any, filter_map}
 use Rattle.std.specs.Map.{lookup}
 use Rattle.std.proofs.lemmas.Bool.{or_left, or_right}
+use Rattle.std.proofs.lemmas.List.{append-nil}
 use Rattle.sr_frame.specs.Addresses.{mac_eq}
 use Rattle.sr_frame.specs.declared.fields.Mac.{Mac}
 use Rattle.sr_sources.specs.declared.source.Source.{Source as Node}
@@ -33,6 +34,7 @@ use Rattle.sr_verdict.specs.Heards.{AreHeard, only_at, lone_row, row_frames}
 use Rattle.sr_verdict.specs.declared.why.Why.{Why}
 use Rattle.sr_verdict.specs.declared.verdict.Verdict.TheVariants.{Unjudged as Undecided}
 use Rattle.sr_verdict.specs.Drops.{explained_by, is_explained, left_unexplained, any_dropped, why_dropped, settled_by, settled, dropped_told}
+use Rattle.sr_verdict.specs.Limits.{fault_beyond, notice_in_place, limited, skew_verdicts}
 use Rattle.sr_verdict.specs.Told.{why_of, why_told, verdicts_for}
 use Rattle.sr_verdict.specs.Verdicts.{is_doubled_at, is_doubled, single_in, IsSingleHearing, has_all_sent, telling_entries, AreHeardIn, fault_verdicts, notice_verdicts, is_a_fault}
 use Rattle.sr_capture_laws.specs.Ending.{nodes_tell, judged_with, judged_beside, by_figures, EndAs, EndBy, VerdictsEndAsJudged}
@@ -366,7 +368,7 @@ settled_ends ports dropped None faults notices faulty told none = by_drops (any_
     -- by whether a fault was told, and whether one is left
     by_faults : any_dropped dropped ≡ true → (f l : Bool) → faulty ≡ f → wrong ≡ l
         → EndBy ports dropped faults (judged_by None faulty)
-        (Behind ports dropped notices (cond (f && not l) (Undecided (why_dropped ports dropped (explained_by ports dropped faults)) ∷ []) left))
+        (Behind ports dropped notices (cond (f && not l) (Undecided (why_dropped ports dropped (explained_by ports dropped faults)) ∷ left) left))
     by_faults some true true e h = ends left (record { judging = judging; faults = h ∙ sym e })
     by_faults some true false e h = inr (record {
       faulty = ap (λ (b : Bool). judged_by None b) e;
@@ -383,12 +385,29 @@ settled_ends ports dropped None faults notices faulty told none = by_drops (any_
     by_drops : (d : Bool) → any_dropped dropped ≡ d → EndBy ports dropped faults (judged_by None faulty)
         (Behind ports dropped notices (cond d (settled_by ports dropped (explained_by ports dropped faults) faults) faults))
     by_drops true some = subst (λ (b : Bool). EndBy ports dropped faults (judged_by None faulty)
-        (Behind ports dropped notices (cond (b && not wrong) (Undecided (why_dropped ports dropped (explained_by ports dropped faults)) ∷ []) left)))
+        (Behind ports dropped notices (cond (b && not wrong) (Undecided (why_dropped ports dropped (explained_by ports dropped faults)) ∷ left) left)))
         (sym told.faults) (by_faults some faulty wrong refl refl)
     by_drops false none_dropped = ends faults told
 
+-- without limits faults are told as they are
+all_beyond : (vs : List Verdict) → filter_map (fault_beyond None) vs ≡ vs
+all_beyond [] = refl
+all_beyond (v ∷ vs) = ap (λ l. v ∷ l) (all_beyond vs)
+
+none_in_place : (vs : List Verdict) → filter_map (notice_in_place None) vs ≡ []
+none_in_place [] = refl
+none_in_place (v ∷ vs) = none_in_place vs
+
+as_without : (lost skew : Option ℕ) (faults : List Verdict) (own : List Heard) → lost ≡ None → skew ≡ None →
+    limited lost (faults ++ skew_verdicts skew own) ≡ faults
+as_without lost skew faults own no_loss no_skew =
+    ap (λ (o : Option ℕ). limited o (faults ++ skew_verdicts skew own)) no_loss
+    ∙ ap (λ (o : Option ℕ). limited None (faults ++ skew_verdicts o own)) no_skew
+    ∙ ap (limited None) (append-nil faults)
+    ∙ ap₂ (λ x y. x ++ y) (all_beyond faults) (none_in_place faults) ∙ append-nil faults
+
 pub verdicts_end : VerdictsEndAsJudged
-verdicts_end r sources outside vs are =
+verdicts_end r sources outside vs are free =
     let nodes = sources.sources.entries in
     let ports = r.subject.ports in
     let faults = fault_verdicts r nodes are.own are.telling are.counters in
@@ -399,7 +418,8 @@ verdicts_end r sources outside vs are =
     (tells_faults r nodes are.own are.telling are.counters) in
     subst (λ (l : List Verdict). EndBy ports outside.dropped faults
     (judged_with (nodes_tell r.subject nodes) (judged_beside outside.reason (network_judgement r))) l)
-    (sym are.verdicts)
+    (sym (are.verdicts ∙ ap (λ (l : List Verdict). verdicts_for (why_told outside.reason r) (Behind ports outside.dropped notices (settled ports outside.dropped l)))
+    (as_without outside.limits.lost outside.limits.skew faults are.own free.no_loss free.no_skew)))
     (subst (λ (j : Judgement). EndBy ports outside.dropped faults j
     (verdicts_for (why_told outside.reason r) (Behind ports outside.dropped notices (settled ports outside.dropped faults))))
     (joins r (nodes_tell r.subject nodes) outside.reason)

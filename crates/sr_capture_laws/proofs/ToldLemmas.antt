@@ -33,7 +33,7 @@ use Rattle.sr_verdict.specs.declared.place.Place.{Place}
 use Rattle.sr_verdict.specs.declared.shared.Cut.{Cut}
 use Rattle.sr_verdict.specs.declared.shared.Share.{Share}
 use Rattle.sr_verdict.specs.declared.verdict.Verdict.{Verdict}
-use Rattle.sr_verdict.specs.declared.verdict.Verdict.TheVariants.{Unjudged, BothLost, TwoSenders, CutRing, DeadPort, Crossed, LostRedundancy, Loss, WrongLan, Misfit, Repeated, Late, RecorderDropped, Restart, Babbling, Unseen, San, Clock}
+use Rattle.sr_verdict.specs.declared.verdict.Verdict.TheVariants.{Unjudged, BothLost, TwoSenders, CutRing, DeadPort, Crossed, LostRedundancy, Loss, WrongLan, Misfit, Repeated, Late, Skew, BothLostWithin, LossWithin, RecorderDropped, Restart, Babbling, Unseen, San, Clock}
 use Rattle.sr_verdict.specs.declared.why.Why.{Why}
 use Rattle.sr_verdict.specs.Drops.{dropped_told}
 use Rattle.sr_verdict.specs.Heards.{row_in, rest_at}
@@ -66,6 +66,9 @@ same_first (WrongLan side copies names) xs ys e = refl
 same_first (Misfit side frames) xs ys e = refl
 same_first (Repeated mac copies) xs ys e = refl
 same_first (Late mac pairs) xs ys e = refl
+same_first (Skew mac skew most) xs ys e = refl
+same_first (BothLostWithin mac numbers) xs ys e = refl
+same_first (LossWithin lan share other) xs ys e = refl
 same_first (RecorderDropped lan packets) xs ys e = refl
 same_first (Restart mac times) xs ys e = refl
 same_first (Babbling mac second) xs ys e = refl

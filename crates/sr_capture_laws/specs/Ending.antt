@@ -71,10 +71,15 @@ pub record EndInDoubt (ports : Ports) (dropped : Sides) (faults : List Verdict) 
 abbrev pub EndBy : Ports → Sides → List Verdict → Judgement → List Verdict → Type 0
 EndBy ports dropped faults j vs = EndAs j vs ⊎ EndInDoubt ports dropped faults j vs
 
--- The verdicts on any report end a check as its figures judge, or with a fault where the frames of sources tell of one; with 4 where
--- nothing can be judged, by the figures or for something besides them; or, where recorders dropped packets that may be all that is said to
--- be lost, and no other fault is told.
+-- a user has no limits of his own
+pub record HasNoLimits (outside : Outside) : Type 0 where
+  pub no_loss : outside.limits.lost ≡ None
+  pub no_skew : outside.limits.skew ≡ None
+
+-- Without limits of a user the verdicts on any report end a check as its figures judge, or with a fault where the frames of sources tell
+-- of one; with 4 where nothing can be judged, by the figures or for something besides them; or, where recorders dropped packets that may
+-- be all that is said to be lost, and no other fault is told.
 abbrev pub VerdictsEndAsJudged : Type 0
 VerdictsEndAsJudged = (r : Report) (sources : Sources) (outside : Outside) (vs : List Verdict) (are : AreVerdictsOf r sources outside vs)
-    → EndBy r.subject.ports outside.dropped (faults_told r sources outside vs are)
+    → HasNoLimits outside → EndBy r.subject.ports outside.dropped (faults_told r sources outside vs are)
     (judged_with (nodes_tell r.subject sources.sources.entries) (judged_beside outside.reason (network_judgement r))) vs

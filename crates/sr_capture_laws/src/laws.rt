@@ -55,8 +55,8 @@ pub fn checks_are_by_arrivals()
 /// The verdicts on a report end a check as its figures judge: with 4, and for the same reason, where nothing can be judged, else with 3 where
 /// the figures or the frames of sources tell of a fault, else with 0. Where something besides the figures says that nothing can be judged
 /// they end it with 4; and so they may in place of 3 where recorders dropped packets, but only if they may have made each fault that is told.
-/// So what these laws say of how a check ends holds of the status of its verdicts, where no source has two senders or lost its redundancy
-/// and no recorder dropped packets.
+/// So what these laws say of how a check ends holds of the status of its verdicts, where no source has two senders or lost its redundancy,
+/// no recorder dropped packets, and the user has no limits of his own.
 pub fn verdicts_end_as_judged()
     ensures { VerdictsEndAsJudged }
 {}

@@ -30,7 +30,7 @@ use sr_dates::Moment;
 use sr_options::{AuditTask, Format, Paths, Times};
 use sr_slots::Keys;
 use sr_sources::Sources;
-use sr_verdict::Verdict;
+use sr_verdict::{Limits, Verdict};
 use std::io::{self, BufWriter};
 use std::random::RandomSource;
 use std::rt::Files;
@@ -99,6 +99,10 @@ fn read_and_judge<R: AllocGlobal + Eprint + Files>(
     let subject = subject_on(rt, task, known)?;
     let read = read_all(rt, task, subject, keys, progress)?;
     let (sources, dropped) = read_nodes(rt, task, keys)?;
+    let limits = Limits {
+        lost: task.max_lost,
+        skew: task.max_skew,
+    };
     let verdicts = judge(
         rt,
         &read.report,
@@ -106,6 +110,7 @@ fn read_and_judge<R: AllocGlobal + Eprint + Files>(
         known,
         read.are_both_ways,
         dropped,
+        limits,
     )?;
     Ok((read, sources, verdicts))
 }

@@ -6,7 +6,7 @@ use crate::script::tell_other;
 use sr_advice::{FileFault, FileReason, Unopened, letter_of};
 use sr_capture_script::{Inlet, ScriptFault};
 use sr_intake::Reading;
-use sr_options::{LineFormat, Paths, WatchTask};
+use sr_options::{LineFormat, Paths, Ports, WatchTask};
 use sr_pcapng::Wanted;
 use sr_prp_trailer::Lan;
 use sr_slots::Keys;
@@ -42,8 +42,8 @@ fn path_of<'a>(paths: Option<Paths<'a>>) -> &'a str {
     }
 }
 
-/// How the capture of a LAN is read.
-fn lan_plan_of(task: &WatchTask<'_>, lan: Lan, wanted: Wanted, delay: u64) -> LanPlan {
+/// How the capture of a LAN is read, or that of a mirror port.
+fn lan_plan_of(task: &WatchTask<'_>, lan: Option<Lan>, wanted: Wanted, delay: u64) -> LanPlan {
     LanPlan {
         lan,
         network: watch_network_of(task.network),
@@ -52,6 +52,7 @@ fn lan_plan_of(task: &WatchTask<'_>, lan: Lan, wanted: Wanted, delay: u64) -> La
             check_len: task.check_len,
         },
         delay,
+        reopens: task.reopens,
     }
 }
 
@@ -72,9 +73,16 @@ fn settings_of(task: &WatchTask<'_>) -> Settings {
 /// How the watch runs.
 fn plan_of(task: &WatchTask<'_>) -> Plan {
     let wanted = task.interfaces;
+    let (a, b) = match task.ports {
+        Ports::Two => (
+            Some(Lan::A),
+            Some(lan_plan_of(task, Some(Lan::B), wanted.b, task.delays.b)),
+        ),
+        Ports::Mirror => (None, None),
+    };
     Plan {
-        a: lan_plan_of(task, Lan::A, wanted.a, task.delays.a),
-        b: lan_plan_of(task, Lan::B, wanted.b, task.delays.b),
+        a: lan_plan_of(task, a, wanted.a, task.delays.a),
+        b,
         every: task.every.saturating_mul(SECOND),
         format: match task.format {
             LineFormat::Text => Format::Text,

@@ -1,7 +1,8 @@
 -- What a packet of the capture of a LAN is: the kinds of an audit.
-use Rattle.std.specs.Prelude.{◌≡◌, ℕ, ◌-◌, ◌<◌, ◌≤◌, ◌⊎◌, Bool, true, false, List, [], ◌∷◌, length, drop, None, Some}
+use Rattle.std.specs.Prelude.{◌≡◌, ℕ, ◌-◌, ◌<◌, ◌≤◌, ◌%◌, ◌==◌, ◌⊎◌, Bool, true, false, List, [], ◌∷◌, length, drop, None, Some}
 use Rattle.std.specs.Str.{bytes_eq}
 use Rattle.sr_prp_trailer.specs.declared.trailer.Lan.{Lan}
+use Rattle.sr_prp_trailer.specs.declared.trailer.Lan.TheVariants as lan
 use Rattle.sr_forwarding.specs.declared.fault.ReadFault.{ReadFault}
 use Rattle.sr_forwarding.specs.Decoding.{IsRead, IsUnread}
 use Rattle.sr_forwarding.specs.Framings.{FramingImage, Trailed, Tagged}
@@ -26,6 +27,22 @@ pub record IsNumberedAs (p : ParcelImage) (n : Numbered) : Type 0 where
   pub seq : p.seq ≡ Some n.seq
   pub src : n.src ≡ src_in (plain_of p)
   pub astray : n.is_astray ≡ p.wrong_lan
+  pub path : n.path ≡ p.path
+
+-- whether a frame that was read as one of LAN A names LAN B: by its trailer, or by a path that is odd
+abbrev pub names_lan_b : Network → Numbered → Bool
+names_lan_b network.Prp n = n.is_astray
+names_lan_b network.Hsr n = n.path % 2 == 1
+
+-- the LAN of a frame that names LAN B, or not
+abbrev pub lan_if : Bool → Lan
+lan_if true = lan.B
+lan_if false = lan.A
+
+-- the LAN for which a packet of a mirror port counts, which was read as one of LAN A, and what it is: none is astray there
+abbrev pub mirrored : Network → Kind → Lan × Kind
+mirrored network (kind.Numbered n) = (lan_if (names_lan_b network n), kind.Numbered (record n { is_astray = false }))
+mirrored network other = (lan.A, other)
 
 -- the octets end as a trailer does
 abbrev pub ends_as_trailer : List ℕ → Bool

@@ -3,7 +3,7 @@
 ghost use Rattle.std.specs.Prelude.{◌≡◌, None, IfOk, IfErr, IfSome, IfNone};
 ghost use Rattle.sr_capture.specs.Records.{Captured, Shows};
 ghost use Rattle.sr_forwarding.specs.Decoding.{IsRead, IsUnread};
-ghost use Rattle.sr_intake.specs.Kinds.{capture_framing, IsNumberedAs, ends_as_trailer, IsParcelKind, IsOctetsKind, IsKind};
+ghost use Rattle.sr_intake.specs.Kinds.{capture_framing, IsNumberedAs, ends_as_trailer, IsParcelKind, IsOctetsKind, IsKind, mirrored};
 
 use sr_capture::{Extent, MAX_KEPT, Packet};
 use sr_forwarding::{Framing, HsrFraming, ParcelView, PrpFraming, ReadFault};
@@ -29,6 +29,8 @@ pub struct Numbered {
     pub seq: Seq,
     /// Whether its trailer names the other LAN.
     pub is_astray: bool,
+    /// The path of its tag (IEC 62439-3 clause 5).
+    pub path: u8,
 }
 
 /// What a packet is.
@@ -58,6 +60,7 @@ fn number_in(parcel: &ParcelView<'_>) -> Option<Numbered>
         src: parcel.header().src,
         seq,
         is_astray: parcel.wrong_lan(),
+        path: parcel.path(),
     })
 }
 
@@ -114,4 +117,24 @@ pub fn kind_of(network: Network, lan: Lan, packet: &Packet) -> Kind
     } else {
         frame_kind(network, lan, packet.octets.as_slice())
     }
+}
+
+/// What a packet of a mirror port is, which sees both LANs, and the LAN for which it counts, where it was read as one of LAN A: a numbered
+/// frame names its LAN, by the id of its trailer or the lowest bit of the path of its tag. What has no number counts for LAN A.
+pub fn mirrored(network: Network, kind: Kind) -> (Lan, Kind)
+    ensures { result ≡ mirrored network kind }
+{
+    let Kind::Numbered(numbered) = kind else {
+        return (Lan::A, kind);
+    };
+    let is_b = match network {
+        Network::Prp => numbered.is_astray,
+        Network::Hsr => numbered.path % 2 == 1,
+    };
+    let lan = if is_b { Lan::B } else { Lan::A };
+    let kind = Kind::Numbered(Numbered {
+        is_astray: false,
+        ..numbered
+    });
+    (lan, kind)
 }

@@ -11,4 +11,4 @@ pub use capture::Intake;
 pub use counts::PacketCounts;
 pub use format::Format;
 pub use front::Reading;
-pub use kind::{Kind, Network, Numbered, kind_of};
+pub use kind::{Kind, Network, Numbered, kind_of, mirrored};

@@ -81,9 +81,10 @@ abbrev pub ShapeKeepsRules : Shape → Type 0
 ShapeKeepsRules (shape.TwoRings left right joins.Two) = (3 ≤ left.count) × (3 ≤ right.count)
 ShapeKeepsRules other = ⊤
 
--- reports are a second apart at least, and what recorders may keep is within bounds
+-- reports are a second apart at least, what recorders may keep is within bounds, and a mirror port stands alone
 abbrev pub WatchKeepsRules : WatchTask → Type 0
 WatchKeepsRules t = (1 ≤ t.every) × (t.every ≤ most_every) × (least_slack ≤ t.slack) × (t.slack ≤ most_slack)
+    × StandsAlone t.ports t.b
 
 -- an address of one node, and not of a group
 abbrev pub NamesOneNode : Mac → Type 0

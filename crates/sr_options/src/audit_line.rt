@@ -11,7 +11,7 @@ use crate::merge_line::early_of;
 use crate::page_words::{PageWords, page_words_of, with_page_words};
 use crate::paths::Paths;
 use crate::script_line::{
-    Capture, capture_of, is_same, option, shift_a_of, shift_b_of, with_files, with_option,
+    Capture, capture_of, is_same, option, shift_a_of, shift_b_of, time_of, with_files, with_option,
 };
 use crate::shifts::{Shift, shift_in, with_clocks};
 use crate::words::Words;
@@ -105,6 +105,10 @@ pub struct AuditTask<'a> {
     pub page: PageWords<'a>,
     /// How much less than nothing the least shift is, in nanoseconds: so much the times of all packets are put off.
     pub early: u64,
+    /// How many frames a LAN, or numbers of a source both, may lose for no fault.
+    pub max_lost: Option<u64>,
+    /// How many microseconds the copies of a frame may be apart for no fault. None: any.
+    pub max_skew: Option<u64>,
     /// Whether the status tells of faults of the network.
     pub is_check: bool,
     /// Whether the recorders see all frames of their LANs.
@@ -113,6 +117,18 @@ pub struct AuditTask<'a> {
     pub is_whole: bool,
     /// Whether the captures of A and B are one.
     pub is_same: bool,
+}
+
+/// A command with the limits of what is a fault more, if it was made.
+fn with_limits<'a>(
+    alloc: Global,
+    command: Result<Command<'a>, AllocError>,
+) -> Result<Command<'a>, AllocError> {
+    let lost =
+        "How many frames a LAN, or numbers of a source both, may lose: a notice, and no fault";
+    let command = with_option(alloc, command, "max-lost", "N", lost);
+    let skew = "A fault where copies of a frame come further apart, in microseconds";
+    with_option(alloc, command, "max-skew-us", "N", skew)
 }
 
 /// What the parser knows of the subcommand.
@@ -162,7 +178,8 @@ pub(crate) fn audit_command<'a>(
         .help(
             "Both recorders ran all the time: a LAN that brings nothing any more lost what the other one brings",
         );
-    with_arg(with_arg(with_arg(command, check), complete), whole)
+    let command = with_arg(with_arg(with_arg(command, check), complete), whole);
+    with_limits(alloc, command)
 }
 
 /// The lists with one more, by its word.
@@ -223,7 +240,7 @@ fn times_of(matches: &ArgMatches<'_>, format: Format) -> Result<Times, OptionFau
 }
 
 /// Where the captures were made. They are named as they are wanted: both LANs, or a mirror port.
-fn ports_of(matches: &ArgMatches<'_>) -> Result<Ports, OptionFault> {
+pub(crate) fn ports_of(matches: &ArgMatches<'_>) -> Result<Ports, OptionFault> {
     let has_lans = matches.contains_id("a") || matches.contains_id("b");
     match (has_lans, matches.contains_id("mirror")) {
         (true, false) => Ok(Ports::Two),
@@ -234,7 +251,7 @@ fn ports_of(matches: &ArgMatches<'_>) -> Result<Ports, OptionFault> {
 }
 
 /// The capture of side A, or of the mirror port.
-fn first_capture_of<'a>(
+pub(crate) fn first_capture_of<'a>(
     matches: &ArgMatches<'a>,
     words: &'a [String],
     ports: Ports,
@@ -246,7 +263,7 @@ fn first_capture_of<'a>(
 }
 
 /// The capture of side B. A mirror port has none.
-fn second_capture_of<'a>(
+pub(crate) fn second_capture_of<'a>(
     matches: &ArgMatches<'a>,
     words: &'a [String],
     ports: Ports,
@@ -306,6 +323,8 @@ pub(crate) fn audit_task<'a>(
         times,
         page,
         early,
+        max_lost: time_of(matches, "max-lost", OptionFault::MaxLost)?,
+        max_skew: time_of(matches, "max-skew-us", OptionFault::MaxSkew)?,
         is_check: matches.get_flag("check"),
         is_complete: matches.get_flag("complete"),
         is_whole: matches.get_flag("whole"),

@@ -53,6 +53,10 @@ pub enum OptionFault {
     SkewOver,
     /// `--lost-over` is no number from 1 to 100.
     LostOver,
+    /// `--max-lost` is no number.
+    MaxLost,
+    /// `--max-skew-us` is no number of microseconds.
+    MaxSkew,
     /// `--slack` is no number of milliseconds from 300 to 60000.
     Slack,
     /// `--for` is no number of seconds from 1 on.
@@ -88,6 +92,8 @@ impl OptionFault {
             OptionFault::AloneFor => "alone-for",
             OptionFault::SkewOver => "skew-over",
             OptionFault::LostOver => "lost-over",
+            OptionFault::MaxLost => "max-lost",
+            OptionFault::MaxSkew => "max-skew-us",
             OptionFault::Slack => "slack",
             OptionFault::For => "for",
         }
@@ -125,6 +131,8 @@ impl OptionFault {
             OptionFault::AloneFor => "--alone-for takes whole seconds, at least 1",
             OptionFault::SkewOver => "--skew-over takes whole microseconds, at least 1",
             OptionFault::LostOver => "--lost-over takes a percentage, 1 to 100",
+            OptionFault::MaxLost => "--max-lost takes a whole number of frames",
+            OptionFault::MaxSkew => "--max-skew-us takes whole microseconds",
             OptionFault::Slack => "--slack takes whole milliseconds, 300 to 60000",
             OptionFault::For => "--for takes whole seconds, at least 1",
         }

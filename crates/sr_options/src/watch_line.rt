@@ -3,15 +3,15 @@
 ghost use Rattle.std.specs.Prelude.{◌≤◌, IfOk};
 ghost use Rattle.sr_options.specs.Tasks.{WatchKeepsRules};
 
+use crate::audit_line::{Ports, first_capture_of, ports_of, second_capture_of};
 use crate::captures_line::{Network, network_of, with_network};
 use crate::command_line::with_arg;
 use crate::examples;
 use crate::fault::OptionFault;
-use crate::merge_line::required;
 use crate::paths::Paths;
 use crate::plant_format::LineFormat;
 use crate::script_line::{
-    capture_of, check_len_of, option, shift_a_of, shift_b_of, time_of, with_option, with_shift,
+    check_len_of, option, shift_a_of, shift_b_of, time_of, with_option, with_shift,
 };
 use crate::shifts::delays_in;
 use crate::words::Words;
@@ -46,7 +46,9 @@ pub struct Bounds {
 /// What `seamless watch` is to do.
 #[derive(Clone, Copy, Debug)]
 pub struct WatchTask<'a> {
-    /// The capture of LAN A.
+    /// Where the captures are made.
+    pub ports: Ports,
+    /// The capture of LAN A, or of the mirror port.
     pub a: Option<Paths<'a>>,
     /// The capture of LAN B.
     pub b: Option<Paths<'a>>,
@@ -68,6 +70,8 @@ pub struct WatchTask<'a> {
     pub bounds: Bounds,
     /// For how many milliseconds a recorder may keep packets.
     pub slack: u64,
+    /// Whether a FIFO is opened again where its capture ends.
+    pub reopens: bool,
     /// After how many seconds it ends. None: where both captures end.
     pub lasts_for: Option<u64>,
     /// Whether the status tells that an alarm was raised.
@@ -88,6 +92,17 @@ fn with_bounds<'a>(
     with_option(alloc, command, "lost-over", "PERCENT", lost)
 }
 
+/// A command with the capture of a LAN more, if it was made. It is wanted where that of a mirror port is not given.
+fn with_lan<'a>(
+    alloc: Global,
+    command: Result<Command<'a>, AllocError>,
+    name: &'a str,
+    help: &'a str,
+) -> Result<Command<'a>, AllocError> {
+    let lan = option(alloc, name, "FILE[:N]", help).required_unless_present("mirror")?;
+    with_arg(command, lan)
+}
+
 /// A command with the options that say how captures are read more, if it was made.
 fn with_captures<'a>(
     alloc: Global,
@@ -95,9 +110,10 @@ fn with_captures<'a>(
     words: &'a Words<'a>,
 ) -> Result<Command<'a>, AllocError> {
     let a = "The capture of LAN A as it comes: a pipe, a file, or - for standard input";
-    let command = with_arg(command, required(alloc, "a", "FILE[:N]", a));
-    let b = required(alloc, "b", "FILE[:N]", "The capture of LAN B");
-    let command = with_arg(command, b);
+    let command = with_lan(alloc, command, "a", a);
+    let command = with_lan(alloc, command, "b", "The capture of LAN B");
+    let mirror = "The capture of a mirror port, which sees both LANs";
+    let command = with_option(alloc, command, "mirror", "FILE[:N]", mirror);
     let command = with_network(alloc, command, words);
     let shift = "What is added to the times of A: milliseconds, or 0.3ms, 300us, 5s";
     let command = with_shift(alloc, command, "shift-a", shift);
@@ -105,7 +121,12 @@ fn with_captures<'a>(
     let command = with_shift(alloc, command, "shift-b", shift);
     let fcs = "The octets of check sequence, where a file does not tell";
     let fcs = option(alloc, "fcs", "4", fcs).value_parser(["4"].as_slice());
-    with_arg(command, fcs)
+    let command = with_arg(command, fcs);
+    let reopen = Arg::new(alloc, "reopen")
+        .long("reopen")
+        .action(ArgAction::SetTrue)
+        .help("Opens a FIFO again where its writer ends, for the next one");
+    with_arg(command, reopen)
 }
 
 /// What the parser knows of the subcommand.
@@ -213,18 +234,15 @@ pub(crate) fn watch_task<'a>(
     if are_both_input(matches) {
         return Err(OptionFault::Inputs);
     }
-    let a = capture_of(matches, words, "a", "--a")?;
-    let b = capture_of(matches, words, "b", "--b")?;
+    let ports = ports_of(matches)?;
+    let a = first_capture_of(matches, words, ports)?;
+    let b = second_capture_of(matches, words, ports)?;
     let delays = delays_in(shift_a_of(matches)?, shift_b_of(matches)?, 0);
     let every = number_from(matches, "every", 1, MOST_EVERY, OptionFault::Every)?;
-    let slack = number_from(
-        matches,
-        "slack",
-        LEAST_SLACK,
-        MOST_SLACK,
-        OptionFault::Slack,
-    )?;
+    let fault = OptionFault::Slack;
+    let slack = number_from(matches, "slack", LEAST_SLACK, MOST_SLACK, fault)?;
     Ok(WatchTask {
+        ports,
         a: a.paths,
         b: b.paths,
         interfaces: Interfaces {
@@ -240,6 +258,7 @@ pub(crate) fn watch_task<'a>(
         metrics: matches.get_str("metrics"),
         bounds: bounds_of(matches)?,
         slack,
+        reopens: matches.get_flag("reopen"),
         lasts_for: number_of(matches, "for", MOST_SECONDS, OptionFault::For)?,
         is_check: matches.get_flag("check"),
     })

@@ -32,7 +32,16 @@ use Rattle.sr_capture_audit.specs.declared.network.Ports.TheVariants.{Two, Mirro
 use Rattle.sr_verdict.specs.declared.drops.Explained.{Explained}
 use Rattle.sr_verdict.specs.declared.shared.Cut.{Cut}
 use Rattle.sr_verdict.specs.declared.verdict.Verdict.{Verdict}
-use Rattle.sr_verdict.specs.declared.verdict.Verdict.TheVariants.{Unjudged, BothLost, CutRing, DeadPort, Loss, RecorderDropped}
+use Rattle.sr_verdict.specs.declared.verdict.Verdict.TheVariants.{
+  Unjudged,
+  BothLost,
+  CutRing,
+  DeadPort,
+  Loss,
+  BothLostWithin,
+  LossWithin,
+  RecorderDropped,
+}
 use Rattle.sr_verdict.specs.declared.why.Why.{Why}
 use Rattle.sr_verdict.specs.declared.why.Why.TheVariants.{Dropped}
 use Rattle.sr_verdict.specs.Verdicts.{when_counted, as_list, is_a_fault}
@@ -51,6 +60,8 @@ loss_in lan (BothLost mac numbers) = numbers
 loss_in lan (DeadPort mac row) = frames_where (same_side row.side (other_side lan)) row.frames
 loss_in lan (CutRing cut place) = frames_where (lacks_behind lan cut) cut.frames
 loss_in lan (Loss own share other) = frames_where (same_side own lan) share.frames
+loss_in lan (BothLostWithin mac numbers) = numbers
+loss_in lan (LossWithin own share other) = frames_where (same_side own lan) share.frames
 loss_in lan rest = 0
 
 abbrev pub losses_with : Side → ℕ → Verdict → ℕ
@@ -82,6 +93,8 @@ is_explained by (BothLost mac numbers) = by.a || by.b
 is_explained by (DeadPort mac row) = is_explained_at by (other_side row.side)
 is_explained by (CutRing cut place) = (by.a || not (lacks_behind A cut)) && (by.b || not (lacks_behind B cut))
 is_explained by (Loss lan share other) = is_explained_at by lan
+is_explained by (BothLostWithin mac numbers) = by.a || by.b
+is_explained by (LossWithin lan share other) = is_explained_at by lan
 is_explained by rest = false
 
 abbrev pub left_unexplained : Explained → List Verdict → List Verdict
@@ -94,10 +107,11 @@ abbrev pub why_dropped : Ports → Sides → Explained → Why
 why_dropped Mirror dropped by = Dropped None dropped.a
 why_dropped Two dropped by = if by.a then Dropped (Some A) dropped.a else Dropped (Some B) dropped.b
 
--- the faults that are left of those that are told; where all may be the recorders' nothing can be judged
+-- what is left of what is told; where all faults may be the recorders' nothing can be judged
 abbrev pub settled_by : Ports → Sides → Explained → List Verdict → List Verdict
 settled_by ports dropped by vs =
-    if list_any is_a_fault vs && not (list_any is_a_fault (left_unexplained by vs)) then Unjudged (why_dropped ports dropped by) ∷ []
+    if list_any is_a_fault vs && not (list_any is_a_fault (left_unexplained by vs))
+    then Unjudged (why_dropped ports dropped by) ∷ left_unexplained by vs
     else left_unexplained by vs
 
 abbrev pub settled : Ports → Sides → List Verdict → List Verdict

@@ -4,4 +4,5 @@ pub mod Shared
 pub mod Places
 pub mod Verdicts
 pub mod Drops
+pub mod Limits
 pub mod Told

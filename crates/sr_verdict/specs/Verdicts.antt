@@ -73,6 +73,9 @@ use Rattle.sr_verdict.specs.declared.verdict.Verdict.TheVariants.{
   Misfit,
   Repeated,
   Late,
+  Skew,
+  BothLostWithin,
+  LossWithin,
   RecorderDropped,
   Restart,
   Babbling,
@@ -283,6 +286,9 @@ is_a_fault (WrongLan side copies names) = true
 is_a_fault (Misfit side frames) = true
 is_a_fault (Repeated mac copies) = true
 is_a_fault (Late mac pairs) = true
+is_a_fault (Skew mac skew most) = true
+is_a_fault (BothLostWithin mac numbers) = false
+is_a_fault (LossWithin lan share other) = false
 is_a_fault (RecorderDropped lan packets) = false
 is_a_fault (Restart mac times) = false
 is_a_fault (Babbling mac second) = false

@@ -1,6 +1,6 @@
 //! What recorders dropped: losses that it may explain are not told.
 
-ghost use Rattle.std.specs.Prelude.{◌≡◌, ◌++◌, OnOk};
+ghost use Rattle.std.specs.Prelude.{◌≡◌, ◌∷◌, ◌++◌, OnOk};
 ghost use Rattle.std.specs.List.{list_any};
 ghost use Rattle.sr_verdict.specs.Drops.{
   frames_where,
@@ -19,7 +19,7 @@ ghost use Rattle.sr_verdict.specs.Drops.{
   dropped_told,
 };
 
-use crate::judging::{note, note_one};
+use crate::judging::note_one;
 use crate::kinds::when_counted;
 use crate::shared::Cut;
 use crate::verdict::{Verdict, has_fault};
@@ -27,6 +27,7 @@ use crate::why::Why;
 use sr_audit::{Side, Sides};
 use sr_capture_audit::Ports;
 use sr_frame::NoMemory;
+use std::alloc::AllocError;
 
 /// Of which LANs the recorder may have dropped all that is said to be lost.
 #[derive(Clone, Copy, Debug, PartialEq, Eq)]
@@ -59,10 +60,12 @@ fn loss_in(lan: Side, verdict: &Verdict) -> u64
     ensures { result ≡ loss_in lan verdict.now }
 {
     match *verdict {
-        Verdict::BothLost(_, numbers) => numbers,
+        Verdict::BothLost(_, numbers) | Verdict::BothLostWithin(_, numbers) => numbers,
         Verdict::DeadPort(_, row) => frames_where(row.side == lan.other(), row.frames),
         Verdict::CutRing(cut, _) => frames_where(lacks_behind(lan, &cut), cut.frames),
-        Verdict::Loss(own, share, _) => frames_where(own == lan, share.frames),
+        Verdict::Loss(own, share, _) | Verdict::LossWithin(own, share, _) => {
+            frames_where(own == lan, share.frames)
+        }
         _ => 0,
     }
 }
@@ -114,12 +117,12 @@ fn is_explained(by: Explained, verdict: &Verdict) -> bool
     ensures { result ≡ is_explained by verdict.now }
 {
     match *verdict {
-        Verdict::BothLost(_, _) => by.a || by.b,
+        Verdict::BothLost(_, _) | Verdict::BothLostWithin(_, _) => by.a || by.b,
         Verdict::DeadPort(_, row) => is_explained_at(by, row.side.other()),
         Verdict::CutRing(cut, _) => {
             (by.a || !lacks_behind(Side::A, &cut)) && (by.b || !lacks_behind(Side::B, &cut))
         }
-        Verdict::Loss(lan, _, _) => is_explained_at(by, lan),
+        Verdict::Loss(lan, _, _) | Verdict::LossWithin(lan, _, _) => is_explained_at(by, lan),
         _ => false,
     }
 }
@@ -149,7 +152,17 @@ fn why_dropped(ports: Ports, dropped: Sides, by: Explained) -> Why
     }
 }
 
-/// Leaves out the faults that recorders may have made. Where no other one stands nothing can be judged.
+/// Takes a verdict before all others.
+fn note_first(verdicts: &mut Vec<Verdict>, verdict: Verdict) -> Result<(), NoMemory>
+    ensures { OnOk result (verdicts.new.items ≡ verdict ∷ verdicts.old.items) }
+{
+    match verdicts.insert(0, verdict) {
+        Ok(()) => Ok(()),
+        Err(refused) => Err(AllocError::from(refused).into()),
+    }
+}
+
+/// Leaves out what recorders may have dropped. Where no other fault stands nothing can be judged.
 ///
 /// # Errors
 /// `NoMemory` where an allocation failed.
@@ -167,8 +180,7 @@ pub(crate) fn settle(
     let by = explained_by(ports, dropped, verdicts);
     leave_explained_out(verdicts, by);
     if was_faulty && !has_fault(verdicts) {
-        verdicts.clear();
-        return note(verdicts, Verdict::Unjudged(why_dropped(ports, dropped, by)));
+        return note_first(verdicts, Verdict::Unjudged(why_dropped(ports, dropped, by)));
     }
     Ok(())
 }

@@ -28,6 +28,7 @@ use crate::drops::{note_dropped, settle};
 use crate::heard::Heard;
 use crate::hearing::{Hearing, single_hearing};
 use crate::kinds::{Kind, verdict_on, when_counted};
+use crate::limits::{Limits, note_limited, note_skews};
 use crate::nodes::{NodeVerdict, astray_names, node_verdict};
 use crate::place::{Place, cut_place};
 use crate::shared::{Cut, Share, cut_in, share_by};
@@ -52,6 +53,8 @@ pub struct Outside {
     pub ahead: Option<i128>,
     /// How many packets the recorders say that they dropped: that of a mirror port at A.
     pub dropped: Sides,
+    /// What the user takes for no fault, and what for one.
+    pub limits: Limits,
 }
 
 /// Takes a verdict.
@@ -327,7 +330,7 @@ fn why_told(outside: Option<Reason>, report: &Report) -> Option<Reason>
 
 /// The verdicts on a network, the most severe kind first, and of a kind those on sources in their order: each stands exactly where the
 /// figures say so. Where nothing can be judged, that is the only one. A loss that a recorder may have dropped is not told; where no other
-/// fault stands, then nothing can be judged.
+/// fault stands, then nothing can be judged. A loss within the limit of the user is a notice.
 ///
 /// # Errors
 /// `NoMemory` where an allocation failed.
@@ -346,7 +349,10 @@ pub fn verdicts_of(
         note(&mut verdicts, Verdict::Unjudged(Why::Figures(reason)))?;
         return Ok(verdicts);
     }
-    note_faults(&mut verdicts, report, sources, &hearing)?;
+    let (mut faults, limits) = (Vec::new(alloc), outside.limits);
+    note_faults(&mut faults, report, sources, &hearing)?;
+    note_skews(&mut faults, limits.skew, &hearing.own)?;
+    note_limited(&mut verdicts, limits.lost, &faults)?;
     let (ports, dropped) = (report.subject.ports, outside.dropped);
     settle(&mut verdicts, ports, dropped)?;
     note_dropped(&mut verdicts, ports, dropped)?;

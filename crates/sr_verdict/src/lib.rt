@@ -7,6 +7,7 @@ mod heard;
 mod hearing;
 mod judging;
 mod kinds;
+mod limits;
 mod lines;
 mod names;
 mod nodes;
@@ -19,6 +20,7 @@ mod words;
 
 pub use heard::Heard;
 pub use judging::{Outside, verdicts_of};
+pub use limits::Limits;
 pub use lines::print_verdicts;
 pub use names::Names;
 pub use place::{Neighbour, Place};

@@ -135,7 +135,7 @@ fn print_on_lan<W: Write>(
         advice,
     } = frame;
     match *verdict {
-        Verdict::Loss(lan, share, other) => {
+        Verdict::Loss(lan, share, other) | Verdict::LossWithin(lan, share, other) => {
             let (frames, of) = (count("frames", share.frames), count("of", share.brought));
             let (sources, other) = (count("sources", share.sources), count("other_lan", other));
             print_row(
@@ -275,6 +275,29 @@ fn print_repeated<W: Write>(
     )
 }
 
+/// Prints the greatest skew of a source, and the limit.
+fn print_skew<W: Write>(
+    writer: &mut W,
+    format: Format,
+    frame: Frame,
+    mac: Mac,
+    skew: i128,
+    most: u64,
+) -> Result<(), ScriptFault> {
+    let skew = Field {
+        label: "skew_us",
+        key: "skew_us",
+        value: Value::Skew(Some(skew)),
+    };
+    let limit = count("max_us", most);
+    print_row(
+        writer,
+        format,
+        frame.severity,
+        &[frame.kind, at_source(mac), skew, limit, frame.advice],
+    )
+}
+
 /// Prints the line of a verdict.
 fn print_verdict<W: Write>(
     writer: &mut W,
@@ -285,7 +308,10 @@ fn print_verdict<W: Write>(
     match *verdict {
         Verdict::DeadPort(mac, row) => print_dead(writer, format, frame, mac, row),
         Verdict::Repeated(mac, sides) => print_repeated(writer, format, frame, mac, sides),
-        Verdict::BothLost(mac, numbers) | Verdict::Unseen(mac, numbers) => {
+        Verdict::Skew(mac, skew, most) => print_skew(writer, format, frame, mac, skew, most),
+        Verdict::BothLost(mac, numbers)
+        | Verdict::BothLostWithin(mac, numbers)
+        | Verdict::Unseen(mac, numbers) => {
             print_counted(writer, format, frame, mac, count("numbers", numbers))
         }
         Verdict::Late(mac, pairs) => {

@@ -13,7 +13,10 @@ use std::io::Write;
 /// The sources that share what a verdict tells, and the LAN of it.
 fn names_in(verdict: &Verdict) -> Option<(Option<Side>, Names)> {
     match *verdict {
-        Verdict::Loss(lan, share, _) => Some((Some(lan), share.names)),
+        Verdict::Loss(lan, share, _) | Verdict::LossWithin(lan, share, _) => Some((
+            Some(lan),
+            share.names,
+        )),
         Verdict::Crossed(_, names) => Some((None, names)),
         Verdict::WrongLan(lan, _, names) => Some((lan, names)),
         _ => None,

@@ -48,6 +48,12 @@ pub enum Verdict {
     Repeated(Mac, Sides),
     /// Fault: the copies of so many frames of a source came 400 ms apart or more.
     Late(Mac, u64),
+    /// Fault: the copies of a frame of a source came so many nanoseconds apart at most, which is more than so many microseconds.
+    Skew(Mac, i128, u64),
+    /// Notice: `BothLost`, within the limit of the user.
+    BothLostWithin(Mac, u64),
+    /// Notice: `Loss`, within the limit of the user.
+    LossWithin(Side, Share, u64),
     /// Notice: the recorder of a LAN, or of a mirror port, dropped so many packets.
     RecorderDropped(Option<Side>, u64),
     /// Notice: the numbers of a source began anew, so many times.
@@ -81,8 +87,11 @@ impl Verdict {
             | Verdict::WrongLan(_, _, _)
             | Verdict::Misfit(_, _)
             | Verdict::Repeated(_, _)
-            | Verdict::Late(_, _) => true,
+            | Verdict::Late(_, _)
+            | Verdict::Skew(_, _, _) => true,
             Verdict::Unjudged(_)
+            | Verdict::BothLostWithin(_, _)
+            | Verdict::LossWithin(_, _, _)
             | Verdict::RecorderDropped(_, _)
             | Verdict::Restart(_, _)
             | Verdict::Babbling(_, _)

@@ -9,7 +9,9 @@ use sr_capture_audit::Reason;
 pub(crate) fn severity_word(verdict: &Verdict) -> &'static str {
     match *verdict {
         Verdict::Unjudged(_) => "unjudged",
-        Verdict::Restart(_, _)
+        Verdict::BothLostWithin(_, _)
+        | Verdict::LossWithin(_, _, _)
+        | Verdict::Restart(_, _)
         | Verdict::RecorderDropped(_, _)
         | Verdict::Babbling(_, _)
         | Verdict::Unseen(_, _)
@@ -37,17 +39,18 @@ fn reason_word(why: Why) -> &'static str {
 pub(crate) fn kind_word(verdict: &Verdict) -> &'static str {
     match *verdict {
         Verdict::Unjudged(why) => reason_word(why),
-        Verdict::BothLost(_, _) => "both_lost",
+        Verdict::BothLost(_, _) | Verdict::BothLostWithin(_, _) => "both_lost",
         Verdict::TwoSenders(_, _) => "two_senders",
         Verdict::CutRing(_, _) => "cut_ring",
         Verdict::DeadPort(_, _) => "dead_port",
         Verdict::Crossed(_, _) => "crossed",
         Verdict::LostRedundancy(_, _, _) => "lost_redundancy",
-        Verdict::Loss(_, _, _) => "loss",
+        Verdict::Loss(_, _, _) | Verdict::LossWithin(_, _, _) => "loss",
         Verdict::WrongLan(_, _, _) => "wrong_lan",
         Verdict::Misfit(_, _) => "misfit",
         Verdict::Repeated(_, _) => "repeated",
         Verdict::Late(_, _) => "late",
+        Verdict::Skew(_, _, _) => "skew",
         Verdict::RecorderDropped(_, _) => "recorder_dropped",
         Verdict::Restart(_, _) => "restart",
         Verdict::Babbling(_, _) => "babbling",
@@ -86,7 +89,8 @@ fn advice_on_reason(why: Why) -> &'static str {
 pub(crate) fn advice_on(verdict: &Verdict) -> &'static str {
     match *verdict {
         Verdict::Unjudged(why) => advice_on_reason(why),
-        Verdict::BothLost(_, _) => "look at what both paths share: the sender, its power, a switch",
+        Verdict::BothLost(_, _) | Verdict::BothLostWithin(_, _) =>
+            "look at what both paths share: the sender, its power, a switch",
         Verdict::TwoSenders(_, _) => "give one of the two nodes an address of its own",
         Verdict::CutRing(_, _) =>
             "mend the link between the sources of sided A and those of sided B",
@@ -94,12 +98,14 @@ pub(crate) fn advice_on(verdict: &Verdict) -> &'static str {
         Verdict::Crossed(_, _) => "swap the cables of these sources at their two ports",
         Verdict::LostRedundancy(_, _, _) =>
             "ask what changed at it: its mode, or what stands in its place",
-        Verdict::Loss(_, _, _) => "look at a switch or link that these sources share",
+        Verdict::Loss(_, _, _) | Verdict::LossWithin(_, _, _) =>
+            "look at a switch or link that these sources share",
         Verdict::WrongLan(_, _, _) =>
             "look where the LANs are joined, or cables are crossed at one end",
         Verdict::Misfit(_, _) => "look at what changes frames on their way, and at --fcs 4",
         Verdict::Repeated(_, _) => "look for a loop, or a recorder that sees a frame twice",
         Verdict::Late(_, _) => "look at queues on one path, and at the recorders' clocks",
+        Verdict::Skew(_, _, _) => "look at queues on one path, and at --max-skew-us",
         Verdict::RecorderDropped(_, _) => "give the recorder a larger buffer or a faster disk",
         Verdict::Restart(_, _) => "ask whether it was started anew",
         Verdict::Babbling(_, _) => "ask what it sends, and limit it at its switch port",

@@ -1,18 +1,17 @@
 //! What the thread of a capture does.
 
-use crate::message::Message;
+use crate::outlet::Takers;
 use crate::plan::LanPlan;
 use crate::reader::read_lan;
-use crossbeam_channel::Sender;
 use std::rt::Files;
 use std::sync::Wait;
 
-/// What the thread of a capture does: it reads the capture of a LAN to its end.
+/// What the thread of a capture does: it reads the capture of a LAN to its end, and those behind it where its path is opened again.
 #[derive(Drop)]
 pub struct Job {
     pub(crate) path: String,
     pub(crate) plan: LanPlan,
-    pub(crate) to: Sender<Message>,
+    pub(crate) to: Takers,
 }
 
 impl Job {

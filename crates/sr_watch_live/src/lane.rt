@@ -1,6 +1,7 @@
 //! A LAN, as the loop sees it.
 
-use crate::message::{End, Message, Taken};
+use crate::live::lan_of;
+use crate::message::{End, Message, Taken, Then};
 use crate::running::WatchFault;
 use crossbeam_channel::Receiver;
 use sr_audit::Side;
@@ -27,6 +28,8 @@ pub(crate) struct Lane {
     side: Side,
     pub from: Receiver<Message>,
     pub state: State,
+    /// What comes of it once its capture has ended.
+    then: Then,
     /// Whether its capture has begun.
     pub has_begun: bool,
     pending: Vec<Taken>,
@@ -39,10 +42,10 @@ pub(crate) struct Lane {
     pub counts: PacketCounts,
 }
 
-/// Has a watch take a packet of a LAN, which came at this real time.
+/// Has a watch take a packet of a LAN, or of the other one at a mirror port, which came at this real time.
 fn take(watch: &mut Watch, side: Side, taken: Taken, now: u64) -> Result<(), CameFault> {
     match taken.kind {
-        Kind::Numbered(numbered) => {
+        Kind::Numbered(numbered) if taken.lan == lan_of(side) => {
             let copy = Numbered {
                 src: numbered.src,
                 seq: numbered.seq,
@@ -63,6 +66,7 @@ impl Lane {
             side,
             from,
             state: State::Awaited,
+            then: Then::Nothing,
             has_begun: false,
             pending: Vec::new(alloc),
             place: 0,
@@ -77,14 +81,24 @@ impl Lane {
         self.place >= self.pending.len()
     }
 
-    /// Whether nothing more comes of it.
+    /// Whether its capture has ended, and no other one comes.
+    pub(crate) fn is_done(&self) -> bool {
+        self.state == State::Ended && self.then == Then::Nothing
+    }
+
+    /// Whether nothing more comes of its capture.
     pub(crate) fn is_over(&self) -> bool {
         matches!(self.state, State::Ending(_) | State::Ended)
     }
 
     /// Whether it may be asked for more.
     pub(crate) fn is_open(&self) -> bool {
-        !self.is_over() && self.is_drained()
+        let may_come = match self.state {
+            State::Awaited | State::Running => true,
+            State::Ending(_) => false,
+            State::Ended => self.then == Then::Another,
+        };
+        may_come && self.is_drained()
     }
 
     /// The time of the packet that is next to be taken. None: all were.
@@ -111,7 +125,9 @@ impl Lane {
             Err(CameFault::Full) => return Ok(false),
             Err(CameFault::NoMemory) => return Err(WatchFault::NoMemory),
         }
-        self.counts.note(taken.kind);
+        if taken.lan == lan_of(self.side) {
+            self.counts.note(taken.kind);
+        }
         self.first = self.first.or(Some(taken.time));
         self.newest = self.newest.max(Some(taken.time));
         self.place = self.place.saturating_add(1);
@@ -142,8 +158,12 @@ impl Lane {
                 self.place = 0;
                 None
             }
-            Message::Ended(end) => {
-                self.state = State::Ending(now);
+            Message::Ended(end, then) => {
+                // Where no other one began behind a capture that has ended, the watch knows.
+                if self.state != State::Ended {
+                    self.state = State::Ending(now);
+                }
+                self.then = then;
                 Some(end)
             }
         }

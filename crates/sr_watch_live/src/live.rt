@@ -2,7 +2,7 @@
 
 use crate::clock::between;
 use crate::lane::{Lane, State};
-use crate::message::{End, Message};
+use crate::message::{End, Message, Then};
 use crate::running::WatchFault;
 use crate::telling::Telling;
 use crossbeam_channel::{RecvTimeoutError, TryRecvError};
@@ -42,7 +42,7 @@ enum Answer {
 }
 
 /// The name of a LAN.
-fn lan_of(side: Side) -> Lan {
+pub(crate) fn lan_of(side: Side) -> Lan {
     match side {
         Side::A => Lan::A,
         Side::B => Lan::B,
@@ -90,9 +90,9 @@ impl Live {
         }
     }
 
-    /// Whether both captures have ended, and all of them was taken.
+    /// Whether both captures have ended for good, and all of them was taken.
     pub(crate) fn is_done(&self) -> bool {
-        self.a.state == State::Ended && self.b.state == State::Ended && self.is_drained()
+        self.a.is_done() && self.b.is_done() && self.is_drained()
     }
 
     fn is_drained(&self) -> bool {
@@ -183,7 +183,7 @@ impl Live {
                 self.watch.silent(side, now);
                 None
             }
-            Answer::Gone => self.obey(side, Message::Ended(End::Whole), now),
+            Answer::Gone => self.obey(side, Message::Ended(End::Whole, Then::Nothing), now),
         };
         if let Some(end) = end {
             if end != End::Whole {

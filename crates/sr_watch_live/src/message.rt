@@ -2,6 +2,7 @@
 
 use sr_capture::CaptureFault;
 use sr_intake::Kind;
+use sr_prp_trailer::Lan;
 use std::io::ErrorKind;
 
 /// A packet that was taken.
@@ -9,6 +10,8 @@ use std::io::ErrorKind;
 pub(crate) struct Taken {
     /// When it was captured, in nanoseconds since 1970, put off by the delay of its LAN.
     pub time: u64,
+    /// The LAN for which it counts.
+    pub lan: Lan,
     /// What it is.
     pub kind: Kind,
 }
@@ -24,6 +27,15 @@ pub enum End {
     Broken(CaptureFault),
 }
 
+/// What comes of a LAN behind the end of a capture.
+#[derive(Clone, Copy, Debug, PartialEq, Eq)]
+pub(crate) enum Then {
+    /// Nothing more.
+    Nothing,
+    /// Another capture, once its path has a writer again.
+    Another,
+}
+
 /// What comes from the thread of a LAN.
 #[derive(Drop)]
 pub(crate) enum Message {
@@ -31,6 +43,6 @@ pub(crate) enum Message {
     Begun,
     /// Packets were taken.
     Came(Vec<Taken>),
-    /// The capture ended.
-    Ended(End),
+    /// The capture ended, or none was opened behind the last one.
+    Ended(End, Then),
 }

@@ -1,13 +1,14 @@
 //! The thread of a LAN.
 
-use crate::message::{End, Message, Taken};
-use crate::outlet::Outlet;
+use crate::message::{End, Message, Taken, Then};
+use crate::outlet::{Outlet, Takers};
 use crate::plan::LanPlan;
-use crossbeam_channel::Sender;
 use sr_capture::{CaptureFault, Reason};
-use sr_intake::{Intake, kind_of};
-use std::fs::File;
+use sr_intake::{Intake, kind_of, mirrored};
+use sr_prp_trailer::Lan;
+use std::fs::{self, File};
 use std::io::{BufReader, Read};
+use std::os::unix::fs::FileTypeExt;
 use std::rt::Files;
 use std::sync::Wait;
 
@@ -22,9 +23,14 @@ fn broken(reason: Reason) -> End {
 /// The last packet that was taken.
 fn taken_of<F: Read + Drop, R: Wait + Drop>(intake: &Intake<Stream<F, R>>, plan: LanPlan) -> Taken {
     let packet = intake.packet();
+    let (lan, kind) = match plan.lan {
+        Some(lan) => (lan, kind_of(plan.network, lan, packet)),
+        None => mirrored(plan.network, kind_of(plan.network, Lan::A, packet)),
+    };
     Taken {
         time: packet.time.saturating_add(plan.delay),
-        kind: kind_of(plan.network, plan.lan, packet),
+        lan,
+        kind,
     }
 }
 
@@ -53,9 +59,9 @@ fn read_opened<F: Read + Drop, R: AllocGlobal + Wait + Copy + Drop>(
     rt: R,
     file: F,
     plan: LanPlan,
-    to: &Sender<Message>,
+    to: &Takers,
 ) -> End {
-    let Ok(own) = to.clone() else {
+    let Ok(own) = to.try_clone() else {
         return broken(Reason::NoMemory);
     };
     let outlet = Outlet::new(rt, rt.alloc(), file, own);
@@ -66,7 +72,7 @@ fn read_opened<F: Read + Drop, R: AllocGlobal + Wait + Copy + Drop>(
         Ok(intake) => intake,
         Err(fault) => return End::Broken(fault),
     };
-    match to.send(&rt, Message::Begun) {
+    match to.send(&rt, Message::Begun, Message::Begun) {
         Ok(()) => {}
         Err(_) => return broken(Reason::NoMemory),
     }
@@ -75,16 +81,50 @@ fn read_opened<F: Read + Drop, R: AllocGlobal + Wait + Copy + Drop>(
     end
 }
 
-/// Opens a capture, which may wait until it has a writer, and hands over what it has, up to its end.
+/// What comes by a path whose capture ended. One that is no FIFO by its own name, as a file or a pipe of the shell, has no other writer;
+/// of one that is not there any more its opening tells.
+fn behind_end<R: Files>(rt: &R, path: &str, plan: LanPlan) -> Then {
+    if !plan.reopens {
+        return Then::Nothing;
+    }
+    match fs::symlink_metadata(rt, path) {
+        Ok(metadata) if !metadata.file_type().is_fifo() => Then::Nothing,
+        _ => Then::Another,
+    }
+}
+
+/// Opens a capture, which may wait until it has a writer, and hands over what it has, up to its end. The answer is what comes behind it.
+fn read_once<R: AllocGlobal + Files + Wait + Copy + Drop>(
+    rt: R,
+    path: &str,
+    plan: LanPlan,
+    to: &Takers,
+) -> Then {
+    let (end, then) = match File::open(&rt, path) {
+        Ok(file) => {
+            let end = read_opened(rt, file, plan, to);
+            (end, behind_end(&rt, path, plan))
+        }
+        Err(error) => (End::Unopened(error.kind()), Then::Nothing),
+    };
+    // A fault of a mirror port is told once.
+    let others = Message::Ended(End::Whole, then);
+    match to.send(&rt, Message::Ended(end, then), others) {
+        Ok(()) => then,
+        Err(_) => Then::Nothing,
+    }
+}
+
+/// Reads the captures of a LAN, one behind the other, until nothing more comes.
 pub(crate) fn read_lan<R: AllocGlobal + Files + Wait + Copy + Drop>(
     rt: R,
     path: String,
     plan: LanPlan,
-    to: Sender<Message>,
+    to: Takers,
 ) {
-    let end = match File::open(&rt, path.as_str()) {
-        Ok(file) => read_opened(rt, file, plan, &to),
-        Err(error) => End::Unopened(error.kind()),
-    };
-    let _ = to.send(&rt, Message::Ended(end));
+    for _ in rt.forever() {
+        if read_once(rt, path.as_str(), plan, &to) == Then::Nothing {
+            break;
+        }
+    }
 }

@@ -4,11 +4,11 @@ use crate::clock::{earlier, later};
 use crate::job::Job;
 use crate::lane::Lane;
 use crate::live::Live;
-use crate::message::Message;
+use crate::outlet::Takers;
 use crate::plan::{LanPlan, Plan};
 use crate::reporting::Reporter;
 use crate::telling::Telling;
-use crossbeam_channel::{Receiver, bounded};
+use crossbeam_channel::bounded;
 use sr_audit::Side;
 use sr_frame::NoMemory;
 use sr_slots::Keys;
@@ -67,25 +67,25 @@ pub struct Outcome {
     pub has_captures: bool,
 }
 
-/// Starts the thread of a LAN. The answer is where its packets come.
+/// Starts the thread of a capture.
 fn start_reader<R: AllocGlobal, S: Fn(Job) -> bool>(
     rt: &R,
     starts: &S,
     path: &str,
     plan: LanPlan,
-) -> Result<Receiver<Message>, WatchFault>
+    to: Takers,
+) -> Result<(), WatchFault>
     requires { S.IsAlwaysCallable starts.now }
 {
     let path = String::from_str(rt.alloc(), path)?;
-    let (to, from) = bounded(rt.alloc(), ROOM)?;
     if starts(Job { path, plan, to }) {
-        Ok(from)
+        Ok(())
     } else {
         Err(WatchFault::Thread)
     }
 }
 
-/// Starts the threads of both LANs.
+/// Starts the threads of both LANs, or that of a mirror port.
 fn begin<R: AllocGlobal + Clock, S: Fn(Job) -> bool>(
     rt: &R,
     starts: &S,
@@ -97,8 +97,20 @@ fn begin<R: AllocGlobal + Clock, S: Fn(Job) -> bool>(
     requires { S.IsAlwaysCallable starts.now }
 {
     let start = Instant::now(rt)?;
-    let from_a = start_reader(rt, starts, a, plan.a)?;
-    let from_b = start_reader(rt, starts, b, plan.b)?;
+    let (to_a, from_a) = bounded(rt.alloc(), ROOM)?;
+    let (to_b, from_b) = bounded(rt.alloc(), ROOM)?;
+    let (others, alone) = match plan.b {
+        Some(own) => (None, Some((own, to_b))),
+        None => (Some(to_b), None),
+    };
+    let takers = Takers {
+        to: to_a,
+        other: others,
+    };
+    start_reader(rt, starts, a, plan.a, takers)?;
+    if let Some((own, to)) = alone {
+        start_reader(rt, starts, b, own, Takers { to, other: None })?;
+    }
     Ok(Live {
         watch: Watch::new(rt.alloc(), keys, plan.settings, 0),
         a: Lane::new(rt.alloc(), Side::A, from_a),

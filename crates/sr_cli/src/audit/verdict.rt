@@ -6,7 +6,7 @@ use sr_audit::Sides;
 use sr_capture_audit::{Judgement, Reason, Report};
 use sr_capture_script::ScriptFault;
 use sr_sources::Sources;
-use sr_verdict::{Outside, Verdict, reason_in, status_of, verdicts_of};
+use sr_verdict::{Limits, Outside, Verdict, reason_in, status_of, verdicts_of};
 
 /// Why nothing can be judged of captures whose clocks can't be told, or of a ring where each has both ways.
 fn reason_outside(known: Known, are_both_ways: bool) -> Option<Reason> {
@@ -18,7 +18,7 @@ fn reason_outside(known: Known, are_both_ways: bool) -> Option<Reason> {
 }
 
 /// What is known of the captures besides their figures.
-fn outside_of(known: Known, are_both_ways: bool, dropped: Sides) -> Outside {
+fn outside_of(known: Known, are_both_ways: bool, dropped: Sides, limits: Limits) -> Outside {
     Outside {
         reason: reason_outside(known, are_both_ways),
         ahead: match known {
@@ -26,6 +26,7 @@ fn outside_of(known: Known, are_both_ways: bool, dropped: Sides) -> Outside {
             Known::Nothing | Known::Unjudged(_) => None,
         },
         dropped,
+        limits,
     }
 }
 
@@ -37,8 +38,9 @@ pub fn judge<R: AllocGlobal>(
     known: Known,
     are_both_ways: bool,
     dropped: Sides,
+    limits: Limits,
 ) -> Result<Vec<Verdict>, Ended> {
-    let outside = outside_of(known, are_both_ways, dropped);
+    let outside = outside_of(known, are_both_ways, dropped, limits);
     match verdicts_of(rt.alloc(), report, sources, outside) {
         Ok(verdicts) => Ok(verdicts),
         Err(_) => Err(Ended::By(ScriptFault::NoMemory)),
