@@ -307,7 +307,7 @@ told_apart r nodes own telling counters =
     (list_any is_sided telling) (wrong_told r) (lost_told_in r.subject nodes) (list_any (has_rest B) telling)
     (list_any (has_rest A) telling) (others_told r) (list_any (λ h. shows_repeated h.figures) own) (list_any (λ h. shows_late h.figures) own)
 
-told_of_single : (r : Report) (nodes : List (Mac × Node)) (own telling counters : List Heard) → IsSingleHearing r nodes own telling counters →
+pub told_of_single : (r : Report) (nodes : List (Mac × Node)) (own telling counters : List Heard) → IsSingleHearing r nodes own telling counters →
     told_faulty r nodes own telling counters ≡ (nodes_tell r.subject nodes || has_faults r)
 told_of_single r nodes own telling counters heard = told_apart r nodes own telling counters ∙ by (two_told nodes) refl
   where
@@ -328,7 +328,7 @@ told_of_single r nodes own telling counters heard = told_apart r nodes own telli
     by false e = ap (λ b. lost_told_in r.subject nodes || b) (figures e)
 
 -- without those that recorders may have made
-any_left : {X : Type 0} (p q : X → Bool) (xs : List X) → list_any p xs ≡ false → list_any p (filter q xs) ≡ false
+pub any_left : {X : Type 0} (p q : X → Bool) (xs : List X) → list_any p xs ≡ false → list_any p (filter q xs) ≡ false
 any_left p q [] none = refl
 any_left p q (x ∷ xs) none = by (q x) (any_left p q xs (none_right (p x) (list_any p xs) none))
   where
@@ -337,10 +337,10 @@ any_left p q (x ∷ xs) none = by (q x) (any_left p q xs (none_right (p x) (list
     by false rest = rest
 
 -- what is told behind faults, whatever these are
-abbrev Behind : Ports → Sides → List Verdict → List Verdict → List Verdict
+abbrev pub Behind : Ports → Sides → List Verdict → List Verdict → List Verdict
 Behind ports dropped notices vs = (vs ++ dropped_told ports dropped) ++ notices
 
-behind_told : (ports : Ports) (dropped : Sides) (notices vs : List Verdict) (faulty : Bool) → Tells faulty vs → Tells false notices
+pub behind_told : (ports : Ports) (dropped : Sides) (notices vs : List Verdict) (faulty : Bool) → Tells faulty vs → Tells false notices
     → Tells faulty (Behind ports dropped notices vs)
 behind_told ports dropped notices vs faulty told none =
     subst (λ (b : Bool). Tells b (Behind ports dropped notices vs)) (or_none (faulty || false) false refl ∙ or_none faulty false refl)

@@ -5,3 +5,6 @@ pub mod ExactLemmas
 pub mod SeeingLemmas
 pub mod ToldLemmas
 pub mod EndingLemmas
+pub mod LimitLemmas
+pub mod LimitedLemmas
+pub mod LimitCaseLemmas

@@ -4,3 +4,5 @@ pub mod Counted
 pub mod Exact
 pub mod Seeing
 pub mod Ending
+pub mod Limited
+pub mod LimitCases

@@ -3,6 +3,8 @@
 ghost use Rattle.sr_capture_laws.specs.Counted.{ReportsCountEachNumber, CountersCountEachNumber};
 ghost use Rattle.sr_capture_laws.specs.Ending.{VerdictsEndAsJudged};
 ghost use Rattle.sr_capture_laws.specs.Exact.{ChecksAreByArrivals};
+ghost use Rattle.sr_capture_laws.specs.Limited.{VerdictsEndByLimits};
+ghost use Rattle.sr_capture_laws.specs.LimitCases.{NoLimitsLeaveEachFault, VerdictsAreOfTheRun, WorkedLimitsEndChecks, FalseEndsAreRefused};
 ghost use Rattle.sr_capture_laws.specs.Lossless.{InnerSpansLeaveOut, EdgesAreWideEnough, MirrorsTellNoFault, RecordersTellNoFault, TwoReadingsTellNoFault};
 ghost use Rattle.sr_capture_laws.specs.Seeing.{FlowsAreByArrivals, SightIsByArrivals};
 
@@ -59,6 +61,35 @@ pub fn checks_are_by_arrivals()
 /// no recorder dropped packets, and the user has no limits of his own.
 pub fn verdicts_end_as_judged()
     ensures { VerdictsEndAsJudged }
+{}
+
+/// With whatever limits of a user the verdicts end a check with 4 where nothing can be judged, by the figures, for something besides them, or
+/// since recorders may have made each fault beyond the limits; else with 3 where such a fault stands: more lost than the limit, a pair of
+/// copies further apart than the limit, or any fault of another kind; else with 0.
+pub fn verdicts_end_by_limits()
+    ensures { VerdictsEndByLimits }
+{}
+
+/// Where a user has no limits, a fault stands beyond them exactly where the figures, or the frames of sources, tell of one: so a check ends
+/// then as `verdicts_end_as_judged` says.
+pub fn no_limits_leave_each_fault()
+    ensures { NoLimitsLeaveEachFault }
+{}
+
+/// A report of arrivals has one list of verdicts, and so one end of a check.
+pub fn verdicts_are_of_the_run()
+    ensures { VerdictsAreOfTheRun }
+{}
+
+/// Checks worked out: a loss of two sources of just the limit and of one frame more, and copies as far apart as a limit and further.
+pub fn worked_limits_end_checks()
+    ensures { WorkedLimitsEndChecks }
+{}
+
+/// No check takes a limit for one of each source, a loss of just the limit for a fault, or a pair for near since its copy by B came first; none
+/// leaves out a dead port or a cut for a limit, and none judges by limits where nothing can be judged.
+pub fn false_ends_are_refused()
+    ensures { FalseEndsAreRefused }
 {}
 
 /// Which flows both captures see, whether both recorders are mirrors, and whether frames of a flow came by one side alone, is a function of

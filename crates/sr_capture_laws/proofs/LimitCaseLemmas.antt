@@ -1,0 +1,170 @@
+-- Checks by limits worked out.
+use Rattle.std.proofs.Common.{◌≡◌, ℕ, ◌<◌, Bool, true, false, cond, ◌&&◌, ◌||◌, List, [], ◌∷◌, ◌++◌, Option, None, Some, All, arith, refl, sym, ap, ap₂, ◌∙◌}
+use Rattle.std.specs.List.{list_any}
+use Rattle.std.proofs.lemmas.Bool.{and_right, or_from, or_left, or_right}
+use Rattle.std.proofs.lemmas.List.Elements.{All-head, All-tail}
+use Rattle.sr_frame.specs.declared.fields.Mac.{Mac}
+use Rattle.sr_audit.specs.declared.row.Row.{Row}
+use Rattle.sr_audit.specs.declared.source.Source.{Source}
+use Rattle.sr_audit.specs.declared.span.Spans.{Spans}
+use Rattle.sr_audit.specs.Shown.{figures_of}
+use Rattle.sr_capture_audit.specs.declared.figures.Report.{Report}
+use Rattle.sr_capture_audit.specs.declared.judgement.Reason.{Reason}
+use Rattle.sr_capture_audit.specs.declared.network.Network.{Network}
+use Rattle.sr_capture_audit.specs.declared.network.Network.TheVariants.{Prp, Hsr}
+use Rattle.sr_capture_audit.specs.Faults.{have_faults}
+use Rattle.sr_sources.specs.declared.source.Source.{Source as Node}
+use Rattle.sr_sources.specs.declared.table.Sources.{Sources}
+use Rattle.sr_verdict.specs.declared.heard.Heard.{Heard}
+use Rattle.sr_verdict.specs.declared.judging.Outside.{Outside}
+use Rattle.sr_verdict.specs.declared.limits.Limits.{Limits}
+use Rattle.sr_verdict.specs.declared.verdict.Verdict.{Verdict}
+use Rattle.sr_verdict.specs.Drops.{settled, dropped_told}
+use Rattle.sr_verdict.specs.Heards.{AreHeard}
+use Rattle.sr_verdict.specs.Told.{why_told, verdicts_for, limited_faults, AreVerdictsOf}
+use Rattle.sr_verdict.specs.Verdicts.{single_in, sided_verdicts, notice_verdicts, is_a_fault, block_status}
+use Rattle.sr_capture_laws.specs.Ending.{nodes_tell, faults_told}
+use Rattle.sr_capture_laws.specs.Exact.{judged_by}
+use Rattle.sr_capture_laws.specs.Limited.{lack_beyond, loss_beyond, is_wide, come_again, come_late, faulty_anyway, stands_beyond, may_be_dropped, status_in}
+use Rattle.sr_capture_laws.specs.LimitCases.{AreOfArrivals, VerdictsAreOfTheRun, six_lost, one_wide, limits_of, IsCheckOf, IsQuiet, WorkedLimitsEndChecks, FalseEndsAreRefused}
+use Rattle.sr_capture_laws.proofs.LimitedLemmas.{verdicts_end_limited}
+
+-- what is heard of sources of arrivals is one list
+same_heard : (spans : Spans) (es : List (Mac × Source)) (hs gs : List Heard) → AreOfArrivals spans es → AreHeard spans es hs → AreHeard spans es gs → hs ≡ gs
+same_heard spans [] hs gs all are also = are ∙ sym also
+same_heard spans (e ∷ es) hs gs all are also =
+    let own = All-head _ e es all in
+    let row : are.0 ≡ also.0 = are.2.row_is own.arrivals own.taken ∙ sym (also.2.row_is own.arrivals own.taken) in
+    let rest : are.1 ≡ also.1 = same_heard spans es are.1 also.1 (All-tail _ e es all) are.4 also.4 in
+    are.3 ∙ ap₂ (λ (r : Option Row) (l : List Heard). record { mac = e.0; figures = figures_of e.1; sided = r } ∷ l) row rest ∙ sym also.3
+
+pub verdicts_are_one : VerdictsAreOfTheRun
+verdicts_are_one r sources outside vs ws of are also =
+    let nodes = sources.sources.entries in
+    let own : are.own ≡ also.own =
+    are.are_heard.own_is ∙ ap (single_in nodes)
+    (same_heard r.spans _ are.are_heard.all_own also.are_heard.all_own of.own are.are_heard.are_heard.are_own also.are_heard.are_heard.are_own)
+    ∙ sym also.are_heard.own_is in
+    let telling : are.telling ≡ also.telling =
+    are.are_heard.telling_is ∙ ap (single_in nodes)
+    (same_heard r.spans _ are.are_heard.all_telling also.are_heard.all_telling of.telling are.are_heard.are_heard.are_telling
+    also.are_heard.are_heard.are_telling) ∙ sym also.are_heard.telling_is in
+    let counters : are.counters ≡ also.counters =
+    are.are_heard.counters_is ∙ ap (single_in nodes)
+    (same_heard r.spans _ are.are_heard.all_counters also.are_heard.all_counters of.counters are.are_heard.are_heard.are_counters
+    also.are_heard.are_heard.are_counters) ∙ sym also.are_heard.counters_is in
+    are.verdicts ∙ ap (λ (l : List Heard). told l are.telling are.counters) own ∙ ap (λ (l : List Heard). told also.own l are.counters) telling
+    ∙ ap (λ (l : List Heard). told also.own also.telling l) counters ∙ sym also.verdicts
+  where
+    told : List Heard → List Heard → List Heard → List Verdict
+    told own telling counters =
+        verdicts_for (why_told outside.reason r)
+        (settled r.subject.ports outside.dropped (limited_faults outside.limits r sources own telling counters)
+        ++ dropped_told r.subject.ports outside.dropped ++ notice_verdicts r sources.sources.entries outside.ahead counters)
+
+-- how a check ends that judges
+abbrev ending : Bool → ℕ
+ending b = cond b 3 0
+
+status_is : (limits : Limits) (own telling : List Heard) (r : Report) (sources : Sources) (outside : Outside) (vs : List Verdict)
+    (check : IsCheckOf limits own telling r sources outside vs) (b : Bool) →
+    stands_beyond limits r sources.sources.entries own telling check.are.counters ≡ b → block_status vs ≡ ending b
+status_is limits own telling r sources outside vs check b is =
+    (verdicts_end_limited r sources outside vs check.are).status
+    ∙ ap (λ (o : Option Reason). status_in (judged_by o (stands outside.limits check.are.own check.are.telling)) doubt) check.judges
+    ∙ ap (λ (l : Limits). status_in (judged_by None (stands l check.are.own check.are.telling)) doubt) check.limits_are
+    ∙ ap (λ (l : List Heard). status_in (judged_by None (stands limits l check.are.telling)) doubt) check.own_is
+    ∙ ap (λ (l : List Heard). status_in (judged_by None (stands limits own l)) doubt) check.telling_is
+    ∙ ap (λ t. status_in (judged_by None t) doubt) is
+    ∙ ap (status_in (judged_by None b)) none_dropped
+    ∙ by b
+  where
+    stands : Limits → List Heard → List Heard → Bool
+    stands l hs gs = stands_beyond l r sources.sources.entries hs gs check.are.counters
+
+    doubt : Bool
+    doubt = may_be_dropped outside.limits r.subject.ports outside.dropped (faults_told r sources outside vs check.are) check.are.own
+
+    none_dropped : doubt ≡ false
+    none_dropped = ap (λ t. t && _) check.dropped
+
+    by : (b : Bool) → status_in (judged_by None b) false ≡ ending b
+    by true = refl
+    by false = refl
+
+-- a fault by what was lost, by how far apart copies came, or by what no limit is for
+by_loss : (n f m l w : Bool) → l ≡ true → (n || (f || (m || (l || w)))) ≡ true
+by_loss n f m l w e = or_right n _ (or_right f _ (or_right m _ (or_left l w e)))
+
+by_skew : (n f m l w : Bool) → w ≡ true → (n || (f || (m || (l || w)))) ≡ true
+by_skew n f m l w e = or_right n _ (or_right f _ (or_right m _ (or_right l w e)))
+
+by_others : (n f m l w : Bool) → f ≡ true → (n || (f || (m || (l || w)))) ≡ true
+by_others n f m l w e = or_right n _ (or_left f _ e)
+
+by_none : (n f m l w : Bool) → n ≡ false → f ≡ false → m ≡ false → l ≡ false → w ≡ false → (n || (f || (m || (l || w)))) ≡ false
+by_none n f m l w a b c d e = or_from n _ a (or_from f _ b (or_from m _ c (or_from l w d e)))
+
+-- no row is at the end of these sources
+six_sided : (network : Network) (m n : Mac) → list_any is_a_fault (sided_verdicts network (six_lost m n)) ≡ false
+six_sided Prp m n = refl
+six_sided Hsr m n = refl
+
+wide_sided : (network : Network) (m : Mac) → list_any is_a_fault (sided_verdicts network (one_wide m)) ≡ false
+wide_sided Prp m = refl
+wide_sided Hsr m = refl
+
+none_lack : (limit : Option ℕ) (r : Report) (counters : List Heard) → counters ≡ [] → lack_beyond limit r counters ≡ false
+none_lack limit r counters none = ap (lack_beyond limit r) none ∙ and_right _ false refl
+
+within : (m n : Mac) (r : Report) (sources : Sources) (outside : Outside) (vs : List Verdict)
+    (check : IsCheckOf (limits_of (Some 6) None) (six_lost m n) (six_lost m n) r sources outside vs) → IsQuiet r sources check.are.counters →
+    block_status vs ≡ 0
+within m n r sources outside vs check quiet =
+    status_is (limits_of (Some 6) None) (six_lost m n) (six_lost m n) r sources outside vs check false
+    (by_none _ (faulty_anyway r (six_lost m n) (six_lost m n)) (lack_beyond (Some 6) r check.are.counters) (loss_beyond (Some 6) (six_lost m n))
+    (list_any (is_wide None) (six_lost m n)) quiet.nodes
+    (or_from (list_any is_a_fault (sided_verdicts r.subject.network (six_lost m n))) _ (six_sided r.subject.network m n)
+    (or_from (have_faults r.counts) _ quiet.counts refl)) (none_lack (Some 6) r check.are.counters quiet.none_missing) refl refl)
+
+beyond : (m n : Mac) (r : Report) (sources : Sources) (outside : Outside) (vs : List Verdict) →
+    IsCheckOf (limits_of (Some 5) None) (six_lost m n) (six_lost m n) r sources outside vs → block_status vs ≡ 3
+beyond m n r sources outside vs check =
+    status_is (limits_of (Some 5) None) (six_lost m n) (six_lost m n) r sources outside vs check true
+    (by_loss (nodes_tell r.subject sources.sources.entries) (faulty_anyway r (six_lost m n) (six_lost m n)) (lack_beyond (Some 5) r check.are.counters)
+    (loss_beyond (Some 5) (six_lost m n)) (list_any (is_wide None) (six_lost m n)) refl)
+
+near : (m : Mac) (r : Report) (sources : Sources) (outside : Outside) (vs : List Verdict)
+    (check : IsCheckOf (limits_of None (Some 1500)) (one_wide m) (one_wide m) r sources outside vs) → IsQuiet r sources check.are.counters →
+    block_status vs ≡ 0
+near m r sources outside vs check quiet =
+    status_is (limits_of None (Some 1500)) (one_wide m) (one_wide m) r sources outside vs check false
+    (by_none _ (faulty_anyway r (one_wide m) (one_wide m)) (lack_beyond None r check.are.counters) (loss_beyond None (one_wide m))
+    (list_any (is_wide (Some 1500)) (one_wide m)) quiet.nodes
+    (or_from (list_any is_a_fault (sided_verdicts r.subject.network (one_wide m))) _ (wide_sided r.subject.network m)
+    (or_from (have_faults r.counts) _ quiet.counts refl)) (none_lack None r check.are.counters quiet.none_missing) refl refl)
+
+far : (m : Mac) (r : Report) (sources : Sources) (outside : Outside) (vs : List Verdict) →
+    IsCheckOf (limits_of None (Some 1499)) (one_wide m) (one_wide m) r sources outside vs → block_status vs ≡ 3
+far m r sources outside vs check =
+    status_is (limits_of None (Some 1499)) (one_wide m) (one_wide m) r sources outside vs check true
+    (by_skew (nodes_tell r.subject sources.sources.entries) (faulty_anyway r (one_wide m) (one_wide m)) (lack_beyond None r check.are.counters)
+    (loss_beyond None (one_wide m)) (list_any (is_wide (Some 1499)) (one_wide m)) refl)
+
+pub limits_worked : WorkedLimitsEndChecks
+limits_worked = record { within = within; beyond = beyond; near = near; far = far }
+
+-- what a check does not end with
+pub ends_refused : FalseEndsAreRefused
+ends_refused = record {
+  by_source = λ m n r sources outside vs check sound. absurd (omega (arith, beyond m n r sources outside vs check, sound));
+  at_limit = λ m n r sources outside vs check quiet faulty. absurd (omega (arith, within m n r sources outside vs check quiet, faulty));
+  by_order = λ m r sources outside vs check sound. absurd (omega (arith, far m r sources outside vs check, sound));
+  of_rows = λ limits own telling r sources outside vs check row sound. absurd (omega (arith, sound,
+  status_is limits own telling r sources outside vs check true
+  (by_others (nodes_tell r.subject sources.sources.entries) (faulty_anyway r own telling) (lack_beyond limits.lost r check.are.counters)
+  (loss_beyond limits.lost telling) (list_any (is_wide limits.skew) own) (or_left _ _ row))));
+  unjudged = λ r sources outside vs why are is other. other ((verdicts_end_limited r sources outside vs are).status
+  ∙ ap (λ (o : Option Reason). status_in (judged_by o (stands_beyond outside.limits r sources.sources.entries are.own are.telling are.counters))
+  (may_be_dropped outside.limits r.subject.ports outside.dropped (faults_told r sources outside vs are) are.own)) is);
+}

@@ -1,0 +1,129 @@
+-- Checks by limits worked out, and what they are not.
+use Rattle.std.specs.Prelude.{◌≡◌, ℕ, Bool, true, false, List, [], ◌∷◌, Option, None, Some, ℤ, pos, negsuc, All, ◌||◌}
+use Rattle.std.specs.List.{list_any}
+use Rattle.sr_frame.specs.declared.fields.Mac.{Mac}
+use Rattle.sr_audit.specs.declared.arrival.Arrival.{Arrival}
+use Rattle.sr_audit.specs.declared.source.Figures.{Figures}
+use Rattle.sr_audit.specs.declared.source.Source.{Source}
+use Rattle.sr_audit.specs.declared.span.Spans.{Spans}
+use Rattle.sr_audit.specs.Taken.{HasTaken}
+use Rattle.sr_capture_audit.specs.declared.figures.Report.{Report}
+use Rattle.sr_capture_audit.specs.declared.judgement.Reason.{Reason}
+use Rattle.sr_capture_audit.specs.Faults.{have_faults, has_faults}
+use Rattle.sr_sources.specs.declared.source.Source.{Source as Node}
+use Rattle.sr_sources.specs.declared.table.Sources.{Sources}
+use Rattle.sr_verdict.specs.declared.heard.Heard.{Heard}
+use Rattle.sr_verdict.specs.declared.judging.Outside.{Outside}
+use Rattle.sr_verdict.specs.declared.limits.Limits.{Limits}
+use Rattle.sr_verdict.specs.declared.verdict.Verdict.{Verdict}
+use Rattle.sr_verdict.specs.Drops.{any_dropped}
+use Rattle.sr_verdict.specs.Told.{why_told, AreVerdictsOf}
+use Rattle.sr_verdict.specs.Verdicts.{telling_entries, sided_verdicts, IsSingleHearing, is_a_fault, block_status}
+use Rattle.sr_capture_laws.specs.Ending.{nodes_tell, HasNoLimits}
+use Rattle.sr_capture_laws.specs.Limited.{stands_beyond}
+
+-- Where a user has no limits, a fault stands beyond them exactly where the frames of sources, or the figures, tell of one.
+abbrev pub NoLimitsLeaveEachFault : Type 0
+NoLimitsLeaveEachFault = (r : Report) (sources : Sources) (outside : Outside) (own telling counters : List Heard) → HasNoLimits outside
+    → IsSingleHearing r sources.sources.entries own telling counters
+    → stands_beyond outside.limits r sources.sources.entries own telling counters ≡ (nodes_tell r.subject sources.sources.entries || has_faults r)
+
+-- what is kept of a source is of arrivals that came
+pub record IsOfArrivals (spans : Spans) (s : Source) : Type 0 where
+  pub arrivals : List Arrival
+  pub taken : HasTaken spans arrivals s
+
+abbrev pub AreOfArrivals : Spans → List (Mac × Source) → Type 0
+AreOfArrivals spans es = All (λ (e : Mac × Source). IsOfArrivals spans e.1) es
+
+-- so of all sources of a report, of those that tell what was lost, and of the counters
+pub record IsReportOfArrivals (r : Report) : Type 0 where
+  pub own : AreOfArrivals r.spans r.audit.sources.entries
+  pub telling : AreOfArrivals r.spans (telling_entries r.judged r.audit)
+  pub counters : AreOfArrivals r.spans (telling_entries r.counters r.audit)
+
+-- A report of arrivals has one list of verdicts.
+abbrev pub VerdictsAreOfTheRun : Type 0
+VerdictsAreOfTheRun = (r : Report) (sources : Sources) (outside : Outside) (vs ws : List Verdict) → IsReportOfArrivals r
+    → AreVerdictsOf r sources outside vs → AreVerdictsOf r sources outside ws → vs ≡ ws
+
+-- what is heard of a source of which so many frames came by A alone, none of them in a row at its end, and whose copies came so far apart
+abbrev pub heard_with : Mac → ℕ → ℤ → ℤ → Heard
+heard_with mac alone least greatest = record {
+  mac = mac;
+  figures = record {
+    tally = record {
+      rx = record { a = 100; b = 100 };
+      pairs = 97;
+      alone = record { a = alone; b = 0 };
+      repeats = record { a = 0; b = 0 };
+    };
+    edges = record { a = 0; b = 0 };
+    neither = 0;
+    order = record { a = 0; b = 0 };
+    jumps = 0;
+    restarts = 0;
+    skews = record { count = 97; least = least; greatest = greatest; sum = pos 0; classes = 0 ∷ 0 ∷ 97 ∷ 0 ∷ 0 ∷ 0 ∷ 0 ∷ [] };
+  };
+  sided = None;
+}
+
+-- two sources, of each of which three frames came by A alone
+abbrev pub six_lost : Mac → Mac → List Heard
+six_lost m n = heard_with m 3 (pos 0) (pos 0) ∷ heard_with n 3 (pos 0) (pos 0) ∷ []
+
+-- a source whose copies by B came up to 1.5 ms before those by A
+abbrev pub one_wide : Mac → List Heard
+one_wide m = heard_with m 0 (negsuc 1499999) (pos 1000) ∷ []
+
+abbrev pub limits_of : Option ℕ → Option ℕ → Limits
+limits_of lost skew = record { lost = lost; skew = skew }
+
+-- the verdicts on a report that can be judged, where no recorder dropped packets, by limits and of what is heard of its sources
+pub record IsCheckOf (limits : Limits) (own telling : List Heard) (r : Report) (sources : Sources) (outside : Outside) (vs : List Verdict)
+    : Type 0 where
+  pub are : AreVerdictsOf r sources outside vs
+  pub limits_are : outside.limits ≡ limits
+  pub own_is : are.own ≡ own
+  pub telling_is : are.telling ≡ telling
+  pub judges : why_told outside.reason r ≡ None
+  pub dropped : any_dropped outside.dropped ≡ false
+
+-- its other figures tell of no fault
+pub record IsQuiet (r : Report) (sources : Sources) (counters : List Heard) : Type 0 where
+  pub none_missing : counters ≡ []
+  pub nodes : nodes_tell r.subject sources.sources.entries ≡ false
+  pub counts : have_faults r.counts ≡ false
+
+-- how checks end, worked out
+pub record WorkedLimitsEndChecks : Type 0 where
+  -- six lost frames are within a limit of six, and beyond one of five, though of each source three were lost
+  pub within : (m n : Mac) (r : Report) (sources : Sources) (outside : Outside) (vs : List Verdict)
+      (check : IsCheckOf (limits_of (Some 6) None) (six_lost m n) (six_lost m n) r sources outside vs) → IsQuiet r sources check.are.counters → block_status vs ≡ 0
+  pub beyond : (m n : Mac) (r : Report) (sources : Sources) (outside : Outside) (vs : List Verdict)
+      (check : IsCheckOf (limits_of (Some 5) None) (six_lost m n) (six_lost m n) r sources outside vs) → block_status vs ≡ 3
+  -- 1.5 ms are within a limit of 1500 us, and beyond one of 1499 us, whichever copy came first
+  pub near : (m : Mac) (r : Report) (sources : Sources) (outside : Outside) (vs : List Verdict)
+      (check : IsCheckOf (limits_of None (Some 1500)) (one_wide m) (one_wide m) r sources outside vs) → IsQuiet r sources check.are.counters → block_status vs ≡ 0
+  pub far : (m : Mac) (r : Report) (sources : Sources) (outside : Outside) (vs : List Verdict)
+      (check : IsCheckOf (limits_of None (Some 1499)) (one_wide m) (one_wide m) r sources outside vs) → block_status vs ≡ 3
+
+-- statuses that a check does not end with
+pub record FalseEndsAreRefused : Type 0 where
+  -- a limit is of each source, and not of what a LAN lost of all
+  pub by_source : (m n : Mac) (r : Report) (sources : Sources) (outside : Outside) (vs : List Verdict) →
+      IsCheckOf (limits_of (Some 5) None) (six_lost m n) (six_lost m n) r sources outside vs → block_status vs ≡ 0 → ⊥
+  -- a loss of just the limit is a fault
+  pub at_limit : (m n : Mac) (r : Report) (sources : Sources) (outside : Outside) (vs : List Verdict)
+      (check : IsCheckOf (limits_of (Some 6) None) (six_lost m n) (six_lost m n) r sources outside vs) → IsQuiet r sources check.are.counters →
+      block_status vs ≡ 3 → ⊥
+  -- a pair is far apart only where its copy by A came first
+  pub by_order : (m : Mac) (r : Report) (sources : Sources) (outside : Outside) (vs : List Verdict) →
+      IsCheckOf (limits_of None (Some 1499)) (one_wide m) (one_wide m) r sources outside vs → block_status vs ≡ 0 → ⊥
+  -- a limit of losses is one of dead ports and cuts too
+  pub of_rows : (limits : Limits) (own telling : List Heard) (r : Report) (sources : Sources) (outside : Outside) (vs : List Verdict) →
+      IsCheckOf limits own telling r sources outside vs → list_any is_a_fault (sided_verdicts r.subject.network telling) ≡ true →
+      block_status vs ≡ 0 → ⊥
+  -- a limit judges where nothing can be judged
+  pub unjudged : (r : Report) (sources : Sources) (outside : Outside) (vs : List Verdict) (why : Reason) → AreVerdictsOf r sources outside vs →
+      why_told outside.reason r ≡ Some why → (block_status vs ≡ 4 → ⊥) → ⊥
