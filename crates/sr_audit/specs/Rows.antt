@@ -91,15 +91,15 @@ row_ended spans false true time r = if is_beyond spans A time then None else row
 row_ended spans false false time r = None
 
 -- of two rows the one of more frames, and of equal ones the first
-abbrev pub longest : Option Row → Option Row → Option Row
-longest best None = best
-longest None (Some r) = Some r
-longest (Some best) (Some r) = if nat_lt best.frames r.frames then Some r else Some best
+abbrev pub larger_row : Option Row → Option Row → Option Row
+larger_row best None = best
+larger_row None (Some r) = Some r
+larger_row (Some best) (Some r) = if nat_lt best.frames r.frames then Some r else Some best
 
 -- the row at the end and the longest one that ended, with a number more
 abbrev pub rows_with : Spans → Bool → Bool → ℕ → Rows → Rows
 rows_with spans a b time rs =
-    record { at_end = row_with spans a b time rs.at_end; closed = longest rs.closed (row_ended spans a b time rs.at_end) }
+    record { at_end = row_with spans a b time rs.at_end; closed = larger_row rs.closed (row_ended spans a b time rs.at_end) }
 
 -- with so many numbers more of a stretch, from one on
 abbrev pub rows_on : Spans → List Placed → ℤ → ℕ → Rows → Rows

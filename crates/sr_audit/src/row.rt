@@ -2,7 +2,7 @@
 
 ghost use Rattle.std.specs.Prelude.{◌≡◌};
 ghost use Rattle.sr_dup_window.specs.Windows.{window_of};
-ghost use Rattle.sr_audit.specs.Rows.{longer, row_with, row_at, row_ended, longest, rows_with, rows_begun, rows_kept, shown_row, kept_number};
+ghost use Rattle.sr_audit.specs.Rows.{longer, row_with, row_at, row_ended, larger_row, rows_with, rows_begun, rows_kept, shown_row, kept_number};
 
 use crate::moments::Moments;
 use crate::numbers::{KEPT_NUMBERS, Numbers};
@@ -91,8 +91,8 @@ fn row_ended(row: Option<Row>, came: Came, time: u64, spans: &Spans) -> Option<R
 }
 
 /// Of two rows the one of more frames, and of equal ones the first.
-fn longest(best: Option<Row>, row: Option<Row>) -> Option<Row>
-    ensures { result ≡ longest best row }
+fn larger_row(best: Option<Row>, row: Option<Row>) -> Option<Row>
+    ensures { result ≡ larger_row best row }
 {
     match (best, row) {
         (Some(best), Some(row)) if best.frames < row.frames => Some(row),
@@ -125,7 +125,7 @@ impl Rows {
         let ended = row_ended(self.at_end, came, time, spans);
         Rows {
             at_end: row_with(self.at_end, came, time, spans),
-            closed: longest(self.closed, ended),
+            closed: larger_row(self.closed, ended),
         }
     }
 }
