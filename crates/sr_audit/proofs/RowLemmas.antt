@@ -1,4 +1,4 @@
--- The row at the end of a stretch, with one arrival more.
+-- The rows of the numbers of stretches, with one arrival more.
 use Rattle.std.proofs.Common.{◌≡◌, ℕ, zero, suc, ◌+◌, ◌-◌, ◌*◌, ◌%◌, ◌<◌, ◌≤◌, Bool, true, false, cond, ◌||◌, ◌⊎◌, List, [], ◌∷◌, Option, None, Some, ℤ, pos, negsuc, arith, refl, sym, ap, ◌∙◌, subst, inl, inr}
 use Rattle.std.specs.Prelude.{slice_index_or, nat_lt, ◌+ℤ◌, ◌-ℤ◌, ◌<ℤ◌, ◌≤ℤ◌}
 use Rattle.std.specs.Ordering.{int_eq}
@@ -15,7 +15,7 @@ use Rattle.sr_dup_window.specs.Windows.{window_of, has_of}
 use Rattle.sr_dup_window.specs.WindowLemmas.{has-by-family}
 use Rattle.sr_audit.specs.declared.arrival.Arrival.{Arrival}
 use Rattle.sr_audit.specs.declared.numbers.Numbers.{Numbers}
-use Rattle.sr_audit.specs.declared.row.Row.{Row}
+use Rattle.sr_audit.specs.declared.row.Rows.{Rows}
 use Rattle.sr_audit.specs.declared.side.Side.{Side}
 use Rattle.sr_audit.specs.declared.side.Side.TheVariants.{A, B}
 use Rattle.sr_audit.specs.declared.span.Spans.{Spans}
@@ -25,7 +25,7 @@ use Rattle.sr_audit.specs.Following.{family_in, KeepsFigures}
 use Rattle.sr_audit.specs.Lanes.{side_lane}
 use Rattle.sr_audit.specs.Limits.{kept_numbers, place_in, epoch_gap}
 use Rattle.sr_audit.specs.Looks.{step_to, step_by}
-use Rattle.sr_audit.specs.Rows.{row_with, row_on, row_of, kept_number, row_kept, row_by, row_passed, row_before, KeepsRow}
+use Rattle.sr_audit.specs.Rows.{row_with, row_on, row_of, kept_number, rows_with, rows_on, no_rows, rows_begun, rows_left, rows_of, rows_kept, rows_by, rows_passed, rows_before, KeepsRows}
 use Rattle.sr_audit.specs.Stretches.{Placed, copy_as, came, top_number, lies_from, goes_to, stretch_begun, current, with_arrival, stretches}
 use Rattle.sr_audit.specs.Taken.{IsKeptIn}
 use Rattle.sr_audit.proofs.ExtentLemmas.{length_is, greater_ahead, greater_behind, lesser_ahead, lesser_down, lesser_up}
@@ -36,40 +36,40 @@ use Rattle.sr_audit.proofs.FrameLemmas.{came-other, first_other}
 more_on : (n : ℤ) (j k : ℕ) → (n +ℤ pos j) +ℤ pos k ≡ n +ℤ pos (j + k)
 more_on n j k = omega (arith, ints)
 
-split : (spans : Spans) (s : List Placed) (n : ℤ) (j k : ℕ) (r : Option Row) →
-    row_on spans s (n +ℤ pos j) k (row_on spans s n j r) ≡ row_on spans s n (j + k) r
-split spans s n j zero r = ap (λ i. row_on spans s n i r) (none_more j)
+split : (spans : Spans) (s : List Placed) (n : ℤ) (j k : ℕ) (r : Rows) →
+    rows_on spans s (n +ℤ pos j) k (rows_on spans s n j r) ≡ rows_on spans s n (j + k) r
+split spans s n j zero r = ap (λ i. rows_on spans s n i r) (none_more j)
   where
     none_more : (j : ℕ) → j ≡ j + 0
     none_more j = omega arith
 split spans s n j (suc k) r =
     let at = more_on n j k in
-    ap (λ m. row_with spans (came A m s) (came B m s) (first_time m s) (row_on spans s (n +ℤ pos j) k (row_on spans s n j r))) at
-    ∙ ap (row_with spans (came A (n +ℤ pos (j + k)) s) (came B (n +ℤ pos (j + k)) s) (first_time (n +ℤ pos (j + k)) s)) (split spans s n j k r)
-    ∙ ap (λ i. row_on spans s n i r) (one_more j k)
+    ap (λ m. rows_with spans (came A m s) (came B m s) (first_time m s) (rows_on spans s (n +ℤ pos j) k (rows_on spans s n j r))) at
+    ∙ ap (rows_with spans (came A (n +ℤ pos (j + k)) s) (came B (n +ℤ pos (j + k)) s) (first_time (n +ℤ pos (j + k)) s)) (split spans s n j k r)
+    ∙ ap (λ i. rows_on spans s n i r) (one_more j k)
   where
     one_more : (j k : ℕ) → suc (j + k) ≡ j + suc k
     one_more j k = omega arith
 
 -- numbers of no frame
-none_on : (spans : Spans) (s : List Placed) (n : ℤ) (k : ℕ) (r : Option Row) →
-    ((side : Side) (i : ℕ) → i < k → came side (n +ℤ pos i) s ≡ false) → row_on spans s n k r ≡ r
+none_on : (spans : Spans) (s : List Placed) (n : ℤ) (k : ℕ) (r : Rows) →
+    ((side : Side) (i : ℕ) → i < k → came side (n +ℤ pos i) s ≡ false) → rows_on spans s n k r ≡ r
 none_on spans s n zero r none = refl
 none_on spans s n (suc k) r none =
     rw (none A k (omega arith), none B k (omega arith)) (none_on spans s n k r (λ side i lt. none side i (omega (arith, lt))))
 
 -- numbers of which a copy more is none
-same_on : (spans : Spans) (y : Placed) (s : List Placed) (n : ℤ) (k : ℕ) (r : Option Row) →
-    ((i : ℕ) → i < k → int_eq (n +ℤ pos i) y.number ≡ false) → row_on spans (y ∷ s) n k r ≡ row_on spans s n k r
+same_on : (spans : Spans) (y : Placed) (s : List Placed) (n : ℤ) (k : ℕ) (r : Rows) →
+    ((i : ℕ) → i < k → int_eq (n +ℤ pos i) y.number ≡ false) → rows_on spans (y ∷ s) n k r ≡ rows_on spans s n k r
 same_on spans y s n zero r other = refl
 same_on spans y s n (suc k) r other =
     let m = n +ℤ pos k in
     let here : int_eq m y.number ≡ false = other k (omega arith) in
-    let ih : row_on spans (y ∷ s) n k r ≡ row_on spans s n k r = same_on spans y s n k r (λ i lt. other i (omega (arith, lt))) in
-    ap (λ b. row_with spans b (came B m (y ∷ s)) (first_time m (y ∷ s)) (row_on spans (y ∷ s) n k r)) (came-other A m y s here)
-    ∙ ap (λ b. row_with spans (came A m s) b (first_time m (y ∷ s)) (row_on spans (y ∷ s) n k r)) (came-other B m y s here)
-    ∙ ap (λ t. row_with spans (came A m s) (came B m s) t (row_on spans (y ∷ s) n k r)) (first_other m y s here)
-    ∙ ap (row_with spans (came A m s) (came B m s) (first_time m s)) ih
+    let ih : rows_on spans (y ∷ s) n k r ≡ rows_on spans s n k r = same_on spans y s n k r (λ i lt. other i (omega (arith, lt))) in
+    ap (λ b. rows_with spans b (came B m (y ∷ s)) (first_time m (y ∷ s)) (rows_on spans (y ∷ s) n k r)) (came-other A m y s here)
+    ∙ ap (λ b. rows_with spans (came A m s) b (first_time m (y ∷ s)) (rows_on spans (y ∷ s) n k r)) (came-other B m y s here)
+    ∙ ap (λ t. rows_with spans (came A m s) (came B m s) t (rows_on spans (y ∷ s) n k r)) (first_other m y s here)
+    ∙ ap (rows_with spans (came A m s) (came B m s) (first_time m s)) ih
 
 -- the least number of a stretch
 lesser_under : (m n : ℤ) → lesser m n ≤ℤ m
@@ -135,10 +135,10 @@ top_is y s = one (top_number (y ∷ s)) (bottom_number (y ∷ s)) _ (size_is (bo
     one t b d e = omega (arith, ints, e)
 
 -- of a stretch whose numbers 1024 and more below the greatest are in a row, the next ones too
-sweep : (spans : Spans) (y : Placed) (s : List Placed) (k : ℕ) →
-    row_on spans (y ∷ s) (top_number (y ∷ s) -ℤ pos 1023) k (row_on spans (y ∷ s) (bottom_number (y ∷ s)) (length_of (y ∷ s) - 1024) None)
-    ≡ row_on spans (y ∷ s) (bottom_number (y ∷ s)) (length_of (y ∷ s) + k - 1024) None
-sweep spans y s k = by (cases_lt len 1024)
+sweep : (spans : Spans) (y : Placed) (s : List Placed) (k : ℕ) (r : Rows) →
+    rows_on spans (y ∷ s) (top_number (y ∷ s) -ℤ pos 1023) k (rows_on spans (y ∷ s) (bottom_number (y ∷ s)) (length_of (y ∷ s) - 1024) r)
+    ≡ rows_on spans (y ∷ s) (bottom_number (y ∷ s)) (length_of (y ∷ s) + k - 1024) r
+sweep spans y s k r = by (cases_lt len 1024)
   where
     b : ℤ
     b = bottom_number (y ∷ s)
@@ -149,8 +149,8 @@ sweep spans y s k = by (cases_lt len 1024)
     len : ℕ
     len = length_of (y ∷ s)
 
-    R : ℤ → ℕ → Option Row → Option Row
-    R n j r = row_on spans (y ∷ s) n j r
+    R : ℤ → ℕ → Rows → Rows
+    R n j r = rows_on spans (y ∷ s) n j r
 
     long_at : 1024 ≤ len → t -ℤ pos 1023 ≡ b +ℤ pos (len - 1024)
     long_at le = go t b len (top_is y s) le
@@ -170,29 +170,29 @@ sweep spans y s k = by (cases_lt len 1024)
         go : (t b : ℤ) (l i j : ℕ) → t +ℤ pos 1 ≡ b +ℤ pos l → l < 1024 → i < j → j ≤ 1024 - l → ((t -ℤ pos 1023) +ℤ pos i) <ℤ b
         go t b l i j e lt f g = omega (arith, ints, e, lt, f, g)
 
-    none_low : (j : ℕ) → len < 1024 → j ≤ 1024 - len → R (t -ℤ pos 1023) j None ≡ None
-    none_low j lt le = none_on spans (y ∷ s) (t -ℤ pos 1023) j None
+    none_low : (j : ℕ) → len < 1024 → j ≤ 1024 - len → R (t -ℤ pos 1023) j r ≡ r
+    none_low j lt le = none_on spans (y ∷ s) (t -ℤ pos 1023) j r
         (λ side i f. not_below side (y ∷ s) ((t -ℤ pos 1023) +ℤ pos i) (below i j lt f le))
 
     nothing : len < 1024 → len - 1024 ≡ 0
     nothing lt = omega (arith, lt)
 
-    by : (len < 1024) ⊎ (1024 ≤ len) → R (t -ℤ pos 1023) k (R b (len - 1024) None) ≡ R b (len + k - 1024) None
+    by : (len < 1024) ⊎ (1024 ≤ len) → R (t -ℤ pos 1023) k (R b (len - 1024) r) ≡ R b (len + k - 1024) r
     by (inr le) =
         let count : (len - 1024) + k ≡ len + k - 1024 = omega (arith, le) in
-        ap (λ n. R n k (R b (len - 1024) None)) (long_at le) ∙ split spans (y ∷ s) b (len - 1024) k None ∙ ap (λ j. R b j None) count
-    by (inl lt) = ap (λ j. R (t -ℤ pos 1023) k (R b j None)) (nothing lt) ∙ short lt (cases_lt (1024 - len) k)
+        ap (λ n. R n k (R b (len - 1024) r)) (long_at le) ∙ split spans (y ∷ s) b (len - 1024) k r ∙ ap (λ j. R b j r) count
+    by (inl lt) = ap (λ j. R (t -ℤ pos 1023) k (R b j r)) (nothing lt) ∙ short lt (cases_lt (1024 - len) k)
       where
-        short : len < 1024 → ((1024 - len) < k) ⊎ (k ≤ 1024 - len) → R (t -ℤ pos 1023) k None ≡ R b (len + k - 1024) None
+        short : len < 1024 → ((1024 - len) < k) ⊎ (k ≤ 1024 - len) → R (t -ℤ pos 1023) k r ≡ R b (len + k - 1024) r
         short lt (inr few) =
             let zero_left : 0 ≡ len + k - 1024 = omega (arith, lt, few) in
-            none_low k lt few ∙ ap (λ j. R b j None) zero_left
+            none_low k lt few ∙ ap (λ j. R b j r) zero_left
         short lt (inl more) =
             let parts : k ≡ (1024 - len) + (k - (1024 - len)) = omega (arith, more) in
             let rest : k - (1024 - len) ≡ len + k - 1024 = omega (arith, lt, more) in
-            ap (λ j. R (t -ℤ pos 1023) j None) parts ∙ sym (split spans (y ∷ s) (t -ℤ pos 1023) (1024 - len) (k - (1024 - len)) None)
+            ap (λ j. R (t -ℤ pos 1023) j r) parts ∙ sym (split spans (y ∷ s) (t -ℤ pos 1023) (1024 - len) (k - (1024 - len)) r)
             ∙ ap (λ r. R ((t -ℤ pos 1023) +ℤ pos (1024 - len)) (k - (1024 - len)) r) (none_low (1024 - len) lt (omega arith))
-            ∙ ap (λ n. R n (k - (1024 - len)) None) (short_at lt) ∙ ap (λ j. R b j None) rest
+            ∙ ap (λ n. R n (k - (1024 - len)) r) (short_at lt) ∙ ap (λ j. R b j r) rest
 
 -- the numbers that the record keeps
 pub wire_up : (z : ℤ) → wire z ≡ (up z + 65535 * down z) % 65536
@@ -220,15 +220,15 @@ pub near_high : (t : ℤ) (k : ℕ) → k < 1024 → ((t -ℤ pos 1023) +ℤ pos
 near_high t k lt = omega (arith, ints, lt)
 
 -- where no copy came, the time says nothing
-any_row : (spans : Spans) (a b : Bool) (t u : ℕ) (r : Option Row) → ((a || b) ≡ true → t ≡ u) → row_with spans a b t r ≡ row_with spans a b u r
-any_row spans true b t u r same = ap (λ v. row_with spans true b v r) (same refl)
-any_row spans false true t u r same = ap (λ v. row_with spans false true v r) (same refl)
+any_row : (spans : Spans) (a b : Bool) (t u : ℕ) (r : Rows) → ((a || b) ≡ true → t ≡ u) → rows_with spans a b t r ≡ rows_with spans a b u r
+any_row spans true b t u r same = ap (λ v. rows_with spans true b v r) (same refl)
+any_row spans false true t u r same = ap (λ v. rows_with spans false true v r) (same refl)
 any_row spans false false t u r same = refl
 
 -- a row by the record is that of the stretch
 kept_on : (spans : Spans) (s : List Placed) (n : Numbers) (moments : List ℕ) →
-    StandsFor kept_numbers (window_of n.seen) (family_in s) (top_number s) → KeepsTimes s moments → (k : ℕ) → k ≤ 1024 → (r : Option Row) →
-    row_kept spans (window_of n.seen) moments k r ≡ row_on spans s (top_number s -ℤ pos 1023) k r
+    StandsFor kept_numbers (window_of n.seen) (family_in s) (top_number s) → KeepsTimes s moments → (k : ℕ) → k ≤ 1024 → (r : Rows) →
+    rows_kept spans (window_of n.seen) moments k r ≡ rows_on spans s (top_number s -ℤ pos 1023) k r
 kept_on spans s n moments stands times zero le r = refl
 kept_on spans s n moments stands times (suc k) le r =
     let t = top_number s in
@@ -243,10 +243,10 @@ kept_on spans s n moments stands times (suc k) le r =
     has-by-family kept_numbers w (family_in s) t m q (side_lane B) (inl refl) stands near carried ∙ family_came s B m in
     let time : (came A m s || came B m s) ≡ true → slice_index_or moments (place_in q) 0 ≡ first_time m s =
     λ some. ap (λ p. slice_index_or moments (place_in p) 0) (sym carried) ∙ times m some near.above in
-    ap (λ b. row_with spans b (has_of kept_numbers w (side_lane B) q) (slice_index_or moments (place_in q) 0) (row_kept spans w moments k r)) at_a
-    ∙ ap (λ b. row_with spans (came A m s) b (slice_index_or moments (place_in q) 0) (row_kept spans w moments k r)) at_b
-    ∙ any_row spans (came A m s) (came B m s) (slice_index_or moments (place_in q) 0) (first_time m s) (row_kept spans w moments k r) time
-    ∙ ap (row_with spans (came A m s) (came B m s) (first_time m s)) (kept_on spans s n moments stands times k (omega (arith, le)) r)
+    ap (λ b. rows_with spans b (has_of kept_numbers w (side_lane B) q) (slice_index_or moments (place_in q) 0) (rows_kept spans w moments k r)) at_a
+    ∙ ap (λ b. rows_with spans (came A m s) b (slice_index_or moments (place_in q) 0) (rows_kept spans w moments k r)) at_b
+    ∙ any_row spans (came A m s) (came B m s) (slice_index_or moments (place_in q) 0) (first_time m s) (rows_kept spans w moments k r) time
+    ∙ ap (rows_with spans (came A m s) (came B m s) (first_time m s)) (kept_on spans s n moments stands times k (omega (arith, le)) r)
 
 -- how far the least number of a stretch lies below its greatest
 pub depth_is : (y : Placed) (s : List Placed) → bottom_number (y ∷ s) ≡ top_number (y ∷ s) -ℤ pos (size_of (top_number (y ∷ s) -ℤ bottom_number (y ∷ s)))
@@ -262,10 +262,11 @@ lt_ne n m lt = false_from_ne_true (int_eq n m) (λ e. crossed ((Decides-int_eq n
     crossed e = omega (arith, ints, lt, e)
 
 -- with a copy ahead of the greatest number
-ahead_row : (spans : Spans) (z : Placed) (before : List Placed) (x : Arrival) (m : ℤ) (k : ℕ) (r : Option Row) →
-    m ≡ top_number (z ∷ before) +ℤ pos k → k < 1024 → KeepsRow spans (z ∷ before) r →
-    KeepsRow spans (copy_as x m ∷ z ∷ before) (row_on spans (z ∷ before) (top_number (z ∷ before) -ℤ pos 1023) k r)
-ahead_row spans z before x m k r is small keeps =
+ahead_row : (spans : Spans) (z : Placed) (before : List Placed) (rest : List (List Placed)) (x : Arrival) (m : ℤ) (k : ℕ) (r : Rows) →
+    m ≡ top_number (z ∷ before) +ℤ pos k → k < 1024 → KeepsRows spans ((z ∷ before) ∷ rest) r →
+    KeepsRows spans ((copy_as x m ∷ z ∷ before) ∷ rest) (rows_on spans (z ∷ before) (top_number (z ∷ before) -ℤ pos 1023) k r)
+ahead_row spans z before rest x m k r is small keeps =
+    let first = rows_begun (rows_left spans rest) in
     let s = z ∷ before in
     let t = top_number s in
     let b = bottom_number s in
@@ -280,9 +281,9 @@ ahead_row spans z before x m k r is small keeps =
     let others : (i : ℕ) → i < length_of (c ∷ s) - 1024 → int_eq (b +ℤ pos i) m ≡ false =
     λ i lt. lt_ne (b +ℤ pos i) m (lower t b m d k i (length_of (c ∷ s)) deep is len lt) in
     record {
-      row = ap (row_on spans s (t -ℤ pos 1023) k) keeps.row ∙ sweep spans z before k ∙ ap (λ j. row_on spans s b j None) count
-          ∙ sym (same_on spans c s b (length_of (c ∷ s) - 1024) None others)
-          ∙ ap (λ n. row_on spans (c ∷ s) n (length_of (c ∷ s) - 1024) None) (sym bottom);
+      rows = ap (rows_on spans s (t -ℤ pos 1023) k) keeps.rows ∙ sweep spans z before k first ∙ ap (λ j. rows_on spans s b j first) count
+          ∙ sym (same_on spans c s b (length_of (c ∷ s) - 1024) first others)
+          ∙ ap (λ n. rows_on spans (c ∷ s) n (length_of (c ∷ s) - 1024) first) (sym bottom);
     }
   where
     further : (t m : ℤ) (d k : ℕ) → m ≡ t +ℤ pos k → t -ℤ pos d ≡ m -ℤ pos (d + k)
@@ -292,10 +293,14 @@ ahead_row spans z before x m k r is small keeps =
     lower t b m d k i l e f g lt = omega (arith, ints, e, f, g, lt)
 
 -- with a copy that is the greatest number or lies behind it
-behind_row : (spans : Spans) (z : Placed) (before : List Placed) (x : Arrival) (m : ℤ) (k : ℕ) (r : Option Row) →
-    m ≡ top_number (z ∷ before) -ℤ pos k → k < 1024 → KeepsRow spans (z ∷ before) r → KeepsRow spans (copy_as x m ∷ z ∷ before) r
-behind_row spans z before x m k r is small keeps = record { row = keeps.row ∙ by (cases_lt d 1024) }
+behind_row : (spans : Spans) (z : Placed) (before : List Placed) (rest : List (List Placed)) (x : Arrival) (m : ℤ) (k : ℕ) (r : Rows) →
+    m ≡ top_number (z ∷ before) -ℤ pos k → k < 1024 → KeepsRows spans ((z ∷ before) ∷ rest) r →
+    KeepsRows spans ((copy_as x m ∷ z ∷ before) ∷ rest) r
+behind_row spans z before rest x m k r is small keeps = record { rows = keeps.rows ∙ by (cases_lt d 1024) }
   where
+    first : Rows
+    first = rows_begun (rows_left spans rest)
+
     s : List Placed
     s = z ∷ before
 
@@ -333,11 +338,11 @@ behind_row spans z before x m k r is small keeps = record { row = keeps.row ∙ 
             lesser_down t b m d k deep is more ∙ is ∙ ap (λ g. g -ℤ pos k) (sym (greater_behind t m k is)) in
             omega (arith, length_is c s k deeper, small)
 
-    by : (d < 1024) ⊎ (1024 ≤ d) → row_on spans s b (length_of s - 1024) None ≡ row_on spans (c ∷ s) (bottom_number (c ∷ s)) (length_of (c ∷ s) - 1024) None
+    by : (d < 1024) ⊎ (1024 ≤ d) → rows_on spans s b (length_of s - 1024) first ≡ rows_on spans (c ∷ s) (bottom_number (c ∷ s)) (length_of (c ∷ s) - 1024) first
     by (inl lt) =
         let old : length_of s - 1024 ≡ 0 = sym (none_left (length_of s) (omega (arith, lt))) in
         let new : 0 ≡ length_of (c ∷ s) - 1024 = none_left (length_of (c ∷ s)) (short lt) in
-        ap (λ j. row_on spans s b j None) old ∙ ap (λ j. row_on spans (c ∷ s) (bottom_number (c ∷ s)) j None) new
+        ap (λ j. rows_on spans s b j first) old ∙ ap (λ j. rows_on spans (c ∷ s) (bottom_number (c ∷ s)) j first) new
     by (inr le) =
         let less : k < d = omega (arith, small, le) in
         let bottom : bottom_number (c ∷ s) ≡ b = lesser_up t b m d k deep is less in
@@ -347,24 +352,28 @@ behind_row spans z before x m k r is small keeps = record { row = keeps.row ∙ 
         let count : length_of s - 1024 ≡ length_of (c ∷ s) - 1024 = omega (arith, len) in
         let others : (i : ℕ) → i < length_of s - 1024 → int_eq (b +ℤ pos i) m ≡ false =
         λ i lt. lt_ne (b +ℤ pos i) m (lower t b m d k i deep is small lt) in
-        sym (same_on spans c s b (length_of s - 1024) None others) ∙ ap (λ j. row_on spans (c ∷ s) b j None) count
-        ∙ ap (λ n. row_on spans (c ∷ s) n (length_of (c ∷ s) - 1024) None) (sym bottom)
+        sym (same_on spans c s b (length_of s - 1024) first others) ∙ ap (λ j. rows_on spans (c ∷ s) b j first) count
+        ∙ ap (λ n. rows_on spans (c ∷ s) n (length_of (c ∷ s) - 1024) first) (sym bottom)
 
 -- where a stretch begins
 no_deeper : (m : ℤ) → m ≡ m -ℤ pos 0
 no_deeper m = omega (arith, ints)
 
-begun_row : (spans : Spans) (x : Arrival) → KeepsRow spans (stretch_begun x) None
-begun_row spans x =
+begun_row : (spans : Spans) (x : Arrival) (ss : List (List Placed)) (r : Rows) → KeepsRows spans ss r →
+    KeepsRows spans (stretch_begun x ∷ ss) (rows_begun r)
+begun_row spans x ss r keeps =
     let len : length_of (stretch_begun x) ≡ 0 + 1 = length_is (copy_as x (pos x.seq.0)) [] 0 (no_deeper (pos x.seq.0)) in
     let none : 0 ≡ length_of (stretch_begun x) - 1024 = omega (arith, len) in
-    record { row = ap (λ j. row_on spans (stretch_begun x) (bottom_number (stretch_begun x)) j None) none }
+    record {
+      rows = ap rows_begun keeps.rows
+          ∙ ap (λ j. rows_on spans (stretch_begun x) (bottom_number (stretch_begun x)) j (rows_begun (rows_left spans ss))) none;
+    }
 
 -- with one arrival more
-goes_row : (spans : Spans) (z : Placed) (before : List Placed) (rest : List (List Placed)) (x : Arrival) (n : Numbers) (moments : List ℕ) (r : Option Row) →
-    KeepsFigures ((z ∷ before) ∷ rest) n → KeepsTimes (z ∷ before) moments → KeepsRow spans (z ∷ before) r →
-    KeepsRow spans (current (with_arrival ((z ∷ before) ∷ rest) x))
-    (row_by spans (window_of n.seen) moments r (step_by (wire (top_number (z ∷ before))) z.time x))
+goes_row : (spans : Spans) (z : Placed) (before : List Placed) (rest : List (List Placed)) (x : Arrival) (n : Numbers) (moments : List ℕ) (r : Rows) →
+    KeepsFigures ((z ∷ before) ∷ rest) n → KeepsTimes (z ∷ before) moments → KeepsRows spans ((z ∷ before) ∷ rest) r →
+    KeepsRows spans (with_arrival ((z ∷ before) ∷ rest) x)
+    (rows_by spans (window_of n.seen) moments r (step_by (wire (top_number (z ∷ before))) z.time x))
 goes_row spans z before rest x n moments r stands times keeps =
     place (cases_lt (steps x.seq.0 (wire t)) kept_numbers) (cases_lt (steps (wire t) x.seq.0) kept_numbers) (cases_Bool soon)
   where
@@ -379,8 +388,8 @@ goes_row spans z before rest x n moments r stands times keeps =
 
     -- by the place of the number
     By : Distance → Type 0
-    By p = KeepsRow spans (current (cond (goes_to soon p) ((copy_as x (number_at t p) ∷ s) ∷ rest) (stretch_begun x ∷ s ∷ rest)))
-        (row_by spans (window_of n.seen) moments r (step_to soon p))
+    By p = KeepsRows spans (cond (goes_to soon p) ((copy_as x (number_at t p) ∷ s) ∷ rest) (stretch_begun x ∷ s ∷ rest))
+        (rows_by spans (window_of n.seen) moments r (step_to soon p))
 
     lies : (b : Bool) → nat_lt (steps x.seq.0 (wire t)) kept_numbers ≡ b →
         cond b (Behind (steps x.seq.0 (wire t))) (Ahead (steps (wire t) x.seq.0)) ≡ lies_from s x.seq.0
@@ -390,58 +399,72 @@ goes_row spans z before rest x n moments r stands times keeps =
         (steps (wire t) x.seq.0 < kept_numbers) ⊎ (kept_numbers ≤ steps (wire t) x.seq.0) → (soon ≡ true) ⊎ (soon ≡ false) → By (lies_from s x.seq.0)
     place (inl less) any (inl near) =
         subst By (lies true (lt-ltb (steps x.seq.0 (wire t)) kept_numbers less))
-        (rw near (behind_row spans z before x (t -ℤ pos (steps x.seq.0 (wire t))) (steps x.seq.0 (wire t)) r refl less keeps))
+        (rw near (behind_row spans z before rest x (t -ℤ pos (steps x.seq.0 (wire t))) (steps x.seq.0 (wire t)) r refl less keeps))
     place (inl less) any (inr silent) =
-        subst By (lies true (lt-ltb (steps x.seq.0 (wire t)) kept_numbers less)) (rw silent (begun_row spans x))
+        subst By (lies true (lt-ltb (steps x.seq.0 (wire t)) kept_numbers less)) (rw silent (begun_row spans x (s ∷ rest) r keeps))
     place (inr more) (inl close) any =
         subst By (lies false (le-ltb (steps x.seq.0 (wire t)) kept_numbers more))
         (rw (lt-leb kept_numbers (steps (wire t) x.seq.0) close)
-        (subst (KeepsRow spans (copy_as x (t +ℤ pos (steps (wire t) x.seq.0)) ∷ s))
+        (subst (KeepsRows spans ((copy_as x (t +ℤ pos (steps (wire t) x.seq.0)) ∷ s) ∷ rest))
         (sym (kept_on spans s n moments stands.seen times (steps (wire t) x.seq.0) (omega (arith, close)) r))
-        (ahead_row spans z before x (t +ℤ pos (steps (wire t) x.seq.0)) (steps (wire t) x.seq.0) r refl close keeps)))
+        (ahead_row spans z before rest x (t +ℤ pos (steps (wire t) x.seq.0)) (steps (wire t) x.seq.0) r refl close keeps)))
     place (inr more) (inr far) (inl near) =
         subst By (lies false (le-ltb (steps x.seq.0 (wire t)) kept_numbers more))
-        (rw (near, le-leb kept_numbers (steps (wire t) x.seq.0) far) (begun_row spans x))
+        (rw (near, le-leb kept_numbers (steps (wire t) x.seq.0) far) (begun_row spans x (s ∷ rest) r keeps))
     place (inr more) (inr far) (inr silent) =
         subst By (lies false (le-ltb (steps x.seq.0 (wire t)) kept_numbers more))
-        (rw (silent, le-leb kept_numbers (steps (wire t) x.seq.0) far) (begun_row spans x))
+        (rw (silent, le-leb kept_numbers (steps (wire t) x.seq.0) far) (begun_row spans x (s ∷ rest) r keeps))
 
-pub row_follows : (spans : Spans) (xs : List Arrival) (x : Arrival) (o : Option Numbers) (moments : List ℕ) (r : Option Row) → IsKeptIn xs o →
-    KeepsTimes (current (stretches xs)) moments → KeepsRow spans (current (stretches xs)) r →
-    KeepsRow spans (current (stretches (x ∷ xs))) (row_passed spans x o moments r)
-row_follows spans xs x None moments r none times keeps =
-    subst (λ ys. KeepsRow spans (current (stretches (x ∷ ys))) None) (sym none) (begun_row spans x)
-row_follows spans xs x (Some n) moments r follows times keeps = go (stretches xs) follows times keeps
+pub rows_follow : (spans : Spans) (xs : List Arrival) (x : Arrival) (o : Option Numbers) (moments : List ℕ) (r : Rows) → IsKeptIn xs o →
+    KeepsTimes (current (stretches xs)) moments → KeepsRows spans (stretches xs) r →
+    KeepsRows spans (stretches (x ∷ xs)) (rows_passed spans x o moments r)
+rows_follow spans xs x None moments r none times keeps =
+    subst (λ ys. KeepsRows spans (stretches (x ∷ ys)) (rows_begun r)) (sym none)
+    (begun_row spans x [] r (subst (λ ys. KeepsRows spans (stretches ys) r) none keeps))
+rows_follow spans xs x (Some n) moments r follows times keeps = go (stretches xs) follows times keeps
   where
-    go : (ss : List (List Placed)) → KeepsFigures ss n → KeepsTimes (current ss) moments → KeepsRow spans (current ss) r →
-        KeepsRow spans (current (with_arrival ss x)) (row_by spans (window_of n.seen) moments r (step_by (window_of n.seen).reference n.last x))
-    go [] stands kept row = absurd (none_stands n stands.seen)
-    go ([] ∷ rest) stands kept row = absurd (none_stands n stands.seen)
-    go ((z ∷ before) ∷ rest) stands kept row =
-        subst (λ f. KeepsRow spans (current (with_arrival ((z ∷ before) ∷ rest) x)) (row_by spans (window_of n.seen) moments r (step_by f n.last x)))
+    go : (ss : List (List Placed)) → KeepsFigures ss n → KeepsTimes (current ss) moments → KeepsRows spans ss r →
+        KeepsRows spans (with_arrival ss x) (rows_by spans (window_of n.seen) moments r (step_by (window_of n.seen).reference n.last x))
+    go [] stands kept rows = absurd (none_stands n stands.seen)
+    go ([] ∷ rest) stands kept rows = absurd (none_stands n stands.seen)
+    go ((z ∷ before) ∷ rest) stands kept rows =
+        subst (λ f. KeepsRows spans (with_arrival ((z ∷ before) ∷ rest) x) (rows_by spans (window_of n.seen) moments r (step_by f n.last x)))
         (sym stands.seen.reference)
-        (subst (λ l. KeepsRow spans (current (with_arrival ((z ∷ before) ∷ rest) x))
-        (row_by spans (window_of n.seen) moments r (step_by (wire (top_number (z ∷ before))) l x))) (sym stands.last)
-        (goes_row spans z before rest x n moments r stands kept row))
+        (subst (λ l. KeepsRows spans (with_arrival ((z ∷ before) ∷ rest) x)
+        (rows_by spans (window_of n.seen) moments r (step_by (wire (top_number (z ∷ before))) l x))) (sym stands.last)
+        (goes_row spans z before rest x n moments r stands kept rows))
 
--- the row at the end
-pub row_ends : (spans : Spans) (xs : List Arrival) (o : Option Numbers) (moments : List ℕ) (r : Option Row) → IsKeptIn xs o →
-    KeepsTimes (current (stretches xs)) moments → KeepsRow spans (current (stretches xs)) r →
-    row_before spans o moments r ≡ row_of spans (current (stretches xs))
-row_ends spans xs None moments r none times keeps = subst (λ ys. None ≡ row_of spans (current (stretches ys))) (sym none) refl
-row_ends spans xs (Some n) moments r follows times keeps = go (stretches xs) follows times keeps
+-- the rows at the end
+pub rows_end : (spans : Spans) (xs : List Arrival) (o : Option Numbers) (moments : List ℕ) (r : Rows) → IsKeptIn xs o →
+    KeepsTimes (current (stretches xs)) moments → KeepsRows spans (stretches xs) r →
+    rows_before spans o moments r ≡ rows_of spans (stretches xs)
+rows_end spans xs None moments r none times keeps =
+    let kept : KeepsRows spans [] r = subst (λ ys. KeepsRows spans (stretches ys) r) none keeps in
+    subst (λ ys. r ≡ rows_of spans (stretches ys)) (sym none) kept.rows
+rows_end spans xs (Some n) moments r follows times keeps = go (stretches xs) follows times keeps
   where
-    go : (ss : List (List Placed)) → KeepsFigures ss n → KeepsTimes (current ss) moments → KeepsRow spans (current ss) r →
-        row_kept spans (window_of n.seen) moments 1024 r ≡ row_of spans (current ss)
-    go [] stands kept row = absurd (none_stands n stands.seen)
-    go ([] ∷ rest) stands kept row = absurd (none_stands n stands.seen)
-    go ((z ∷ before) ∷ rest) stands kept row =
+    go : (ss : List (List Placed)) → KeepsFigures ss n → KeepsTimes (current ss) moments → KeepsRows spans ss r →
+        rows_kept spans (window_of n.seen) moments 1024 r ≡ rows_of spans ss
+    go [] stands kept rows = absurd (none_stands n stands.seen)
+    go ([] ∷ rest) stands kept rows = absurd (none_stands n stands.seen)
+    go ((z ∷ before) ∷ rest) stands kept rows =
         let s = z ∷ before in
+        let first = rows_begun (rows_left spans rest) in
         let all : length_of s + 1024 - 1024 ≡ length_of s = omega arith in
         kept_on spans s n moments stands.seen kept 1024 (omega arith) r
-        ∙ ap (row_on spans s (top_number s -ℤ pos 1023) 1024) row.row ∙ sweep spans z before 1024
-        ∙ ap (λ j. row_on spans s (bottom_number s) j None) all
+        ∙ ap (rows_on spans s (top_number s -ℤ pos 1023) 1024) rows.rows ∙ sweep spans z before 1024 first
+        ∙ ap (λ j. rows_on spans s (bottom_number s) j first) all
+
+-- the row at the end is that of the last stretch alone
+at_end_on : (spans : Spans) (s : List Placed) (n : ℤ) (k : ℕ) (r : Rows) → (rows_on spans s n k r).at_end ≡ row_on spans s n k r.at_end
+at_end_on spans s n zero r = refl
+at_end_on spans s n (suc k) r =
+    ap (row_with spans (came A (n +ℤ pos k) s) (came B (n +ℤ pos k) s) (first_time (n +ℤ pos k) s)) (at_end_on spans s n k r)
+
+pub last_row : (spans : Spans) (ss : List (List Placed)) → (rows_of spans ss).at_end ≡ row_of spans (current ss)
+last_row spans [] = refl
+last_row spans (s ∷ before) = at_end_on spans s (bottom_number s) (length_of s) (rows_begun (rows_left spans before))
 
 -- what is kept before an arrival came
-pub none_in_row : (spans : Spans) → KeepsRow spans [] None
-none_in_row spans = record { row = refl }
+pub none_in_rows : (spans : Spans) → KeepsRows spans [] no_rows
+none_in_rows spans = record { rows = refl }

@@ -8,9 +8,9 @@ use Rattle.sr_audit.specs.Edges.{KeepsEdges}
 use Rattle.sr_audit.specs.Following.{FollowsArrivals}
 use Rattle.sr_audit.specs.Limits.{exact_arrivals}
 use Rattle.sr_audit.specs.Reaching.{KeepsExtent}
-use Rattle.sr_audit.specs.Rows.{KeepsRow}
+use Rattle.sr_audit.specs.Rows.{KeepsRows}
 use Rattle.sr_audit.specs.Skewing.{skews_of, KeepsSkews}
-use Rattle.sr_audit.specs.Stretches.{stretches, current}
+use Rattle.sr_audit.specs.Stretches.{stretches}
 
 -- no arrival, or what the record follows
 abbrev pub IsKeptIn : List Arrival → Option Numbers → Type 0
@@ -23,7 +23,7 @@ pub record HasTaken (spans : Spans) (xs : List Arrival) (s : Source) : Type 0 wh
   pub edges : KeepsEdges spans (stretches xs) s.moments.times.items s.edges
   pub extent : length xs ≤ exact_arrivals → KeepsExtent xs s.extent
   pub skews : length xs ≤ exact_arrivals → KeepsSkews (skews_of (stretches xs)) s.skews
-  pub row : KeepsRow spans (current (stretches xs)) s.row
+  pub rows : KeepsRows spans (stretches xs) s.rows
 
 -- one arrival more was taken
 pub record TakesArrival (spans : Spans) (x : Arrival) (old new : Source) : Type 0 where

@@ -2,7 +2,7 @@
 
 ghost use Rattle.std.specs.Prelude.{◌≡◌};
 ghost use Rattle.sr_dup_window.specs.Windows.{window_of};
-ghost use Rattle.sr_audit.specs.Rows.{longer, row_with, shown_row, kept_number, row_kept};
+ghost use Rattle.sr_audit.specs.Rows.{longer, row_with, row_at, row_ended, larger_row, rows_with, rows_begun, rows_kept, shown_row, kept_number};
 
 use crate::moments::Moments;
 use crate::numbers::{KEPT_NUMBERS, Numbers};
@@ -24,6 +24,17 @@ pub struct Row {
     pub frames: u64,
     /// When the first copy of the first one came.
     pub since: u64,
+    /// When the first copy of the last one came.
+    pub until: u64,
+}
+
+/// The rows of a source.
+#[derive(Clone, Copy, Debug, PartialEq, Eq)]
+pub(crate) struct Rows {
+    /// The one at the end of the numbers so far.
+    pub at_end: Option<Row>,
+    /// The longest one that ended, and of equal ones the first.
+    pub closed: Option<Row>,
 }
 
 /// A row with a frame more that came by a side alone, first at this time.
@@ -33,12 +44,14 @@ fn longer(row: Option<Row>, side: Side, time: u64) -> Row
     match row {
         Some(row) if row.side == side => Row {
             frames: row.frames.saturating_add(1),
+            until: time,
             ..row
         },
         _ => Row {
             side,
             frames: 1,
             since: time,
+            until: time,
         },
     }
 }
@@ -55,6 +68,68 @@ fn row_with(row: Option<Row>, came: Came, time: u64, spans: &Spans) -> Option<Ro
     }
 }
 
+/// A row, if it is by this side.
+fn row_at(row: Option<Row>, side: Side) -> Option<Row>
+    ensures { result ≡ row_at side row }
+{
+    match row {
+        Some(row) if row.side == side => Some(row),
+        _ => None,
+    }
+}
+
+/// The row that a number ends, of which copies came by some sides, the first at this time.
+fn row_ended(row: Option<Row>, came: Came, time: u64, spans: &Spans) -> Option<Row>
+    ensures { result ≡ row_ended spans.now came.a came.b time row }
+{
+    match (came.a, came.b) {
+        (true, true) => row,
+        (true, false) if !spans.is_beyond(Side::B, time) => row_at(row, Side::B),
+        (false, true) if !spans.is_beyond(Side::A, time) => row_at(row, Side::A),
+        _ => None,
+    }
+}
+
+/// Of two rows the one of more frames, and of equal ones the first.
+fn larger_row(best: Option<Row>, row: Option<Row>) -> Option<Row>
+    ensures { result ≡ larger_row best row }
+{
+    match (best, row) {
+        (Some(best), Some(row)) if best.frames < row.frames => Some(row),
+        (Some(best), _) => Some(best),
+        (None, row) => row,
+    }
+}
+
+impl Rows {
+    /// No row.
+    pub const NONE: Rows = Rows {
+        at_end: None,
+        closed: None,
+    };
+
+    /// The rows where a stretch begins.
+    pub fn begun(self) -> Rows
+        ensures { result ≡ rows_begun self }
+    {
+        Rows {
+            at_end: None,
+            ..self
+        }
+    }
+
+    /// The rows with a number more, of which copies came by some sides, the first at this time.
+    fn with(self, came: Came, time: u64, spans: &Spans) -> Rows
+        ensures { result ≡ rows_with spans.now came.a came.b time self }
+    {
+        let ended = row_ended(self.at_end, came, time, spans);
+        Rows {
+            at_end: row_with(self.at_end, came, time, spans),
+            closed: larger_row(self.closed, ended),
+        }
+    }
+}
+
 /// The number that lies so many steps above the least of the last 1024.
 pub(crate) fn kept_number(greatest: Seq, steps: u16) -> Seq
     ensures { result.0 ≡ kept_number greatest.0 steps }
@@ -67,24 +142,24 @@ pub(crate) fn kept_number(greatest: Seq, steps: u16) -> Seq
     )
 }
 
-/// A row with so many numbers more of a stretch, from the least of the last 1024 on.
-pub(crate) fn row_over(
+/// Rows with so many numbers more of a stretch, from the least of the last 1024 on.
+pub(crate) fn rows_over(
     numbers: &Numbers,
     moments: &Moments,
     spans: &Spans,
-    first: Option<Row>,
+    first: Rows,
     count: u16,
-) -> Option<Row>
-    ensures { result ≡ row_kept spans.now (window_of numbers.now.seen) moments.now.times.items
+) -> Rows
+    ensures { result ≡ rows_kept spans.now (window_of numbers.now.seen) moments.now.times.items
         count first }
 {
     let greatest = numbers.greatest();
-    let mut row = first;
+    let mut rows = first;
     for steps in 0..count {
         let seq = kept_number(greatest, steps);
-        row = row_with(row, numbers.came(seq), moments.at(seq), spans);
+        rows = rows.with(numbers.came(seq), moments.at(seq), spans);
     }
-    row
+    rows
 }
 
 /// A row, where it has enough frames to be shown.

@@ -10,7 +10,7 @@ use crate::extent::Extent;
 use crate::look::{Look, Step};
 use crate::moments::Moments;
 use crate::numbers::{KEPT_NUMBERS, Numbers};
-use crate::row::{Row, row_over, shown_row};
+use crate::row::{Row, Rows, rows_over, shown_row};
 use crate::side::Side;
 use crate::skew::{Skews, skew_by};
 use crate::span::Spans;
@@ -97,8 +97,8 @@ pub struct Source {
     edges: Sides,
     extent: Extent,
     skews: Skews,
-    /// Frames in a row that came by one side alone, at the end of the numbers that the stretch has left behind.
-    row: Option<Row>,
+    /// Frames in a row that came by one side alone, of the numbers that the stretches have left behind.
+    rows: Rows,
     alive: Option<Alive>,
 }
 
@@ -126,7 +126,7 @@ impl Source {
     ghost use Rattle.sr_audit.specs.Taken.{IsKeptIn, HasTaken, TakesArrival, KeepsTaken};
     ghost use Rattle.sr_audit.specs.Shown.{figures_of, tally_in};
     ghost use Rattle.sr_audit.specs.Skewing.{skew_by, skews_of, skews_shown, skews_with, skews_taken};
-    ghost use Rattle.sr_audit.specs.Rows.{row_of, row_passed, row_before, shown_row};
+    ghost use Rattle.sr_audit.specs.Rows.{row_of, closed_of, rows_passed, rows_before, shown_row};
     ghost use Rattle.sr_audit.specs.Hearing.{Sign, sign_of, HasHeard, HearsSign, alive_of};
     ghost use Rattle.sr_audit.specs.Waiting.{waits_of};
 
@@ -144,7 +144,7 @@ impl Source {
             edges: Sides::NONE,
             extent: Extent::NONE,
             skews: Skews::NONE,
-            row: None,
+            rows: Rows::NONE,
             alive: None,
         })
     }
@@ -159,7 +159,7 @@ impl Source {
         ensures edges { self.new.edges ≡ self.old.edges }
         ensures extent { self.new.extent ≡ self.old.extent }
         ensures skews { self.new.skews ≡ self.old.skews }
-        ensures row { self.new.row ≡ self.old.row }
+        ensures rows { self.new.rows ≡ self.old.rows }
         ensures alive { self.new.alive ≡ self.old.alive }
     {
         match self.numbers.as_mut() {
@@ -180,7 +180,7 @@ impl Source {
             (is_beyond spans.now (other_side x.side) x.time) }
         ensures extent { self.new.extent ≡ self.old.extent }
         ensures skews { self.new.skews ≡ self.old.skews }
-        ensures row { self.new.row ≡ self.old.row }
+        ensures rows { self.new.rows ≡ self.old.rows }
         ensures alive { self.new.alive ≡ self.old.alive }
     {
         self.moments.put(x.seq, x.time);
@@ -197,7 +197,7 @@ impl Source {
         ensures extent { self.new.extent ≡ self.old.extent }
         ensures skews { self.new.skews
             ≡ skews_with (skew_by x.side x.time first) self.old.skews }
-        ensures row { self.new.row ≡ self.old.row }
+        ensures rows { self.new.rows ≡ self.old.rows }
         ensures alive { self.new.alive ≡ self.old.alive }
     {
         let was_edge = spans.is_beyond(x.side, first);
@@ -214,7 +214,7 @@ impl Source {
             ≡ edges_with spans.now x.side x.time came first self.old.edges }
         ensures extent { self.new.extent ≡ self.old.extent }
         ensures skews { self.new.skews ≡ skews_taken x.side x.time came first self.old.skews }
-        ensures row { self.new.row ≡ self.old.row }
+        ensures rows { self.new.rows ≡ self.old.rows }
         ensures alive { self.new.alive ≡ self.old.alive }
     {
         if !came.is_some() {
@@ -224,10 +224,10 @@ impl Source {
         }
     }
 
-    /// Takes the numbers that an arrival leaves behind to the row at their end.
+    /// Takes the numbers that an arrival leaves behind to their rows.
     fn pass(&mut self, x: Arrival, spans: &Spans)
-        ensures row { self.new.row ≡ row_passed spans.now x self.old.numbers
-            self.old.moments.times.items self.old.row }
+        ensures rows { self.new.rows ≡ rows_passed spans.now x self.old.numbers
+            self.old.moments.times.items self.old.rows }
         ensures numbers { self.new.numbers ≡ self.old.numbers }
         ensures moments { self.new.moments.times.items ≡ self.old.moments.times.items }
         ensures edges { self.new.edges ≡ self.old.edges }
@@ -235,17 +235,17 @@ impl Source {
         ensures skews { self.new.skews ≡ self.old.skews }
         ensures alive { self.new.alive ≡ self.old.alive }
     {
-        let row = match &self.numbers {
+        let rows = match &self.numbers {
             Some(numbers) => match numbers.step(x) {
                 Step::On(Distance::Ahead(steps)) => {
-                    row_over(numbers, &self.moments, spans, self.row, steps)
+                    rows_over(numbers, &self.moments, spans, self.rows, steps)
                 }
-                Step::On(Distance::Behind(_)) => self.row,
-                Step::First | Step::Restart | Step::Jump => None,
+                Step::On(Distance::Behind(_)) => self.rows,
+                Step::First | Step::Restart | Step::Jump => self.rows.begun(),
             },
-            None => None,
+            None => self.rows.begun(),
         };
-        self.row = row;
+        self.rows = rows;
     }
 
     /// Takes the next arrival of the source.
@@ -321,14 +321,14 @@ impl Source {
         self.alive
     }
 
-    /// The row of frames that came by one side alone at the end of the last stretch.
-    fn row(&self, spans: &Spans) -> Option<Row>
-        ensures { result ≡ row_before spans.now self.now.numbers self.now.moments.times.items
-            self.now.row }
+    /// The rows of frames that came by one side alone, to the end of the last stretch.
+    fn rows(&self, spans: &Spans) -> Rows
+        ensures { result ≡ rows_before spans.now self.now.numbers self.now.moments.times.items
+            self.now.rows }
     {
         match &self.numbers {
-            Some(numbers) => row_over(numbers, &self.moments, spans, self.row, KEPT_NUMBERS),
-            None => None,
+            Some(numbers) => rows_over(numbers, &self.moments, spans, self.rows, KEPT_NUMBERS),
+            None => self.rows,
         }
     }
 
@@ -338,7 +338,16 @@ impl Source {
         ensures { (xs : List Arrival) → HasTaken spans.now xs self.now
             → result ≡ shown_row (row_of spans.now (current (stretches xs))) }
     {
-        shown_row(self.row(spans))
+        shown_row(self.rows(spans).at_end)
+    }
+
+    /// The most frames in a row that came by one side alone before a frame came by both again, or by the other side alone, where they are
+    /// at least 3; of rows of as many the first. None: there was none. Of a stretch before the last one its last 1024 numbers are in no row.
+    pub fn was_sided(&self, spans: &Spans) -> Option<Row>
+        ensures { (xs : List Arrival) → HasTaken spans.now xs self.now
+            → result ≡ shown_row (closed_of spans.now (stretches xs)) }
+    {
+        shown_row(self.rows(spans).closed)
     }
 
     /// How many frames of the last stretch came by one side alone so far, the first copy less than 400 ms before a mark up to which all

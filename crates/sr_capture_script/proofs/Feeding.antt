@@ -5,12 +5,12 @@ use Rattle.std.proofs.lemmas.List.{length-append, append-nil}
 use Rattle.std.proofs.lemmas.List.Sums.{sum_by-append}
 use Rattle.std.proofs.lemmas.Bool.Decides.{nat_tests}
 use Rattle.sr_capture.specs.declared.fault.CaptureFault.{CaptureFault}
-use Rattle.sr_capture_script.specs.declared.format.Format.{Format}
+use Rattle.sr_capture_file.specs.declared.format.Format.{Format}
 use Rattle.sr_capture.specs.Taking.{Loses}
 use Rattle.sr_capture.specs.TakingLemmas.{loses_more, none_left, loses_nothing}
 use Rattle.sr_capture.specs.Records.{Captured, Shows}
-use Rattle.sr_capture_script.specs.Formats.{front_len, AreTaken}
-use Rattle.sr_capture_script.proofs.Taken.{taken_none, taken_on, front_few}
+use Rattle.sr_capture_file.specs.Formats.{front_len, AreTaken}
+use Rattle.sr_capture_file.specs.TakenLemmas.{taken_none, taken_on, front_few}
 use Rattle.sr_capture_script.specs.declared.choice.Inlet.{Inlet}
 use Rattle.sr_capture_script.specs.declared.flaws.Flaw.{Flaw}
 use Rattle.sr_capture_script.specs.declared.flaws.Flaw.TheVariants as flaw

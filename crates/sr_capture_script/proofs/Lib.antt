@@ -1,4 +1,3 @@
-pub mod Taken
 pub mod Feeding
 pub mod Ordering
 pub mod Writing

@@ -4,10 +4,10 @@ use Rattle.std.specs.Prelude.{unwrap_or, is_some, min}
 use Rattle.std.specs.Io.KnownBytes.{Appends}
 use Rattle.std.proofs.KnownBytes.{Appends-trans}
 use Rattle.std.proofs.lemmas.List.{append-nil}
-use Rattle.sr_capture_script.specs.declared.format.Format.{Format}
+use Rattle.sr_capture_file.specs.declared.format.Format.{Format}
 use Rattle.sr_capture.specs.Taking.{Loses, LeavesNone}
 use Rattle.sr_capture.specs.Records.{Captured}
-use Rattle.sr_capture_script.specs.Formats.{AreTaken, HasPackets}
+use Rattle.sr_capture_file.specs.Formats.{AreTaken, HasPackets}
 use Rattle.sr_capture_script.specs.declared.choice.Choice.{Choice}
 use Rattle.sr_capture_script.specs.declared.choice.Inlet.{Inlet}
 use Rattle.sr_capture_script.specs.declared.choice.Inlet.TheVariants.{A, B, C}

@@ -4,13 +4,13 @@ use Rattle.std.specs.Prelude.{IfSome, is_some}
 use Rattle.std.specs.Io.KnownBytes.{Appends}
 use Rattle.std.proofs.lemmas.List.{length-append, append-nil}
 use Rattle.sr_capture.specs.declared.fault.CaptureFault.{CaptureFault}
-use Rattle.sr_capture_script.specs.declared.format.Format.{Format}
-use Rattle.sr_capture_script.specs.declared.choice.Reading.{Reading}
+use Rattle.sr_capture_file.specs.declared.format.Format.{Format}
+use Rattle.sr_capture_file.specs.declared.front.Reading.{Reading}
 use Rattle.sr_capture.specs.Taking.{Loses}
 use Rattle.sr_capture.specs.TakingLemmas.{loses_nothing}
 use Rattle.sr_capture.specs.Records.{Captured}
-use Rattle.sr_capture_script.specs.Formats.{front_len, AreTaken, HasPackets}
-use Rattle.sr_capture_script.proofs.Taken.{taken_none, none_taken, front_few}
+use Rattle.sr_capture_file.specs.Formats.{front_len, AreTaken, HasPackets}
+use Rattle.sr_capture_file.specs.TakenLemmas.{taken_none, none_taken, front_few}
 use Rattle.sr_capture_script.specs.declared.choice.Choice.{Choice}
 use Rattle.sr_capture_script.specs.declared.choice.Inlet.{Inlet}
 use Rattle.sr_capture_script.specs.declared.choice.Inlet.TheVariants.{A, B, C}
@@ -22,7 +22,8 @@ use Rattle.sr_capture_script.specs.Sources.{left_of, Feeds, GoesOn, IsUntaken, I
 use Rattle.sr_capture_script.specs.SourceViews.{progress_of, IsSame}
 use Rattle.sr_capture_script.specs.Texts.{lines_of}
 use Rattle.sr_capture_script.specs.Merging.{feed_of, Stands, Scripts, Halts, fault_at}
-use Rattle.sr_capture_script.specs.Opening.{BeginsWith, IsFile, FileHas, TakesFront, HasNoFront, HasBegun, IsOpened, HasFault, HasFaultAtFront, FailsAtFront, IsScript, HasComeIn, HasFaultIn, StandsIn, FileStands, IsScriptTo, IsScriptUpTo}
+use Rattle.sr_capture_file.specs.Fronts.{TakesFront, HasNoFront}
+use Rattle.sr_capture_script.specs.Opening.{BeginsWith, IsFile, FileHas, HasBegun, IsOpened, HasFault, HasFaultAtFront, FailsAtFront, IsScript, HasComeIn, HasFaultIn, StandsIn, FileStands, IsScriptTo, IsScriptUpTo}
 use Rattle.sr_capture_script.proofs.Feeding.{feeds_first, stuck_at}
 
 pub opened_none : {R : Type 0} (remaining : R → Option (List ℕ)) (inlet : Inlet) (how : Reading) (delay : ℕ) (file : Option R) (form : Format) (s : Source R)

@@ -3,7 +3,6 @@ pub mod Picking
 pub mod Items
 pub mod Flaws
 pub mod Texts
-pub mod Formats
 pub mod Sources
 pub mod SourceViews
 pub mod Going

@@ -2,7 +2,7 @@
 use Rattle.std.specs.Prelude.{◌≡◌, ◌≤◌, ℕ, ◌-◌, ◌^◌, min, List, [], ◌∷◌, ◌++◌, length, Option, Some, None, Bool, true, false, IfSome, ◌⊎◌}
 use Rattle.std.specs.Io.KnownBytes.{Appends}
 use Rattle.sr_capture.specs.declared.fault.CaptureFault.{CaptureFault}
-use Rattle.sr_capture_script.specs.declared.format.Format.{Format}
+use Rattle.sr_capture_file.specs.declared.format.Format.{Format}
 use Rattle.sr_capture.specs.Taking.{Loses}
 use Rattle.sr_capture.specs.Records.{Captured}
 use Rattle.sr_capture_script.specs.declared.choice.Choice.{Choice}
@@ -12,7 +12,7 @@ use Rattle.sr_capture_script.specs.declared.fault.ScriptFault.{ScriptFault}
 use Rattle.sr_capture_script.specs.declared.fault.ScriptFault.TheVariants.{File, Endless}
 use Rattle.sr_capture_script.specs.declared.flaws.FlawCounts.{FlawCounts}
 use Rattle.sr_capture_script.specs.declared.source.Source.{Source}
-use Rattle.sr_capture_script.specs.Formats.{AreTaken, HasPackets}
+use Rattle.sr_capture_file.specs.Formats.{AreTaken, HasPackets}
 use Rattle.sr_capture_script.specs.Flaws.{tallied}
 use Rattle.sr_capture_script.specs.Items.{Item, items_of, came_at, key_of, AllTo, IsInOrder, IsMerge}
 use Rattle.sr_capture_script.specs.Sources.{IsFaulty}

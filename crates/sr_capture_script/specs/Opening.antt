@@ -1,18 +1,13 @@
 -- Files from their first octet on, and their script.
-use Rattle.std.specs.Prelude.{◌≡◌, ℕ, ◌+◌, ◌<◌, slice_index, ◌==◌, if◌then◌else◌, List, [], ◌++◌, length, Option, Some, None, is_some}
+use Rattle.std.specs.Prelude.{◌≡◌, ℕ, ◌+◌, List, [], ◌++◌, length, Option, Some, None, is_some}
 use Rattle.std.specs.Prelude.{IfSome, ◌⊎◌}
 use Rattle.sr_capture.specs.declared.fault.CaptureFault.{CaptureFault}
-use Rattle.sr_capture.specs.declared.fault.Reason.TheVariants.{Read}
-use Rattle.sr_capture.specs.declared.header.Form.{Form}
-use Rattle.sr_capture_script.specs.declared.format.Format.{Format}
-use Rattle.sr_capture_script.specs.declared.format.Format.TheVariants.{Pcap, Pcapng}
-use Rattle.sr_capture_script.specs.declared.choice.Reading.{Reading}
+use Rattle.sr_capture_file.specs.declared.format.Format.{Format}
+use Rattle.sr_capture_file.specs.declared.front.Reading.{Reading}
 use Rattle.sr_capture_script.specs.declared.choice.Options.{Options}
-use Rattle.sr_capture.specs.Headers.{IsHeader, IsNoHeader}
-use Rattle.sr_capture.specs.Taking.{Loses}
 use Rattle.sr_capture.specs.Records.{Captured}
-use Rattle.sr_pcapng.specs.declared.track.Track.{Track}
-use Rattle.sr_capture_script.specs.Formats.{front_len, AreTaken}
+use Rattle.sr_capture_file.specs.Fronts.{HasFront, TakesFront, HasNoFront}
+use Rattle.sr_capture_file.specs.Formats.{AreTaken}
 use Rattle.sr_capture_script.specs.declared.choice.Inlet.{Inlet}
 use Rattle.sr_capture_script.specs.declared.choice.Choice.{Choice}
 use Rattle.sr_capture_script.specs.declared.choice.Inlet.TheVariants.{A, B, C}
@@ -30,23 +25,6 @@ abbrev pub reading_of : Options → Inlet → Reading
 reading_of options A = record { wanted = options.interfaces.a; check_len = options.check_len }
 reading_of options B = record { wanted = options.interfaces.b; check_len = options.check_len }
 reading_of options C = record { wanted = options.interfaces.c; check_len = options.check_len }
-
--- the form that a header tells, with a check sequence of this length where it tells none
-abbrev pub given : ℕ → Form → Form
-given check form = record form { check_len = if form.check_len == 0 then check else form.check_len }
-
--- the octets begin with the first octet of a pcapng file
-abbrev pub BeginsPcapng : List ℕ → Type 0
-BeginsPcapng octets = (0 < length octets) × (slice_index octets 0 ≡ 0x0A)
-
--- a pcapng file at its start
-abbrev pub at_start : Reading → Track
-at_start how = record { wanted = how.wanted; check_len = how.check_len; section = None; dropped = None }
-
--- what the front of a file tells: the header of a pcap file, or the first octet of a pcapng file, which belongs to its first block
-abbrev pub HasFront : Reading → List ℕ → List ℕ → Format → Type 0
-HasFront how octets front (Pcap form) = (own : Form) × IsHeader front own × (form ≡ given how.check_len own)
-HasFront how octets front (Pcapng track) = (front ≡ []) × BeginsPcapng octets × (track ≡ at_start how)
 
 -- the octets are a capture that begins with these packets: a front, what has the packets, and the rest
 pub record BeginsWith (how : Reading) (octets : List ℕ) (packets : List Captured) (state : Format) (place : ℕ) (rest : List ℕ) : Type 0
@@ -67,13 +45,6 @@ IsFile how octets packets = (state : Format) × BeginsWith how octets packets st
 abbrev pub FileHas : {R : Type 0} → (R → Option (List ℕ)) → Reading → Option R → List Captured → Type 0
 FileHas remaining how None packets = packets ≡ []
 FileHas remaining how (Some reader) packets = IfSome (remaining reader) (λ octets. IsFile how octets packets)
-
--- the front of a file was taken
-pub record TakesFront (how : Reading) (form : Format) (known start : Option (List ℕ)) : Type 0 where
-  pub front : List ℕ
-  pub lost : Loses front known start
-  pub size : length front ≡ front_len form
-  pub header : IfSome known (λ octets. HasFront how octets front form)
 
 -- the front is behind, where there is a file
 abbrev pub HasBegun : {R : Type 0} → (R → Option (List ℕ)) → Reading → Format → Option R → Option (List ℕ) → Type 0
@@ -97,10 +68,6 @@ pub record HasFault (how : Reading) (octets : List ℕ) (packets : List Captured
   pub left : Option (List ℕ)
   pub begins : BeginsWith how octets packets state place rest
   pub stuck : IsStuck state place fault (Some rest) left
-
--- what does not begin as a pcapng file has no header
-abbrev pub HasNoFront : CaptureFault → Option (List ℕ) → Option (List ℕ) → Type 0
-HasNoFront fault old new = IsNoHeader fault old new × IfSome old (λ octets. (BeginsPcapng octets → ⊥) ⊎ (fault.reason ≡ Read))
 
 -- the octets have this fault before the first packet: they have no front, or no packet behind it
 abbrev pub HasFaultAtFront : Reading → List ℕ → CaptureFault → Type 0

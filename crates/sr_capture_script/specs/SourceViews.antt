@@ -7,7 +7,7 @@ use Rattle.sr_capture_script.specs.declared.source.Source.{Source}
 use Rattle.sr_capture_script.specs.declared.fault.ScriptFault.{ScriptFault}
 use Rattle.sr_capture_script.specs.declared.fault.ScriptFault.TheVariants.{File, Write, NoMemory, Endless}
 use Rattle.sr_capture.specs.declared.fault.CaptureFault.{CaptureFault}
-use Rattle.sr_capture_script.specs.declared.format.Format.{Format}
+use Rattle.sr_capture_file.specs.declared.format.Format.{Format}
 use Rattle.sr_capture_script.specs.Items.{Item}
 use Rattle.sr_capture_script.specs.Picking.{NotBefore}
 use Rattle.sr_capture_script.specs.Sources.{Progress, left_of, Feeds, IsFaulty}

@@ -1,11 +1,11 @@
 -- A file whose packets are taken one by one.
 use Rattle.std.specs.Prelude.{◌≡◌, ℕ, ◌+◌, ◌-◌, ◌^◌, List, [], ◌∷◌, ◌++◌, length, min, Option, Some, None}
-use Rattle.sr_capture_script.specs.declared.format.Format.{Format}
+use Rattle.sr_capture_file.specs.declared.format.Format.{Format}
 use Rattle.sr_capture.specs.declared.packet.Packet.{Packet}
 use Rattle.sr_capture.specs.Taking.{Loses, LeavesNone}
 use Rattle.sr_capture.specs.declared.fault.CaptureFault.{CaptureFault}
 use Rattle.sr_capture.specs.Records.{Captured, Shows}
-use Rattle.sr_capture_script.specs.Formats.{front_len, AreTaken, IsNoNext}
+use Rattle.sr_capture_file.specs.Formats.{front_len, AreTaken, IsNoNext}
 use Rattle.sr_capture_script.specs.declared.flaws.FlawCounts.{FlawCounts}
 use Rattle.sr_capture_script.specs.Flaws.{flaw_of, tallied, counted, goes_back, with_back}
 use Rattle.sr_capture_script.specs.declared.choice.Inlet.{Inlet}

@@ -5,12 +5,12 @@ ghost use Rattle.sr_capture_script.specs.Captures.{Advances, StopsAt};
 
 use crate::choice::{Inlet, Options};
 use crate::fault::ScriptFault;
-use crate::format::dropped_of;
 use crate::merge::earliest;
 use crate::packets::{advance, open};
 use crate::scripting::reading_of;
 use crate::source::Source;
 use sr_capture::Packet;
+use sr_capture_file::dropped_of;
 use std::alloc::Global;
 use std::io::BufRead;
 
@@ -49,7 +49,7 @@ impl<R: BufRead + Drop> Captures<R> {
     ghost use Rattle.std.specs.Prelude.{◌≡◌, IfOk, IfErr, OnOk, IfSome, IfNone};
     ghost use Rattle.sr_capture_script.specs.declared.choice.Inlet.TheVariants.{A as AtA, B as AtB, C as AtC};
     ghost use Rattle.sr_capture_script.specs.Opening.{reading_of, IsOpened, FailsToOpen};
-    ghost use Rattle.sr_capture_script.specs.Formats.{dropped_of};
+    ghost use Rattle.sr_capture_file.specs.Formats.{dropped_of};
     ghost use Rattle.sr_capture_script.specs.Captures.{file_at, IsDueFirst, HasNoFront, Advances, StopsAt, KeepsOthers};
 
     /// Opens the captures, and reads the first packet of each.

@@ -74,15 +74,6 @@ pub struct Interfaces {
     pub c: Wanted,
 }
 
-/// How a file is read.
-#[derive(Clone, Copy)]
-pub(crate) struct Reading {
-    /// Which interface is wanted.
-    pub wanted: Wanted,
-    /// How many octets of check sequence stand behind each packet where the file tells none.
-    pub check_len: u8,
-}
-
 /// How a script is made.
 #[derive(Clone, Copy, Debug)]
 pub struct Options {

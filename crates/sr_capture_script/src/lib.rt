@@ -5,8 +5,6 @@ mod captures;
 mod choice;
 mod fault;
 mod flaws;
-mod format;
-mod front;
 mod lines;
 mod merge;
 mod packets;

@@ -5,13 +5,12 @@ ghost use Rattle.sr_capture_script.specs.Sources.{IsUntaken, left_of, GoesOn, Is
 ghost use Rattle.sr_capture_script.specs.SourceViews.{progress_of, IsSame};
 ghost use Rattle.sr_capture_script.specs.Opening.{IsOpened, FailsAtFront};
 
-use crate::choice::{Inlet, Reading};
+use crate::choice::Inlet;
 use crate::fault::ScriptFault;
 use crate::flaws::{FlawCounts, counted, flaw_of, goes_back, with_back};
-use crate::format::{Format, front_len, take_next};
-use crate::front::take_front;
 use crate::source::Source;
 use sr_capture::{ByteOrder, CaptureFault, Form, Packet, TimeUnit};
+use sr_capture_file::{Format, Reading, front_len, take_front, take_next};
 use std::alloc::Global;
 use std::io::BufRead;
 

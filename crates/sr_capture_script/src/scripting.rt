@@ -7,13 +7,14 @@ ghost use Rattle.sr_capture_script.specs.SourceViews.{IsFed};
 ghost use Rattle.sr_capture_script.specs.Merging.{numbers_of, feed_of, Scripts, Halts};
 ghost use Rattle.sr_capture_script.specs.Opening.{reading_of, IsScript, IsScriptUpTo};
 
-use crate::choice::{Inlet, Options, Reading};
+use crate::choice::{Inlet, Options};
 use crate::fault::ScriptFault;
 use crate::lines::append_numbers;
 use crate::merge::{merge, write_text};
 use crate::packets::open;
 use crate::source::Source;
 use crate::ticks::write_last_ticks;
+use sr_capture_file::Reading;
 use std::alloc::Global;
 use std::io::{BufRead, Write};
 

@@ -3,8 +3,8 @@
 ghost use Rattle.std.specs.Prelude.{◌≤◌, ◌^◌};
 
 use crate::flaws::FlawCounts;
-use crate::format::Format;
 use sr_capture::Packet;
+use sr_capture_file::Format;
 
 /// A file whose packets are taken one by one, and the packet that is due.
 #[derive(Drop)]

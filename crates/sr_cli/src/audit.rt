@@ -3,6 +3,7 @@
 mod cuts;
 mod drawn;
 mod hints;
+mod losses;
 mod names;
 mod nodes;
 mod page;

@@ -1,9 +1,10 @@
 -- A capture whose packets are taken one by one.
 use Rattle.std.specs.Prelude.{◌≡◌, ℕ, ◌+◌, ◌-◌, ◌^◌, min, List, Option, Bool}
 use Rattle.sr_capture.specs.declared.fault.CaptureFault.{CaptureFault}
-use Rattle.sr_intake.specs.Formats.{front_len, Takes, IsNoNext, TakesFront, HasNoFront}
+use Rattle.sr_capture_file.specs.Formats.{front_len, Takes, IsNoNext}
+use Rattle.sr_capture_file.specs.Fronts.{TakesFront, HasNoFront}
 use Rattle.sr_intake.specs.declared.capture.Intake.{Intake}
-use Rattle.sr_intake.specs.declared.front.Reading.{Reading}
+use Rattle.sr_capture_file.specs.declared.front.Reading.{Reading}
 
 -- its front was read, and nothing behind it
 abbrev pub IsBegun : {R : Type 0} → (R → Option (List ℕ)) → Reading → R → Intake R → Type 0

@@ -1,4 +1,3 @@
 pub mod Counting
-pub mod Formats
 pub mod Intakes
 pub mod Kinds

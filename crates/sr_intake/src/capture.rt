@@ -4,9 +4,8 @@ ghost use Rattle.std.specs.Prelude.{◌≡◌, IfOk, IfErr};
 ghost use Rattle.sr_intake.specs.Intakes.{HasNoFrontOf};
 ghost use Rattle.sr_intake.specs.Intakes.{IsBegun, GoesOnBy, HasNoPacket};
 
-use crate::format::{Format, front_len, take_next};
-use crate::front::{Reading, take_front};
 use sr_capture::{CaptureFault, Packet};
+use sr_capture_file::{Format, Reading, front_len, take_front, take_next};
 use std::alloc::Global;
 use std::io::BufRead;
 

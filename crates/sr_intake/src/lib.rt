@@ -3,12 +3,8 @@
 
 mod capture;
 mod counts;
-mod format;
-mod front;
 mod kind;
 
 pub use capture::Intake;
 pub use counts::PacketCounts;
-pub use format::Format;
-pub use front::Reading;
 pub use kind::{Kind, Network, Numbered, kind_of, mirrored};

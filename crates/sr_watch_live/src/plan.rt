@@ -1,6 +1,7 @@
 //! How a watch runs.
 
-use sr_intake::{Network, Reading};
+use sr_capture_file::Reading;
+use sr_intake::Network;
 use sr_prp_trailer::Lan;
 use sr_watch::Settings;
 use sr_watch_lines::Format;

@@ -1,6 +1,6 @@
 use Rattle.std.proofs.Common.{ℕ, ◌++◌, [], ◌∷◌, sym, subst, refl}
 use Rattle.std.specs.Io.KnownBytes.{Appends}
-use Rattle.sr_capture_script.specs.declared.format.Format.{Format}
+use Rattle.sr_capture_file.specs.declared.format.Format.{Format}
 use Rattle.sr_capture_script.specs.Texts.{piece_of}
 use Rattle.sr_capture_script.specs.Sources.{left_of, Feeds}
 use Rattle.sr_capture_script.specs.SourceViews.{progress_of}

@@ -2,7 +2,7 @@ use Rattle.std.proofs.Common.{[], refl, subst, inl, inr}
 use Rattle.std.proofs.KnownBytes.{Appends-nil}
 use Rattle.sr_capture_script.specs.Opening.{reading_of, IsOpened, FailsAtFront}
 use Rattle.sr_capture_script.specs.declared.choice.Inlet.TheVariants.{A, B, C}
-use Rattle.sr_capture_script.specs.declared.choice.Reading.{Reading}
+use Rattle.sr_capture_file.specs.declared.front.Reading.{Reading}
 use Rattle.sr_capture_script.proofs.Opened.{are_opened, is_script, is_script_to}
 use Rattle.sr_capture_script.proofs.Outcomes.{on_ok_both, handed_on, if_err_map}
 use Rattle.sr_capture_script.proofs.scripting.script.Goals as goal

@@ -11,7 +11,7 @@ returns-clause-taken c = record {
     edges = taken.edges;
     extent = taken.extent;
     skews = taken.skews;
-    row = taken.row;
+    rows = taken.rows;
   };
 }
 

@@ -1,10 +1,10 @@
 use Rattle.std.proofs.Common.{◌≡◌, ◌≤◌, ◌∙◌, ◌∷◌, arith, sym, subst, ap, length}
 use Rattle.sr_audit.specs.Limits.{exact_arrivals}
-use Rattle.sr_audit.specs.Rows.{KeepsRow}
-use Rattle.sr_audit.specs.Stretches.{stretches, current}
+use Rattle.sr_audit.specs.Rows.{KeepsRows}
+use Rattle.sr_audit.specs.Stretches.{stretches}
 use Rattle.sr_audit.proofs.EdgeLemmas.{edges_taken}
 use Rattle.sr_audit.proofs.ExtentLemmas.{extent_follows}
-use Rattle.sr_audit.proofs.RowLemmas.{row_follows}
+use Rattle.sr_audit.proofs.RowLemmas.{rows_follow}
 use Rattle.sr_audit.proofs.SkewLemmas.{skews_after}
 use Rattle.sr_audit.proofs.source.Source.note.Goals as goal
 
@@ -33,8 +33,8 @@ returns-clause-taken c =
             let before : length xs ≤ exact_arrivals = omega (arith, exact) in
             skews_after xs c.args.x l.result.came c.args.self.now.moments.times.items c.args.self.now.skews c.pair.new.self.skews (omega arith) (omega arith)
             (omega arith) exact (ap (λ k. k.came) (look_by xs taken.numbers)) skews taken.edges.times (taken.skews before);
-        row = subst (KeepsRow c.args.spans.now (current (stretches (c.args.x ∷ xs)))) (sym (c.pair.ensures.row ∙ l.ensures.row ∙ p.ensures.row))
-            (row_follows c.args.spans.now xs c.args.x c.args.self.now.numbers c.args.self.now.moments.times.items c.args.self.now.row
-            taken.numbers taken.edges.times taken.row);
+        rows = subst (KeepsRows c.args.spans.now (stretches (c.args.x ∷ xs))) (sym (c.pair.ensures.rows ∙ l.ensures.rows ∙ p.ensures.rows))
+            (rows_follow c.args.spans.now xs c.args.x c.args.self.now.numbers c.args.self.now.moments.times.items c.args.self.now.rows
+            taken.numbers taken.edges.times taken.rows);
       };
     }

@@ -1,9 +1,11 @@
 use Rattle.std.proofs.Common.{ap, ◌∙◌}
 use Rattle.sr_audit.specs.Rows.{shown_row}
-use Rattle.sr_audit.proofs.RowLemmas.{row_ends}
+use Rattle.sr_audit.specs.Stretches.{stretches}
+use Rattle.sr_audit.proofs.RowLemmas.{rows_end, last_row}
 use Rattle.sr_audit.proofs.source.Source.sided.Goals as goal
 
 pub returns : goal.returns
 returns c = λ xs taken. c.shown_row.ensures
-    ∙ ap shown_row (c.row.ensures ∙ row_ends c.args.spans.now xs c.args.self.now.numbers c.args.self.now.moments.times.items c.args.self.now.row
-    taken.numbers taken.edges.times taken.row)
+    ∙ ap shown_row (ap (λ r. r.at_end) (c.rows.ensures
+    ∙ rows_end c.args.spans.now xs c.args.self.now.numbers c.args.self.now.moments.times.items c.args.self.now.rows
+    taken.numbers taken.edges.times taken.rows) ∙ last_row c.args.spans.now (stretches xs))

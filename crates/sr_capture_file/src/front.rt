@@ -3,7 +3,7 @@
 ghost use Rattle.std.specs.Prelude.{◌≡◌, ◌↔◌, [], IfOk, IfErr, IfSome, IsTrue};
 ghost use Rattle.sr_capture.specs.declared.fault.Reason.TheVariants.{Read as ReadFails};
 ghost use Rattle.sr_capture.specs.Taking.{Loses};
-ghost use Rattle.sr_intake.specs.Formats.{given, BeginsPcapng, TakesFront, HasNoFront};
+ghost use Rattle.sr_capture_file.specs.Fronts.{given, BeginsPcapng, TakesFront, HasNoFront};
 
 use crate::format::Format;
 use sr_capture::{CaptureFault, Form, Reason, read_header};
@@ -56,7 +56,7 @@ fn begins_pcapng<R: BufRead>(reader: &mut R) -> Result<bool, Reason>
 ///
 /// # Errors
 /// Those of the header of a pcap file, where it does not begin as a pcapng file.
-pub(crate) fn take_front<R: BufRead>(
+pub fn take_front<R: BufRead>(
     reader: &mut R,
     how: Reading,
     octets: &mut Vec<u8>,

@@ -1,9 +1,9 @@
 use Rattle.std.proofs.Common.{◌≡◌, ◌-◌, ◌^◌, [], ◌∷◌, length, sym, subst, refl, arith}
 use Rattle.std.specs.Prelude.{min}
-use Rattle.sr_intake.specs.declared.format.Format.{Format}
-use Rattle.sr_intake.specs.Formats.{AreTaken}
-use Rattle.sr_intake.proofs.Taken.{one_record}
-use Rattle.sr_intake.proofs.format.take_next.Goals as goal
+use Rattle.sr_capture_file.specs.declared.format.Format.{Format}
+use Rattle.sr_capture_file.specs.Formats.{AreTaken}
+use Rattle.sr_capture_file.proofs.Taken.{one_record}
+use Rattle.sr_capture_file.proofs.format.take_next.Goals as goal
 
 pub returns-in-Ok-true-clause-taken : goal.returns-in-Ok-true-clause-taken
 returns-in-Ok-true-clause-taken g c =

@@ -1,7 +1,7 @@
 //! The kinds of files: pcap, and pcapng.
 
 ghost use Rattle.std.specs.Prelude.{◌≡◌, ◌≤◌, IfOk, IfErr};
-ghost use Rattle.sr_intake.specs.Formats.{front_len, Takes, IsNoNext};
+ghost use Rattle.sr_capture_file.specs.Formats.{front_len, dropped_of, Takes, IsNoNext};
 
 use sr_capture::{CaptureFault, Form, HEADER_LEN, Packet};
 use sr_pcapng::Track;
@@ -17,7 +17,7 @@ pub enum Format {
 }
 
 /// How many octets stand before the packets.
-pub(crate) fn front_len(format: Format) -> u64
+pub fn front_len(format: Format) -> u64
     ensures { result ≡ front_len format }
 {
     match format {
@@ -26,12 +26,22 @@ pub(crate) fn front_len(format: Format) -> u64
     }
 }
 
+/// How many packets a recorder dropped, as far as the file tells.
+pub fn dropped_of(format: Format) -> Option<u64>
+    ensures { result ≡ dropped_of format }
+{
+    match format {
+        Format::Pcap(_) => None,
+        Format::Pcapng(track) => track.dropped,
+    }
+}
+
 /// Takes the next packet. False where nothing is left; `packet` then tells how many octets were passed over. `block` is used
 /// for it.
 ///
 /// # Errors
 /// Those of the kind of file, counted from the first octet that was left.
-pub(crate) fn take_next<R: BufRead>(
+pub fn take_next<R: BufRead>(
     reader: &mut R,
     format: &mut Format,
     block: &mut Vec<u8>,

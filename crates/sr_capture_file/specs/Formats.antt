@@ -6,8 +6,8 @@ use Rattle.sr_capture.specs.Taking.{Loses, LeavesNone}
 use Rattle.sr_capture.specs.Records.{Captured, AreRecords, IsNoRecord, Shows}
 use Rattle.sr_pcapng.specs.declared.track.Track.{Track}
 use Rattle.sr_pcapng.specs.Steps.{AreBlocks, IsNoPacket}
-use Rattle.sr_capture_script.specs.declared.format.Format.{Format}
-use Rattle.sr_capture_script.specs.declared.format.Format.TheVariants.{Pcap, Pcapng}
+use Rattle.sr_capture_file.specs.declared.format.Format.{Format}
+use Rattle.sr_capture_file.specs.declared.format.Format.TheVariants.{Pcap, Pcapng}
 
 -- how many octets stand before the packets: the header of a pcap file
 abbrev pub front_len : Format → ℕ

@@ -2,15 +2,11 @@
 use Rattle.std.proofs.Common.{◌≡◌, ℕ, ◌≤◌, List, [], ◌∷◌, ◌++◌, length, sym, ap, subst, refl, ◌∙◌, arith, append_assoc}
 use Rattle.std.proofs.lemmas.List.{length-append, append-nil}
 use Rattle.sr_capture.specs.declared.header.Form.{Form}
-use Rattle.sr_capture.specs.Records.{Captured, IsRecord, AreRecords}
+use Rattle.sr_capture.specs.Records.{Captured, AreRecords}
 use Rattle.sr_pcapng.specs.StepLemmas.{blocks_none, blocks_on, no_blocks}
-use Rattle.sr_capture_script.specs.declared.format.Format.{Format}
-use Rattle.sr_capture_script.specs.declared.format.Format.TheVariants.{Pcap, Pcapng}
-use Rattle.sr_capture_script.specs.Formats.{front_len, AreTaken}
-
--- one record is records
-pub one_record : (form : Form) (octets : List ℕ) (packet : Captured) → IsRecord form octets packet → AreRecords form octets (packet ∷ [])
-one_record form octets packet is = (octets, [], sym (append-nil octets), is, refl)
+use Rattle.sr_capture_file.specs.declared.format.Format.{Format}
+use Rattle.sr_capture_file.specs.declared.format.Format.TheVariants.{Pcap, Pcapng}
+use Rattle.sr_capture_file.specs.Formats.{front_len, AreTaken}
 
 -- records behind records
 records_on : (form : Form) (a b : List ℕ) (xs ys : List Captured) → AreRecords form a xs → AreRecords form b ys → AreRecords form (a ++ b) (xs ++ ys)
