@@ -7,4 +7,5 @@ pub mod ToldLemmas
 pub mod EndingLemmas
 pub mod LimitLemmas
 pub mod LimitedLemmas
+pub mod WideLemmas
 pub mod LimitCaseLemmas

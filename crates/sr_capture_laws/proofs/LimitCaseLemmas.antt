@@ -1,7 +1,7 @@
 -- Checks by limits worked out.
-use Rattle.std.proofs.Common.{◌≡◌, ℕ, ◌<◌, Bool, true, false, cond, ◌&&◌, ◌||◌, List, [], ◌∷◌, ◌++◌, Option, None, Some, All, arith, refl, sym, ap, ap₂, ◌∙◌}
+use Rattle.std.proofs.Common.{◌≡◌, ℕ, ◌-◌, Bool, true, false, cond, ◌&&◌, ◌||◌, List, [], ◌∷◌, ◌++◌, Option, None, Some, All, arith, refl, sym, ap, ap₂, ◌∙◌}
 use Rattle.std.specs.List.{list_any}
-use Rattle.std.proofs.lemmas.Bool.{and_right, or_from, or_left, or_right}
+use Rattle.std.proofs.lemmas.Bool.{and_left, and_right, or_from, or_left, or_right}
 use Rattle.std.proofs.lemmas.List.Elements.{All-head, All-tail}
 use Rattle.sr_frame.specs.declared.fields.Mac.{Mac}
 use Rattle.sr_audit.specs.declared.row.Row.{Row}
@@ -19,23 +19,23 @@ use Rattle.sr_verdict.specs.declared.heard.Heard.{Heard}
 use Rattle.sr_verdict.specs.declared.judging.Outside.{Outside}
 use Rattle.sr_verdict.specs.declared.limits.Limits.{Limits}
 use Rattle.sr_verdict.specs.declared.verdict.Verdict.{Verdict}
-use Rattle.sr_verdict.specs.Drops.{settled, dropped_told}
+use Rattle.sr_verdict.specs.Drops.{any_dropped, settled, dropped_told}
 use Rattle.sr_verdict.specs.Heards.{AreHeard}
 use Rattle.sr_verdict.specs.Told.{why_told, verdicts_for, limited_faults, AreVerdictsOf}
 use Rattle.sr_verdict.specs.Verdicts.{single_in, sided_verdicts, notice_verdicts, is_a_fault, block_status}
 use Rattle.sr_capture_laws.specs.Ending.{nodes_tell, faults_told}
 use Rattle.sr_capture_laws.specs.Exact.{judged_by}
 use Rattle.sr_capture_laws.specs.Limited.{lack_beyond, loss_beyond, is_wide, come_again, come_late, faulty_anyway, stands_beyond, may_be_dropped, status_in}
-use Rattle.sr_capture_laws.specs.LimitCases.{AreOfArrivals, VerdictsAreOfTheRun, six_lost, one_wide, limits_of, IsCheckOf, IsQuiet, WorkedLimitsEndChecks, FalseEndsAreRefused}
+use Rattle.sr_capture_laws.specs.LimitCases.{IsOfArrivals, AreOfArrivals, VerdictsAreOfTheRun, six_lost, most_apart, one_wide, limits_of, IsCheckOf, IsElseQuiet, WorkedLimitsEndChecks, FalseEndsAreRefused}
 use Rattle.sr_capture_laws.proofs.LimitedLemmas.{verdicts_end_limited}
 
 -- what is heard of sources of arrivals is one list
 same_heard : (spans : Spans) (es : List (Mac × Source)) (hs gs : List Heard) → AreOfArrivals spans es → AreHeard spans es hs → AreHeard spans es gs → hs ≡ gs
 same_heard spans [] hs gs all are also = are ∙ sym also
 same_heard spans (e ∷ es) hs gs all are also =
-    let own = All-head _ e es all in
+    let own : IsOfArrivals spans e.1 = All-head (λ (x : Mac × Source). IsOfArrivals spans x.1) e es all in
     let row : are.0 ≡ also.0 = are.2.row_is own.arrivals own.taken ∙ sym (also.2.row_is own.arrivals own.taken) in
-    let rest : are.1 ≡ also.1 = same_heard spans es are.1 also.1 (All-tail _ e es all) are.4 also.4 in
+    let rest : are.1 ≡ also.1 = same_heard spans es are.1 also.1 (All-tail (λ (x : Mac × Source). IsOfArrivals spans x.1) e es all) are.4 also.4 in
     are.3 ∙ ap₂ (λ (r : Option Row) (l : List Heard). record { mac = e.0; figures = figures_of e.1; sided = r } ∷ l) row rest ∙ sym also.3
 
 pub verdicts_are_one : VerdictsAreOfTheRun
@@ -86,7 +86,7 @@ status_is limits own telling r sources outside vs check b is =
     doubt = may_be_dropped outside.limits r.subject.ports outside.dropped (faults_told r sources outside vs check.are) check.are.own
 
     none_dropped : doubt ≡ false
-    none_dropped = ap (λ t. t && _) check.dropped
+    none_dropped = and_left (any_dropped outside.dropped) _ check.dropped
 
     by : (b : Bool) → status_in (judged_by None b) false ≡ ending b
     by true = refl
@@ -118,7 +118,7 @@ none_lack : (limit : Option ℕ) (r : Report) (counters : List Heard) → counte
 none_lack limit r counters none = ap (lack_beyond limit r) none ∙ and_right _ false refl
 
 within : (m n : Mac) (r : Report) (sources : Sources) (outside : Outside) (vs : List Verdict)
-    (check : IsCheckOf (limits_of (Some 6) None) (six_lost m n) (six_lost m n) r sources outside vs) → IsQuiet r sources check.are.counters →
+    (check : IsCheckOf (limits_of (Some 6) None) (six_lost m n) (six_lost m n) r sources outside vs) → IsElseQuiet r sources check.are.counters →
     block_status vs ≡ 0
 within m n r sources outside vs check quiet =
     status_is (limits_of (Some 6) None) (six_lost m n) (six_lost m n) r sources outside vs check false
@@ -135,21 +135,21 @@ beyond m n r sources outside vs check =
     (loss_beyond (Some 5) (six_lost m n)) (list_any (is_wide None) (six_lost m n)) refl)
 
 near : (m : Mac) (r : Report) (sources : Sources) (outside : Outside) (vs : List Verdict)
-    (check : IsCheckOf (limits_of None (Some 1500)) (one_wide m) (one_wide m) r sources outside vs) → IsQuiet r sources check.are.counters →
+    (check : IsCheckOf (limits_of None (Some most_apart)) (one_wide m) (one_wide m) r sources outside vs) → IsElseQuiet r sources check.are.counters →
     block_status vs ≡ 0
 near m r sources outside vs check quiet =
-    status_is (limits_of None (Some 1500)) (one_wide m) (one_wide m) r sources outside vs check false
+    status_is (limits_of None (Some most_apart)) (one_wide m) (one_wide m) r sources outside vs check false
     (by_none _ (faulty_anyway r (one_wide m) (one_wide m)) (lack_beyond None r check.are.counters) (loss_beyond None (one_wide m))
-    (list_any (is_wide (Some 1500)) (one_wide m)) quiet.nodes
+    (list_any (is_wide (Some most_apart)) (one_wide m)) quiet.nodes
     (or_from (list_any is_a_fault (sided_verdicts r.subject.network (one_wide m))) _ (wide_sided r.subject.network m)
     (or_from (have_faults r.counts) _ quiet.counts refl)) (none_lack None r check.are.counters quiet.none_missing) refl refl)
 
 far : (m : Mac) (r : Report) (sources : Sources) (outside : Outside) (vs : List Verdict) →
-    IsCheckOf (limits_of None (Some 1499)) (one_wide m) (one_wide m) r sources outside vs → block_status vs ≡ 3
+    IsCheckOf (limits_of None (Some (most_apart - 1))) (one_wide m) (one_wide m) r sources outside vs → block_status vs ≡ 3
 far m r sources outside vs check =
-    status_is (limits_of None (Some 1499)) (one_wide m) (one_wide m) r sources outside vs check true
+    status_is (limits_of None (Some (most_apart - 1))) (one_wide m) (one_wide m) r sources outside vs check true
     (by_skew (nodes_tell r.subject sources.sources.entries) (faulty_anyway r (one_wide m) (one_wide m)) (lack_beyond None r check.are.counters)
-    (loss_beyond None (one_wide m)) (list_any (is_wide (Some 1499)) (one_wide m)) refl)
+    (loss_beyond None (one_wide m)) (list_any (is_wide (Some (most_apart - 1))) (one_wide m)) refl)
 
 pub limits_worked : WorkedLimitsEndChecks
 limits_worked = record { within = within; beyond = beyond; near = near; far = far }
@@ -160,11 +160,14 @@ ends_refused = record {
   by_source = λ m n r sources outside vs check sound. absurd (omega (arith, beyond m n r sources outside vs check, sound));
   at_limit = λ m n r sources outside vs check quiet faulty. absurd (omega (arith, within m n r sources outside vs check quiet, faulty));
   by_order = λ m r sources outside vs check sound. absurd (omega (arith, far m r sources outside vs check, sound));
-  of_rows = λ limits own telling r sources outside vs check row sound. absurd (omega (arith, sound,
-  status_is limits own telling r sources outside vs check true
-  (by_others (nodes_tell r.subject sources.sources.entries) (faulty_anyway r own telling) (lack_beyond limits.lost r check.are.counters)
-  (loss_beyond limits.lost telling) (list_any (is_wide limits.skew) own) (or_left _ _ row))));
+  of_rows = λ limits own telling r sources outside vs check row sound. absurd (omega (
+    arith,
+    sound,
+    status_is limits own telling r sources outside vs check true
+        (by_others (nodes_tell r.subject sources.sources.entries) (faulty_anyway r own telling) (lack_beyond limits.lost r check.are.counters)
+        (loss_beyond limits.lost telling) (list_any (is_wide limits.skew) own) (or_left _ _ row)),
+  ));
   unjudged = λ r sources outside vs why are is other. other ((verdicts_end_limited r sources outside vs are).status
-  ∙ ap (λ (o : Option Reason). status_in (judged_by o (stands_beyond outside.limits r sources.sources.entries are.own are.telling are.counters))
-  (may_be_dropped outside.limits r.subject.ports outside.dropped (faults_told r sources outside vs are) are.own)) is);
+      ∙ ap (λ (o : Option Reason). status_in (judged_by o (stands_beyond outside.limits r sources.sources.entries are.own are.telling are.counters))
+      (may_be_dropped outside.limits r.subject.ports outside.dropped (faults_told r sources outside vs are) are.own)) is);
 }

@@ -18,7 +18,7 @@ use Rattle.sr_verdict.specs.declared.verdict.Verdict.TheVariants.{Unjudged, Both
 use Rattle.sr_verdict.specs.Drops.{loss_in, losses_with, losses_in, explains, dropped_of_b, explained_by}
 use Rattle.sr_verdict.specs.Limits.{within, notice_in_place, fault_beyond, limited, farthest, skew_on, skew_verdicts}
 use Rattle.sr_verdict.specs.Verdicts.{is_a_fault}
-use Rattle.sr_capture_laws.specs.Limited.{is_wider, is_wide, is_more_than, is_beyond}
+use Rattle.sr_capture_laws.specs.Limited.{is_wider, is_wide, is_fault_over, is_fault_beyond}
 use Rattle.sr_capture_laws.proofs.ToldLemmas.{is_unjudged}
 
 -- a test of what may be there
@@ -55,11 +55,11 @@ any_filter p q (x ∷ xs) = by (q x) (any_filter p q xs)
 -- a verdict stays as it is, or a notice of the same loss stands in its place
 record Stays (limit : Option ℕ) (v : Verdict) : Type 0 where
   pub none : notice_in_place limit v ≡ None
-  pub same : is_beyond limit v ≡ is_a_fault v
+  pub same : is_fault_beyond limit v ≡ is_a_fault v
 
 record Gives (limit : Option ℕ) (v w : Verdict) : Type 0 where
   pub one : notice_in_place limit v ≡ Some w
-  pub within : is_beyond limit v ≡ false
+  pub within : is_fault_beyond limit v ≡ false
   pub notice : is_a_fault w ≡ false
   pub judging : is_unjudged w ≡ false
   pub loss : (lan : Side) → loss_in lan w ≡ loss_in lan v
@@ -74,7 +74,7 @@ stays_or_gives (Some most) v = by v
     few : (n : ℕ) → nat_le n most ≡ true → nat_lt most n ≡ false
     few n e = le-ltb most n (leb-true n most e)
 
-    by_count : (n : ℕ) (v w : Verdict) → within most v ≡ cond (nat_le n most) (Some w) None → is_more_than most v ≡ nat_lt most n → is_a_fault v ≡ true
+    by_count : (n : ℕ) (v w : Verdict) → within most v ≡ cond (nat_le n most) (Some w) None → is_fault_over most v ≡ nat_lt most n → is_a_fault v ≡ true
         → is_a_fault w ≡ false → is_unjudged w ≡ false → ((lan : Side) → loss_in lan w ≡ loss_in lan v) →
         Stays (Some most) v ⊎ ((w : Verdict) × Gives (Some most) v w)
     by_count n v w is test fault notice judging loss =
@@ -109,12 +109,12 @@ stays_or_gives (Some most) v = by v
 
 -- by a limit a fault is left exactly where one is beyond it, also among those that a test picks
 pub left_beyond : (limit : Option ℕ) (q : Verdict → Bool) (vs : List Verdict) →
-    list_any (λ v. q v && is_a_fault v) (limited limit vs) ≡ list_any (λ v. q v && is_beyond limit v) vs
+    list_any (λ v. q v && is_a_fault v) (limited limit vs) ≡ list_any (λ v. q v && is_fault_beyond limit v) vs
 left_beyond limit q vs =
     list_any-append test (filter_map (fault_beyond limit) vs) (filter_map (notice_in_place limit) vs)
-    ∙ ap₂ (λ a b. a || b) (any_map test (fault_beyond limit) vs ∙ any_same _ (λ v. q v && is_beyond limit v) (λ v. kept v (stays_or_gives limit v)) vs)
+    ∙ ap₂ (λ a b. a || b) (any_map test (fault_beyond limit) vs ∙ any_same _ (λ v. q v && is_fault_beyond limit v) (λ v. kept v (stays_or_gives limit v)) vs)
     (any_map test (notice_in_place limit) vs ∙ any_false _ (λ v. notices v (stays_or_gives limit v)) vs)
-    ∙ or_false (list_any (λ v. q v && is_beyond limit v) vs)
+    ∙ or_false (list_any (λ v. q v && is_fault_beyond limit v) vs)
   where
     test : Verdict → Bool
     test v = q v && is_a_fault v
@@ -127,7 +127,7 @@ left_beyond limit q vs =
     and_false true = refl
     and_false false = refl
 
-    kept : (v : Verdict) → Stays limit v ⊎ ((w : Verdict) × Gives limit v w) → passes test (fault_beyond limit v) ≡ (q v && is_beyond limit v)
+    kept : (v : Verdict) → Stays limit v ⊎ ((w : Verdict) × Gives limit v w) → passes test (fault_beyond limit v) ≡ (q v && is_fault_beyond limit v)
     kept v (inl stays) = ap (λ (o : Option Verdict). passes test (cond (is_some o) None (Some v))) stays.none ∙ ap (λ b. q v && b) (sym stays.same)
     kept v (inr gives) =
         ap (λ (o : Option Verdict). passes test (cond (is_some o) None (Some v))) gives.1.one
@@ -183,8 +183,14 @@ sums_kept : (limit : Option ℕ) (lan : Side) (vs : List Verdict) →
     sum_by (loss_in lan) (filter_map (fault_beyond limit) vs) + sum_by (loss_in lan) (filter_map (notice_in_place limit) vs) ≡ sum_by (loss_in lan) vs
 sums_kept limit lan [] = refl
 sums_kept limit lan (v ∷ vs) =
-    omega (arith, sum_map (loss_in lan) (fault_beyond limit) v vs, sum_map (loss_in lan) (notice_in_place limit) v vs,
-    sum_by-cons (loss_in lan) v vs, sums_kept limit lan vs, both (stays_or_gives limit v))
+    omega (
+      arith,
+      sum_map (loss_in lan) (fault_beyond limit) v vs,
+      sum_map (loss_in lan) (notice_in_place limit) v vs,
+      sum_by-cons (loss_in lan) v vs,
+      sums_kept limit lan vs,
+      both (stays_or_gives limit v),
+    )
   where
     none_more : (n : ℕ) → 0 + n ≡ n
     none_more n = omega arith
@@ -217,8 +223,13 @@ same_losses limit skew lan vs hs =
     let beyond = filter_map (fault_beyond limit) all in
     let notices = filter_map (notice_in_place limit) all in
     let sums : sum_by (loss_in lan) (beyond ++ notices) ≡ sum_by (loss_in lan) vs =
-    omega (arith, sum_by-append (loss_in lan) beyond notices, sums_kept limit lan all, sum_by-append (loss_in lan) vs (skew_verdicts skew hs),
-    skews_lose_none lan skew hs) in
+    omega (
+      arith,
+      sum_by-append (loss_in lan) beyond notices,
+      sums_kept limit lan all,
+      sum_by-append (loss_in lan) vs (skew_verdicts skew hs),
+      skews_lose_none lan skew hs,
+    ) in
     fold_bounded (loss_in lan) 0 (beyond ++ notices) (omega arith) ∙ ap (λ n. min (0 + n) (2 ^ 64 - 1)) sums
     ∙ sym (fold_bounded (loss_in lan) 0 vs (omega arith))
 
@@ -252,14 +263,14 @@ is_far bound k =
 
 -- a source is told where some of its pairs is beyond a limit, and no limit of losses leaves it out
 pub skews_told : (limit skew : Option ℕ) (q : Verdict → Bool) → ((mac : Mac) (z : ℤ) (most : ℕ) → q (Skew mac z most) ≡ true) → (hs : List Heard) →
-    list_any (λ v. q v && is_beyond limit v) (skew_verdicts skew hs) ≡ list_any (is_wide skew) hs
+    list_any (λ v. q v && is_fault_beyond limit v) (skew_verdicts skew hs) ≡ list_any (is_wide skew) hs
 skews_told limit None q all hs = sym (any_false (is_wide None) (λ h. refl) hs)
 skews_told limit (Some most) q all hs = any_map test (skew_on most) hs ∙ any_same _ (is_wide (Some most)) (λ h. told h) hs
   where
     test : Verdict → Bool
-    test v = q v && is_beyond limit v
+    test v = q v && is_fault_beyond limit v
 
-    beyond : (limit : Option ℕ) (mac : Mac) (z : ℤ) → is_beyond limit (Skew mac z most) ≡ true
+    beyond : (limit : Option ℕ) (mac : Mac) (z : ℤ) → is_fault_beyond limit (Skew mac z most) ≡ true
     beyond None mac z = refl
     beyond (Some lost) mac z = refl
 

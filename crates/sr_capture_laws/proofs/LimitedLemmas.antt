@@ -43,16 +43,16 @@ use Rattle.sr_verdict.specs.Places.{cut_place}
 use Rattle.sr_verdict.specs.Shared.{no_share, share_with, share_by, cut_in}
 use Rattle.sr_verdict.specs.Told.{why_told, verdicts_for}
 use Rattle.sr_verdict.specs.Verdicts.{as_list, when_counted, when_either, dead_by, verdict_on, verdicts_where, two_senders_told, lost_told, told_lan, in_prp, cut_told, sided_verdicts, loss_by, loss_at, are_crossed, astray_names, wrong_at, misfit_at, id_verdicts, other_id_verdicts, has_all_sent, IsSingleHearing, fault_verdicts, notice_verdicts, is_a_fault}
-use Rattle.sr_capture_laws.specs.Ending.{nodes_tell, HasNoLimits}
+use Rattle.sr_capture_laws.specs.Ending.{of_prp, nodes_tell, HasNoLimits}
 use Rattle.sr_capture_laws.specs.Exact.{judged_by}
 use Rattle.sr_capture_laws.specs.LimitCases.{NoLimitsLeaveEachFault}
-use Rattle.sr_capture_laws.specs.Limited.{allowed, lack_beyond, lost_of, loss_beyond, is_wide, come_again, come_late, faulty_anyway, stands_beyond, is_more_than, is_beyond, may_be_dropped, status_in, reason_for, EndExactly, VerdictsEndByLimits}
+use Rattle.sr_capture_laws.specs.Limited.{allowed, lack_beyond, frames_lost_of, loss_beyond, is_wide, come_again, come_late, faulty_anyway, stands_beyond, is_fault_over, is_fault_beyond, may_be_dropped, status_in, reason_for, EndExactly, VerdictsEndByLimits}
 use Rattle.sr_capture_laws.proofs.EndingLemmas.{Behind, behind_told, any_left, told_of_single}
 use Rattle.sr_capture_laws.proofs.LimitLemmas.{passes, any_map, any_same, any_false, any_filter, left_beyond, left_judging, same_explained, skews_told}
 use Rattle.sr_capture_laws.proofs.ToldLemmas.{Tells, has_rest, two_told, lost_told_in, wrong_told, others_told, told_faulty, tells_faults, tells_notices, tells_loss, tells_ids, tells_other_ids, is_unjudged, judged_first}
 
 -- a verdict of another kind than a loss is a fault whatever the limit
-whichever : (limit : Option ℕ) (v : Verdict) → ((most : ℕ) → is_more_than most v ≡ is_a_fault v) → is_beyond limit v ≡ is_a_fault v
+whichever : (limit : Option ℕ) (v : Verdict) → ((most : ℕ) → is_fault_over most v ≡ is_a_fault v) → is_fault_beyond limit v ≡ is_a_fault v
 whichever None v same = refl
 whichever (Some most) v same = same most
 
@@ -67,105 +67,105 @@ any_listed p (Some v) = or_false (p v)
 joined : (p : Verdict → Bool) (xs ys : List Verdict) (b c : Bool) → list_any p xs ≡ b → list_any p ys ≡ c → list_any p (xs ++ ys) ≡ (b || c)
 joined p xs ys b c e f = list_any-append p xs ys ∙ ap₂ (λ x y. x || y) e f
 
-counted : (limit : Option ℕ) (n : ℕ) (v : Verdict) → is_beyond limit v ≡ true → passes (is_beyond limit) (when_counted n v) ≡ nat_lt 0 n
+counted : (limit : Option ℕ) (n : ℕ) (v : Verdict) → is_fault_beyond limit v ≡ true → passes (is_fault_beyond limit) (when_counted n v) ≡ nat_lt 0 n
 counted limit n v is = by (nat_lt 0 n)
   where
-    by : (b : Bool) → passes (is_beyond limit) (cond b (Some v) None) ≡ b
+    by : (b : Bool) → passes (is_fault_beyond limit) (cond b (Some v) None) ≡ b
     by true = is
     by false = refl
 
-either : (limit : Option ℕ) (n m : ℕ) (v : Verdict) → is_beyond limit v ≡ true →
-    passes (is_beyond limit) (when_either n m v) ≡ (nat_lt 0 n || nat_lt 0 m)
+either : (limit : Option ℕ) (n m : ℕ) (v : Verdict) → is_fault_beyond limit v ≡ true →
+    passes (is_fault_beyond limit) (when_either n m v) ≡ (nat_lt 0 n || nat_lt 0 m)
 either limit n m v is = by (nat_lt 0 n)
   where
-    by : (b : Bool) → passes (is_beyond limit) (cond b (Some v) (when_counted m v)) ≡ (b || nat_lt 0 m)
+    by : (b : Bool) → passes (is_fault_beyond limit) (cond b (Some v) (when_counted m v)) ≡ (b || nat_lt 0 m)
     by true = is
     by false = counted limit m v is
 
 -- of numbers that no frame had
-numbers_beyond : (limit : Option ℕ) (mac : Mac) (n : ℕ) → passes (is_beyond limit) (when_counted n (BothLost mac n)) ≡ nat_lt (allowed limit) n
+numbers_beyond : (limit : Option ℕ) (mac : Mac) (n : ℕ) → passes (is_fault_beyond limit) (when_counted n (BothLost mac n)) ≡ nat_lt (allowed limit) n
 numbers_beyond None mac n = counted None n (BothLost mac n) refl
 numbers_beyond (Some most) mac n = by (nat_lt 0 n) refl
   where
-    by : (b : Bool) → nat_lt 0 n ≡ b → passes (is_beyond (Some most)) (cond b (Some (BothLost mac n)) None) ≡ nat_lt most n
+    by : (b : Bool) → nat_lt 0 n ≡ b → passes (is_fault_beyond (Some most)) (cond b (Some (BothLost mac n)) None) ≡ nat_lt most n
     by true e = refl
     by false e = sym (le-ltb most n (omega (arith, ltb-false 0 n e)))
 
-lack_told : (limit : Option ℕ) (k : _) → ((h : Heard) → passes (is_beyond limit) (verdict_on k h) ≡ nat_lt (allowed limit) h.figures.neither) →
+lack_told : (limit : Option ℕ) (k : _) → ((h : Heard) → passes (is_fault_beyond limit) (verdict_on k h) ≡ nat_lt (allowed limit) h.figures.neither) →
     (all : Bool) (hs : List Heard) →
-    list_any (is_beyond limit) (verdicts_where all k hs) ≡ (all && list_any (λ h. nat_lt (allowed limit) h.figures.neither) hs)
-lack_told limit k each true hs = any_map (is_beyond limit) (verdict_on k) hs ∙ any_same _ (λ h. nat_lt (allowed limit) h.figures.neither) each hs
+    list_any (is_fault_beyond limit) (verdicts_where all k hs) ≡ (all && list_any (λ h. nat_lt (allowed limit) h.figures.neither) hs)
+lack_told limit k each true hs = any_map (is_fault_beyond limit) (verdict_on k) hs ∙ any_same _ (λ h. nat_lt (allowed limit) h.figures.neither) each hs
 lack_told limit k each false hs = refl
 
 -- of sources by their frames
 two_beyond : (limit : Option ℕ) (nodes : List (Mac × Node)) →
-    list_any (is_beyond limit) (filter_map (λ (e : Mac × Node). two_senders_told e.0 (doubled_since e.1)) nodes) ≡ two_told nodes
+    list_any (is_fault_beyond limit) (filter_map (λ (e : Mac × Node). two_senders_told e.0 (doubled_since e.1)) nodes) ≡ two_told nodes
 two_beyond limit nodes =
-    any_map (is_beyond limit) (λ e. two_senders_told e.0 (doubled_since e.1)) nodes
+    any_map (is_fault_beyond limit) (λ e. two_senders_told e.0 (doubled_since e.1)) nodes
     ∙ any_same _ (λ e. is_some (doubled_since e.1)) (λ e. by e.0 (doubled_since e.1)) nodes
   where
-    by : (mac : Mac) (o : Option ℕ) → passes (is_beyond limit) (two_senders_told mac o) ≡ is_some o
+    by : (mac : Mac) (o : Option ℕ) → passes (is_fault_beyond limit) (two_senders_told mac o) ≡ is_some o
     by mac None = refl
     by mac (Some since) = whichever limit (TwoSenders mac since) (λ most. refl)
 
-lost_beyond : (limit : Option ℕ) (subject : Subject) (nodes : List (Mac × Node)) → list_any (is_beyond limit)
+lost_beyond : (limit : Option ℕ) (subject : Subject) (nodes : List (Mac × Node)) → list_any (is_fault_beyond limit)
     (in_prp subject.network (filter_map (λ (e : Mac × Node). lost_told subject.ports e.0 (lost_redundancy e.1)) nodes)) ≡ lost_told_in subject nodes
 lost_beyond limit subject nodes = by_network subject.network
   where
-    by : (mac : Mac) (o : Option (Lan × Tail)) → passes (is_beyond limit) (lost_told subject.ports mac o) ≡ is_some o
+    by : (mac : Mac) (o : Option (Lan × Tail)) → passes (is_fault_beyond limit) (lost_told subject.ports mac o) ≡ is_some o
     by mac None = refl
     by mac (Some lost) = whichever limit (LostRedundancy mac (told_lan subject.ports lost.0) lost.1) (λ most. refl)
 
-    by_network : (network : Network) → list_any (is_beyond limit)
+    by_network : (network : Network) → list_any (is_fault_beyond limit)
         (in_prp network (filter_map (λ (e : Mac × Node). lost_told subject.ports e.0 (lost_redundancy e.1)) nodes))
-        ≡ lost_told_in (record { network = network; ports = subject.ports }) nodes
-    by_network Prp = any_map (is_beyond limit) (λ e. lost_told subject.ports e.0 (lost_redundancy e.1)) nodes
+        ≡ of_prp network (list_any (λ e. is_some (lost_redundancy e.1)) nodes)
+    by_network Prp = any_map (is_fault_beyond limit) (λ e. lost_told subject.ports e.0 (lost_redundancy e.1)) nodes
         ∙ any_same _ (λ e. is_some (lost_redundancy e.1)) (λ e. by e.0 (lost_redundancy e.1)) nodes
     by_network Hsr = refl
 
 -- of sources that are heard by one side alone at last
 sided_beyond : (limit : Option ℕ) (network : Network) (hs : List Heard) →
-    list_any (is_beyond limit) (sided_verdicts network hs) ≡ list_any is_a_fault (sided_verdicts network hs)
+    list_any (is_fault_beyond limit) (sided_verdicts network hs) ≡ list_any is_a_fault (sided_verdicts network hs)
 sided_beyond limit Prp hs =
-    any_map (is_beyond limit) (λ h. dead_by h.mac (row_in h)) hs
+    any_map (is_fault_beyond limit) (λ h. dead_by h.mac (row_in h)) hs
     ∙ any_same _ (λ h. passes is_a_fault (dead_by h.mac (row_in h))) (λ h. by h.mac (row_in h)) hs
     ∙ sym (any_map is_a_fault (λ h. dead_by h.mac (row_in h)) hs)
   where
-    by : (mac : Mac) (o : Option Row) → passes (is_beyond limit) (dead_by mac o) ≡ passes is_a_fault (dead_by mac o)
+    by : (mac : Mac) (o : Option Row) → passes (is_fault_beyond limit) (dead_by mac o) ≡ passes is_a_fault (dead_by mac o)
     by mac None = refl
     by mac (Some row) = whichever limit (DeadPort mac row) (λ most. refl)
 sided_beyond limit Hsr hs = by (cut_place hs) (cut_in hs)
   where
     by : (place : Place) (c : Option Cut) →
-        list_any (is_beyond limit) (as_list (cut_told place c)) ≡ list_any is_a_fault (as_list (cut_told place c))
+        list_any (is_fault_beyond limit) (as_list (cut_told place c)) ≡ list_any is_a_fault (as_list (cut_told place c))
     by place None = refl
     by place (Some c) = ap (λ b. b || false) (whichever limit (CutRing c place) (λ most. refl))
 
 -- of ids and trailers
-counted_same : (limit : Option ℕ) (n : ℕ) (v : Verdict) → is_beyond limit v ≡ is_a_fault v →
-    list_any (is_beyond limit) (as_list (when_counted n v)) ≡ list_any is_a_fault (as_list (when_counted n v))
+counted_same : (limit : Option ℕ) (n : ℕ) (v : Verdict) → is_fault_beyond limit v ≡ is_a_fault v →
+    list_any (is_fault_beyond limit) (as_list (when_counted n v)) ≡ list_any is_a_fault (as_list (when_counted n v))
 counted_same limit n v same = by (nat_lt 0 n)
   where
-    by : (b : Bool) → list_any (is_beyond limit) (as_list (cond b (Some v) None)) ≡ list_any is_a_fault (as_list (cond b (Some v) None))
+    by : (b : Bool) → list_any (is_fault_beyond limit) (as_list (cond b (Some v) None)) ≡ list_any is_a_fault (as_list (cond b (Some v) None))
     by true = ap (λ b. b || false) same
     by false = refl
 
-both_same : (limit : Option ℕ) (xs ys : List Verdict) → list_any (is_beyond limit) xs ≡ list_any is_a_fault xs →
-    list_any (is_beyond limit) ys ≡ list_any is_a_fault ys → list_any (is_beyond limit) (xs ++ ys) ≡ list_any is_a_fault (xs ++ ys)
+both_same : (limit : Option ℕ) (xs ys : List Verdict) → list_any (is_fault_beyond limit) xs ≡ list_any is_a_fault xs →
+    list_any (is_fault_beyond limit) ys ≡ list_any is_a_fault ys → list_any (is_fault_beyond limit) (xs ++ ys) ≡ list_any is_a_fault (xs ++ ys)
 both_same limit xs ys e f =
-    joined (is_beyond limit) xs ys (list_any is_a_fault xs) (list_any is_a_fault ys) e f ∙ sym (list_any-append is_a_fault xs ys)
+    joined (is_fault_beyond limit) xs ys (list_any is_a_fault xs) (list_any is_a_fault ys) e f ∙ sym (list_any-append is_a_fault xs ys)
 
 wrong_same : (limit : Option ℕ) (side : Option Side) (n : ℕ) (nodes : List (Mac × Node)) →
-    list_any (is_beyond limit) (wrong_at side n nodes) ≡ list_any is_a_fault (wrong_at side n nodes)
+    list_any (is_fault_beyond limit) (wrong_at side n nodes) ≡ list_any is_a_fault (wrong_at side n nodes)
 wrong_same limit side n nodes =
     counted_same limit n (WrongLan side n (astray_names side nodes)) (whichever limit (WrongLan side n (astray_names side nodes)) (λ most. refl))
 
 misfit_same : (limit : Option ℕ) (side : Option Side) (n : ℕ) →
-    list_any (is_beyond limit) (misfit_at side n) ≡ list_any is_a_fault (misfit_at side n)
+    list_any (is_fault_beyond limit) (misfit_at side n) ≡ list_any is_a_fault (misfit_at side n)
 misfit_same limit side n = counted_same limit n (Misfit side n) (whichever limit (Misfit side n) (λ most. refl))
 
 ids_beyond : (limit : Option ℕ) (c : Counts) (nodes : List (Mac × Node)) →
-    list_any (is_beyond limit) (id_verdicts c nodes) ≡ (nat_lt 0 c.a.wrong_lan || nat_lt 0 c.b.wrong_lan)
+    list_any (is_fault_beyond limit) (id_verdicts c nodes) ≡ (nat_lt 0 c.a.wrong_lan || nat_lt 0 c.b.wrong_lan)
 ids_beyond limit c nodes = by (are_crossed c) ∙ (tells_ids c nodes).faults
   where
     crossed : Verdict
@@ -174,12 +174,12 @@ ids_beyond limit c nodes = by (are_crossed c) ∙ (tells_ids c nodes).faults
     told : Bool → List Verdict
     told b = cond b (crossed ∷ []) (wrong_at (Some A) c.a.wrong_lan nodes ++ wrong_at (Some B) c.b.wrong_lan nodes)
 
-    by : (b : Bool) → list_any (is_beyond limit) (told b) ≡ list_any is_a_fault (told b)
+    by : (b : Bool) → list_any (is_fault_beyond limit) (told b) ≡ list_any is_a_fault (told b)
     by true = ap (λ b. b || false) (whichever limit crossed (λ most. refl))
     by false = both_same limit (wrong_at (Some A) c.a.wrong_lan nodes) (wrong_at (Some B) c.b.wrong_lan nodes)
         (wrong_same limit (Some A) c.a.wrong_lan nodes) (wrong_same limit (Some B) c.b.wrong_lan nodes)
 
-other_ids_beyond : (limit : Option ℕ) (c : Counts) (nodes : List (Mac × Node)) → list_any (is_beyond limit) (other_id_verdicts c nodes)
+other_ids_beyond : (limit : Option ℕ) (c : Counts) (nodes : List (Mac × Node)) → list_any (is_fault_beyond limit) (other_id_verdicts c nodes)
     ≡ (((nat_lt 0 c.neither.wrong_lan || nat_lt 0 c.a.misfit) || nat_lt 0 c.b.misfit) || nat_lt 0 c.neither.misfit)
 other_ids_beyond limit c nodes =
     both_same limit _ (misfit_at None c.neither.misfit)
@@ -226,8 +226,8 @@ some_counted n = by (nat_lt 0 n) refl
     by true e = lt-ltb 0 (min n (2 ^ 64 - 1)) (omega (arith, ltb-true 0 n e))
     by false e = le-ltb 0 (min n (2 ^ 64 - 1)) (omega (arith, ltb-false 0 n e))
 
-loss_told : (limit : Option ℕ) (lan : Side) (hs : List Heard) → list_any (is_beyond limit) (loss_at lan hs) ≡ nat_lt (allowed limit) (lost_of lan hs)
-loss_told limit lan hs = any_listed (is_beyond limit) (loss_by lan own (share_by lan hs)) ∙ by_limit limit
+loss_told : (limit : Option ℕ) (lan : Side) (hs : List Heard) → list_any (is_fault_beyond limit) (loss_at lan hs) ≡ nat_lt (allowed limit) (frames_lost_of lan hs)
+loss_told limit lan hs = any_listed (is_fault_beyond limit) (loss_by lan own (share_by lan hs)) ∙ by_limit limit
   where
     own : Share
     own = share_by (other_side lan) hs
@@ -238,58 +238,58 @@ loss_told limit lan hs = any_listed (is_beyond limit) (loss_by lan own (share_by
     none_more : (n : ℕ) → 0 + n ≡ n
     none_more n = omega arith
 
-    frames_are : own.frames ≡ lost_of lan hs
+    frames_are : own.frames ≡ frames_lost_of lan hs
     frames_are = share_frames (other_side lan) no_share hs (omega arith) ∙ ap (λ n. min n (2 ^ 64 - 1)) (none_more (sum_by (rest_at (other_side lan)) hs))
 
     if_some : (b : Bool) → passes is_a_fault (cond b (Some verdict) None) ≡ b
     if_some true = refl
     if_some false = refl
 
-    sources_are : nat_lt 0 own.sources ≡ nat_lt 0 (lost_of lan hs)
+    sources_are : nat_lt 0 own.sources ≡ nat_lt 0 (frames_lost_of lan hs)
     sources_are =
         sym (if_some (nat_lt 0 own.sources)) ∙ sym (any_listed is_a_fault (loss_by lan own (share_by lan hs))) ∙ (tells_loss lan hs).faults
         ∙ sym (some_sum (rest_at (other_side lan)) hs) ∙ sym (some_counted (sum_by (rest_at (other_side lan)) hs))
 
-    by_limit : (limit : Option ℕ) → passes (is_beyond limit) (cond (nat_lt 0 own.sources) (Some verdict) None) ≡ nat_lt (allowed limit) (lost_of lan hs)
+    by_limit : (limit : Option ℕ) → passes (is_fault_beyond limit) (cond (nat_lt 0 own.sources) (Some verdict) None) ≡ nat_lt (allowed limit) (frames_lost_of lan hs)
     by_limit None = if_some (nat_lt 0 own.sources) ∙ sources_are
     by_limit (Some most) = by (nat_lt 0 own.sources) sources_are
       where
-        by : (b : Bool) → b ≡ nat_lt 0 (lost_of lan hs) → passes (is_beyond (Some most)) (cond b (Some verdict) None) ≡ nat_lt most (lost_of lan hs)
+        by : (b : Bool) → b ≡ nat_lt 0 (frames_lost_of lan hs) → passes (is_fault_beyond (Some most)) (cond b (Some verdict) None) ≡ nat_lt most (frames_lost_of lan hs)
         by true e = ap (λ n. nat_lt most n) frames_are
-        by false e = sym (le-ltb most (lost_of lan hs) (omega (arith, ltb-false 0 (lost_of lan hs) (sym e))))
+        by false e = sym (le-ltb most (frames_lost_of lan hs) (omega (arith, ltb-false 0 (frames_lost_of lan hs) (sym e))))
 
 -- of all faults
 repeated_beyond : (limit : Option ℕ) (hs : List Heard) →
-    list_any (is_beyond limit) (filter_map (λ (h : Heard). when_either h.figures.tally.repeats.a h.figures.tally.repeats.b (Repeated h.mac h.figures.tally.repeats)) hs) ≡ list_any come_again hs
+    list_any (is_fault_beyond limit) (filter_map (λ (h : Heard). when_either h.figures.tally.repeats.a h.figures.tally.repeats.b (Repeated h.mac h.figures.tally.repeats)) hs) ≡ list_any come_again hs
 repeated_beyond limit hs =
-    any_map (is_beyond limit) (λ h. when_either h.figures.tally.repeats.a h.figures.tally.repeats.b (Repeated h.mac h.figures.tally.repeats)) hs
+    any_map (is_fault_beyond limit) (λ h. when_either h.figures.tally.repeats.a h.figures.tally.repeats.b (Repeated h.mac h.figures.tally.repeats)) hs
     ∙ any_same _ come_again (λ h. either limit h.figures.tally.repeats.a h.figures.tally.repeats.b (Repeated h.mac h.figures.tally.repeats)
     (whichever limit (Repeated h.mac h.figures.tally.repeats) (λ most. refl))) hs
 
 late_beyond : (limit : Option ℕ) (hs : List Heard) →
-    list_any (is_beyond limit) (filter_map (λ (h : Heard). when_counted (last_class h.figures.skews.classes) (Late h.mac (last_class h.figures.skews.classes))) hs) ≡ list_any come_late hs
+    list_any (is_fault_beyond limit) (filter_map (λ (h : Heard). when_counted (last_class h.figures.skews.classes) (Late h.mac (last_class h.figures.skews.classes))) hs) ≡ list_any come_late hs
 late_beyond limit hs =
-    any_map (is_beyond limit) (λ h. when_counted (last_class h.figures.skews.classes) (Late h.mac (last_class h.figures.skews.classes))) hs
+    any_map (is_fault_beyond limit) (λ h. when_counted (last_class h.figures.skews.classes) (Late h.mac (last_class h.figures.skews.classes))) hs
     ∙ any_same _ come_late (λ h. counted limit (last_class h.figures.skews.classes) (Late h.mac (last_class h.figures.skews.classes))
     (whichever limit (Late h.mac (last_class h.figures.skews.classes)) (λ most. refl))) hs
 
 abbrev told_beyond : Option ℕ → Report → List (Mac × Node) → List Heard → List Heard → List Heard → Bool
 told_beyond limit r nodes own telling counters =
     ((((((((lack_beyond limit r counters || two_told nodes) || list_any is_a_fault (sided_verdicts r.subject.network telling)) || wrong_told r)
-    || lost_told_in r.subject nodes) || nat_lt (allowed limit) (lost_of A telling)) || nat_lt (allowed limit) (lost_of B telling))
+    || lost_told_in r.subject nodes) || nat_lt (allowed limit) (frames_lost_of A telling)) || nat_lt (allowed limit) (frames_lost_of B telling))
     || others_told r) || list_any come_again own) || list_any come_late own
 
 beyond_told : (limit : Option ℕ) (r : Report) (nodes : List (Mac × Node)) (own telling counters : List Heard) →
-    list_any (is_beyond limit) (fault_verdicts r nodes own telling counters) ≡ told_beyond limit r nodes own telling counters
+    list_any (is_fault_beyond limit) (fault_verdicts r nodes own telling counters) ≡ told_beyond limit r nodes own telling counters
 beyond_told limit r nodes own telling counters =
     two _ _ _ _ (two _ _ _ _ (two _ _ _ _ (two _ _ _ _ (two _ _ _ _ (two _ _ _ _ (two _ _ _ _ (two _ _ _ _ (two _ _ _ _
     (lack_told limit _ (λ h. numbers_beyond limit h.mac h.figures.neither) (has_all_sent r.sight r.counters) counters) (two_beyond limit nodes)) (sided_beyond limit r.subject.network telling))
     (ids_beyond limit r.counts nodes)) (lost_beyond limit r.subject nodes)) (loss_told limit A telling)) (loss_told limit B telling))
     (other_ids_beyond limit r.counts nodes)) (repeated_beyond limit own)) (late_beyond limit own)
   where
-    two : (xs ys : List Verdict) (b c : Bool) → list_any (is_beyond limit) xs ≡ b → list_any (is_beyond limit) ys ≡ c →
-        list_any (is_beyond limit) (xs ++ ys) ≡ (b || c)
-    two = joined (is_beyond limit)
+    two : (xs ys : List Verdict) (b c : Bool) → list_any (is_fault_beyond limit) xs ≡ b → list_any (is_fault_beyond limit) ys ≡ c →
+        list_any (is_fault_beyond limit) (xs ++ ys) ≡ (b || c)
+    two = joined (is_fault_beyond limit)
 
 -- in the order of the law
 ids_in_order : (wa wb wn ma mb mn : Bool) → ((wa || wb) || (((wn || ma) || mb) || mn)) ≡ ((wa || ma) || ((wb || mb) || (wn || mn)))
@@ -304,7 +304,7 @@ stands_is : (limit skew : Option ℕ) (r : Report) (nodes : List (Mac × Node)) 
     ≡ stands_beyond (record { lost = limit; skew = skew }) r nodes own telling counters
 stands_is limit skew r nodes own telling counters =
     all_in_order (lack_beyond limit r counters) (two_told nodes) sided (wrong_told r) (lost_told_in r.subject nodes)
-    (nat_lt (allowed limit) (lost_of A telling)) (nat_lt (allowed limit) (lost_of B telling)) (others_told r) (list_any come_again own)
+    (nat_lt (allowed limit) (frames_lost_of A telling)) (nat_lt (allowed limit) (frames_lost_of B telling)) (others_told r) (list_any come_again own)
     (list_any come_late own) (list_any (is_wide skew) own)
     ∙ ap (λ b. nodes_tell r.subject nodes || ((sided || (b || (list_any come_again own || list_any come_late own))) || (lack_beyond limit r counters
     || (loss_beyond limit telling || list_any (is_wide skew) own))))
@@ -332,19 +332,19 @@ tells_limited limit skew r nodes own telling counters =
       judging = left_judging limit (faults ++ skew_verdicts skew own)
           (joined is_unjudged faults (skew_verdicts skew own) false false (tells_faults r nodes own telling counters).judging (none_judging skew own));
       faults = left_beyond limit (λ v. true) (faults ++ skew_verdicts skew own)
-          ∙ joined (is_beyond limit) faults (skew_verdicts skew own) _ _ (beyond_told limit r nodes own telling counters)
+          ∙ joined (is_fault_beyond limit) faults (skew_verdicts skew own) _ _ (beyond_told limit r nodes own telling counters)
           (skews_told limit skew (λ v. true) (λ mac z most. refl) own)
           ∙ stands_is limit skew r nodes own telling counters;
     }
 
--- and those that are left where recorders may have made some
+-- which faults are left where recorders may have made some
 left_is : (limit skew : Option ℕ) (ports : Ports) (dropped : Sides) (faults : List Verdict) (own : List Heard) →
     list_any is_a_fault (left_unexplained (explained_by ports dropped faults) (limited limit (faults ++ skew_verdicts skew own)))
-    ≡ (list_any (is_beyond limit) (left_unexplained (explained_by ports dropped faults) faults) || list_any (is_wide skew) own)
+    ≡ (list_any (is_fault_beyond limit) (left_unexplained (explained_by ports dropped faults) faults) || list_any (is_wide skew) own)
 left_is limit skew ports dropped faults own =
     any_filter is_a_fault stays (limited limit (faults ++ skew_verdicts skew own))
     ∙ left_beyond limit stays (faults ++ skew_verdicts skew own)
-    ∙ joined (λ v. stays v && is_beyond limit v) faults (skew_verdicts skew own) _ _ (sym (any_filter (is_beyond limit) stays faults))
+    ∙ joined (λ v. stays v && is_fault_beyond limit v) faults (skew_verdicts skew own) _ _ (sym (any_filter (is_fault_beyond limit) stays faults))
     (skews_told limit skew stays (λ mac z most. refl) own)
   where
     stays : Verdict → Bool
@@ -418,7 +418,7 @@ verdicts_end_limited r sources outside vs are =
     let limits = limited lost (faults ++ skew_verdicts skew are.own) in
     let notices = notice_verdicts r nodes outside.ahead are.counters in
     let faulty = stands_beyond outside.limits r nodes are.own are.telling are.counters in
-    let wrong = list_any (is_beyond lost) (left_unexplained (explained_by ports dropped faults) faults) || list_any (is_wide skew) are.own in
+    let wrong = list_any (is_fault_beyond lost) (left_unexplained (explained_by ports dropped faults) faults) || list_any (is_wide skew) are.own in
     subst (λ (l : List Verdict). EndExactly (judged_by (why_told outside.reason r) faulty) (may_be_dropped outside.limits ports dropped faults are.own)
     (why_dropped ports dropped (explained_by ports dropped faults)) l) (sym are.verdicts)
     (ends_exactly ports dropped (why_told outside.reason r) faults limits notices faulty wrong

@@ -1,16 +1,38 @@
 -- Checks by limits worked out, and what they are not.
-use Rattle.std.specs.Prelude.{◌≡◌, ℕ, Bool, true, false, List, [], ◌∷◌, Option, None, Some, ℤ, pos, negsuc, All, ◌||◌}
+use Rattle.std.specs.Prelude.{
+  ◌≡◌,
+  ◌≤◌,
+  ◌-◌,
+  ◌*◌,
+  ℕ,
+  length,
+  true,
+  false,
+  List,
+  [],
+  ◌∷◌,
+  Option,
+  None,
+  Some,
+  ℤ,
+  pos,
+  negsuc,
+  All,
+  ◌||◌,
+}
 use Rattle.std.specs.List.{list_any}
 use Rattle.sr_frame.specs.declared.fields.Mac.{Mac}
 use Rattle.sr_audit.specs.declared.arrival.Arrival.{Arrival}
-use Rattle.sr_audit.specs.declared.source.Figures.{Figures}
 use Rattle.sr_audit.specs.declared.source.Source.{Source}
 use Rattle.sr_audit.specs.declared.span.Spans.{Spans}
+use Rattle.sr_audit.specs.Limits.{exact_arrivals}
+use Rattle.sr_audit.specs.Shown.{figures_of}
+use Rattle.sr_audit.specs.Skewing.{skews_of}
+use Rattle.sr_audit.specs.Stretches.{stretches}
 use Rattle.sr_audit.specs.Taken.{HasTaken}
 use Rattle.sr_capture_audit.specs.declared.figures.Report.{Report}
 use Rattle.sr_capture_audit.specs.declared.judgement.Reason.{Reason}
 use Rattle.sr_capture_audit.specs.Faults.{have_faults, has_faults}
-use Rattle.sr_sources.specs.declared.source.Source.{Source as Node}
 use Rattle.sr_sources.specs.declared.table.Sources.{Sources}
 use Rattle.sr_verdict.specs.declared.heard.Heard.{Heard}
 use Rattle.sr_verdict.specs.declared.judging.Outside.{Outside}
@@ -20,13 +42,19 @@ use Rattle.sr_verdict.specs.Drops.{any_dropped}
 use Rattle.sr_verdict.specs.Told.{why_told, AreVerdictsOf}
 use Rattle.sr_verdict.specs.Verdicts.{telling_entries, sided_verdicts, IsSingleHearing, is_a_fault, block_status}
 use Rattle.sr_capture_laws.specs.Ending.{nodes_tell, HasNoLimits}
-use Rattle.sr_capture_laws.specs.Limited.{stands_beyond}
+use Rattle.sr_capture_laws.specs.Limited.{is_wider, is_wide, stands_beyond}
 
 -- Where a user has no limits, a fault stands beyond them exactly where the frames of sources, or the figures, tell of one.
 abbrev pub NoLimitsLeaveEachFault : Type 0
 NoLimitsLeaveEachFault = (r : Report) (sources : Sources) (outside : Outside) (own telling counters : List Heard) → HasNoLimits outside
     → IsSingleHearing r sources.sources.entries own telling counters
-    → stands_beyond outside.limits r sources.sources.entries own telling counters ≡ (nodes_tell r.subject sources.sources.entries || has_faults r)
+    → stands_beyond outside.limits r sources.sources.entries own telling counters
+    ≡ (nodes_tell r.subject sources.sources.entries || has_faults r)
+
+-- Some pair of a source's copies came further apart than a limit exactly where the least or the greatest skew of it tells so.
+abbrev pub PairsBeyondALimitAreTold : Type 0
+PairsBeyondALimitAreTold = (limit : Option ℕ) (spans : Spans) (xs : List Arrival) (s : Source) (h : Heard) → length xs ≤ exact_arrivals
+    → HasTaken spans xs s → h.figures ≡ figures_of s → is_wide limit h ≡ list_any (is_wider limit) (skews_of (stretches xs))
 
 -- what is kept of a source is of arrivals that came
 pub record IsOfArrivals (spans : Spans) (s : Source) : Type 0 where
@@ -48,8 +76,8 @@ VerdictsAreOfTheRun = (r : Report) (sources : Sources) (outside : Outside) (vs w
     → AreVerdictsOf r sources outside vs → AreVerdictsOf r sources outside ws → vs ≡ ws
 
 -- what is heard of a source of which so many frames came by A alone, none of them in a row at its end, and whose copies came so far apart
-abbrev pub heard_with : Mac → ℕ → ℤ → ℤ → Heard
-heard_with mac alone least greatest = record {
+abbrev pub heard_alone : Mac → ℕ → ℤ → ℤ → Heard
+heard_alone mac alone least greatest = record {
   mac = mac;
   figures = record {
     tally = record {
@@ -70,11 +98,14 @@ heard_with mac alone least greatest = record {
 
 -- two sources, of each of which three frames came by A alone
 abbrev pub six_lost : Mac → Mac → List Heard
-six_lost m n = heard_with m 3 (pos 0) (pos 0) ∷ heard_with n 3 (pos 0) (pos 0) ∷ []
+six_lost m n = heard_alone m 3 (pos 0) (pos 0) ∷ heard_alone n 3 (pos 0) (pos 0) ∷ []
 
--- a source whose copies by B came up to 1.5 ms before those by A
+-- a source whose copies by B came up to 1500 microseconds before those by A
+abbrev pub most_apart : ℕ
+most_apart = 1500
+
 abbrev pub one_wide : Mac → List Heard
-one_wide m = heard_with m 0 (negsuc 1499999) (pos 1000) ∷ []
+one_wide m = heard_alone m 0 (negsuc (1000 * most_apart - 1)) (pos 0) ∷ []
 
 abbrev pub limits_of : Option ℕ → Option ℕ → Limits
 limits_of lost skew = record { lost = lost; skew = skew }
@@ -90,7 +121,7 @@ pub record IsCheckOf (limits : Limits) (own telling : List Heard) (r : Report) (
   pub dropped : any_dropped outside.dropped ≡ false
 
 -- its other figures tell of no fault
-pub record IsQuiet (r : Report) (sources : Sources) (counters : List Heard) : Type 0 where
+pub record IsElseQuiet (r : Report) (sources : Sources) (counters : List Heard) : Type 0 where
   pub none_missing : counters ≡ []
   pub nodes : nodes_tell r.subject sources.sources.entries ≡ false
   pub counts : have_faults r.counts ≡ false
@@ -99,14 +130,16 @@ pub record IsQuiet (r : Report) (sources : Sources) (counters : List Heard) : Ty
 pub record WorkedLimitsEndChecks : Type 0 where
   -- six lost frames are within a limit of six, and beyond one of five, though of each source three were lost
   pub within : (m n : Mac) (r : Report) (sources : Sources) (outside : Outside) (vs : List Verdict)
-      (check : IsCheckOf (limits_of (Some 6) None) (six_lost m n) (six_lost m n) r sources outside vs) → IsQuiet r sources check.are.counters → block_status vs ≡ 0
+      (check : IsCheckOf (limits_of (Some 6) None) (six_lost m n) (six_lost m n) r sources outside vs) →
+      IsElseQuiet r sources check.are.counters → block_status vs ≡ 0
   pub beyond : (m n : Mac) (r : Report) (sources : Sources) (outside : Outside) (vs : List Verdict)
       (check : IsCheckOf (limits_of (Some 5) None) (six_lost m n) (six_lost m n) r sources outside vs) → block_status vs ≡ 3
-  -- 1.5 ms are within a limit of 1500 us, and beyond one of 1499 us, whichever copy came first
+  -- 1500 microseconds are within a limit of as many, and beyond one of 1499, whichever copy came first
   pub near : (m : Mac) (r : Report) (sources : Sources) (outside : Outside) (vs : List Verdict)
-      (check : IsCheckOf (limits_of None (Some 1500)) (one_wide m) (one_wide m) r sources outside vs) → IsQuiet r sources check.are.counters → block_status vs ≡ 0
+      (check : IsCheckOf (limits_of None (Some most_apart)) (one_wide m) (one_wide m) r sources outside vs) →
+      IsElseQuiet r sources check.are.counters → block_status vs ≡ 0
   pub far : (m : Mac) (r : Report) (sources : Sources) (outside : Outside) (vs : List Verdict)
-      (check : IsCheckOf (limits_of None (Some 1499)) (one_wide m) (one_wide m) r sources outside vs) → block_status vs ≡ 3
+      (check : IsCheckOf (limits_of None (Some (most_apart - 1))) (one_wide m) (one_wide m) r sources outside vs) → block_status vs ≡ 3
 
 -- statuses that a check does not end with
 pub record FalseEndsAreRefused : Type 0 where
@@ -115,15 +148,15 @@ pub record FalseEndsAreRefused : Type 0 where
       IsCheckOf (limits_of (Some 5) None) (six_lost m n) (six_lost m n) r sources outside vs → block_status vs ≡ 0 → ⊥
   -- a loss of just the limit is a fault
   pub at_limit : (m n : Mac) (r : Report) (sources : Sources) (outside : Outside) (vs : List Verdict)
-      (check : IsCheckOf (limits_of (Some 6) None) (six_lost m n) (six_lost m n) r sources outside vs) → IsQuiet r sources check.are.counters →
-      block_status vs ≡ 3 → ⊥
+      (check : IsCheckOf (limits_of (Some 6) None) (six_lost m n) (six_lost m n) r sources outside vs) →
+      IsElseQuiet r sources check.are.counters → block_status vs ≡ 3 → ⊥
   -- a pair is far apart only where its copy by A came first
   pub by_order : (m : Mac) (r : Report) (sources : Sources) (outside : Outside) (vs : List Verdict) →
-      IsCheckOf (limits_of None (Some 1499)) (one_wide m) (one_wide m) r sources outside vs → block_status vs ≡ 0 → ⊥
+      IsCheckOf (limits_of None (Some (most_apart - 1))) (one_wide m) (one_wide m) r sources outside vs → block_status vs ≡ 0 → ⊥
   -- a limit of losses is one of dead ports and cuts too
   pub of_rows : (limits : Limits) (own telling : List Heard) (r : Report) (sources : Sources) (outside : Outside) (vs : List Verdict) →
       IsCheckOf limits own telling r sources outside vs → list_any is_a_fault (sided_verdicts r.subject.network telling) ≡ true →
       block_status vs ≡ 0 → ⊥
   -- a limit judges where nothing can be judged
-  pub unjudged : (r : Report) (sources : Sources) (outside : Outside) (vs : List Verdict) (why : Reason) → AreVerdictsOf r sources outside vs →
-      why_told outside.reason r ≡ Some why → (block_status vs ≡ 4 → ⊥) → ⊥
+  pub unjudged : (r : Report) (sources : Sources) (outside : Outside) (vs : List Verdict) (why : Reason) →
+      AreVerdictsOf r sources outside vs → why_told outside.reason r ≡ Some why → (block_status vs ≡ 4 → ⊥) → ⊥

@@ -1,5 +1,26 @@
 -- How a check ends by the limits of a user.
-use Rattle.std.specs.Prelude.{◌≡◌, ℕ, ◌-◌, ◌*◌, ◌^◌, min, nat_lt, Bool, false, not, ◌&&◌, ◌||◌, List, Option, None, Some, ℤ, unsigned_abs, sum_by, if◌then◌else◌}
+use Rattle.std.specs.Prelude.{
+  ◌≡◌,
+  ℕ,
+  ◌-◌,
+  ◌*◌,
+  ◌^◌,
+  min,
+  nat_lt,
+  Bool,
+  false,
+  not,
+  ◌&&◌,
+  ◌||◌,
+  List,
+  Option,
+  None,
+  Some,
+  ℤ,
+  unsigned_abs,
+  sum_by,
+  if◌then◌else◌,
+}
 use Rattle.std.specs.List.{list_any}
 use Rattle.sr_frame.specs.declared.fields.Mac.{Mac}
 use Rattle.sr_audit.specs.declared.side.Side.{Side}
@@ -28,30 +49,30 @@ use Rattle.sr_verdict.specs.Verdicts.{has_all_sent, sided_verdicts, is_a_fault, 
 use Rattle.sr_capture_laws.specs.Ending.{nodes_tell, faults_told}
 use Rattle.sr_capture_laws.specs.Exact.{judged_by}
 
--- so much that is lost a user takes for no fault: nothing, where he has no limit
+-- how much may be lost without a fault: nothing where the user has no limit
 abbrev pub allowed : Option ℕ → ℕ
 allowed None = 0
 allowed (Some most) = most
 
--- more numbers of a source than that are of no frame, in captures that have all that was sent
+-- more numbers of some source are of no frame, in captures that have all that was sent
 abbrev pub lack_beyond : Option ℕ → Report → List Heard → Bool
 lack_beyond limit r counters =
     has_all_sent r.sight r.counters && list_any (λ h. nat_lt (allowed limit) h.figures.neither) counters
 
 -- how many frames a LAN lost that came by the other one, besides those of rows; a count stays at 2^64 - 1
-abbrev pub lost_of : Side → List Heard → ℕ
-lost_of lan telling = min (sum_by (rest_at (other_side lan)) telling) (2 ^ 64 - 1)
+abbrev pub frames_lost_of : Side → List Heard → ℕ
+frames_lost_of lan telling = min (sum_by (rest_at (other_side lan)) telling) (2 ^ 64 - 1)
 
--- a LAN lost more than that
+-- a LAN lost more frames than may be
 abbrev pub loss_beyond : Option ℕ → List Heard → Bool
-loss_beyond limit telling = nat_lt (allowed limit) (lost_of A telling) || nat_lt (allowed limit) (lost_of B telling)
+loss_beyond limit telling = nat_lt (allowed limit) (frames_lost_of A telling) || nat_lt (allowed limit) (frames_lost_of B telling)
 
--- two copies came so many nanoseconds apart, the one or the other first, and that is more than so many microseconds
+-- a skew is more than so many microseconds, whichever copy came first
 abbrev pub is_wider : Option ℕ → ℤ → Bool
 is_wider None skew = false
 is_wider (Some most) skew = nat_lt (1000 * most) (unsigned_abs skew)
 
--- the copies of some frame of a source did
+-- so is the least or the greatest one of a source
 abbrev pub is_wide : Option ℕ → Heard → Bool
 is_wide limit h = is_wider limit h.figures.skews.least || is_wider limit h.figures.skews.greatest
 
@@ -62,7 +83,7 @@ come_again h = nat_lt 0 h.figures.tally.repeats.a || nat_lt 0 h.figures.tally.re
 abbrev pub come_late : Heard → Bool
 come_late h = nat_lt 0 (last_class h.figures.skews.classes)
 
--- what is a fault whatever the limits: ports are dead or a ring is cut, ids or trailers are not those of their LAN, copies come again or late
+-- what is a fault whatever the limits: a port is dead or a ring is cut, an id or a trailer is not that of its LAN, copies come again or late
 abbrev pub faulty_anyway : Report → List Heard → List Heard → Bool
 faulty_anyway r own telling =
     list_any is_a_fault (sided_verdicts r.subject.network telling)
@@ -74,20 +95,21 @@ stands_beyond limits r nodes own telling counters =
     nodes_tell r.subject nodes || (faulty_anyway r own telling || (lack_beyond limits.lost r counters
     || (loss_beyond limits.lost telling || list_any (is_wide limits.skew) own)))
 
--- so a verdict: one of a loss where more than the limit is lost, each other one where it is a fault
-abbrev pub is_more_than : ℕ → Verdict → Bool
-is_more_than most (BothLost mac numbers) = nat_lt most numbers
-is_more_than most (Loss lan share other) = nat_lt most share.frames
-is_more_than most v = is_a_fault v
+-- verdicts beyond a limit: one of a loss where more is lost, each other one where it is a fault
+abbrev pub is_fault_over : ℕ → Verdict → Bool
+is_fault_over most (BothLost mac numbers) = nat_lt most numbers
+is_fault_over most (Loss lan share other) = nat_lt most share.frames
+is_fault_over most v = is_a_fault v
 
-abbrev pub is_beyond : Option ℕ → Verdict → Bool
-is_beyond None v = is_a_fault v
-is_beyond (Some most) v = is_more_than most v
+abbrev pub is_fault_beyond : Option ℕ → Verdict → Bool
+is_fault_beyond None v = is_a_fault v
+is_fault_beyond (Some most) v = is_fault_over most v
 
 -- recorders dropped packets, and may have made each fault beyond the limits
 abbrev pub may_be_dropped : Limits → Ports → Sides → List Verdict → List Heard → Bool
 may_be_dropped limits ports dropped faults own =
-    any_dropped dropped && not (list_any (is_beyond limits.lost) (left_unexplained (explained_by ports dropped faults) faults)
+    any_dropped dropped
+    && not (list_any (is_fault_beyond limits.lost) (left_unexplained (explained_by ports dropped faults) faults)
     || list_any (is_wide limits.skew) own)
 
 -- how a check ends by a judgement, where its faults may be the recorders' doing or not
@@ -96,7 +118,7 @@ status_in Sound doubt = 0
 status_in Faulty doubt = if doubt then 4 else 3
 status_in (Unjudged why) doubt = 4
 
--- and why nothing can be judged
+-- why nothing can be judged, by the figures or for what recorders dropped
 abbrev pub reason_for : Judgement → Bool → Why → Option Why
 reason_for Sound doubt drops = None
 reason_for Faulty doubt drops = if doubt then Some drops else None
@@ -106,8 +128,8 @@ pub record EndExactly (j : Judgement) (doubt : Bool) (drops : Why) (vs : List Ve
   pub status : block_status vs ≡ status_in j doubt
   pub reason : reason_in vs ≡ reason_for j doubt drops
 
--- The verdicts on any report, by any limits, end a check with 4 where nothing can be judged, by the figures or for something besides them, or
--- where recorders may have made each fault beyond the limits; else with 3 where such a fault stands; else with 0.
+-- The verdicts on any report, by any limits, end a check with 4 where nothing can be judged, by the figures or for something besides
+-- them, or where recorders may have made each fault beyond the limits; else with 3 where such a fault stands; else with 0.
 abbrev pub VerdictsEndByLimits : Type 0
 VerdictsEndByLimits = (r : Report) (sources : Sources) (outside : Outside) (vs : List Verdict) (are : AreVerdictsOf r sources outside vs)
     → EndExactly

@@ -4,7 +4,7 @@ ghost use Rattle.sr_capture_laws.specs.Counted.{ReportsCountEachNumber, Counters
 ghost use Rattle.sr_capture_laws.specs.Ending.{VerdictsEndAsJudged};
 ghost use Rattle.sr_capture_laws.specs.Exact.{ChecksAreByArrivals};
 ghost use Rattle.sr_capture_laws.specs.Limited.{VerdictsEndByLimits};
-ghost use Rattle.sr_capture_laws.specs.LimitCases.{NoLimitsLeaveEachFault, VerdictsAreOfTheRun, WorkedLimitsEndChecks, FalseEndsAreRefused};
+ghost use Rattle.sr_capture_laws.specs.LimitCases.{NoLimitsLeaveEachFault, PairsBeyondALimitAreTold, VerdictsAreOfTheRun, WorkedLimitsEndChecks, FalseEndsAreRefused};
 ghost use Rattle.sr_capture_laws.specs.Lossless.{InnerSpansLeaveOut, EdgesAreWideEnough, MirrorsTellNoFault, RecordersTellNoFault, TwoReadingsTellNoFault};
 ghost use Rattle.sr_capture_laws.specs.Seeing.{FlowsAreByArrivals, SightIsByArrivals};
 
@@ -74,6 +74,11 @@ pub fn verdicts_end_by_limits()
 /// then as `verdicts_end_as_judged` says.
 pub fn no_limits_leave_each_fault()
     ensures { NoLimitsLeaveEachFault }
+{}
+
+/// The least or the greatest skew of a source is beyond a limit exactly where some pair of its copies came further apart than that.
+pub fn pairs_beyond_a_limit_are_told()
+    ensures { PairsBeyondALimitAreTold }
 {}
 
 /// A report of arrivals has one list of verdicts, and so one end of a check.
