@@ -1,32 +1,40 @@
 -- Checks by limits worked out.
-use Rattle.std.proofs.Common.{◌≡◌, ℕ, ◌-◌, Bool, true, false, cond, ◌&&◌, ◌||◌, List, [], ◌∷◌, ◌++◌, Option, None, Some, All, arith, refl, sym, ap, ap₂, ◌∙◌}
+use Rattle.std.proofs.Common.{◌≡◌, ℕ, ◌+◌, ◌-◌, ◌^◌, ◌≤◌, Bool, true, false, cond, not, ◌&&◌, ◌||◌, List, [], ◌∷◌, ◌++◌, Option, None, Some, arith, refl, sym, ap, ap₂, ◌∙◌}
+use Rattle.std.specs.Prelude.{min, nat_lt, nat_le, filter, sum_by}
 use Rattle.std.specs.List.{list_any}
-use Rattle.std.proofs.lemmas.Bool.{and_left, and_right, or_from, or_left, or_right}
+use Rattle.std.proofs.lemmas.Bool.{and_left, and_right, not_from_true, lt-leb, or_from, or_left, or_right}
 use Rattle.std.proofs.lemmas.List.Elements.{All-head, All-tail}
+use Rattle.std.proofs.lemmas.List.Folds.{list_any-append}
+use Rattle.std.proofs.lemmas.List.Sums.{sum_by-append}
 use Rattle.sr_frame.specs.declared.fields.Mac.{Mac}
 use Rattle.sr_audit.specs.declared.row.Row.{Row}
+use Rattle.sr_audit.specs.declared.side.Side.TheVariants.{B}
 use Rattle.sr_audit.specs.declared.source.Source.{Source}
 use Rattle.sr_audit.specs.declared.span.Spans.{Spans}
+use Rattle.sr_audit.specs.declared.tally.Sides.{Sides}
 use Rattle.sr_audit.specs.Shown.{figures_of}
 use Rattle.sr_capture_audit.specs.declared.figures.Report.{Report}
 use Rattle.sr_capture_audit.specs.declared.judgement.Reason.{Reason}
+use Rattle.sr_capture_audit.specs.declared.judgement.Judgement.TheVariants.{Faulty}
 use Rattle.sr_capture_audit.specs.declared.network.Network.{Network}
 use Rattle.sr_capture_audit.specs.declared.network.Network.TheVariants.{Prp, Hsr}
+use Rattle.sr_capture_audit.specs.declared.network.Ports.{Ports}
+use Rattle.sr_capture_audit.specs.declared.network.Ports.TheVariants.{Two}
 use Rattle.sr_capture_audit.specs.Faults.{have_faults}
-use Rattle.sr_sources.specs.declared.source.Source.{Source as Node}
 use Rattle.sr_sources.specs.declared.table.Sources.{Sources}
 use Rattle.sr_verdict.specs.declared.heard.Heard.{Heard}
 use Rattle.sr_verdict.specs.declared.judging.Outside.{Outside}
 use Rattle.sr_verdict.specs.declared.limits.Limits.{Limits}
 use Rattle.sr_verdict.specs.declared.verdict.Verdict.{Verdict}
-use Rattle.sr_verdict.specs.Drops.{any_dropped, settled, dropped_told}
+use Rattle.sr_verdict.specs.Drops.{loss_in, losses_in, explains, explained_by, is_explained, any_dropped, settled, dropped_told}
 use Rattle.sr_verdict.specs.Heards.{AreHeard}
 use Rattle.sr_verdict.specs.Told.{why_told, verdicts_for, limited_faults, AreVerdictsOf}
-use Rattle.sr_verdict.specs.Verdicts.{single_in, sided_verdicts, notice_verdicts, is_a_fault, block_status}
+use Rattle.sr_verdict.specs.Verdicts.{single_in, loss_at, sided_verdicts, fault_verdicts, notice_verdicts, is_a_fault, block_status}
 use Rattle.sr_capture_laws.specs.Ending.{nodes_tell, faults_told}
 use Rattle.sr_capture_laws.specs.Exact.{judged_by}
-use Rattle.sr_capture_laws.specs.Limited.{lack_beyond, loss_beyond, is_wide, come_again, come_late, faulty_anyway, stands_beyond, may_be_dropped, status_in}
+use Rattle.sr_capture_laws.specs.Limited.{lack_beyond, loss_beyond, is_wide, faulty_anyway, stands_beyond, is_fault_beyond, may_be_dropped, status_in}
 use Rattle.sr_capture_laws.specs.LimitCases.{IsOfArrivals, AreOfArrivals, VerdictsAreOfTheRun, six_lost, most_apart, one_wide, limits_of, IsCheckOf, IsElseQuiet, WorkedLimitsEndChecks, FalseEndsAreRefused}
+use Rattle.sr_capture_laws.proofs.LimitLemmas.{any_filter, fold_bounded}
 use Rattle.sr_capture_laws.proofs.LimitedLemmas.{verdicts_end_limited}
 
 -- what is heard of sources of arrivals is one list
@@ -154,6 +162,82 @@ far m r sources outside vs check =
 pub limits_worked : WorkedLimitsEndChecks
 limits_worked = record { within = within; beyond = beyond; near = near; far = far }
 
+-- a loss in the midst of a list
+abbrev Amid : List Verdict → List Verdict → List Verdict → List Verdict → List Verdict → List Verdict
+Amid before xs c d e = (((before ++ xs) ++ c) ++ d) ++ e
+
+any_amid : (p : Verdict → Bool) (before xs c d e : List Verdict) → list_any p xs ≡ true → list_any p (Amid before xs c d e) ≡ true
+any_amid p before xs c d e is =
+    list_any-append p (((before ++ xs) ++ c) ++ d) e ∙ or_left (list_any p (((before ++ xs) ++ c) ++ d)) (list_any p e)
+    (list_any-append p ((before ++ xs) ++ c) d ∙ or_left (list_any p ((before ++ xs) ++ c)) (list_any p d)
+    (list_any-append p (before ++ xs) c ∙ or_left (list_any p (before ++ xs)) (list_any p c)
+    (list_any-append p before xs ∙ or_right (list_any p before) (list_any p xs) is)))
+
+sum_amid : (f : Verdict → ℕ) (before xs c d e : List Verdict) → sum_by f xs ≤ sum_by f (Amid before xs c d e)
+sum_amid f before xs c d e =
+    omega (
+      arith,
+      sum_by-append f (((before ++ xs) ++ c) ++ d) e,
+      sum_by-append f ((before ++ xs) ++ c) d,
+      sum_by-append f (before ++ xs) c,
+      sum_by-append f before xs,
+    )
+
+-- a recorder that dropped five packets made no loss of six
+five_dropped : Sides
+five_dropped = record { a = 0; b = 5 }
+
+none_excused : (m n : Mac) (before c d e : List Verdict) (own : List Heard) →
+    may_be_dropped (limits_of (Some 5) None) Two five_dropped (Amid before (loss_at B (six_lost m n)) c d e) own ≡ false
+none_excused m n before c d e own =
+    and_right (any_dropped five_dropped) _ (not_from_true (list_any (is_fault_beyond (Some 5)) (filter stays faults) || list_any (is_wide None) own)
+    (or_left (list_any (is_fault_beyond (Some 5)) (filter stays faults)) (list_any (is_wide None) own)
+    (any_filter (is_fault_beyond (Some 5)) stays faults
+    ∙ any_amid (λ v. stays v && is_fault_beyond (Some 5) v) before (loss_at B (six_lost m n)) c d e (ap (λ b. (not b && true) || false) unexplained))))
+  where
+    faults : List Verdict
+    faults = Amid before (loss_at B (six_lost m n)) c d e
+
+    stays : Verdict → Bool
+    stays v = not (is_explained (explained_by Two five_dropped faults) v)
+
+    six : 6 ≤ sum_by (loss_in B) faults
+    six = sum_amid (loss_in B) before (loss_at B (six_lost m n)) c d e
+
+    losses : losses_in B faults ≡ min (0 + sum_by (loss_in B) faults) (2 ^ 64 - 1)
+    losses = fold_bounded (loss_in B) 0 faults (omega arith)
+
+    not_few : nat_le (losses_in B faults) 5 ≡ false
+    not_few = lt-leb 5 (losses_in B faults) (omega (arith, six, losses))
+
+    unexplained : explains 5 (losses_in B faults) ≡ false
+    unexplained = and_right (nat_lt 0 (losses_in B faults)) (nat_le (losses_in B faults) 5) not_few
+
+excused : (m n : Mac) (r : Report) (sources : Sources) (outside : Outside) (vs : List Verdict)
+    (are : AreVerdictsOf r sources outside vs) → outside.limits ≡ limits_of (Some 5) None → are.telling ≡ six_lost m n →
+    why_told outside.reason r ≡ None → r.subject.ports ≡ Two → outside.dropped ≡ five_dropped → block_status vs ≡ 3
+excused m n r sources outside vs are limits telling judges ports dropped =
+    (verdicts_end_limited r sources outside vs are).status
+    ∙ ap (λ (o : Option Reason). status_in (judged_by o (stands outside.limits are.telling)) (doubt outside.limits r.subject.ports outside.dropped are.telling))
+    judges
+    ∙ ap (λ (l : Limits). status_in (judged_by None (stands l are.telling)) (doubt l r.subject.ports outside.dropped are.telling)) limits
+    ∙ ap (λ (t : List Heard). status_in (judged_by None (stands five t)) (doubt five r.subject.ports outside.dropped t)) telling
+    ∙ ap (λ (p : Ports). status_in (judged_by None (stands five (six_lost m n))) (doubt five p outside.dropped (six_lost m n))) ports
+    ∙ ap (λ (d : Sides). status_in (judged_by None (stands five (six_lost m n))) (doubt five Two d (six_lost m n))) dropped
+    ∙ ap (λ b. status_in (judged_by None b) (doubt five Two five_dropped (six_lost m n)))
+    (by_loss (nodes_tell r.subject sources.sources.entries) (faulty_anyway r are.own (six_lost m n)) (lack_beyond (Some 5) r are.counters)
+    (loss_beyond (Some 5) (six_lost m n)) (list_any (is_wide None) are.own) refl)
+    ∙ ap (status_in Faulty) (none_excused m n _ _ _ _ are.own)
+  where
+    five : Limits
+    five = limits_of (Some 5) None
+
+    stands : Limits → List Heard → Bool
+    stands l t = stands_beyond l r sources.sources.entries are.own t are.counters
+
+    doubt : Limits → Ports → Sides → List Heard → Bool
+    doubt l p d t = may_be_dropped l p d (fault_verdicts r sources.sources.entries are.own t are.counters) are.own
+
 -- what a check does not end with
 pub ends_refused : FalseEndsAreRefused
 ends_refused = record {
@@ -167,6 +251,8 @@ ends_refused = record {
         (by_others (nodes_tell r.subject sources.sources.entries) (faulty_anyway r own telling) (lack_beyond limits.lost r check.are.counters)
         (loss_beyond limits.lost telling) (list_any (is_wide limits.skew) own) (or_left _ _ row)),
   ));
+  excused = λ m n r sources outside vs are limits telling judges ports dropped doubt.
+      absurd (omega (arith, excused m n r sources outside vs are limits telling judges ports dropped, doubt));
   unjudged = λ r sources outside vs why are is other. other ((verdicts_end_limited r sources outside vs are).status
       ∙ ap (λ (o : Option Reason). status_in (judged_by o (stands_beyond outside.limits r sources.sources.entries are.own are.telling are.counters))
       (may_be_dropped outside.limits r.subject.ports outside.dropped (faults_told r sources outside vs are) are.own)) is);

@@ -1,5 +1,5 @@
 -- What is left of faults by the limits of a user.
-use Rattle.std.proofs.Common.{◌≡◌, ℕ, ◌+◌, ◌-◌, ◌*◌, ◌^◌, ◌≤◌, ◌⊎◌, inl, inr, Bool, true, false, cond, not, ◌&&◌, ◌||◌, is_some, List, [], ◌∷◌, ◌++◌, Option, None, Some, ℤ, arith, refl, sym, ap, ap₂, ◌∙◌}
+use Rattle.std.proofs.Common.{◌≡◌, ℕ, ◌+◌, ◌-◌, ◌*◌, ◌^◌, ◌≤◌, ◌⊎◌, inl, inr, Bool, true, false, cond, ◌&&◌, ◌||◌, is_some, List, [], ◌∷◌, ◌++◌, Option, None, Some, ℤ, arith, refl, sym, ap, ap₂, ◌∙◌}
 use Rattle.std.specs.Prelude.{min, nat_lt, nat_le, unsigned_abs, filter, fold, sum_by}
 use Rattle.std.specs.List.{cons_option, filter_map, list_any}
 use Rattle.std.proofs.lemmas.Bool.{lt-ltb, le-ltb, ltb-true, ltb-false, leb-true, leb-false, or_parts, cases_Bool}
@@ -15,10 +15,10 @@ use Rattle.sr_capture_audit.specs.declared.network.Ports.{Ports}
 use Rattle.sr_verdict.specs.declared.heard.Heard.{Heard}
 use Rattle.sr_verdict.specs.declared.verdict.Verdict.{Verdict}
 use Rattle.sr_verdict.specs.declared.verdict.Verdict.TheVariants.{Unjudged, BothLost, TwoSenders, CutRing, DeadPort, Crossed, LostRedundancy, Loss, WrongLan, Misfit, Repeated, Late, Skew, BothLostWithin, LossWithin, RecorderDropped, Restart, Babbling, Unseen, San, Clock}
-use Rattle.sr_verdict.specs.Drops.{loss_in, losses_with, losses_in, explains, dropped_of_b, explained_by}
+use Rattle.sr_verdict.specs.Drops.{loss_in, losses_in, explains, dropped_of_b, explained_by}
 use Rattle.sr_verdict.specs.Limits.{within, notice_in_place, fault_beyond, limited, farthest, skew_on, skew_verdicts}
 use Rattle.sr_verdict.specs.Verdicts.{is_a_fault}
-use Rattle.sr_capture_laws.specs.Limited.{is_wider, is_wide, is_fault_over, is_fault_beyond}
+use Rattle.sr_capture_laws.specs.Limited.{is_wide, is_fault_over, is_fault_beyond}
 use Rattle.sr_capture_laws.proofs.ToldLemmas.{is_unjudged}
 
 -- a test of what may be there

@@ -1,6 +1,6 @@
 -- Verdicts end a check by the limits of a user.
-use Rattle.std.proofs.Common.{◌≡◌, ℕ, ◌+◌, ◌-◌, ◌*◌, ◌^◌, ◌≤◌, Bool, true, false, cond, not, ◌&&◌, ◌||◌, is_some, List, [], ◌∷◌, ◌++◌, Option, None, Some, ℤ, arith, refl, sym, ap, ap₂, ◌∙◌, subst}
-use Rattle.std.specs.Prelude.{min, nat_lt, unsigned_abs, filter, fold, sum_by}
+use Rattle.std.proofs.Common.{◌≡◌, ℕ, ◌+◌, ◌-◌, ◌*◌, ◌^◌, ◌≤◌, Bool, true, false, cond, not, ◌&&◌, ◌||◌, is_some, List, [], ◌∷◌, ◌++◌, Option, None, Some, arith, refl, sym, ap, ap₂, ◌∙◌, subst}
+use Rattle.std.specs.Prelude.{min, nat_lt, unsigned_abs, fold, sum_by}
 use Rattle.std.specs.List.{filter_map, list_any}
 use Rattle.std.proofs.lemmas.Bool.{lt-ltb, le-ltb, ltb-true, ltb-false}
 use Rattle.std.proofs.lemmas.List.Folds.{list_any-append}
@@ -9,7 +9,6 @@ use Rattle.sr_frame.specs.declared.fields.Mac.{Mac}
 use Rattle.sr_prp_trailer.specs.declared.trailer.Lan.{Lan}
 use Rattle.sr_sources.specs.declared.lane.Tail.{Tail}
 use Rattle.sr_sources.specs.declared.source.Source.{Source as Node}
-use Rattle.sr_sources.specs.declared.table.Sources.{Sources}
 use Rattle.sr_sources.specs.Kinds.{doubled_since, lost_redundancy}
 use Rattle.sr_audit.specs.declared.row.Row.{Row}
 use Rattle.sr_audit.specs.declared.side.Side.{Side}
@@ -20,14 +19,11 @@ use Rattle.sr_audit.specs.Lanes.{other_side}
 use Rattle.sr_audit.specs.Shown.{bounded_sum}
 use Rattle.sr_capture_audit.specs.declared.counts.Counts.{Counts}
 use Rattle.sr_capture_audit.specs.declared.figures.Report.{Report}
-use Rattle.sr_capture_audit.specs.declared.judgement.Judgement.{Judgement}
-use Rattle.sr_capture_audit.specs.declared.judgement.Judgement.TheVariants.{Sound, Faulty}
 use Rattle.sr_capture_audit.specs.declared.judgement.Reason.{Reason}
 use Rattle.sr_capture_audit.specs.declared.network.Network.{Network}
 use Rattle.sr_capture_audit.specs.declared.network.Network.TheVariants.{Prp, Hsr}
 use Rattle.sr_capture_audit.specs.declared.network.Ports.{Ports}
 use Rattle.sr_capture_audit.specs.declared.network.Subject.{Subject}
-use Rattle.sr_capture_audit.specs.Faults.{have_faults, has_faults}
 use Rattle.sr_verdict.specs.declared.heard.Heard.{Heard}
 use Rattle.sr_verdict.specs.declared.place.Place.{Place}
 use Rattle.sr_verdict.specs.declared.shared.Cut.{Cut}
@@ -42,14 +38,14 @@ use Rattle.sr_verdict.specs.Names.{names_with}
 use Rattle.sr_verdict.specs.Places.{cut_place}
 use Rattle.sr_verdict.specs.Shared.{no_share, share_with, share_by, cut_in}
 use Rattle.sr_verdict.specs.Told.{why_told, verdicts_for}
-use Rattle.sr_verdict.specs.Verdicts.{as_list, when_counted, when_either, dead_by, verdict_on, verdicts_where, two_senders_told, lost_told, told_lan, in_prp, cut_told, sided_verdicts, loss_by, loss_at, are_crossed, astray_names, wrong_at, misfit_at, id_verdicts, other_id_verdicts, has_all_sent, IsSingleHearing, fault_verdicts, notice_verdicts, is_a_fault}
-use Rattle.sr_capture_laws.specs.Ending.{of_prp, nodes_tell, HasNoLimits}
+use Rattle.sr_verdict.specs.Verdicts.{as_list, when_counted, when_either, dead_by, verdict_on, verdicts_where, two_senders_told, lost_told, told_lan, in_prp, cut_told, sided_verdicts, loss_by, loss_at, are_crossed, astray_names, wrong_at, misfit_at, id_verdicts, other_id_verdicts, has_all_sent, fault_verdicts, notice_verdicts, is_a_fault}
+use Rattle.sr_capture_laws.specs.Ending.{of_prp, nodes_tell}
 use Rattle.sr_capture_laws.specs.Exact.{judged_by}
 use Rattle.sr_capture_laws.specs.LimitCases.{NoLimitsLeaveEachFault}
-use Rattle.sr_capture_laws.specs.Limited.{allowed, lack_beyond, frames_lost_of, loss_beyond, is_wide, come_again, come_late, faulty_anyway, stands_beyond, is_fault_over, is_fault_beyond, may_be_dropped, status_in, reason_for, EndExactly, VerdictsEndByLimits}
+use Rattle.sr_capture_laws.specs.Limited.{allowed, lack_beyond, frames_lost_of, loss_beyond, is_wide, come_again, come_late, stands_beyond, is_fault_over, is_fault_beyond, may_be_dropped, status_in, reason_for, EndExactly, VerdictsEndByLimits}
 use Rattle.sr_capture_laws.proofs.EndingLemmas.{Behind, behind_told, any_left, told_of_single}
 use Rattle.sr_capture_laws.proofs.LimitLemmas.{passes, any_map, any_same, any_false, any_filter, left_beyond, left_judging, same_explained, skews_told}
-use Rattle.sr_capture_laws.proofs.ToldLemmas.{Tells, has_rest, two_told, lost_told_in, wrong_told, others_told, told_faulty, tells_faults, tells_notices, tells_loss, tells_ids, tells_other_ids, is_unjudged, judged_first}
+use Rattle.sr_capture_laws.proofs.ToldLemmas.{Tells, two_told, lost_told_in, wrong_told, others_told, tells_faults, tells_notices, tells_loss, tells_ids, tells_other_ids, is_unjudged, judged_first}
 
 -- a verdict of another kind than a loss is a fault whatever the limit
 whichever : (limit : Option ℕ) (v : Verdict) → ((most : ℕ) → is_fault_over most v ≡ is_a_fault v) → is_fault_beyond limit v ≡ is_a_fault v

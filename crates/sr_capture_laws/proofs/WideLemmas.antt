@@ -1,20 +1,13 @@
 -- The least or the greatest skew of a source is beyond a limit exactly where some skew of it is.
 use Rattle.std.proofs.Common.{◌≡◌, ℕ, ◌*◌, ◌≤◌, Bool, true, false, cond, ◌||◌, List, [], ◌∷◌, Option, None, Some, ℤ, pos, negsuc, ◌≤ℤ◌, arith, refl, sym, ap, ap₂, ◌∙◌}
-use Rattle.std.specs.Prelude.{nat_lt, unsigned_abs, int_lt, length}
+use Rattle.std.specs.Prelude.{nat_lt, unsigned_abs, int_lt}
 use Rattle.std.specs.Int.{int_min, int_max}
 use Rattle.std.specs.List.{list_any}
-use Rattle.std.proofs.lemmas.Bool.{lt-ltb, le-ltb, ltb-true, or_left, or_right, cases_Bool}
+use Rattle.std.proofs.lemmas.Bool.{lt-ltb, le-ltb, ltb-true, or_left, or_right}
 use Rattle.std.proofs.lemmas.Int.{ints, int_max_is, int_min_is}
-use Rattle.sr_audit.specs.declared.arrival.Arrival.{Arrival}
-use Rattle.sr_audit.specs.declared.source.Source.{Source}
-use Rattle.sr_audit.specs.declared.span.Spans.{Spans}
-use Rattle.sr_audit.specs.Limits.{exact_arrivals}
-use Rattle.sr_audit.specs.Shown.{figures_of}
 use Rattle.sr_audit.specs.Skewing.{skews_of, least_skew, greatest_skew}
 use Rattle.sr_audit.specs.Stretches.{stretches}
-use Rattle.sr_audit.specs.Taken.{HasTaken}
-use Rattle.sr_verdict.specs.declared.heard.Heard.{Heard}
-use Rattle.sr_capture_laws.specs.Limited.{is_wider, is_wide}
+use Rattle.sr_capture_laws.specs.Limited.{is_wider}
 use Rattle.sr_capture_laws.specs.LimitCases.{PairsBeyondALimitAreTold}
 
 abbrev Wide : ℕ → ℤ → Bool

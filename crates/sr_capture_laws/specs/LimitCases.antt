@@ -2,6 +2,7 @@
 use Rattle.std.specs.Prelude.{
   ◌≡◌,
   ◌≤◌,
+  ◌+◌,
   ◌-◌,
   ◌*◌,
   ℕ,
@@ -32,6 +33,7 @@ use Rattle.sr_audit.specs.Stretches.{stretches}
 use Rattle.sr_audit.specs.Taken.{HasTaken}
 use Rattle.sr_capture_audit.specs.declared.figures.Report.{Report}
 use Rattle.sr_capture_audit.specs.declared.judgement.Reason.{Reason}
+use Rattle.sr_capture_audit.specs.declared.network.Ports.TheVariants.{Two}
 use Rattle.sr_capture_audit.specs.Faults.{have_faults, has_faults}
 use Rattle.sr_sources.specs.declared.table.Sources.{Sources}
 use Rattle.sr_verdict.specs.declared.heard.Heard.{Heard}
@@ -75,14 +77,18 @@ abbrev pub VerdictsAreOfTheRun : Type 0
 VerdictsAreOfTheRun = (r : Report) (sources : Sources) (outside : Outside) (vs ws : List Verdict) → IsReportOfArrivals r
     → AreVerdictsOf r sources outside vs → AreVerdictsOf r sources outside ws → vs ≡ ws
 
--- what is heard of a source of which so many frames came by A alone, none of them in a row at its end, and whose copies came so far apart
-abbrev pub heard_alone : Mac → ℕ → ℤ → ℤ → Heard
-heard_alone mac alone least greatest = record {
+-- what is heard of a source of which 97 frames came by both sides and so many by A alone, none of them in a row at its end; the copies of
+-- one of the pairs came so far apart, and those of the others at once
+abbrev pub pairs_heard : ℕ
+pairs_heard = 97
+
+abbrev pub heard_alone : Mac → ℕ → ℤ → List ℕ → Heard
+heard_alone mac alone least classes = record {
   mac = mac;
   figures = record {
     tally = record {
-      rx = record { a = 100; b = 100 };
-      pairs = 97;
+      rx = record { a = pairs_heard + alone; b = pairs_heard };
+      pairs = pairs_heard;
       alone = record { a = alone; b = 0 };
       repeats = record { a = 0; b = 0 };
     };
@@ -91,21 +97,21 @@ heard_alone mac alone least greatest = record {
     order = record { a = 0; b = 0 };
     jumps = 0;
     restarts = 0;
-    skews = record { count = 97; least = least; greatest = greatest; sum = pos 0; classes = 0 ∷ 0 ∷ 97 ∷ 0 ∷ 0 ∷ 0 ∷ 0 ∷ [] };
+    skews = record { count = pairs_heard; least = least; greatest = pos 0; sum = least; classes = classes };
   };
   sided = None;
 }
 
 -- two sources, of each of which three frames came by A alone
 abbrev pub six_lost : Mac → Mac → List Heard
-six_lost m n = heard_alone m 3 (pos 0) (pos 0) ∷ heard_alone n 3 (pos 0) (pos 0) ∷ []
+six_lost m n = heard_alone m 3 (pos 0) (97 ∷ 0 ∷ 0 ∷ 0 ∷ 0 ∷ 0 ∷ 0 ∷ []) ∷ heard_alone n 3 (pos 0) (97 ∷ 0 ∷ 0 ∷ 0 ∷ 0 ∷ 0 ∷ 0 ∷ []) ∷ []
 
--- a source whose copies by B came up to 1500 microseconds before those by A
+-- a source of which a copy by B came 1500 microseconds before that by A
 abbrev pub most_apart : ℕ
 most_apart = 1500
 
 abbrev pub one_wide : Mac → List Heard
-one_wide m = heard_alone m 0 (negsuc (1000 * most_apart - 1)) (pos 0) ∷ []
+one_wide m = heard_alone m 0 (negsuc (1000 * most_apart - 1)) (96 ∷ 0 ∷ 0 ∷ 1 ∷ 0 ∷ 0 ∷ 0 ∷ []) ∷ []
 
 abbrev pub limits_of : Option ℕ → Option ℕ → Limits
 limits_of lost skew = record { lost = lost; skew = skew }
@@ -160,3 +166,7 @@ pub record FalseEndsAreRefused : Type 0 where
   -- a limit judges where nothing can be judged
   pub unjudged : (r : Report) (sources : Sources) (outside : Outside) (vs : List Verdict) (why : Reason) →
       AreVerdictsOf r sources outside vs → why_told outside.reason r ≡ Some why → (block_status vs ≡ 4 → ⊥) → ⊥
+  -- a recorder that dropped fewer packets than its LAN lost may have made that loss
+  pub excused : (m n : Mac) (r : Report) (sources : Sources) (outside : Outside) (vs : List Verdict)
+      (are : AreVerdictsOf r sources outside vs) → outside.limits ≡ limits_of (Some 5) None → are.telling ≡ six_lost m n →
+      why_told outside.reason r ≡ None → r.subject.ports ≡ Two → outside.dropped ≡ record { a = 0; b = 5 } → block_status vs ≡ 4 → ⊥

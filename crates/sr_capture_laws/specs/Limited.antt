@@ -32,7 +32,7 @@ use Rattle.sr_capture_audit.specs.declared.figures.Report.{Report}
 use Rattle.sr_capture_audit.specs.declared.judgement.Judgement.{Judgement}
 use Rattle.sr_capture_audit.specs.declared.judgement.Judgement.TheVariants.{Sound, Faulty, Unjudged}
 use Rattle.sr_capture_audit.specs.declared.network.Ports.{Ports}
-use Rattle.sr_capture_audit.specs.Faults.{have_faults, has_faults}
+use Rattle.sr_capture_audit.specs.Faults.{have_faults}
 use Rattle.sr_sources.specs.declared.source.Source.{Source as Node}
 use Rattle.sr_sources.specs.declared.table.Sources.{Sources}
 use Rattle.sr_verdict.specs.declared.heard.Heard.{Heard}
@@ -83,7 +83,7 @@ come_again h = nat_lt 0 h.figures.tally.repeats.a || nat_lt 0 h.figures.tally.re
 abbrev pub come_late : Heard → Bool
 come_late h = nat_lt 0 (last_class h.figures.skews.classes)
 
--- what is a fault whatever the limits: a port is dead or a ring is cut, an id or a trailer is not that of its LAN, copies come again or late
+-- what is a fault whatever the limits: a port is dead or a ring is cut, ids or trailers are not those of a LAN, copies come again or late
 abbrev pub faulty_anyway : Report → List Heard → List Heard → Bool
 faulty_anyway r own telling =
     list_any is_a_fault (sided_verdicts r.subject.network telling)
