@@ -42,6 +42,8 @@ _seamless() {
     "audit --title") ;;
     "audit --note") ;;
     "audit --names") compopt -o filenames; mapfile -t COMPREPLY < <(compgen -f -- "$2"); return ;;
+    "audit --max-lost") ;;
+    "audit --max-skew-us") ;;
     "merge --a") compopt -o filenames; mapfile -t COMPREPLY < <(compgen -f -- "$2"); return ;;
     "merge --b") compopt -o filenames; mapfile -t COMPREPLY < <(compgen -f -- "$2"); return ;;
     "merge --write") compopt -o filenames; mapfile -t COMPREPLY < <(compgen -f -- "$2"); return ;;
@@ -55,6 +57,7 @@ _seamless() {
     "merge --only") words="lost" ;;
     "watch --a") compopt -o filenames; mapfile -t COMPREPLY < <(compgen -f -- "$2"); return ;;
     "watch --b") compopt -o filenames; mapfile -t COMPREPLY < <(compgen -f -- "$2"); return ;;
+    "watch --mirror") compopt -o filenames; mapfile -t COMPREPLY < <(compgen -f -- "$2"); return ;;
     "watch --network") words="prp hsr" ;;
     "watch --shift-a") ;;
     "watch --shift-b") ;;
@@ -94,9 +97,9 @@ _seamless() {
         *" replay") words="--role --mac --lan --net --mode --window --help" ;;
         *" status") words="--role --mac --lan --net --mode --window --counters --help" ;;
         *" script") words="--a --b --c --network --shift-a --shift-b --shift-c --shift --fcs --from --to --tick --help" ;;
-        *" audit") words="--a --b --mirror --network --shift-a --shift-b --fcs --from --to --shift --list --format --time --title --note --names --check --complete --whole --help" ;;
+        *" audit") words="--a --b --mirror --network --shift-a --shift-b --fcs --from --to --shift --list --format --time --title --note --names --check --complete --whole --max-lost --max-skew-us --help" ;;
         *" merge") words="--a --b --write --network --shift-a --shift-b --fcs --from --to --shift --keep --only --help" ;;
-        *" watch") words="--a --b --network --shift-a --shift-b --fcs --every --format --metrics --alone-for --skew-over --lost-over --slack --for --check --help" ;;
+        *" watch") words="--a --b --mirror --network --shift-a --shift-b --fcs --reopen --every --format --metrics --alone-for --skew-over --lost-over --slack --for --check --help" ;;
         *" ring") words="--nodes --turns --format --mode --window --help" ;;
         *" lan") words="--nodes --turns --format --mode --window --help" ;;
         *" ring-lan") words="--ring --lan --format --mode --window --help" ;;

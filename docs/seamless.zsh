@@ -42,6 +42,8 @@ _seamless() {
     "audit --title") ;;
     "audit --note") ;;
     "audit --names") _files ;;
+    "audit --max-lost") ;;
+    "audit --max-skew-us") ;;
     "merge --a") _files ;;
     "merge --b") _files ;;
     "merge --write") _files ;;
@@ -55,6 +57,7 @@ _seamless() {
     "merge --only") compadd -- lost ;;
     "watch --a") _files ;;
     "watch --b") _files ;;
+    "watch --mirror") _files ;;
     "watch --network") compadd -- prp hsr ;;
     "watch --shift-a") ;;
     "watch --shift-b") ;;
@@ -94,9 +97,9 @@ _seamless() {
         *" replay") compadd -- --role --mac --lan --net --mode --window --help ;;
         *" status") compadd -- --role --mac --lan --net --mode --window --counters --help ;;
         *" script") compadd -- --a --b --c --network --shift-a --shift-b --shift-c --shift --fcs --from --to --tick --help ;;
-        *" audit") compadd -- --a --b --mirror --network --shift-a --shift-b --fcs --from --to --shift --list --format --time --title --note --names --check --complete --whole --help ;;
+        *" audit") compadd -- --a --b --mirror --network --shift-a --shift-b --fcs --from --to --shift --list --format --time --title --note --names --check --complete --whole --max-lost --max-skew-us --help ;;
         *" merge") compadd -- --a --b --write --network --shift-a --shift-b --fcs --from --to --shift --keep --only --help ;;
-        *" watch") compadd -- --a --b --network --shift-a --shift-b --fcs --every --format --metrics --alone-for --skew-over --lost-over --slack --for --check --help ;;
+        *" watch") compadd -- --a --b --mirror --network --shift-a --shift-b --fcs --reopen --every --format --metrics --alone-for --skew-over --lost-over --slack --for --check --help ;;
         *" ring") compadd -- --nodes --turns --format --mode --window --help ;;
         *" lan") compadd -- --nodes --turns --format --mode --window --help ;;
         *" ring-lan") compadd -- --ring --lan --format --mode --window --help ;;
