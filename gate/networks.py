@@ -10,7 +10,7 @@ that are swapped, recorders that don't overlap. Half of the networks are sound. 
 by up to 50 ppm, and in some it is set while it records, so that two offsets fit. In a third of them the recorders begin and end at other
 moments, and have the frames of that time. In every fourth network a RedBox numbers the frames of two devices by one counter, and every
 third one is an HSR ring of 3 to 8 nodes, whose two ways are recorded at a link: half of its frames go to one node, and pass the link on one
-way. A ring loses frames of a way, or both, or it is cut. Of each twelve networks one has access ports in place of mirrors, at one LAN or
+way. A ring loses frames of a way, or both, or it is cut, for good or for a while. Of each twelve networks one has access ports in place of mirrors, at one LAN or
 both, which see frames to single addresses only where a switch floods them; in one sources talk to each other past two mirrors; in one a
 RedBox numbers the frames of two devices by one counter and never tells of them; in one the recorders of a ring's node see what it sends on
 too, where there is nothing to judge; and in one a recorder drops packets, and says so in the statistics of its interface. A merge of a
@@ -61,8 +61,10 @@ EDGE = SECOND // 1000
 END = 40 * SECOND
 # A restart is told from a gap where its number lies further ahead.
 NEAR = 1024
-# How many frames at the end by one LAN alone are told as a port that is dead, or a ring that is cut.
+# How many frames at the end by one LAN alone are told as a port that is dead, or a ring that is cut; and in a row before, of so many sources
+# at once, as a ring that was cut for a while.
 LEAST_ROW = 3
+LEAST_AT_ONCE = 2
 # How far off the time is told at most from which on that is so.
 SINCE_LEFT = 2 * OFFSET_LEFT
 
@@ -204,6 +206,7 @@ class Network:
         self.crossed = None
         for fault in sorted(self.faults, key=lambda one: FIRST.index(one) if one in FIRST else len(FIRST)):
             self.put(rng, fault)
+        self.put_last(random.Random(f"{seed} at last"))
         # How far the clock of B is ahead when the recordings begin, in nanoseconds, and how fast it drifts, in ppb.
         self.clock = (rng.randrange(-10 * SECOND, 10 * SECOND), rng.randrange(-50_000, 50_000)) if rng.random() < 0.5 else None
         for source in self.sources + self.twins:
@@ -229,6 +232,9 @@ class Network:
         if rng.random() < 0.25:
             sources.append(RedBox(rng, len(sources), seconds))
         return sources
+
+    def put_last(self, rng):
+        """What else happens, by numbers of its own: the network of a seed is otherwise the same with it."""
 
     def octets_of(self, source, frame, lan):
         return octets(source, frame, lan)
@@ -259,6 +265,38 @@ class Network:
                 if len(row) >= LEAST_ROW:
                     lan = min(row[0]["lans"])
                     found.append((mac.hex(":"), lan, len(row), row[-1]["time"] + source.delays[lan]))
+        return found
+
+    def spells(self):
+        """The most frames in a row that one LAN alone brought of an address, before both did again or the other one alone: the address, that
+        LAN, how many, and when the first and the last one came."""
+        found = []
+        for source in self.sources:
+            for mac, frames in source.runs() if source.mac not in self.doubled() else []:
+                most, row = [], []
+                for frame in [one for one in frames if one["seen"] and one["ways"] == {0, 1} and self.can_lose(one)]:
+                    if len(frame["seen"]) == 2 or len(frame["lans"]) == 1 and row and frame["lans"] != row[0]["lans"]:
+                        most, row = max(most, row, key=len), []
+                    if len(frame["lans"]) == 1:
+                        row.append(frame)
+                if len(most) >= LEAST_ROW:
+                    lan = min(most[0]["lans"])
+                    found.append((mac.hex(":"), lan, len(most), most[0]["time"] + source.delays[lan], most[-1]["time"] + source.delays[lan]))
+        return found
+
+    def mended(self):
+        """Those of sources that a ring was cut for at once, where it was mended: of the most at one time, if they are half of all."""
+        spells = self.spells() if self.protocol == "hsr" else []
+        at_once = [[one for one in spells if one[3] <= other[3] <= one[4]] for other in spells]
+        most = max(at_once, key=len, default=[])
+        return most if len(most) >= LEAST_AT_ONCE and 2 * len(most) >= len(spells) else []
+
+    def rowed(self, lan):
+        """How many frames that a LAN lost are told by a port that is dead or by the cut of a ring, of each address."""
+        found = {}
+        for mac, side, frames, *_ in self.rows() + self.mended():
+            if side != lan:
+                found[mac] = found.get(mac, 0) + frames
         return found
 
     def put(self, rng, fault):
@@ -583,6 +621,19 @@ class Ring(Network):
                 if frame["time"] >= time:
                     frame["lans"].discard(0 if index <= link else 1)
 
+    def put_last(self, rng):
+        """In a third of the rings a link is cut for a while. Both recorders see the whole of it."""
+        if {"cut", "restart"} & set(self.faults) or rng.random() >= 1 / 3:
+            return
+        self.runs = [(0, END)] * 2
+        self.faults = [*self.faults, "mended"]
+        self.link, begin = rng.randrange(len(self.sources) - 1), rng.randrange(SECOND, 2 * SECOND)
+        end = begin + rng.randrange(SECOND // 2, (self.seconds - 3) * SECOND)
+        for index, source in enumerate(self.sources):
+            for frame in source.frames:
+                if begin <= frame["time"] < end:
+                    frame["lans"].discard(0 if index <= self.link else 1)
+
     def octets_of(self, source, frame, lan):
         return tagged(source, frame, lan)
 
@@ -592,6 +643,9 @@ class InAndOut(Ring):
 
     # Of a ring that is cut such captures have each frame once by both ports, so that they read as sound.
     kinds = ["loss", "both", "restart"]
+
+    def put_last(self, rng):
+        pass
 
     def captures(self):
         # Both ports are recorded by one clock.
@@ -673,7 +727,7 @@ def differences(network, status, lines):
         if mac in network.doubled():
             continue
         mac = mac.hex(":")
-        if "cut" in network.faults and mac in said:
+        if {"cut", "mended"} & set(network.faults) and mac in said:
             # What no recorder has of a ring that is cut may have come where it was sent to.
             said[mac].update(neither=said[mac]["neither"] + said[mac]["unseen"], unseen=0)
         for name, wanted in figures.items():
@@ -732,8 +786,8 @@ def strange_differences(network, told):
 
 
 def losing(network, lan):
-    """The sources of which a LAN lost frames, besides those of the rows of sources at their end."""
-    rows = {mac: frames for mac, side, frames, _ in network.rows() if side != lan}
+    """The sources of which a LAN lost frames, besides those of rows that are told as such."""
+    rows = network.rowed(lan)
     return {mac.hex(":") for source in network.sources if source.mac not in network.doubled()
             for mac, figures in source.reports() if figures[("only_b", "only_a")[lan]] > rows.get(mac.hex(":"), 0)}
 
@@ -755,10 +809,10 @@ def name_differences(network, names):
 
 
 def losses(network):
-    """How many frames each LAN lost, besides those of the rows of sources at their end, and of how many sources."""
+    """How many frames each LAN lost, besides those of rows that are told as such, and of how many sources."""
     found = []
     for lan, name in enumerate(("only_b", "only_a")):
-        rows = {mac: frames for mac, side, frames, _ in network.rows() if side != lan}
+        rows = network.rowed(lan)
         lost = [figures[name] - rows.get(mac.hex(":"), 0) for source in network.sources if source.mac not in network.doubled()
                 for mac, figures in source.reports()]
         found.append((sum(lost), sum(one > 0 for one in lost)))
@@ -777,22 +831,38 @@ def loss_differences(network, told):
     return found
 
 
-def place_of(network):
-    """Between which two sources a ring is cut: the nearest to the cut that one way alone brings at last, of those that both ways brought."""
+def place_of(network, rows):
+    """Between which two sources a ring is cut by rows: the nearest to the cut that one way alone brings, of those that both ways brought."""
     order = {source.mac.hex(":"): at for at, source in enumerate(network.sources) if source.figures()["pairs"]}
-    sided = [[mac for mac, side, _, _ in network.rows() if side == way and mac in order] for way in range(2)]
+    sided = [[mac for mac, side, *_ in rows if side == way and mac in order] for way in range(2)]
     return min(sided[0], key=order.get, default="recorder"), max(sided[1], key=order.get, default="recorder")
 
 
+def cut_by(network, rows):
+    """The cut of a ring that rows tell of: how many are on each side of it, how many frames, its place, and since when and until when."""
+    sides = [side for _, side, *_ in rows]
+    until = [max(row[4] for row in rows)] if len(rows[0]) > 4 else []
+    return (sides.count(0), sides.count(1), sum(row[2] for row in rows), *place_of(network, rows)), [min(row[3] for row in rows), *until]
+
+
+def cuts(network):
+    """The cuts of a ring: the one at last, and the one that was mended."""
+    return [cut_by(network, rows) for rows in (network.rows(), network.mended()) if rows and network.protocol == "hsr"]
+
+
+def place_in(line):
+    """Between which two sources a line tells that a ring is cut."""
+    return line.get("next_a", "recorder"), line.get("next_b", "recorder")
+
+
 def row_differences(network, told):
-    """Where the ports that are told to be dead, or the cut of a ring with its place, are not those."""
+    """Where the ports that are told to be dead, or the cuts of a ring with their places, are not those."""
     rows, begin = network.rows(), min(begin for begin, _ in network.runs)
     if network.protocol == "hsr":
-        said = [(line["sided_a"], line["sided_b"], line["frames"], line.get("next_a", "recorder"), line.get("next_b", "recorder"))
-                for line in told if line["kind"] == "cut_ring"]
-        sides = [side for _, side, _, _ in rows]
-        wanted = [(sides.count(0), sides.count(1), sum(frames for _, _, frames, _ in rows), *place_of(network))] if rows else []
-        since = [(line["since_ms"], min(time for _, _, _, time in rows)) for line in told if line["kind"] == "cut_ring" and rows]
+        lines = [line for line in told if line["kind"] == "cut_ring"]
+        said = [(line["sided_a"], line["sided_b"], line["frames"], *place_in(line), "until_ms" in line) for line in lines]
+        wanted = [(*own, len(times) == 2) for own, times in cuts(network)]
+        since = [pair for line, (_, times) in zip(lines, cuts(network)) for pair in zip((line["since_ms"], line.get("until_ms")), times)]
     else:
         ports = {line["source"]: line for line in told if line["kind"] == "dead_port"}
         said = sorted((mac, line["lan"], line["frames"]) for mac, line in ports.items())
@@ -800,7 +870,7 @@ def row_differences(network, told):
         since = [(ports[mac]["since_ms"], time) for mac, _, _, time in rows if mac in ports]
     if said != wanted:
         return [f"rows are told as {said}, and not {wanted}"]
-    return [f"a row is told since {told_ms} ms, and not {time - begin} ns" for told_ms, time in since
+    return [f"a row is told since or until {told_ms} ms, and not {time - begin} ns" for told_ms, time in since
             if abs(told_ms * 1_000_000 - (time - begin)) > SINCE_LEFT]
 
 
@@ -811,7 +881,7 @@ def source_differences(network, told):
     said = {kind: {line["source"]: line for line in told if line["kind"] == kind} for kind in ("both_lost", "unseen", "restart")}
     for mac, figures in wanted.items():
         lost, unseen = (said[kind].get(mac, {}).get("numbers", 0) for kind in ("both_lost", "unseen"))
-        if "cut" in network.faults:
+        if {"cut", "mended"} & set(network.faults):
             lost, unseen = lost + unseen, 0
         if "neither" in figures and (lost, unseen) != (figures["neither"], figures["unseen"]):
             found.append(f"{mac} has {lost} numbers lost by both and {unseen} unseen, and not {figures['neither']} and {figures['unseen']}")
@@ -836,11 +906,10 @@ def happened(network):
     for lan, (frames, _) in enumerate(losses(network)):
         if frames and not network.hides_loss(lan):
             found["loss", "AB"[lan]] = None
-    rows = network.rows()
-    if rows and network.protocol == "hsr":
-        found["cut_ring", place_of(network)] = min(time for _, _, _, time in rows) - begin
-    elif rows:
-        found |= {("dead_port", (mac, "BA"[side])): time - begin for mac, side, _, time in rows}
+    for (*_, next_a, next_b), times in cuts(network):
+        found["cut_ring", (next_a, next_b, len(times) == 2)] = tuple(time - begin for time in times)
+    if network.protocol != "hsr":
+        found |= {("dead_port", (mac, "BA"[side])): time - begin for mac, side, _, time in network.rows()}
     for source in network.sources:
         reports = source.reports() if source.mac not in network.doubled() else []
         found |= {("both_lost", mac.hex(":")): None for mac, figures in reports if figures.get("neither", 0) + figures.get("unseen", 0)}
@@ -860,10 +929,17 @@ def told_of(lines):
         elif line["line"] == "at" and kind == "crossed":
             found[kind, line["source"]] = None
         elif line["line"] in ("fault", "notice") and kind not in ("clock", "crossed", "wrong_lan"):
-            who = {"loss": line.get("lan"), "recorder_dropped": line.get("lan"), "cut_ring": (line.get("next_a", "recorder"), line.get("next_b", "recorder")),
+            who = {"loss": line.get("lan"), "recorder_dropped": line.get("lan"), "cut_ring": (*place_in(line), "until_ms" in line),
                    "dead_port": (line.get("source"), line.get("lan"))}.get(kind, line.get("source"))
-            found["both_lost" if kind == "unseen" else kind, who] = line["since_ms"] * 1_000_000 if "since_ms" in line else None
+            times = tuple(line[name] * 1_000_000 for name in ("since_ms", "until_ms") if name in line)
+            found["both_lost" if kind == "unseen" else kind, who] = times if kind == "cut_ring" else times[0] if times else None
     return found
+
+
+def are_near(wanted, said):
+    """Whether times are told to a second as they happened, where both are known."""
+    pairs = zip(wanted, said) if isinstance(wanted, tuple) else [(wanted, said)]
+    return all(None in pair or abs(pair[0] - pair[1]) <= SECOND + SINCE_LEFT for pair in pairs)
 
 
 def count_kinds(table, network, lines):
@@ -874,8 +950,7 @@ def count_kinds(table, network, lines):
     is_hidden = any(line.get("kind") == "unseen" for line in lines)
     silent = {mac.hex(":") for source in network.sources if isinstance(source, SilentBox) for mac, _ in source.reports()}
     for key in wanted.keys() | {one for one in said if one[0] not in ("both_lost", "restart") or one[1] not in silent}:
-        times = wanted.get(key), said.get(key)
-        is_right = key in wanted and key in said and (None in times or abs(times[0] - times[1]) <= SECOND + SINCE_LEFT)
+        is_right = key in wanted and key in said and are_near(wanted[key], said[key])
         is_missed = key in wanted and not is_right
         row = table.setdefault(key[0], [0, 0, 0, 0])
         row[0] += is_right

@@ -24,6 +24,7 @@ SHAPES = {"path", "circle", "rect", "line"}
 WORDS = {"sound": "PASS", "faulty": "FAIL", "unjudged": "NO VERDICT"}
 PRP = ["--a", "examples/linux-prp-lan-a.pcap", "--b", "examples/linux-prp-lan-b.pcap"]
 RING = "examples/cases/an_audit_of_a_ring_tells_where_it_is_cut"
+MENDED = "examples/cases/an_audit_of_a_ring_tells_since_when_until_when_it_was_cut"
 SOUND = "examples/cases/a_check_of_a_sound_network_ends_with_status_0"
 HOSTILE = "examples/cases/a_page_shows_hostile_words_as_text/names"
 TITLE = "</title><script>alert(1)</script>\u202e\" onload='x' &amp;"
@@ -31,6 +32,7 @@ AUDITS = {
     "a network with faults": PRP,
     "a network without a fault": ["--a", f"{SOUND}/a.pcap", "--b", f"{SOUND}/b.pcap"],
     "a cut ring": ["--network", "hsr", "--a", f"{RING}/a.pcap", "--b", f"{RING}/b.pcap"],
+    "a ring that was cut for a while": ["--network", "hsr", "--a", f"{MENDED}/a.pcap", "--b", f"{MENDED}/b.pcap"],
     "one capture": ["--a", "examples/linux-prp-lan-a.pcap"],
     "a mirror port": ["--mirror", "examples/linux-prp-lan-a.pcap"],
     "hostile words": [*PRP, "--title", TITLE, "--note", TITLE, "--names", HOSTILE],

@@ -91,8 +91,9 @@ class NetworksTest(unittest.TestCase):
         self.assertTrue(networks.verdict_differences(network, 3, lines))
 
     def test_a_cut_is_told_between_the_two_sources_next_to_it(self):
-        network = network_where(lambda one: type(one) is networks.Ring and "cut" in one.faults and "recorder" not in networks.place_of(one))
-        rows, (next_a, next_b) = network.rows(), networks.place_of(network)
+        network = network_where(lambda one: type(one) is networks.Ring and "cut" in one.faults
+                                and "recorder" not in networks.place_of(one, one.rows()))
+        rows, (next_a, next_b) = network.rows(), networks.place_of(network, network.rows())
         order = [source.mac.hex(":") for source in network.sources]
         self.assertTrue(order.index(next_b) <= network.link < order.index(next_a))
         sides = [side for _, side, _, _ in rows]
@@ -101,6 +102,36 @@ class NetworksTest(unittest.TestCase):
         self.assertEqual(networks.row_differences(network, [cut]), [])
         self.assertTrue(networks.row_differences(network, [{**cut, "next_a": next_b}]))
         self.assertTrue(networks.row_differences(network, [{**cut, "next_b": "recorder"}]))
+
+    def test_a_cut_that_was_mended_is_told_with_its_two_times(self):
+        network = network_where(lambda one: type(one) is networks.Ring and one.faults == ["mended"] and not one.rows() and one.mended()
+                                and "recorder" not in networks.place_of(one, one.mended()))
+        [((at_a, at_b, frames, next_a, next_b), (since, until))] = networks.cuts(network)
+        order = [source.mac.hex(":") for source in network.sources]
+        self.assertTrue(order.index(next_b) <= network.link < order.index(next_a) and since < until)
+        begin = min(begin for begin, _ in network.runs)
+        cut = {"line": "fault", "kind": "cut_ring", "sided_a": at_a, "sided_b": at_b, "frames": frames, "since_ms": (since - begin) / 10**6,
+               "until_ms": (until - begin) / 10**6, "next_a": next_a, "next_b": next_b}
+        self.assertEqual(networks.row_differences(network, [cut]), [])
+        for wrong in ({"until_ms": cut["until_ms"] + 20}, {"since_ms": cut["since_ms"] + 20}, {"frames": frames - 1}, {"next_a": next_b}):
+            self.assertTrue(networks.row_differences(network, [{**cut, **wrong}]), wrong)
+        open_cut = {name: value for name, value in cut.items() if name != "until_ms"}
+        self.assertTrue(networks.row_differences(network, [open_cut]))
+        table = {}
+        networks.count_kinds(table, network, [{**cut, "until_ms": cut["until_ms"] + 2000}])
+        self.assertEqual(table["cut_ring"], [0, 1, 1, 0])
+        table = {}
+        networks.count_kinds(table, network, [cut])
+        self.assertEqual(table["cut_ring"], [1, 0, 0, 0])
+
+    def test_frames_in_a_row_of_one_source_are_no_cut(self):
+        network = network_where(lambda one: type(one) is networks.Ring and one.faults == ["mended"] and one.mended())
+        mac, _, frames, *_ = network.mended()[0]
+        spells = network.spells()
+        network.spells = lambda: [one for one in spells if one[0] == mac]
+        self.assertEqual((network.mended(), networks.cuts(network)), ([], []))
+        self.assertEqual(sum(network.rowed(lan).get(mac, 0) for lan in range(2)), 0)
+        network_of.cache_clear()
 
     def test_kinds_are_counted_as_right_missed_or_made_up(self):
         network = network_where(lambda one: type(one) is networks.Network and "loss" in one.faults and one.status() == 3

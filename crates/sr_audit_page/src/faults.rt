@@ -2,7 +2,7 @@
 
 use crate::teller::Teller;
 use sr_audit::{Side, Sides};
-use sr_page::{Count, Weight, open_finding, put_advice, put_named, put_since, word_for};
+use sr_page::{Count, Seconds, Weight, open_finding, put_advice, put_named, put_since, word_for};
 use sr_verdict::{Cut, Names, Neighbour, Place, Share, Verdict};
 use std::io::{self, Write};
 
@@ -90,20 +90,37 @@ fn put_place<W: Write>(writer: &mut W, teller: Teller<'_>, place: Place) -> io::
     put_end(writer, teller, place.at_b)
 }
 
+/// Tells when the last frame came by one way alone before a ring was mended, if it was.
+fn put_until<W: Write>(writer: &mut W, until: Option<u64>) -> io::Result<()> {
+    match until {
+        Some(until) => {
+            let until = Seconds(until);
+            write!(writer, " until {until}")
+        }
+        None => Ok(()),
+    }
+}
+
 /// Tells of a cut of a ring.
 fn put_cut<W: Write>(writer: &mut W, teller: Teller<'_>, cut: Cut, place: Place) -> io::Result<()> {
     let (a, b, frames) = (Count(cut.at_a), Count(cut.at_b), Count(cut.frames));
+    let (is, are) = match cut.until {
+        Some(_) => ("was", "were"),
+        None => ("is", "are"),
+    };
     open_finding(writer, Weight::Fault, "cut ring")?;
     write!(
         writer,
-        "The ring is cut: of the sources that are heard by one way alone, {a} are by A and {b} by B, with {frames} frames"
+        "The ring {is} cut: of the sources that {are} heard by one way alone, {a} {are} by A and {b} by B, with {frames} frames"
     )?;
     put_since(writer, cut.since)?;
+    put_until(writer, cut.until)?;
     put_place(writer, teller, place)?;
-    put_advice(
-        writer,
-        "Mend the link between the sources of A and those of B",
-    )
+    let advice = match cut.until {
+        Some(_) => "Look why the link between the sources of A and those of B was down",
+        None => "Mend the link between the sources of A and those of B",
+    };
+    put_advice(writer, advice)
 }
 
 /// Tells of copies by both LANs that have the id of the other one.

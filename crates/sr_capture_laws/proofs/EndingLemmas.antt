@@ -1,6 +1,6 @@
 -- Verdicts end a check as the figures judge.
 use Rattle.std.proofs.Common.{◌≡◌, ℕ, ◌-◌, inl, inr, Bool, true, false, cond, ◌&&◌, ◌||◌, is_some, List, [], ◌∷◌, ◌++◌, Option, None, Some, arith, refl, sym, ap, ap₂, ◌∙◌, subst}
-use Rattle.std.specs.Prelude.{nat_lt, not, filter}
+use Rattle.std.specs.Prelude.{nat_lt, nat_le, not, filter}
 use Rattle.std.specs.List.{list_any, filter_map}
 use Rattle.std.specs.Map.{lookup}
 use Rattle.std.proofs.lemmas.Bool.{or_left, or_right}
@@ -30,7 +30,7 @@ use Rattle.sr_capture_audit.specs.Faults.{shows_lost, have_lost, shows_missing, 
 use Rattle.sr_capture_audit.specs.Judging.{reason_of, judged, network_judgement, check_status}
 use Rattle.sr_verdict.specs.declared.heard.Heard.{Heard}
 use Rattle.sr_verdict.specs.declared.verdict.Verdict.{Verdict}
-use Rattle.sr_verdict.specs.Heards.{AreHeard, only_at, lone_row, row_frames}
+use Rattle.sr_verdict.specs.Heards.{AreHeard, only_at, lone_row, lasting, row_in, closed_in, row_mended, row_frames}
 use Rattle.sr_verdict.specs.declared.why.Why.{Why}
 use Rattle.sr_verdict.specs.declared.verdict.Verdict.TheVariants.{Unjudged as Undecided}
 use Rattle.sr_verdict.specs.Drops.{explained_by, is_explained, left_unexplained, any_dropped, why_dropped, settled_by, settled, dropped_told}
@@ -39,70 +39,68 @@ use Rattle.sr_verdict.specs.Told.{why_of, why_told, verdicts_for}
 use Rattle.sr_verdict.specs.Verdicts.{is_doubled_at, is_doubled, single_in, IsSingleHearing, has_all_sent, telling_entries, AreHeardIn, fault_verdicts, notice_verdicts, is_a_fault}
 use Rattle.sr_capture_laws.specs.Ending.{nodes_tell, judged_with, judged_beside, by_figures, EndAs, EndBy, VerdictsEndAsJudged}
 use Rattle.sr_capture_laws.specs.Exact.{judged_by}
-use Rattle.sr_capture_laws.proofs.ToldLemmas.{Tells, tells_both, is_sided, has_rest, shows_repeated, shows_late, told_by_figures, two_told, lost_told_in, wrong_told, others_told, told_faulty, tells_faults, tells_notices, tells_dropped, is_unjudged, judged_first}
-
--- tests of lists
-same_tests : {X : Type 0} (p q : X → Bool) → ((x : X) → p x ≡ q x) → (xs : List X) → list_any p xs ≡ list_any q xs
-same_tests p q same [] = refl
-same_tests p q same (x ∷ xs) = ap₂ (λ a b. a || b) (same x) (same_tests p q same xs)
-
-interchanged : (a b c d : Bool) → ((a || b) || (c || d)) ≡ ((a || c) || (b || d))
-interchanged true b c d = refl
-interchanged false true true d = refl
-interchanged false true false d = refl
-interchanged false false c d = refl
-
-any_either : {X : Type 0} (p q : X → Bool) (xs : List X) → list_any (λ x. p x || q x) xs ≡ (list_any p xs || list_any q xs)
-any_either p q [] = refl
-any_either p q (x ∷ xs) = ap (λ b. (p x || q x) || b) (any_either p q xs) ∙ interchanged (p x) (q x) (list_any p xs) (list_any q xs)
-
-any_none : {X : Type 0} (p : X → Bool) → ((x : X) → p x ≡ false) → (xs : List X) → list_any p xs ≡ false
-any_none p none [] = refl
-any_none p none (x ∷ xs) = ap₂ (λ a b. a || b) (none x) (any_none p none xs)
-
-or_none : (b c : Bool) → c ≡ false → (b || c) ≡ b
-or_none true c e = refl
-or_none false c e = e
+use Rattle.sr_capture_laws.proofs.ToldLemmas.{same_tests, any_either, any_none, or_none, mended_in, Tells, tells_both, is_sided, has_rest, shows_repeated, shows_late, told_by_figures, two_told, lost_told_in, wrong_told, others_told, told_faulty, tells_faults, tells_notices, tells_dropped, is_unjudged, judged_first}
 
 -- what is heard of sources has the figures of these
 heard_any : (test : Figures → Bool) (spans : Spans) (es : List (Mac × Source)) (hs : List Heard) → AreHeard spans es hs →
     list_any (λ h. test h.figures) hs ≡ list_any (λ e. test (figures_of e.1)) es
 heard_any test spans [] hs are = ap (list_any (λ h. test h.figures)) are
 heard_any test spans (e ∷ es) hs are =
-    ap (list_any (λ h. test h.figures)) are.3 ∙ ap (λ b. test (figures_of e.1) || b) (heard_any test spans es are.1 are.4)
+    ap (list_any (λ h. test h.figures)) are.4 ∙ ap (λ b. test (figures_of e.1) || b) (heard_any test spans es are.2 are.5)
 
--- a source has a row, or frames by a side alone besides it, exactly where it has frames by a side alone
-abbrev row_or_rest : Figures → Option Row → Bool
-row_or_rest f row = is_some row || (nat_lt 0 (only_at A f - row_frames A row) || nat_lt 0 (only_at B f - row_frames B row))
+-- rows of a source that has frames by their side alone
+abbrev IsLone : Figures → Option Row → Type 0
+IsLone f None = Unit {0}
+IsLone f (Some row) = nat_lt 0 (only_at row.side f) ≡ true
 
-lone_or_rest : (f : Figures) (o : Option Row) → row_or_rest f (lone_row f o) ≡ shows_lost f
-lone_or_rest f o = by o
+lone_is : (f : Figures) (o : Option Row) → IsLone f (lone_row f o)
+lone_is f None = tt
+lone_is f (Some row) = by (nat_lt 0 (only_at row.side f)) refl
   where
-    less_none : (n : ℕ) → n - 0 ≡ n
-    less_none n = omega arith
+    by : (b : Bool) → nat_lt 0 (only_at row.side f) ≡ b → IsLone f (cond b (Some row) None)
+    by true e = e
+    by false e = tt
 
-    no_row : row_or_rest f None ≡ shows_lost f
-    no_row = ap₂ (λ n m. nat_lt 0 n || nat_lt 0 m) (less_none (only_at A f)) (less_none (only_at B f))
+lone_lasting : (f : Figures) (time : ℕ) (o : Option Row) → IsLone f o → IsLone f (lasting time o)
+lone_lasting f time None lone = tt
+lone_lasting f time (Some row) lone = by (nat_le row.since time && nat_le time row.until)
+  where
+    by : (b : Bool) → IsLone f (cond b (Some row) None)
+    by true = lone
+    by false = tt
+
+lone_mended : (mended : Option ℕ) (h : Heard) → IsLone h.figures (row_mended mended h)
+lone_mended None h = tt
+lone_mended (Some time) h = lone_lasting h.figures time (closed_in h) (lone_is h.figures h.was_sided)
+
+-- a source has such rows, or frames by a side alone besides them, exactly where it has frames by a side alone
+abbrev row_or_rest : Figures → Option Row → Option Row → Bool
+row_or_rest f o p =
+    (is_some o || is_some p) || (nat_lt 0 (only_at A f - row_frames A o - row_frames A p) || nat_lt 0 (only_at B f - row_frames B o - row_frames B p))
+
+lone_or_rest : (f : Figures) (o p : Option Row) → IsLone f o → IsLone f p → row_or_rest f o p ≡ shows_lost f
+lone_or_rest f o p = by o p
+  where
+    less_none : (n : ℕ) → n - 0 - 0 ≡ n
+    less_none n = omega arith
 
     at_side : (side : Side) → nat_lt 0 (only_at side f) ≡ true → shows_lost f ≡ true
     at_side A e = or_left (nat_lt 0 (only_at A f)) (nat_lt 0 (only_at B f)) e
     at_side B e = or_right (nat_lt 0 (only_at A f)) (nat_lt 0 (only_at B f)) e
 
-    if_lone : (row : Row) (b : Bool) → nat_lt 0 (only_at row.side f) ≡ b → row_or_rest f (cond b (Some row) None) ≡ shows_lost f
-    if_lone row true e = sym (at_side row.side e)
-    if_lone row false e = no_row
+    by : (o p : Option Row) → IsLone f o → IsLone f p → row_or_rest f o p ≡ shows_lost f
+    by (Some row) p lone any = sym (at_side row.side lone)
+    by None (Some row) none lone = sym (at_side row.side lone)
+    by None None none nothing = ap₂ (λ n m. nat_lt 0 n || nat_lt 0 m) (less_none (only_at A f)) (less_none (only_at B f))
 
-    by : (o : Option Row) → row_or_rest f (lone_row f o) ≡ shows_lost f
-    by None = no_row
-    by (Some row) = if_lone row (nat_lt 0 (only_at row.side f)) refl
-
-pub lost_heard : (hs : List Heard) →
-    (list_any is_sided hs || (list_any (has_rest A) hs || list_any (has_rest B) hs)) ≡ list_any (λ h. shows_lost h.figures) hs
-lost_heard hs =
-    ap (λ b. list_any is_sided hs || b) (sym (any_either (has_rest A) (has_rest B) hs))
-    ∙ sym (any_either is_sided (λ h. has_rest A h || has_rest B h) hs)
-    ∙ same_tests (λ h. is_sided h || (has_rest A h || has_rest B h)) (λ h. shows_lost h.figures)
-    (λ h. lone_or_rest h.figures h.sided) hs
+pub lost_heard : (mended : Option ℕ) (hs : List Heard) →
+    (list_any (is_sided mended) hs || (list_any (has_rest mended A) hs || list_any (has_rest mended B) hs))
+    ≡ list_any (λ h. shows_lost h.figures) hs
+lost_heard mended hs =
+    ap (λ b. list_any (is_sided mended) hs || b) (sym (any_either (has_rest mended A) (has_rest mended B) hs))
+    ∙ sym (any_either (is_sided mended) (λ h. has_rest mended A h || has_rest mended B h) hs)
+    ∙ same_tests (λ h. is_sided mended h || (has_rest mended A h || has_rest mended B h)) (λ h. shows_lost h.figures)
+    (λ h. lone_or_rest h.figures (row_in h) (row_mended mended h) (lone_is h.figures h.sided) (lone_mended mended h)) hs
 
 -- the faults that figures tell of by themselves
 five_ways : (a b ra rb n l : Bool) → (a || (b || (ra || (rb || (n || l))))) ≡ ((a || b) || (n || ((ra || rb) || l)))
@@ -187,11 +185,11 @@ in_order m s wa wb rb ra wn ma mb mn p l = grind arith
 -- a fault is told exactly where the report tells of one
 pub told_is : (r : Report) (own telling counters : List Heard) → AreHeardIn r own telling counters → told_by_figures r own telling counters ≡ has_faults r
 told_is r own telling counters heard =
-    in_order m (list_any is_sided telling) (nat_lt 0 r.counts.a.wrong_lan) (nat_lt 0 r.counts.b.wrong_lan) (list_any (has_rest B) telling)
-    (list_any (has_rest A) telling) (nat_lt 0 r.counts.neither.wrong_lan) (nat_lt 0 r.counts.a.misfit) (nat_lt 0 r.counts.b.misfit)
+    in_order m (list_any (is_sided (mended_in r telling)) telling) (nat_lt 0 r.counts.a.wrong_lan) (nat_lt 0 r.counts.b.wrong_lan) (list_any (has_rest (mended_in r telling) B) telling)
+    (list_any (has_rest (mended_in r telling) A) telling) (nat_lt 0 r.counts.neither.wrong_lan) (nat_lt 0 r.counts.a.misfit) (nat_lt 0 r.counts.b.misfit)
     (nat_lt 0 r.counts.neither.misfit) p l
     ∙ ap (λ b. have_faults r.counts || b)
-    (ap₂ (λ x y. x || y) (lost_heard telling ∙ heard_any shows_lost r.spans (telling_entries r.judged r.audit) telling heard.are_telling
+    (ap₂ (λ x y. x || y) (lost_heard (mended_in r telling) telling ∙ heard_any shows_lost r.spans (telling_entries r.judged r.audit) telling heard.are_telling
     ∙ sym (lost_in r.judged r.audit))
     (ap₂ (λ x y. x || y) (ap (λ b. has_all_sent r.sight r.counters && b)
     (heard_any shows_missing r.spans (telling_entries r.counters r.audit) counters heard.are_counters)
@@ -304,8 +302,8 @@ told_apart : (r : Report) (nodes : List (Mac × Node)) (own telling counters : L
     told_faulty r nodes own telling counters ≡ (nodes_tell r.subject nodes || told_by_figures r own telling counters)
 told_apart r nodes own telling counters =
     apart_from (has_all_sent r.sight r.counters && list_any (λ h. shows_missing h.figures) counters) (two_told nodes)
-    (list_any is_sided telling) (wrong_told r) (lost_told_in r.subject nodes) (list_any (has_rest B) telling)
-    (list_any (has_rest A) telling) (others_told r) (list_any (λ h. shows_repeated h.figures) own) (list_any (λ h. shows_late h.figures) own)
+    (list_any (is_sided (mended_in r telling)) telling) (wrong_told r) (lost_told_in r.subject nodes) (list_any (has_rest (mended_in r telling) B) telling)
+    (list_any (has_rest (mended_in r telling) A) telling) (others_told r) (list_any (λ h. shows_repeated h.figures) own) (list_any (λ h. shows_late h.figures) own)
 
 pub told_of_single : (r : Report) (nodes : List (Mac × Node)) (own telling counters : List Heard) → IsSingleHearing r nodes own telling counters →
     told_faulty r nodes own telling counters ≡ (nodes_tell r.subject nodes || has_faults r)

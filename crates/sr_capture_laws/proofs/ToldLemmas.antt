@@ -29,6 +29,8 @@ use Rattle.sr_capture_audit.specs.declared.network.Ports.TheVariants.{Two, Mirro
 use Rattle.sr_capture_audit.specs.declared.network.Subject.{Subject}
 use Rattle.sr_capture_audit.specs.Faults.{shows_missing}
 use Rattle.sr_verdict.specs.declared.heard.Heard.{Heard}
+use Rattle.sr_verdict.specs.declared.heard.When.{When}
+use Rattle.sr_verdict.specs.declared.heard.When.TheVariants.{AtLast, At}
 use Rattle.sr_verdict.specs.declared.place.Place.{Place}
 use Rattle.sr_verdict.specs.declared.shared.Cut.{Cut}
 use Rattle.sr_verdict.specs.declared.shared.Share.{Share}
@@ -36,11 +38,35 @@ use Rattle.sr_verdict.specs.declared.verdict.Verdict.{Verdict}
 use Rattle.sr_verdict.specs.declared.verdict.Verdict.TheVariants.{Unjudged, BothLost, TwoSenders, CutRing, DeadPort, Crossed, LostRedundancy, Loss, WrongLan, Misfit, Repeated, Late, Skew, BothLostWithin, LossWithin, RecorderDropped, Restart, Babbling, Unseen, San, Clock}
 use Rattle.sr_verdict.specs.declared.why.Why.{Why}
 use Rattle.sr_verdict.specs.Drops.{dropped_told}
-use Rattle.sr_verdict.specs.Heards.{row_in, rest_at}
+use Rattle.sr_verdict.specs.Heards.{row_in, row_when, row_mended, rest_at}
+use Rattle.sr_verdict.specs.Mending.{cut_time}
 use Rattle.sr_verdict.specs.Places.{cut_place}
 use Rattle.sr_verdict.specs.Shared.{no_share, share_with, share_by, cut_by_row, cut_with, cut_in}
 use Rattle.sr_verdict.specs.Names.{names_with}
-use Rattle.sr_verdict.specs.Verdicts.{two_senders_told, lost_told, babbling_told, san_told, told_lan, in_prp, astray_names, when_counted, when_either, dead_by, verdict_on, verdicts_where, as_list, cut_told, sided_verdicts, loss_at, are_crossed, wrong_at, misfit_at, id_verdicts, other_id_verdicts, has_all_sent, has_part, fault_verdicts, clock_told, notice_verdicts, is_a_fault, reason_in}
+use Rattle.sr_verdict.specs.Verdicts.{two_senders_told, lost_told, babbling_told, san_told, told_lan, in_prp, astray_names, when_counted, when_either, dead_by, verdict_on, verdicts_where, as_list, cut_told, cut_at, cut_mended, sided_verdicts, loss_at, are_crossed, wrong_at, misfit_at, id_verdicts, other_id_verdicts, has_all_sent, has_part, fault_verdicts, clock_told, notice_verdicts, is_a_fault, reason_in}
+
+-- tests of lists
+pub same_tests : {X : Type 0} (p q : X → Bool) → ((x : X) → p x ≡ q x) → (xs : List X) → list_any p xs ≡ list_any q xs
+same_tests p q same [] = refl
+same_tests p q same (x ∷ xs) = ap₂ (λ a b. a || b) (same x) (same_tests p q same xs)
+
+interchanged : (a b c d : Bool) → ((a || b) || (c || d)) ≡ ((a || c) || (b || d))
+interchanged true b c d = refl
+interchanged false true true d = refl
+interchanged false true false d = refl
+interchanged false false c d = refl
+
+pub any_either : {X : Type 0} (p q : X → Bool) (xs : List X) → list_any (λ x. p x || q x) xs ≡ (list_any p xs || list_any q xs)
+any_either p q [] = refl
+any_either p q (x ∷ xs) = ap (λ b. (p x || q x) || b) (any_either p q xs) ∙ interchanged (p x) (q x) (list_any p xs) (list_any q xs)
+
+pub any_none : {X : Type 0} (p : X → Bool) → ((x : X) → p x ≡ false) → (xs : List X) → list_any p xs ≡ false
+any_none p none [] = refl
+any_none p none (x ∷ xs) = ap₂ (λ a b. a || b) (none x) (any_none p none xs)
+
+pub or_none : (b c : Bool) → c ≡ false → (b || c) ≡ b
+or_none true c e = refl
+or_none false c e = e
 
 -- none says that nothing can be judged, and some is a fault or none is
 abbrev pub is_unjudged : Verdict → Bool
@@ -152,11 +178,14 @@ none_where : (k : _) → ((h : Heard) → Tells false (as_list (verdict_on k h))
 none_where k each false hs = tells_none
 none_where k each true hs = none_each (verdict_on k) each hs
 
--- of one source
-abbrev pub is_sided : Heard → Bool
-is_sided h = is_some (row_in h)
+-- of one source, at last, or while a ring was cut that was mended
+abbrev is_last : Heard → Bool
+is_last h = is_some (row_in h)
 
-tells_dead : (h : Heard) → Tells (is_sided h) (as_list (dead_by h.mac (row_in h)))
+abbrev pub is_sided : Option ℕ → Heard → Bool
+is_sided mended h = is_some (row_in h) || is_some (row_mended mended h)
+
+tells_dead : (h : Heard) → Tells (is_last h) (as_list (dead_by h.mac (row_in h)))
 tells_dead h = by (row_in h)
   where
     by : (o : Option Row) → Tells (is_some o) (as_list (dead_by h.mac o))
@@ -234,12 +263,16 @@ tells_notices r nodes ahead hs =
     (a_notice (Unseen h.mac h.figures.neither) refl refl)) (has_part r.sight r.counters) hs)) (none_san r.subject nodes)) (tells_clock ahead)
 
 -- of the cut of a ring
-cut_more : (c : Option Cut) (hs : List Heard) → is_some (fold cut_with c hs) ≡ (is_some c || list_any is_sided hs)
-cut_more None [] = refl
-cut_more (Some c) [] = refl
-cut_more c (h ∷ hs) = cut_more (cut_with c h) hs ∙ by c (row_in h)
+abbrev is_cut : When → Heard → Bool
+is_cut when h = is_some (row_when when h)
+
+cut_more : (when : When) (c : Option Cut) (hs : List Heard) → is_some (fold (cut_with when) c hs) ≡ (is_some c || list_any (is_cut when) hs)
+cut_more when None [] = refl
+cut_more when (Some c) [] = refl
+cut_more when c (h ∷ hs) = cut_more when (cut_with when c h) hs ∙ by c (row_when when h)
   where
-    by : (c : Option Cut) (o : Option Row) → (is_some (cut_by_row c o) || list_any is_sided hs) ≡ (is_some c || (is_some o || list_any is_sided hs))
+    by : (c : Option Cut) (o : Option Row) →
+        (is_some (cut_by_row when c o) || list_any (is_cut when) hs) ≡ (is_some c || (is_some o || list_any (is_cut when) hs))
     by None None = refl
     by None (Some row) = refl
     by (Some c) None = refl
@@ -249,45 +282,64 @@ tells_cut : (place : Place) (c : Option Cut) → Tells (is_some c) (as_list (cut
 tells_cut place None = tells_none
 tells_cut place (Some c) = a_fault (CutRing c place) refl refl
 
-pub tells_sided : (network : Network) (hs : List Heard) → Tells (list_any is_sided hs) (sided_verdicts network hs)
-tells_sided Prp hs = tells_each (λ h. dead_by h.mac (row_in h)) is_sided tells_dead hs
-tells_sided Hsr hs = subst (λ (b : Bool). Tells b (as_list (cut_told (cut_place hs) (cut_in hs)))) (cut_more None hs)
-    (tells_cut (cut_place hs) (cut_in hs))
+tells_cut_at : (when : When) (hs : List Heard) → Tells (list_any (is_cut when) hs) (cut_at when hs)
+tells_cut_at when hs = subst (λ (b : Bool). Tells b (cut_at when hs)) (cut_more when None hs)
+    (tells_cut (cut_place when hs) (cut_in when hs))
+
+tells_mended : (mended : Option ℕ) (hs : List Heard) → Tells (list_any (λ h. is_some (row_mended mended h)) hs) (cut_mended mended hs)
+tells_mended None hs = subst (λ (b : Bool). Tells b []) (sym (any_none (λ (h : Heard). false) (λ h. refl) hs)) tells_none
+tells_mended (Some time) hs = tells_cut_at (At time) hs
+
+tells_lone : (mended : Option ℕ) (hs : List Heard) → Tells (list_any (is_sided mended) hs) (cut_at AtLast hs ++ cut_mended mended hs)
+tells_lone mended hs =
+    subst (λ (b : Bool). Tells b (cut_at AtLast hs ++ cut_mended mended hs))
+    (sym (any_either is_last (λ h. is_some (row_mended mended h)) hs))
+    (tells_both (list_any is_last hs) (list_any (λ h. is_some (row_mended mended h)) hs) (cut_at AtLast hs) (cut_mended mended hs)
+    (tells_cut_at AtLast hs) (tells_mended mended hs))
+
+pub tells_sided : (network : Network) (hs : List Heard) →
+    Tells (list_any (is_sided (cut_time network hs)) hs) (sided_verdicts network (cut_time network hs) hs)
+tells_sided Prp hs =
+    subst (λ (b : Bool). Tells b (sided_verdicts Prp None hs))
+    (same_tests is_last (is_sided None) (λ h. sym (or_none (is_last h) false refl)) hs)
+    (tells_each (λ h. dead_by h.mac (row_in h)) is_last tells_dead hs)
+tells_sided Hsr hs = tells_lone (cut_time Hsr hs) hs
 
 -- of the frames that a LAN lost
-abbrev pub has_rest : Side → Heard → Bool
-has_rest side h = nat_lt 0 (rest_at side h)
+abbrev pub has_rest : Option ℕ → Side → Heard → Bool
+has_rest mended side h = nat_lt 0 (rest_at mended side h)
 
-share_more : (side : Side) (s : Share) (hs : List Heard) →
-    nat_lt 0 (fold (share_with side) s hs).sources ≡ (nat_lt 0 s.sources || list_any (has_rest side) hs)
-share_more side s [] = by (nat_lt 0 s.sources)
+share_more : (mended : Option ℕ) (side : Side) (s : Share) (hs : List Heard) →
+    nat_lt 0 (fold (share_with mended side) s hs).sources ≡ (nat_lt 0 s.sources || list_any (has_rest mended side) hs)
+share_more mended side s [] = by (nat_lt 0 s.sources)
   where
     by : (b : Bool) → b ≡ (b || false)
     by true = refl
     by false = refl
-share_more side s (h ∷ hs) = share_more side (share_with side s h) hs ∙ by (has_rest side h)
+share_more mended side s (h ∷ hs) = share_more mended side (share_with mended side s h) hs ∙ by (has_rest mended side h)
   where
     one_more : (n : ℕ) → nat_lt 0 (bounded_sum n 1) ≡ true
     one_more n = lt-ltb 0 (bounded_sum n 1) (omega arith)
 
     with_one : Share
     with_one = record {
-      frames = bounded_sum s.frames (rest_at side h);
-      brought = bounded_sum s.brought (bounded_sum h.figures.tally.pairs (rest_at side h));
+      frames = bounded_sum s.frames (rest_at mended side h);
+      brought = bounded_sum s.brought (bounded_sum h.figures.tally.pairs (rest_at mended side h));
       sources = bounded_sum s.sources 1;
       names = names_with h.mac s.names;
     }
 
-    by : (b : Bool) → (nat_lt 0 (cond {A = Share} b with_one s).sources || list_any (has_rest side) hs)
-        ≡ (nat_lt 0 s.sources || (b || list_any (has_rest side) hs))
-    by true = ap (λ t. t || list_any (has_rest side) hs) (one_more s.sources) ∙ sym (or_right (nat_lt 0 s.sources) true refl)
+    by : (b : Bool) → (nat_lt 0 (cond {A = Share} b with_one s).sources || list_any (has_rest mended side) hs)
+        ≡ (nat_lt 0 s.sources || (b || list_any (has_rest mended side) hs))
+    by true = ap (λ t. t || list_any (has_rest mended side) hs) (one_more s.sources) ∙ sym (or_right (nat_lt 0 s.sources) true refl)
     by false = refl
 
-pub tells_loss : (lan : Side) (hs : List Heard) → Tells (list_any (has_rest (other_side lan)) hs) (loss_at lan hs)
-tells_loss lan hs =
-    let own = share_by (other_side lan) hs in
-    let other = share_by lan hs in
-    subst (λ (b : Bool). Tells b (loss_at lan hs)) (share_more (other_side lan) no_share hs)
+pub tells_loss : (mended : Option ℕ) (lan : Side) (hs : List Heard) →
+    Tells (list_any (has_rest mended (other_side lan)) hs) (loss_at mended lan hs)
+tells_loss mended lan hs =
+    let own = share_by mended (other_side lan) hs in
+    let other = share_by mended lan hs in
+    subst (λ (b : Bool). Tells b (loss_at mended lan hs)) (share_more mended (other_side lan) no_share hs)
     (counted own.sources (Loss lan own other.frames) (a_fault (Loss lan own other.frames) refl refl))
 
 -- of ids of the other LAN, and of trailers that are none
@@ -331,10 +383,13 @@ abbrev pub others_told : Report → Bool
 others_told r =
     ((nat_lt 0 r.counts.neither.wrong_lan || nat_lt 0 r.counts.a.misfit) || nat_lt 0 r.counts.b.misfit) || nat_lt 0 r.counts.neither.misfit
 
+abbrev pub mended_in : Report → List Heard → Option ℕ
+mended_in r telling = cut_time r.subject.network telling
+
 abbrev pub told_by_figures : Report → List Heard → List Heard → List Heard → Bool
 told_by_figures r own telling counters =
-    (((((((has_all_sent r.sight r.counters && list_any (λ h. shows_missing h.figures) counters) || list_any is_sided telling) || wrong_told r)
-    || list_any (has_rest B) telling) || list_any (has_rest A) telling) || others_told r) || list_any (λ h. shows_repeated h.figures) own)
+    (((((((has_all_sent r.sight r.counters && list_any (λ h. shows_missing h.figures) counters) || list_any (is_sided (mended_in r telling)) telling) || wrong_told r)
+    || list_any (has_rest (mended_in r telling) B) telling) || list_any (has_rest (mended_in r telling) A) telling) || others_told r) || list_any (λ h. shows_repeated h.figures) own)
     || list_any (λ h. shows_late h.figures) own
 
 -- with what the frames of sources tell
@@ -347,8 +402,8 @@ lost_told_in subject nodes = of_prp subject.network (list_any (λ e. is_some (lo
 abbrev pub told_faulty : Report → List (Mac × Node) → List Heard → List Heard → List Heard → Bool
 told_faulty r nodes own telling counters =
     (((((((((has_all_sent r.sight r.counters && list_any (λ h. shows_missing h.figures) counters) || two_told nodes)
-    || list_any is_sided telling) || wrong_told r) || lost_told_in r.subject nodes)
-    || list_any (has_rest B) telling) || list_any (has_rest A) telling) || others_told r) || list_any (λ h. shows_repeated h.figures) own)
+    || list_any (is_sided (mended_in r telling)) telling) || wrong_told r) || lost_told_in r.subject nodes)
+    || list_any (has_rest (mended_in r telling) B) telling) || list_any (has_rest (mended_in r telling) A) telling) || others_told r) || list_any (λ h. shows_repeated h.figures) own)
     || list_any (λ h. shows_late h.figures) own
 
 pub tells_faults : (r : Report) (nodes : List (Mac × Node)) (own telling counters : List Heard) →
@@ -359,7 +414,7 @@ tells_faults r nodes own telling counters =
     (tells_where _ (λ h. shows_missing h.figures) (λ h. counted h.figures.neither (BothLost h.mac h.figures.neither)
     (a_fault (BothLost h.mac h.figures.neither) refl refl)) (has_all_sent r.sight r.counters) counters)
     (tells_two r.subject.ports nodes)) (tells_sided r.subject.network telling)) (tells_ids r.counts nodes)) (tells_lost r.subject nodes))
-    (tells_loss A telling)) (tells_loss B telling)) (tells_other_ids r.counts nodes))
+    (tells_loss (mended_in r telling) A telling)) (tells_loss (mended_in r telling) B telling)) (tells_other_ids r.counts nodes))
     (tells_each (λ h. when_either h.figures.tally.repeats.a h.figures.tally.repeats.b (Repeated h.mac h.figures.tally.repeats))
     (λ h. shows_repeated h.figures) (λ h. either h.figures.tally.repeats.a h.figures.tally.repeats.b (Repeated h.mac h.figures.tally.repeats)
     (a_fault (Repeated h.mac h.figures.tally.repeats) refl refl)) own))

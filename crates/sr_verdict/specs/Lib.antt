@@ -5,4 +5,5 @@ pub mod Places
 pub mod Verdicts
 pub mod Drops
 pub mod Limits
+pub mod Mending
 pub mod Told

@@ -7,9 +7,10 @@ use Rattle.sr_audit.specs.declared.side.Side.TheVariants.{A, B}
 use Rattle.sr_audit.specs.Skewing.{mean_of}
 use Rattle.sr_audit.specs.Stretches.{same_side}
 use Rattle.sr_verdict.specs.declared.heard.Heard.{Heard}
+use Rattle.sr_verdict.specs.declared.heard.When.{When}
 use Rattle.sr_verdict.specs.declared.place.Neighbour.{Neighbour}
 use Rattle.sr_verdict.specs.declared.place.Place.{Place}
-use Rattle.sr_verdict.specs.Heards.{row_in}
+use Rattle.sr_verdict.specs.Heards.{row_when}
 
 -- a source at its place in the ring, by how much later its copies came by B than by A: the later, the nearer it stands to port A
 abbrev pub neighbour_by : Mac → Option ℤ → Option Neighbour
@@ -38,12 +39,12 @@ abbrev pub is_row_by : Side → Option Row → Bool
 is_row_by side None = false
 is_row_by side (Some row) = same_side row.side side
 
-abbrev pub next_with : Side → Option Neighbour → Heard → Option Neighbour
-next_with side m h = if is_row_by side (row_in h) then with_neighbour side m (neighbour_of h) else m
+abbrev pub next_with : When → Side → Option Neighbour → Heard → Option Neighbour
+next_with when side m h = if is_row_by side (row_when when h) then with_neighbour side m (neighbour_of h) else m
 
 -- the source next to the cut among those that a side alone brings
-abbrev pub next_to_cut : Side → List Heard → Option Neighbour
-next_to_cut side hs = fold (next_with side) None hs
+abbrev pub next_to_cut : When → Side → List Heard → Option Neighbour
+next_to_cut when side hs = fold (next_with when side) None hs
 
-abbrev pub cut_place : List Heard → Place
-cut_place hs = record { at_a = next_to_cut A hs; at_b = next_to_cut B hs }
+abbrev pub cut_place : When → List Heard → Place
+cut_place when hs = record { at_a = next_to_cut when A hs; at_b = next_to_cut when B hs }

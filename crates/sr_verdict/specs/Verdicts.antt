@@ -51,6 +51,8 @@ use Rattle.sr_sources.specs.declared.rates.Second.{Second}
 use Rattle.sr_sources.specs.declared.source.Source.{Source as Node}
 use Rattle.sr_sources.specs.Kinds.{doubled_since, lost_redundancy, san_of, babbling, end_at}
 use Rattle.sr_verdict.specs.declared.heard.Heard.{Heard}
+use Rattle.sr_verdict.specs.declared.heard.When.{When}
+use Rattle.sr_verdict.specs.declared.heard.When.TheVariants.{AtLast, At}
 use Rattle.sr_verdict.specs.declared.kinds.Kind.{Kind}
 use Rattle.sr_verdict.specs.declared.kinds.Kind.TheVariants as kind
 use Rattle.sr_verdict.specs.declared.names.Names.{Names}
@@ -85,6 +87,7 @@ use Rattle.sr_verdict.specs.declared.verdict.Verdict.TheVariants.{
 }
 use Rattle.sr_verdict.specs.declared.why.Why.{Why}
 use Rattle.sr_verdict.specs.Heards.{AreHeard, row_in}
+use Rattle.sr_verdict.specs.Mending.{cut_time}
 use Rattle.sr_verdict.specs.Names.{no_names, names_with}
 use Rattle.sr_verdict.specs.Places.{cut_place}
 use Rattle.sr_verdict.specs.Shared.{share_by, cut_in}
@@ -125,16 +128,24 @@ abbrev pub cut_told : Place → Option Cut → Option Verdict
 cut_told place None = None
 cut_told place (Some c) = Some (CutRing c place)
 
-abbrev pub sided_verdicts : Network → List Heard → List Verdict
-sided_verdicts Prp hs = verdicts_on kind.DeadPort hs
-sided_verdicts Hsr hs = as_list (cut_told (cut_place hs) (cut_in hs))
+abbrev pub cut_at : When → List Heard → List Verdict
+cut_at when hs = as_list (cut_told (cut_place when hs) (cut_in when hs))
 
--- a LAN lost frames that came by the other one
+-- or it was cut, and mended
+abbrev pub cut_mended : Option ℕ → List Heard → List Verdict
+cut_mended None hs = []
+cut_mended (Some time) hs = cut_at (At time) hs
+
+abbrev pub sided_verdicts : Network → Option ℕ → List Heard → List Verdict
+sided_verdicts Prp mended hs = verdicts_on kind.DeadPort hs
+sided_verdicts Hsr mended hs = cut_at AtLast hs ++ cut_mended mended hs
+
+-- a LAN lost frames that came by the other one, besides those that came by one side alone while a ring was cut
 abbrev pub loss_by : Side → Share → Share → Option Verdict
 loss_by lan own other = if nat_lt 0 own.sources then Some (Loss lan own other.frames) else None
 
-abbrev pub loss_at : Side → List Heard → List Verdict
-loss_at lan hs = as_list (loss_by lan (share_by (other_side lan) hs) (share_by lan hs))
+abbrev pub loss_at : Option ℕ → Side → List Heard → List Verdict
+loss_at mended lan hs = as_list (loss_by lan (share_by mended (other_side lan) hs) (share_by mended lan hs))
 
 -- so many copies have the other LAN's id at both sides where cables are crossed (choice of this project: one is a stray); fewer, or at one
 -- side alone, are told by side
@@ -257,9 +268,10 @@ pub record IsSingleHearing (r : Report) (nodes : List (Mac × Node)) (own tellin
 
 abbrev pub fault_verdicts : Report → List (Mac × Node) → List Heard → List Heard → List Heard → List Verdict
 fault_verdicts r nodes own telling counters =
+    let mended = cut_time r.subject.network telling in
     verdicts_where (has_all_sent r.sight r.counters) kind.BothLost counters ++ node_verdicts node.TwoSenders r.subject.ports nodes
-    ++ sided_verdicts r.subject.network telling ++ id_verdicts r.counts nodes ++ prp_verdicts node.LostRedundancy r.subject nodes
-    ++ loss_at A telling ++ loss_at B telling ++ other_id_verdicts r.counts nodes
+    ++ sided_verdicts r.subject.network mended telling ++ id_verdicts r.counts nodes ++ prp_verdicts node.LostRedundancy r.subject nodes
+    ++ loss_at mended A telling ++ loss_at mended B telling ++ other_id_verdicts r.counts nodes
     ++ verdicts_on kind.Repeated own ++ verdicts_on kind.Late own
 
 abbrev pub clock_told : Option ℤ → Option Verdict

@@ -5,8 +5,10 @@ ghost use Rattle.sr_verdict.specs.Verdicts.{
   as_list,
   verdicts_on,
   verdicts_where,
-  sided_verdicts,
   cut_told,
+  cut_at,
+  cut_mended,
+  sided_verdicts,
   loss_by,
   loss_at,
   are_crossed,
@@ -25,10 +27,11 @@ ghost use Rattle.sr_verdict.specs.Verdicts.{
 ghost use Rattle.sr_verdict.specs.Told.{why_of, why_told, AreVerdictsOf};
 
 use crate::drops::{note_dropped, settle};
-use crate::heard::Heard;
+use crate::heard::{Heard, When};
 use crate::hearing::{Hearing, single_hearing};
 use crate::kinds::{Kind, verdict_on, when_counted};
 use crate::limits::{Limits, note_limited, note_skews};
+use crate::mending::cut_time;
 use crate::nodes::{NodeVerdict, astray_names, node_verdict};
 use crate::place::{Place, cut_place};
 use crate::shared::{Cut, Share, cut_in, share_by};
@@ -152,18 +155,47 @@ fn cut_told(place: Place, cut: Option<Cut>) -> Option<Verdict>
     }
 }
 
-/// Takes what is told of sources that are heard by one side alone at last.
-fn note_sided(
+/// Takes what is told of a cut of a ring.
+fn note_cut(verdicts: &mut Vec<Verdict>, when: When, telling: &[Heard]) -> Result<(), NoMemory>
+    ensures { OnOk result (verdicts.new.items ≡ verdicts.old.items ++ cut_at when telling.now) }
+{
+    note_one(
+        verdicts,
+        cut_told(cut_place(when, telling), cut_in(when, telling)),
+    )
+}
+
+/// Takes what is told of a cut of a ring that was mended, if there was one at a time.
+fn note_mended(
     verdicts: &mut Vec<Verdict>,
-    network: Network,
+    mended: Option<u64>,
     telling: &[Heard],
 ) -> Result<(), NoMemory>
     ensures { OnOk result
-        (verdicts.new.items ≡ verdicts.old.items ++ sided_verdicts network telling.now) }
+        (verdicts.new.items ≡ verdicts.old.items ++ cut_mended mended telling.now) }
+{
+    match mended {
+        Some(time) => note_cut(verdicts, When::At(time), telling),
+        None => Ok(()),
+    }
+}
+
+/// Takes what is told of sources that are heard by one side alone at last, or were while a ring was cut.
+fn note_sided(
+    verdicts: &mut Vec<Verdict>,
+    network: Network,
+    mended: Option<u64>,
+    telling: &[Heard],
+) -> Result<(), NoMemory>
+    ensures { OnOk result
+        (verdicts.new.items ≡ verdicts.old.items ++ sided_verdicts network mended telling.now) }
 {
     match network {
         Network::Prp => note_each(verdicts, Kind::DeadPort, telling),
-        Network::Hsr => note_one(verdicts, cut_told(cut_place(telling), cut_in(telling))),
+        Network::Hsr => {
+            note_cut(verdicts, When::AtLast, telling)?;
+            note_mended(verdicts, mended, telling)
+        }
     }
 }
 
@@ -175,11 +207,17 @@ fn loss_by(lan: Side, own: Share, other: Share) -> Option<Verdict>
 }
 
 /// Takes what is told of the frames that a LAN lost.
-fn note_loss(verdicts: &mut Vec<Verdict>, lan: Side, telling: &[Heard]) -> Result<(), NoMemory>
-    ensures { OnOk result (verdicts.new.items ≡ verdicts.old.items ++ loss_at lan telling.now) }
+fn note_loss(
+    verdicts: &mut Vec<Verdict>,
+    mended: Option<u64>,
+    lan: Side,
+    telling: &[Heard],
+) -> Result<(), NoMemory>
+    ensures { OnOk result
+        (verdicts.new.items ≡ verdicts.old.items ++ loss_at mended lan telling.now) }
 {
-    let own = share_by(lan.other(), telling);
-    let other = share_by(lan, telling);
+    let own = share_by(mended, lan.other(), telling);
+    let other = share_by(mended, lan, telling);
     note_one(verdicts, loss_by(lan, own, other))
 }
 
@@ -274,13 +312,14 @@ fn note_faults(
         counters,
     } = hearing;
     let subject = report.subject;
+    let mended = cut_time(subject.network, telling);
     note_where(verdicts, has_all_sent(report), Kind::BothLost, counters)?;
     note_nodes(verdicts, NodeVerdict::TwoSenders, subject.ports, sources)?;
-    note_sided(verdicts, subject.network, telling)?;
+    note_sided(verdicts, subject.network, mended, telling)?;
     note_ids(verdicts, &report.counts, sources)?;
     note_prp(verdicts, NodeVerdict::LostRedundancy, subject, sources)?;
-    note_loss(verdicts, Side::A, telling)?;
-    note_loss(verdicts, Side::B, telling)?;
+    note_loss(verdicts, mended, Side::A, telling)?;
+    note_loss(verdicts, mended, Side::B, telling)?;
     note_other_ids(verdicts, &report.counts, sources)?;
     note_each(verdicts, Kind::Repeated, own)?;
     note_each(verdicts, Kind::Late, own)

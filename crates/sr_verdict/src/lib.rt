@@ -9,6 +9,7 @@ mod judging;
 mod kinds;
 mod limits;
 mod lines;
+mod mending;
 mod names;
 mod nodes;
 mod place;

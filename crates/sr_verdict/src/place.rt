@@ -3,7 +3,7 @@
 ghost use Rattle.std.specs.Prelude.{◌≡◌};
 ghost use Rattle.sr_verdict.specs.Places.{neighbour_of, is_nearer, nearer_of, with_neighbour, is_row_by, next_with, next_to_cut, cut_place};
 
-use crate::heard::{Heard, row_in};
+use crate::heard::{Heard, When, row_when};
 use sr_audit::{Row, Side};
 use sr_frame::Mac;
 
@@ -83,10 +83,10 @@ fn is_row_by(side: Side, row: Option<Row>) -> bool
 }
 
 /// The nearest source so far, with one more if it is brought by this side alone.
-fn next_with(side: Side, nearest: Option<Neighbour>, heard: &Heard) -> Option<Neighbour>
-    ensures { result ≡ next_with side nearest heard.now }
+fn next_with(when: When, side: Side, nearest: Option<Neighbour>, heard: &Heard) -> Option<Neighbour>
+    ensures { result ≡ next_with when side nearest heard.now }
 {
-    if is_row_by(side, row_in(heard)) {
+    if is_row_by(side, row_when(when, heard)) {
         with_neighbour(side, nearest, neighbour_of(heard))
     } else {
         nearest
@@ -94,22 +94,22 @@ fn next_with(side: Side, nearest: Option<Neighbour>, heard: &Heard) -> Option<Ne
 }
 
 /// The source next to the cut among those that a side alone brings.
-fn next_to_cut(side: Side, heard: &[Heard]) -> Option<Neighbour>
-    ensures { result ≡ next_to_cut side heard.now }
+fn next_to_cut(when: When, side: Side, heard: &[Heard]) -> Option<Neighbour>
+    ensures { result ≡ next_to_cut when side heard.now }
 {
     let mut nearest = None;
     for own in heard {
-        nearest = next_with(side, nearest, own);
+        nearest = next_with(when, side, nearest, own);
     }
     nearest
 }
 
 /// Where a ring is cut, by what is heard of its sources.
-pub(crate) fn cut_place(heard: &[Heard]) -> Place
-    ensures { result ≡ cut_place heard.now }
+pub(crate) fn cut_place(when: When, heard: &[Heard]) -> Place
+    ensures { result ≡ cut_place when heard.now }
 {
     Place {
-        at_a: next_to_cut(Side::A, heard),
-        at_b: next_to_cut(Side::B, heard),
+        at_a: next_to_cut(when, Side::A, heard),
+        at_b: next_to_cut(when, Side::B, heard),
     }
 }

@@ -30,7 +30,7 @@ pub enum Verdict {
     BothLost(Mac, u64),
     /// Fault: the numbers of a source are those of two senders, since this time.
     TwoSenders(Mac, u64),
-    /// Fault: a ring is cut, at this place.
+    /// Fault: a ring is cut, or was and is mended, at this place.
     CutRing(Cut, Place),
     /// Fault: a source of a PRP network is heard by one LAN alone since then.
     DeadPort(Mac, Row),

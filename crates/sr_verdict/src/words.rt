@@ -1,5 +1,6 @@
 //! The words of verdicts: how severe one is, what kind it is of, and what to do.
 
+use crate::shared::Cut;
 use crate::verdict::Verdict;
 use crate::why::Why;
 use sr_audit::Side;
@@ -92,6 +93,8 @@ pub(crate) fn advice_on(verdict: &Verdict) -> &'static str {
         Verdict::BothLost(_, _) | Verdict::BothLostWithin(_, _) =>
             "look at what both paths share: the sender, its power, a switch",
         Verdict::TwoSenders(_, _) => "give one of the two nodes an address of its own",
+        Verdict::CutRing(Cut { until: Some(_), .. }, _) =>
+            "look why the link between the sources of sided A and those of sided B was down",
         Verdict::CutRing(_, _) =>
             "mend the link between the sources of sided A and those of sided B",
         Verdict::DeadPort(_, _) => "look at its port and cable at this LAN",

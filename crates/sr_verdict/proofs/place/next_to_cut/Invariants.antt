@@ -3,4 +3,4 @@ use Rattle.sr_verdict.specs.Places.{next_with}
 use Rattle.sr_verdict.proofs.place.next_to_cut.Given as goal
 
 abbrev pub invariant-loop-own : goal.invariant-loop-own
-invariant-loop-own l = l.nearest ≡ fold (next_with l.side) None (take l.own-index l.heard)
+invariant-loop-own l = l.nearest ≡ fold (next_with l.when l.side) None (take l.own-index l.heard)
