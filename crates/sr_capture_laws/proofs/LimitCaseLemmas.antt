@@ -1,5 +1,5 @@
 -- Checks by limits worked out.
-use Rattle.std.proofs.Common.{◌≡◌, ℕ, ◌+◌, ◌-◌, ◌^◌, ◌≤◌, Bool, true, false, cond, not, ◌&&◌, ◌||◌, List, [], ◌∷◌, ◌++◌, Option, None, Some, arith, refl, sym, ap, ap₂, ◌∙◌}
+use Rattle.std.proofs.Common.{◌≡◌, ℕ, ◌+◌, ◌-◌, ◌^◌, ◌≤◌, Bool, true, false, cond, not, ◌&&◌, ◌||◌, List, [], ◌∷◌, ◌++◌, Option, None, Some, arith, refl, sym, ap, ap₂, ◌∙◌, subst}
 use Rattle.std.specs.Prelude.{min, nat_lt, nat_le, filter, sum_by}
 use Rattle.std.specs.List.{list_any}
 use Rattle.std.proofs.lemmas.Bool.{and_left, and_right, not_from_true, lt-leb, or_from, or_left, or_right}
@@ -28,6 +28,7 @@ use Rattle.sr_verdict.specs.declared.limits.Limits.{Limits}
 use Rattle.sr_verdict.specs.declared.verdict.Verdict.{Verdict}
 use Rattle.sr_verdict.specs.Drops.{loss_in, losses_in, explains, explained_by, is_explained, any_dropped, settled, dropped_told}
 use Rattle.sr_verdict.specs.Heards.{AreHeard}
+use Rattle.sr_verdict.specs.Mending.{cut_time}
 use Rattle.sr_verdict.specs.Told.{why_told, verdicts_for, limited_faults, AreVerdictsOf}
 use Rattle.sr_verdict.specs.Verdicts.{single_in, loss_at, sided_verdicts, fault_verdicts, notice_verdicts, is_a_fault, block_status}
 use Rattle.sr_capture_laws.specs.Ending.{nodes_tell, faults_told}
@@ -42,9 +43,11 @@ same_heard : (spans : Spans) (es : List (Mac × Source)) (hs gs : List Heard) �
 same_heard spans [] hs gs all are also = are ∙ sym also
 same_heard spans (e ∷ es) hs gs all are also =
     let own : IsOfArrivals spans e.1 = All-head (λ (x : Mac × Source). IsOfArrivals spans x.1) e es all in
-    let row : are.0 ≡ also.0 = are.2.row_is own.arrivals own.taken ∙ sym (also.2.row_is own.arrivals own.taken) in
-    let rest : are.1 ≡ also.1 = same_heard spans es are.1 also.1 (All-tail (λ (x : Mac × Source). IsOfArrivals spans x.1) e es all) are.4 also.4 in
-    are.3 ∙ ap₂ (λ (r : Option Row) (l : List Heard). record { mac = e.0; figures = figures_of e.1; sided = r } ∷ l) row rest ∙ sym also.3
+    let row : are.0 ≡ also.0 = are.3.row_is own.arrivals own.taken ∙ sym (also.3.row_is own.arrivals own.taken) in
+    let closed : are.1 ≡ also.1 = are.3.closed_is own.arrivals own.taken ∙ sym (also.3.closed_is own.arrivals own.taken) in
+    let rest : are.2 ≡ also.2 = same_heard spans es are.2 also.2 (All-tail (λ (x : Mac × Source). IsOfArrivals spans x.1) e es all) are.5 also.5 in
+    are.4 ∙ ap₂ (λ (r c : Option Row). record { mac = e.0; figures = figures_of e.1; sided = r; was_sided = c } ∷ are.2) row closed
+    ∙ ap (λ (l : List Heard). record { mac = e.0; figures = figures_of e.1; sided = also.0; was_sided = also.1 } ∷ l) rest ∙ sym also.4
 
 pub verdicts_are_one : VerdictsAreOfTheRun
 verdicts_are_one r sources outside vs ws of are also =
@@ -114,13 +117,26 @@ by_none : (n f m l w : Bool) → n ≡ false → f ≡ false → m ≡ false →
 by_none n f m l w a b c d e = or_from n _ a (or_from f _ b (or_from m _ c (or_from l w d e)))
 
 -- no row is at the end of these sources
-six_sided : (network : Network) (m n : Mac) → list_any is_a_fault (sided_verdicts network (six_lost m n)) ≡ false
+six_sided : (network : Network) (m n : Mac) → list_any is_a_fault (sided_verdicts network (cut_time network (six_lost m n)) (six_lost m n)) ≡ false
 six_sided Prp m n = refl
 six_sided Hsr m n = refl
 
-wide_sided : (network : Network) (m : Mac) → list_any is_a_fault (sided_verdicts network (one_wide m)) ≡ false
+wide_sided : (network : Network) (m : Mac) → list_any is_a_fault (sided_verdicts network (cut_time network (one_wide m)) (one_wide m)) ≡ false
 wide_sided Prp m = refl
 wide_sided Hsr m = refl
+
+-- six frames, and none
+six_within : (network : Network) (m n : Mac) → loss_beyond (Some 6) network (six_lost m n) ≡ false
+six_within Prp m n = refl
+six_within Hsr m n = refl
+
+six_beyond : (network : Network) (m n : Mac) → loss_beyond (Some 5) network (six_lost m n) ≡ true
+six_beyond Prp m n = refl
+six_beyond Hsr m n = refl
+
+wide_lost : (network : Network) (m : Mac) → loss_beyond None network (one_wide m) ≡ false
+wide_lost Prp m = refl
+wide_lost Hsr m = refl
 
 none_lack : (limit : Option ℕ) (r : Report) (counters : List Heard) → counters ≡ [] → lack_beyond limit r counters ≡ false
 none_lack limit r counters none = ap (lack_beyond limit r) none ∙ and_right _ false refl
@@ -130,34 +146,34 @@ within : (m n : Mac) (r : Report) (sources : Sources) (outside : Outside) (vs : 
     block_status vs ≡ 0
 within m n r sources outside vs check quiet =
     status_is (limits_of (Some 6) None) (six_lost m n) (six_lost m n) r sources outside vs check false
-    (by_none _ (faulty_anyway r (six_lost m n) (six_lost m n)) (lack_beyond (Some 6) r check.are.counters) (loss_beyond (Some 6) (six_lost m n))
+    (by_none _ (faulty_anyway r (six_lost m n) (six_lost m n)) (lack_beyond (Some 6) r check.are.counters) (loss_beyond (Some 6) r.subject.network (six_lost m n))
     (list_any (is_wide None) (six_lost m n)) quiet.nodes
-    (or_from (list_any is_a_fault (sided_verdicts r.subject.network (six_lost m n))) _ (six_sided r.subject.network m n)
-    (or_from (have_faults r.counts) _ quiet.counts refl)) (none_lack (Some 6) r check.are.counters quiet.none_missing) refl refl)
+    (or_from (list_any is_a_fault (sided_verdicts r.subject.network (cut_time r.subject.network (six_lost m n)) (six_lost m n))) _ (six_sided r.subject.network m n)
+    (or_from (have_faults r.counts) _ quiet.counts refl)) (none_lack (Some 6) r check.are.counters quiet.none_missing) (six_within r.subject.network m n) refl)
 
 beyond : (m n : Mac) (r : Report) (sources : Sources) (outside : Outside) (vs : List Verdict) →
     IsCheckOf (limits_of (Some 5) None) (six_lost m n) (six_lost m n) r sources outside vs → block_status vs ≡ 3
 beyond m n r sources outside vs check =
     status_is (limits_of (Some 5) None) (six_lost m n) (six_lost m n) r sources outside vs check true
     (by_loss (nodes_tell r.subject sources.sources.entries) (faulty_anyway r (six_lost m n) (six_lost m n)) (lack_beyond (Some 5) r check.are.counters)
-    (loss_beyond (Some 5) (six_lost m n)) (list_any (is_wide None) (six_lost m n)) refl)
+    (loss_beyond (Some 5) r.subject.network (six_lost m n)) (list_any (is_wide None) (six_lost m n)) (six_beyond r.subject.network m n))
 
 near : (m : Mac) (r : Report) (sources : Sources) (outside : Outside) (vs : List Verdict)
     (check : IsCheckOf (limits_of None (Some most_apart)) (one_wide m) (one_wide m) r sources outside vs) → IsElseQuiet r sources check.are.counters →
     block_status vs ≡ 0
 near m r sources outside vs check quiet =
     status_is (limits_of None (Some most_apart)) (one_wide m) (one_wide m) r sources outside vs check false
-    (by_none _ (faulty_anyway r (one_wide m) (one_wide m)) (lack_beyond None r check.are.counters) (loss_beyond None (one_wide m))
+    (by_none _ (faulty_anyway r (one_wide m) (one_wide m)) (lack_beyond None r check.are.counters) (loss_beyond None r.subject.network (one_wide m))
     (list_any (is_wide (Some most_apart)) (one_wide m)) quiet.nodes
-    (or_from (list_any is_a_fault (sided_verdicts r.subject.network (one_wide m))) _ (wide_sided r.subject.network m)
-    (or_from (have_faults r.counts) _ quiet.counts refl)) (none_lack None r check.are.counters quiet.none_missing) refl refl)
+    (or_from (list_any is_a_fault (sided_verdicts r.subject.network (cut_time r.subject.network (one_wide m)) (one_wide m))) _ (wide_sided r.subject.network m)
+    (or_from (have_faults r.counts) _ quiet.counts refl)) (none_lack None r check.are.counters quiet.none_missing) (wide_lost r.subject.network m) refl)
 
 far : (m : Mac) (r : Report) (sources : Sources) (outside : Outside) (vs : List Verdict) →
     IsCheckOf (limits_of None (Some (most_apart - 1))) (one_wide m) (one_wide m) r sources outside vs → block_status vs ≡ 3
 far m r sources outside vs check =
     status_is (limits_of None (Some (most_apart - 1))) (one_wide m) (one_wide m) r sources outside vs check true
     (by_skew (nodes_tell r.subject sources.sources.entries) (faulty_anyway r (one_wide m) (one_wide m)) (lack_beyond None r check.are.counters)
-    (loss_beyond None (one_wide m)) (list_any (is_wide (Some (most_apart - 1))) (one_wide m)) refl)
+    (loss_beyond None r.subject.network (one_wide m)) (list_any (is_wide (Some (most_apart - 1))) (one_wide m)) refl)
 
 pub limits_worked : WorkedLimitsEndChecks
 limits_worked = record { within = within; beyond = beyond; near = near; far = far }
@@ -188,30 +204,40 @@ five_dropped : Sides
 five_dropped = record { a = 0; b = 5 }
 
 none_excused : (m n : Mac) (before c d e : List Verdict) (own : List Heard) →
-    may_be_dropped (limits_of (Some 5) None) Two five_dropped (Amid before (loss_at B (six_lost m n)) c d e) own ≡ false
+    may_be_dropped (limits_of (Some 5) None) Two five_dropped (Amid before (loss_at None B (six_lost m n)) c d e) own ≡ false
 none_excused m n before c d e own =
     and_right (any_dropped five_dropped) _ (not_from_true (list_any (is_fault_beyond (Some 5)) (filter stays faults) || list_any (is_wide None) own)
     (or_left (list_any (is_fault_beyond (Some 5)) (filter stays faults)) (list_any (is_wide None) own)
     (any_filter (is_fault_beyond (Some 5)) stays faults
-    ∙ any_amid (λ v. stays v && is_fault_beyond (Some 5) v) before (loss_at B (six_lost m n)) c d e (ap (λ b. (not b && true) || false) unexplained))))
+    ∙ any_amid (λ v. stays v && is_fault_beyond (Some 5) v) before (loss_at None B (six_lost m n)) c d e (ap (λ b. (not b && true) || false) unexplained))))
   where
     faults : List Verdict
-    faults = Amid before (loss_at B (six_lost m n)) c d e
+    faults = Amid before (loss_at None B (six_lost m n)) c d e
 
     stays : Verdict → Bool
     stays v = not (is_explained (explained_by Two five_dropped faults) v)
 
     six : 6 ≤ sum_by (loss_in B) faults
-    six = sum_amid (loss_in B) before (loss_at B (six_lost m n)) c d e
+    six = sum_amid (loss_in B) before (loss_at None B (six_lost m n)) c d e
 
     losses : losses_in B faults ≡ min (0 + sum_by (loss_in B) faults) (2 ^ 64 - 1)
     losses = fold_bounded (loss_in B) 0 faults (omega arith)
 
     not_few : nat_le (losses_in B faults) 5 ≡ false
-    not_few = lt-leb 5 (losses_in B faults) (omega (arith, six, losses))
+    not_few = lt-leb (losses_in B faults) 5 (omega (arith, six, losses))
 
     unexplained : explains 5 (losses_in B faults) ≡ false
     unexplained = and_right (nat_lt 0 (losses_in B faults)) (nat_le (losses_in B faults) 5) not_few
+
+no_cut : (network : Network) (m n : Mac) → cut_time network (six_lost m n) ≡ None
+no_cut Prp m n = refl
+no_cut Hsr m n = refl
+
+none_excused_at : (m n : Mac) (mended : Option ℕ) → mended ≡ None → (before c d e : List Verdict) (own : List Heard) →
+    may_be_dropped (limits_of (Some 5) None) Two five_dropped (Amid before (loss_at mended B (six_lost m n)) c d e) own ≡ false
+none_excused_at m n mended none before c d e own =
+    subst (λ (t : Option ℕ). may_be_dropped (limits_of (Some 5) None) Two five_dropped (Amid before (loss_at t B (six_lost m n)) c d e) own ≡ false)
+    (sym none) (none_excused m n before c d e own)
 
 excused : (m n : Mac) (r : Report) (sources : Sources) (outside : Outside) (vs : List Verdict)
     (are : AreVerdictsOf r sources outside vs) → outside.limits ≡ limits_of (Some 5) None → are.telling ≡ six_lost m n →
@@ -226,8 +252,8 @@ excused m n r sources outside vs are limits telling judges ports dropped =
     ∙ ap (λ (d : Sides). status_in (judged_by None (stands five (six_lost m n))) (doubt five Two d (six_lost m n))) dropped
     ∙ ap (λ b. status_in (judged_by None b) (doubt five Two five_dropped (six_lost m n)))
     (by_loss (nodes_tell r.subject sources.sources.entries) (faulty_anyway r are.own (six_lost m n)) (lack_beyond (Some 5) r are.counters)
-    (loss_beyond (Some 5) (six_lost m n)) (list_any (is_wide None) are.own) refl)
-    ∙ ap (status_in Faulty) (none_excused m n _ _ _ _ are.own)
+    (loss_beyond (Some 5) r.subject.network (six_lost m n)) (list_any (is_wide None) are.own) (six_beyond r.subject.network m n))
+    ∙ ap (status_in Faulty) (none_excused_at m n (cut_time r.subject.network (six_lost m n)) (no_cut r.subject.network m n) _ _ _ _ are.own)
   where
     five : Limits
     five = limits_of (Some 5) None
@@ -249,7 +275,7 @@ ends_refused = record {
     sound,
     status_is limits own telling r sources outside vs check true
         (by_others (nodes_tell r.subject sources.sources.entries) (faulty_anyway r own telling) (lack_beyond limits.lost r check.are.counters)
-        (loss_beyond limits.lost telling) (list_any (is_wide limits.skew) own) (or_left _ _ row)),
+        (loss_beyond limits.lost r.subject.network telling) (list_any (is_wide limits.skew) own) (or_left _ _ row)),
   ));
   excused = λ m n r sources outside vs are limits telling judges ports dropped doubt.
       absurd (omega (arith, excused m n r sources outside vs are limits telling judges ports dropped, doubt));

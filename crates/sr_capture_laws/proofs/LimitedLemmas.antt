@@ -25,6 +25,8 @@ use Rattle.sr_capture_audit.specs.declared.network.Network.TheVariants.{Prp, Hsr
 use Rattle.sr_capture_audit.specs.declared.network.Ports.{Ports}
 use Rattle.sr_capture_audit.specs.declared.network.Subject.{Subject}
 use Rattle.sr_verdict.specs.declared.heard.Heard.{Heard}
+use Rattle.sr_verdict.specs.declared.heard.When.{When}
+use Rattle.sr_verdict.specs.declared.heard.When.TheVariants.{AtLast, At}
 use Rattle.sr_verdict.specs.declared.place.Place.{Place}
 use Rattle.sr_verdict.specs.declared.shared.Cut.{Cut}
 use Rattle.sr_verdict.specs.declared.shared.Share.{Share}
@@ -34,11 +36,12 @@ use Rattle.sr_verdict.specs.declared.why.Why.{Why}
 use Rattle.sr_verdict.specs.Drops.{explained_by, is_explained, left_unexplained, any_dropped, why_dropped, settled_by, settled}
 use Rattle.sr_verdict.specs.Heards.{row_in, rest_at}
 use Rattle.sr_verdict.specs.Limits.{limited, farthest, skew_on, skew_verdicts}
+use Rattle.sr_verdict.specs.Mending.{cut_time}
 use Rattle.sr_verdict.specs.Names.{names_with}
 use Rattle.sr_verdict.specs.Places.{cut_place}
 use Rattle.sr_verdict.specs.Shared.{no_share, share_with, share_by, cut_in}
 use Rattle.sr_verdict.specs.Told.{why_told, verdicts_for}
-use Rattle.sr_verdict.specs.Verdicts.{as_list, when_counted, when_either, dead_by, verdict_on, verdicts_where, two_senders_told, lost_told, told_lan, in_prp, cut_told, sided_verdicts, loss_by, loss_at, are_crossed, astray_names, wrong_at, misfit_at, id_verdicts, other_id_verdicts, has_all_sent, fault_verdicts, notice_verdicts, is_a_fault}
+use Rattle.sr_verdict.specs.Verdicts.{as_list, when_counted, when_either, dead_by, verdict_on, verdicts_where, two_senders_told, lost_told, told_lan, in_prp, cut_told, cut_at, cut_mended, sided_verdicts, loss_by, loss_at, are_crossed, astray_names, wrong_at, misfit_at, id_verdicts, other_id_verdicts, has_all_sent, fault_verdicts, notice_verdicts, is_a_fault}
 use Rattle.sr_capture_laws.specs.Ending.{of_prp, nodes_tell}
 use Rattle.sr_capture_laws.specs.Exact.{judged_by}
 use Rattle.sr_capture_laws.specs.LimitCases.{NoLimitsLeaveEachFault}
@@ -119,24 +122,6 @@ lost_beyond limit subject nodes = by_network subject.network
         ∙ any_same _ (λ e. is_some (lost_redundancy e.1)) (λ e. by e.0 (lost_redundancy e.1)) nodes
     by_network Hsr = refl
 
--- of sources that are heard by one side alone at last
-sided_beyond : (limit : Option ℕ) (network : Network) (hs : List Heard) →
-    list_any (is_fault_beyond limit) (sided_verdicts network hs) ≡ list_any is_a_fault (sided_verdicts network hs)
-sided_beyond limit Prp hs =
-    any_map (is_fault_beyond limit) (λ h. dead_by h.mac (row_in h)) hs
-    ∙ any_same _ (λ h. passes is_a_fault (dead_by h.mac (row_in h))) (λ h. by h.mac (row_in h)) hs
-    ∙ sym (any_map is_a_fault (λ h. dead_by h.mac (row_in h)) hs)
-  where
-    by : (mac : Mac) (o : Option Row) → passes (is_fault_beyond limit) (dead_by mac o) ≡ passes is_a_fault (dead_by mac o)
-    by mac None = refl
-    by mac (Some row) = whichever limit (DeadPort mac row) (λ most. refl)
-sided_beyond limit Hsr hs = by (cut_place hs) (cut_in hs)
-  where
-    by : (place : Place) (c : Option Cut) →
-        list_any (is_fault_beyond limit) (as_list (cut_told place c)) ≡ list_any is_a_fault (as_list (cut_told place c))
-    by place None = refl
-    by place (Some c) = ap (λ b. b || false) (whichever limit (CutRing c place) (λ most. refl))
-
 -- of ids and trailers
 counted_same : (limit : Option ℕ) (n : ℕ) (v : Verdict) → is_fault_beyond limit v ≡ is_a_fault v →
     list_any (is_fault_beyond limit) (as_list (when_counted n v)) ≡ list_any is_a_fault (as_list (when_counted n v))
@@ -151,6 +136,33 @@ both_same : (limit : Option ℕ) (xs ys : List Verdict) → list_any (is_fault_b
 both_same limit xs ys e f =
     joined (is_fault_beyond limit) xs ys (list_any is_a_fault xs) (list_any is_a_fault ys) e f ∙ sym (list_any-append is_a_fault xs ys)
 
+-- of sources that are heard by one side alone, at last or while a ring was cut
+cut_same : (limit : Option ℕ) (when : When) (hs : List Heard) → list_any (is_fault_beyond limit) (cut_at when hs) ≡ list_any is_a_fault (cut_at when hs)
+cut_same limit when hs = by (cut_place when hs) (cut_in when hs)
+  where
+    by : (place : Place) (c : Option Cut) →
+        list_any (is_fault_beyond limit) (as_list (cut_told place c)) ≡ list_any is_a_fault (as_list (cut_told place c))
+    by place None = refl
+    by place (Some c) = ap (λ b. b || false) (whichever limit (CutRing c place) (λ most. refl))
+
+mended_same : (limit mended : Option ℕ) (hs : List Heard) →
+    list_any (is_fault_beyond limit) (cut_mended mended hs) ≡ list_any is_a_fault (cut_mended mended hs)
+mended_same limit None hs = refl
+mended_same limit (Some time) hs = cut_same limit (At time) hs
+
+sided_beyond : (limit : Option ℕ) (network : Network) (mended : Option ℕ) (hs : List Heard) →
+    list_any (is_fault_beyond limit) (sided_verdicts network mended hs) ≡ list_any is_a_fault (sided_verdicts network mended hs)
+sided_beyond limit Prp mended hs =
+    any_map (is_fault_beyond limit) (λ h. dead_by h.mac (row_in h)) hs
+    ∙ any_same _ (λ h. passes is_a_fault (dead_by h.mac (row_in h))) (λ h. by h.mac (row_in h)) hs
+    ∙ sym (any_map is_a_fault (λ h. dead_by h.mac (row_in h)) hs)
+  where
+    by : (mac : Mac) (o : Option Row) → passes (is_fault_beyond limit) (dead_by mac o) ≡ passes is_a_fault (dead_by mac o)
+    by mac None = refl
+    by mac (Some row) = whichever limit (DeadPort mac row) (λ most. refl)
+sided_beyond limit Hsr mended hs = both_same limit (cut_at AtLast hs) (cut_mended mended hs) (cut_same limit AtLast hs) (mended_same limit mended hs)
+
+-- of the ids of a side, and of both
 wrong_same : (limit : Option ℕ) (side : Option Side) (n : ℕ) (nodes : List (Mac × Node)) →
     list_any (is_fault_beyond limit) (wrong_at side n nodes) ≡ list_any is_a_fault (wrong_at side n nodes)
 wrong_same limit side n nodes =
@@ -185,24 +197,24 @@ other_ids_beyond limit c nodes =
     (misfit_same limit None c.neither.misfit) ∙ (tells_other_ids c nodes).faults
 
 -- of the frames that a LAN lost: as many as the sources that share them have together
-share_frames : (side : Side) (s : Share) (hs : List Heard) → s.frames ≤ 2 ^ 64 - 1 →
-    (fold (share_with side) s hs).frames ≡ min (s.frames + sum_by (rest_at side) hs) (2 ^ 64 - 1)
-share_frames side s [] le = omega (arith, le)
-share_frames side s (h ∷ hs) le = by (nat_lt 0 (rest_at side h)) refl (λ t. share_frames side t hs)
+share_frames : (mended : Option ℕ) (side : Side) (s : Share) (hs : List Heard) → s.frames ≤ 2 ^ 64 - 1 →
+    (fold (share_with mended side) s hs).frames ≡ min (s.frames + sum_by (rest_at mended side) hs) (2 ^ 64 - 1)
+share_frames mended side s [] le = omega (arith, le)
+share_frames mended side s (h ∷ hs) le = by (nat_lt 0 (rest_at mended side h)) refl (λ t. share_frames mended side t hs)
   where
     with_one : Share
     with_one = record {
-      frames = bounded_sum s.frames (rest_at side h);
-      brought = bounded_sum s.brought (bounded_sum h.figures.tally.pairs (rest_at side h));
+      frames = bounded_sum s.frames (rest_at mended side h);
+      brought = bounded_sum s.brought (bounded_sum h.figures.tally.pairs (rest_at mended side h));
       sources = bounded_sum s.sources 1;
       names = names_with h.mac s.names;
     }
 
-    by : (b : Bool) → nat_lt 0 (rest_at side h) ≡ b →
-        ((t : Share) → t.frames ≤ 2 ^ 64 - 1 → (fold (share_with side) t hs).frames ≡ min (t.frames + sum_by (rest_at side) hs) (2 ^ 64 - 1)) →
-        (fold (share_with side) (cond {A = Share} b with_one s) hs).frames ≡ min (s.frames + sum_by (rest_at side) (h ∷ hs)) (2 ^ 64 - 1)
-    by true e rest = rest with_one (omega arith) ∙ omega (arith, sum_by-cons (rest_at side) h hs)
-    by false e rest = rest s le ∙ omega (arith, sum_by-cons (rest_at side) h hs, ltb-false 0 (rest_at side h) e)
+    by : (b : Bool) → nat_lt 0 (rest_at mended side h) ≡ b →
+        ((t : Share) → t.frames ≤ 2 ^ 64 - 1 → (fold (share_with mended side) t hs).frames ≡ min (t.frames + sum_by (rest_at mended side) hs) (2 ^ 64 - 1)) →
+        (fold (share_with mended side) (cond {A = Share} b with_one s) hs).frames ≡ min (s.frames + sum_by (rest_at mended side) (h ∷ hs)) (2 ^ 64 - 1)
+    by true e rest = rest with_one (omega arith) ∙ omega (arith, sum_by-cons (rest_at mended side) h hs)
+    by false e rest = rest s le ∙ omega (arith, sum_by-cons (rest_at mended side) h hs, ltb-false 0 (rest_at mended side h) e)
 
 some_sum : (f : Heard → ℕ) (hs : List Heard) → nat_lt 0 (sum_by f hs) ≡ list_any (λ h. nat_lt 0 (f h)) hs
 some_sum f [] = refl
@@ -222,37 +234,41 @@ some_counted n = by (nat_lt 0 n) refl
     by true e = lt-ltb 0 (min n (2 ^ 64 - 1)) (omega (arith, ltb-true 0 n e))
     by false e = le-ltb 0 (min n (2 ^ 64 - 1)) (omega (arith, ltb-false 0 n e))
 
-loss_told : (limit : Option ℕ) (lan : Side) (hs : List Heard) → list_any (is_fault_beyond limit) (loss_at lan hs) ≡ nat_lt (allowed limit) (frames_lost_of lan hs)
-loss_told limit lan hs = any_listed (is_fault_beyond limit) (loss_by lan own (share_by lan hs)) ∙ by_limit limit
+loss_told : (limit : Option ℕ) (network : Network) (lan : Side) (hs : List Heard) →
+    list_any (is_fault_beyond limit) (loss_at (cut_time network hs) lan hs) ≡ nat_lt (allowed limit) (frames_lost_of network lan hs)
+loss_told limit network lan hs = any_listed (is_fault_beyond limit) (loss_by lan own (share_by mended lan hs)) ∙ by_limit limit
   where
+    mended : Option ℕ
+    mended = cut_time network hs
+
     own : Share
-    own = share_by (other_side lan) hs
+    own = share_by mended (other_side lan) hs
 
     verdict : Verdict
-    verdict = Loss lan own (share_by lan hs).frames
+    verdict = Loss lan own (share_by mended lan hs).frames
 
     none_more : (n : ℕ) → 0 + n ≡ n
     none_more n = omega arith
 
-    frames_are : own.frames ≡ frames_lost_of lan hs
-    frames_are = share_frames (other_side lan) no_share hs (omega arith) ∙ ap (λ n. min n (2 ^ 64 - 1)) (none_more (sum_by (rest_at (other_side lan)) hs))
+    frames_are : own.frames ≡ frames_lost_of network lan hs
+    frames_are = share_frames mended (other_side lan) no_share hs (omega arith) ∙ ap (λ n. min n (2 ^ 64 - 1)) (none_more (sum_by (rest_at mended (other_side lan)) hs))
 
     if_some : (b : Bool) → passes is_a_fault (cond b (Some verdict) None) ≡ b
     if_some true = refl
     if_some false = refl
 
-    sources_are : nat_lt 0 own.sources ≡ nat_lt 0 (frames_lost_of lan hs)
+    sources_are : nat_lt 0 own.sources ≡ nat_lt 0 (frames_lost_of network lan hs)
     sources_are =
-        sym (if_some (nat_lt 0 own.sources)) ∙ sym (any_listed is_a_fault (loss_by lan own (share_by lan hs))) ∙ (tells_loss lan hs).faults
-        ∙ sym (some_sum (rest_at (other_side lan)) hs) ∙ sym (some_counted (sum_by (rest_at (other_side lan)) hs))
+        sym (if_some (nat_lt 0 own.sources)) ∙ sym (any_listed is_a_fault (loss_by lan own (share_by mended lan hs))) ∙ (tells_loss mended lan hs).faults
+        ∙ sym (some_sum (rest_at mended (other_side lan)) hs) ∙ sym (some_counted (sum_by (rest_at mended (other_side lan)) hs))
 
-    by_limit : (limit : Option ℕ) → passes (is_fault_beyond limit) (cond (nat_lt 0 own.sources) (Some verdict) None) ≡ nat_lt (allowed limit) (frames_lost_of lan hs)
+    by_limit : (limit : Option ℕ) → passes (is_fault_beyond limit) (cond (nat_lt 0 own.sources) (Some verdict) None) ≡ nat_lt (allowed limit) (frames_lost_of network lan hs)
     by_limit None = if_some (nat_lt 0 own.sources) ∙ sources_are
     by_limit (Some most) = by (nat_lt 0 own.sources) sources_are
       where
-        by : (b : Bool) → b ≡ nat_lt 0 (frames_lost_of lan hs) → passes (is_fault_beyond (Some most)) (cond b (Some verdict) None) ≡ nat_lt most (frames_lost_of lan hs)
+        by : (b : Bool) → b ≡ nat_lt 0 (frames_lost_of network lan hs) → passes (is_fault_beyond (Some most)) (cond b (Some verdict) None) ≡ nat_lt most (frames_lost_of network lan hs)
         by true e = ap (λ n. nat_lt most n) frames_are
-        by false e = sym (le-ltb most (frames_lost_of lan hs) (omega (arith, ltb-false 0 (frames_lost_of lan hs) (sym e))))
+        by false e = sym (le-ltb most (frames_lost_of network lan hs) (omega (arith, ltb-false 0 (frames_lost_of network lan hs) (sym e))))
 
 -- of all faults
 repeated_beyond : (limit : Option ℕ) (hs : List Heard) →
@@ -271,16 +287,16 @@ late_beyond limit hs =
 
 abbrev told_beyond : Option ℕ → Report → List (Mac × Node) → List Heard → List Heard → List Heard → Bool
 told_beyond limit r nodes own telling counters =
-    ((((((((lack_beyond limit r counters || two_told nodes) || list_any is_a_fault (sided_verdicts r.subject.network telling)) || wrong_told r)
-    || lost_told_in r.subject nodes) || nat_lt (allowed limit) (frames_lost_of A telling)) || nat_lt (allowed limit) (frames_lost_of B telling))
+    ((((((((lack_beyond limit r counters || two_told nodes) || list_any is_a_fault (sided_verdicts r.subject.network (cut_time r.subject.network telling) telling)) || wrong_told r)
+    || lost_told_in r.subject nodes) || nat_lt (allowed limit) (frames_lost_of r.subject.network A telling)) || nat_lt (allowed limit) (frames_lost_of r.subject.network B telling))
     || others_told r) || list_any come_again own) || list_any come_late own
 
 beyond_told : (limit : Option ℕ) (r : Report) (nodes : List (Mac × Node)) (own telling counters : List Heard) →
     list_any (is_fault_beyond limit) (fault_verdicts r nodes own telling counters) ≡ told_beyond limit r nodes own telling counters
 beyond_told limit r nodes own telling counters =
     two _ _ _ _ (two _ _ _ _ (two _ _ _ _ (two _ _ _ _ (two _ _ _ _ (two _ _ _ _ (two _ _ _ _ (two _ _ _ _ (two _ _ _ _
-    (lack_told limit _ (λ h. numbers_beyond limit h.mac h.figures.neither) (has_all_sent r.sight r.counters) counters) (two_beyond limit nodes)) (sided_beyond limit r.subject.network telling))
-    (ids_beyond limit r.counts nodes)) (lost_beyond limit r.subject nodes)) (loss_told limit A telling)) (loss_told limit B telling))
+    (lack_told limit _ (λ h. numbers_beyond limit h.mac h.figures.neither) (has_all_sent r.sight r.counters) counters) (two_beyond limit nodes)) (sided_beyond limit r.subject.network (cut_time r.subject.network telling) telling))
+    (ids_beyond limit r.counts nodes)) (lost_beyond limit r.subject nodes)) (loss_told limit r.subject.network A telling)) (loss_told limit r.subject.network B telling))
     (other_ids_beyond limit r.counts nodes)) (repeated_beyond limit own)) (late_beyond limit own)
   where
     two : (xs ys : List Verdict) (b c : Bool) → list_any (is_fault_beyond limit) xs ≡ b → list_any (is_fault_beyond limit) ys ≡ c →
@@ -300,15 +316,15 @@ stands_is : (limit skew : Option ℕ) (r : Report) (nodes : List (Mac × Node)) 
     ≡ stands_beyond (record { lost = limit; skew = skew }) r nodes own telling counters
 stands_is limit skew r nodes own telling counters =
     all_in_order (lack_beyond limit r counters) (two_told nodes) sided (wrong_told r) (lost_told_in r.subject nodes)
-    (nat_lt (allowed limit) (frames_lost_of A telling)) (nat_lt (allowed limit) (frames_lost_of B telling)) (others_told r) (list_any come_again own)
+    (nat_lt (allowed limit) (frames_lost_of r.subject.network A telling)) (nat_lt (allowed limit) (frames_lost_of r.subject.network B telling)) (others_told r) (list_any come_again own)
     (list_any come_late own) (list_any (is_wide skew) own)
     ∙ ap (λ b. nodes_tell r.subject nodes || ((sided || (b || (list_any come_again own || list_any come_late own))) || (lack_beyond limit r counters
-    || (loss_beyond limit telling || list_any (is_wide skew) own))))
+    || (loss_beyond limit r.subject.network telling || list_any (is_wide skew) own))))
     (ids_in_order (nat_lt 0 r.counts.a.wrong_lan) (nat_lt 0 r.counts.b.wrong_lan) (nat_lt 0 r.counts.neither.wrong_lan)
     (nat_lt 0 r.counts.a.misfit) (nat_lt 0 r.counts.b.misfit) (nat_lt 0 r.counts.neither.misfit))
   where
     sided : Bool
-    sided = list_any is_a_fault (sided_verdicts r.subject.network telling)
+    sided = list_any is_a_fault (sided_verdicts r.subject.network (cut_time r.subject.network telling) telling)
 
 -- by limits the faults tell so
 none_judging : (skew : Option ℕ) (hs : List Heard) → list_any is_unjudged (skew_verdicts skew hs) ≡ false

@@ -41,6 +41,7 @@ use Rattle.sr_verdict.specs.declared.judging.Outside.{Outside}
 use Rattle.sr_verdict.specs.declared.limits.Limits.{Limits}
 use Rattle.sr_verdict.specs.declared.verdict.Verdict.{Verdict}
 use Rattle.sr_verdict.specs.Drops.{any_dropped}
+use Rattle.sr_verdict.specs.Mending.{cut_time}
 use Rattle.sr_verdict.specs.Told.{why_told, AreVerdictsOf}
 use Rattle.sr_verdict.specs.Verdicts.{telling_entries, sided_verdicts, IsSingleHearing, is_a_fault, block_status}
 use Rattle.sr_capture_laws.specs.Ending.{nodes_tell, HasNoLimits}
@@ -77,7 +78,7 @@ abbrev pub VerdictsAreOfTheRun : Type 0
 VerdictsAreOfTheRun = (r : Report) (sources : Sources) (outside : Outside) (vs ws : List Verdict) → IsReportOfArrivals r
     → AreVerdictsOf r sources outside vs → AreVerdictsOf r sources outside ws → vs ≡ ws
 
--- what is heard of a source of which 97 frames came by both sides and so many by A alone, none of them in a row at its end; the copies of
+-- what is heard of a source of which 97 frames came by both sides and so many by A alone, none of them in a row; the copies of
 -- one of the pairs came so far apart, and those of the others at once
 abbrev pub pairs_heard : ℕ
 pairs_heard = 97
@@ -100,6 +101,7 @@ heard_alone mac alone least classes = record {
     skews = record { count = pairs_heard; least = least; greatest = pos 0; sum = least; classes = classes };
   };
   sided = None;
+  was_sided = None;
 }
 
 -- two sources, of each of which three frames came by A alone
@@ -161,8 +163,8 @@ pub record FalseEndsAreRefused : Type 0 where
       IsCheckOf (limits_of None (Some (most_apart - 1))) (one_wide m) (one_wide m) r sources outside vs → block_status vs ≡ 0 → ⊥
   -- a limit of losses is one of dead ports and cuts too
   pub of_rows : (limits : Limits) (own telling : List Heard) (r : Report) (sources : Sources) (outside : Outside) (vs : List Verdict) →
-      IsCheckOf limits own telling r sources outside vs → list_any is_a_fault (sided_verdicts r.subject.network telling) ≡ true →
-      block_status vs ≡ 0 → ⊥
+      IsCheckOf limits own telling r sources outside vs →
+      list_any is_a_fault (sided_verdicts r.subject.network (cut_time r.subject.network telling) telling) ≡ true → block_status vs ≡ 0 → ⊥
   -- a limit judges where nothing can be judged
   pub unjudged : (r : Report) (sources : Sources) (outside : Outside) (vs : List Verdict) (why : Reason) →
       AreVerdictsOf r sources outside vs → why_told outside.reason r ≡ Some why → (block_status vs ≡ 4 → ⊥) → ⊥

@@ -31,6 +31,7 @@ use Rattle.sr_audit.specs.Lanes.{other_side}
 use Rattle.sr_capture_audit.specs.declared.figures.Report.{Report}
 use Rattle.sr_capture_audit.specs.declared.judgement.Judgement.{Judgement}
 use Rattle.sr_capture_audit.specs.declared.judgement.Judgement.TheVariants.{Sound, Faulty, Unjudged}
+use Rattle.sr_capture_audit.specs.declared.network.Network.{Network}
 use Rattle.sr_capture_audit.specs.declared.network.Ports.{Ports}
 use Rattle.sr_capture_audit.specs.Faults.{have_faults}
 use Rattle.sr_sources.specs.declared.source.Source.{Source as Node}
@@ -44,6 +45,7 @@ use Rattle.sr_verdict.specs.declared.why.Why.{Why}
 use Rattle.sr_verdict.specs.declared.why.Why.TheVariants.{Figures}
 use Rattle.sr_verdict.specs.Drops.{explained_by, left_unexplained, any_dropped, why_dropped}
 use Rattle.sr_verdict.specs.Heards.{rest_at}
+use Rattle.sr_verdict.specs.Mending.{cut_time}
 use Rattle.sr_verdict.specs.Told.{why_told, AreVerdictsOf}
 use Rattle.sr_verdict.specs.Verdicts.{has_all_sent, sided_verdicts, is_a_fault, reason_in, block_status}
 use Rattle.sr_capture_laws.specs.Ending.{nodes_tell, faults_told}
@@ -59,13 +61,14 @@ abbrev pub lack_beyond : Option ℕ → Report → List Heard → Bool
 lack_beyond limit r counters =
     has_all_sent r.sight r.counters && list_any (λ h. nat_lt (allowed limit) h.figures.neither) counters
 
--- how many frames a LAN lost that came by the other one, besides those of rows; a count stays at 2^64 - 1
-abbrev pub frames_lost_of : Side → List Heard → ℕ
-frames_lost_of lan telling = min (sum_by (rest_at (other_side lan)) telling) (2 ^ 64 - 1)
+-- how many frames a LAN lost that came by the other one, besides those of rows at last and while a ring was cut; a count stays at 2^64 - 1
+abbrev pub frames_lost_of : Network → Side → List Heard → ℕ
+frames_lost_of network lan telling = min (sum_by (rest_at (cut_time network telling) (other_side lan)) telling) (2 ^ 64 - 1)
 
 -- a LAN lost more frames than may be
-abbrev pub loss_beyond : Option ℕ → List Heard → Bool
-loss_beyond limit telling = nat_lt (allowed limit) (frames_lost_of A telling) || nat_lt (allowed limit) (frames_lost_of B telling)
+abbrev pub loss_beyond : Option ℕ → Network → List Heard → Bool
+loss_beyond limit network telling =
+    nat_lt (allowed limit) (frames_lost_of network A telling) || nat_lt (allowed limit) (frames_lost_of network B telling)
 
 -- a skew is more than so many microseconds, whichever copy came first
 abbrev pub is_wider : Option ℕ → ℤ → Bool
@@ -83,17 +86,17 @@ come_again h = nat_lt 0 h.figures.tally.repeats.a || nat_lt 0 h.figures.tally.re
 abbrev pub come_late : Heard → Bool
 come_late h = nat_lt 0 (last_class h.figures.skews.classes)
 
--- what is a fault whatever the limits: a port is dead or a ring is cut, ids or trailers are not those of a LAN, copies come again or late
+-- what is a fault whatever the limits: a port is dead, a ring is or was cut, ids or trailers are another LAN's, copies come again or late
 abbrev pub faulty_anyway : Report → List Heard → List Heard → Bool
 faulty_anyway r own telling =
-    list_any is_a_fault (sided_verdicts r.subject.network telling)
+    list_any is_a_fault (sided_verdicts r.subject.network (cut_time r.subject.network telling) telling)
     || (have_faults r.counts || (list_any come_again own || list_any come_late own))
 
 -- a fault stands that is beyond the limits
 abbrev pub stands_beyond : Limits → Report → List (Mac × Node) → List Heard → List Heard → List Heard → Bool
 stands_beyond limits r nodes own telling counters =
     nodes_tell r.subject nodes || (faulty_anyway r own telling || (lack_beyond limits.lost r counters
-    || (loss_beyond limits.lost telling || list_any (is_wide limits.skew) own)))
+    || (loss_beyond limits.lost r.subject.network telling || list_any (is_wide limits.skew) own)))
 
 -- verdicts beyond a limit: one of a loss where more is lost, each other one where it is a fault
 abbrev pub is_fault_over : ℕ → Verdict → Bool

@@ -92,7 +92,8 @@ pub fn worked_limits_end_checks()
 {}
 
 /// No check takes a limit for one of each source, a loss of just the limit for a fault, or a pair for near since its copy by B came first; none
-/// leaves out a dead port or a cut for a limit, and none judges by limits where nothing can be judged.
+/// leaves out a dead port or a cut for a limit, none takes fewer dropped packets for an excuse of a loss, and none judges by limits where
+/// nothing can be judged.
 pub fn false_ends_are_refused()
     ensures { FalseEndsAreRefused }
 {}
