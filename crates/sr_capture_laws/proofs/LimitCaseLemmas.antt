@@ -200,7 +200,7 @@ sum_amid f before xs c d e =
     )
 
 -- a recorder that dropped five packets made no loss of six
-five_dropped : Sides
+abbrev five_dropped : Sides
 five_dropped = record { a = 0; b = 5 }
 
 none_excused : (m n : Mac) (before c d e : List Verdict) (own : List Heard) →

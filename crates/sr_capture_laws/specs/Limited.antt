@@ -86,7 +86,7 @@ come_again h = nat_lt 0 h.figures.tally.repeats.a || nat_lt 0 h.figures.tally.re
 abbrev pub come_late : Heard → Bool
 come_late h = nat_lt 0 (last_class h.figures.skews.classes)
 
--- what is a fault whatever the limits: a port is dead, a ring is or was cut, ids or trailers are another LAN's, copies come again or late
+-- what is a fault whatever the limits: a port is dead, a ring is or was cut, an id or a trailer is wrong, copies come again or late
 abbrev pub faulty_anyway : Report → List Heard → List Heard → Bool
 faulty_anyway r own telling =
     list_any is_a_fault (sided_verdicts r.subject.network (cut_time r.subject.network telling) telling)
