@@ -23,7 +23,7 @@ pub struct Heard {
 
 /// When a ring is cut, as rows of sources tell.
 #[derive(Clone, Copy, Debug, PartialEq, Eq)]
-pub(crate) enum When {
+pub enum When {
     /// At last.
     AtLast,
     /// At this time, and it was mended.

@@ -19,7 +19,7 @@ mod verdict;
 mod why;
 mod words;
 
-pub use heard::Heard;
+pub use heard::{Heard, When};
 pub use judging::{Outside, verdicts_of};
 pub use limits::Limits;
 pub use lines::print_verdicts;
