@@ -6,12 +6,14 @@ _seamless() {
     "replay --mac") ;;
     "replay --lan") words="a b" ;;
     "replay --net") ;;
+    "replay --format") words="text json" ;;
     "replay --mode") words="h x" ;;
     "replay --window") words="1024 2048" ;;
     "status --role") words="danp danh san prp hsr" ;;
     "status --mac") ;;
     "status --lan") words="a b" ;;
     "status --net") ;;
+    "status --format") words="text json" ;;
     "status --mode") words="h x" ;;
     "status --window") words="1024 2048" ;;
     "script --a") compopt -o filenames; mapfile -t COMPREPLY < <(compgen -f -- "$2"); return ;;
@@ -26,6 +28,7 @@ _seamless() {
     "script --from") ;;
     "script --to") ;;
     "script --tick") ;;
+    "script --format") words="text json" ;;
     "audit --a") compopt -o filenames; mapfile -t COMPREPLY < <(compgen -f -- "$2"); return ;;
     "audit --b") compopt -o filenames; mapfile -t COMPREPLY < <(compgen -f -- "$2"); return ;;
     "audit --mirror") compopt -o filenames; mapfile -t COMPREPLY < <(compgen -f -- "$2"); return ;;
@@ -55,6 +58,7 @@ _seamless() {
     "merge --to") ;;
     "merge --shift") words="auto none" ;;
     "merge --only") words="lost" ;;
+    "merge --format") words="text json" ;;
     "watch --a") compopt -o filenames; mapfile -t COMPREPLY < <(compgen -f -- "$2"); return ;;
     "watch --b") compopt -o filenames; mapfile -t COMPREPLY < <(compgen -f -- "$2"); return ;;
     "watch --mirror") compopt -o filenames; mapfile -t COMPREPLY < <(compgen -f -- "$2"); return ;;
@@ -94,11 +98,11 @@ _seamless() {
     *)
         case "$COMP_CWORD ${COMP_WORDS[1]}" in
         "1 "*) words="replay status script audit merge watch ring lan ring-lan two-rings --help --version" ;;
-        *" replay") words="--role --mac --lan --net --mode --window --help" ;;
-        *" status") words="--role --mac --lan --net --mode --window --counters --help" ;;
-        *" script") words="--a --b --c --network --shift-a --shift-b --shift-c --shift --fcs --from --to --tick --help" ;;
+        *" replay") words="--role --mac --lan --net --format --mode --window --help" ;;
+        *" status") words="--role --mac --lan --net --format --mode --window --counters --help" ;;
+        *" script") words="--a --b --c --network --shift-a --shift-b --shift-c --shift --fcs --from --to --tick --format --help" ;;
         *" audit") words="--a --b --mirror --network --shift-a --shift-b --fcs --from --to --shift --list --format --time --title --note --names --check --complete --whole --max-lost --max-skew-us --help" ;;
-        *" merge") words="--a --b --write --network --shift-a --shift-b --fcs --from --to --shift --keep --only --help" ;;
+        *" merge") words="--a --b --write --network --shift-a --shift-b --fcs --from --to --shift --keep --only --format --help" ;;
         *" watch") words="--a --b --mirror --network --shift-a --shift-b --fcs --reopen --every --format --metrics --alone-for --skew-over --lost-over --slack --for --check --help" ;;
         *" ring") words="--nodes --turns --format --mode --window --help" ;;
         *" lan") words="--nodes --turns --format --mode --window --help" ;;

@@ -6,12 +6,14 @@ _seamless() {
     "replay --mac") ;;
     "replay --lan") compadd -- a b ;;
     "replay --net") ;;
+    "replay --format") compadd -- text json ;;
     "replay --mode") compadd -- h x ;;
     "replay --window") compadd -- 1024 2048 ;;
     "status --role") compadd -- danp danh san prp hsr ;;
     "status --mac") ;;
     "status --lan") compadd -- a b ;;
     "status --net") ;;
+    "status --format") compadd -- text json ;;
     "status --mode") compadd -- h x ;;
     "status --window") compadd -- 1024 2048 ;;
     "script --a") _files ;;
@@ -26,6 +28,7 @@ _seamless() {
     "script --from") ;;
     "script --to") ;;
     "script --tick") ;;
+    "script --format") compadd -- text json ;;
     "audit --a") _files ;;
     "audit --b") _files ;;
     "audit --mirror") _files ;;
@@ -55,6 +58,7 @@ _seamless() {
     "merge --to") ;;
     "merge --shift") compadd -- auto none ;;
     "merge --only") compadd -- lost ;;
+    "merge --format") compadd -- text json ;;
     "watch --a") _files ;;
     "watch --b") _files ;;
     "watch --mirror") _files ;;
@@ -94,11 +98,11 @@ _seamless() {
     *)
         case "$CURRENT $words[2]" in
         "2 "*) compadd -- replay status script audit merge watch ring lan ring-lan two-rings --help --version ;;
-        *" replay") compadd -- --role --mac --lan --net --mode --window --help ;;
-        *" status") compadd -- --role --mac --lan --net --mode --window --counters --help ;;
-        *" script") compadd -- --a --b --c --network --shift-a --shift-b --shift-c --shift --fcs --from --to --tick --help ;;
+        *" replay") compadd -- --role --mac --lan --net --format --mode --window --help ;;
+        *" status") compadd -- --role --mac --lan --net --format --mode --window --counters --help ;;
+        *" script") compadd -- --a --b --c --network --shift-a --shift-b --shift-c --shift --fcs --from --to --tick --format --help ;;
         *" audit") compadd -- --a --b --mirror --network --shift-a --shift-b --fcs --from --to --shift --list --format --time --title --note --names --check --complete --whole --max-lost --max-skew-us --help ;;
-        *" merge") compadd -- --a --b --write --network --shift-a --shift-b --fcs --from --to --shift --keep --only --help ;;
+        *" merge") compadd -- --a --b --write --network --shift-a --shift-b --fcs --from --to --shift --keep --only --format --help ;;
         *" watch") compadd -- --a --b --mirror --network --shift-a --shift-b --fcs --reopen --every --format --metrics --alone-for --skew-over --lost-over --slack --for --check --help ;;
         *" ring") compadd -- --nodes --turns --format --mode --window --help ;;
         *" lan") compadd -- --nodes --turns --format --mode --window --help ;;

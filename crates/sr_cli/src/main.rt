@@ -15,6 +15,8 @@ mod pipes;
 mod progress;
 mod running;
 mod script;
+mod spelled;
+mod stations;
 mod watch;
 
 use arguments::tell_unread;

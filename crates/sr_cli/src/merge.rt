@@ -12,7 +12,7 @@ use crate::script::{tell_ended, tell_other};
 use sr_advice::letter_of;
 use sr_capture_merge::{Counts, merge};
 use sr_capture_script::{Captures, Inlet, ScriptFault};
-use sr_options::{MergeTask, Paths, Scope};
+use sr_options::{LineFormat, MergeTask, Paths, Scope};
 use sr_slots::Keys;
 use std::fs::File;
 use std::io::{self, BufWriter, Write};
@@ -115,8 +115,40 @@ fn tell_odd<R: Eprint>(rt: &R, counts: &Counts) {
     }
 }
 
+/// Says what was merged, as an object.
+fn tell_object<R: Eprint>(rt: &R, counts: &Counts) {
+    let Counts {
+        packets,
+        both,
+        a,
+        b,
+        astray,
+        unnumbered,
+        open,
+        written,
+        cut,
+        long,
+        untold,
+    } = *counts;
+    let _ = eprint!(rt;
+        "{{\"line\":\"merged\",\"packets\":{packets},\"both\":{both},\"only_a\":{a},\"only_b\":{b},\"wrong_lan\":{astray}"
+    );
+    let _ = eprint!(rt;
+        ",\"unnumbered\":{unnumbered},\"unknown\":{open},\"written\":{written},\"cut\":{cut},\"long\":{long}"
+    );
+    let _ = eprintln!(rt; ",\"beyond_1024\":{untold}}}");
+}
+
 /// Says what was merged.
-fn tell_counts<R: Eprint>(rt: &R, scope: Scope, counts: &Counts) {
+fn tell_counts<R: Eprint>(rt: &R, task: &MergeTask<'_>, counts: &Counts) {
+    match task.format {
+        LineFormat::Text => tell_words(rt, task.scope, counts),
+        LineFormat::Json => tell_object(rt, counts),
+    }
+}
+
+/// Says what was merged, in words.
+fn tell_words<R: Eprint>(rt: &R, scope: Scope, counts: &Counts) {
     match scope {
         Scope::All => {
             let _ = eprintln!(rt; "{counts}");
@@ -159,12 +191,12 @@ fn merge_into<'a, R: AllocGlobal + Eprint + Files, W: Write + Drop>(
     };
     match outcome {
         Ok(()) => {
-            tell_counts(rt, task.scope, &counts);
+            tell_counts(rt, task, &counts);
             Ok(())
         }
         Err(fault) => {
             if let ScriptFault::File(_, _) = fault {
-                tell_counts(rt, task.scope, &counts);
+                tell_counts(rt, task, &counts);
             }
             tell_ended(rt, &sides_of(task), fault, is_closed);
             Err(())

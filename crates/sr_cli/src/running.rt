@@ -3,6 +3,8 @@
 
 use crate::meanings::{plant_of, setup_of, threads_of};
 use crate::pipes::{Kept, MAX_KEPT, Pipe};
+use crate::spelled::Spelled;
+use crate::stations::station_of;
 use sr_advice::{Flaw, ScriptKind, found_in, is_capture, tail_advice};
 use sr_forwarding::RoleKind;
 use sr_json_lines::JsonLines;
@@ -210,11 +212,16 @@ pub fn run_node<R: AllocGlobal + Print + Eprint + Input + RandomSource>(
         let _ = eprintln!(rt; "{NOT_BEGUN}");
         return Err(());
     };
+    let Ok(station) = station_of(alloc, task) else {
+        let _ = eprintln!(rt; "{NOT_BEGUN}");
+        return Err(());
+    };
     let setup = Setup {
         keys,
         ..setup_of(task)
     };
-    let mut writer = Pipe::new(io::writer(rt));
+    let pipe = Pipe::new(io::writer(rt));
+    let mut writer = Spelled::of_node(alloc, task.format, report, station, pipe);
     let mut line = Vec::new(alloc);
     match run_leaving(alloc, &setup, report, &mut script, &mut writer, &mut line) {
         Ok(()) => {
@@ -222,7 +229,8 @@ pub fn run_node<R: AllocGlobal + Print + Eprint + Input + RandomSource>(
             Ok(())
         }
         Err(fault) => {
-            if tell(rt, fault, writer.is_closed(), line.as_slice()) {
+            let fault = writer.fault_of(fault);
+            if tell(rt, fault, writer.get_ref().is_closed(), line.as_slice()) {
                 tell_line(rt, fault.line, line.as_slice(), kind_of(setup.role));
             }
             Err(())

@@ -7,10 +7,12 @@ use crate::files::{Opened, Sides, open_file, shown_of, tell_file};
 use crate::order::check_order;
 use crate::pipes::{Pipe, Surveyed};
 use crate::progress::Progress;
+use crate::spelled::Spelled;
 use sr_advice::{FileFault, letter_of};
 use sr_capture_script::{Inlet, ScriptFault, script};
-use sr_options::{Paths, ScriptTask};
+use sr_options::{LineFormat, Paths, ScriptTask};
 use sr_pcapng::Wanted;
+use std::alloc::AllocError;
 use std::io::{self, BufWriter, Write};
 use std::rt::Files;
 
@@ -23,16 +25,32 @@ fn open_for_script<'a, R: AllocGlobal + Print + Eprint + Files>(
     inlet: Inlet,
     paths: Option<Paths<'_>>,
     wanted: Wanted,
+    format: LineFormat,
     progress: Progress,
 ) -> Result<Option<Opened<'a, R>>, ()> {
     match open_file(rt, inlet, paths, wanted, progress) {
         Ok(opened) => Ok(opened),
         Err(word) => {
             let letter = letter_of(inlet);
-            let _ = println!(rt; "# fault {letter} {word} 0");
+            let _ = match format {
+                LineFormat::Text => println!(rt; "# fault {letter} {word} 0"),
+                LineFormat::Json => println!(rt;
+                    "{{\"line\":\"fault\",\"capture\":\"{letter}\",\"fault\":\"{word}\",\"at\":0}}"
+                ),
+            };
             Err(())
         }
     }
+}
+
+/// Says in a comment what ended a script before it began, so that who reads it knows of it.
+fn tell_begun<R: Print>(rt: &R, format: LineFormat, word: &str) {
+    let _ = match format {
+        LineFormat::Text => println!(rt; "# fault {word}"),
+        LineFormat::Json => println!(rt;
+            "{{\"line\":\"fault\",\"capture\":null,\"fault\":\"{word}\",\"at\":null}}"
+        ),
+    };
 }
 
 /// Says that there are more lines than a script has.
@@ -133,9 +151,9 @@ fn on_known_clocks<'a, R: AllocGlobal + Eprint + Files>(
 }
 
 /// Says in a comment that clocks can't be told, so that who reads the script knows of it.
-fn tell_unknown<R: Print>(rt: &R, unknown: Unknown) {
+fn tell_unknown<R: Print>(rt: &R, format: LineFormat, unknown: Unknown) {
     if unknown == Unknown::Untold {
-        let _ = println!(rt; "# fault clocks");
+        tell_begun(rt, format, "clocks");
     }
 }
 
@@ -146,17 +164,18 @@ pub fn run_script<R: AllocGlobal + Print + Eprint + Files>(
     progress: Progress,
 ) -> Result<(), ()> {
     if check_orders(rt, task).is_err() {
-        let _ = println!(rt; "# fault order");
+        tell_begun(rt, task.format, "order");
         return Err(());
     }
     let interfaces = task.options.interfaces;
-    let a = open_for_script(rt, Inlet::A, task.a, interfaces.a, progress)?;
-    let b = open_for_script(rt, Inlet::B, task.b, interfaces.b, progress)?;
-    let c = open_for_script(rt, Inlet::C, task.c, interfaces.c, progress)?;
+    let format = task.format;
+    let a = open_for_script(rt, Inlet::A, task.a, interfaces.a, format, progress)?;
+    let b = open_for_script(rt, Inlet::B, task.b, interfaces.b, format, progress)?;
+    let c = open_for_script(rt, Inlet::C, task.c, interfaces.c, format, progress)?;
     let task = &match on_known_clocks(rt, task, progress) {
         Ok(task) => task,
         Err(unknown) => {
-            tell_unknown(rt, unknown);
+            tell_unknown(rt, format, unknown);
             return Err(());
         }
     };
@@ -164,10 +183,10 @@ pub fn run_script<R: AllocGlobal + Print + Eprint + Files>(
         let _ = eprintln!(rt; "fault memory");
         return Err(());
     };
-    let mut writer = Surveyed::new(buffered);
+    let mut writer = Surveyed::new(Spelled::new(rt.alloc(), format, buffered));
     let outcome = script(rt.alloc(), a, b, c, &task.options, &mut writer);
     let flushed = writer.flush();
-    let is_closed = writer.get_ref().get_ref().is_closed();
+    let is_closed = writer.get_ref().get_ref().get_ref().is_closed();
     if !is_closed {
         tell_lines(rt, writer.survey().lines());
     }
@@ -179,6 +198,10 @@ pub fn run_script<R: AllocGlobal + Print + Eprint + Files>(
         }
         Ok(()) => ScriptFault::Write,
         Err(fault) => fault,
+    };
+    let fault = match writer.get_ref().spelt() {
+        Err(AllocError) => ScriptFault::NoMemory,
+        Ok(()) => fault,
     };
     tell_fault(rt, &sides_of(task), fault, is_closed, &mut writer);
     Err(())

@@ -24,3 +24,21 @@ node_object node state = codes "{\"line\":\"node\",\"node\":" ++ (node ++ (codes
 -- node `node` lost so many frames
 abbrev pub lost_object : List ℕ → List ℕ → List ℕ
 lost_object node frames = codes "{\"line\":\"lost\",\"node\":" ++ (node ++ (codes ",\"frames\":" ++ (frames ++ codes "}\n")))
+
+-- a frame goes out at a port
+abbrev pub out_object : List ℕ → List ℕ → List ℕ
+out_object port frame = codes "{\"line\":\"out\",\"port\":\"" ++ (port ++ (codes "\",\"frame\":\"" ++ (frame ++ codes "\"}\n")))
+
+-- a frame comes in at a port
+abbrev pub in_object : List ℕ → List ℕ → List ℕ → List ℕ
+in_object port time frame = codes "{\"line\":\"in\",\"port\":\"" ++ (port ++ (codes "\",\"time_ms\":" ++ (time
+    ++ (codes ",\"frame\":\"" ++ (frame ++ codes "\"}\n")))))
+
+-- time passes
+abbrev pub tick_object : List ℕ → List ℕ
+tick_object time = codes "{\"line\":\"tick\",\"time_ms\":" ++ (time ++ codes "}\n")
+
+-- a packet of a capture is not used for this reason
+abbrev pub unused_object : List ℕ → List ℕ → List ℕ → List ℕ
+unused_object capture packet reason = codes "{\"line\":\"unused\",\"capture\":\"" ++ (capture ++ (codes "\",\"packet\":" ++ (packet
+    ++ (codes ",\"reason\":\"" ++ (reason ++ codes "\"}\n")))))

@@ -4,6 +4,7 @@ ghost use Rattle.std.specs.Prelude.{◌≡◌, ◌++◌, ◌∷◌, ℕ, List, c
 ghost use Rattle.sr_session.specs.Octets.{Lacks};
 ghost use Rattle.sr_json_lines.specs.Objects.{up_object, flow_object, refused_object, flight_object, node_object, lost_object};
 
+use crate::pieces::append_values;
 use sr_text::Text;
 use sr_words::split_word;
 use std::alloc::AllocError;
@@ -20,31 +21,6 @@ fn append_other(text: &mut Text, line: &[u8]) -> Result<(), AllocError> {
     text.append_hex_line(b"{\"line\":\"other\",\"octets\":\"", octets, &[])?;
     text.truncate(text.len().saturating_sub(1));
     text.extend_from_slice(b"\"}\n")
-}
-
-/// Appends two pieces.
-fn append_two(text: &mut Text, first: &[u8], second: &[u8]) -> Result<(), AllocError>
-    ensures { OnOk result (text.new ≡ text.old ++ (first.now ++ second.now)) }
-{
-    text.extend_from_slice(first)?;
-    text.extend_from_slice(second)
-}
-
-/// Appends two values, with octets before, between and behind them.
-fn append_values(
-    text: &mut Text,
-    before: &[u8],
-    first: &[u8],
-    between: &[u8],
-    second: &[u8],
-    behind: &[u8],
-) -> Result<(), AllocError>
-    ensures { OnOk result (text.new ≡ text.old ++ (before.now ++ (first.now ++ (between.now
-        ++ (second.now ++ behind.now))))) }
-{
-    append_two(text, before, first)?;
-    append_two(text, between, second)?;
-    text.extend_from_slice(behind)
 }
 
 /// Appends the object of what a node hands up.

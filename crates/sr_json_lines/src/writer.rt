@@ -3,13 +3,17 @@
 ghost use Rattle.std.specs.Prelude.{◌≡◌, ◌⊎◌};
 ghost use Rattle.sr_session.specs.declared.fault.FaultKind.TheVariants.{Memory};
 
-use crate::objects::append_object;
-use sr_session::{Fault, FaultKind, write_out};
+use crate::events::append_line_object;
+use crate::lack::fault_by;
+use sr_session::{Fault, write_out};
 use sr_text::Text;
 use std::alloc::{AllocError, Global};
 use std::io::{self, ErrorKind, Write};
 
-/// A writer that takes lines, and writes an object for each whole line as it is flushed.
+/// So many octets of objects are written before more lines are taken.
+const AT_ONCE: usize = 64 * 1024;
+
+/// A writer that takes lines, and writes an object for each whole line: as it is flushed, or earlier where there are many.
 #[derive(Drop)]
 pub struct JsonLines<W> {
     inner: W,
@@ -32,24 +36,31 @@ impl<W> JsonLines<W> {
         }
     }
 
+    /// What it writes to.
+    pub fn get_ref(&self) -> &W {
+        &self.inner
+    }
+
+    /// Whether all could be spelled. An error: an allocation failed.
+    pub fn spelt(&self) -> Result<(), AllocError> {
+        match self.lack {
+            Some(lack) => Err(lack),
+            None => Ok(()),
+        }
+    }
+
     /// What ended a run that wrote to it: where an allocation failed here, that, and not the write.
     pub fn fault_of(&self, fault: Fault) -> Fault
         ensures { (result ≡ fault) ⊎ (result ≡ record fault { kind = Memory }) }
     {
-        match self.lack {
-            Some(lack) => Fault {
-                kind: FaultKind::from(lack),
-                ..fault
-            },
-            None => fault,
-        }
+        fault_by(self.lack, fault)
     }
 
     /// Takes octets.
     fn take(&mut self, octets: &[u8]) -> Result<(), AllocError> {
         for octet in octets {
             if *octet == b'\n' {
-                append_object(&mut self.objects, self.line.as_slice())?;
+                append_line_object(&mut self.objects, self.line.as_slice())?;
                 self.line.clear();
             } else {
                 self.line.extend_from_slice(&[*octet])?;
@@ -59,23 +70,32 @@ impl<W> JsonLines<W> {
     }
 }
 
-impl<W: Write> Write for JsonLines<W> {
-    fn write(&mut self, buf: &[u8]) -> io::Result<usize> {
-        match self.take(buf) {
-            Ok(()) => Ok(buf.len()),
-            Err(lack) => {
-                self.lack = Some(lack);
-                Err(io::Error::from(ErrorKind::OutOfMemory))
-            }
-        }
-    }
-
-    fn flush(&mut self) -> io::Result<()> {
+impl<W: Write> JsonLines<W> {
+    /// Writes the objects that are not written yet.
+    fn send(&mut self) -> io::Result<()> {
         let taken = write_out(&mut self.inner, self.objects.as_slice());
         if taken < self.objects.len() {
             return Err(io::Error::from(ErrorKind::WriteZero));
         }
         self.objects.truncate(0);
+        Ok(())
+    }
+}
+
+impl<W: Write> Write for JsonLines<W> {
+    fn write(&mut self, buf: &[u8]) -> io::Result<usize> {
+        if let Err(lack) = self.take(buf) {
+            self.lack = Some(lack);
+            return Err(io::Error::from(ErrorKind::OutOfMemory));
+        }
+        if self.objects.len() >= AT_ONCE {
+            self.send()?;
+        }
+        Ok(buf.len())
+    }
+
+    fn flush(&mut self) -> io::Result<()> {
+        self.send()?;
         self.inner.flush()
     }
 }

@@ -9,6 +9,7 @@ use crate::examples;
 use crate::fault::OptionFault;
 use crate::merge_line::{merge_command, merge_task};
 use crate::node_line::{counters_option, node_command, node_task};
+use crate::plant_format::LineFormat;
 use crate::plant_line::{Net, network_task, plant_command};
 use crate::refusal::Refused;
 use crate::script_line::{script_command, script_task};
@@ -78,6 +79,7 @@ fn command<'a>(alloc: Global, words: &'a Words<'a>) -> Result<Command<'a>, Alloc
         words,
         "replay",
         "Prints the frames that the node hands out",
+        "How lines are told: json makes an object of each",
         examples::REPLAY,
     );
     let command = with(program(alloc), replay);
@@ -86,6 +88,7 @@ fn command<'a>(alloc: Global, words: &'a Words<'a>) -> Result<Command<'a>, Alloc
         words,
         "status",
         "Prints what the node knows of other nodes at the end, and its alarms",
+        "How it is told: json makes one object of all, with the counters",
         examples::STATUS,
     );
     let command = with(command, with_arg(status, counters_option(alloc)));
@@ -188,7 +191,8 @@ fn node_task_in<'a>(matches: &ArgMatches<'a>) -> Result<Option<Task<'a>>, Refuse
         return Ok(None);
     };
     let task = node_task(status)?;
-    if status.get_flag("counters") {
+    // An object has the counts always.
+    if status.get_flag("counters") || task.format == LineFormat::Json {
         Ok(Some(Task::Tally(task)))
     } else {
         Ok(Some(Task::Status(task)))

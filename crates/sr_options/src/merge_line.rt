@@ -8,6 +8,7 @@ use crate::command_line::with_arg;
 use crate::examples;
 use crate::fault::OptionFault;
 use crate::paths::Paths;
+use crate::plant_format::{LineFormat, line_format_of, line_format_option};
 use crate::script_line::{capture_of, option, shift_a_of, shift_b_of};
 use crate::shifts::{Shift, set_back, shift_in, with_clocks};
 use crate::words::Words;
@@ -55,6 +56,8 @@ pub struct MergeTask<'a> {
     pub scope: Scope,
     /// How much less than nothing the least shift is, in nanoseconds: so much the times of all packets are put off.
     pub early: u64,
+    /// How it is told what was merged.
+    pub format: LineFormat,
 }
 
 impl<'a> MergeTask<'a> {
@@ -112,7 +115,9 @@ pub(crate) fn merge_command<'a>(
     let only = option(alloc, "only", "WHICH", "Which packets are written").value_parser(
         words.scopes.as_slice(),
     );
-    with_arg(command, only)
+    let command = with_arg(command, only);
+    let format = "How it is told what was merged: json makes an object of the counts";
+    with_arg(command, line_format_option(alloc, format))
 }
 
 /// What is shifted back: how much less than nothing the least shift is, in nanoseconds.
@@ -162,5 +167,6 @@ pub(crate) fn merge_task<'a>(
         spelling: spelling_of(matches),
         scope: scope_of(matches),
         early,
+        format: line_format_of(matches),
     })
 }

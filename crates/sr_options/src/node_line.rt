@@ -7,6 +7,7 @@ use crate::address::mac_of;
 use crate::command_line::with_arg;
 use crate::fault::OptionFault;
 use crate::node_options::{NodeOptions, node_options_of, with_node_options};
+use crate::plant_format::{LineFormat, line_format_of, line_format_option};
 use crate::refusal::Refused;
 use crate::words::Words;
 use clap::{Arg, ArgAction, ArgMatches, Command};
@@ -24,6 +25,8 @@ pub struct NodeTask {
     pub mac: Mac,
     /// How it works.
     pub options: NodeOptions,
+    /// How lines are spelled; the object of a status is one for all.
+    pub format: LineFormat,
 }
 
 /// The role of a node: `--role danp|danh|san|prp|hsr`.
@@ -75,12 +78,13 @@ pub(crate) fn counters_option<'a>(alloc: Global) -> Arg<'a> {
         .help("Ends with the frames that came in at each port, and those that were refused")
 }
 
-/// A subcommand that runs a script on a node.
+/// A subcommand that runs a script on a node. `format` is the help of `--format`.
 pub(crate) fn node_command<'a>(
     alloc: Global,
     words: &'a Words<'a>,
     name: &'a str,
     about: &'a str,
+    format: &'a str,
     examples: &'a str,
 ) -> Result<Command<'a>, AllocError> {
     let command = Command::new(alloc, name).about(about).after_help(examples);
@@ -88,6 +92,7 @@ pub(crate) fn node_command<'a>(
     let command = with_arg(command, mac_option(alloc));
     let command = with_arg(command, lan_option(alloc, words));
     let command = with_arg(command, net_option(alloc));
+    let command = with_arg(command, line_format_option(alloc, format));
     with_node_options(alloc, command, words)
 }
 
@@ -145,5 +150,6 @@ pub(crate) fn node_task(node: &ArgMatches<'_>) -> Result<NodeTask, Refused>
         role: role_of(node),
         mac: node_mac(node)?,
         options: node_options_of(node),
+        format: line_format_of(node),
     })
 }

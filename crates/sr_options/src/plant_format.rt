@@ -1,4 +1,4 @@
-//! How a run of a network is told: `[--format text|json|svg]`.
+//! How a run of a network is told: `[--format text|json|svg]`, and how other lines are: `[--format text|json]`.
 
 use crate::script_line::option;
 use clap::{Arg, ArgMatches};
@@ -32,6 +32,21 @@ pub(crate) fn format_option<'a>(alloc: Global) -> Arg<'a> {
     )
     .default_value("text")
     .value_parser(["text", "json", "svg"].as_slice())
+}
+
+/// How lines are spelled.
+pub(crate) fn line_format_option<'a>(alloc: Global, help: &'a str) -> Arg<'a> {
+    option(alloc, "format", "FORMAT", help)
+        .default_value("text")
+        .value_parser(["text", "json"].as_slice())
+}
+
+/// The spelling that the parser let through.
+pub(crate) fn line_format_of(matches: &ArgMatches<'_>) -> LineFormat {
+    match matches.get_str("format") {
+        Some("json") => LineFormat::Json,
+        _ => LineFormat::Text,
+    }
 }
 
 /// The format that the parser let through.

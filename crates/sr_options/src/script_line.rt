@@ -9,6 +9,7 @@ use crate::command_line::{with_arg, with_captures};
 use crate::examples;
 use crate::fault::OptionFault;
 use crate::paths::Paths;
+use crate::plant_format::{LineFormat, line_format_of, line_format_option};
 use crate::shifts::{Shift, delays_in, nanoseconds_of, set_back, shift_in, with_clocks};
 use crate::words::Words;
 use clap::{Arg, ArgAction, ArgMatches, Command};
@@ -33,6 +34,8 @@ pub struct ScriptTask<'a> {
     pub shift: Shift,
     /// Whether the captures of A and B are one.
     pub is_same: bool,
+    /// How its lines are spelled.
+    pub format: LineFormat,
 }
 
 impl<'a> ScriptTask<'a> {
@@ -128,6 +131,8 @@ pub(crate) fn script_command<'a>(
     let command = with_option(alloc, command, "to", "T", to);
     let tick = "Adds ticks so many milliseconds apart, from --from on";
     let command = with_option(alloc, command, "tick", "MS", tick);
+    let format = "How lines are told: json makes an object of each, which no node reads";
+    let command = with_arg(command, line_format_option(alloc, format));
     with_captures(alloc, command, ["a", "b", "c"].as_slice())
 }
 
@@ -283,5 +288,6 @@ pub(crate) fn script_task<'a>(
         network: network_of(matches),
         shift: shift_in(matches),
         is_same: is_same(matches),
+        format: line_format_of(matches),
     })
 }
