@@ -1,5 +1,5 @@
 -- Checks by limits worked out.
-use Rattle.std.proofs.Common.{◌≡◌, ℕ, ◌+◌, ◌-◌, ◌^◌, ◌≤◌, Bool, true, false, cond, not, ◌&&◌, ◌||◌, List, [], ◌∷◌, ◌++◌, Option, None, Some, arith, refl, sym, ap, ap₂, ◌∙◌, subst}
+use Rattle.std.proofs.Common.{◌≡◌, ℕ, ◌+◌, ◌-◌, ◌^◌, ◌≤◌, Bool, true, false, cond, not, ◌&&◌, ◌||◌, List, [], ◌∷◌, ◌++◌, Option, None, Some, arith, refl, sym, ap, ap₂, ◌∙◌}
 use Rattle.std.specs.Prelude.{min, nat_lt, nat_le, filter, sum_by}
 use Rattle.std.specs.List.{list_any}
 use Rattle.std.proofs.lemmas.Bool.{and_left, and_right, not_from_true, lt-leb, or_from, or_left, or_right}
@@ -233,11 +233,13 @@ no_cut : (network : Network) (m n : Mac) → cut_time network (six_lost m n) ≡
 no_cut Prp m n = refl
 no_cut Hsr m n = refl
 
-none_excused_at : (m n : Mac) (mended : Option ℕ) → mended ≡ None → (before c d e : List Verdict) (own : List Heard) →
-    may_be_dropped (limits_of (Some 5) None) Two five_dropped (Amid before (loss_at mended B (six_lost m n)) c d e) own ≡ false
-none_excused_at m n mended none before c d e own =
-    subst (λ (t : Option ℕ). may_be_dropped (limits_of (Some 5) None) Two five_dropped (Amid before (loss_at t B (six_lost m n)) c d e) own ≡ false)
-    (sym none) (none_excused m n before c d e own)
+none_excused_at : (m n : Mac) (mended : Option ℕ) → mended ≡ None → (faults before c d e : List Verdict) →
+    faults ≡ Amid before (loss_at mended B (six_lost m n)) c d e → (own : List Heard) →
+    may_be_dropped (limits_of (Some 5) None) Two five_dropped faults own ≡ false
+none_excused_at m n mended none faults before c d e is own =
+    ap (λ (l : List Verdict). may_be_dropped (limits_of (Some 5) None) Two five_dropped l own) is
+    ∙ ap (λ (t : Option ℕ). may_be_dropped (limits_of (Some 5) None) Two five_dropped (Amid before (loss_at t B (six_lost m n)) c d e) own) none
+    ∙ none_excused m n before c d e own
 
 excused : (m n : Mac) (r : Report) (sources : Sources) (outside : Outside) (vs : List Verdict)
     (are : AreVerdictsOf r sources outside vs) → outside.limits ≡ limits_of (Some 5) None → are.telling ≡ six_lost m n →
@@ -253,7 +255,8 @@ excused m n r sources outside vs are limits telling judges ports dropped =
     ∙ ap (λ b. status_in (judged_by None b) (doubt five Two five_dropped (six_lost m n)))
     (by_loss (nodes_tell r.subject sources.sources.entries) (faulty_anyway r are.own (six_lost m n)) (lack_beyond (Some 5) r are.counters)
     (loss_beyond (Some 5) r.subject.network (six_lost m n)) (list_any (is_wide None) are.own) (six_beyond r.subject.network m n))
-    ∙ ap (status_in Faulty) (none_excused_at m n (cut_time r.subject.network (six_lost m n)) (no_cut r.subject.network m n) _ _ _ _ are.own)
+    ∙ ap (status_in Faulty) (none_excused_at m n (cut_time r.subject.network (six_lost m n)) (no_cut r.subject.network m n)
+    (fault_verdicts r sources.sources.entries are.own (six_lost m n) are.counters) _ _ _ _ refl are.own)
   where
     five : Limits
     five = limits_of (Some 5) None
