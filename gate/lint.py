@@ -13,6 +13,7 @@ from cases import place
 from workspace import crates_below
 
 WIDEST_DEFINITION = 140
+WIDEST_LEMMA = 150
 WIDEST_CLAUSE = 100
 MOST_README_WORDS = 1000
 MOST_TEST_LINES = 3000
@@ -37,10 +38,11 @@ def crates(root):
 
 
 def wide_definitions(root):
-    """A line of a definition or a lemma is at most 140 characters wide."""
+    """A line of a definition is at most 140 characters wide, one of a file of lemmas 150."""
     for path in sorted(root.glob("crates/*/specs/**/*.antt")):
+        widest = WIDEST_LEMMA if path.name.endswith("Lemmas.antt") else WIDEST_DEFINITION
         for number, line in numbered(path):
-            if len(line) > WIDEST_DEFINITION:
+            if len(line) > widest:
                 yield path, number, f"a line of {len(line)} characters"
 
 
