@@ -17,7 +17,7 @@ import time
 from pathlib import Path
 
 from ledger import Ledger
-from rounds import bodies_of, due
+from rounds import bodies_of, count, due
 from times import Times
 from workspace import PARTS, and_above, closure, crates_below, free_memory, processors
 
@@ -107,13 +107,12 @@ def tell(root, tries_all):
     else:
         print(f"check: {len(to_prove)} of {len(proofs)} proofs of crates and of their tests are to be done; the others are kept on this machine")
     bodies = bodies_of(root)
-    tried = list(bodies) if tries_all else due(bodies, ledger, time.time() // 86400)
-    count, of = sum(bodies[it] for it in tried), sum(bodies.values())
-    print(f"check: {count} of {of} wrong bodies are to be tried in rounds, those of {len(tried)} of {len(bodies)} crates")
+    tried = bodies if tries_all else due(bodies, ledger, time.time() // 86400)
+    print(f"check: {count(tried)} of {count(bodies)} wrong bodies are to be tried in rounds, those of {len(tried)} of {len(bodies)} crates")
     parts = {
         "proofs": sum(times.of(name, "tests" if of_tests else "proof") for name, of_tests in to_prove),
         "must-fail edits": sum(times.of(it, "edits") for it in below if (root / "crates" / it / "must-fail").is_dir() and (it, False) in to_prove),
-        "rounds": sum(times.of(it, "rounds") for it in tried),
+        "rounds": sum(times.of(it, "rounds") * len(tried[it]) / len(bodies[it]) for it in tried),
     }
     # No crate is proved before those below it.
     alone = {it: times.of(it, "proof") * ((it, False) in to_prove) for it in below}

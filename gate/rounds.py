@@ -2,16 +2,16 @@
 """Tries the wrong bodies crates/NAME/wrong/*.edit in rounds: many at a time, each in a function of its own.
 
 rounds.py [--write] [CRATE..]         those of these crates; of every crate where none is named
-rounds.py --due [--write] [CRATE..]   of these, those of crates that the ledger of refusals does not have as they stand now, and of a
-                                      fifth of the others, by the day
+rounds.py --due [--write] [CRATE..]   of these, those that the ledger of refusals does not have as they stand now, and all of a fifth
+                                      of the crates, by the day
 
 In a round as many are put into a copy of the crate as stand in different functions, and the prover is asked once for these
 functions and for what they call. A wrong body that is masked, or one of a round that does not compile, waits for a later round.
 What a wrong body comes to is told in judge.py.
 
-The ledger is gate/refused.txt: crates all of whose wrong bodies were refused, each with the sum of what that hangs on
-(ledger.py). Nothing writes it but this script, and this script only with --write: it puts in each crate whose wrong bodies it has
-just seen refused, and takes out each of which it saw another thing.
+The ledger is gate/refused.txt: the wrong bodies that were refused, with the sum of what that hangs on (ledger.py). Nothing writes it
+but this script, and this script only with --write: it puts in each wrong body that it has just seen refused, and takes out each of
+which it saw another thing.
 
 The libraries below a crate have to be built as `rt ci` or `rt check` leaves them. Prints a line for each wrong body, with the
 goal that refused it, and exits with 1 where one was not refused. The last line is 'N passed, M failed'. What the prover says of
@@ -29,7 +29,7 @@ from pathlib import Path
 
 from judge import BAD, MASKED, REFUSED, UNKNOWN, Unusable
 from judge import crate_functions, edited, first_error, question, reaches, read_edit, verdict_on_whole, verdicts_on
-from ledger import Ledger, is_of_the_day
+from ledger import Ledger, body_sum, is_of_the_day
 from workspace import PARTS, crates_below, free_memory, processors
 
 MEMORY_OF_A_CHECK = 4_000_000_000
@@ -108,19 +108,17 @@ def settle(crate, batch, blocks):
     return settle(crate, batch[:half], blocks) | settle(crate, batch[half:], blocks)
 
 
-def try_crate(root, name):
-    """The lines that tell of a crate's wrong bodies, how many were refused, and how many not."""
-    began, lines, refused, missed = time.time(), [], 0, 0
+def try_crate(root, name, files):
+    """The lines that tell of these wrong bodies of a crate, the names of those that were refused, and of those that were not."""
+    began, lines, refused, missed = time.time(), [], set(), set()
 
     def tell(edit, kind, why):
-        nonlocal refused, missed
-        refused, missed = refused + (kind == REFUSED), missed + (kind != REFUSED)
+        (refused if kind == REFUSED else missed).add(edit)
         lines.append(f"wrong {name}/{edit}: {kind}: {why}")
 
-    files = sorted((root / "crates" / name / "wrong").iterdir())
     with tempfile.TemporaryDirectory(prefix="rounds-") as room:
         crate, left, blocks = Crate(root, name, room), [], {}
-        for path in files:
+        for path in sorted(files):
             try:
                 if path.suffix != ".edit":
                     raise Unusable("it is no .edit file")
@@ -142,7 +140,7 @@ def try_crate(root, name):
         except Unusable as why:
             for edit in left:
                 tell(edit.name, UNKNOWN, why)
-    lines.append(f"rounds: {name}: {refused + missed} wrong bodies in {crate.checks} checks, {time.time() - began:.0f} seconds")
+    lines.append(f"rounds: {name}: {len(refused | missed)} wrong bodies in {crate.checks} checks, {time.time() - began:.0f} seconds")
     return lines, refused, missed
 
 
@@ -152,29 +150,36 @@ def lanes():
 
 
 def bodies_of(root):
-    """How many wrong bodies each crate has that has any."""
-    found = {it: len(list((root / "crates" / it / "wrong").glob("*"))) for it in crates_below(root)}
-    return {it: count for it, count in found.items() if count}
+    """The wrong bodies of each crate that has any, as files."""
+    found = {it: sorted((root / "crates" / it / "wrong").glob("*")) for it in crates_below(root)}
+    return {it: files for it, files in found.items() if files}
 
 
 def due(bodies, ledger, day):
-    """Of these crates those whose wrong bodies are tried on a day: what the ledger does not have, and the day's fifth."""
-    return [it for it in bodies if not ledger.has(it) or is_of_the_day(it, day)]
+    """Of these wrong bodies those that are tried on a day, by crate: what the ledger does not have, and the day's fifth."""
+    found = {it: files if is_of_the_day(it, day) else ledger.left(it, files) for it, files in bodies.items()}
+    return {it: files for it, files in found.items() if files}
 
 
-def try_all(root, names, ledger, known):
-    """Tries the wrong bodies of these crates, and prints what comes of them. How many were refused, and how many not. The ledger is
-    written crate by crate, of the known ones alone, where such are given."""
-    weight = {it: len(list((root / "crates" / it / "wrong").glob("*"))) * len(crate_functions(root / "crates" / it)) for it in names}
-    sums, passed, failed = {it: ledger.sum_of(it) for it in names}, 0, 0
+def count(bodies):
+    """How many wrong bodies these are."""
+    return sum(map(len, bodies.values()))
+
+
+def try_all(root, wanted, ledger, known):
+    """Tries these wrong bodies, which are given by crate, and prints what comes of them. How many were refused, and how many not. The
+    ledger is written crate by crate, of the known ones alone, where such are given."""
+    weight = {it: len(files) * len(crate_functions(root / "crates" / it)) for it, files in wanted.items()}
+    sums, passed, failed = {it: ledger.sum_of(it) for it in wanted}, 0, 0
+    bodies = {it: {path.stem: body_sum(path) for path in files} for it, files in wanted.items()}
     with ThreadPoolExecutor(lanes()) as pool:
         # The longest begin first.
-        tasks = {pool.submit(try_crate, root, it): it for it in sorted(names, key=lambda it: -weight[it])}
+        tasks = {pool.submit(try_crate, root, it, wanted[it]): it for it in sorted(wanted, key=lambda it: -weight[it])}
         for task in as_completed(tasks):
             name, (lines, refused, missed) = tasks[task], task.result()
             print("\n".join(lines), flush=True)
-            passed, failed = passed + refused, failed + missed
-            ledger.enter(name, sums[name] if refused and not missed else None)
+            passed, failed = passed + len(refused), failed + len(missed)
+            ledger.enter(name, sums[name], {bodies[name][it] for it in refused}, {bodies[name][it] for it in missed})
             if known:
                 ledger.write(known)
     return passed, failed
@@ -191,12 +196,11 @@ def main(words, root=Path(__file__).resolve().parent.parent, day=None):
     if unknown:
         print(f"rounds: crates.txt has no crate {' '.join(unknown)}")
         return 2
-    asked = [it for it in given.names or bodies if it in bodies]
+    asked = {it: bodies[it] for it in given.names or bodies if it in bodies}
     wanted = asked
     if given.due:
         wanted = due(asked, ledger, time.time() // 86400 if day is None else day)
-        taken = [it for it in asked if it not in wanted]
-        print(f"rounds: {sum(bodies[it] for it in taken)} wrong bodies of {len(taken)} crates were refused as they stand (gate/refused.txt): not tried anew", flush=True)
+        print(f"rounds: {count(asked) - count(wanted)} wrong bodies were refused as they stand (gate/refused.txt): not tried anew", flush=True)
     passed, failed = try_all(root, wanted, ledger, bodies if given.write else None)
     used = resource.getrusage(resource.RUSAGE_CHILDREN)
     print(f"rounds: {used.ru_utime + used.ru_stime:.0f} CPU seconds")

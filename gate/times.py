@@ -47,8 +47,11 @@ class Times:
         return AT_LEAST[part] + OF_A_LINE[part] * lines_of(self.root, name) if known is None else known
 
     def note(self, seconds):
-        """Writes these down, beside what this machine noted before."""
-        write(self.noted, {**read(self.noted), **{it: round(taken) for it, taken in seconds.items()}})
+        """Writes these down, beside what this machine noted before. Of rounds, which often try a part of a crate's wrong bodies, the
+        longest stays."""
+        before = read(self.noted)
+        now = {it: max(round(taken), before.get(it, 0) if it[1] == "rounds" else 0) for it, taken in seconds.items()}
+        write(self.noted, {**before, **now})
 
     def write(self):
         """Writes what is known of crates that are there into the table of the repository."""

@@ -193,11 +193,11 @@ class Kept(Small):
 class Plan(Small):
     def told(self, known, tries_all=False):
         said = io.StringIO()
-        here = {"kept": lambda root: known, "processors": lambda: 2, "due": lambda bodies, ledger, day: ["left"]}
+        here = {"kept": lambda root: known, "processors": lambda: 2, "due": lambda bodies, ledger, day: {"left": bodies["left"][:1]}}
         with contextlib.ExitStack() as stack, contextlib.redirect_stdout(said):
             for name, call in here.items():
                 stack.enter_context(mock.patch.object(plan, name, call))
-            stack.enter_context(mock.patch.object(ledger, "kit_line", lambda: "kit 1"))
+            stack.enter_context(mock.patch.object(ledger, "logic_of_kit", lambda: "1"))
             plan.tell(self.top, tries_all)
         return said.getvalue()
 
@@ -205,15 +205,15 @@ class Plan(Small):
         super().setUp()
         self.write("crates/top/src/tests.rt", "#[test]\n")
         self.write("crates/low/must-fail/one.edit", "")
-        for name in ("left", "right"):
-            self.write(f"crates/{name}/wrong/one.edit", "")
+        for name in ("left/wrong/one", "left/wrong/other", "right/wrong/one"):
+            self.write(f"crates/{name}.edit", "")
         proofs = "low proof 600\nleft proof 300\nright proof 1200\ntop proof 60\ntop tests 240\nbeside proof 600\n"
-        self.write("gate/times.txt", proofs + "low edits 120\nleft rounds 240\nright rounds 360\n")
+        self.write("gate/times.txt", proofs + "low edits 120\nleft rounds 480\nright rounds 360\n")
 
     def test_from_nothing(self):
         said = self.told(set())
         self.assertIn("6 of 6 proofs of crates and of their tests are to be done", said)
-        self.assertIn("1 of 2 wrong bodies are to be tried in rounds, those of 1 of 2 crates", said)
+        self.assertIn("1 of 3 wrong bodies are to be tried in rounds, those of 1 of 2 crates", said)
         # The chain of low, right and top, and then the rounds on two processors.
         self.assertIn("about 33 minutes on 2 processors", said)
         self.assertIn("proofs 50 minutes, must-fail edits 2 minutes, rounds 4 minutes", said)
@@ -222,8 +222,8 @@ class Plan(Small):
         known = {("low", False), ("left", False), ("right", False), ("beside", False)}
         said = self.told(known, tries_all=True)
         self.assertIn("2 of 6 proofs of crates and of their tests are to be done; the others are kept", said)
-        self.assertIn("2 of 2 wrong bodies are to be tried in rounds", said)
-        self.assertIn("proofs 5 minutes, must-fail edits 0 minutes, rounds 10 minutes", said)
+        self.assertIn("3 of 3 wrong bodies are to be tried in rounds", said)
+        self.assertIn("proofs 5 minutes, must-fail edits 0 minutes, rounds 14 minutes", said)
 
     def test_what_is_not_known(self):
         self.assertIn("6 proofs of 5 crates and of their tests; what the toolchain keeps of them is not known", self.told(None))
@@ -238,8 +238,9 @@ class Table(Small):
         self.assertEqual(known.of("right", "proof"), times.AT_LEAST["proof"] + times.OF_A_LINE["proof"])
 
     def test_notes_and_the_table(self):
-        times.Times(self.top).note({("low", "proof"): 3.6, ("gone", "proof"): 5})
+        times.Times(self.top).note({("low", "proof"): 9.2, ("gone", "proof"): 5})
         times.Times(self.top).note({("low", "rounds"): 7})
+        times.Times(self.top).note({("low", "rounds"): 2, ("low", "proof"): 3.6})
         self.assertEqual((self.top / "out" / "times.txt").read_text(), "gone proof 5\nlow proof 4\nlow rounds 7\n")
         self.assertFalse((self.top / "gate").exists())
         times.Times(self.top).write()

@@ -157,6 +157,41 @@ class Rounds(Workspace):
         said = "fn sr_one::state::Core::with_keys: no proof: expected answers in ./proofs/Answers.antt"
         self.assertEqual(judge.verdict_on(said, "sr_one", function)[0], judge.UNKNOWN)
 
+    def test_a_message_that_the_prover_breaks_off(self):
+        function = judge.Function("running::run", "src/running.rt", 3, 9)
+        at = "./proofs/running/run/Answers.antt:5:14: error: `returns`: "
+        for gone in ("record `Rattle.sr_one.proofs.running.run.Lts.After`\n  has no field `flush`", "`goal.flush-requires`\n  module `Goals`\n    has no `flush-requires`"):
+            said = f"{at}{gone}\n  these can be named: `args`\nfn sr_one::running::run: not proved"
+            self.assertEqual(judge.verdict_on(said, "sr_one", function)[0], judge.UNKNOWN, gone)
+        said = f"{at}`a + b`\n  is no proof of `b + a`\nfn sr_one::running::run: not proved"
+        self.assertEqual(judge.verdict_on(said, "sr_one", function), (judge.REFUSED, "`returns` of running::run"))
+        said = "fn sr_one::running::run: no proof: expected answers in ./proofs/Answers.antt;\n  `search` did not prove `returns`"
+        self.assertEqual(judge.verdict_on(said, "sr_one", function)[0], judge.REFUSED)
+
+    def test_a_proof_that_names_what_is_gone_in_a_long_message(self):
+        name = "a_step_that_leads_nowhere_whose_name_is_so_long_that_the_prover_breaks_its_message_before_it_says_what_is_gone"
+        behind = f"""
+// One step further, behind one that leads nowhere.
+fn step_behind(n: u64) -> u64
+    requires {{ n ≤ 40 }}
+    ensures {{ result ≡ n + 3 }}
+{{
+    let {name} = step(n);
+    step(n)
+}}
+"""
+        proof = f"""use Rattle.std.proofs.Common.{{arith}}
+use Rattle.small.proofs.step_behind.Goals as goal
+
+pub step-{name}-requires : goal.step-{name}-requires
+step-{name}-requires c = omega arith
+"""
+        self.write("crates/small/proofs/step_behind/Answers.antt", proof)
+        edits = {"names_the_step_otherwise": (f"    let {name} = step(n);", "    let nowhere = step(n);"), "steps_from_one": ("    step(n)", "    step(1)")}
+        said, status, last, whole = self.tried(edits, SOURCE + behind)
+        self.assertEqual(said, {"names_the_step_otherwise": "NOT TRIED", "steps_from_one": "refused"}, whole)
+        self.assertEqual((status, last), (1, "1 passed, 1 failed"))
+
     def test_a_crate_that_is_not_proved(self):
         broken = SOURCE.replace("    n + n", "    n + 1 + n")
         said, status, _, whole = self.tried({"steps_twice": WRONG["steps_twice"]}, broken)
@@ -197,16 +232,15 @@ class Refusals(Workspace):
             if name != "low":
                 self.write(f"crates/{name}/wrong/answers_two.edit", "file: src/lib.rt\nold: one\nnew: two\n")
         self.tried = []
-        for patch in (mock.patch.object(rounds, "try_crate", self.try_crate), mock.patch.object(ledger, "kit_line", lambda: self.kit)):
+        for patch in (mock.patch.object(rounds, "try_crate", self.try_crate), mock.patch.object(ledger, "logic_of_kit", lambda: self.logic)):
             patch.start()
             self.addCleanup(patch.stop)
-        self.kit = "kit 1"
+        self.logic = "1"
 
-    def try_crate(self, root, name):
+    def try_crate(self, root, name, files):
         self.tried.append(name)
-        bodies = [path.stem for path in (root / "crates" / name / "wrong").iterdir()]
-        missed = bodies.count("harmless")
-        return [f"rounds: {name}"], len(bodies) - missed, missed
+        bodies = {path.stem for path in files}
+        return [f"rounds: {name} {' '.join(sorted(bodies))}"], bodies - {"harmless"}, bodies & {"harmless"}
 
     def due(self, *words, day=None):
         """The crates that are tried on a day, by default on one that is nobody's."""
@@ -225,7 +259,7 @@ class Refusals(Workspace):
         self.assertEqual(self.written(), ["beside", "high", "middle"])
         tried, status, said = self.due()
         self.assertEqual((tried, status), ([], 0))
-        self.assertIn("3 wrong bodies of 3 crates were refused as they stand", said)
+        self.assertIn("3 wrong bodies were refused as they stand", said)
         self.assertTrue(said.endswith("0 passed, 0 failed\n"))
 
     def test_all_and_by_name(self):
@@ -255,7 +289,7 @@ class Refusals(Workspace):
         }
         for path, wanted in changes.items():
             self.due("--write")
-            self.write(path, "changed\n")
+            self.write(path, f"changed: {path}\n")
             self.assertEqual(self.due()[0], wanted, path)
 
     def test_a_line_of_the_workspace(self):
@@ -266,11 +300,11 @@ class Refusals(Workspace):
         self.write("crates.txt", lines.replace("beside: ", "beside: low"))
         self.assertEqual(self.due()[0], ["beside"])
 
-    def test_another_kit_or_judge(self):
+    def test_another_logic_or_judge(self):
         self.due("--write")
-        self.kit = "kit 2"
+        self.logic = "2"
         self.assertEqual(self.due()[0], ["beside", "high", "middle"])
-        self.kit = "kit 1"
+        self.logic = "1"
         other = self.top / "judge.py"
         other.write_text("another judge\n")
         with mock.patch.object(ledger, "JUDGE", other):
@@ -280,25 +314,38 @@ class Refusals(Workspace):
         self.due("--write")
         other = self.top / "elsewhere"
         shutil.copytree(self.top, other, ignore=lambda at, names: [it for it in names if it == "elsewhere"])
-        self.assertTrue(all(ledger.Ledger(other).has(it) for it in ("beside", "high", "middle")))
+        known = ledger.Ledger(other)
+        self.assertEqual({name: known.left(name, files) for name, files in rounds.bodies_of(other).items()}, {"beside": [], "high": [], "middle": []})
 
     def test_one_that_fails_is_never_written(self):
         self.write("crates/middle/wrong/harmless.edit", "file: src/lib.rt\nold: one\nnew: uno\n")
         self.assertEqual(self.due("--write")[1], 1)
-        self.assertEqual(self.written(), ["beside", "high"])
-        self.assertEqual(self.due("--write")[:2], (["middle"], 1))
+        tried, status, said = self.due("--write")
+        self.assertEqual((tried, status), (["middle"], 1))
+        self.assertIn("rounds: middle harmless\n", said)
         # Nor does one stay that was there, as on its day of five.
         (self.top / "crates/middle/wrong/harmless.edit").unlink()
-        self.due("--write")
+        self.assertEqual(self.due("--write")[0], [])
         self.assertEqual(self.written(), ["beside", "high", "middle"])
-        with mock.patch.object(rounds, "try_crate", lambda root, name: ([], 0, 1)):
+        with mock.patch.object(rounds, "try_crate", lambda root, name, files: ([], set(), {"answers_two"})):
             self.assertEqual(self.call("--write", "middle")[0], 1)
         self.assertEqual(self.written(), ["beside", "high"])
 
+    def test_a_new_one_alone_is_tried(self):
+        self.due("--write")
+        self.write("crates/high/wrong/answers_three.edit", "file: src/lib.rt\nold: one\nnew: three\n")
+        tried, status, said = self.due("--write")
+        self.assertEqual((tried, status), (["high"], 0))
+        self.assertIn("rounds: high answers_three\n", said)
+        self.assertEqual(self.due()[0], [])
+        # By another name it is the same.
+        (self.top / "crates/high/wrong/answers_three.edit").rename(self.top / "crates/high/wrong/answers_more.edit")
+        self.assertEqual(self.due()[0], [])
+
     def test_one_that_changes_while_it_is_tried(self):
-        def try_and_change(root, name):
+        def try_and_change(root, name, files):
             self.write("crates/beside/src/lib.rt", "fn other() {}\n")
-            return self.try_crate(root, name)
+            return self.try_crate(root, name, files)
 
         with mock.patch.object(rounds, "try_crate", try_and_change):
             self.assertEqual(self.call("--write", "beside")[0], 0)
