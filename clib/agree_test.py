@@ -34,7 +34,7 @@ class Agreement(unittest.TestCase):
             (HEADER, "SEAMLESS_CLOSED = 263", "SEAMLESS_CLOSED = 262"),
             (HEADER, "SEAMLESS_UNTAGGED = 258", "SEAMLESS_UNTAGGED = 257"),
             (HEADER, "    uint32_t age_a;", "    uint64_t age_a;"),
-            (HEADER, "#define SEAMLESS_ABI 1", "#define SEAMLESS_ABI 2"),
+            (HEADER, "#define SEAMLESS_ABI 2", "#define SEAMLESS_ABI 3"),
             (FRAMES, "fn seamless_tick(", "fn seamless_tock("),
             (CODES, "OPEN: u32 = 264", "OPEN: u32 = 265"),
             (CODES, "StepFault::TableFull => 259", "StepFault::TableFull => 260"),

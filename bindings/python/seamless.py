@@ -8,7 +8,7 @@ import os
 from dataclasses import dataclass
 from typing import Iterator, Optional, Union
 
-ABI = 1
+ABI = 2
 MAX_FRAME = 1524
 MAX_NODES, MAX_ALARMS, MAX_PROXIED = 1024, 64, 256
 
@@ -130,7 +130,7 @@ class _Cursor(ctypes.Structure):
     _fields_ = [("number", ctypes.c_uint64), ("missed", ctypes.c_uint64), ("count", ctypes.c_uint64)]
 
 
-COUNTED = ("received", "sent", "wrong_lan", "unread", "untagged", "table_full", "outbox_full", "no_memory")
+COUNTED = ("received", "sent", "wrong_lan", "unread", "untagged", "table_full", "outbox_full", "no_memory", "own")
 NEVER = 2147483647
 
 
@@ -139,7 +139,7 @@ class _Counters(ctypes.Structure):
 
 
 def _load() -> ctypes.CDLL:
-    library = ctypes.CDLL(os.environ.get("SEAMLESS_LIBRARY") or ctypes.util.find_library("seamless") or "libseamless.so.1")
+    library = ctypes.CDLL(os.environ.get("SEAMLESS_LIBRARY") or ctypes.util.find_library("seamless") or "libseamless.so.2")
     node, size, number, time = ctypes.POINTER(_Handle), ctypes.c_size_t, ctypes.c_uint32, ctypes.c_uint64
     octets, count = ctypes.c_char_p, ctypes.POINTER(ctypes.c_size_t)
     calls = {

@@ -29,7 +29,7 @@ extern "C" {
 #endif
 
 // The interface that this header describes. seamless_abi answers that of the library: where they differ, open no node.
-#define SEAMLESS_ABI 1
+#define SEAMLESS_ABI 2
 
 // The version of the library that this header came with: 10000 for the first number, 100 for the second, 1 for the third. seamless_version
 // answers that of the library that is linked.
@@ -150,6 +150,7 @@ typedef struct seamless_counters_entry {
     uint64_t table_full;   // refused with SEAMLESS_TABLE_FULL
     uint64_t outbox_full;  // refused with SEAMLESS_OUTBOX_FULL
     uint64_t no_memory;    // refused with SEAMLESS_NO_MEMORY
+    uint64_t own;          // frames that came back: answered SEAMLESS_OWN
 } seamless_counters_entry;
 
 // The structs are laid out as the library lays them out.
@@ -164,7 +165,7 @@ SEAMLESS_LAID_OUT(seamless_node_entry, 28);
 SEAMLESS_LAID_OUT(seamless_alarm_entry, 16);
 SEAMLESS_LAID_OUT(seamless_proxied_entry, 16);
 SEAMLESS_LAID_OUT(seamless_cursor, 24);
-SEAMLESS_LAID_OUT(seamless_counters_entry, 64);
+SEAMLESS_LAID_OUT(seamless_counters_entry, 72);
 
 // The number of the interface of the library.
 uint32_t seamless_abi(void);

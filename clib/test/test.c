@@ -312,11 +312,12 @@ static void counters(void) {
     expect("a buffer is too short", seamless_take(&node, SEAMLESS_H, octets, 59) == 0 && seamless_waiting(&node, SEAMLESS_H) == 256 && octets[0] == 7);
     expect("one is not", seamless_take(&node, SEAMLESS_H, octets, 60) == 60);
     in(&node, SEAMLESS_A, 0, FRAME("7777", "b034"));
+    expect("its own frame comes back", in(&node, SEAMLESS_A, 0, "020000000003 020000000001 0800 Z46 0001 a034 88fb") == SEAMLESS_OWN);
     expect("a frame is too short", seamless_receive(&node, SEAMLESS_A, octets, 13, 0) == SEAMLESS_UNREAD);
     expect("the host sends from another address", host_sends(&node, "020000000002 020000000003 0800 Z46") == SEAMLESS_UNREAD);
-    expect("what was counted at A", seamless_counters(&node, SEAMLESS_A, &at_a) == 0 && at_a.received == 259 && at_a.wrong_lan == 1 && at_a.outbox_full == 1 &&
+    expect("what was counted at A", seamless_counters(&node, SEAMLESS_A, &at_a) == 0 && at_a.received == 260 && at_a.own == 1 && at_a.wrong_lan == 1 && at_a.outbox_full == 1 &&
                                         at_a.unread == 1 && at_a.untagged == 0 && at_a.table_full == 0 && at_a.no_memory == 0 && at_a.sent == 0);
-    expect("what was counted of the host", seamless_counters(&node, SEAMLESS_H, &at_h) == 0 && at_h.received == 1 && at_h.unread == 1 && at_h.sent == 1);
+    expect("what was counted of the host", seamless_counters(&node, SEAMLESS_H, &at_h) == 0 && at_h.received == 1 && at_h.own == 0 && at_h.unread == 1 && at_h.sent == 1);
     expect("nothing is counted at a port that there is not", seamless_counters(&node, 4, &at_h) == SEAMLESS_ARGUMENT && at_h.received == 1);
     seamless_close(&node);
 }

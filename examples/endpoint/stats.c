@@ -37,7 +37,7 @@ static void write_port(FILE *to, uint32_t at, seamless_node *node, const port *p
     } all[] = {{"received", counts.received},       {"sent", counts.sent - port->unsent},  {"unsent", port->unsent},
                {"missed", port->missed},            {"unfinished", port->unfinished},      {"wrong_lan", counts.wrong_lan},
                {"unread", counts.unread},           {"untagged", counts.untagged},         {"table_full", counts.table_full},
-               {"outbox_full", counts.outbox_full}, {"no_memory", counts.no_memory}};
+               {"outbox_full", counts.outbox_full}, {"no_memory", counts.no_memory},       {"own", counts.own}};
     for (size_t each = 0; each < sizeof all / sizeof *all; each++)
         fprintf(to, ",\"%s\":%" PRIu64, all[each].name, all[each].count);
     putc('}', to);

@@ -281,7 +281,7 @@ class Version(unittest.TestCase):
             self.assertIn(f"#define SEAMLESS_VERSION {number}", self.lines("clib/include/seamless.h"))
             life = "\n".join(self.lines("crates/sr_c/src/life.rt"))
             self.assertIn(f"fn seamless_version() -> u32\n    ensures {{ result ≡ {number} }}\n", life)
-            self.assertIn("fn seamless_abi() -> u32\n    ensures { result ≡ 1 }\n", life)
+            self.assertIn("fn seamless_abi() -> u32\n    ensures { result ≡ 2 }\n", life)
             file, old, new = self.lines("crates/sr_c/wrong/is_another_version.edit")[:3]
             self.assertEqual(life.count(old.removeprefix("old: ")), 1)
             self.assertNotEqual(old.removeprefix("old: "), new.removeprefix("new: "))

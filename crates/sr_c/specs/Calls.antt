@@ -19,7 +19,7 @@ use Rattle.sr_endpoint.specs.declared.endpoint.Endpoint.{Endpoint}
 use Rattle.sr_endpoint.specs.declared.setup.Setup.{Setup}
 use Rattle.sr_dup_table.specs.declared.fault.DupFault.{DupFault}
 use Rattle.sr_endpoint.specs.AlarmLogs.{Looks, no_alarms}
-use Rattle.sr_endpoint.specs.Counting.{after_arrival, after_taken, no_traffic}
+use Rattle.sr_endpoint.specs.Counting.{after_arrival, after_reception, after_taken, no_traffic}
 use Rattle.sr_endpoint.specs.Endpoints.{IsFirstOut, new_state, state_by}
 use Rattle.sr_endpoint.specs.Snapshots.{JoinsSnapshot, RefusesSnapshot, TakesOver}
 use Rattle.sr_c.specs.Codes.{argument, closed, snapshot_code, no_memory, opened, received_code, stepped_code, taken_over_code}
@@ -71,7 +71,7 @@ ReceivesAs (Some port) octets now code e f =
     (outcome : Result (Option Outlets) StepFault)
     × TakesOctets arrival_answer (carriage (state_by e).role.kind port) (state_by e) port octets now outcome (state_by f)
     × (code ≡ received_code outcome)
-    × (f.counters ≡ after_arrival e.counters port outcome)
+    × (f.counters ≡ after_reception e.counters port outcome)
     × (f.log ≡ e.log)
 
 -- The host sends octets. What is answered, want of memory apart, is what the node answers; a fault changes nothing. (An allocation of the

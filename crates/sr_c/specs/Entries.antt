@@ -53,6 +53,7 @@ counters_entry e port = record {
   table_full = at e.counters.table_full port;
   outbox_full = at e.counters.outbox_full port;
   no_memory = at e.counters.no_memory port;
+  own = at e.counters.own port;
 }
 
 -- what is told of a node is put into an entry, or there is none and the entry stays

@@ -62,6 +62,8 @@ pub struct CountersEntry {
     pub outbox_full: u64,
     /// Refused: an allocation failed.
     pub no_memory: u64,
+    /// Frames that came in with the node's address as their source.
+    pub own: u64,
 }
 
 /// An address that a RedBox stands for.
@@ -191,6 +193,7 @@ pub(crate) fn tell_counters(
         table_full: *counters.table_full.at(port),
         outbox_full: *counters.outbox_full.at(port),
         no_memory: *counters.no_memory.at(port),
+        own: *counters.own.at(port),
     };
     0
 }

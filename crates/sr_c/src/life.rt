@@ -11,12 +11,12 @@ use sr_raw_box::RawBox;
 use std::alloc::Global;
 
 /// The number of this interface. It grows where a call, a struct or a number that a program knows changes.
-const ABI: u32 = 1;
+const ABI: u32 = 2;
 
 /// The number of this interface.
 #[unsafe(no_mangle)]
 pub extern "C" fn seamless_abi() -> u32
-    ensures { result ≡ 1 }
+    ensures { result ≡ 2 }
 {
     ABI
 }

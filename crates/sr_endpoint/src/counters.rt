@@ -1,8 +1,9 @@
 //! What is counted at the ports of a node.
 
 ghost use Rattle.std.specs.Prelude.{◌≡◌};
-ghost use Rattle.sr_endpoint.specs.Counting.{after_arrival, after_refusal, after_taken, no_traffic, one_more_at};
+ghost use Rattle.sr_endpoint.specs.Counting.{after_arrival, after_reception, after_refusal, after_taken, no_traffic, one_more_at};
 
+use sr_forwarding::Outlets;
 use sr_frame::Port;
 use sr_node::{PerPort, StepFault};
 
@@ -11,6 +12,9 @@ use sr_node::{PerPort, StepFault};
 pub struct Counters {
     /// Frames that came in, those that were refused too. At the host's port: frames that the host sent.
     pub received: PerPort<u64>,
+    /// Of these: frames with the node's address as their source, which came back to it (lreCntOwnRx of the LRE-MIB). None at the
+    /// host's port.
+    pub own: PerPort<u64>,
     /// Of these: octets that are no frame that the port takes, or that the host may send.
     pub unread: PerPort<u64>,
     /// Of these: frames without the tag that the port asks for.
@@ -52,6 +56,7 @@ impl Counters {
     {
         Counters {
             received: NONE,
+            own: NONE,
             unread: NONE,
             untagged: NONE,
             table_full: NONE,
@@ -81,6 +86,21 @@ impl Counters {
         count_at(&mut self.received, port);
         if let Err(fault) = outcome {
             self.count_refusal(port, *fault);
+        }
+    }
+
+    /// Counts octets that came in at a port, and what came of them: the outlets that got the frame, none where it is the node's own, or
+    /// why they were refused.
+    pub(crate) fn count_reception(
+        &mut self,
+        port: Port,
+        outcome: &Result<Option<Outlets>, StepFault>,
+    )
+        ensures { self.new ≡ after_reception self.old port outcome.now }
+    {
+        self.count_arrival(port, outcome);
+        if let Ok(None) = outcome {
+            count_at(&mut self.own, port);
         }
     }
 

@@ -8,7 +8,7 @@ ghost use Rattle.sr_node.specs.Octets.{TakesOctets};
 ghost use Rattle.sr_node.specs.States.{state_of};
 ghost use Rattle.sr_node.specs.Steps.{TakesEvent};
 ghost use Rattle.sr_endpoint.specs.AlarmLogs.{Looks, no_alarms};
-ghost use Rattle.sr_endpoint.specs.Counting.{after_arrival, no_traffic};
+ghost use Rattle.sr_endpoint.specs.Counting.{after_arrival, after_reception, no_traffic};
 ghost use Rattle.sr_endpoint.specs.AnyRoles.{image_of};
 ghost use Rattle.sr_endpoint.specs.Endpoints.{new_state, state_by};
 
@@ -122,11 +122,11 @@ impl Endpoint {
     ) -> Result<Option<Outlets>, StepFault>
         ensures takes { TakesOctets arrival_answer (carriage (state_by self.old).role.kind port)
             (state_by self.old) port octets.now now result (state_by self.new) }
-        ensures counted { self.new.counters ≡ after_arrival self.old.counters port result }
+        ensures counted { self.new.counters ≡ after_reception self.old.counters port result }
         ensures unlogged { self.new.log ≡ self.old.log }
     {
         let outcome = receive_at(&mut self.node, port, octets, now);
-        self.counters.count_arrival(port, &outcome);
+        self.counters.count_reception(port, &outcome);
         outcome
     }
 

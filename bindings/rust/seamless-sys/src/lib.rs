@@ -4,7 +4,7 @@
 use core::ffi::c_void;
 
 /// The interface that this crate was written for.
-pub const ABI: u32 = 1;
+pub const ABI: u32 = 2;
 
 /// A handle: null where it is closed.
 #[repr(C)]
@@ -112,6 +112,8 @@ pub struct Counters {
     pub outbox_full: u64,
     /// Refused: an allocation failed.
     pub no_memory: u64,
+    /// Frames that came in with the node's address as their source.
+    pub own: u64,
 }
 
 extern "C" {
