@@ -97,6 +97,7 @@ tells_of mark src entries line was is source found tells =
       source = source;
       total = λ xs lines few watches. tells.total (of src xs) few (own xs lines watches).tracks;
       last = λ xs lines watches. tells.last (of src xs) (own xs lines watches).tracks;
+      waiting = λ xs lines few watches. tells.waiting (of src xs) few (own xs lines watches).tracks;
       since = λ xs lines watches. tells.interval ∙ ap (λ told. changes_between told line.total) (own xs lines watches).since;
       together = λ xs lines few watches.
           let watched = own xs lines watches in

@@ -1,5 +1,7 @@
 -- When alarms are raised, and when they are cleared.
-use Rattle.std.specs.Prelude.{◌≡◌, ℕ, ◌+◌, ◌-◌, nat_lt, Bool, true, false, List, [], ◌∷◌, Option, None, Some, is_some, max, if◌then◌else◌}
+use Rattle.std.specs.Prelude.{◌≡◌, ℕ, ◌+◌, ◌-◌, nat_lt, Bool, true, false, ◌||◌, List, [], ◌∷◌, Option, None, Some, is_some, max, if◌then◌else◌}
+use Rattle.std.specs.Prelude.{ℤ, pos, ◌+ℤ◌, ◌*ℤ◌, int_lt}
+use Rattle.std.specs.Int.{w128, saturate_signed}
 use Rattle.sr_audit.specs.declared.arrival.Arrival.{Arrival}
 use Rattle.sr_watch.specs.declared.alarm.Alarm.{Alarm}
 use Rattle.sr_watch.specs.declared.alarm.Note.{Note}
@@ -7,6 +9,8 @@ use Rattle.sr_watch.specs.declared.alarm.Note.TheVariants.{Raised, Cleared}
 use Rattle.sr_watch.specs.declared.alarm.RaisedSince.{RaisedSince}
 use Rattle.sr_watch.specs.declared.alarm.SourceAlarm.{SourceAlarm}
 use Rattle.sr_watch.specs.declared.alarm.SourceAlarm.TheVariants.{LanLostA, LanLostB, Silent, Skew, LostA, LostB}
+use Rattle.sr_watch.specs.declared.counts.Changes.{Changes}
+use Rattle.sr_watch.specs.declared.counts.Spread.{Spread}
 use Rattle.sr_watch.specs.declared.report.Lasts.{Lasts}
 
 -- an alarm that was raised since then or not, and since when it holds now, if it does: what a check tells
@@ -113,3 +117,20 @@ silent_since silent_for mark (Some last) = since_if (nat_lt silent_for (mark - l
 
 abbrev pub is_silent : ℕ → ℕ → Lasts → Option ℕ
 is_silent silent_for mark last = silent_since silent_for mark (newest_of_both last.a last.b)
+
+-- a skew of some frames is over a bound, to either side
+abbrev pub is_skewed : Option ℕ → Option Spread → Bool
+is_skewed None spread = false
+is_skewed (Some bound) None = false
+is_skewed (Some bound) (Some s) =
+    int_lt (pos bound) s.greatest || int_lt (saturate_signed w128 (s.least +ℤ pos bound)) (pos 0)
+
+-- the frames of an interval: those of both LANs, and those that one lost
+abbrev pub frames_in : Changes → ℤ
+frames_in c = saturate_signed w128 (saturate_signed w128 (c.both +ℤ c.lost.a) +ℤ c.lost.b)
+
+-- a LAN lost so many of them, which is more hundredths than a bound
+abbrev pub is_lossy : Option ℕ → ℤ → Changes → Bool
+is_lossy None lost c = false
+is_lossy (Some bound) lost c =
+    int_lt (saturate_signed w128 (pos bound *ℤ frames_in c)) (saturate_signed w128 (lost *ℤ pos 100))

@@ -68,6 +68,11 @@ newest_at side (x ∷ before) = if same_side side x.side then Some x.time else n
 abbrev pub lasts_of : List Arrival → Lasts
 lasts_of xs = record { a = newest_at A xs; b = newest_at B xs }
 
+-- when the last copy came, and 0 where none did
+abbrev pub newest_copy : List Arrival → ℕ
+newest_copy [] = 0
+newest_copy (x ∷ before) = x.time
+
 -- with a copy by a side
 abbrev pub lasts_with : Side → ℕ → Lasts → Lasts
 lasts_with A time l = record l { a = Some time }

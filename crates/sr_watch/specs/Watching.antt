@@ -8,6 +8,8 @@ use Rattle.sr_audit.specs.declared.arrival.Arrival.{Arrival}
 use Rattle.sr_audit.specs.Audits.{Sent, of}
 use Rattle.sr_audit.specs.Limits.{exact_arrivals}
 use Rattle.sr_audit.specs.Shown.{bounded_sum}
+use Rattle.sr_audit.specs.Stretches.{stretches, current}
+use Rattle.sr_audit.specs.Waiting.{waits_of}
 use Rattle.sr_watch.specs.declared.alarm.Alarm.{Alarm}
 use Rattle.sr_watch.specs.declared.alarm.SourceAlarm.{SourceAlarm}
 use Rattle.sr_watch.specs.declared.report.SourceLine.{SourceLine}
@@ -61,6 +63,8 @@ pub record TellsSource (mark : ℕ) (src : Mac) (old new : List (Mac × Tracked)
   pub total : (xs : List Sent) (lines : List SourceLine) → length (of src xs) ≤ exact_arrivals → Watches xs lines old →
       line.total ≡ counted_of mark (of src xs)
   pub last : (xs : List Sent) (lines : List SourceLine) → Watches xs lines old → line.last ≡ lasts_of (of src xs)
+  pub waiting : (xs : List Sent) (lines : List SourceLine) → length (of src xs) ≤ exact_arrivals → Watches xs lines old →
+      line.waiting ≡ waits_of mark (current (stretches (of src xs)))
   pub since : (xs : List Sent) (lines : List SourceLine) → Watches xs lines old →
       line.interval ≡ changes_between (total_of (lines_about src lines)) line.total
   pub together : (xs : List Sent) (lines : List SourceLine) → length (of src xs) ≤ exact_arrivals → Watches xs lines old →

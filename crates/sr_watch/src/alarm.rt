@@ -1,7 +1,7 @@
 //! What is raised once and cleared once.
 
 ghost use Rattle.std.specs.Prelude.{◌≡◌, max};
-ghost use Rattle.sr_watch.specs.Alarms.{alarm_between, raised_with, raised_at, with_raised, since_if, lost_behind, own_or_first, lan_lost, newest_of_both, is_silent};
+ghost use Rattle.sr_watch.specs.Alarms.{alarm_between, raised_with, raised_at, with_raised, since_if, lost_behind, own_or_first, lan_lost, newest_of_both, is_silent, is_skewed, is_lossy};
 
 use crate::counts::{Changes, Spread};
 use crate::report::Lasts;
@@ -219,7 +219,9 @@ pub(crate) fn is_silent(silent_for: u64, mark: u64, last: Lasts) -> Option<u64>
 }
 
 /// Whether a skew of some frames is over a bound.
-pub(crate) fn is_skewed(bound: Option<u64>, spread: Option<Spread>) -> bool {
+pub(crate) fn is_skewed(bound: Option<u64>, spread: Option<Spread>) -> bool
+    ensures { result ≡ is_skewed bound spread }
+{
     match (bound, spread) {
         (Some(bound), Some(spread)) => {
             let bound = i128::from(bound);
@@ -230,7 +232,9 @@ pub(crate) fn is_skewed(bound: Option<u64>, spread: Option<Spread>) -> bool {
 }
 
 /// Whether a LAN lost more hundredths of the frames of an interval than a bound.
-pub(crate) fn is_lossy(bound: Option<u64>, lost: i128, interval: &Changes) -> bool {
+pub(crate) fn is_lossy(bound: Option<u64>, lost: i128, interval: &Changes) -> bool
+    ensures { result ≡ is_lossy bound lost interval.now }
+{
     let frames = interval
         .both
         .saturating_add(interval.lost.a)

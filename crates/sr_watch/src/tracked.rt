@@ -3,7 +3,8 @@
 ghost use Rattle.std.specs.Prelude.{◌≡◌};
 ghost use Rattle.sr_audit.specs.Counting.{more_at};
 ghost use Rattle.sr_audit.specs.Faults.{last_class};
-ghost use Rattle.sr_watch.specs.Alarms.{oldest_with, lan_lost, is_silent};
+ghost use Rattle.sr_watch.specs.Tracking.{none_waits};
+ghost use Rattle.sr_watch.specs.Alarms.{oldest_with, since_if, lan_lost, is_silent, is_skewed, is_lossy};
 
 use crate::alarm::{
     Alarm, RaisedSince, SourceAlarm, alarm_between, is_lossy, is_silent, is_skewed, lan_lost,
@@ -115,6 +116,13 @@ fn oldest_with(time: u64, first: Option<u64>) -> Option<u64>
     }
 }
 
+/// Whether no frame waits.
+fn none_waits(waiting: Sides) -> bool
+    ensures { result ≡ none_waits waiting }
+{
+    waiting.a == 0 && waiting.b == 0
+}
+
 impl Lasts {
     ghost use Rattle.sr_watch.specs.Counted.{lasts_with};
 
@@ -200,7 +208,7 @@ impl Tracked {
         let interval = total.since(&self.told);
         let spread = self.spread;
         self.told = total;
-        self.is_settled = waiting.a == 0 && waiting.b == 0;
+        self.is_settled = none_waits(waiting);
         self.spread = None;
         self.shown = interval;
         self.shown_spread = spread;
@@ -223,6 +231,14 @@ impl Tracked {
             ≡ lan_lost settings.now.alone_for self.now.first self.now.last.b self.now.last.a }
         ensures silent { alarm ≡ SourceAlarm.Silent → result
             ≡ is_silent settings.now.silent_for mark self.now.last }
+        ensures skew { alarm ≡ SourceAlarm.Skew → result
+            ≡ since_if (is_skewed settings.now.skew_over self.now.shown_spread) self.now.shown_at }
+        ensures lost_a { alarm ≡ SourceAlarm.LostA → result
+            ≡ since_if (is_lossy settings.now.lost_over self.now.shown.lost.a self.now.shown)
+            self.now.shown_at }
+        ensures lost_b { alarm ≡ SourceAlarm.LostB → result
+            ≡ since_if (is_lossy settings.now.lost_over self.now.shown.lost.b self.now.shown)
+            self.now.shown_at }
     {
         let (a, b) = (self.last.a, self.last.b);
         match alarm {

@@ -27,10 +27,12 @@ returns c =
                   ∙ lates_after xs x (subst (λ n. n ≤ 18446744073709551615) new few);
               first = c.oldest_with-self.ensures ∙ ap (oldest_with x.time) watched.tracks.first;
               last = c.with-self.ensures ∙ ap (lasts_with x.side x.time) watched.tracks.last ∙ lasts_after x xs;
+              newest = refl;
             };
             told = λ exact. watched.told (omega (arith, exact));
             since = watched.since;
             settled = λ is few. absurd cc;
           };
       told = refl;
+      unsettled = refl;
     }

@@ -11,9 +11,16 @@ returns-clause-told c =
       total = λ xs few tracks. c.counts-total.ensures mark xs few tracks (c.waits-waiting.ensures always xs tracks.taken);
       last = λ xs tracks. tracks.last;
       interval = c.since-interval.ensures;
+      waiting = λ xs few tracks. c.waits-waiting.ensures always xs tracks.taken;
+      settled = c.none_waits-self.ensures;
+      spread = refl;
+      none = refl;
+      shown = refl;
+      shown_spread = refl;
+      shown_at = refl;
       all = refl;
       keeps = λ xs lines watched. record {
-        tracks = record { taken = watched.tracks.taken; late = watched.tracks.late; first = watched.tracks.first; last = watched.tracks.last };
+        tracks = record { taken = watched.tracks.taken; late = watched.tracks.late; first = watched.tracks.first; last = watched.tracks.last; newest = watched.tracks.newest };
         told = λ few. told_more lines _ c.args.self.now.told (watched.told few)
             (subst IsSmall (sym (c.counts-total.ensures mark xs few watched.tracks (c.waits-waiting.ensures always xs watched.tracks.taken)))
             (small_of mark xs few (watched.tracks.taken.skews few).small))
