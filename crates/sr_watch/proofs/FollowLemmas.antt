@@ -84,6 +84,8 @@ drawn w o h n free is rest next =
             };
           };
       forgotten = refl;
+      lans = refl;
+      keeps = record { settings = refl; floor = refl };
     }
 
 -- no more is noted than is taken
@@ -114,7 +116,12 @@ pub taken : (w : Watch) (n : Next) (t : Table) → w.next ≡ Some n →
     t.left_out ≡ left_out_with (is_tabled t.sources.entries n.src) w.table.left_out → t.forgotten ≡ w.table.forgotten →
     OnlyReleases w (record { hold = w.hold; next = None; table = t; lans = w.lans; floor = w.floor; settings = w.settings })
 taken w n t waits notes passes full tabled left same =
-    record { goes = λ slack start turns acts g. by slack start turns acts g (is_tabled t.sources.entries n.src) refl; forgotten = same }
+    record {
+      goes = λ slack start turns acts g. by slack start turns acts g (is_tabled t.sources.entries n.src) refl;
+      forgotten = same;
+      lans = refl;
+      keeps = record { settings = refl; floor = refl };
+    }
   where
     by : (slack start : ℕ) (turns : List (Turn Numbered)) (acts : List Act) (g : Goes slack start turns acts w) (b : Bool) →
         is_tabled t.sources.entries n.src ≡ b →

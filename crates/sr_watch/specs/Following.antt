@@ -20,12 +20,14 @@ use Rattle.sr_watch.specs.declared.alarm.LanAlarm.{LanAlarm}
 use Rattle.sr_watch.specs.declared.report.Header.{Header}
 use Rattle.sr_watch.specs.declared.report.LanCounts.{LanCounts}
 use Rattle.sr_watch.specs.declared.report.SourceLine.{SourceLine}
+use Rattle.sr_watch.specs.declared.settings.Settings.{Settings}
 use Rattle.sr_watch.specs.declared.watch.Next.{Next}
 use Rattle.sr_watch.specs.declared.watch.Numbered.{Numbered}
 use Rattle.sr_watch.specs.declared.watch.Watch.{Watch}
 use Rattle.sr_watch.specs.Alarms.{alarm_between, raised_with, since_if}
 use Rattle.sr_watch.specs.LanAlarms.{lan_raised_at, lan_holds, lan_checked, last_or}
-use Rattle.sr_watch.specs.Running.{is_running, is_watching, lan_in, with_lan, recorder_of, side_of}
+use Rattle.sr_watch.specs.Forgetting.{none_forgotten}
+use Rattle.sr_watch.specs.Running.{lans_awaited, is_running, is_watching, lan_in, with_lan, recorder_of, side_of}
 use Rattle.sr_watch.specs.Watching.{those_sent, lines_by, with_entry_of, Watches}
 
 -- what is released, as an arrival of its source at its moment
@@ -128,6 +130,18 @@ turn_if watched side time now copy =
 abbrev pub turn_of : Side → ℕ → ℕ → Numbered → Watch → Turn Numbered
 turn_of side time now copy w = turn_if (is_watching now w.lans) side time now copy
 
+-- what no call changes: what a watch is set to; and what the end of both captures changes alone: up to when no frame is waited for
+pub record KeepsSettings (old new : Watch) : Type 0 where
+  pub settings : new.settings ≡ old.settings
+  pub floor : new.floor ≡ old.floor
+
+-- a watch of which nothing came: neither capture was begun, and no source was forgotten
+pub record IsNewWatch (set : Settings) (w : Watch) : Type 0 where
+  pub settings : w.settings ≡ set
+  pub floor : w.floor ≡ 0
+  pub lans : w.lans ≡ lans_awaited
+  pub forgotten : w.table.forgotten ≡ none_forgotten
+
 -- a call that adds a turn, and no line
 pub record TakesTurn (t : Turn Numbered) (old new : Watch) : Type 0 where
   pub follows : (slack start : ℕ) (turns : List (Turn Numbered)) (acts : List Act) →
@@ -157,6 +171,8 @@ pub record OnlyReleases (old new : Watch) : Type 0 where
   pub goes : (slack start : ℕ) (turns : List (Turn Numbered)) (acts : List Act) →
       Goes slack start turns acts old → Goes slack start turns acts new
   pub forgotten : new.table.forgotten ≡ old.table.forgotten
+  pub lans : new.lans ≡ old.lans
+  pub keeps : KeepsSettings old new
 
 -- up to when all is told: once both captures have ended no frame is waited for, also where one begins once more
 abbrev pub floor_if : Bool → ℕ → ℕ → ℕ

@@ -12,6 +12,20 @@ use Rattle.sr_watch.specs.Ranks.{rank_in}
 abbrev pub sides_with : Sides → Sides → Sides
 sides_with s t = record { a = bounded_sum s.a t.a; b = bounded_sum s.b t.b }
 
+abbrev pub none_forgotten : Forgotten
+none_forgotten = record {
+  sources = 0;
+  rx = record { a = 0; b = 0 };
+  both = 0;
+  lost = record { a = 0; b = 0 };
+  late = record { a = 0; b = 0 };
+  repeats = record { a = 0; b = 0 };
+  order = record { a = 0; b = 0 };
+  neither = 0;
+  jumps = 0;
+  restarts = 0;
+}
+
 abbrev pub forgot_with : Counts → Forgotten → Forgotten
 forgot_with c f = record {
   sources = bounded_sum f.sources 1;

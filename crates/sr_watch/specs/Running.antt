@@ -1,5 +1,5 @@
 -- Which captures run.
-use Rattle.std.specs.Prelude.{ℕ, nat_le, Bool, true, false, ◌&&◌, Some, if◌then◌else◌}
+use Rattle.std.specs.Prelude.{ℕ, nat_le, Bool, true, false, ◌&&◌, Some, None, if◌then◌else◌}
 use Rattle.sr_audit.specs.declared.side.Side.{Side}
 use Rattle.sr_audit.specs.declared.side.Side.TheVariants.{A, B}
 use Rattle.sr_audit.specs.Shown.{bounded_sum}
@@ -20,6 +20,21 @@ abbrev pub is_ended : Phase → Bool
 is_ended Awaited = false
 is_ended Running = false
 is_ended Ended = true
+
+-- neither was begun, and nothing is raised
+abbrev pub lan_awaited : Lan
+lan_awaited = record {
+  phase = Awaited;
+  from = 0;
+  last = None;
+  heard = 0;
+  unwatched = 0;
+  told_behind = 0;
+  raised = record { silent = None; ended = None; behind = None; full = None };
+}
+
+abbrev pub lans_awaited : Lans
+lans_awaited = record { a = lan_awaited; b = lan_awaited; clock = 0 }
 
 -- a capture counts as running at a real time
 abbrev pub runs_at : ℕ → Lan → Bool

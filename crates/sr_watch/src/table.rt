@@ -40,7 +40,7 @@ impl Table {
     ghost use Rattle.sr_audit.specs.Audits.{Sent};
     ghost use Rattle.sr_audit.specs.Limits.{most_audited};
     ghost use Rattle.sr_watch.specs.declared.report.SourceLine.{SourceLine};
-    ghost use Rattle.sr_watch.specs.Forgetting.{forgotten_from, left_from};
+    ghost use Rattle.sr_watch.specs.Forgetting.{none_forgotten, forgotten_from, left_from};
     ghost use Rattle.sr_watch.specs.Tracking.{NotesArrival, TellsLine, ChecksAlarm};
     ghost use Rattle.sr_watch.specs.Watching.{Watches, is_tabled, those_sent, lines_by, tabled_with, left_out_with, TellsSource, ChecksOf};
 
@@ -50,6 +50,7 @@ impl Table {
         ensures left_out { result.left_out ≡ 0 }
         ensures tabled { keys_of result.sources.entries ≡ [] }
         ensures few { length result.sources.entries ≤ most_audited }
+        ensures forgotten { result.forgotten ≡ none_forgotten }
     {
         Table {
             alloc,

@@ -122,14 +122,15 @@ impl Watch {
     ghost use Rattle.sr_watch.specs.declared.report.SourceLine.{SourceLine};
     ghost use Rattle.sr_watch.specs.declared.watch.Numbered.{Numbered};
     ghost use Rattle.sr_watch.specs.Running.{recorder_of, has_ended, lan_begun, lan_ended, lan_heard, at_clock, lans_with, lans_with_copy};
-    ghost use Rattle.sr_watch.specs.Following.{Act, told, forgot, FollowsTurns, TakesTurn, OnlyReleases, ChecksLan, turn_of, left_in, floor_if, told_up_to, lan_counts_of, report_head};
+    ghost use Rattle.sr_watch.specs.Following.{Act, told, forgot, FollowsTurns, TakesTurn, OnlyReleases, ChecksLan, KeepsSettings, IsNewWatch, turn_of, left_in, floor_if, told_up_to, lan_counts_of, report_head};
     ghost use Rattle.sr_watch.specs.Forgetting.{forgotten_from, left_from};
     ghost use Rattle.sr_watch.specs.Limits.{silent_hour};
     ghost use Rattle.sr_watch.specs.Watching.{is_tabled, TellsSource, ChecksOf};
 
     /// Nothing came, and neither capture runs.
     pub fn new(alloc: Global, keys: Keys, settings: Settings, now: u64) -> Watch
-        ensures { FollowsTurns settings.slack now [] [] result }
+        ensures follows { FollowsTurns settings.slack now [] [] result }
+        ensures new { IsNewWatch settings result }
     {
         Watch {
             hold: Hold::new(alloc, settings.slack, now),
@@ -150,6 +151,7 @@ impl Watch {
             self.old self.new) }
         ensures lans { OnOk result (self.new.lans
             ≡ lans_with_copy side time now self.old.lans) }
+        ensures keeps { KeepsSettings self.old self.new }
         ensures err { OnErr result (self.new ≡ self.old) }
     {
         if self.lans.are_watching(now) {
@@ -171,6 +173,7 @@ impl Watch {
         ensures turn { TakesTurn (heard (recorder_of side) time now) self.old self.new }
         ensures lans { self.new.lans
             ≡ at_clock now (lans_with side (lan_heard time now) self.old.lans) }
+        ensures keeps { KeepsSettings self.old self.new }
     {
         self.hold.heard(recorder_of(side), time, now);
         self.lans = self
@@ -183,6 +186,7 @@ impl Watch {
     pub fn silent(&mut self, side: Side, now: u64)
         ensures turn { TakesTurn (silent (recorder_of side) now) self.old self.new }
         ensures lans { self.new.lans ≡ at_clock now self.old.lans }
+        ensures keeps { KeepsSettings self.old self.new }
     {
         self.hold.silent(recorder_of(side), now);
         self.lans = self.lans.at_time(now);
@@ -193,6 +197,7 @@ impl Watch {
         ensures turn { TakesTurn (begins (recorder_of side) now) self.old self.new }
         ensures lans { self.new.lans
             ≡ at_clock now (lans_with side (lan_begun now) self.old.lans) }
+        ensures keeps { KeepsSettings self.old self.new }
     {
         self.hold.begun(recorder_of(side), now);
         self.lans = self
@@ -207,6 +212,7 @@ impl Watch {
         ensures lans { self.new.lans ≡ lans_with side lan_ended self.old.lans }
         ensures floor { self.new.floor ≡ floor_if (has_ended self.new.lans)
             self.new.hold.progress.mark.time self.old.floor }
+        ensures settings { self.new.settings ≡ self.old.settings }
     {
         self.hold.ended(recorder_of(side));
         self.lans = self.lans.with(side, self.lans.at(side).ended());
@@ -315,6 +321,8 @@ impl Watch {
             (acts : List Act) → FollowsTurns slack start turns acts self.old
             → FollowsTurns slack start turns (told line ∷ acts) self.new) }
         ensures forgotten { self.new.table.forgotten ≡ self.old.table.forgotten }
+        ensures keeps { KeepsSettings self.old self.new }
+        ensures lans { self.new.lans ≡ self.old.lans }
         ensures none { IfNone result (self.new ≡ self.old) }
     {
         let mark = self.mark();
@@ -332,6 +340,8 @@ impl Watch {
             ≡ forgotten_from (self.old.hold.progress.mark.time - silent_hour)
             self.old.table.sources.entries self.old.table.forgotten }
         ensures hold { self.new.hold ≡ self.old.hold }
+        ensures keeps { KeepsSettings self.old self.new }
+        ensures lans { self.new.lans ≡ self.old.lans }
         ensures follows { (slack start : ℕ) (turns : List (Turn Numbered)) (acts : List Act)
             → FollowsTurns slack start turns acts self.old
             → FollowsTurns slack start turns
@@ -355,6 +365,8 @@ impl Watch {
             self.old.table.sources.entries self.new.table.sources.entries result }
         ensures none { is_some (lookup (mac_eq source) self.old.table.sources.entries) ≡ false
             → result ≡ None }
+        ensures keeps { KeepsSettings self.old self.new }
+        ensures lans { self.new.lans ≡ self.old.lans }
         ensures follows { (slack start : ℕ) (turns : List (Turn Numbered)) (acts : List Act)
             → FollowsTurns slack start turns acts self.old
             → FollowsTurns slack start turns acts self.new }
@@ -365,7 +377,8 @@ impl Watch {
 
     /// Whether an alarm of a capture is raised or cleared since the last check.
     pub fn check_lan(&mut self, side: Side, alarm: LanAlarm) -> Option<Alarm>
-        ensures { ChecksLan side alarm self.old self.new result }
+        ensures checks { ChecksLan side alarm self.old self.new result }
+        ensures keeps { KeepsSettings self.old self.new }
     {
         let lan = self.lans.at(side);
         let recorder = recorder_of(side);

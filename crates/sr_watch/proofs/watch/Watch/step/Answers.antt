@@ -11,4 +11,6 @@ returns-in_ok-note-in-Some-clause-goes c =
     record {
       goes = λ slack start turns acts g. took.goes slack start turns acts (drawn.goes slack start turns acts g);
       forgotten = took.forgotten ∙ drawn.forgotten;
+      lans = took.lans ∙ drawn.lans;
+      keeps = record { settings = took.keeps.settings ∙ drawn.keeps.settings; floor = took.keeps.floor ∙ drawn.keeps.floor };
     }
