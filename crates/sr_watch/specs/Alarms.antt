@@ -1,6 +1,6 @@
 -- When alarms are raised, and when they are cleared.
-use Rattle.std.specs.Prelude.{◌≡◌, ℕ, ◌+◌, ◌-◌, nat_lt, Bool, true, false, ◌||◌, List, [], ◌∷◌, Option, None, Some, is_some, max, if◌then◌else◌}
-use Rattle.std.specs.Prelude.{ℤ, pos, ◌+ℤ◌, ◌*ℤ◌, int_lt}
+use Rattle.std.specs.Prelude.{◌≡◌, ℕ, ◌+◌, ◌-◌, nat_lt, max, ℤ, pos, ◌+ℤ◌, ◌*ℤ◌, int_lt, Bool, true, false, ◌||◌, if◌then◌else◌}
+use Rattle.std.specs.Prelude.{List, [], ◌∷◌, Option, None, Some, is_some}
 use Rattle.std.specs.Int.{w128, saturate_signed}
 use Rattle.sr_audit.specs.declared.arrival.Arrival.{Arrival}
 use Rattle.sr_watch.specs.declared.alarm.Alarm.{Alarm}
@@ -126,11 +126,11 @@ is_skewed (Some bound) (Some s) =
     int_lt (pos bound) s.greatest || int_lt (saturate_signed w128 (s.least +ℤ pos bound)) (pos 0)
 
 -- the frames of an interval: those of both LANs, and those that one lost
-abbrev pub frames_in : Changes → ℤ
-frames_in c = saturate_signed w128 (saturate_signed w128 (c.both +ℤ c.lost.a) +ℤ c.lost.b)
+abbrev pub interval_frames : Changes → ℤ
+interval_frames c = saturate_signed w128 (saturate_signed w128 (c.both +ℤ c.lost.a) +ℤ c.lost.b)
 
 -- a LAN lost so many of them, which is more hundredths than a bound
 abbrev pub is_lossy : Option ℕ → ℤ → Changes → Bool
 is_lossy None lost c = false
 is_lossy (Some bound) lost c =
-    int_lt (saturate_signed w128 (pos bound *ℤ frames_in c)) (saturate_signed w128 (lost *ℤ pos 100))
+    int_lt (saturate_signed w128 (pos bound *ℤ interval_frames c)) (saturate_signed w128 (lost *ℤ pos 100))

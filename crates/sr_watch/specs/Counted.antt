@@ -69,9 +69,9 @@ abbrev pub lasts_of : List Arrival → Lasts
 lasts_of xs = record { a = newest_at A xs; b = newest_at B xs }
 
 -- when the last copy came, and 0 where none did
-abbrev pub newest_copy : List Arrival → ℕ
-newest_copy [] = 0
-newest_copy (x ∷ before) = x.time
+abbrev pub last_copy_time : List Arrival → ℕ
+last_copy_time [] = 0
+last_copy_time (x ∷ before) = x.time
 
 -- with a copy by a side
 abbrev pub lasts_with : Side → ℕ → Lasts → Lasts

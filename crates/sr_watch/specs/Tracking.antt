@@ -12,9 +12,10 @@ use Rattle.sr_watch.specs.declared.alarm.SourceAlarm.TheVariants.{LanLostA, LanL
 use Rattle.sr_watch.specs.declared.report.SourceLine.{SourceLine}
 use Rattle.sr_watch.specs.declared.settings.Settings.{Settings}
 use Rattle.sr_watch.specs.declared.tracked.Tracked.{Tracked}
-use Rattle.sr_watch.specs.Alarms.{alarm_between, raised_with, raised_at, with_raised, oldest_of, since_if, lan_lost, is_silent, is_skewed, is_lossy}
+use Rattle.sr_watch.specs.Alarms.{alarm_between, raised_with, raised_at, with_raised, oldest_of, since_if, lan_lost, is_silent}
+use Rattle.sr_watch.specs.Alarms.{is_skewed, is_lossy}
 use Rattle.sr_watch.specs.Changed.{changes_between, total_of, HasTold}
-use Rattle.sr_watch.specs.Counted.{always, counted_of, newest_copy, lasts_of}
+use Rattle.sr_watch.specs.Counted.{always, counted_of, last_copy_time, lasts_of}
 use Rattle.sr_watch.specs.Late.{lates_of}
 
 -- these arrivals of the source were noted, newest first
@@ -23,7 +24,7 @@ pub record Tracks (xs : List Arrival) (t : Tracked) : Type 0 where
   pub late : length xs ≤ exact_arrivals → t.late ≡ lates_of (stretches xs)
   pub first : t.first ≡ oldest_of xs
   pub last : t.last ≡ lasts_of xs
-  pub newest : t.newest ≡ newest_copy xs
+  pub newest : t.newest ≡ last_copy_time xs
 
 -- these arrivals were noted, and these lines told of them, newest first
 pub record Watched (xs : List Arrival) (lines : List SourceLine) (t : Tracked) : Type 0 where
@@ -42,8 +43,8 @@ pub record NotesArrival (x : Arrival) (old new : Tracked) : Type 0 where
   pub unsettled : new.is_settled ≡ false
 
 -- no frame waits for its copy by either LAN
-abbrev pub none_waits : Sides → Bool
-none_waits s = (s.a == 0) && (s.b == 0)
+abbrev pub nothing_waits : Sides → Bool
+nothing_waits s = (s.a == 0) && (s.b == 0)
 
 -- a line tells what no line before told, of all that is counted up to a mark; and all is told now
 pub record TellsLine (mark : ℕ) (old new : Tracked) (line : SourceLine) : Type 0 where
@@ -52,7 +53,7 @@ pub record TellsLine (mark : ℕ) (old new : Tracked) (line : SourceLine) : Type
   pub interval : line.interval ≡ changes_between old.told line.total
   pub waiting : (xs : List Arrival) → length xs ≤ exact_arrivals → Tracks xs old → line.waiting ≡ waits_of mark (current (stretches xs))
   -- it may be forgotten where no frame waits
-  pub settled : new.is_settled ≡ none_waits line.waiting
+  pub settled : new.is_settled ≡ nothing_waits line.waiting
   -- the skews are those since the line before
   pub spread : line.spread ≡ old.spread
   pub none : new.spread ≡ None

@@ -3,7 +3,7 @@
 ghost use Rattle.std.specs.Prelude.{◌≡◌};
 ghost use Rattle.sr_audit.specs.Counting.{more_at};
 ghost use Rattle.sr_audit.specs.Faults.{last_class};
-ghost use Rattle.sr_watch.specs.Tracking.{none_waits};
+ghost use Rattle.sr_watch.specs.Tracking.{nothing_waits};
 ghost use Rattle.sr_watch.specs.Alarms.{oldest_with, since_if, lan_lost, is_silent, is_skewed, is_lossy};
 
 use crate::alarm::{
@@ -117,8 +117,8 @@ fn oldest_with(time: u64, first: Option<u64>) -> Option<u64>
 }
 
 /// Whether no frame waits.
-fn none_waits(waiting: Sides) -> bool
-    ensures { result ≡ none_waits waiting }
+fn nothing_waits(waiting: Sides) -> bool
+    ensures { result ≡ nothing_waits waiting }
 {
     waiting.a == 0 && waiting.b == 0
 }
@@ -208,7 +208,7 @@ impl Tracked {
         let interval = total.since(&self.told);
         let spread = self.spread;
         self.told = total;
-        self.is_settled = none_waits(waiting);
+        self.is_settled = nothing_waits(waiting);
         self.spread = None;
         self.shown = interval;
         self.shown_spread = spread;
