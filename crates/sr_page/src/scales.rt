@@ -1,6 +1,7 @@
 //! Numbers and times along the sides of charts.
 
-ghost use Rattle.std.specs.Prelude.{◌≡◌, ◌≤◌, ◌<◌, ◌-◌, ◌/◌, IfSome};
+ghost use Rattle.std.specs.Prelude.{◌≡◌, ◌≤◌, ◌<◌, ◌-◌, ◌*◌, ◌/◌, min, max, IfSome};
+ghost use Rattle.sr_page.specs.Units.{unit_nanos, unit_name};
 
 use std::fmt;
 
@@ -61,7 +62,9 @@ impl Extent {
 
     /// Where a time stands. What lies outside is at a side.
     pub fn place_of(self, time: u64) -> Place
-        ensures { result.0 ≤ 100000 }
+        ensures within { result.0 ≤ 100000 }
+        ensures place { result.0
+            ≡ min ((time - self.first) * 100000 / max (self.last - self.first) 1) 100000 }
     {
         let past = u128::from(time.saturating_sub(self.first)) * u128::from(WHOLE);
         let whole = u128::from(self.length().max(1));
@@ -102,7 +105,9 @@ pub struct Unit {
 
 /// The greatest unit of which a step of an axis has some.
 pub fn unit_of(step: u64) -> Unit
-    ensures { 0 < result.nanos }
+    ensures some { 0 < result.nanos }
+    ensures nanos { result.nanos ≡ unit_nanos step }
+    ensures name { result.name.now ≡ unit_name step }
 {
     match step {
         0..1_000 => Unit {
