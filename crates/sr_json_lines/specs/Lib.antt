@@ -1,2 +1,3 @@
+pub mod Lacks
 pub mod Objects
 pub mod StatusObjects

@@ -1,14 +1,14 @@
 //! Allocations that fail in a writer, which a run knows as failed writes.
 
-ghost use Rattle.std.specs.Prelude.{◌≡◌, ◌⊎◌};
-ghost use Rattle.sr_session.specs.declared.fault.FaultKind.TheVariants.{Memory};
+ghost use Rattle.std.specs.Prelude.{◌≡◌};
+ghost use Rattle.sr_json_lines.specs.Lacks.{fault_by};
 
 use sr_session::{Fault, FaultKind};
 use std::alloc::AllocError;
 
 /// What ended a run: where an allocation failed in its writer, that, and not the write.
 pub(crate) fn fault_by(lack: Option<AllocError>, fault: Fault) -> Fault
-    ensures { (result ≡ fault) ⊎ (result ≡ record fault { kind = Memory }) }
+    ensures { result ≡ fault_by lack fault }
 {
     match lack {
         Some(lack) => Fault {

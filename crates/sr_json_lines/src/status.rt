@@ -1,7 +1,7 @@
 //! A writer that takes the lines of a status and writes one object for all.
 
-ghost use Rattle.std.specs.Prelude.{◌≡◌, ◌⊎◌};
-ghost use Rattle.sr_session.specs.declared.fault.FaultKind.TheVariants.{Memory};
+ghost use Rattle.std.specs.Prelude.{◌≡◌};
+ghost use Rattle.sr_json_lines.specs.Lacks.{fault_by};
 
 use crate::elements::{
     append_left_out, append_node_down, append_node_element, append_port, append_refusal,
@@ -114,7 +114,7 @@ impl<W> JsonStatus<W> {
 
     /// What ended a run that wrote to it: where an allocation failed here, that, and not the write.
     pub fn fault_of(&self, fault: Fault) -> Fault
-        ensures { (result ≡ fault) ⊎ (result ≡ record fault { kind = Memory }) }
+        ensures { result ≡ fault_by self.now.lack fault }
     {
         fault_by(self.lack, fault)
     }

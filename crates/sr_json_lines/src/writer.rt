@@ -1,7 +1,7 @@
 //! A writer that takes lines and writes an object for each.
 
-ghost use Rattle.std.specs.Prelude.{◌≡◌, ◌⊎◌};
-ghost use Rattle.sr_session.specs.declared.fault.FaultKind.TheVariants.{Memory};
+ghost use Rattle.std.specs.Prelude.{◌≡◌};
+ghost use Rattle.sr_json_lines.specs.Lacks.{fault_by};
 
 use crate::events::append_line_object;
 use crate::lack::fault_by;
@@ -51,7 +51,7 @@ impl<W> JsonLines<W> {
 
     /// What ended a run that wrote to it: where an allocation failed here, that, and not the write.
     pub fn fault_of(&self, fault: Fault) -> Fault
-        ensures { (result ≡ fault) ⊎ (result ≡ record fault { kind = Memory }) }
+        ensures { result ≡ fault_by self.now.lack fault }
     {
         fault_by(self.lack, fault)
     }
